@@ -1,0 +1,176 @@
+-- Packets are read from left to right, up to the first fault (draft-ietf-secsh-filexfer-02, sections 3 to 8).
+-- This is a second account of the packets beside their spelling; that the two agree is proved.
+use Rattle.std.specs.Prelude.{◌==◌, ◌||◌, nat_lt, ℕ, zero, suc, ◌+◌, Bool, if◌then◌else◌, List, [], ◌∷◌, length, take, drop, Option, Some, None, Result, Ok, Err}
+use Rattle.std.specs.Int.{w32, w64, Width, byte_len, from_be_bytes}
+use Rattle.std.specs.Int.RustNames.{bit_and}
+use Rattle.sftp_wire.specs.declared.errors.Fault.{Fault}
+use Rattle.sftp_wire.specs.declared.errors.Fault.TheVariants.{Length, WrongType, Short, Trailing, Flags}
+use Rattle.sftp_wire.specs.declared.attributes.Attrs.{Attrs}
+use Rattle.sftp_wire.specs.declared.packets.Ask.{Ask}
+use Rattle.sftp_wire.specs.declared.packets.Ask.TheVariants.{Mkdir, Rmdir}
+use Rattle.sftp_wire.specs.declared.packets.Answer.{Answer}
+use Rattle.sftp_wire.specs.declared.packets.Answer.TheVariants.{Status}
+use Rattle.sftp_wire.specs.declared.packets.Packet.{Packet}
+use Rattle.sftp_wire.specs.declared.packets.Packet.TheVariants.{Init, Version, Request, Reply}
+use Rattle.sftp_wire.specs.declared.packets.Side.{Side}
+use Rattle.sftp_wire.specs.declared.packets.Side.TheVariants.{Client, Server}
+use Rattle.sftp_wire.specs.Spelling.{packet_limit}
+
+-- A reader takes a value from the front of the bytes and leaves the rest, or names the first fault.
+abbrev pub Reader : Type 0 → Type 0
+Reader A = List ℕ → Result (A × List ℕ) Fault
+
+infixl 10 ◌>>=◌
+abbrev pub ◌>>=◌ : {A B : Type 0} → Result A Fault → (A → Result B Fault) → Result B Fault
+(Ok x) >>= f = f x
+(Err e) >>= f = Err e
+
+-- ---- how a row of the packet table is read: its fields in their order, and what they make
+
+-- nothing is read here
+abbrev pub refuse : {A : Type 0} → Fault → Reader A
+refuse fault bytes = Err fault
+
+abbrev pub one : {A C : Type 0} → Reader A → (A → C) → Reader C
+one first make bytes = do
+  a ← first bytes
+  Ok (make a.0, a.1)
+
+abbrev pub two : {A B C : Type 0} → Reader A → Reader B → (A → B → C) → Reader C
+two first second make bytes = do
+  a ← first bytes
+  b ← second a.1
+  Ok (make a.0 b.0, b.1)
+
+abbrev pub three : {A B C D : Type 0} → Reader A → Reader B → Reader C → (A → B → C → D) → Reader D
+three first second third make bytes = do
+  a ← first bytes
+  b ← second a.1
+  c ← third b.1
+  Ok (make a.0 b.0 c.0, c.1)
+
+-- a field that stands there only where it is said to
+abbrev pub optional_at : {A : Type 0} → Bool → Reader A → Reader (Option A)
+optional_at there read bytes = if there then one read Some bytes else Ok (None, bytes)
+
+-- a value, read again so many times
+abbrev pub many_at : {A : Type 0} → Reader A → ℕ → Reader (List A)
+many_at read zero bytes = Ok ([], bytes)
+many_at read (suc count) bytes = do
+  first ← read bytes
+  others ← many_at read count first.1
+  Ok (first.0 ∷ others.0, others.1)
+
+-- a value, read again up to the end, at most so many times
+abbrev pub up_to_end : {A : Type 0} → Reader A → ℕ → Reader (List A)
+up_to_end read zero bytes = Ok ([], bytes)
+up_to_end read (suc most) [] = Ok ([], [])
+up_to_end read (suc most) (b ∷ bytes) = do
+  first ← read (b ∷ bytes)
+  others ← up_to_end read most first.1
+  Ok (first.0 ∷ others.0, others.1)
+
+-- ---- fields (draft, section 3)
+
+abbrev pub number_at : Width → Reader ℕ
+number_at w bytes = if nat_lt (length bytes) (byte_len w) then Err Short else Ok (from_be_bytes w (take (byte_len w) bytes), drop (byte_len w) bytes)
+
+unfoldable pub uint32_at : Reader ℕ
+uint32_at = number_at w32
+
+unfoldable pub uint64_at : Reader ℕ
+uint64_at = number_at w64
+
+unfoldable pub string_at : Reader (List ℕ)
+string_at bytes = do
+  n ← uint32_at bytes
+  if nat_lt (length n.1) n.0 then Err Short else Ok (take n.0 n.1, drop n.0 n.1)
+
+unfoldable pub two_uint32_at : Reader (ℕ × ℕ)
+two_uint32_at = two uint32_at uint32_at (λ a b. (a, b))
+
+unfoldable pub pair_at : Reader (List ℕ × List ℕ)
+pair_at = two string_at string_at (λ name text. (name, text))
+
+-- pairs up to the end (draft, section 4): each takes a byte at least
+unfoldable pub pairs_at : Reader (List (List ℕ × List ℕ))
+pairs_at bytes = up_to_end pair_at (length bytes) bytes
+
+-- as many pairs as are said (draft, section 5)
+unfoldable pub counted_pairs_at : Reader (List (List ℕ × List ℕ))
+counted_pairs_at bytes = do
+  n ← uint32_at bytes
+  many_at pair_at n.0 n.1
+
+-- ---- file attributes (draft, section 5)
+
+-- whether a flag is set
+abbrev pub has_flag : ℕ → ℕ → Bool
+has_flag flags flag = bit_and flags flag == flag
+
+-- no flags but those of the fields
+abbrev pub are_known : ℕ → Bool
+are_known flags = bit_and flags 0x8000000f == flags
+
+-- the fields that the flags name
+unfoldable pub attribute_fields_at : ℕ → Reader Attrs
+attribute_fields_at flags bytes = do
+  size ← optional_at (has_flag flags 0x00000001) uint64_at bytes
+  owner ← optional_at (has_flag flags 0x00000002) two_uint32_at size.1
+  permissions ← optional_at (has_flag flags 0x00000004) uint32_at owner.1
+  times ← optional_at (has_flag flags 0x00000008) two_uint32_at permissions.1
+  extended ← optional_at (has_flag flags 0x80000000) counted_pairs_at times.1
+  Ok (record { size = size.0; owner = owner.0; permissions = permissions.0; times = times.0; extended = extended.0 }, extended.1)
+
+-- a flag that is not known is found as soon as the flags are read
+unfoldable pub attributes_at : Reader Attrs
+attributes_at bytes = do
+  flags ← uint32_at bytes
+  if are_known flags.0 then attribute_fields_at flags.0 flags.1 else Err Flags
+
+-- ---- packets
+
+-- a request: its id, and what is asked
+abbrev pub request_at : Reader Ask → Reader Packet
+request_at ask = two uint32_at ask (λ id a. Request (record { id = id; ask = a }))
+
+-- a reply: the id of its request, and the answer
+abbrev pub reply_at : Reader Answer → Reader Packet
+reply_at answer = two uint32_at answer (λ id a. Reply (record { id = id; answer = a }))
+
+-- what follows the type in a client's packet (draft, sections 4 and 6)
+unfoldable pub client_packet_at : ℕ → Reader Packet
+client_packet_at kind =
+    if kind == 1 then two uint32_at pairs_at Init else
+    if kind == 14 then request_at (two string_at attributes_at Mkdir) else
+    if kind == 15 then request_at (one string_at Rmdir) else
+    refuse WrongType
+
+-- what follows the type in a server's packet (draft, sections 4 and 7)
+unfoldable pub server_packet_at : ℕ → Reader Packet
+server_packet_at kind =
+    if kind == 2 then two uint32_at pairs_at Version else
+    if kind == 101 then reply_at (three uint32_at string_at string_at Status) else
+    refuse WrongType
+
+-- the packets of a side, by their type
+abbrev pub packet_at : Side → ℕ → Reader Packet
+packet_at Client kind = client_packet_at kind
+packet_at Server kind = server_packet_at kind
+
+-- the bytes behind a packet's length: a type, its fields, and nothing else
+unfoldable pub packet_of : Side → List ℕ → Result Packet Fault
+packet_of side [] = Err Short
+packet_of side (kind ∷ body) = do
+  packet ← packet_at side kind body
+  if length packet.1 == 0 then Ok packet.0 else Err Trailing
+
+-- the packet in front of the bytes of a stream, and how many bytes it takes; nothing where it is not there
+-- whole. A length out of range is found as soon as it is there.
+unfoldable pub front_of : Side → List ℕ → Result (Option (Packet × ℕ)) Fault
+front_of side bytes =
+    if nat_lt (length bytes) 4 then Ok None else
+    (let size = from_be_bytes w32 (take 4 bytes) in
+    if size == 0 || nat_lt packet_limit (size + 4) then Err Length else
+    if nat_lt (length bytes) (size + 4) then Ok None else
+    (packet_of side (take size (drop 4 bytes)) >>= λ packet. Ok (Some (packet, size + 4))))

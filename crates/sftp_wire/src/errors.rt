@@ -1,0 +1,56 @@
+//! Why a packet could not be written or read.
+ghost use Rattle.std.specs.Prelude.{◌≡◌};
+ghost use Rattle.sftp_wire.specs.declared.errors.WireError.TheVariants.{NoMemory};
+
+use std::alloc::{AllocError, AllocFailed};
+use thiserror::Error;
+
+/// What is wrong with bytes that are to be a packet: the first fault from left to right.
+#[derive(Clone, Copy, Debug, PartialEq, Eq, Error)]
+pub enum Fault {
+    /// The length field is 0, or more than a packet may have.
+    #[error("Length")]
+    Length,
+    /// The type is not one of the packets of that side.
+    #[error("Type")]
+    WrongType,
+    /// A field passes the packet's end.
+    #[error("Short")]
+    Short,
+    /// Bytes stand after the last field.
+    #[error("Trailing")]
+    Trailing,
+    /// Attribute flags with a bit that the protocol does not know.
+    #[error("Flags")]
+    Flags,
+}
+
+/// Why `encode` or `front` refused.
+#[derive(Clone, Copy, Debug, PartialEq, Eq, Error)]
+pub enum WireError {
+    /// The packet would have more than `PACKET_LIMIT` bytes.
+    #[error("TooLong")]
+    TooLong,
+    /// Memory ran out.
+    #[error("NoMemory")]
+    NoMemory,
+    /// The bytes are no packet. The place is that of the packet's first byte.
+    #[error("{fault} at {place}")]
+    Unreadable { fault: Fault, place: u64 },
+}
+
+impl From<AllocError> for WireError {
+    ghost from_gives = { λ _ e. e ≡ NoMemory };
+
+    fn from(_error: AllocError) -> WireError {
+        WireError::NoMemory
+    }
+}
+
+impl<T: Drop> From<AllocFailed<T>> for WireError {
+    ghost from_gives = { λ _ e. e ≡ NoMemory };
+
+    fn from(_error: AllocFailed<T>) -> WireError {
+        WireError::NoMemory
+    }
+}

@@ -1,0 +1,95 @@
+//! Byte strings, and pairs of them, as values of their own: two of them are equal where their bytes
+//! are, wherever those lie in memory.
+ghost use Rattle.std.specs.Prelude.{◌≡◌, IfOk};
+
+use std::alloc::{AllocError, Global};
+use std::marker::Model;
+
+/// The bytes of a `string` of the protocol (draft, section 4): any bytes, at most 2^32 - 1 of them on
+/// the wire.
+#[derive(Debug, Drop)]
+pub struct ByteString {
+    bytes: Vec<u8>,
+}
+
+impl Model for ByteString {
+    ghost use Rattle.std.specs.Prelude.{List, ℕ};
+
+    ghost Value = { List ℕ };
+
+    ghost view = { λ s. s.bytes.items };
+}
+
+impl ByteString {
+    /// The byte string of these bytes. It takes no memory.
+    pub fn new(bytes: Vec<u8>) -> ByteString
+        ensures { result ≡ bytes.items }
+    {
+        ByteString { bytes }
+    }
+
+    /// A copy of these bytes.
+    ///
+    /// # Errors
+    ///
+    /// `AllocError` where memory runs out.
+    pub fn from_slice(alloc: Global, bytes: &[u8]) -> Result<ByteString, AllocError>
+        ensures { IfOk result (λ string. string ≡ bytes.now) }
+    {
+        Ok(ByteString {
+            bytes: Vec::from_slice(alloc, bytes)?,
+        })
+    }
+
+    /// The bytes.
+    pub fn as_slice(&self) -> &[u8]
+        ensures { result.now ≡ self.now }
+    {
+        self.bytes.as_slice()
+    }
+
+    /// The bytes, given back without a copy.
+    pub fn into_vec(self) -> Vec<u8>
+        ensures { result.items ≡ self }
+    {
+        self.bytes
+    }
+}
+
+/// Pairs of byte strings: the names and data of extensions (draft, section 4), or the types and data of
+/// extended attributes (section 5).
+#[derive(Debug, Drop)]
+pub struct Pairs {
+    pairs: Vec<(ByteString, ByteString)>,
+}
+
+impl Model for Pairs {
+    ghost use Rattle.std.specs.Prelude.{List, ℕ};
+
+    ghost Value = { List (List ℕ × List ℕ) };
+
+    ghost view = { λ p. p.pairs.items };
+}
+
+impl Pairs {
+    /// These pairs, in this order. It takes no memory.
+    pub fn new(pairs: Vec<(ByteString, ByteString)>) -> Pairs
+        ensures { result ≡ pairs.items }
+    {
+        Pairs { pairs }
+    }
+
+    /// The pairs in their order.
+    pub fn as_slice(&self) -> &[(ByteString, ByteString)]
+        ensures { result.now ≡ self.now }
+    {
+        self.pairs.as_slice()
+    }
+
+    /// The pairs, given back without a copy.
+    pub fn into_vec(self) -> Vec<(ByteString, ByteString)>
+        ensures { result.items ≡ self }
+    {
+        self.pairs
+    }
+}
