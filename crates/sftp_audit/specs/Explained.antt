@@ -1,0 +1,90 @@
+-- When a session is explained: each reply answers one earlier request, each request is answered within the
+-- window, and doing the requests one at a time in the order asked makes every reply one that is allowed
+-- (draft-ietf-secsh-filexfer-02, section 6.1). The window is this profile's own.
+use Rattle.std.specs.Prelude.{◌≡◌, ◌==◌, ◌&&◌, nat_lt, ℕ, suc, Bool, true, if◌then◌else◌, List, [], ◌∷◌, Option, Some, None, IsTrue}
+use Rattle.sftp_wire.specs.declared.packets.Request.{Request}
+use Rattle.sftp_wire.specs.declared.packets.Reply.{Reply}
+use Rattle.sftp_audit.specs.declared.transcripts.Event.{Event}
+use Rattle.sftp_audit.specs.declared.transcripts.Event.TheVariants.{Asked, Replied}
+
+-- ---- turns: of each id, requests and replies take turns, beginning with a request and ending with a reply
+
+pub data Turn : Type 0 where
+  -- a request may come
+  closed : Turn
+  -- a reply has to come
+  waiting : Turn
+  -- one came out of turn
+  broken : Turn
+
+abbrev pub after_asked : Turn → Turn
+after_asked closed = waiting
+after_asked waiting = broken
+after_asked broken = broken
+
+abbrev pub after_replied : Turn → Turn
+after_replied closed = broken
+after_replied waiting = closed
+after_replied broken = broken
+
+-- what an event does to the turn of an id
+abbrev pub after_event : ℕ → Event → Turn → Turn
+after_event id (Asked request) turn = if request.id == id then after_asked turn else turn
+after_event id (Replied reply) turn = if reply.id == id then after_replied turn else turn
+
+-- whose turn it is after the events
+unfoldable pub turn_after : ℕ → Turn → List Event → Turn
+turn_after id turn [] = turn
+turn_after id turn (event ∷ events) = turn_after id (after_event id event turn) events
+
+abbrev pub Matching : List Event → Type 0
+Matching events = (id : ℕ) → turn_after id closed events ≡ closed
+
+-- ---- pairs: a request's reply is the next one of its id
+
+unfoldable pub next_reply : ℕ → List Event → Option Reply
+next_reply id [] = None
+next_reply id (Asked request ∷ events) = next_reply id events
+next_reply id (Replied reply ∷ events) = if reply.id == id then Some reply else next_reply id events
+
+-- each request in the order asked, with its reply where it has one
+unfoldable pub entries : List Event → List (Request × Option Reply)
+entries [] = []
+entries (Asked request ∷ events) = (request, next_reply request.id events) ∷ entries events
+entries (Replied reply ∷ events) = entries events
+
+-- those up to the first that has no reply
+unfoldable pub settled : List (Request × Option Reply) → List (Request × Reply)
+settled [] = []
+settled ((request, None) ∷ others) = []
+settled ((request, Some reply) ∷ others) = (request, reply) ∷ settled others
+
+-- ---- the window: after each request fewer than this many are asked before its reply
+
+abbrev pub window : ℕ
+window = 1024
+
+-- how many requests are asked before the next reply to an id, or before the end
+unfoldable pub asked_before_reply : ℕ → List Event → ℕ
+asked_before_reply id [] = 0
+asked_before_reply id (Asked request ∷ events) = suc (asked_before_reply id events)
+asked_before_reply id (Replied reply ∷ events) = if reply.id == id then 0 else asked_before_reply id events
+
+unfoldable pub in_window : List Event → Bool
+in_window [] = true
+in_window (Asked request ∷ events) = nat_lt (asked_before_reply request.id events) window && in_window events
+in_window (Replied reply ∷ events) = in_window events
+
+-- ---- runs, of any machine whose step says which replies it allows and where it then is
+
+abbrev pub StepOf : Type 0 → Type 1
+StepOf S = S → Request → Reply → S → Type 0
+
+abbrev pub Run : {S : Type 0} → StepOf S → S → List (Request × Reply) → S → Type 0
+Run step start [] end = end ≡ start
+Run {S} step start (pair ∷ pairs) end = (mid : S) × step start pair.0 pair.1 mid × Run step mid pairs end
+
+pub record Explained {S : Type 0} (step : StepOf S) (start : S) (events : List Event) (end : S) : Type 0 where
+  pub matching : Matching events
+  pub within_window : IsTrue (in_window events)
+  pub run : Run step start (settled (entries events)) end

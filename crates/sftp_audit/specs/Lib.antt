@@ -1,0 +1,9 @@
+pub mod Place
+pub mod PlaceOrder
+pub mod Tree
+pub mod Walk
+pub mod Steps
+pub mod TreeFile
+pub mod Transcript
+pub mod Explained
+pub mod Audit

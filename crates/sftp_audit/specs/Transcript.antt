@@ -1,0 +1,50 @@
+-- Recorded sessions as bytes: the transcript file. This profile's own; the packets are those of
+-- draft-ietf-secsh-filexfer-02, section 4 on.
+use Rattle.std.specs.Prelude.{◌≡◌, ℕ, ◌≤◌, List, ◌∷◌, ◌++◌, codes}
+use Rattle.std.specs.List.{flat_map, AllByRecursion}
+use Rattle.sftp_wire.specs.declared.packets.Packet.{Packet}
+use Rattle.sftp_wire.specs.declared.packets.Packet.TheVariants.{Init, Version, Request as request_packet, Reply as reply_packet}
+use Rattle.sftp_wire.specs.Spelling.{spelling, HasSpelling}
+use Rattle.sftp_audit.specs.declared.transcripts.Event.{Event}
+use Rattle.sftp_audit.specs.declared.transcripts.Event.TheVariants.{Asked, Replied}
+
+-- `SFTPTR01`
+abbrev pub transcript_opening : List ℕ
+transcript_opening = codes "SFTPTR01"
+
+-- the packet of an event
+abbrev pub packet_of : Event → Packet
+packet_of (Asked request) = request_packet request
+packet_of (Replied reply) = reply_packet reply
+
+-- `C` before a client's packet, `S` before a server's
+abbrev pub event_text : Event → List ℕ
+event_text (Asked request) = 67 ∷ spelling (request_packet request)
+event_text (Replied reply) = 83 ∷ spelling (reply_packet reply)
+
+abbrev pub IsEvent : Event → Type 0
+IsEvent event = HasSpelling (packet_of event)
+
+-- the events, one record after the other
+pub record AreRecords (events : List Event) (bytes : List ℕ) : Type 0 where
+  pub spelled : AllByRecursion IsEvent events
+  pub bytes_are : bytes ≡ flat_map event_text events
+
+-- an INIT of version 3 or more from the client, and then a VERSION 3 from the server; extensions are not
+-- looked at (draft, section 4)
+pub record IsHandshake (bytes rest : List ℕ) : Type 0 where
+  pub version : ℕ
+  pub asked : List (List ℕ × List ℕ)
+  pub told : List (List ℕ × List ℕ)
+  pub high_enough : 3 ≤ version
+  pub init : HasSpelling (Init version asked)
+  pub answer : HasSpelling (Version 3 told)
+  pub bytes_are : bytes ≡ (67 ∷ spelling (Init version asked)) ++ ((83 ∷ spelling (Version 3 told)) ++ rest)
+
+-- the bytes record the events
+pub record IsRecord (events : List Event) (bytes : List ℕ) : Type 0 where
+  pub opened : List ℕ
+  pub records : List ℕ
+  pub opening : bytes ≡ transcript_opening ++ opened
+  pub handshake : IsHandshake opened records
+  pub recorded : AreRecords events records
