@@ -4,9 +4,11 @@
 
 mod attributes;
 mod errors;
+mod measuring;
 mod packets;
 mod slices;
 mod strings;
+mod writing;
 
 pub use attributes::{AttrFlags, Attrs};
 pub use errors::{Fault, WireError};
