@@ -15,3 +15,4 @@ pub use errors::{Fault, WireError};
 pub use packets::{Answer, Ask, PACKET_LIMIT, Packet, Reply, Request, Side};
 pub use slices::{take_number, take_string};
 pub use strings::{ByteString, Pairs};
+pub use writing::encode;
