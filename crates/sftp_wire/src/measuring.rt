@@ -60,7 +60,9 @@ fn answered_length(answer: &Answer) -> usize
 {
     match answer {
         Answer::Status {
-            message, language, ..
+            message,
+            language,
+            ..
         } => string_length(message)
             .saturating_add(string_length(language))
             .saturating_add(9),

@@ -8,9 +8,13 @@ pub const PACKET_LIMIT: usize = 34_000;
 
 // The types of the packets (draft, section 3).
 pub(crate) const INIT: u8 = 1;
+
 pub(crate) const VERSION: u8 = 2;
+
 pub(crate) const MKDIR: u8 = 14;
+
 pub(crate) const RMDIR: u8 = 15;
+
 pub(crate) const STATUS: u8 = 101;
 
 /// Who sends a packet.

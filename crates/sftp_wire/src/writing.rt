@@ -1,4 +1,5 @@
-//! Packets as bytes (draft, sections 3 to 8).
+//! Packets as bytes (draft, sections 3 to 8). A private function may leave part of what it writes behind
+//! after an error: `encode` takes it away.
 ghost use Rattle.std.specs.Prelude.{◌≡◌, ◌∷◌, ◌++◌, ◌<◌, ◌^◌, ◌↔◌, ◌⊎◌, length, OnOk, OnErr, IfErr, IsErrOf, IfSome};
 ghost use Rattle.sftp_wire.specs.Spelling.{uint32, uint64, two_uint32, string, pair, pairs, counted_pairs, optional, attribute_flags, attribute_fields, attributes, asked, answered, contents, spelling, packet_limit, FitsString, FitsTwo, FitsPair, FitsPairs, FitsCounted, FitsAttrs, FitsAsk, FitsAnswer, FitsFields, HasSpelling};
 ghost use Rattle.sftp_wire.specs.Writing.{Extends};
@@ -211,12 +212,7 @@ fn put_type_and_id(out: &mut Vec<u8>, kind: u8, id: u32) -> Result<(), AllocErro
     Ok(())
 }
 
-fn put_mkdir(
-    out: &mut Vec<u8>,
-    id: u32,
-    path: &ByteString,
-    attrs: &Attrs,
-) -> Result<(), AllocError>
+fn put_mkdir(out: &mut Vec<u8>, id: u32, path: &ByteString, attrs: &Attrs) -> Result<(), AllocError>
     requires { length (asked id (Ask.Mkdir path.now attrs.now)) < 2 ^ 32 }
     ensures ok { OnOk result (out.new.items
         ≡ out.old.items ++ asked id (Ask.Mkdir path.now attrs.now)) }
@@ -346,3 +342,6 @@ pub fn encode(packet: &Packet, out: &mut Vec<u8>) -> Result<(), WireError>
         }
     }
 }
+
+#[cfg(test)]
+mod tests;

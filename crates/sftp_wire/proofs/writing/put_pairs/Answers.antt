@@ -1,5 +1,4 @@
-use Rattle.std.proofs.Common.{◌^◌, take, rules}
-use Rattle.sftp_wire.specs.Spelling.{pairs}
+use Rattle.std.proofs.Common.{◌^◌, rules}
 use Rattle.sftp_wire.specs.Writing.{Extends}
 use Rattle.sftp_wire.proofs.Appending.{Extends-after, pair_is_short}
 use Rattle.sftp_wire.proofs.writing.put_pairs.Goals as goal
