@@ -4,12 +4,15 @@
 
 mod attributes;
 mod errors;
+mod measuring;
 mod packets;
 mod slices;
 mod strings;
+mod writing;
 
 pub use attributes::{AttrFlags, Attrs};
 pub use errors::{Fault, WireError};
 pub use packets::{Answer, Ask, PACKET_LIMIT, Packet, Reply, Request, Side};
 pub use slices::{take_number, take_string};
 pub use strings::{ByteString, Pairs};
+pub use writing::encode;

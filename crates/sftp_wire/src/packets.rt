@@ -6,6 +6,17 @@ use crate::strings::{ByteString, Pairs};
 /// The most bytes that a whole packet may have, its length field included. This profile's own.
 pub const PACKET_LIMIT: usize = 34_000;
 
+// The types of the packets (draft, section 3).
+pub(crate) const INIT: u8 = 1;
+
+pub(crate) const VERSION: u8 = 2;
+
+pub(crate) const MKDIR: u8 = 14;
+
+pub(crate) const RMDIR: u8 = 15;
+
+pub(crate) const STATUS: u8 = 101;
+
 /// Who sends a packet.
 #[derive(Clone, Copy, Debug, PartialEq, Eq)]
 pub enum Side {

@@ -1,0 +1,6 @@
+use Rattle.std.proofs.Common.{◌≡◌, ◌-◌, ◌^◌, length, min, take}
+use Rattle.sftp_wire.specs.Spelling.{pairs}
+use Rattle.sftp_wire.proofs.measuring.pairs_length.Given as goal
+
+abbrev pub invariant-loop-name : goal.invariant-loop-name
+invariant-loop-name l = l.total ≡ min (length (pairs (take l.name-index l.name-items))) (2 ^ 64 - 1)
