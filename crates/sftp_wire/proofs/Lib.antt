@@ -1,1 +1,10 @@
+pub mod AttributeLaws
+pub mod FieldLaws
+pub mod Flags
+pub mod FrontLaws
+pub mod Loops
 pub mod Numbers
+pub mod PacketLaws
+pub mod PairLaws
+pub mod ReaderLaws
+pub mod Steps

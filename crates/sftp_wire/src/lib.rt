@@ -4,12 +4,17 @@
 
 mod attributes;
 mod errors;
+mod fields;
+mod laws;
 mod packets;
+mod reading;
 mod slices;
 mod strings;
 
 pub use attributes::{AttrFlags, Attrs};
 pub use errors::{Fault, WireError};
+pub use laws::spellings_are_apart;
 pub use packets::{Answer, Ask, PACKET_LIMIT, Packet, Reply, Request, Side};
+pub use reading::front;
 pub use slices::{take_number, take_string};
 pub use strings::{ByteString, Pairs};
