@@ -1,13 +1,12 @@
 -- Numbers, strings and pairs: a field that is read is spelled so, and what is spelled so is read again.
-use Rattle.std.proofs.Common.{◌≡◌, ℕ, ◌+◌, ◌^◌, ◌<◌, ◌≤◌, Bool, false, cond, ltb, List, [], ◌∷◌, ◌++◌, length, take, drop, Result, Ok, Err, refl, sym, ap, subst, ◌∙◌, arith}
+use Rattle.std.proofs.Common.{◌≡◌, ℕ, ◌+◌, ◌^◌, ◌<◌, ◌≤◌, false, cond, ltb, List, ◌++◌, length, take, drop, Ok, Err, refl, sym, ap, subst, arith}
 use Rattle.std.specs.Int.{Width, w32, w64, byte_len, from_be_bytes, to_be_bytes}
 use Rattle.std.proofs.lemmas.Bool.{ltb-false, le-ltb}
 use Rattle.std.proofs.lemmas.List.{take_at, drop_at, take-append-drop, length-append, length-take, length-drop}
-use Rattle.sftp_wire.specs.declared.errors.Fault.{Fault}
 use Rattle.sftp_wire.specs.declared.errors.Fault.TheVariants.{Short}
-use Rattle.sftp_wire.specs.Spelling.{uint32, uint64, string, two_uint32, pair, AreBytes, FitsString, FitsTwo, FitsPair}
+use Rattle.sftp_wire.specs.Spelling.{uint32, uint64, string, two_uint32, pair, FitsString, FitsTwo, FitsPair}
 use Rattle.sftp_wire.specs.Reading.{◌>>=◌, number_at, uint32_at, uint64_at, string_at, two_uint32_at, pair_at}
-use Rattle.sftp_wire.proofs.Numbers.{IsBytes, IsBytes-take, IsBytes-drop, AreBytes-from_places, IsWide, wide32, wide64}
+use Rattle.sftp_wire.proofs.Numbers.{IsBytes-take, IsBytes-drop, AreBytes-from_places, IsWide, wide32, wide64}
 use Rattle.sftp_wire.proofs.Steps.{bind_ok, guard_ok, ok_is, Takes, Takes-then}
 use Rattle.sftp_wire.proofs.ReaderLaws.{TakesAs, AgainAs, two_takes, two_again}
 

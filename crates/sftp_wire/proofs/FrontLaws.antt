@@ -1,9 +1,9 @@
 -- The packet in front of the bytes of a stream: what is found is spelled there, what is spelled there is found, and
 -- so no packet's spelling begins another's.
-use Rattle.std.proofs.Common.{◌≡◌, ℕ, suc, ◌+◌, ◌^◌, ◌<◌, ◌≤◌, ◌⊎◌, inl, inr, Bool, true, false, cond, eqb, ltb, List, [], ◌∷◌, ◌++◌, length, take, drop, Option, Some, None, Result, Ok, Err, refl, sym, ap, subst, ◌∙◌, append_assoc, arith, eq-eqb}
+use Rattle.std.proofs.Common.{◌≡◌, ℕ, ◌+◌, ◌<◌, ◌≤◌, ◌⊎◌, inl, inr, Bool, true, false, cond, eqb, ltb, List, ◌++◌, length, take, drop, Option, Some, None, Result, Ok, Err, refl, sym, ap, subst, ◌∙◌, append_assoc, arith}
 use Rattle.std.specs.Prelude.{◌||◌, IfOk, IfSome}
 use Rattle.std.specs.Int.{w32, from_be_bytes}
-use Rattle.std.proofs.lemmas.Bool.{ltb-false, le-ltb, eqb-false, ne_eqb}
+use Rattle.std.proofs.lemmas.Bool.{ltb-false, le-ltb, ne_eqb}
 use Rattle.std.proofs.lemmas.List.{take_at, drop_at, take-append-drop, length-append, length-take, length-drop, drop-drop, append_cancel_left}
 use Rattle.sftp_wire.specs.declared.errors.Fault.{Fault}
 use Rattle.sftp_wire.specs.declared.errors.Fault.TheVariants.{Length}
@@ -11,8 +11,8 @@ use Rattle.sftp_wire.specs.declared.errors.WireError.{WireError}
 use Rattle.sftp_wire.specs.declared.errors.WireError.TheVariants as wires
 use Rattle.sftp_wire.specs.declared.packets.Packet.{Packet}
 use Rattle.sftp_wire.specs.declared.packets.Side.{Side}
-use Rattle.sftp_wire.specs.Spelling.{uint32, string, contents, spelling, side_of, packet_limit, HasSpelling}
-use Rattle.sftp_wire.specs.Reading.{◌>>=◌, IsReading, StandsInFront, packet_of, front_of}
+use Rattle.sftp_wire.specs.Spelling.{uint32, contents, spelling, side_of, packet_limit, HasSpelling}
+use Rattle.sftp_wire.specs.Reading.{IsReading, StandsInFront, packet_of, front_of}
 use Rattle.sftp_wire.proofs.Numbers.{IsBytes, IsBytes-take, IsBytes-drop, wide32}
 use Rattle.sftp_wire.proofs.Steps.{bind_ok, guard_ok, ok_is}
 use Rattle.sftp_wire.proofs.PacketLaws.{contents-parts, packet_of_takes, packet_of_again}

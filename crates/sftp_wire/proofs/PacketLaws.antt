@@ -1,6 +1,6 @@
 -- Packets behind their length: what is read is spelled so, and what is spelled so is read again. One more row of
 -- the packet table is one more line in each part.
-use Rattle.std.proofs.Common.{◌≡◌, ℕ, suc, ◌^◌, ◌<◌, Bool, true, false, cond, eqb, List, [], ◌∷◌, ◌++◌, length, drop, Result, Ok, Err, refl, sym, ap, subst, ◌∙◌}
+use Rattle.std.proofs.Common.{◌≡◌, ℕ, suc, ◌^◌, ◌<◌, Bool, true, false, cond, eqb, List, [], ◌∷◌, ◌++◌, length, drop, Ok, Err, refl, sym, ap, subst, ◌∙◌}
 use Rattle.std.proofs.lemmas.Bool.{eqb-true}
 use Rattle.std.proofs.lemmas.List.{append-nil, nil_from_length}
 use Rattle.sftp_wire.specs.declared.errors.Fault.{Fault}
@@ -14,9 +14,9 @@ use Rattle.sftp_wire.specs.declared.packets.Packet.TheVariants.{Init, Version, R
 use Rattle.sftp_wire.specs.declared.packets.Side.{Side}
 use Rattle.sftp_wire.specs.declared.packets.Side.TheVariants.{Client, Server}
 use Rattle.sftp_wire.specs.Spelling.{uint32, string, pairs, attributes, asked, answered, contents, side_of, FitsString, FitsPairs, FitsAttrs, FitsAsk, FitsAnswer, FitsFields}
-use Rattle.sftp_wire.specs.Reading.{◌>>=◌, Reader, refuse, one, two, three, uint32_at, string_at, pairs_at, attributes_at, request_at, reply_at, client_packet_at, server_packet_at, packet_at, packet_of}
+use Rattle.sftp_wire.specs.Reading.{Reader, refuse, one, two, three, uint32_at, string_at, pairs_at, attributes_at, request_at, reply_at, client_packet_at, server_packet_at, packet_at, packet_of}
 use Rattle.sftp_wire.proofs.Numbers.{IsBytes}
-use Rattle.sftp_wire.proofs.Steps.{bind_ok, guard_held, ok_is, Takes}
+use Rattle.sftp_wire.proofs.Steps.{bind_ok, guard_held, ok_is}
 use Rattle.sftp_wire.proofs.ReaderLaws.{TakesAs, one_takes, one_again, two_takes, two_again, three_takes, three_again}
 use Rattle.sftp_wire.proofs.FieldLaws.{uint32_takes, uint32_again, string_takes, string_again}
 use Rattle.sftp_wire.proofs.PairLaws.{pairs_takes, pairs_again}

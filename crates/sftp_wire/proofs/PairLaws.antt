@@ -1,12 +1,10 @@
 -- Lists of pairs, up to the end and behind their number: what is read is spelled so, and what is spelled so is
 -- read again.
-use Rattle.std.proofs.Common.{◌≡◌, ℕ, ◌+◌, ◌^◌, ◌<◌, ◌≤◌, List, [], ◌∷◌, ◌++◌, length, Result, Ok, Err, refl, sym, ap, subst, ◌∙◌, append_assoc, arith}
-use Rattle.std.specs.Int.{w32}
-use Rattle.std.specs.List.{flat_map, AllByRecursion}
+use Rattle.std.proofs.Common.{◌≡◌, ℕ, ◌<◌, ◌≤◌, List, [], ◌∷◌, ◌++◌, length, Ok, sym, ap, subst, ◌∙◌, append_assoc, arith}
 use Rattle.std.proofs.lemmas.List.{length-append}
 use Rattle.std.proofs.lemmas.List.Concat.{flat_map-cons}
 use Rattle.sftp_wire.specs.Spelling.{uint32, string, pair, pairs, counted_pairs, FitsPair, FitsPairs, FitsCounted}
-use Rattle.sftp_wire.specs.Reading.{◌>>=◌, uint32_at, pair_at, pairs_at, many_at, up_to_end, counted_pairs_at}
+use Rattle.sftp_wire.specs.Reading.{uint32_at, pair_at, pairs_at, many_at, counted_pairs_at}
 use Rattle.sftp_wire.proofs.Steps.{bind_ok, Takes, Takes-then}
 use Rattle.sftp_wire.proofs.ReaderLaws.{TakesAs, AgainAs, many_takes, many_again, up_to_end_takes, up_to_end_again}
 use Rattle.sftp_wire.proofs.FieldLaws.{uint32_takes, uint32_again, pair_takes, pair_again}

@@ -1,11 +1,10 @@
 -- The laws of readers, for each way to put readers together: what is read is spelled so and fits, and
 -- what fits is read again, whatever follows.
-use Rattle.std.proofs.Common.{◌≡◌, ℕ, zero, suc, ◌+◌, ◌<◌, ◌≤◌, Bool, true, false, List, [], ◌∷◌, ◌++◌, length, Option, Some, None, Result, Ok, Err, refl, sym, ap, subst, ◌∙◌, append_assoc, arith}
+use Rattle.std.proofs.Common.{◌≡◌, ℕ, zero, suc, ◌<◌, ◌≤◌, Bool, true, false, List, [], ◌∷◌, ◌++◌, length, Option, Some, None, Ok, refl, ap, subst, ◌∙◌, append_assoc, arith}
 use Rattle.std.specs.Prelude.{IfSome, is_some}
 use Rattle.std.specs.List.{flat_map, AllByRecursion}
 use Rattle.std.proofs.lemmas.List.{length-append}
 use Rattle.std.proofs.lemmas.List.Concat.{flat_map-cons}
-use Rattle.sftp_wire.specs.declared.errors.Fault.{Fault}
 use Rattle.sftp_wire.specs.Spelling.{optional}
 use Rattle.sftp_wire.specs.Reading.{◌>>=◌, Reader, one, two, three, optional_at, many_at, up_to_end}
 use Rattle.sftp_wire.proofs.Numbers.{IsBytes}

@@ -1,4 +1,3 @@
-use Rattle.std.proofs.Common.{◌≡◌, ◌++◌, ◌∷◌, []}
 use Rattle.std.proofs.lemmas.Result.{err_from_is_err_and}
 use Rattle.sftp_wire.specs.Reading.{pair_at, many_at}
 use Rattle.sftp_wire.proofs.Loops.{many-goes_on, many-fails}

@@ -1,8 +1,6 @@
-use Rattle.std.proofs.Common.{◌≡◌, ◌++◌, ◌∷◌, [], ◌<◌, length, arith}
-use Rattle.std.proofs.lemmas.Result.{err_from_is_err_and}
 use Rattle.sftp_wire.specs.Reading.{pair_at, pairs_at}
-use Rattle.sftp_wire.proofs.Loops.{ReadsOn-start, ReadsOn-goes_on, ReadsOn-fails, ReadsOn-is_done}
-use Rattle.sftp_wire.proofs.FieldLaws.{pair_takes, pair-shortens}
+use Rattle.sftp_wire.proofs.Loops.{ReadsOn-start, ReadsOn-goes_on}
+use Rattle.sftp_wire.proofs.FieldLaws.{pair-shortens}
 use Rattle.sftp_wire.proofs.fields.pairs_to_end.Goals as goal
 
 pub pairs-init : goal.pairs-init

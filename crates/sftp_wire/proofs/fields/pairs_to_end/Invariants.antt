@@ -1,4 +1,4 @@
-use Rattle.std.proofs.Common.{ℕ, length}
+use Rattle.std.proofs.Common.{length}
 use Rattle.sftp_wire.specs.Reading.{pair_at, pairs_at}
 use Rattle.sftp_wire.proofs.Loops.{ReadsOn}
 use Rattle.sftp_wire.proofs.fields.pairs_to_end.Given as goal
