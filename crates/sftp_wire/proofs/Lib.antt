@@ -1,3 +1,12 @@
-pub mod Numbers
 pub mod Appending
+pub mod AttributeLaws
+pub mod FieldLaws
 pub mod FlagBits
+pub mod Flags
+pub mod FrontLaws
+pub mod Loops
+pub mod Numbers
+pub mod PacketLaws
+pub mod PairLaws
+pub mod ReaderLaws
+pub mod Steps

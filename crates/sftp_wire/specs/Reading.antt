@@ -1,10 +1,14 @@
 -- Packets are read from left to right, up to the first fault (draft-ietf-secsh-filexfer-02, sections 3 to 8).
 -- This is a second account of the packets beside their spelling; that the two agree is proved.
-use Rattle.std.specs.Prelude.{◌==◌, ◌||◌, nat_lt, ℕ, zero, suc, ◌+◌, Bool, if◌then◌else◌, List, [], ◌∷◌, length, take, drop, Option, Some, None, Result, Ok, Err}
+use Rattle.std.specs.Prelude.{◌≡◌, ◌==◌, ◌||◌, nat_lt, ℕ, zero, suc, ◌+◌, Bool, if◌then◌else◌, List, [], ◌∷◌, ◌++◌, length, take, drop, Option, Some, None, Result, Ok, Err}
 use Rattle.std.specs.Int.{w32, w64, Width, byte_len, from_be_bytes}
 use Rattle.std.specs.Int.RustNames.{bit_and}
 use Rattle.sftp_wire.specs.declared.errors.Fault.{Fault}
 use Rattle.sftp_wire.specs.declared.errors.Fault.TheVariants.{Length, WrongType, Short, Trailing, Flags}
+use Rattle.sftp_wire.specs.declared.errors.ReadError.{ReadError}
+use Rattle.sftp_wire.specs.declared.errors.ReadError.TheVariants as reads
+use Rattle.sftp_wire.specs.declared.errors.WireError.{WireError}
+use Rattle.sftp_wire.specs.declared.errors.WireError.TheVariants as wires
 use Rattle.sftp_wire.specs.declared.attributes.Attrs.{Attrs}
 use Rattle.sftp_wire.specs.declared.packets.Ask.{Ask}
 use Rattle.sftp_wire.specs.declared.packets.Ask.TheVariants.{Mkdir, Rmdir}
@@ -14,7 +18,7 @@ use Rattle.sftp_wire.specs.declared.packets.Packet.{Packet}
 use Rattle.sftp_wire.specs.declared.packets.Packet.TheVariants.{Init, Version, Request, Reply}
 use Rattle.sftp_wire.specs.declared.packets.Side.{Side}
 use Rattle.sftp_wire.specs.declared.packets.Side.TheVariants.{Client, Server}
-use Rattle.sftp_wire.specs.Spelling.{packet_limit}
+use Rattle.sftp_wire.specs.Spelling.{packet_limit, spelling, side_of, HasSpelling}
 
 -- A reader takes a value from the front of the bytes and leaves the rest, or names the first fault.
 abbrev pub Reader : Type 0 → Type 0
@@ -174,3 +178,31 @@ front_of side bytes =
     if size == 0 || nat_lt packet_limit (size + 4) then Err Length else
     if nat_lt (length bytes) (size + 4) then Ok None else
     (packet_of side (take size (drop 4 bytes)) >>= λ packet. Ok (Some (packet, size + 4))))
+
+-- ---- what the code gives, and what it has to do with the readers above
+
+-- what a reader of the program gives, and the bytes that it leaves, are what `read` gives, unless memory ran out
+abbrev pub Reads : {A : Type 0} → Result A ReadError → List ℕ → Result (A × List ℕ) Fault → Type 0
+Reads (Ok x) rest read = read ≡ Ok (x, rest)
+Reads (Err reads.NoMemory) rest read = Unit {0}
+Reads (Err (reads.Fault f)) rest read = read ≡ Err f
+
+-- the same where no rest is given
+abbrev pub Gives : {A : Type 0} → Result A ReadError → Result A Fault → Type 0
+Gives (Ok x) read = read ≡ Ok x
+Gives (Err reads.NoMemory) read = Unit {0}
+Gives (Err (reads.Fault f)) read = read ≡ Err f
+
+-- the same to a caller: a fault is at the place of the packet's first byte, which is the first of all
+abbrev pub IsReading : {A : Type 0} → Result A WireError → Result A Fault → Type 0
+IsReading (Ok x) read = read ≡ Ok x
+IsReading (Err (wires.Unreadable fault place)) read = (read ≡ Err fault) × (place ≡ 0)
+IsReading (Err wires.NoMemory) read = Unit {0}
+IsReading (Err wires.TooLong) read = ⊥
+
+-- a packet of that side stands in front of the bytes, spelled out, and takes so many of them
+pub record StandsInFront (side : Side) (bytes : List ℕ) (packet : Packet) (taken : ℕ) : Type 0 where
+  pub has_spelling : HasSpelling packet
+  pub is_sent : side_of packet ≡ side
+  pub is_whole : taken ≡ length (spelling packet)
+  pub is_spelled : bytes ≡ spelling packet ++ drop taken bytes

@@ -1,7 +1,10 @@
 //! Why a packet could not be written or read.
 ghost use Rattle.std.specs.Prelude.{◌≡◌};
+ghost use Rattle.sftp_wire.specs.declared.errors.Fault.TheVariants.{Short};
+ghost use Rattle.sftp_wire.specs.declared.errors.ReadError.TheVariants as reads;
 ghost use Rattle.sftp_wire.specs.declared.errors.WireError.TheVariants.{NoMemory};
 
+use bytes::TryGetError;
 use std::alloc::{AllocError, AllocFailed};
 use thiserror::Error;
 
@@ -52,5 +55,36 @@ impl<T: Drop> From<AllocFailed<T>> for WireError {
 
     fn from(_error: AllocFailed<T>) -> WireError {
         WireError::NoMemory
+    }
+}
+
+/// Why a field or a packet could not be read.
+#[derive(Debug, Drop)]
+pub(crate) enum ReadError {
+    NoMemory,
+    Fault(Fault),
+}
+
+impl From<AllocError> for ReadError {
+    ghost from_gives = { λ _ e. e ≡ reads.NoMemory };
+
+    fn from(_error: AllocError) -> ReadError {
+        ReadError::NoMemory
+    }
+}
+
+impl<T: Drop> From<AllocFailed<T>> for ReadError {
+    ghost from_gives = { λ _ e. e ≡ reads.NoMemory };
+
+    fn from(_error: AllocFailed<T>) -> ReadError {
+        ReadError::NoMemory
+    }
+}
+
+impl From<TryGetError> for ReadError {
+    ghost from_gives = { λ _ e. e ≡ reads.Fault Short };
+
+    fn from(_error: TryGetError) -> ReadError {
+        ReadError::Fault(Fault::Short)
     }
 }

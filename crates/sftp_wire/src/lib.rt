@@ -4,15 +4,20 @@
 
 mod attributes;
 mod errors;
+mod fields;
+mod laws;
 mod measuring;
 mod packets;
+mod reading;
 mod slices;
 mod strings;
 mod writing;
 
 pub use attributes::{AttrFlags, Attrs};
 pub use errors::{Fault, WireError};
+pub use laws::spellings_are_apart;
 pub use packets::{Answer, Ask, PACKET_LIMIT, Packet, Reply, Request, Side};
+pub use reading::front;
 pub use slices::{take_number, take_string};
 pub use strings::{ByteString, Pairs};
 pub use writing::encode;

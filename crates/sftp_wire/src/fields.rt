@@ -1,0 +1,168 @@
+//! The fields of packets, read from the front of a packet's body (draft, sections 3 to 5). Each reader
+//! moves the body past what it read. Where it fails, the body may stand anywhere.
+ghost use Rattle.sftp_wire.specs.Reading.{Reads, optional_at, uint32_at, uint64_at, two_uint32_at, string_at, pair_at, pairs_at, many_at, counted_pairs_at, attribute_fields_at, attributes_at};
+
+use crate::attributes::{AttrFlags, Attrs};
+use crate::errors::{Fault, ReadError};
+use crate::strings::{ByteString, Pairs};
+use bitflags::Flags;
+use bytes::Buf;
+use std::alloc::Global;
+
+/// A uint32.
+#[tactic(auto, unfolding(crate::specs::Reading::uint32_at))]
+pub(crate) fn number(body: &mut &[u8]) -> Result<u32, ReadError>
+    ensures { Reads result body.new.now (uint32_at body.old.now) }
+{
+    Ok(body.try_get_u32()?)
+}
+
+/// A uint64.
+#[tactic(auto, unfolding(crate::specs::Reading::uint64_at))]
+fn long_number(body: &mut &[u8]) -> Result<u64, ReadError>
+    ensures { Reads result body.new.now (uint64_at body.old.now) }
+{
+    Ok(body.try_get_u64()?)
+}
+
+/// Two uint32, as of a user and a group.
+#[tactic(auto, unfolding(crate::specs::Reading::two_uint32_at))]
+fn two_numbers(body: &mut &[u8]) -> Result<(u32, u32), ReadError>
+    ensures { Reads result body.new.now (two_uint32_at body.old.now) }
+{
+    let first = number(body)?;
+    let second = number(body)?;
+    Ok((first, second))
+}
+
+/// A string.
+#[tactic(auto, unfolding(crate::specs::Reading::string_at))]
+pub(crate) fn string(alloc: Global, body: &mut &[u8]) -> Result<ByteString, ReadError>
+    ensures { Reads result body.new.now (string_at body.old.now) }
+{
+    let length = number(body)? as usize;
+    if body.len() < length {
+        return Err(ReadError::Fault(Fault::Short));
+    }
+    let (text, rest) = body.split_at(length);
+    *body = rest;
+    Ok(ByteString::from_slice(alloc, text)?)
+}
+
+/// A name and its data.
+#[tactic(auto, unfolding(crate::specs::Reading::pair_at))]
+fn pair(alloc: Global, body: &mut &[u8]) -> Result<(ByteString, ByteString), ReadError>
+    ensures { Reads result body.new.now (pair_at body.old.now) }
+{
+    let name = string(alloc, body)?;
+    let text = string(alloc, body)?;
+    Ok((name, text))
+}
+
+/// The pairs up to the end of the body.
+pub(crate) fn pairs_to_end(alloc: Global, body: &mut &[u8]) -> Result<Pairs, ReadError>
+    ensures { Reads result body.new.now (pairs_at body.old.now) }
+{
+    let mut pairs = Vec::new(alloc);
+    'pairs: while !body.is_empty() {
+        let next = pair(alloc, body)?;
+        pairs.push(next)?;
+    }
+    Ok(Pairs::new(pairs))
+}
+
+/// So many pairs.
+fn pairs(alloc: Global, count: u32, body: &mut &[u8]) -> Result<Pairs, ReadError>
+    ensures { Reads result body.new.now (many_at pair_at count body.old.now) }
+{
+    let mut pairs = Vec::new(alloc);
+    'pairs: for _ in 0..count {
+        let next = pair(alloc, body)?;
+        pairs.push(next)?;
+    }
+    Ok(Pairs::new(pairs))
+}
+
+/// The number of pairs, and then the pairs.
+#[tactic(auto, unfolding(crate::specs::Reading::counted_pairs_at))]
+fn counted_pairs(alloc: Global, body: &mut &[u8]) -> Result<Pairs, ReadError>
+    ensures { Reads result body.new.now (counted_pairs_at body.old.now) }
+{
+    let count = number(body)?;
+    pairs(alloc, count, body)
+}
+
+/// A uint32, where one is said to stand there.
+fn optional_number(there: bool, body: &mut &[u8]) -> Result<Option<u32>, ReadError>
+    ensures { Reads result body.new.now (optional_at there uint32_at body.old.now) }
+{
+    if !there {
+        return Ok(None);
+    }
+    Ok(Some(number(body)?))
+}
+
+/// A uint64, where one is said to stand there.
+fn optional_long_number(there: bool, body: &mut &[u8]) -> Result<Option<u64>, ReadError>
+    ensures { Reads result body.new.now (optional_at there uint64_at body.old.now) }
+{
+    if !there {
+        return Ok(None);
+    }
+    Ok(Some(long_number(body)?))
+}
+
+/// Two uint32, where they are said to stand there.
+fn optional_two_numbers(there: bool, body: &mut &[u8]) -> Result<Option<(u32, u32)>, ReadError>
+    ensures { Reads result body.new.now (optional_at there two_uint32_at body.old.now) }
+{
+    if !there {
+        return Ok(None);
+    }
+    Ok(Some(two_numbers(body)?))
+}
+
+/// Pairs behind their number, where they are said to stand there.
+fn optional_counted_pairs(
+    alloc: Global,
+    there: bool,
+    body: &mut &[u8],
+) -> Result<Option<Pairs>, ReadError>
+    ensures { Reads result body.new.now (optional_at there counted_pairs_at body.old.now) }
+{
+    if !there {
+        return Ok(None);
+    }
+    Ok(Some(counted_pairs(alloc, body)?))
+}
+
+/// The fields that the flags name.
+#[tactic(auto, unfolding(crate::specs::Reading::attribute_fields_at))]
+fn attribute_fields(alloc: Global, flags: AttrFlags, body: &mut &[u8]) -> Result<Attrs, ReadError>
+    ensures { Reads result body.new.now (attribute_fields_at flags.0 body.old.now) }
+{
+    let size = optional_long_number(flags.contains(AttrFlags::SIZE), body)?;
+    let owner = optional_two_numbers(flags.contains(AttrFlags::OWNER), body)?;
+    let permissions = optional_number(flags.contains(AttrFlags::PERMISSIONS), body)?;
+    let times = optional_two_numbers(flags.contains(AttrFlags::TIMES), body)?;
+    let extended = optional_counted_pairs(alloc, flags.contains(AttrFlags::EXTENDED), body)?;
+    Ok(Attrs {
+        size,
+        owner,
+        permissions,
+        times,
+        extended,
+    })
+}
+
+/// Attributes: the flags, which have to be known ones, and then the fields that they name.
+#[tactic(auto, unfolding(crate::specs::Reading::attributes_at, bitflags::proofs::OnLiterals::bitflags_on_literals))]
+pub(crate) fn attributes(alloc: Global, body: &mut &[u8]) -> Result<Attrs, ReadError>
+    ensures { Reads result body.new.now (attributes_at body.old.now) }
+{
+    let bits = number(body)?;
+    match AttrFlags::from_bits(bits) {
+        Some(flags) => attribute_fields(alloc, flags, body),
+        None => Err(ReadError::Fault(Fault::Flags)),
+    }
+}
