@@ -7,3 +7,4 @@ pub mod TreeFile
 pub mod Transcript
 pub mod Explained
 pub mod Audit
+pub mod Rows

@@ -5,6 +5,7 @@
 mod attributes;
 mod errors;
 mod packets;
+pub mod rows;
 mod slices;
 mod strings;
 
