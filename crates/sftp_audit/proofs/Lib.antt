@@ -1,1 +1,4 @@
 pub mod Turns
+pub mod RunEnds
+pub mod WorkedRows
+pub mod RecordRows

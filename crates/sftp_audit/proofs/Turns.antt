@@ -1,9 +1,9 @@
 -- Turns are judged by the ids that occur.
-use Rattle.std.proofs.Common.{◌≡◌, ◌==◌, ◌||◌, ℕ, Bool, true, false, List, [], ◌∷◌, refl, sym, subst, eqb-true, cond}
+use Rattle.std.proofs.Common.{◌≡◌, ◌==◌, ◌||◌, ℕ, Bool, true, false, List, [], ◌∷◌, refl, subst, eqb-true}
 use Rattle.std.specs.List.{list_any, AllByRecursion}
 use Rattle.sftp_audit.specs.declared.transcripts.Event.{Event}
 use Rattle.sftp_audit.specs.declared.transcripts.Event.TheVariants.{Asked, Replied}
-use Rattle.sftp_audit.specs.Explained.{Turn, closed, turn_after, after_asked, after_replied, after_event, Matching}
+use Rattle.sftp_audit.specs.Explained.{Turn, closed, turn_after, after_event, Matching}
 
 abbrev pub id_of : Event → ℕ
 id_of (Asked request) = request.id
@@ -34,11 +34,11 @@ turn_after-others id turn (event ∷ events) others =
 -- what holds of each is so for one that occurs
 of_one : (P : ℕ → Type 0) (id : ℕ) (ids : List ℕ) → AllByRecursion P ids → list_any (λ i. i == id) ids ≡ true → P id
 of_one P id [] all occurs = absurd cc
-of_one P id (i ∷ ids) all occurs = by (i == id) refl
+of_one P id (i ∷ ids) all occurs = by (of_one P id ids all.1) (i == id) refl
   where
-    by : (b : Bool) → (i == id) ≡ b → P id
-    by true is = subst P (eqb-true i id is) all.0
-    by false is = of_one P id ids all.1 (let e : (false || list_any (λ j. j == id) ids) ≡ true = rw is at occurs in e)
+    by : (list_any (λ j. j == id) ids ≡ true → P id) → (b : Bool) → (i == id) ≡ b → P id
+    by others true is = subst P (eqb-true i id is) all.0
+    by others false is = others (let e : (false || list_any (λ j. j == id) ids) ≡ true = rw is at occurs in e)
 
 -- where the turns of the ids that occur are closed, those of all are
 pub Matching-from_ids : (events : List Event) → AllByRecursion (λ id. turn_after id closed events ≡ closed) (ids_of events) → Matching events

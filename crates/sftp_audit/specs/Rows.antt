@@ -3,7 +3,6 @@ use Rattle.std.specs.Prelude.{ℕ, List, [], ◌∷◌, ◌++◌, codes}
 use Rattle.sftp_wire.specs.declared.packets.Ask.TheVariants.{Mkdir, Rmdir}
 use Rattle.sftp_wire.specs.declared.packets.Answer.TheVariants.{Status}
 use Rattle.sftp_wire.specs.Rows.{hex, no_attributes, version_bytes}
-use Rattle.sftp_audit.specs.declared.trees.Owner.{Owner}
 use Rattle.sftp_audit.specs.declared.trees.Node.{Node}
 use Rattle.sftp_audit.specs.declared.trees.Node.TheVariants.{Dir}
 use Rattle.sftp_audit.specs.declared.transcripts.Event.{Event}
@@ -78,10 +77,14 @@ one_answered_twice = three_asked ++ status 3 4 ∷ status 2 0 ∷ status 1 0 ∷
 abbrev pub made_twice : ℕ → List Event
 made_twice code = mkdir 1 (codes "/a") ∷ mkdir 2 (codes "a/.") ∷ status 2 code ∷ status 1 0 ∷ []
 
+-- the transcript file of a session without a request: the opening, an INIT of version 3, and the VERSION
+abbrev pub handshake_bytes : List ℕ
+handshake_bytes = hex (codes "5346545054523031 43 00000005 01 00000003 53") ++ version_bytes
+
 -- the transcript file of the replies that come backwards, the removal being refused
 abbrev pub replied_backwards_bytes : List ℕ
 replied_backwards_bytes =
-    hex (codes "5346545054523031 43 00000005 01 00000003 53") ++ version_bytes ++
+    handshake_bytes ++
     hex (codes "43 0000000f 0e 00000001 00000002 2f61 00000000") ++
     hex (codes "43 00000011 0e 00000002 00000004 2f612f62 00000000") ++
     hex (codes "43 0000000b 0f 00000003 00000002 2f61") ++

@@ -4,6 +4,7 @@
 
 mod errors;
 mod paths;
+pub mod rows;
 mod transcripts;
 mod trees;
 

@@ -1,12 +1,12 @@
 -- Worked rows of reading and spelling: packets and faults in front of a stream.
-use Rattle.std.proofs.Common.{◌≡◌, ℕ, codes, List, [], ◌∷◌, Some, None, Result, Ok, Err, refl}
+use Rattle.std.proofs.Common.{◌≡◌, codes, [], Some, None, Ok, Err, refl}
 use Rattle.sftp_wire.specs.declared.errors.Fault.TheVariants.{Length, WrongType, Short, Trailing, Flags}
-use Rattle.sftp_wire.specs.declared.packets.Ask.TheVariants.{Mkdir, Rmdir}
+use Rattle.sftp_wire.specs.declared.packets.Ask.TheVariants.{Mkdir}
 use Rattle.sftp_wire.specs.declared.packets.Answer.TheVariants.{Status}
 use Rattle.sftp_wire.specs.declared.packets.Packet.TheVariants.{Init, Version, Request, Reply}
 use Rattle.sftp_wire.specs.declared.packets.Side.TheVariants.{Client, Server}
 use Rattle.sftp_wire.specs.Spelling.{spelling}
-use Rattle.sftp_wire.specs.Reading.{front_of, packet_of, client_packet_at, server_packet_at, attributes_at, attribute_fields_at, counted_pairs_at, pairs_at, pair_at, two_uint32_at, string_at, uint64_at, uint32_at}
+use Rattle.sftp_wire.specs.Reading.{front_of, packet_of, client_packet_at, server_packet_at, attributes_at, attribute_fields_at, counted_pairs_at, pairs_at, pair_at, string_at, uint32_at}
 use Rattle.sftp_wire.specs.Rows.{hex, no_attributes, server_extensions, version_bytes}
 
 pub init-read : front_of Client (hex (codes "00000005 01 00000003")) ≡ Ok (Some (Init 3 [], 9))
