@@ -8,3 +8,4 @@ pub mod Transcript
 pub mod Explained
 pub mod Audit
 pub mod Rows
+pub mod Laws

@@ -3,6 +3,7 @@
 #![tactic(auto)]
 
 mod errors;
+pub mod laws;
 mod paths;
 pub mod rows;
 mod transcripts;
