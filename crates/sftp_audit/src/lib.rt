@@ -3,7 +3,9 @@
 #![tactic(auto)]
 
 mod errors;
+pub mod laws;
 mod paths;
+pub mod rows;
 mod transcripts;
 mod trees;
 

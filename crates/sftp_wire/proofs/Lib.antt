@@ -10,3 +10,4 @@ pub mod PacketLaws
 pub mod PairLaws
 pub mod ReaderLaws
 pub mod Steps
+pub mod WorkedRows

@@ -9,6 +9,7 @@ mod laws;
 mod measuring;
 mod packets;
 mod reading;
+pub mod rows;
 mod slices;
 mod strings;
 mod writing;

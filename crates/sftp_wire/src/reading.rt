@@ -7,10 +7,11 @@ ghost use Rattle.sftp_wire.specs.Reading.{Reads, Gives, IsReading, StandsInFront
 
 use crate::errors::{Fault, ReadError, WireError};
 use crate::fields::{attributes, number, pairs_to_end, string};
-use crate::packets::{Answer, Ask, INIT, MKDIR, PACKET_LIMIT, Packet, RMDIR, Reply, Request, STATUS, Side, VERSION};
+use crate::packets::{
+    Answer, Ask, INIT, MKDIR, PACKET_LIMIT, Packet, RMDIR, Reply, Request, STATUS, Side, VERSION,
+};
 use crate::slices::take_number;
 use std::alloc::Global;
-
 
 fn init(alloc: Global, body: &mut &[u8]) -> Result<Packet, ReadError>
     ensures { Reads result body.new.now (two uint32_at pairs_at Packet.Init body.old.now) }

@@ -1,0 +1,5 @@
+pub mod Turns
+pub mod RunEnds
+pub mod WorkedRows
+pub mod RecordRows
+pub mod StepLaws

@@ -1,0 +1,97 @@
+-- What the worked rows name: trees, events, and the sessions made of them.
+use Rattle.std.specs.Prelude.{ℕ, List, [], ◌∷◌, ◌++◌, codes}
+use Rattle.sftp_wire.specs.declared.packets.Ask.TheVariants.{Mkdir, Rmdir}
+use Rattle.sftp_wire.specs.declared.packets.Answer.TheVariants.{Status}
+use Rattle.sftp_wire.specs.Rows.{hex, no_attributes, version_bytes}
+use Rattle.sftp_audit.specs.declared.trees.Node.{Node}
+use Rattle.sftp_audit.specs.declared.trees.Node.TheVariants.{Dir}
+use Rattle.sftp_audit.specs.declared.transcripts.Event.{Event}
+use Rattle.sftp_audit.specs.declared.transcripts.Event.TheVariants.{Asked, Replied}
+use Rattle.sftp_audit.specs.Place.{Place}
+use Rattle.sftp_audit.specs.Tree.{Tree}
+use Rattle.sftp_audit.specs.Steps.{Allowed}
+use Rattle.sftp_audit.specs.Explained.{Explained}
+
+-- ---- trees
+
+-- a directory of user 0 and group 0 that its owner may write
+abbrev pub plain_directory : Node
+plain_directory = Dir (record { uid = 0; gid = 0; permissions = 0o755 })
+
+-- a tree of such directories, whose home is the root
+abbrev pub tree_of : List (Place × Node) → Tree
+tree_of names = record { names = names; home = []; uid = 0; gid = 0 }
+
+-- the root alone
+abbrev pub blank : Tree
+blank = tree_of (([], plain_directory) ∷ [])
+
+-- the tree file of the blank tree
+abbrev pub blank_bytes : List ℕ
+blank_bytes = hex (codes "5346545245453031 00000001 2f 00000000 00000000 00000000 00000000 00000000 000001ed")
+
+-- with the directory `/a`
+abbrev pub with_a : Tree
+with_a = tree_of (([], plain_directory) ∷ (codes "a" ∷ [], plain_directory) ∷ [])
+
+-- with the directories `/a` and `/a/b`
+abbrev pub with_a_and_b : Tree
+with_a_and_b = tree_of (([], plain_directory) ∷ (codes "a" ∷ [], plain_directory) ∷ (codes "a" ∷ codes "b" ∷ [], plain_directory) ∷ [])
+
+-- its tree file
+abbrev pub with_a_and_b_bytes : List ℕ
+with_a_and_b_bytes = hex (codes "5346545245453031 00000001 2f 00000000 00000000 00000002 00000000 00000000 000001ed 00000002 2f61 44 00000000 00000000 000001ed 00000004 2f612f62 44 00000000 00000000 000001ed")
+
+-- ---- events
+
+-- a request for a directory of the tree's own owner
+abbrev pub mkdir : ℕ → List ℕ → Event
+mkdir id path = Asked (record { id = id; ask = Mkdir path no_attributes })
+
+abbrev pub rmdir : ℕ → List ℕ → Event
+rmdir id path = Asked (record { id = id; ask = Rmdir path })
+
+-- a reply with a code, and no texts
+abbrev pub status : ℕ → ℕ → Event
+status id code = Replied (record { id = id; answer = Status code [] [] })
+
+-- ---- sessions
+
+-- three requests on one path and its parent
+abbrev pub three_asked : List Event
+three_asked = mkdir 1 (codes "/a") ∷ mkdir 2 (codes "/a/b") ∷ rmdir 3 (codes "/a") ∷ []
+
+-- their replies come in the opposite order, and the last request is refused with this code
+abbrev pub replied_backwards : ℕ → List Event
+replied_backwards code = three_asked ++ status 3 code ∷ status 2 0 ∷ status 1 0 ∷ []
+
+-- the second request has no reply
+abbrev pub one_unanswered : List Event
+one_unanswered = three_asked ++ status 3 4 ∷ status 1 0 ∷ []
+
+-- the first request has two replies
+abbrev pub one_answered_twice : List Event
+one_answered_twice = three_asked ++ status 3 4 ∷ status 2 0 ∷ status 1 0 ∷ status 1 0 ∷ []
+
+-- the same directory, asked for twice and in two spellings; the second is refused with this code
+abbrev pub made_twice : ℕ → List Event
+made_twice code = mkdir 1 (codes "/a") ∷ mkdir 2 (codes "a/.") ∷ status 2 code ∷ status 1 0 ∷ []
+
+-- the transcript file of a session without a request: the opening, an INIT of version 3, and the VERSION
+abbrev pub handshake_bytes : List ℕ
+handshake_bytes = hex (codes "5346545054523031 43 00000005 01 00000003 53") ++ version_bytes
+
+-- the transcript file of the replies that come backwards, the removal being refused
+abbrev pub replied_backwards_bytes : List ℕ
+replied_backwards_bytes =
+    handshake_bytes ++
+    hex (codes "43 0000000f 0e 00000001 00000002 2f61 00000000") ++
+    hex (codes "43 00000011 0e 00000002 00000004 2f612f62 00000000") ++
+    hex (codes "43 0000000b 0f 00000003 00000002 2f61") ++
+    hex (codes "53 00000011 65 00000003 00000004 00000000 00000000") ++
+    hex (codes "53 00000011 65 00000002 00000000 00000000 00000000") ++
+    hex (codes "53 00000011 65 00000001 00000000 00000000 00000000")
+
+-- no run from the blank tree explains the events, whatever the end
+abbrev pub Unexplained : List Event → Type 0
+Unexplained events = (end : Tree) → ¬ Explained Allowed blank events end

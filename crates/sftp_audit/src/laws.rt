@@ -1,0 +1,28 @@
+//! Laws of steps and sessions, as theorems on the definitions that the auditor's contract names. The functions
+//! do nothing; each promise is in the contract.
+ghost use Rattle.std.specs.Prelude.{◌≡◌, ℕ, ◌^◌, ◌<◌, List, length};
+ghost use Rattle.sftp_wire.specs.declared.packets.Request.{Request};
+ghost use Rattle.sftp_wire.specs.declared.packets.Reply.{Reply};
+ghost use Rattle.sftp_audit.specs.declared.transcripts.Event.{Event};
+ghost use Rattle.sftp_audit.specs.Tree.{Tree};
+ghost use Rattle.sftp_audit.specs.Steps.{Allowed};
+ghost use Rattle.sftp_audit.specs.Explained.{Matching, Explained, entries, settled};
+ghost use Rattle.sftp_audit.specs.Laws.{IsAnswerable};
+
+/// A tree, a request and its reply fix the tree after them, and so a start and the events of a session fix
+/// the end.
+pub fn one_end()
+    ensures step { (t : Tree) (request : Request) (reply : Reply) (a b : Tree) → Allowed t request reply a → Allowed t request reply b → a ≡ b }
+    ensures session { (t : Tree) (events : List Event) (a b : Tree) → Explained Allowed t events a → Explained Allowed t events b → a ≡ b }
+{}
+
+/// Whatever the tree, some reply to each request is allowed and can be written.
+pub fn some_reply()
+    ensures { (t : Tree) (request : Request) → request.id < 2 ^ 32 → IsAnswerable t request }
+{}
+
+/// Where requests and replies of each id take turns, each request has a reply, so that a session's run goes
+/// over all of them.
+pub fn each_request_runs()
+    ensures { (events : List Event) → Matching events → length (settled (entries events)) ≡ length (entries events) }
+{}

@@ -1,0 +1,30 @@
+-- What the worked rows name: bytes written in hexadecimal, attributes that say nothing, and the extensions
+-- that the server tells of.
+use Rattle.std.specs.Prelude.{◌==◌, nat_lt, not, ℕ, ◌+◌, ◌-◌, ◌*◌, if◌then◌else◌, List, [], ◌∷◌, filter, codes, None}
+use Rattle.sftp_wire.specs.declared.attributes.Attrs.{Attrs}
+
+-- the worth of a hexadecimal digit, `0` to `9` or `a` to `f`
+abbrev pub digit_worth : ℕ → ℕ
+digit_worth code = if nat_lt code 58 then code - 48 else code - 87
+
+-- two digits a byte
+abbrev pub bytes_of_digits : List ℕ → List ℕ
+bytes_of_digits [] = []
+bytes_of_digits (high ∷ []) = []
+bytes_of_digits (high ∷ low ∷ others) = (digit_worth high * 16 + digit_worth low) ∷ bytes_of_digits others
+
+-- the bytes of a text in hexadecimal digits; its spaces only group them
+unfoldable pub hex : List ℕ → List ℕ
+hex text = bytes_of_digits (filter (λ code. not (code == 32)) text)
+
+-- nothing is said of a file
+abbrev pub no_attributes : Attrs
+no_attributes = record { size = None; owner = None; permissions = None; times = None; extended = None }
+
+-- the extensions that the server tells of, each in its version `1`
+abbrev pub server_extensions : List (List ℕ × List ℕ)
+server_extensions = (codes "posix-rename@openssh.com", codes "1") ∷ (codes "hardlink@openssh.com", codes "1") ∷ (codes "fsync@openssh.com", codes "1") ∷ []
+
+-- the 97 bytes of the server's VERSION
+abbrev pub version_bytes : List ℕ
+version_bytes = hex (codes "0000005d 02 00000003 00000018 706f7369782d72656e616d65406f70656e7373682e636f6d 00000001 31 00000014 686172646c696e6b406f70656e7373682e636f6d 00000001 31 00000011 6673796e63406f70656e7373682e636f6d 00000001 31")
