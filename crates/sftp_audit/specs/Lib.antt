@@ -7,3 +7,5 @@ pub mod TreeFile
 pub mod Transcript
 pub mod Explained
 pub mod Audit
+pub mod Ledger
+pub mod Exchange

@@ -3,9 +3,10 @@
 #![tactic(auto)]
 
 mod errors;
+mod pairing;
 mod paths;
 mod transcripts;
 mod trees;
 
-pub use errors::{NoMemory, TranscriptError, TreeError};
+pub use errors::{AuditError, NoMemory, Refusal, TranscriptError, TreeError};
 pub use transcripts::Event;

@@ -1,0 +1,4 @@
+pub mod Ledger
+pub mod Index
+pub mod Exchanges
+pub mod Noted
