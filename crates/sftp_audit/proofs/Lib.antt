@@ -3,3 +3,7 @@ pub mod RunEnds
 pub mod WorkedRows
 pub mod RecordRows
 pub mod StepLaws
+pub mod Ledger
+pub mod Index
+pub mod Exchanges
+pub mod Noted

@@ -9,3 +9,5 @@ pub mod Explained
 pub mod Audit
 pub mod Rows
 pub mod Laws
+pub mod Ledger
+pub mod Exchange

@@ -123,3 +123,63 @@ impl<T: Drop> From<AllocFailed<T>> for TranscriptError {
         TranscriptError::NoMemory
     }
 }
+
+/// Why a session was refused, and the number of the record that shows it.
+#[derive(Clone, Copy, Debug, PartialEq, Eq, Error)]
+pub enum Refusal {
+    /// A reply whose id no unanswered request has.
+    #[error("record {record}: UnknownReply")]
+    UnknownReply { record: u64 },
+    /// A request with the id of an unanswered one.
+    #[error("record {record}: IdInUse")]
+    IdInUse { record: u64 },
+    /// A request that comes too long after one that is unanswered.
+    #[error("record {record}: Window")]
+    Window { record: u64 },
+    /// A reply that the tree does not allow.
+    #[error("record {record}: NotAllowed")]
+    NotAllowed { record: u64 },
+    /// A request that has no reply.
+    #[error("record {record}: Unanswered")]
+    Unanswered { record: u64 },
+    /// Memory ran out.
+    #[error("out of memory")]
+    NoMemory,
+}
+
+impl From<AllocError> for Refusal {
+    ghost use Rattle.sftp_audit.specs.declared.errors.Refusal.TheVariants.{NoMemory as no_memory};
+
+    ghost from_gives = { λ _ e. e ≡ no_memory };
+
+    fn from(_error: AllocError) -> Refusal {
+        Refusal::NoMemory
+    }
+}
+
+impl<T: Drop> From<AllocFailed<T>> for Refusal {
+    ghost use Rattle.sftp_audit.specs.declared.errors.Refusal.TheVariants.{NoMemory as no_memory};
+
+    ghost from_gives = { λ _ e. e ≡ no_memory };
+
+    fn from(_error: AllocFailed<T>) -> Refusal {
+        Refusal::NoMemory
+    }
+}
+
+/// Why `audit` refused.
+#[derive(Clone, Copy, Debug, PartialEq, Eq, Error)]
+pub enum AuditError {
+    /// The bytes are no tree file.
+    #[error("tree: {0}")]
+    Tree(TreeError),
+    /// The bytes are no transcript file.
+    #[error("transcript: {0}")]
+    Transcript(TranscriptError),
+    /// The session is not explained by the tree.
+    #[error("refused {0}")]
+    Refused(Refusal),
+    /// Memory ran out, wherever it was.
+    #[error("out of memory")]
+    NoMemory,
+}

@@ -4,10 +4,11 @@
 
 mod errors;
 pub mod laws;
+mod pairing;
 mod paths;
 pub mod rows;
 mod transcripts;
 mod trees;
 
-pub use errors::{NoMemory, TranscriptError, TreeError};
+pub use errors::{AuditError, NoMemory, Refusal, TranscriptError, TreeError};
 pub use transcripts::Event;
