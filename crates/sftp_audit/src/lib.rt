@@ -3,6 +3,7 @@
 #![tactic(auto)]
 
 mod errors;
+mod path_text;
 mod paths;
 mod transcripts;
 mod trees;
