@@ -192,3 +192,6 @@ fn cut(bytes: &[u8]) -> (&[u8], &[u8])
     let end = bytes.find_byte(b'/').unwrap_or(bytes.len());
     bytes.split_at(end)
 }
+
+#[cfg(test)]
+mod tests;
