@@ -1,5 +1,5 @@
 -- The parts and components of a path, and the places that absolute texts stand for.
-use Rattle.std.proofs.Common.{◌≡◌, ◌≢◌, ℕ, suc, zero, ◌+◌, ◌-◌, ◌<◌, ◌≤◌, Bool, true, false, cond, not, ◌&&◌, ◌||◌, ◌==◌, nat_lt, nat_le, eqb, leb, ltb, if◌then◌else◌, List, [], ◌∷◌, ◌++◌, length, get_or, take, drop, refl, sym, ap, ◌∙◌, subst, IsTrue, arith, filter}
+use Rattle.std.proofs.Common.{◌≡◌, ◌≢◌, ℕ, suc, zero, ◌+◌, ◌-◌, ◌<◌, ◌≤◌, Bool, true, false, cond, not, ◌&&◌, ◌==◌, nat_lt, nat_le, if◌then◌else◌, List, [], ◌∷◌, ◌++◌, length, get_or, take, drop, refl, sym, ap, ◌∙◌, subst, Fits, w8, arith, filter}
 use Rattle.std.specs.List.{list_all, flat_map, position, position_or_len}
 use Rattle.std.specs.Prelude.{slice_index, Option, Some, None, unwrap_or}
 use Rattle.bstr.specs.Find.{IsFirstByte, is_byte}
@@ -117,10 +117,10 @@ pub components-skip : (bs : List ℕ) → components (drop (position_or_len is_i
 components-skip [] = refl
 components-skip (b ∷ bs) =
     elim (cases_Bool (b == 47)) [
-      inl slash ↦
-        ap components (skip-slash b bs slash) ∙ components-skip bs
-        ∙ sym (components-slash bs) ∙ ap (λ v. components (v ∷ bs)) (sym (eqb-true b 47 slash))
-    | inr inner ↦ ap components (skip-stop b bs inner)
+      | inl slash ↦
+          ap components (skip-slash b bs slash) ∙ components-skip bs
+          ∙ sym (components-slash bs) ∙ ap (λ v. components (v ∷ bs)) (sym (eqb-true b 47 slash))
+      | inr inner ↦ ap components (skip-stop b bs inner)
     ]
 
 -- behind them stands nothing, or a byte that is no `/`
@@ -128,8 +128,8 @@ skip-inner : (bs : List ℕ) → begins_at_slash (drop (position_or_len is_inner
 skip-inner [] h = refl
 skip-inner (b ∷ bs) h =
     elim (cases_Bool (b == 47)) [
-      inl slash ↦ skip-slash b bs slash ∙ skip-inner bs (ap begins_at_slash (sym (skip-slash b bs slash)) ∙ h)
-    | inr inner ↦ absurd (false≢true (sym inner ∙ ap begins_at_slash (sym (skip-stop b bs inner)) ∙ h))
+      | inl slash ↦ skip-slash b bs slash ∙ skip-inner bs (ap begins_at_slash (sym (skip-slash b bs slash)) ∙ h)
+      | inr inner ↦ absurd (false≢true (sym inner ∙ ap begins_at_slash (sym (skip-stop b bs inner)) ∙ h))
     ]
 
 position-some : (bs : List ℕ) (n : ℕ) → position is_inner bs ≡ Some n → (position_or_len is_inner bs < length bs) × (position_or_len is_inner bs ≡ n)
@@ -156,10 +156,10 @@ components-next bs w r n found whole cut behind =
 pub components-end : (bs : List ℕ) → position is_inner bs ≡ None → components bs ≡ []
 components-end bs none =
     let past : length bs ≤ position_or_len is_inner bs =
-      elim (cases_Bool (nat_lt (position_or_len is_inner bs) (length bs))) [
-        inl yes-there ↦ absurd (none-some (position_or_len is_inner bs) (sym none ∙ cond-true (nat_lt (position_or_len is_inner bs) (length bs)) (Some (position_or_len is_inner bs)) None yes-there))
+    elim (cases_Bool (nat_lt (position_or_len is_inner bs) (length bs))) [
+      | inl yes-there ↦ absurd (none-some (position_or_len is_inner bs) (sym none ∙ cond-true (nat_lt (position_or_len is_inner bs) (length bs)) (Some (position_or_len is_inner bs)) None yes-there))
       | inr past ↦ ltb-false (position_or_len is_inner bs) (length bs) past
-      ] in
+    ] in
     sym (components-skip bs) ∙ ap components (drop_all (position_or_len is_inner bs) bs past) ∙ components-nil
 
 -- the first place of a `/`, or the end, cuts the first part off
@@ -248,21 +248,21 @@ good_from-short : (run : ℕ) (bs : List ℕ) → run ≤ 255 → (list_all is_n
 good_from-short run [] h = ap (short_after run) parts-nil ∙ short_after-slash run [] h
 good_from-short run (b ∷ bs) h =
     elim (cases_Bool (b == 47)) [
-      inl slash ↦
-        let e : short_after run (parts (b ∷ bs)) ≡ short_after 0 (parts bs) = ap (short_after run) (parts-slash b bs slash) ∙ short_after-slash run (parts bs) h ∙ short_after-zero (parts bs) in
-        ap (λ v. list_all is_nonzero (b ∷ bs) && v) e
-        ∙ and_shuffle (is_nonzero b) (list_all is_nonzero bs) (short_after 0 (parts bs)) (good_from 0 bs) (good_from-short 0 bs (omega arith))
-        ∙ ap (λ v. is_nonzero b && cond v (good_from 0 bs) (nat_le (run + 1) name_limit && good_from (run + 1) bs)) (sym slash)
-    | inr inner ↦
-        let e : short_after run (parts (b ∷ bs)) ≡ short_after (run + 1) (parts bs) = ap (short_after run) (parts-inner b bs inner) ∙ short_after-with_first run b (parts bs) in
-        let rest : (list_all is_nonzero bs && short_after (run + 1) (parts bs)) ≡ (nat_le (run + 1) name_limit && good_from (run + 1) bs) =
+      | inl slash ↦
+          let e : short_after run (parts (b ∷ bs)) ≡ short_after 0 (parts bs) = ap (short_after run) (parts-slash b bs slash) ∙ short_after-slash run (parts bs) h ∙ short_after-zero (parts bs) in
+          ap (λ v. list_all is_nonzero (b ∷ bs) && v) e
+          ∙ and_shuffle (is_nonzero b) (list_all is_nonzero bs) (short_after 0 (parts bs)) (good_from 0 bs) (good_from-short 0 bs (omega arith))
+          ∙ ap (λ v. is_nonzero b && cond v (good_from 0 bs) (nat_le (run + 1) name_limit && good_from (run + 1) bs)) (sym slash)
+      | inr inner ↦
+          let e : short_after run (parts (b ∷ bs)) ≡ short_after (run + 1) (parts bs) = ap (short_after run) (parts-inner b bs inner) ∙ short_after-with_first run b (parts bs) in
+          let rest : (list_all is_nonzero bs && short_after (run + 1) (parts bs)) ≡ (nat_le (run + 1) name_limit && good_from (run + 1) bs) =
           elim (cases_Bool (nat_le (run + 1) name_limit)) [
-            inl fits ↦ good_from-short (run + 1) bs (leb-true (run + 1) 255 fits) ∙ ap (λ v. v && good_from (run + 1) bs) (sym fits)
-          | inr long ↦ and_right (list_all is_nonzero bs) (short_after (run + 1) (parts bs)) (short_after-long (run + 1) (parts bs) (leb-false (run + 1) 255 long)) ∙ ap (λ v. v && good_from (run + 1) bs) (sym long)
+            | inl fits ↦ good_from-short (run + 1) bs (leb-true (run + 1) 255 fits) ∙ ap (λ v. v && good_from (run + 1) bs) (sym fits)
+            | inr long ↦ and_right (list_all is_nonzero bs) (short_after (run + 1) (parts bs)) (short_after-long (run + 1) (parts bs) (leb-false (run + 1) 255 long)) ∙ ap (λ v. v && good_from (run + 1) bs) (sym long)
           ] in
-        ap (λ v. list_all is_nonzero (b ∷ bs) && v) e
-        ∙ and_shuffle (is_nonzero b) (list_all is_nonzero bs) (short_after (run + 1) (parts bs)) (nat_le (run + 1) name_limit && good_from (run + 1) bs) rest
-        ∙ ap (λ v. is_nonzero b && cond v (good_from 0 bs) (nat_le (run + 1) name_limit && good_from (run + 1) bs)) (sym inner)
+          ap (λ v. list_all is_nonzero (b ∷ bs) && v) e
+          ∙ and_shuffle (is_nonzero b) (list_all is_nonzero bs) (short_after (run + 1) (parts bs)) (nat_le (run + 1) name_limit && good_from (run + 1) bs) rest
+          ∙ ap (λ v. is_nonzero b && cond v (good_from 0 bs) (nat_le (run + 1) name_limit && good_from (run + 1) bs)) (sym inner)
     ]
 
 -- an empty part is short
@@ -287,13 +287,13 @@ bad_by_length path h = sym (good_path-from path ∙ and_left (nat_le (length pat
 pub bad_at_zero : (path : List ℕ) (run i : ℕ) → i < length path → slice_index path i ≡ 0 → good_from run (drop i path) ≡ good_from 0 path → false ≡ is_good_path path
 bad_at_zero path run i l zero-byte rest =
     bad_from path (sym rest ∙ at_drop_more (good_from run) path i 0 l
-      ∙ ap (λ v. not v && (if slice_index path i == 47 then good_from 0 (drop (i + 1) path) else nat_le (run + 1) name_limit && good_from (run + 1) (drop (i + 1) path))) (eq-eqb (slice_index path i) 0 zero-byte))
+    ∙ ap (λ v. not v && (if slice_index path i == 47 then good_from 0 (drop (i + 1) path) else nat_le (run + 1) name_limit && good_from (run + 1) (drop (i + 1) path))) (eq-eqb (slice_index path i) 0 zero-byte))
 
 pub bad_by_component : (path : List ℕ) (run i : ℕ) → i < length path → slice_index path i ≢ 47 → name_limit < run + 1 → good_from run (drop i path) ≡ good_from 0 path → false ≡ is_good_path path
 bad_by_component path run i l inner long rest =
     bad_from path (sym rest ∙ at_drop_more (good_from run) path i 0 l
-      ∙ ap (λ v. not (slice_index path i == 0) && (if v then good_from 0 (drop (i + 1) path) else nat_le (run + 1) name_limit && good_from (run + 1) (drop (i + 1) path))) (ne_eqb (slice_index path i) 47 inner)
-      ∙ and_right (not (slice_index path i == 0)) (nat_le (run + 1) name_limit && good_from (run + 1) (drop (i + 1) path)) (and_left (nat_le (run + 1) name_limit) (good_from (run + 1) (drop (i + 1) path)) (lt-leb (run + 1) name_limit long)))
+    ∙ ap (λ v. not (slice_index path i == 0) && (if v then good_from 0 (drop (i + 1) path) else nat_le (run + 1) name_limit && good_from (run + 1) (drop (i + 1) path))) (ne_eqb (slice_index path i) 47 inner)
+    ∙ and_right (not (slice_index path i == 0)) (nat_le (run + 1) name_limit && good_from (run + 1) (drop (i + 1) path)) (and_left (nat_le (run + 1) name_limit) (good_from (run + 1) (drop (i + 1) path)) (lt-leb (run + 1) name_limit long)))
 
 pub good_to_the_end : (path : List ℕ) (run i : ℕ) → length path ≤ i → length path ≤ path_limit → good_from run (drop i path) ≡ good_from 0 path → true ≡ is_good_path path
 good_to_the_end path run i l short rest =
@@ -321,8 +321,8 @@ list_all-parts p (b ∷ bs) h =
     let a = and_parts (p b) (list_all p bs) h in
     let rest = list_all-parts p bs a.1 in
     elim (cases_Bool (b == 47)) [
-      inl slash ↦ ap (list_all (list_all p)) (parts-slash b bs slash) ∙ rest
-    | inr inner ↦ ap (list_all (list_all p)) (parts-inner b bs inner) ∙ list_all-with_first p b (parts bs) a.0 rest
+      | inl slash ↦ ap (list_all (list_all p)) (parts-slash b bs slash) ∙ rest
+      | inr inner ↦ ap (list_all (list_all p)) (parts-inner b bs inner) ∙ list_all-with_first p b (parts bs) a.0 rest
     ]
 
 -- no part contains a `/`
@@ -330,8 +330,8 @@ pub list_all-inner-parts : (bs : List ℕ) → list_all (list_all is_inner) (par
 list_all-inner-parts [] = ap (list_all (list_all is_inner)) parts-nil
 list_all-inner-parts (b ∷ bs) =
     elim (cases_Bool (b == 47)) [
-      inl slash ↦ ap (list_all (list_all is_inner)) (parts-slash b bs slash) ∙ list_all-inner-parts bs
-    | inr inner ↦ ap (list_all (list_all is_inner)) (parts-inner b bs inner) ∙ list_all-with_first is_inner b (parts bs) (not_from_false (b == 47) inner) (list_all-inner-parts bs)
+      | inl slash ↦ ap (list_all (list_all is_inner)) (parts-slash b bs slash) ∙ list_all-inner-parts bs
+      | inr inner ↦ ap (list_all (list_all is_inner)) (parts-inner b bs inner) ∙ list_all-with_first is_inner b (parts bs) (not_from_false (b == 47) inner) (list_all-inner-parts bs)
     ]
 
 pub list_all-components : (p : ℕ → Bool) (bs : List ℕ) → list_all p bs ≡ true → list_all (list_all p) (components bs) ≡ true
@@ -347,8 +347,8 @@ components-good path h =
     let nonzero : list_all (list_all is_nonzero) (components path) ≡ true = list_all-components is_nonzero path b.0 in
     let inner : list_all (list_all is_inner) (components path) ≡ true = ap (list_all (list_all is_inner)) (components-are path) ∙ list_all-filter (list_all is_inner) is_nonempty (parts path) (list_all-inner-parts path) in
     list_all-both (λ part. is_nonempty part && is_short part) (λ part. list_all is_nonzero part && list_all is_inner part) (components path)
-      (list_all-both is_nonempty is_short (components path) nonempty b.1)
-      (list_all-both (list_all is_nonzero) (list_all is_inner) (components path) nonzero inner)
+    (list_all-both is_nonempty is_short (components path) nonempty b.1)
+    (list_all-both (list_all is_nonzero) (list_all is_inner) (components path) nonzero inner)
 
 name_bytes : (c : List ℕ) → list_all is_octet c ≡ true → list_all is_nonzero c ≡ true → list_all is_inner c ≡ true → list_all is_name_byte c ≡ true
 name_bytes c bytes nonzero inner = list_all-both is_octet (λ b. is_nonzero b && is_inner b) c bytes (list_all-both is_nonzero is_inner c nonzero inner)
@@ -359,8 +359,15 @@ good_component-is_name c good bytes dot dots =
     let a = and_parts (is_nonempty c && is_short c) (list_all is_nonzero c && list_all is_inner c) good in
     let b = and_parts (list_all is_nonzero c) (list_all is_inner c) a.1 in
     and_from (is_nonempty c && is_short c) (list_all is_name_byte c && (not (is_dot c) && not (is_dot_dot c))) a.0
-      (and_from (list_all is_name_byte c) (not (is_dot c) && not (is_dot_dot c)) (name_bytes c bytes b.0 b.1)
-        (and_from (not (is_dot c)) (not (is_dot_dot c)) (not_from_false (is_dot c) dot) (not_from_false (is_dot_dot c) dots)))
+    (and_from (list_all is_name_byte c) (not (is_dot c) && not (is_dot_dot c)) (name_bytes c bytes b.0 b.1)
+    (and_from (not (is_dot c)) (not (is_dot_dot c)) (not_from_false (is_dot c) dot) (not_from_false (is_dot_dot c) dots)))
+
+-- the items of a `&[u8]` are bytes, as a proof knows them
+pub list_all-octets : (c : List ℕ) → ((i : ℕ) → Fits w8 (get_or c i 0)) → list_all is_octet c ≡ true
+list_all-octets [] h = refl
+list_all-octets (b ∷ bs) h =
+    let fits : Fits w8 b = h 0 in
+    and_from (is_octet b) (list_all is_octet bs) (lt-ltb b 256 (omega arith)) (list_all-octets bs (λ i. h (suc i)))
 
 -- a component of a good path is a name, but for `.` and `..`
 pub component-is_name : (path : List ℕ) (before : List (List ℕ)) (c : List ℕ) (after : List (List ℕ)) → is_good_path path ≡ true → components path ≡ before ++ c ∷ after → list_all is_octet c ≡ true → is_dot c ≡ false → is_dot_dot c ≡ false → is_name c ≡ true

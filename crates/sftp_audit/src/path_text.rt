@@ -6,8 +6,8 @@ ghost use Rattle.std.specs.Iterator.{YieldsFirstRef, item_count};
 ghost use Rattle.sftp_audit.specs.Cut.{begins_at_slash, parts_behind};
 ghost use Rattle.sftp_audit.specs.Place as spec;
 
-use bstr::ByteSlice;
 use crate::paths::Place;
+use bstr::ByteSlice;
 use std::alloc::{AllocError, Global};
 use thiserror::Error;
 

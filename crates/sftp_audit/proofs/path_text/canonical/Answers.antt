@@ -1,4 +1,4 @@
-use Rattle.std.proofs.Common.{◌≡◌, ◌∷◌, ◌++◌, [], List, ℕ, ap, sym, ◌∙◌, refl, arith, eqb}
+use Rattle.std.proofs.Common.{◌≡◌, ◌∷◌, ◌++◌, [], ap, sym, ◌∙◌, refl, arith, eqb}
 use Rattle.std.proofs.lemmas.Bool.{false≢true}
 use Rattle.std.specs.Cmp.Lexicographic.{pointwise}
 use Rattle.sftp_audit.specs.Cut.{parts_behind}
@@ -13,9 +13,9 @@ loop-rest-init c =
 pub returns-then-not-is_name-clause-none : goal.returns-then-not-is_name-clause-none
 returns-then-not-is_name-clause-none c =
     not_absolute c.args.text.now c.loop-rest.place c.cut.result.0.now (parts_behind c.cut.result.1.now)
-      (let slash : c.as_slice.result.now ≡ 47 ∷ [] = cc in
-       λ e. false≢true (c.if-eq.ensures ∙ (λ i. pointwise eqb (e i) (slash i))))
-      (let behind : parts_behind c.loop-rest.rest.now ≡ c.cut.result.0.now ∷ parts_behind c.cut.result.1.now =
-         sym (parts_behind-first c.loop-rest.rest.now (omega arith)) ∙ c.cut.ensures.parts in
-       c.loop-rest.invariant.cut ∙ ap (λ ps. [] ∷ (c.loop-rest.place ++ ps)) behind)
-      (sym c.if-not-is_name.ensures)
+    (let slash : c.as_slice.result.now ≡ 47 ∷ [] = cc in
+    λ e. false≢true (c.if-eq.ensures ∙ (λ i. pointwise eqb (e i) (slash i))))
+    (let behind : parts_behind c.loop-rest.rest.now ≡ c.cut.result.0.now ∷ parts_behind c.cut.result.1.now =
+    sym (parts_behind-first c.loop-rest.rest.now (omega arith)) ∙ c.cut.ensures.parts in
+    c.loop-rest.invariant.cut ∙ ap (λ ps. [] ∷ (c.loop-rest.place ++ ps)) behind)
+    (sym c.if-not-is_name.ensures)

@@ -11,7 +11,7 @@ invariant-loop-rest l = record {
   read : l.fn.text ≡ flat_map (λ name. 47 ∷ name) l.place ++ l.rest;
   cut : parts l.fn.text ≡ [] ∷ (l.place ++ parts_behind l.rest);
   behind : IsTrue (begins_at_slash l.rest);
-  some : 0 < length l.place + length l.rest
+  some : 0 < length l.place + length l.rest;
 }
 
 abbrev pub decreases-loop-rest : goal.decreases-loop-rest

@@ -1,6 +1,3 @@
-use Rattle.std.proofs.Common.{◌≡◌, ◌∷◌, ℕ, List, subst, sym}
-use Rattle.sftp_audit.specs.Cut.{parts_behind}
-use Rattle.sftp_audit.specs.Place as spec
 use Rattle.sftp_audit.proofs.Parts.{parts-found}
 use Rattle.sftp_audit.proofs.path_text.cut.Goals as goal
 

@@ -1,4 +1,4 @@
-use Rattle.std.proofs.Common.{arith, ◌≡◌, ◌<◌, ◌≤◌, ◌+◌}
+use Rattle.std.proofs.Common.{arith}
 use Rattle.sftp_audit.proofs.Parts.{bad_by_length, bad_at_zero, bad_by_component, good_to_the_end}
 use Rattle.sftp_audit.proofs.path_text.good_path.Goals as goal
 use Rattle.sftp_audit.proofs.path_text.good_path.Goals.{then-byte-eq47, else-byte-eq47}
@@ -13,9 +13,9 @@ returns-then-byte-eq0 c =
 pub returns-then-component_len-gt-NAME_LIMIT : goal.returns-then-component_len-gt-NAME_LIMIT
 returns-then-component_len-gt-NAME_LIMIT c =
     elim c.if-byte-eq47.branch [
-      then-byte-eq47 w ↦ absurd (omega arith)
-    | else-byte-eq47 w ↦
-        bad_by_component c.args.path.now c.loop-byte.component_len c.loop-byte.byte-index (omega arith) w.if-byte-eq47.false (omega arith) c.loop-byte.invariant.decides
+      | then-byte-eq47 w ↦ absurd (omega arith)
+      | else-byte-eq47 w ↦
+          bad_by_component c.args.path.now c.loop-byte.component_len c.loop-byte.byte-index (omega arith) w.if-byte-eq47.false (omega arith) c.loop-byte.invariant.decides
     ]
 
 pub returns : goal.returns

@@ -6,5 +6,5 @@ use Rattle.sftp_audit.proofs.path_text.good_path.Given as goal
 abbrev pub invariant-loop-byte : goal.invariant-loop-byte
 invariant-loop-byte l = record {
   decides : good_from l.component_len (drop l.byte-index l.path) ≡ good_from 0 l.path;
-  short : l.component_len ≤ 255
+  short : l.component_len ≤ 255;
 }
