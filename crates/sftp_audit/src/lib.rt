@@ -5,6 +5,7 @@
 mod errors;
 pub mod laws;
 mod pairing;
+mod path_text;
 mod paths;
 pub mod rows;
 mod transcripts;
