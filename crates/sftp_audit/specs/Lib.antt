@@ -5,5 +5,6 @@ pub mod Walk
 pub mod Steps
 pub mod TreeFile
 pub mod Transcript
+pub mod Records
 pub mod Explained
 pub mod Audit

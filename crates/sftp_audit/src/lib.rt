@@ -4,8 +4,10 @@
 
 mod errors;
 mod paths;
+mod records;
 mod transcripts;
 mod trees;
 
 pub use errors::{NoMemory, TranscriptError, TreeError};
+pub use records::read_events;
 pub use transcripts::Event;
