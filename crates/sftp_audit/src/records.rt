@@ -176,3 +176,6 @@ fn unreadable(error: WireError, number: u64) -> TranscriptError
         },
     }
 }
+
+#[cfg(test)]
+mod tests;
