@@ -6,6 +6,7 @@ pub mod Walk
 pub mod Steps
 pub mod TreeFile
 pub mod Transcript
+pub mod Records
 pub mod Explained
 pub mod Audit
 pub mod Rows

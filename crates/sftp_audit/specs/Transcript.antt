@@ -1,10 +1,13 @@
 -- Recorded sessions as bytes: the transcript file. This profile's own; the packets are those of
 -- draft-ietf-secsh-filexfer-02, section 4 on.
-use Rattle.std.specs.Prelude.{◌≡◌, ℕ, ◌≤◌, List, ◌∷◌, ◌++◌, codes}
+use Rattle.std.specs.Prelude.{◌≡◌, ℕ, ◌≤◌, List, ◌∷◌, ◌++◌, codes, Result, MatchResult}
+use Rattle.std.specs.Global.{Vec}
 use Rattle.std.specs.List.{flat_map, AllByRecursion}
 use Rattle.sftp_wire.specs.declared.packets.Packet.{Packet}
 use Rattle.sftp_wire.specs.declared.packets.Packet.TheVariants.{Init, Version, Request as request_packet, Reply as reply_packet}
 use Rattle.sftp_wire.specs.Spelling.{spelling, HasSpelling}
+use Rattle.sftp_audit.specs.declared.errors.TranscriptError.{TranscriptError}
+use Rattle.sftp_audit.specs.declared.errors.TranscriptError.TheVariants.{NoMemory}
 use Rattle.sftp_audit.specs.declared.transcripts.Event.{Event}
 use Rattle.sftp_audit.specs.declared.transcripts.Event.TheVariants.{Asked, Replied}
 
@@ -48,3 +51,7 @@ pub record IsRecord (events : List Event) (bytes : List ℕ) : Type 0 where
   pub opening : bytes ≡ transcript_opening ++ opened
   pub handshake : IsHandshake opened records
   pub recorded : AreRecords events records
+
+-- where the bytes record events, these are what reading gave, unless memory ran out
+abbrev pub GivesRecorded : Result (Vec Event) TranscriptError → List ℕ → Type 0
+GivesRecorded result bytes = (events : List Event) → IsRecord events bytes → MatchResult result (λ v. v.items ≡ events) (λ e. e ≡ NoMemory)

@@ -12,4 +12,8 @@ mod transcripts;
 mod trees;
 
 pub use errors::{AuditError, NoMemory, Refusal, TranscriptError, TreeError};
+mod records;
+
+pub use errors::{NoMemory, TranscriptError, TreeError};
+pub use records::read_events;
 pub use transcripts::Event;

@@ -13,6 +13,7 @@ pub mod rows;
 mod slices;
 mod strings;
 mod writing;
+mod stub;
 
 pub use attributes::{AttrFlags, Attrs};
 pub use errors::{Fault, WireError};
@@ -22,3 +23,4 @@ pub use reading::front;
 pub use slices::{take_number, take_string};
 pub use strings::{ByteString, Pairs};
 pub use writing::encode;
+pub use stub::front;
