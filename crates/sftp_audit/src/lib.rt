@@ -7,13 +7,11 @@ pub mod laws;
 mod pairing;
 mod path_text;
 mod paths;
+mod records;
 pub mod rows;
 mod transcripts;
 mod trees;
 
 pub use errors::{AuditError, NoMemory, Refusal, TranscriptError, TreeError};
-mod records;
-
-pub use errors::{NoMemory, TranscriptError, TreeError};
-pub use records::read_events;
+pub use records::records_are_one;
 pub use transcripts::Event;

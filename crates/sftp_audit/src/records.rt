@@ -177,5 +177,10 @@ fn unreadable(error: WireError, number: u64) -> TranscriptError
     }
 }
 
+/// Bytes record one list of events at most. It does nothing: its contract is what it says.
+pub fn records_are_one()
+    ensures { (events others : List Event) (bytes : List ℕ) → IsRecord events bytes → IsRecord others bytes → events ≡ others }
+{}
+
 #[cfg(test)]
 mod tests;

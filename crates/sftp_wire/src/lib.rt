@@ -13,7 +13,6 @@ pub mod rows;
 mod slices;
 mod strings;
 mod writing;
-mod stub;
 
 pub use attributes::{AttrFlags, Attrs};
 pub use errors::{Fault, WireError};
@@ -23,4 +22,3 @@ pub use reading::front;
 pub use slices::{take_number, take_string};
 pub use strings::{ByteString, Pairs};
 pub use writing::encode;
-pub use stub::front;
