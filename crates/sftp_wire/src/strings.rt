@@ -5,7 +5,7 @@ ghost use Rattle.std.specs.Prelude.{◌≡◌, IfOk};
 use std::alloc::{AllocError, Global};
 use std::marker::Model;
 
-/// The bytes of a `string` of the protocol (draft, section 4): any bytes, at most 2^32 - 1 of them on
+/// The bytes of a `string` of the protocol (draft, section 3): any bytes, at most 2^32 - 1 of them on
 /// the wire.
 #[derive(Debug, Drop)]
 pub struct ByteString {
