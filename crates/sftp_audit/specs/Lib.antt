@@ -2,7 +2,9 @@ pub mod Place
 pub mod PlaceOrder
 pub mod Tree
 pub mod Walk
+pub mod Walking
 pub mod Steps
+pub mod Refusals
 pub mod TreeFile
 pub mod Transcript
 pub mod Explained

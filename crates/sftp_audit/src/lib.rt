@@ -4,8 +4,12 @@
 
 mod errors;
 mod paths;
+mod refusals;
+mod steps;
+mod stubs;
 mod transcripts;
 mod trees;
+mod walking;
 
 pub use errors::{NoMemory, TranscriptError, TreeError};
 pub use transcripts::Event;

@@ -67,6 +67,11 @@ impl Place {
         }
     }
 
+    /// What allocates the names.
+    pub fn allocator(&self) -> Global {
+        *self.names.allocator()
+    }
+
     /// How many names lead here.
     pub fn depth(&self) -> usize
         ensures { result ≡ length self.now }
