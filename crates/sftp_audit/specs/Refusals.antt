@@ -5,8 +5,8 @@ use Rattle.sftp_wire.specs.declared.packets.Ask.{Ask}
 use Rattle.sftp_wire.specs.declared.packets.Answer.TheVariants.{Status}
 use Rattle.sftp_audit.specs.declared.refusals.Causes.{Causes}
 use Rattle.sftp_audit.specs.declared.trees.Cause.TheVariants.{BadPath, NoEntry, NotDir, Exists, NotEmpty, Root, NoRoom}
-use Rattle.sftp_audit.specs.Place.{Place, depth_fits}
-use Rattle.sftp_audit.specs.Tree.{Names, Tree, node_at, is_taken, is_directory, has_entries}
+use Rattle.sftp_audit.specs.Place.{Place}
+use Rattle.sftp_audit.specs.Tree.{Names, Tree, node_at, is_taken, is_directory, has_entries, depth_fits}
 use Rattle.sftp_audit.specs.Steps.{CauseSet, every_cause, allows, is_root, Refuses, Does}
 
 -- the set that the code's record of causes stands for

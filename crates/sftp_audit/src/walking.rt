@@ -90,6 +90,7 @@ impl Tree {
     /// # Errors
     ///
     /// `NoMemory` where memory runs out.
+    #[tactic(auto, unfolding(crate::specs::Walk::reached))]
     pub fn reach(&self, path: &[u8]) -> Result<Result<Place, Cause>, NoMemory>
         ensures { IfOk result (λ reached. reached ≡ walks.reached self.now path.now) }
     {
