@@ -9,16 +9,19 @@ use Rattle.sftp_wire.specs.declared.packets.Answer.{Answer}
 use Rattle.sftp_wire.specs.declared.packets.Answer.TheVariants.{Status}
 use Rattle.sftp_wire.specs.declared.packets.Request.{Request}
 use Rattle.sftp_wire.specs.declared.packets.Reply.{Reply}
+use Rattle.std.specs.List.{list_any}
+use Rattle.sftp_audit.specs.declared.refusals.Causes.{Causes}
+use Rattle.sftp_audit.specs.declared.trees.Owner.{Owner}
 use Rattle.sftp_audit.specs.declared.trees.Node.{Node}
 use Rattle.sftp_audit.specs.declared.trees.Node.TheVariants.{Dir}
 use Rattle.sftp_audit.specs.declared.trees.Cause.{Cause}
 use Rattle.sftp_audit.specs.declared.trees.Cause.TheVariants.{BadPath, NoEntry, NotDir, Exists, NotEmpty, Root, NoRoom}
 use Rattle.sftp_audit.specs.Place.{Name, Place, parent, is_dot, is_dot_dot, is_good_path}
-use Rattle.sftp_audit.specs.Tree.{Names, Tree, IsKept, fits, node_at, with_node, without_node, is_directory, is_taken, depth_fits}
+use Rattle.sftp_audit.specs.Tree.{Names, Tree, IsKept, fits, node_at, with_node, without_node, is_directory, is_taken, has_entries, depth_fits}
 use Rattle.sftp_audit.specs.Walk.{reached, walk, meets, met, is_last, going_on, Meeting, enters, ends, fails, steps_of}
 use Rattle.sftp_audit.specs.Steps.{CauseSet, every_cause, allows, only, is_root, is_none, causes, plain_causes, by_path, causes_at, path_of, mkdir_causes, rmdir_causes, target, target_at, target_by, directory_owner, answers, Refuses, Does, Allowed}
-use Rattle.sftp_audit.specs.Refusals.{holds, allow, no_causes, at_mkdir, at_rmdir, Judges}
-use Rattle.sftp_audit.proofs.Limits.{fits-with_node, fits-without_node}
+use Rattle.sftp_audit.specs.Refusals.{holds, allow, no_causes, at_mkdir, at_rmdir, Judges, status_code}
+use Rattle.sftp_audit.proofs.Limits.{fits-with_node, fits-without_node, kept-with_node, kept-without_node}
 
 -- ---- a path that leads nowhere
 
@@ -203,22 +206,86 @@ judges-done t ask code s after are none is changed = record {
 }
 
 -- a path that leads nowhere
-pub judges-error : (t : Tree) (ask : Ask) (code : ℕ) (failed : Cause) (ok : Bool) → Err failed ≡ reached t (path_of ask) → ok ≡ allows failed code → Judges t ask code ok t
+pub judges-error : (t : Tree) (ask : Ask) (code : ℕ) (failed : Cause) (ok : Bool) → reached t (path_of ask) ≡ Err failed → ok ≡ allows failed code → Judges t ask code ok t
 judges-error t ask code failed ok e is =
-    judges-refusal t ask code (only failed) ok (causes-by_error t ask failed (sym e)) (is ∙ allow-only failed code) (λ h _. let it = only-one failed in cc)
+    judges-refusal t ask code (only failed) ok (causes-by_error t ask failed e) (is ∙ allow-only failed code) (λ h _. let it = only-one failed in cc)
+
+-- ---- what the code knows where it has found where a path leads
+
+pub leads : (t : Tree) (bytes path : List ℕ) (found known : Result Place Cause) → found ≡ reached t bytes → bytes ≡ path → found ≡ known → reached t path ≡ known
+leads t bytes path found known is same known_is = ap (reached t) (sym same) ∙ sym is ∙ known_is
+
+pub barred-by : (s : CauseSet) (code : ℕ) (found : Bool) → found ≡ list_any s every_cause → found ≡ true → is_none s ≡ true → code ≡ 0 → ⊥
+barred-by s code found is any none zero = let it = ap not is in cc
+
+pub free-of : (s : CauseSet) (found : Bool) → found ≡ list_any s every_cause → found ≡ false → is_none s ≡ true
+free-of s found is any = ap not (sym is ∙ any)
+
+-- the causes as the code has them
+pub mkdir-set : (t : Tree) (path : List ℕ) (attrs : Attrs) (place : Place) (s : Causes) (names : Names) → IsKept t → reached t path ≡ Ok place → s ≡ at_mkdir names place → names ≡ t.names → causes t (Mkdir path attrs) ≡ holds s
+mkdir-set t path attrs place s names kept e is same =
+    causes-mkdir t path attrs place kept e ∙ ap holds (sym (is ∙ ap (λ ns. at_mkdir ns place) same))
+
+pub rmdir-set : (t : Tree) (path : List ℕ) (place : Place) (s : Causes) (names : Names) → IsKept t → reached t path ≡ Ok place → s ≡ at_rmdir names place → names ≡ t.names → causes t (Rmdir path) ≡ holds s
+rmdir-set t path place s names kept e is same =
+    causes-rmdir t path place kept e ∙ ap holds (sym (is ∙ ap (λ ns. at_rmdir ns place) same))
+
+room-of : (room : Bool) → (not room || false) ≡ false → room ≡ true
+room-of true h = refl
+room-of false h = cc
+
+mkdir-free-by : (t : Tree) (place : Place) (node : Node) → IsKept t → (found : Option Node) → node_at t.names place ≡ found → (is_taken found || (not (is_taken found) && not (nat_le (length t.names) 65536 && depth_fits place) || false)) ≡ false → IsKept (record t { names = with_node t.names place node })
+mkdir-free-by t place node kept None is free =
+    kept-with_node t place node kept is (fits-with_node t place node kept.within_limits is ∙ room-of (nat_le (length t.names) 65536 && depth_fits place) free)
+mkdir-free-by t place node kept (Some other) is free = cc
+
+-- with no cause of MKDIR the tree is kept with the new place
+pub mkdir-keeps : (t : Tree) (place : Place) (node : Node) (s : Causes) (names : Names) (found : Bool) → IsKept t → s ≡ at_mkdir names place → names ≡ t.names → found ≡ list_any (holds s) every_cause → found ≡ false → IsKept (record t { names = with_node t.names place node })
+mkdir-keeps t place node s names found kept is same any none =
+    mkdir-free-by t place node kept (node_at t.names place) refl (ap (λ u. list_any (holds u) every_cause) (sym (is ∙ ap (λ ns. at_mkdir ns place) same)) ∙ sym any ∙ none)
+
+last-of : (a b d root : Bool) → (a || (b || (d || (root || false)))) ≡ false → root ≡ false
+last-of false false false false h = refl
+last-of false false false true h = cc
+last-of false false true root h = cc
+last-of false true d root h = cc
+last-of true b d root h = cc
+
+-- with no cause of RMDIR the tree is kept without the place
+pub rmdir-keeps : (t : Tree) (place : Place) (s : Causes) (names : Names) (found : Bool) → IsKept t → s ≡ at_rmdir names place → names ≡ t.names → found ≡ list_any (holds s) every_cause → found ≡ false → IsKept (record t { names = without_node t.names place })
+rmdir-keeps t place s names found kept is same any none =
+    kept-without_node t place kept (last-of (not (is_taken (node_at t.names place))) (is_taken (node_at t.names place) && not (is_directory (node_at t.names place))) (is_directory (node_at t.names place) && has_entries t.names place) (is_root place) (ap (λ u. list_any (holds u) every_cause) (sym (is ∙ ap (λ ns. at_rmdir ns place) same)) ∙ sym any ∙ none))
+
+pub mkdir-target : (t after : Tree) (path : List ℕ) (attrs : Attrs) (place : Place) (owner : Owner) → reached t path ≡ Ok place → after ≡ record t { names = with_node t.names place (Dir owner) } → owner ≡ directory_owner t attrs → after ≡ target t (Mkdir path attrs)
+mkdir-target t after path attrs place owner e changed is =
+    changed ∙ (λ i. record t { names = with_node t.names place (Dir (is i)) }) ∙ sym (target-at t (Mkdir path attrs) place e)
+
+pub rmdir-target : (t after : Tree) (path : List ℕ) (place : Place) → reached t path ≡ Ok place → after ≡ record t { names = without_node t.names place } → after ≡ target t (Rmdir path)
+rmdir-target t after path place e changed = changed ∙ sym (target-at t (Rmdir path) place e)
 
 -- ---- what is told of a request and its reply
 
-step-is : (t : Tree) (request : Request) (reply : Reply) (ask : Ask) (answer : Answer) (after : Tree) → request.ask ≡ ask → reply.answer ≡ answer → (Refuses t request.ask reply.answer after ⊎ Does t request.ask reply.answer after) ≡ (Refuses t ask answer after ⊎ Does t ask answer after)
-step-is t request reply ask answer after asked answered =
-    λ i. Refuses t (asked i) (answered i) after ⊎ Does t (asked i) (answered i) after
+Step : Tree → Ask → Answer → Tree → Type 0
+Step t ask answer after = Refuses t ask answer after ⊎ Does t ask answer after
 
-pub allowed-from_judges : (t : Tree) (request : Request) (reply : Reply) (ask : Ask) (code : ℕ) (message language : List ℕ) (ok : Bool) (after : Tree) → reply.id ≡ request.id → request.ask ≡ ask → reply.answer ≡ Status code message language → Judges t ask code ok after → IsTrue ok → Allowed t request reply after
-allowed-from_judges t request reply ask code message language ok after same asked answered judged h = record {
+step-from_judges : (t : Tree) (ask : Ask) (answer : Answer) (code : ℕ) (ok : Bool) (after : Tree) → code ≡ status_code answer → Judges t ask code ok after → IsTrue ok → Step t ask answer after
+unfolding Step
+step-from_judges t ask (Status k message language) code ok after is judged h =
+    subst (λ n. Refuses t ask (Status n message language) after ⊎ Does t ask (Status n message language) after) is (judged.yes h message language)
+
+no_step-from_judges : (t : Tree) (ask : Ask) (answer : Answer) (code : ℕ) (ok : Bool) (after : Tree) → code ≡ status_code answer → Judges t ask code ok after → ok ≡ false → (other : Tree) → Step t ask answer other → ⊥
+unfolding Step
+no_step-from_judges t ask (Status k message language) code ok after is judged h other step =
+    judged.no h message language other (subst (λ n. Refuses t ask (Status n message language) other ⊎ Does t ask (Status n message language) other) (sym is) step)
+
+pub allowed-from_judges : (t : Tree) (request : Request) (reply : Reply) (ask : Ask) (code : ℕ) (ok : Bool) (after : Tree) → reply.id ≡ request.id → request.ask ≡ ask → code ≡ status_code reply.answer → Judges t ask code ok after → IsTrue ok → Allowed t request reply after
+unfolding Step
+allowed-from_judges t request reply ask code ok after same asked is judged h = record {
   same_id = same;
-  step = subst (λ T. T) (sym (step-is t request reply ask (Status code message language) after asked answered)) (judged.yes h message language);
+  step = subst (λ a. Step t a reply.answer after) (sym asked) (step-from_judges t ask reply.answer code ok after is judged h);
 }
 
-pub refused-from_judges : (t : Tree) (request : Request) (reply : Reply) (ask : Ask) (code : ℕ) (message language : List ℕ) (ok : Bool) (after : Tree) → request.ask ≡ ask → reply.answer ≡ Status code message language → Judges t ask code ok after → ok ≡ false → (other : Tree) → Allowed t request reply other → ⊥
-refused-from_judges t request reply ask code message language ok after asked answered judged h other allowed =
-    judged.no h message language other (subst (λ T. T) (step-is t request reply ask (Status code message language) other asked answered) allowed.step)
+pub refused-from_judges : (t : Tree) (request : Request) (reply : Reply) (ask : Ask) (code : ℕ) (ok : Bool) (after : Tree) → request.ask ≡ ask → code ≡ status_code reply.answer → Judges t ask code ok after → ok ≡ false → (other : Tree) → Allowed t request reply other → ⊥
+unfolding Step
+refused-from_judges t request reply ask code ok after asked is judged h other allowed =
+    no_step-from_judges t ask reply.answer code ok after is judged h other (subst (λ a. Step t a reply.answer other) asked allowed.step)

@@ -1,4 +1,4 @@
--- The limits of a tree with an entry more or less, and that its root stays.
+-- A tree with an entry more or less: its limits, and that its root stays.
 use Rattle.std.proofs.Common.{◌≡◌, ℕ, ◌+◌, ◌-◌, ◌≤◌, Bool, true, false, ◌&&◌, not, List, [], ◌∷◌, length, refl, sym, ◌∙◌, ap, subst, arith, Option, Some, None, nat_le, IsTrue}
 use Rattle.std.specs.List.{list_all}
 use Rattle.std.specs.Map.{lookup, remove_entry}
@@ -81,3 +81,15 @@ kept-without_node t (n ∷ ns) kept apart = record {
   root = ap is_directory (root-remove n ns t.names) ∙ kept.root;
   within_limits = fits-without_node t (n ∷ ns) kept.within_limits;
 }
+
+-- ---- the tree's value with an entry more or less
+
+pub put-is : (before t : Tree) (names : Names) (place : Place) (node : Node) → before ≡ t → names ≡ insert_entry place_cmp before.names place node → record before { names = names } ≡ record t { names = with_node t.names place node }
+unfolding with_node
+put-is before t names place node same is =
+    ap (λ ns. record before { names = ns }) is ∙ ap {A = Tree} (λ u. record u { names = insert_entry place_cmp u.names place node }) same
+
+pub remove-is : (before t : Tree) (names : Names) (place : Place) → before ≡ t → names ≡ remove_entry (is_at (place_cmp place)) before.names → record before { names = names } ≡ record t { names = without_node t.names place }
+unfolding without_node
+remove-is before t names place same is =
+    ap (λ ns. record before { names = ns }) is ∙ ap {A = Tree} (λ u. record u { names = remove_entry (is_at (place_cmp place)) u.names }) same

@@ -2,6 +2,7 @@
 use Rattle.std.specs.Prelude.{◌≡◌, ◌||◌, ◌&&◌, ◌==◌, not, ℕ, Bool, true, false, List, length, nat_le, ◌⊎◌, IsTrue}
 use Rattle.std.specs.List.{list_any}
 use Rattle.sftp_wire.specs.declared.packets.Ask.{Ask}
+use Rattle.sftp_wire.specs.declared.packets.Answer.{Answer}
 use Rattle.sftp_wire.specs.declared.packets.Answer.TheVariants.{Status}
 use Rattle.sftp_audit.specs.declared.refusals.Causes.{Causes}
 use Rattle.sftp_audit.specs.declared.trees.Cause.TheVariants.{BadPath, NoEntry, NotDir, Exists, NotEmpty, Root, NoRoom}
@@ -43,6 +44,10 @@ at_rmdir names place = record no_causes {
   not_empty = is_directory (node_at names place) && has_entries names place;
   root = is_root place;
 }
+
+-- the code of a status
+abbrev pub status_code : Answer → ℕ
+status_code (Status code message language) = code
 
 -- that `ok` tells whether a status of this code is allowed, and that the tree has changed as it says
 pub record Judges (t : Tree) (ask : Ask) (code : ℕ) (ok : Bool) (after : Tree) : Type 0 where

@@ -1,5 +1,6 @@
 //! Why requests are refused, and with which status codes (draft, section 7).
-ghost use Rattle.std.specs.Prelude.{◌≡◌, not};
+ghost use Rattle.std.specs.Prelude.{◌≡◌};
+ghost use Rattle.std.specs.List.{list_any};
 ghost use Rattle.sftp_audit.specs.Steps as steps;
 ghost use Rattle.sftp_audit.specs.Refusals.{holds, allow, no_causes, at_mkdir, at_rmdir};
 ghost use Rattle.sftp_audit.specs.Place as spec;
@@ -84,11 +85,11 @@ impl Causes {
         }
     }
 
-    /// Whether the set has no cause.
-    pub fn is_empty(self) -> bool
-        ensures { result ≡ steps.is_none (holds self) }
+    /// Whether there is a cause in the set.
+    pub fn has_any(self) -> bool
+        ensures { result ≡ list_any (holds self) steps.every_cause }
     {
-        !EVERY_CAUSE.iter().any(|cause| self.holds(*cause))
+        EVERY_CAUSE.iter().any(|cause| self.holds(*cause))
     }
 
     /// Whether one of the causes allows the status code.

@@ -3,7 +3,7 @@ ghost use Rattle.std.specs.Prelude.{◌≡◌, IfOk, OnErr, IsTrue, false};
 ghost use Rattle.sftp_wire.specs.declared.packets.Ask.TheVariants.{Mkdir, Rmdir};
 ghost use Rattle.sftp_audit.specs.Tree as trees;
 ghost use Rattle.sftp_audit.specs.Steps as spec;
-ghost use Rattle.sftp_audit.specs.Refusals.{Judges};
+ghost use Rattle.sftp_audit.specs.Refusals.{Judges, status_code};
 
 use crate::errors::NoMemory;
 use crate::refusals::Causes;
@@ -34,11 +34,10 @@ impl Tree {
         if reply.id != request.id {
             return Ok(false);
         }
-        match &reply.answer {
-            Answer::Status { code, .. } => match &request.ask {
-                Ask::Mkdir { path, attrs } => self.accept_mkdir(path, attrs, *code),
-                Ask::Rmdir { path } => self.accept_rmdir(path, *code),
-            },
+        let code = status_code(&reply.answer);
+        match &request.ask {
+            Ask::Mkdir { path, attrs } => self.accept_mkdir(path, attrs, code),
+            Ask::Rmdir { path } => self.accept_rmdir(path, code),
         }
     }
 
@@ -52,7 +51,7 @@ impl Tree {
             Err(cause) => return Ok(cause.allows(code)),
         };
         let causes = Causes::of_mkdir(self.names(), &place);
-        if code != 0 || !causes.is_empty() {
+        if code != 0 || causes.has_any() {
             return Ok(causes.allow(code));
         }
         let owner = self.directory_owner(attrs);
@@ -70,7 +69,7 @@ impl Tree {
             Err(cause) => return Ok(cause.allows(code)),
         };
         let causes = Causes::of_rmdir(self.names(), &place);
-        if code != 0 || !causes.is_empty() {
+        if code != 0 || causes.has_any() {
             return Ok(causes.allow(code));
         }
         self.remove(&place);
@@ -91,5 +90,14 @@ impl Tree {
             gid,
             permissions,
         }
+    }
+}
+
+/// The code of a status.
+fn status_code(answer: &Answer) -> u32
+    ensures { result ≡ status_code answer.now }
+{
+    match answer {
+        Answer::Status { code, .. } => *code,
     }
 }
