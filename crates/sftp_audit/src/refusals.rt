@@ -138,7 +138,10 @@ fn is_below(place: &Place, other: &Place) -> bool
 fn has_entries(names: &BTreeMap<Place, Node>, place: &Place) -> bool
     ensures { result ≡ tree.has_entries names.now.entries place.now }
 {
-    match names.range((Bound::Excluded(place), Bound::Unbounded)).next() {
+    match names
+        .range((Bound::Excluded(place), Bound::Unbounded))
+        .next()
+    {
         Some((next, _)) => is_below(place, next),
         None => false,
     }

@@ -42,7 +42,12 @@ impl Tree {
     }
 
     /// Whether the tree allows a status of this code to a MKDIR.
-    fn accept_mkdir(&mut self, path: &ByteString, attrs: &Attrs, code: u32) -> Result<bool, NoMemory>
+    fn accept_mkdir(
+        &mut self,
+        path: &ByteString,
+        attrs: &Attrs,
+        code: u32,
+    ) -> Result<bool, NoMemory>
         ensures ok { IfOk result (λ ok. Judges self.old (Mkdir path.now attrs.now) code ok self.new) }
         ensures err { OnErr result (self.new ≡ self.old) }
     {
@@ -101,3 +106,6 @@ fn status_code(answer: &Answer) -> u32
         Answer::Status { code, .. } => *code,
     }
 }
+
+#[cfg(test)]
+mod tests;

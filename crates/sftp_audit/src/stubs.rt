@@ -53,7 +53,10 @@ pub fn components(path: &[u8]) -> Result<Parts<'_>, BadPath>
         return Err(BadPath);
     }
     let absolute = !path.is_empty() && path[0] == b'/';
-    Ok(Parts { absolute, rest: path })
+    Ok(Parts {
+        absolute,
+        rest: path,
+    })
 }
 
 /// Whether a component is `.`.

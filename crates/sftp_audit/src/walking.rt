@@ -47,7 +47,12 @@ impl<'a> Iterator for Route<'a> {
 
 /// Goes on by one component from `at`, with one look-up at most. Where the walk fails, `at` may have moved.
 #[tactic(auto, unfolding(crate::specs::Walk::meets, crate::specs::Tree::node_at))]
-fn meet(names: &BTreeMap<Place, Node>, at: &mut Place, component: &[u8], is_last: bool) -> Result<Met, AllocError>
+fn meet(
+    names: &BTreeMap<Place, Node>,
+    at: &mut Place,
+    component: &[u8],
+    is_last: bool,
+) -> Result<Met, AllocError>
     ensures { IfOk result
         (λ met. walks.meets names.now.entries at.old component.now is_last ≡ meeting met at.new) }
 {
@@ -67,7 +72,11 @@ fn meet(names: &BTreeMap<Place, Node>, at: &mut Place, component: &[u8], is_last
 }
 
 /// The place to which a route leads from the root, or why it leads nowhere.
-fn walk(alloc: Global, names: &BTreeMap<Place, Node>, mut route: Route<'_>) -> Result<Result<Place, Cause>, AllocError>
+fn walk(
+    alloc: Global,
+    names: &BTreeMap<Place, Node>,
+    mut route: Route<'_>,
+) -> Result<Result<Place, Cause>, AllocError>
     ensures { IfOk result
         (λ reached. reached ≡ walks.walk names.now.entries [] (route.entry.home.now ++ spec.components route.entry.parts.rest.now)) }
 {
@@ -97,7 +106,11 @@ impl Tree {
         let Ok(parts) = components(path) else {
             return Ok(Err(Cause::BadPath));
         };
-        let home = if parts.absolute { &[] } else { self.home().names() };
+        let home = if parts.absolute {
+            &[]
+        } else {
+            self.home().names()
+        };
         Ok(walk(self.home().allocator(), self.names(), Route { home, parts })?)
     }
 }
