@@ -67,11 +67,6 @@ impl Place {
         }
     }
 
-    /// What allocates the names.
-    pub fn allocator(&self) -> Global {
-        *self.names.allocator()
-    }
-
     /// How many names lead here.
     pub fn depth(&self) -> usize
         ensures { result ≡ length self.now }
@@ -106,6 +101,11 @@ impl Place {
         ensures { self.new ≡ spec.parent self.old }
     {
         self.names.pop();
+    }
+
+    /// What allocates the names.
+    pub fn allocator(&self) -> Global {
+        *self.names.allocator()
     }
 }
 
