@@ -3,7 +3,9 @@ pub mod Cut
 pub mod PlaceOrder
 pub mod Tree
 pub mod Walk
+pub mod Walking
 pub mod Steps
+pub mod Refusals
 pub mod TreeFile
 pub mod Transcript
 pub mod Records

@@ -9,8 +9,12 @@ mod path_text;
 mod paths;
 mod records;
 pub mod rows;
+mod refusals;
+mod steps;
+mod stubs;
 mod transcripts;
 mod trees;
+mod walking;
 
 pub use errors::{AuditError, NoMemory, Refusal, TranscriptError, TreeError};
 pub use records::records_are_one;

@@ -117,6 +117,11 @@ impl Place {
     {
         self.names.pop();
     }
+
+    /// What allocates the names.
+    pub fn allocator(&self) -> Global {
+        *self.names.allocator()
+    }
 }
 
 impl PartialEq for Name {

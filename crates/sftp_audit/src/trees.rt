@@ -1,6 +1,7 @@
 //! The tree.
-ghost use Rattle.std.specs.Prelude.{◌≡◌};
+ghost use Rattle.std.specs.Prelude.{◌≡◌, OnOk, OnErr};
 
+use crate::errors::NoMemory;
 use crate::paths::Place;
 use std::collections::BTreeMap;
 use std::marker::Model;
@@ -105,5 +106,28 @@ impl Tree {
         ensures { result ≡ self.now.gid }
     {
         self.gid
+    }
+
+    /// Puts a node at a place.
+    ///
+    /// # Errors
+    ///
+    /// `NoMemory` where memory runs out; the tree is then as before.
+    pub fn put(&mut self, place: Place, node: Node) -> Result<(), NoMemory>
+        requires { tree.IsKept (record self.old { names = tree.with_node self.old.names place node }) }
+        ensures ok { OnOk result
+            (self.new ≡ record self.old { names = tree.with_node self.old.names place node }) }
+        ensures err { OnErr result (self.new ≡ self.old) }
+    {
+        self.names.insert(place, node)?;
+        Ok(())
+    }
+
+    /// Removes what stands at a place.
+    pub fn remove(&mut self, place: &Place)
+        requires { tree.IsKept (record self.old { names = tree.without_node self.old.names place.now }) }
+        ensures { self.new ≡ record self.old { names = tree.without_node self.old.names place.now } }
+    {
+        self.names.remove(place);
     }
 }

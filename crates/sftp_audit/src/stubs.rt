@@ -1,0 +1,74 @@
+//! Stand-ins for functions of `paths`.
+ghost use Rattle.std.specs.Prelude.{◌≡◌, ◌≤◌, length, IfOk, OnErr, IsTrue, false};
+ghost use Rattle.std.specs.Iterator.{YieldsFirstRef, item_count};
+ghost use Rattle.sftp_audit.specs.Place as spec;
+
+/// The path is bad.
+#[derive(Clone, Copy, Debug, PartialEq, Eq)]
+pub struct BadPath;
+
+/// The components of a path that are left.
+#[derive(Drop)]
+pub struct Parts<'a> {
+    pub absolute: bool,
+    rest: &'a [u8],
+}
+
+impl<'a> Iterator for Parts<'a> {
+    type Item = &'a [u8];
+
+    ghost next_gives = { YieldsFirstRef (λ p. spec.components p.rest.now) };
+
+    ghost remaining = { item_count (λ p. spec.components p.rest.now) };
+
+    fn next(&mut self) -> Option<&'a [u8]> {
+        let start = position_or_end(self.rest, false);
+        let rest = &self.rest[start..];
+        let end = position_or_end(rest, true);
+        let part = &rest[..end];
+        self.rest = &rest[end..];
+        if part.is_empty() { None } else { Some(part) }
+    }
+}
+
+/// The first slash, or the first other byte, or the end.
+fn position_or_end(path: &[u8], slash: bool) -> usize
+    ensures { result ≤ length path.now }
+{
+    let found = path.iter().position(|byte| (*byte == b'/') == slash);
+    match found {
+        Some(index) => index,
+        None => path.len(),
+    }
+}
+
+/// The components of a path.
+pub fn components(path: &[u8]) -> Result<Parts<'_>, BadPath>
+    ensures good { IfOk result (λ p. IsTrue (spec.is_good_path path.now)) }
+    ensures absolute { IfOk result (λ p. p.absolute ≡ spec.is_absolute path.now) }
+    ensures parts { IfOk result (λ p. spec.components p.rest.now ≡ spec.components path.now) }
+    ensures bad { OnErr result (spec.is_good_path path.now ≡ false) }
+{
+    if path.contains(&0) {
+        return Err(BadPath);
+    }
+    let absolute = !path.is_empty() && path[0] == b'/';
+    Ok(Parts {
+        absolute,
+        rest: path,
+    })
+}
+
+/// Whether a component is `.`.
+pub fn is_dot(component: &[u8]) -> bool
+    ensures { result ≡ spec.is_dot component.now }
+{
+    component == b".".as_slice()
+}
+
+/// Whether a component is `..`.
+pub fn is_dot_dot(component: &[u8]) -> bool
+    ensures { result ≡ spec.is_dot_dot component.now }
+{
+    component == b"..".as_slice()
+}
