@@ -4,6 +4,7 @@ pub mod Tree
 pub mod Walk
 pub mod Steps
 pub mod TreeFile
+pub mod TreeFileParts
 pub mod Transcript
 pub mod Explained
 pub mod Audit

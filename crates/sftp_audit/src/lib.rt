@@ -3,8 +3,11 @@
 #![tactic(auto)]
 
 mod errors;
+mod laws;
 mod paths;
+mod stubs;
 mod transcripts;
+mod treefiles;
 mod trees;
 
 pub use errors::{NoMemory, TranscriptError, TreeError};

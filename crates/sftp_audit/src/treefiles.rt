@@ -1,0 +1,7 @@
+//! Tree files, read and written.
+mod reading;
+mod writing;
+
+
+pub use reading::read;
+pub use writing::blank_tree;
