@@ -1,16 +1,19 @@
 -- Entries and their texts.
-use Rattle.std.proofs.Common.{◌≡◌, ℕ, ◌+◌, ◌<◌, ◌≤◌, List, [], ◌∷◌, ◌++◌, length, refl, sym, ap, subst, ◌∙◌, append_assoc, arith}
+use Rattle.std.proofs.Common.{◌≡◌, ℕ, ◌+◌, ◌<◌, ◌≤◌, List, [], ◌∷◌, ◌++◌, length, refl, sym, ap, subst, ◌∙◌, append_assoc, arith, inl, inr}
+use Rattle.std.specs.BTreeMap.{insert_entry}
 use Rattle.std.specs.List.{flat_map}
 use Rattle.std.proofs.lemmas.List.{append-nil, length-append}
 use Rattle.std.proofs.lemmas.List.Concat.{flat_map-append}
+use Rattle.sftp_audit.specs.declared.errors.TreeError.{TreeError}
 use Rattle.sftp_audit.specs.declared.trees.Owner.{Owner}
 use Rattle.sftp_audit.specs.declared.trees.Node.{Node}
 use Rattle.sftp_audit.specs.declared.trees.Node.TheVariants.{Dir}
-use Rattle.sftp_audit.specs.Place.{Place}
+use Rattle.sftp_audit.specs.Place.{Place, place_cmp}
 use Rattle.sftp_audit.specs.Tree.{Names, IsNode}
 use Rattle.sftp_audit.specs.TreeFile.{entry_text, node_text}
-use Rattle.sftp_audit.specs.TreeFileParts.{Reads, ReadsNone, IsPlace, place_text, Follows, IsNext, Grows, below_text, only_root, AreRead, AreNone}
+use Rattle.sftp_audit.specs.TreeFileParts.{Reads, ReadsNone, OutOfMemoryOr, IsPlace, place_text, Follows, IsNext, Grows, below_text, only_root, AreRead, AreNone}
 use Rattle.sftp_audit.proofs.TreeFileFields.{place_front, node_front}
+use Rattle.sftp_audit.proofs.TreeFileTables.{places_total, insert_last}
 
 below_parts : (e : Place × Node) (r : List ℕ) → below_text e ++ r ≡ place_text e.0 ++ (node_text e.1 ++ r)
 below_parts e r = append_assoc (place_text e.0) (node_text e.1) r
@@ -62,6 +65,12 @@ grows_push names [] e grown next = (subst (λ (n : Names). IsNext n e) (append-n
 grows_push names (x ∷ xs) e grown next =
     (grown.0, grows_push (names ++ x ∷ []) xs e grown.1 (subst (λ (n : Names). IsNext n e) (sym (append_assoc names (x ∷ []) xs)) next))
 
+-- a place that cannot be an entry's
+pub path_unfit : (names : Names) (bytes rest : List ℕ) (place : Place) → Reads IsPlace place_text bytes place rest → (Follows names place → ⊥) → ReadsNone (Follows names) place_text bytes
+path_unfit names bytes rest place path unfit other r follows e =
+    let same = place_front place other rest r path.0 follows.place_fits (sym path.1 ∙ e) in
+    unfit (subst (Follows names) (sym same.0) follows)
+
 -- ---- the text of the root's entry is empty
 
 entry_is_below : (e : Place × Node) → 0 < length e.0 → entry_text e ≡ below_text e
@@ -74,6 +83,9 @@ entries_are_below names (e ∷ entries) grown =
     (λ i. entry_is_below e grown.0.0.below_root i ++ entries_are_below (names ++ e ∷ []) entries grown.1 i)
 
 -- ---- reading, entry by entry
+
+pub or_fault : (error : TreeError) (P Q : Type 0) → OutOfMemoryOr error P → (P → Q) → OutOfMemoryOr error Q
+or_fault error P Q h f = elim h [ inl e ↦ inl e | inr p ↦ inr (f p) ]
 
 pub read_none : (root : Owner) (bytes : List ℕ) → AreRead root bytes (only_root root) 0 bytes
 read_none root bytes = record { entries = []; names_are = refl; grown = tt; counted = refl; bytes_are = refl }
@@ -94,6 +106,12 @@ read_more root bytes names n rest middle after place node so_far path kind =
         ∙ ap (λ (t : List ℕ). (flat_map below_text so_far.entries ++ t) ++ after) (sym (append-nil (below_text e)))
         ∙ ap (λ (t : List ℕ). t ++ after) (sym (flat_map-append below_text so_far.entries (e ∷ [])));
     }
+
+-- the same with the entry put into the table, where it comes last
+pub read_inserted : (root : Owner) (bytes : List ℕ) (names new : Names) (n m : ℕ) (rest middle after : List ℕ) (place : Place) (node : Node) → AreRead root bytes names n rest
+    → Reads (Follows names) place_text rest place middle → Reads IsNode node_text middle node after → new ≡ insert_entry place_cmp names place node → m ≡ n + 1 → AreRead root bytes new m after
+read_inserted root bytes names new n m rest middle after place node so_far path kind put more =
+    rw (put, insert_last places_total names place node path.0.later, more) (read_more root bytes names n rest middle after place node so_far path kind)
 
 -- where more entries are to come, the next one stands in front of the rest
 pub next_is : (root : Owner) (bytes : List ℕ) (names : Names) (n count : ℕ) (rest : List ℕ) → AreRead root bytes names n rest → n < count

@@ -54,8 +54,8 @@ node_front (Dir x) (Dir y) r s x-fits y-fits e =
     (ap Dir a.0, a.1)
 
 -- a directory's owner cannot be read
-pub node_none : (bytes rest : List ℕ) → bytes ≡ 68 ∷ rest → ReadsNone IsOwner owner_text rest → ReadsNone IsNode node_text bytes
-node_none bytes rest is none (Dir x) r fits e = none x r fits (ap (drop 1) (sym is ∙ e))
+pub node_none : (bytes rest : List ℕ) → rest ≡ drop 1 bytes → ReadsNone IsOwner owner_text rest → ReadsNone IsNode node_text bytes
+node_none bytes rest is none (Dir x) r fits e = none x r fits (is ∙ ap (drop 1) e)
 
 -- ---- places
 

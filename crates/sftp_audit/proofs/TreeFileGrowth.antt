@@ -30,7 +30,7 @@ pub record IsTable (root : Owner) (names : Names) : Type 0 where
 
 -- ---- look-ups in a table and in its front
 
-at_left : (xs ys : Names) (p : Place) (v : Node) → node_at xs p ≡ Some v → node_at (xs ++ ys) p ≡ Some v
+pub at_left : (xs ys : Names) (p : Place) (v : Node) → node_at xs p ≡ Some v → node_at (xs ++ ys) p ≡ Some v
 unfolding node_at
 at_left xs ys p v h = lookup_left (is_at (place_cmp p)) xs ys v h
 

@@ -1,17 +1,19 @@
 -- Tables that grow at their end.
-use Rattle.std.proofs.Common.{◌≡◌, ℕ, ◌+◌, ◌-◌, ◌<◌, ◌≤◌, Bool, true, false, cond, List, [], ◌∷◌, ◌++◌, length, take, drop, map, Option, Some, None, refl, sym, ap, subst, ◌∙◌, append_assoc, arith}
+use Rattle.std.proofs.Common.{◌≡◌, ℕ, zero, suc, ◌+◌, ◌-◌, ◌<◌, ◌≤◌, Bool, true, false, cond, List, [], ◌∷◌, ◌++◌, length, take, drop, map, Option, Some, None, refl, sym, ap, subst, ◌∙◌, append_assoc, arith}
 use Rattle.std.specs.Prelude.{IsTrue, nat_eq}
 use Rattle.std.specs.BTreeMap.{insert_entry, is_at}
 use Rattle.std.specs.Map.{lookup, keys_of}
-use Rattle.std.specs.List.{AllByRecursion}
+use Rattle.std.specs.List.{AllByRecursion, All, slice_get}
 use Rattle.std.specs.List.Sorted.{IsStrictlySortedBy}
 use Rattle.std.specs.Cmp.{IsTotalOrder}
 use Rattle.std.specs.Cmp.Lexicographic.{pointwise, slice_cmp, nat_list_cmp_total, lists_total, lists_ties, texts_ties}
-use Rattle.std.specs.Ordering.{nat_cmp, is_eq, ordering_then, ordering_reverse, match_ordering}
+use Rattle.std.specs.Ordering.{nat_cmp, is_eq, is_lt, ordering_then, ordering_reverse, match_ordering}
 use Rattle.std.specs.declared.cmp.Ordering.{Ordering}
 use Rattle.std.specs.declared.cmp.Ordering.TheVariants.{Less, Equal, Greater}
 use Rattle.std.proofs.lemmas.Cmp.{tied_itself}
 use Rattle.std.proofs.lemmas.List.{append-nil, take-append-drop, map-append, length-append, length-drop}
+use Rattle.std.proofs.lemmas.List.Elements.{recursion_from_All}
+use Rattle.std.proofs.lemmas.Option.{same_Some}
 use Rattle.std.proofs.lemmas.Map.{lookup-none}
 use Rattle.std.proofs.lemmas.Map.Entries.{none_below_head}
 use Rattle.std.proofs.lemmas.Slice.Eq.{slice_eq-Decides, bytes_eq-Decides}
@@ -101,3 +103,31 @@ parent_less p below =
 pub none_before_root : (p : Place) → place_cmp p [] ≡ Less → ⊥
 none_before_root [] e = cc
 none_before_root (n ∷ ns) e = cc
+
+-- ---- behind the last is behind each
+
+all_weaker : {A : Type 0} (P Q : A → Type 0) (xs : List A) → ((x : A) → P x → Q x) → AllByRecursion P xs → AllByRecursion Q xs
+all_weaker P Q [] f p = tt
+all_weaker P Q (x ∷ xs) f p = (f x p.0, all_weaker P Q xs f p.1)
+
+all_at : {K X : Type 0} (P : K → Type 0) (es : List (K × X)) (i : ℕ) (k : K) (v : X) → AllByRecursion P (keys_of es) → slice_get es i ≡ Some (k, v) → P k
+all_at P [] i k v p e = absurd cc
+all_at P (x ∷ es) zero k v p e = subst P (ap (λ y. y.0) (same_Some x (k, v) e)) p.0
+all_at P (x ∷ es) (suc i) k v p e = all_at P es i k v p.1 e
+
+less_is : (o : Ordering) → is_lt o ≡ true → o ≡ Less
+less_is Less e = refl
+less_is Equal e = absurd cc
+less_is Greater e = absurd cc
+
+-- at most the last, which is less
+up_to_last : {K : Type 0} {R : K → K → Ordering} → IsTotalOrder R → (last p q : K) (o : Ordering) → R last q ≡ o → is_lt o ≡ false → R last p ≡ Less → R q p ≡ Less
+up_to_last o last p q Less is above less = absurd cc
+up_to_last o last p q Equal is above less = sym (o.congr last q p is) ∙ less
+up_to_last o last p q Greater is above less = o.trans q last p (o.antisymm q last ∙ ap ordering_reverse is) less
+
+pub behind_last : {K X : Type 0} {R : K → K → Ordering} → IsTotalOrder R → (es : List (K × X)) (i : ℕ) (last p : K) (v : X) → slice_get es i ≡ Some (last, v) → All (λ q. is_lt (R last q) ≡ false) (keys_of es)
+    → (IsTrue (is_lt (R last p)) → AllByRecursion (λ q. R q p ≡ Less) (keys_of es)) × (AllByRecursion (λ q. R q p ≡ Less) (keys_of es) → IsTrue (is_lt (R last p)))
+behind_last {R = R} o es i last p v at greatest =
+    (λ less. all_weaker (λ q. is_lt (R last q) ≡ false) (λ q. R q p ≡ Less) (keys_of es) (λ q above. up_to_last o last p q (R last q) refl above (less_is (R last p) less)) (recursion_from_All (λ q. is_lt (R last q) ≡ false) (keys_of es) greatest),
+    λ each. ap is_lt (all_at (λ q. R q p ≡ Less) es i last v each at))
