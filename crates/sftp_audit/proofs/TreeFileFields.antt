@@ -14,7 +14,7 @@ use Rattle.sftp_audit.specs.Place.{Name, Place, is_name, is_name_byte, is_dot, i
 use Rattle.sftp_audit.specs.Tree.{IsOwner, IsNode, depth_fits}
 use Rattle.sftp_audit.specs.TreeFile.{owner_text, node_text}
 use Rattle.sftp_audit.specs.TreeFileParts.{Reads, ReadsNone, IsNumber, IsPlace, place_text}
-use Rattle.sftp_audit.proofs.PathStubs.{absolute-injective}
+use Rattle.sftp_audit.proofs.Parts.{absolute-injective}
 
 -- ---- numbers
 

@@ -1,4 +1,5 @@
 pub mod Place
+pub mod Cut
 pub mod PlaceOrder
 pub mod Tree
 pub mod Walk

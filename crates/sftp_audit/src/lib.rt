@@ -4,8 +4,8 @@
 
 mod errors;
 mod laws;
+mod path_text;
 mod paths;
-mod stubs;
 mod transcripts;
 mod treefiles;
 mod trees;

@@ -67,6 +67,21 @@ impl Place {
         }
     }
 
+    /// A copy of the place.
+    ///
+    /// # Errors
+    ///
+    /// `AllocError` where memory runs out.
+    pub fn try_clone(&self, alloc: Global) -> Result<Place, AllocError>
+        ensures { IfOk result (λ place. place ≡ self.now) }
+    {
+        let mut place = Place::root(alloc);
+        for name in self.names() {
+            place.enter(name.as_slice())?;
+        }
+        Ok(place)
+    }
+
     /// How many names lead here.
     pub fn depth(&self) -> usize
         ensures { result ≡ length self.now }

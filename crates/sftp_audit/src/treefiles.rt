@@ -4,4 +4,4 @@ mod writing;
 
 
 pub use reading::read;
-pub use writing::blank_tree;
+pub use writing::{blank_tree, write};

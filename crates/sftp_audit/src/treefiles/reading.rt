@@ -10,8 +10,8 @@ ghost use Rattle.sftp_audit.specs.TreeFile.{tree_opening, owner_text, node_text,
 ghost use Rattle.sftp_audit.specs.TreeFileParts.{Reads, ReadsNone, OutOfMemoryOr, IsNumber, IsPermissions, IsCount, IsPlace, place_text, head_bytes, IsHead, Follows, AreRead, AreNone};
 
 use crate::errors::TreeError;
+use crate::path_text::canonical;
 use crate::paths::Place;
-use crate::stubs::canonical;
 use crate::trees::{Node, Owner, Tree};
 use sftp_wire::{take_number, take_string};
 use std::alloc::{AllocError, Global};

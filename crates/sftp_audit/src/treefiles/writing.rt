@@ -1,10 +1,15 @@
 //! Tree files, written.
 ghost use Rattle.std.specs.Prelude.{◌≡◌, ◌++◌, IfOk, OnOk};
-ghost use Rattle.sftp_wire.specs.Spelling.{uint32, string};
-ghost use Rattle.sftp_audit.specs.TreeFile.{picture, owner_text, node_text, entry_text, blank_bytes};
+ghost use Rattle.sftp_wire.specs.Spelling.{uint32};
+ghost use Rattle.sftp_audit.specs.Tree.{IsKept};
+ghost use Rattle.sftp_audit.specs.TreeFile.{picture, owner_text, node_text, entry_text, head_text, blank_bytes};
+ghost use Rattle.sftp_audit.specs.TreeFileParts.{place_text};
 
 use crate::errors::NoMemory;
-use std::alloc::Global;
+use crate::path_text::absolute;
+use crate::paths::Place;
+use crate::trees::{Node, Owner, Tree};
+use std::alloc::{AllocError, Global};
 
 /// The bytes of the blank tree's file.
 const BLANK: [u8; 37] = [
@@ -22,4 +27,95 @@ pub fn blank_tree(alloc: Global) -> Result<Vec<u8>, NoMemory>
     ensures { IfOk result (λ v. v.items ≡ blank_bytes) }
 {
     Ok(Vec::from_slice(alloc, &BLANK)?)
+}
+
+fn put_number(out: &mut Vec<u8>, number: u32) -> Result<(), AllocError>
+    ensures { OnOk result (out.new.items ≡ out.old.items ++ uint32 number) }
+{
+    out.extend_from_slice(&number.to_be_bytes())?;
+    Ok(())
+}
+
+fn put_owner(out: &mut Vec<u8>, owner: &Owner) -> Result<(), AllocError>
+    ensures { OnOk result (out.new.items ≡ out.old.items ++ owner_text owner.now) }
+{
+    put_number(out, owner.uid)?;
+    put_number(out, owner.gid)?;
+    put_number(out, owner.permissions)?;
+    Ok(())
+}
+
+fn put_node(out: &mut Vec<u8>, node: &Node) -> Result<(), AllocError>
+    ensures { OnOk result (out.new.items ≡ out.old.items ++ node_text node.now) }
+{
+    match node {
+        Node::Dir(owner) => {
+            out.push(b'D')?;
+            put_owner(out, owner)?;
+        }
+    }
+    Ok(())
+}
+
+/// A place's absolute text as a string. A text whose length has no number of four bytes counts as one that
+/// finds no memory; the limits of places leave none.
+fn put_place(alloc: Global, out: &mut Vec<u8>, place: &Place) -> Result<(), NoMemory>
+    ensures { OnOk result (out.new.items ≡ out.old.items ++ place_text place.now) }
+{
+    let text = absolute(alloc, place)?;
+    if text.len() > u32::MAX as usize {
+        return Err(NoMemory);
+    }
+    put_number(out, text.len() as u32)?;
+    out.extend_from_slice(&text)?;
+    Ok(())
+}
+
+/// An entry below the root. The root is passed over: its owner stands in the head.
+fn put_entry(
+    alloc: Global,
+    out: &mut Vec<u8>,
+    place: &Place,
+    node: &Node,
+) -> Result<(), NoMemory>
+    ensures { OnOk result (out.new.items ≡ out.old.items ++ entry_text (place.now, node.now)) }
+{
+    if place.depth() == 0 {
+        return Ok(());
+    }
+    put_place(alloc, out, place)?;
+    put_node(out, node)?;
+    Ok(())
+}
+
+/// What stands before the entries.
+fn put_head(alloc: Global, out: &mut Vec<u8>, tree: &Tree) -> Result<(), NoMemory>
+    ensures { OnOk result (out.new.items ≡ out.old.items ++ head_text tree.now) }
+{
+    let names = tree.names();
+    out.extend_from_slice(b"SFTREE01")?;
+    put_place(alloc, out, tree.home())?;
+    put_number(out, tree.uid())?;
+    put_number(out, tree.gid())?;
+    put_number(out, names.len().saturating_sub(1) as u32)?;
+    if let Some(Node::Dir(owner)) = names.get(&Place::root(alloc)) {
+        put_owner(out, owner)?;
+    }
+    Ok(())
+}
+
+/// The tree file of a tree.
+///
+/// # Errors
+///
+/// `NoMemory` where memory runs out.
+pub fn write(alloc: Global, tree: &Tree) -> Result<Vec<u8>, NoMemory>
+    ensures { IfOk result (λ v. v.items ≡ picture tree.now) }
+{
+    let mut out = Vec::new(alloc);
+    put_head(alloc, &mut out, tree)?;
+    for (place, node) in tree.names() {
+        put_entry(alloc, &mut out, place, node)?;
+    }
+    Ok(out)
 }

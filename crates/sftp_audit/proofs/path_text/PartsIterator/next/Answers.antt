@@ -1,0 +1,17 @@
+use Rattle.std.proofs.Common.{length, ap, sym, ◌∙◌, arith}
+use Rattle.sftp_audit.proofs.Parts.{components-next, components-end}
+use Rattle.sftp_audit.proofs.path_text.PartsIterator.next.Goals as goal
+
+pub returns-in_err-start-clause-steps : goal.returns-in_err-start-clause-steps
+returns-in_err-start-clause-steps c =
+    let none = components-end c.args.self.now.rest.now (sym c.first_inner.ensures ∙ c.in_err-start.was) in
+    rw c.from_residual.ensures (none, none)
+
+pub returns-clause-steps : goal.returns-clause-steps
+returns-clause-steps c =
+    components-next c.args.self.now.rest.now c.cut.result.0.now c.cut.result.1.now c.in_ok-start.start (sym c.first_inner.ensures ∙ c.in_ok-start.was) c.cut.ensures.whole c.cut.ensures.parts c.cut.ensures.behind
+
+pub returns-clause-goes : goal.returns-clause-goes
+returns-clause-goes c =
+    let first = components-next c.args.self.now.rest.now c.cut.result.0.now c.cut.result.1.now c.in_ok-start.start (sym c.first_inner.ensures ∙ c.in_ok-start.was) c.cut.ensures.whole c.cut.ensures.parts c.cut.ensures.behind in
+    record { on = λ _. (tt, tt, omega (arith, ap length first)); keeps = tt; rests = λ _. tt }
