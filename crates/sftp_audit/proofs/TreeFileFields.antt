@@ -89,3 +89,8 @@ place_none_deep bytes text rest place text-fits is named text-is deep other r fi
     let t = string_front text (absolute other) rest r text-fits (place_length other fits) (sym is ∙ e) in
     let same : place ≡ other = absolute-injective place other named fits.0 (sym text-is ∙ t.0) in
     omega (arith, deep, leb-true (length other) 64 fits.1, ap length same)
+
+-- the kind, and then the owner
+pub node_written : (node : Node) (owner : Owner) (o0 o1 o2 : List ℕ) → node ≡ Dir owner → o1 ≡ o0 ++ 68 ∷ [] → o2 ≡ o1 ++ owner_text owner → o2 ≡ o0 ++ node_text node
+node_written node owner o0 o1 o2 is kind rest =
+    rest ∙ ap (λ (x : List ℕ). x ++ owner_text owner) kind ∙ append_assoc o0 (68 ∷ []) (owner_text owner) ∙ ap (λ (n : Node). o0 ++ node_text n) (sym is)

@@ -4,8 +4,8 @@ use Rattle.sftp_wire.specs.Spelling.{uint32}
 use Rattle.sftp_audit.specs.declared.treefiles.reading.Head.{Head}
 use Rattle.sftp_audit.specs.declared.trees.Owner.{Owner}
 use Rattle.sftp_audit.specs.Place.{Place}
-use Rattle.sftp_audit.specs.Tree.{IsOwner}
-use Rattle.sftp_audit.specs.TreeFile.{tree_opening, owner_text}
+use Rattle.sftp_audit.specs.Tree.{Names, Tree, IsOwner, node_at, entry_count}
+use Rattle.sftp_audit.specs.TreeFile.{tree_opening, owner_text, root_text, head_text}
 use Rattle.sftp_audit.specs.TreeFileParts.{Reads, ReadsNone, IsNumber, IsCount, IsPlace, place_text, head_bytes, IsHead}
 use Rattle.sftp_audit.proofs.TreeFileFields.{number_front, owner_front, place_front}
 
@@ -110,3 +110,14 @@ head_front x y r s x-fits y-fits e =
     let same = same_numbers (head_bytes x ++ r) (owner_text x.root ++ r) s x.home x.uid x.gid x.count y n y-fits e in
     let root = owner_front x.root y.root r s x-fits.root y-fits.root same.4 in
     ((λ i. record { home = same.0 i; uid = same.1 i; gid = same.2 i; count = same.3 i; root = root.0 i }), root.1)
+
+-- ---- written
+
+pub head_written : (t : Tree) (home : Place) (uid gid count : ℕ) (names : Names) (o0 o1 o2 o3 o4 o5 o6 : List ℕ) → home ≡ t.home → uid ≡ t.uid → gid ≡ t.gid → count ≡ entry_count t → names ≡ t.names
+    → o1 ≡ o0 ++ tree_opening → o2 ≡ o1 ++ place_text home → o3 ≡ o2 ++ uint32 uid → o4 ≡ o3 ++ uint32 gid → o5 ≡ o4 ++ uint32 count → o6 ≡ o5 ++ root_text (node_at names []) → o6 ≡ o0 ++ head_text t
+head_written t home uid gid count names o0 o1 o2 o3 o4 o5 o6 h u g c n p1 p2 p3 p4 p5 p6 =
+    let all : o6 ≡ o0 ++ (tree_opening ++ (place_text home ++ (uint32 uid ++ (uint32 gid ++ (uint32 count ++ root_text (node_at names [])))))) = by tree_opening (place_text home) (uint32 uid) (uint32 gid) (uint32 count) (root_text (node_at names [])) p1 p2 p3 p4 p5 p6 in
+    all ∙ (λ i. o0 ++ (tree_opening ++ (place_text (h i) ++ (uint32 (u i) ++ (uint32 (g i) ++ (uint32 (c i) ++ root_text (node_at (n i) [])))))))
+  where
+    by : (a b c d e f : List ℕ) → o1 ≡ o0 ++ a → o2 ≡ o1 ++ b → o3 ≡ o2 ++ c → o4 ≡ o3 ++ d → o5 ≡ o4 ++ e → o6 ≡ o5 ++ f → o6 ≡ o0 ++ (a ++ (b ++ (c ++ (d ++ (e ++ f)))))
+    by a b c d e f p1 p2 p3 p4 p5 p6 = rw (p6, p5, p4, p3, p2, p1) (simp append_assoc)

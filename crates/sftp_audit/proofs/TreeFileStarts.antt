@@ -41,7 +41,7 @@ pub record Limits (t : Tree) : Type 0 where
   pub depths : IsTrue (list_all (λ e. depth_fits e.0) t.names)
   pub home : IsTrue (depth_fits t.home)
 
-limits_from : (t : Tree) → IsTrue (fits t) → Limits t
+pub limits_from : (t : Tree) → IsTrue (fits t) → Limits t
 unfolding fits
 limits_from t h =
     let a = and_parts (entries_fit t) (depths_fit t && home_fits t) h in

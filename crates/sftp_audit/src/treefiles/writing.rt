@@ -1,8 +1,9 @@
 //! Tree files, written.
-ghost use Rattle.std.specs.Prelude.{◌≡◌, ◌++◌, IfOk, OnOk};
+ghost use Rattle.std.specs.Prelude.{◌≡◌, [], ◌++◌, IfOk, OnOk};
 ghost use Rattle.sftp_wire.specs.Spelling.{uint32};
-ghost use Rattle.sftp_audit.specs.Tree.{IsKept};
-ghost use Rattle.sftp_audit.specs.TreeFile.{picture, owner_text, node_text, entry_text, head_text, blank_bytes};
+ghost use Rattle.sftp_audit.specs.declared.trees.Node.TheVariants.{Dir};
+ghost use Rattle.sftp_audit.specs.Tree as spec;
+ghost use Rattle.sftp_audit.specs.TreeFile.{picture, owner_text, node_text, entry_text, root_text, head_text, blank_bytes};
 ghost use Rattle.sftp_audit.specs.TreeFileParts.{place_text};
 
 use crate::errors::NoMemory;
@@ -10,6 +11,7 @@ use crate::path_text::absolute;
 use crate::paths::Place;
 use crate::trees::{Node, Owner, Tree};
 use std::alloc::{AllocError, Global};
+use std::collections::BTreeMap;
 
 /// The bytes of the blank tree's file.
 const BLANK: [u8; 37] = [
@@ -45,15 +47,20 @@ fn put_owner(out: &mut Vec<u8>, owner: &Owner) -> Result<(), AllocError>
     Ok(())
 }
 
+/// The owner of a directory.
+fn owner_of(node: &Node) -> &Owner
+    ensures { node.now ≡ Dir result.now }
+{
+    match node {
+        Node::Dir(owner) => owner,
+    }
+}
+
 fn put_node(out: &mut Vec<u8>, node: &Node) -> Result<(), AllocError>
     ensures { OnOk result (out.new.items ≡ out.old.items ++ node_text node.now) }
 {
-    match node {
-        Node::Dir(owner) => {
-            out.push(b'D')?;
-            put_owner(out, owner)?;
-        }
-    }
+    out.push(b'D')?;
+    put_owner(out, owner_of(node))?;
     Ok(())
 }
 
@@ -88,19 +95,38 @@ fn put_entry(
     Ok(())
 }
 
+/// How many entries stand below the root.
+fn entry_count(tree: &Tree) -> u32
+    ensures { result ≡ spec.entry_count tree.now }
+{
+    tree.names().len().saturating_sub(1) as u32
+}
+
+/// The root's owner.
+#[tactic(auto, unfolding(crate::specs::Tree::node_at))]
+fn put_root(
+    alloc: Global,
+    out: &mut Vec<u8>,
+    names: &BTreeMap<Place, Node>,
+) -> Result<(), AllocError>
+    ensures { OnOk result (out.new.items ≡ out.old.items ++ root_text (spec.node_at names.now.entries [])) }
+{
+    if let Some(Node::Dir(owner)) = names.get(&Place::root(alloc)) {
+        put_owner(out, owner)?;
+    }
+    Ok(())
+}
+
 /// What stands before the entries.
 fn put_head(alloc: Global, out: &mut Vec<u8>, tree: &Tree) -> Result<(), NoMemory>
     ensures { OnOk result (out.new.items ≡ out.old.items ++ head_text tree.now) }
 {
-    let names = tree.names();
     out.extend_from_slice(b"SFTREE01")?;
     put_place(alloc, out, tree.home())?;
     put_number(out, tree.uid())?;
     put_number(out, tree.gid())?;
-    put_number(out, names.len().saturating_sub(1) as u32)?;
-    if let Some(Node::Dir(owner)) = names.get(&Place::root(alloc)) {
-        put_owner(out, owner)?;
-    }
+    put_number(out, entry_count(tree))?;
+    put_root(alloc, out, tree.names())?;
     Ok(())
 }
 
