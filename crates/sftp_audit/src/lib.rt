@@ -3,7 +3,6 @@
 #![tactic(auto)]
 
 mod errors;
-mod laws;
 mod path_text;
 mod paths;
 mod transcripts;
