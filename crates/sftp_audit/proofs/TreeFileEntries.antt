@@ -7,7 +7,6 @@ use Rattle.std.proofs.lemmas.List.Concat.{flat_map-append}
 use Rattle.sftp_audit.specs.declared.errors.TreeError.{TreeError}
 use Rattle.sftp_audit.specs.declared.trees.Owner.{Owner}
 use Rattle.sftp_audit.specs.declared.trees.Node.{Node}
-use Rattle.sftp_audit.specs.declared.trees.Node.TheVariants.{Dir}
 use Rattle.sftp_audit.specs.Place.{Place, place_cmp}
 use Rattle.sftp_audit.specs.Tree.{Names, IsNode}
 use Rattle.sftp_audit.specs.TreeFile.{entry_text, node_text}
@@ -102,9 +101,9 @@ read_more root bytes names n rest middle after place node so_far path kind =
       grown = grows_push (only_root root) so_far.entries e so_far.grown next;
       counted = length-append so_far.entries (e ∷ []) ∙ ap (λ m. m + 1) so_far.counted;
       bytes_are = so_far.bytes_are ∙ ap (λ (t : List ℕ). flat_map below_text so_far.entries ++ t) here
-        ∙ sym (append_assoc (flat_map below_text so_far.entries) (below_text e) after)
-        ∙ ap (λ (t : List ℕ). (flat_map below_text so_far.entries ++ t) ++ after) (sym (append-nil (below_text e)))
-        ∙ ap (λ (t : List ℕ). t ++ after) (sym (flat_map-append below_text so_far.entries (e ∷ [])));
+          ∙ sym (append_assoc (flat_map below_text so_far.entries) (below_text e) after)
+          ∙ ap (λ (t : List ℕ). (flat_map below_text so_far.entries ++ t) ++ after) (sym (append-nil (below_text e)))
+          ∙ ap (λ (t : List ℕ). t ++ after) (sym (flat_map-append below_text so_far.entries (e ∷ [])));
     }
 
 -- the same with the entry put into the table, where it comes last

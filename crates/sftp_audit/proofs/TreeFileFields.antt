@@ -1,5 +1,5 @@
 -- A field's text says what the field is and what follows it.
-use Rattle.std.proofs.Common.{◌≡◌, ℕ, ◌+◌, ◌*◌, ◌<◌, ◌≤◌, ◌^◌, Bool, true, false, ◌&&◌, List, [], ◌∷◌, ◌++◌, length, take, drop, refl, sym, ap, subst, ◌∙◌, append_assoc, arith}
+use Rattle.std.proofs.Common.{◌≡◌, ℕ, ◌*◌, ◌<◌, ◌≤◌, ◌^◌, ◌&&◌, List, [], ◌∷◌, ◌++◌, length, take, drop, refl, sym, ap, ◌∙◌, append_assoc, arith}
 use Rattle.std.specs.Prelude.{IsTrue, nat_le, nat_lt, not}
 use Rattle.std.specs.List.{flat_map, list_all}
 use Rattle.std.specs.Int.{w32, from_be_bytes}
@@ -10,10 +10,10 @@ use Rattle.sftp_wire.specs.Spelling.{uint32, string}
 use Rattle.sftp_audit.specs.declared.trees.Owner.{Owner}
 use Rattle.sftp_audit.specs.declared.trees.Node.{Node}
 use Rattle.sftp_audit.specs.declared.trees.Node.TheVariants.{Dir}
-use Rattle.sftp_audit.specs.Place.{Name, Place, is_name, is_name_byte, is_dot, is_dot_dot, are_names, absolute}
-use Rattle.sftp_audit.specs.Tree.{IsOwner, IsNode, depth_fits}
+use Rattle.sftp_audit.specs.Place.{Place, is_name, is_name_byte, is_dot, is_dot_dot, are_names, absolute}
+use Rattle.sftp_audit.specs.Tree.{IsOwner, IsNode}
 use Rattle.sftp_audit.specs.TreeFile.{owner_text, node_text}
-use Rattle.sftp_audit.specs.TreeFileParts.{Reads, ReadsNone, IsNumber, IsPlace, place_text}
+use Rattle.sftp_audit.specs.TreeFileParts.{ReadsNone, IsNumber, IsPlace, place_text}
 use Rattle.sftp_audit.proofs.Parts.{absolute-injective}
 
 -- ---- numbers

@@ -1,8 +1,8 @@
 -- A table that grows from the root, entry by entry, is the table of a tree, and each tree's table grows so.
-use Rattle.std.proofs.Common.{◌≡◌, ℕ, ◌+◌, ◌-◌, ◌<◌, ◌≤◌, Bool, true, false, cond, List, [], ◌∷◌, ◌++◌, length, take, Option, Some, None, refl, sym, ap, subst, ◌∙◌, append_assoc, arith}
+use Rattle.std.proofs.Common.{◌≡◌, ◌<◌, true, cond, [], ◌∷◌, ◌++◌, length, Option, Some, None, refl, sym, ap, subst, ◌∙◌, append_assoc, arith}
 use Rattle.std.specs.Prelude.{IsTrue}
 use Rattle.std.specs.BTreeMap.{is_at}
-use Rattle.std.specs.Map.{lookup, keys_of}
+use Rattle.std.specs.Map.{keys_of}
 use Rattle.std.specs.List.{AllByRecursion}
 use Rattle.std.specs.List.Sorted.{IsStrictlySortedBy}
 use Rattle.std.specs.Ordering.{is_eq}
@@ -17,7 +17,7 @@ use Rattle.sftp_audit.specs.declared.trees.Node.{Node}
 use Rattle.sftp_audit.specs.declared.trees.Node.TheVariants.{Dir}
 use Rattle.sftp_audit.specs.Place.{Place, place_cmp, parent}
 use Rattle.sftp_audit.specs.Tree.{Names, IsOwner, IsNode, node_at, is_directory, is_taken}
-use Rattle.sftp_audit.specs.TreeFileParts.{IsPlace, Follows, IsNext, Grows, only_root}
+use Rattle.sftp_audit.specs.TreeFileParts.{IsPlace, IsNext, Grows, only_root}
 use Rattle.sftp_audit.proofs.TreeFileTables.{all_both, all_right, sorted_push, sorted_before, sorted_right, keys_append, lookup_left, lookup_right, lookup_found, places_total, place_exact, parent_less, none_before_root}
 
 -- what holds of the table of a tree within the limits
@@ -124,13 +124,15 @@ next_of_table root names e entries t there =
     let below = below_root names e.0 (Dir root) there later in
     let found = at_found names e entries in
     let there_in_all : IsTrue (is_directory (node_at (names ++ e ∷ entries) (parent e.0))) = t.parents e.0 (rw found.1 refl) in
-    let behind = none_behind e entries (parent e.0) (sorted_right place_cmp (keys_of names) (keys_of (e ∷ entries)) sorted) (parent_less e.0 below) in
-    (record {
-      place_fits = (all_right (λ (e : Place × Node). IsPlace e.0) names (e ∷ entries) t.places).0;
-      below_root = below;
-      later = later;
-      parent_there = directory_in_front names (e ∷ entries) (parent e.0) (node_at names (parent e.0)) refl behind there_in_all;
-    }, (all_right (λ (e : Place × Node). IsNode e.1) names (e ∷ entries) t.nodes).0)
+    let behind = none_behind e entries (parent e.0) (sorted_right place_cmp (keys_of names) (keys_of (e ∷ entries)) sorted) (parent_less e.0 below) in (
+      record {
+        place_fits = (all_right (λ (e : Place × Node). IsPlace e.0) names (e ∷ entries) t.places).0;
+        below_root = below;
+        later = later;
+        parent_there = directory_in_front names (e ∷ entries) (parent e.0) (node_at names (parent e.0)) refl behind there_in_all;
+      },
+      (all_right (λ (e : Place × Node). IsNode e.1) names (e ∷ entries) t.nodes).0,
+    )
 
 pub table_grows : (root : Owner) (names entries : Names) → IsTable root (names ++ entries) → node_at names [] ≡ Some (Dir root) → Grows names entries
 table_grows root names [] t there = tt

@@ -1,5 +1,5 @@
 -- Heads and their texts.
-use Rattle.std.proofs.Common.{◌≡◌, ℕ, ◌+◌, ◌<◌, ◌≤◌, List, [], ◌∷◌, ◌++◌, length, drop, refl, sym, ap, subst, ◌∙◌, append_assoc, arith}
+use Rattle.std.proofs.Common.{◌≡◌, ℕ, List, [], ◌++◌, drop, sym, ap, ◌∙◌, append_assoc, arith}
 use Rattle.sftp_wire.specs.Spelling.{uint32}
 use Rattle.sftp_audit.specs.declared.treefiles.reading.Head.{Head}
 use Rattle.sftp_audit.specs.declared.trees.Owner.{Owner}
@@ -99,9 +99,10 @@ pub head_read : (bytes r rest : List ℕ) (home : Place) (uid gid count : ℕ) (
     → Reads IsHead head_bytes bytes (record { home = home; uid = uid; gid = gid; count = count; root = root }) rest
 unfolding behind_home behind_uid behind_gid
 head_read bytes r rest home uid gid count root n read =
-    let head : Head = record { home = home; uid = uid; gid = gid; count = count; root = root } in
-    (record { home = n.home_fits; uid = n.uid_fits; gid = n.gid_fits; count = n.count_fits; root = read.0 },
-    n.is ∙ ap (λ (t : List ℕ). tree_opening ++ (place_text home ++ (uint32 uid ++ (uint32 gid ++ (uint32 count ++ t))))) read.1 ∙ sym (head_parts head rest))
+    let head : Head = record { home = home; uid = uid; gid = gid; count = count; root = root } in (
+      record { home = n.home_fits; uid = n.uid_fits; gid = n.gid_fits; count = n.count_fits; root = read.0 },
+      n.is ∙ ap (λ (t : List ℕ). tree_opening ++ (place_text home ++ (uint32 uid ++ (uint32 gid ++ (uint32 count ++ t))))) read.1 ∙ sym (head_parts head rest),
+    )
 
 pub head_front : (x y : Head) (r s : List ℕ) → IsHead x → IsHead y → head_bytes x ++ r ≡ head_bytes y ++ s → (x ≡ y) × (r ≡ s)
 unfolding behind_home behind_uid behind_gid

@@ -1,21 +1,19 @@
 -- The tree file of a tree is a head and its entries, and each tree file is that of one tree.
-use Rattle.std.proofs.Common.{◌≡◌, ℕ, ◌+◌, ◌-◌, ◌<◌, ◌≤◌, Bool, true, false, ◌&&◌, List, [], ◌∷◌, ◌++◌, length, Option, Some, None, refl, sym, ap, subst, ◌∙◌, append_assoc, arith, inl, inr}
-use Rattle.std.specs.Prelude.{IsTrue, nat_le}
-use Rattle.std.specs.Map.{keys_of}
+use Rattle.std.proofs.Common.{◌≡◌, ℕ, ◌-◌, ◌<◌, ◌≤◌, ◌&&◌, List, [], ◌∷◌, ◌++◌, length, Some, refl, sym, ap, subst, ◌∙◌, arith, inl, inr}
+use Rattle.std.specs.Prelude.{IsTrue}
 use Rattle.std.specs.List.{flat_map, list_all, AllByRecursion}
 use Rattle.std.proofs.lemmas.Bool.{leb-true, le-leb, and_parts, and_from}
 use Rattle.std.proofs.lemmas.List.{append-nil, length-append, nil_from_length}
-use Rattle.sftp_wire.specs.Spelling.{uint32, string}
+use Rattle.sftp_wire.specs.Spelling.{uint32}
 use Rattle.sftp_audit.specs.declared.errors.TreeError.{TreeError}
 use Rattle.sftp_audit.specs.declared.errors.TreeError.TheVariants.{NoMemory}
 use Rattle.sftp_audit.specs.declared.treefiles.reading.Head.{Head}
 use Rattle.sftp_audit.specs.declared.trees.Owner.{Owner}
-use Rattle.sftp_audit.specs.declared.trees.Node.{Node}
 use Rattle.sftp_audit.specs.declared.trees.Node.TheVariants.{Dir}
-use Rattle.sftp_audit.specs.Place.{Place, place_cmp, are_names, absolute}
-use Rattle.sftp_audit.specs.Tree.{Names, Tree, WellFormed, IsKept, IsOwner, IsNode, node_at, is_directory, fits, entry_count, entries_fit, depths_fit, depth_fits, home_fits}
-use Rattle.sftp_audit.specs.TreeFile.{tree_opening, owner_text, entry_text, root_text, picture, IsStart, blank_bytes}
-use Rattle.sftp_audit.specs.TreeFileParts.{Reads, ReadsNone, OutOfMemoryOr, AreRead, AreNone, IsPlace, IsNumber, place_text, head_bytes, IsHead, Grows, below_text, only_root, tree_of}
+use Rattle.sftp_audit.specs.Place.{Place, are_names}
+use Rattle.sftp_audit.specs.Tree.{Names, Tree, IsKept, node_at, fits, entries_fit, depths_fit, depth_fits, home_fits}
+use Rattle.sftp_audit.specs.TreeFile.{tree_opening, owner_text, root_text, picture, IsStart, blank_bytes}
+use Rattle.sftp_audit.specs.TreeFileParts.{Reads, ReadsNone, OutOfMemoryOr, AreRead, AreNone, IsPlace, place_text, head_bytes, IsHead, Grows, below_text, only_root, tree_of}
 use Rattle.sftp_audit.proofs.TreeFileGrowth.{IsTable, root_table, grown_table, table_grows, root_first, root_at, at_left}
 use Rattle.sftp_audit.proofs.TreeFileEntries.{entries_are_one, entries_are_below}
 use Rattle.sftp_audit.proofs.TreeFileHeads.{head_front}
@@ -186,7 +184,7 @@ pub read_start : (bytes rest more : List ℕ) (head : Head) (names : Names) → 
 read_start bytes rest more head names read all ended =
     let nothing : rest ≡ flat_map below_text all.entries = all.bytes_are ∙ ap (λ (x : List ℕ). flat_map below_text all.entries ++ x) (nil_from_length more ended) ∙ append-nil (flat_map below_text all.entries) in
     subst (λ (t : Tree). IsStart t bytes) (tree_read head names rest more all)
-      (start_from_parts head all.entries bytes read.0 all.grown all.counted (read.1 ∙ ap (λ (x : List ℕ). head_bytes head ++ x) nothing))
+    (start_from_parts head all.entries bytes read.0 all.grown all.counted (read.1 ∙ ap (λ (x : List ℕ). head_bytes head ++ x) nothing))
 
 -- memory ran out where there is no other fault
 pub fault_only : (error : TreeError) (P : Type 0) → OutOfMemoryOr error P → (P → ⊥) → error ≡ NoMemory

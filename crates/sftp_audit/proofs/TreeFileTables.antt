@@ -1,21 +1,19 @@
 -- Tables that grow at their end.
-use Rattle.std.proofs.Common.{◌≡◌, ℕ, zero, suc, ◌+◌, ◌-◌, ◌<◌, ◌≤◌, Bool, true, false, cond, List, [], ◌∷◌, ◌++◌, length, take, drop, map, Option, Some, None, refl, sym, ap, subst, ◌∙◌, append_assoc, arith}
+use Rattle.std.proofs.Common.{◌≡◌, ℕ, zero, suc, ◌-◌, ◌<◌, Bool, true, false, cond, List, [], ◌∷◌, ◌++◌, length, take, drop, Option, Some, None, refl, sym, ap, subst, ◌∙◌, arith}
 use Rattle.std.specs.Prelude.{IsTrue, nat_eq}
-use Rattle.std.specs.BTreeMap.{insert_entry, is_at}
+use Rattle.std.specs.BTreeMap.{insert_entry}
 use Rattle.std.specs.Map.{lookup, keys_of}
 use Rattle.std.specs.List.{AllByRecursion, All, slice_get}
 use Rattle.std.specs.List.Sorted.{IsStrictlySortedBy}
 use Rattle.std.specs.Cmp.{IsTotalOrder}
 use Rattle.std.specs.Cmp.Lexicographic.{pointwise, slice_cmp, nat_list_cmp_total, lists_total, lists_ties, texts_ties}
-use Rattle.std.specs.Ordering.{nat_cmp, is_eq, is_lt, ordering_then, ordering_reverse, match_ordering}
+use Rattle.std.specs.Ordering.{nat_cmp, is_eq, is_lt, ordering_reverse}
 use Rattle.std.specs.declared.cmp.Ordering.{Ordering}
 use Rattle.std.specs.declared.cmp.Ordering.TheVariants.{Less, Equal, Greater}
 use Rattle.std.proofs.lemmas.Cmp.{tied_itself}
-use Rattle.std.proofs.lemmas.List.{append-nil, take-append-drop, map-append, length-append, length-drop}
+use Rattle.std.proofs.lemmas.List.{take-append-drop, map-append, length-drop}
 use Rattle.std.proofs.lemmas.List.Elements.{recursion_from_All}
 use Rattle.std.proofs.lemmas.Option.{same_Some}
-use Rattle.std.proofs.lemmas.Map.{lookup-none}
-use Rattle.std.proofs.lemmas.Map.Entries.{none_below_head}
 use Rattle.std.proofs.lemmas.Slice.Eq.{slice_eq-Decides, bytes_eq-Decides}
 use Rattle.sftp_audit.specs.Place.{Place, place_cmp, parent}
 
@@ -128,6 +126,7 @@ up_to_last o last p q Greater is above less = o.trans q last p (o.antisymm q las
 
 pub behind_last : {K X : Type 0} {R : K → K → Ordering} → IsTotalOrder R → (es : List (K × X)) (i : ℕ) (last p : K) (v : X) → slice_get es i ≡ Some (last, v) → All (λ q. is_lt (R last q) ≡ false) (keys_of es)
     → (IsTrue (is_lt (R last p)) → AllByRecursion (λ q. R q p ≡ Less) (keys_of es)) × (AllByRecursion (λ q. R q p ≡ Less) (keys_of es) → IsTrue (is_lt (R last p)))
-behind_last {R = R} o es i last p v at greatest =
-    (λ less. all_weaker (λ q. is_lt (R last q) ≡ false) (λ q. R q p ≡ Less) (keys_of es) (λ q above. up_to_last o last p q (R last q) refl above (less_is (R last p) less)) (recursion_from_All (λ q. is_lt (R last q) ≡ false) (keys_of es) greatest),
-    λ each. ap is_lt (all_at (λ q. R q p ≡ Less) es i last v each at))
+behind_last {R = R} o es i last p v at greatest = (
+  λ less. all_weaker (λ q. is_lt (R last q) ≡ false) (λ q. R q p ≡ Less) (keys_of es) (λ q above. up_to_last o last p q (R last q) refl above (less_is (R last p) less)) (recursion_from_All (λ q. is_lt (R last q) ≡ false) (keys_of es) greatest),
+  λ each. ap is_lt (all_at (λ q. R q p ≡ Less) es i last v each at),
+)

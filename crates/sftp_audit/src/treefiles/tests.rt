@@ -21,9 +21,17 @@ fn fault(alloc: Global, count: u32, entries: &[&[u8]]) -> Result<Option<TreeErro
 #[test]
 fn blank_file(rt: HostRuntime) -> Result<(), Fail> {
     let blank = blank_tree(rt.alloc()).ok().ok_or("memory")?;
-    assert_eq!(rt; blank.as_slice(), with_entries(rt.alloc(), 0, &[])?.as_slice());
-    let tree = read(rt.alloc(), blank.as_slice()).ok().ok_or("a tree file")?;
-    assert_eq!(rt; write(rt.alloc(), &tree).ok().ok_or("memory")?.as_slice(), blank.as_slice());
+    assert_eq!(rt;
+        blank.as_slice(),
+        with_entries(rt.alloc(), 0, &[])?.as_slice()
+    );
+    let tree = read(rt.alloc(), blank.as_slice())
+        .ok()
+        .ok_or("a tree file")?;
+    assert_eq!(rt;
+        write(rt.alloc(), &tree).ok().ok_or("memory")?.as_slice(),
+        blank.as_slice()
+    );
     Ok(())
 }
 
@@ -40,7 +48,10 @@ fn two_entries(rt: HostRuntime) -> Result<(), Fail> {
     assert_eq!(rt; file.len(), 77);
     let tree = read(rt.alloc(), file.as_slice()).ok().ok_or("a tree file")?;
     assert_eq!(rt; tree.names().len(), 3);
-    assert_eq!(rt; write(rt.alloc(), &tree).ok().ok_or("memory")?.as_slice(), file.as_slice());
+    assert_eq!(rt;
+        write(rt.alloc(), &tree).ok().ok_or("memory")?.as_slice(),
+        file.as_slice()
+    );
     Ok(())
 }
 
@@ -63,8 +74,14 @@ fn cut_files(rt: HostRuntime) -> Result<(), Fail> {
 fn faults_of_the_head(rt: HostRuntime) -> Result<(), Fail> {
     let trailing = fault(rt.alloc(), 0, &[b"\0".as_slice()])?;
     assert_eq!(rt; trailing, Some(TreeError::Trailing { entry: 1 }));
-    assert_eq!(rt; fault(rt.alloc(), 65537, &[])?, Some(TreeError::Value { entry: 0 }));
-    assert_eq!(rt; fault(rt.alloc(), 65536, &[])?, Some(TreeError::Short { entry: 1 }));
+    assert_eq!(rt;
+        fault(rt.alloc(), 65537, &[])?,
+        Some(TreeError::Value { entry: 0 })
+    );
+    assert_eq!(rt;
+        fault(rt.alloc(), 65536, &[])?,
+        Some(TreeError::Short { entry: 1 })
+    );
     Ok(())
 }
 
@@ -91,7 +108,10 @@ fn values_out_of_range(rt: HostRuntime) -> Result<(), Fail> {
         b"\0\0\0\x02/.".as_slice(),
         b"\0\0\0\x02/aD\0\0\0\0\0\0\0\0\0\0\x10\0".as_slice(),
     ] {
-        assert_eq!(rt; fault(rt.alloc(), 1, &[entry])?, Some(TreeError::Value { entry: 1 }));
+        assert_eq!(rt;
+            fault(rt.alloc(), 1, &[entry])?,
+            Some(TreeError::Value { entry: 1 })
+        );
     }
     Ok(())
 }

@@ -15,8 +15,8 @@ use std::collections::BTreeMap;
 
 /// The bytes of the blank tree's file.
 const BLANK: [u8; 37] = [
-    0x53, 0x46, 0x54, 0x52, 0x45, 0x45, 0x30, 0x31, 0, 0, 0, 1, 0x2f, 0, 0, 0, 0, 0, 0, 0, 0, 0,
-    0, 0, 0, 0, 0, 0, 0, 0, 0, 0, 0, 0, 0, 1, 0xed,
+    0x53, 0x46, 0x54, 0x52, 0x45, 0x45, 0x30, 0x31, 0, 0, 0, 1, 0x2f, 0, 0, 0, 0, 0, 0, 0, 0, 0, 0,
+    0, 0, 0, 0, 0, 0, 0, 0, 0, 0, 0, 0, 1, 0xed,
 ];
 
 /// The tree file of the blank tree: its home is the root, which has uid and gid 0 and permissions 0o755
@@ -79,12 +79,7 @@ fn put_place(alloc: Global, out: &mut Vec<u8>, place: &Place) -> Result<(), NoMe
 }
 
 /// An entry below the root. The root is passed over: its owner stands in the head.
-fn put_entry(
-    alloc: Global,
-    out: &mut Vec<u8>,
-    place: &Place,
-    node: &Node,
-) -> Result<(), NoMemory>
+fn put_entry(alloc: Global, out: &mut Vec<u8>, place: &Place, node: &Node) -> Result<(), NoMemory>
     ensures { OnOk result (out.new.items ≡ out.old.items ++ entry_text (place.now, node.now)) }
 {
     if place.depth() == 0 {

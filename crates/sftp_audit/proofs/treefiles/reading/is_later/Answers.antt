@@ -1,5 +1,4 @@
 -- What comes after the last comes after each.
-use Rattle.std.proofs.Common.{◌≡◌, rules}
 use Rattle.sftp_audit.proofs.TreeFileTables.{places_total, behind_last}
 use Rattle.sftp_audit.proofs.treefiles.reading.is_later.Goals as goal
 

@@ -1,10 +1,9 @@
 -- Nothing is to come.
-use Rattle.std.proofs.Common.{◌≡◌, ◌++◌, [], sym, subst, ◌∙◌}
-use Rattle.std.specs.List.{flat_map}
+use Rattle.std.proofs.Common.{sym, ◌∙◌}
 use Rattle.std.specs.Map.Iter.{deref_pair}
 use Rattle.std.proofs.lemmas.List.{append-nil}
 use Rattle.std.proofs.lemmas.Map.Iter.{rest_all}
-use Rattle.sftp_audit.specs.TreeFile.{entry_text, head_text, picture}
+use Rattle.sftp_audit.specs.TreeFile.{picture}
 use Rattle.sftp_audit.proofs.treefiles.writing.write.Goals as goal
 
 pub returns : goal.returns
