@@ -7,6 +7,7 @@ pub mod Walking
 pub mod Steps
 pub mod Refusals
 pub mod TreeFile
+pub mod TreeFileParts
 pub mod Transcript
 pub mod Records
 pub mod Explained

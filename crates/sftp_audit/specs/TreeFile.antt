@@ -1,7 +1,9 @@
 -- Trees as bytes: the tree file. This profile's own.
-use Rattle.std.specs.Prelude.{◌≡◌, ℕ, List, [], ◌∷◌, ◌++◌, Option, Some, None, IsTrue, codes}
+use Rattle.std.specs.Prelude.{◌≡◌, ℕ, List, [], ◌∷◌, ◌++◌, Option, Some, None, Result, MatchResult, IsTrue, codes}
 use Rattle.std.specs.List.{flat_map}
 use Rattle.sftp_wire.specs.Spelling.{uint32, string}
+use Rattle.sftp_audit.specs.declared.errors.TreeError.{TreeError}
+use Rattle.sftp_audit.specs.declared.errors.TreeError.TheVariants.{NoMemory}
 use Rattle.sftp_audit.specs.declared.trees.Owner.{Owner}
 use Rattle.sftp_audit.specs.declared.trees.Node.{Node}
 use Rattle.sftp_audit.specs.declared.trees.Node.TheVariants.{Dir}
@@ -41,3 +43,11 @@ pub record IsStart (t : Tree) (bytes : List ℕ) : Type 0 where
   pub well_formed : WellFormed t
   pub within_limits : IsTrue (fits t)
   pub picture_is : bytes ≡ picture t
+
+-- the result is the tree, unless memory ran out
+abbrev pub Gives : Result Tree TreeError → Tree → Type 0
+Gives result t = MatchResult result (λ u. u ≡ t) (λ error. error ≡ NoMemory)
+
+-- `SFTREE01`, the home `/`, uid and gid 0, no entries, and the root with uid and gid 0 and permissions 0o755
+abbrev pub blank_bytes : List ℕ
+blank_bytes = 0x53 ∷ 0x46 ∷ 0x54 ∷ 0x52 ∷ 0x45 ∷ 0x45 ∷ 0x30 ∷ 0x31 ∷ 0x00 ∷ 0x00 ∷ 0x00 ∷ 0x01 ∷ 0x2f ∷ 0x00 ∷ 0x00 ∷ 0x00 ∷ 0x00 ∷ 0x00 ∷ 0x00 ∷ 0x00 ∷ 0x00 ∷ 0x00 ∷ 0x00 ∷ 0x00 ∷ 0x00 ∷ 0x00 ∷ 0x00 ∷ 0x00 ∷ 0x00 ∷ 0x00 ∷ 0x00 ∷ 0x00 ∷ 0x00 ∷ 0x00 ∷ 0x00 ∷ 0x01 ∷ 0xed ∷ []

@@ -13,6 +13,7 @@ mod refusals;
 mod steps;
 mod stubs;
 mod transcripts;
+mod treefiles;
 mod trees;
 mod walking;
 

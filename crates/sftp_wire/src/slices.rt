@@ -17,6 +17,7 @@ pub fn take_number(bytes: &[u8]) -> Option<(u32, &[u8])>
 /// front.
 pub fn take_string(bytes: &[u8]) -> Option<(&[u8], &[u8])>
     ensures found { IfSome result (λ taken. bytes.now ≡ string taken.0.now ++ taken.1.now) }
+    ensures length_fits { IfSome result (λ taken. length taken.0.now < 2 ^ 32) }
     ensures none { IfNone result ((text rest : List ℕ) → length text < 2 ^ 32 → bytes.now ≡ string text ++ rest → ⊥) }
 {
     let (length, rest) = take_number(bytes)?;
