@@ -2,6 +2,7 @@
 //! whether the tree allows every reply, in whatever order the replies came.
 #![tactic(auto)]
 
+mod auditing;
 mod errors;
 pub mod laws;
 mod pairing;
@@ -9,9 +10,12 @@ mod path_text;
 mod paths;
 mod records;
 pub mod rows;
+mod running;
+mod stubs;
 mod transcripts;
 mod trees;
 
+pub use auditing::{Accepted, audit};
 pub use errors::{AuditError, NoMemory, Refusal, TranscriptError, TreeError};
 pub use records::records_are_one;
 pub use transcripts::Event;
