@@ -1,6 +1,14 @@
 -- What an auditor accepts: the bytes of a starting tree and of a recorded session that account for a run.
 use Rattle.std.specs.Prelude.{ℕ, ◌^◌, ◌-◌, min, List, length}
 use Rattle.sftp_audit.specs.declared.transcripts.Event.{Event}
+use Rattle.sftp_audit.specs.declared.errors.TreeError.{TreeError}
+use Rattle.sftp_audit.specs.declared.errors.TreeError.TheVariants as tree_errors
+use Rattle.sftp_audit.specs.declared.errors.TranscriptError.{TranscriptError}
+use Rattle.sftp_audit.specs.declared.errors.TranscriptError.TheVariants as transcript_errors
+use Rattle.sftp_audit.specs.declared.errors.Refusal.{Refusal}
+use Rattle.sftp_audit.specs.declared.errors.Refusal.TheVariants as refusals
+use Rattle.sftp_audit.specs.declared.errors.AuditError.{AuditError}
+use Rattle.sftp_audit.specs.declared.errors.AuditError.TheVariants as audit_errors
 use Rattle.sftp_audit.specs.Tree.{Tree}
 use Rattle.sftp_audit.specs.Steps.{Allowed}
 use Rattle.sftp_audit.specs.TreeFile.{IsStart}
@@ -17,3 +25,23 @@ pub record Accounts (tree transcript : List ℕ) (start : Tree) (events : List E
 -- how many requests were asked, up to what a number of 64 bits can say
 abbrev pub request_count : List Event → ℕ
 request_count events = min (length (entries events)) (2 ^ 64 - 1)
+
+-- the refusal of an audit, whose part was refused: want of memory is told as such, wherever it was
+abbrev pub tree_refused : TreeError → AuditError
+tree_refused tree_errors.NoMemory = audit_errors.NoMemory
+tree_refused error = audit_errors.Tree error
+
+abbrev pub transcript_refused : TranscriptError → AuditError
+transcript_refused transcript_errors.NoMemory = audit_errors.NoMemory
+transcript_refused error = audit_errors.Transcript error
+
+abbrev pub session_refused : Refusal → AuditError
+session_refused refusals.NoMemory = audit_errors.NoMemory
+session_refused refusal = audit_errors.Refused refusal
+
+-- no refusal carries a want of memory inside
+abbrev pub IsPlain : AuditError → Type 0
+IsPlain (audit_errors.Tree tree_errors.NoMemory) = ⊥
+IsPlain (audit_errors.Transcript transcript_errors.NoMemory) = ⊥
+IsPlain (audit_errors.Refused refusals.NoMemory) = ⊥
+IsPlain _ = Unit {0}

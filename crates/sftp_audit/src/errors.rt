@@ -167,6 +167,16 @@ impl<T: Drop> From<AllocFailed<T>> for Refusal {
     }
 }
 
+impl From<NoMemory> for Refusal {
+    ghost use Rattle.sftp_audit.specs.declared.errors.Refusal.TheVariants.{NoMemory as no_memory};
+
+    ghost from_gives = { λ _ e. e ≡ no_memory };
+
+    fn from(_error: NoMemory) -> Refusal {
+        Refusal::NoMemory
+    }
+}
+
 /// Why `audit` refused.
 #[derive(Clone, Copy, Debug, PartialEq, Eq, Error)]
 pub enum AuditError {
@@ -182,4 +192,53 @@ pub enum AuditError {
     /// Memory ran out, wherever it was.
     #[error("out of memory")]
     NoMemory,
+}
+
+impl From<NoMemory> for AuditError {
+    ghost use Rattle.sftp_audit.specs.declared.errors.AuditError.TheVariants.{NoMemory as no_memory};
+
+    ghost from_gives = { λ _ e. e ≡ no_memory };
+
+    fn from(_error: NoMemory) -> AuditError {
+        AuditError::NoMemory
+    }
+}
+
+impl From<TreeError> for AuditError {
+    ghost use Rattle.sftp_audit.specs.Audit.{tree_refused};
+
+    ghost from_gives = { λ error e. e ≡ tree_refused error };
+
+    fn from(error: TreeError) -> AuditError {
+        match error {
+            TreeError::NoMemory => AuditError::NoMemory,
+            fault => AuditError::Tree(fault),
+        }
+    }
+}
+
+impl From<TranscriptError> for AuditError {
+    ghost use Rattle.sftp_audit.specs.Audit.{transcript_refused};
+
+    ghost from_gives = { λ error e. e ≡ transcript_refused error };
+
+    fn from(error: TranscriptError) -> AuditError {
+        match error {
+            TranscriptError::NoMemory => AuditError::NoMemory,
+            fault => AuditError::Transcript(fault),
+        }
+    }
+}
+
+impl From<Refusal> for AuditError {
+    ghost use Rattle.sftp_audit.specs.Audit.{session_refused};
+
+    ghost from_gives = { λ refusal e. e ≡ session_refused refusal };
+
+    fn from(refusal: Refusal) -> AuditError {
+        match refusal {
+            Refusal::NoMemory => AuditError::NoMemory,
+            reason => AuditError::Refused(reason),
+        }
+    }
 }

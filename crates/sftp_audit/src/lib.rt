@@ -2,6 +2,7 @@
 //! whether the tree allows every reply, in whatever order the replies came.
 #![tactic(auto)]
 
+mod auditing;
 mod errors;
 pub mod laws;
 mod pairing;
@@ -11,12 +12,14 @@ mod records;
 pub mod rows;
 mod refusals;
 mod steps;
+mod running;
 mod stubs;
 mod transcripts;
 mod treefiles;
 mod trees;
 mod walking;
 
+pub use auditing::{Accepted, audit};
 pub use errors::{AuditError, NoMemory, Refusal, TranscriptError, TreeError};
 pub use records::records_are_one;
 pub use transcripts::Event;

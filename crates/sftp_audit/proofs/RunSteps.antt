@@ -1,0 +1,51 @@
+-- A run over exchanges, one step after the other.
+use Rattle.std.proofs.Common.{◌≡◌, ◌≢◌, ℕ, suc, ◌+◌, ◌<◌, ◌≤◌, List, [], ◌∷◌, Option, Some, None, Result, Ok, Err, length, drop, get_or, refl, sym, ap, subst, ◌∙◌, arith}
+use Rattle.std.proofs.lemmas.List.{drop_more, drop_all}
+use Rattle.sftp_wire.specs.declared.packets.Request.{Request}
+use Rattle.sftp_wire.specs.declared.packets.Reply.{Reply}
+use Rattle.sftp_audit.specs.declared.pairing.Exchange.{Exchange}
+use Rattle.sftp_audit.specs.Tree.{Tree}
+use Rattle.sftp_audit.specs.Steps.{Allowed}
+use Rattle.sftp_audit.specs.Explained.{Run, settled}
+use Rattle.sftp_audit.specs.Ledger.{Entry}
+use Rattle.sftp_audit.specs.Exchange.{entry_of, ledger_of}
+use Rattle.sftp_audit.proofs.RunEnds.{step_end, go_on, run_end, step_end-of_allowed, allowed-of_step_end}
+
+-- what is left of the exchanges begins with the one that was read
+rest_is : (exchanges : List Exchange) (i : ℕ) (x : Exchange) (r : Option Reply) → i < length exchanges → x ≡ get_or exchanges i x → x.reply ≡ r
+    → settled (ledger_of (drop i exchanges)) ≡ settled ((x.request, r) ∷ ledger_of (drop (i + 1) exchanges))
+rest_is exchanges i x r lt is given =
+    let front : drop i exchanges ≡ x ∷ drop (i + 1) exchanges = drop_more exchanges i x lt ∙ ap (λ (y : Exchange). y ∷ drop (i + 1) exchanges) (sym is) in
+    ap (λ (xs : List Exchange). settled (ledger_of xs)) front ∙ ap (λ (q : Option Reply). settled ((x.request, q) ∷ ledger_of (drop (i + 1) exchanges))) given
+
+-- a reply that is allowed takes the run on
+pub run_on : (exchanges : List Exchange) (i : ℕ) (x : Exchange) (reply : Reply) (t new : Tree) (whole : Option Tree) → i < length exchanges → x ≡ get_or exchanges i x → x.reply ≡ Some reply → Allowed t x.request reply new
+    → run_end t (settled (ledger_of (drop i exchanges))) ≡ whole → run_end new (settled (ledger_of (drop (i + 1) exchanges))) ≡ whole
+unfolding settled
+run_on exchanges i x reply t new whole lt is given allowed so_far =
+    let step : step_end t x.request reply ≡ Some new = step_end-of_allowed t x.request reply new allowed in
+    sym (ap (run_end t) (rest_is exchanges i x (Some reply) lt is given) ∙ ap (λ (o : Option Tree). go_on o (λ mid. run_end mid (settled (ledger_of (drop (i + 1) exchanges))))) step) ∙ so_far
+
+no_step : (t : Tree) (request : Request) (reply : Reply) → ((after : Tree) → Allowed t request reply after → ⊥) → step_end t request reply ≡ None
+no_step t request reply never = by (step_end t request reply) refl
+  where
+    by : (o : Option Tree) → step_end t request reply ≡ o → o ≡ None
+    by None e = refl
+    by (Some after) e = absurd (never after (allowed-of_step_end t request reply after e))
+
+-- one that is not ends every run
+pub run_fails : (exchanges : List Exchange) (i : ℕ) (x : Exchange) (reply : Reply) (t : Tree) (whole : Option Tree) → i < length exchanges → x ≡ get_or exchanges i x → x.reply ≡ Some reply → ((after : Tree) → Allowed t x.request reply after → ⊥)
+    → run_end t (settled (ledger_of (drop i exchanges))) ≡ whole → whole ≡ None
+unfolding settled
+run_fails exchanges i x reply t whole lt is given never so_far =
+    sym so_far ∙ ap (run_end t) (rest_is exchanges i x (Some reply) lt is given) ∙ ap (λ (o : Option Tree). go_on o (λ mid. run_end mid (settled (ledger_of (drop (i + 1) exchanges))))) (no_step t x.request reply never)
+
+-- at a request without a reply the run is over
+pub run_stops : (exchanges : List Exchange) (i : ℕ) (x : Exchange) (t : Tree) (whole : Option Tree) → i < length exchanges → x ≡ get_or exchanges i x → x.reply ≡ None → run_end t (settled (ledger_of (drop i exchanges))) ≡ whole → whole ≡ Some t
+unfolding settled
+run_stops exchanges i x t whole lt is given so_far = sym so_far ∙ ap (run_end t) (rest_is exchanges i x None lt is given)
+
+-- and so it is at the end
+pub run_ends : (exchanges : List Exchange) (i : ℕ) (t : Tree) (whole : Option Tree) → length exchanges ≤ i → run_end t (settled (ledger_of (drop i exchanges))) ≡ whole → whole ≡ Some t
+unfolding settled
+run_ends exchanges i t whole le so_far = sym so_far ∙ ap (λ (xs : List Exchange). run_end t (settled (ledger_of xs))) (drop_all i exchanges le)
