@@ -4,8 +4,10 @@
 
 mod errors;
 mod paths;
+mod stubs;
 mod transcripts;
 mod trees;
 
 pub use errors::{NoMemory, TranscriptError, TreeError};
+pub use stubs::{Accepted, AuditError, Refusal, audit, blank_tree};
 pub use transcripts::Event;
