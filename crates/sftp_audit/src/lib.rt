@@ -22,4 +22,6 @@ mod walking;
 pub use auditing::{Accepted, audit};
 pub use errors::{AuditError, NoMemory, Refusal, TranscriptError, TreeError};
 pub use records::records_are_one;
+pub use errors::{NoMemory, TranscriptError, TreeError};
+pub use stubs::{Accepted, AuditError, Refusal, audit, blank_tree};
 pub use transcripts::Event;
