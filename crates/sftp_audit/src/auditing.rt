@@ -9,7 +9,7 @@ use crate::errors::AuditError;
 use crate::pairing::pair;
 use crate::records::read_events;
 use crate::running::run;
-use crate::stubs::{read, write};
+use crate::treefiles::{read, write};
 use std::alloc::Global;
 
 /// What an accepted session comes to.

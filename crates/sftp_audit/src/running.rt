@@ -8,7 +8,6 @@ ghost use Rattle.sftp_audit.specs.Exchange.{ledger_of};
 
 use crate::errors::Refusal;
 use crate::pairing::Exchange;
-use crate::stubs::accept;
 use crate::trees::Tree;
 
 /// Does the requests up to the first that has no reply, from the first on, and sees whether the tree allows
@@ -25,7 +24,7 @@ pub fn run(tree: &mut Tree, exchanges: &[Exchange]) -> Result<(), Refusal>
         let Some(reply) = &exchange.reply else {
             return Ok(());
         };
-        if !accept(tree, &exchange.request, reply)? {
+        if !tree.accept(&exchange.request, reply)? {
             return Err(Refusal::NotAllowed {
                 record: exchange.replied,
             });

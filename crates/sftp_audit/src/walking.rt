@@ -6,8 +6,8 @@ ghost use Rattle.sftp_audit.specs.Walk as walks;
 ghost use Rattle.sftp_audit.specs.Walking.{meeting};
 
 use crate::errors::NoMemory;
+use crate::path_text::{Parts, components, is_dot, is_dot_dot};
 use crate::paths::{Name, Place};
-use crate::stubs::{Parts, components, is_dot, is_dot_dot};
 use crate::trees::{Cause, Node, Tree};
 use std::alloc::{AllocError, Global};
 use std::collections::BTreeMap;

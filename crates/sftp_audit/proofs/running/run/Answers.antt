@@ -14,11 +14,11 @@ returns-in_default-clause-ran c =
 pub returns-then-not-branch-clause-refused : goal.returns-then-not-branch-clause-refused
 returns-then-not-branch-clause-refused c =
     λ other. no_run-of_run_end c.args.tree.now (settled (ledger_of c.args.exchanges.now))
-    (run_fails c.args.exchanges.now c.loop-exchange.exchange-index c.exchange-item.result c.in-Some.reply c.loop-exchange.tree _ c.loop-exchange-test.true c.exchange-item.is c.in-Some.is (c.in_ok-accept.ensures.no c.if-not-branch.true) c.loop-exchange.invariant)
+    (run_fails c.args.exchanges.now c.loop-exchange.exchange-index c.exchange-item.result c.in-Some.reply c.loop-exchange.tree _ c.loop-exchange-test.true c.exchange-item.is c.in-Some.is (c.in_ok-accept.ensures.refused c.if-not-branch.true) c.loop-exchange.invariant)
 
 pub loop-exchange-preserved : goal.loop-exchange-preserved
 loop-exchange-preserved c =
-    run_on c.args.exchanges.now c.loop-exchange.exchange-index c.exchange-item.result c.in-Some.reply c.loop-exchange.tree c.accept.new.tree _ c.loop-exchange-test.true c.exchange-item.is c.in-Some.is (c.in_ok-accept.ensures.yes c.if-not-branch.false) c.loop-exchange.invariant
+    run_on c.args.exchanges.now c.loop-exchange.exchange-index c.exchange-item.result c.in-Some.reply c.loop-exchange.tree c.accept.new.self _ c.loop-exchange-test.true c.exchange-item.is c.in-Some.is (c.in_ok-accept.ensures.allowed c.if-not-branch.false) c.loop-exchange.invariant
 
 pub returns-clause-ran : goal.returns-clause-ran
 returns-clause-ran c =
