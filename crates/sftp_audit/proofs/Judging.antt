@@ -1,5 +1,5 @@
 -- The causes of a request as the code has them, and what a status code tells.
-use Rattle.std.proofs.Common.{◌≡◌, ℕ, ◌==◌, Bool, true, false, ◌&&◌, ◌||◌, not, if◌then◌else◌, List, [], ◌∷◌, ◌++◌, length, refl, sym, ◌∙◌, ap, subst, Option, Some, None, nat_le, IsTrue, ◌⊎◌, inl, inr, Result, Ok, Err, arith}
+use Rattle.std.proofs.Common.{◌≡◌, ℕ, Bool, true, false, ◌&&◌, ◌||◌, not, if◌then◌else◌, List, [], ◌∷◌, ◌++◌, length, refl, sym, ◌∙◌, ap, subst, Option, Some, None, nat_le, IsTrue, ◌⊎◌, inl, inr, Result, Ok, Err, arith}
 use Rattle.std.proofs.lemmas.Bool.Decides.{nat_tests}
 use Rattle.std.proofs.Math.Bool.{or-false}
 use Rattle.sftp_wire.specs.declared.attributes.Attrs.{Attrs}
@@ -20,7 +20,7 @@ use Rattle.sftp_audit.specs.Place.{Name, Place, parent, is_dot, is_dot_dot, is_g
 use Rattle.sftp_audit.specs.Tree.{Names, Tree, IsKept, fits, node_at, with_node, without_node, is_directory, is_taken, has_entries, depth_fits}
 use Rattle.sftp_audit.specs.Walk.{reached, walk, meets, met, is_last, going_on, Meeting, enters, ends, fails, steps_of}
 use Rattle.sftp_audit.specs.Steps.{CauseSet, every_cause, allows, only, is_root, is_none, causes, plain_causes, by_path, causes_at, path_of, mkdir_causes, rmdir_causes, target, target_at, target_by, directory_owner, answers, Refuses, Does, Allowed}
-use Rattle.sftp_audit.specs.Refusals.{holds, allow, no_causes, at_mkdir, at_rmdir, Judges, status_code}
+use Rattle.sftp_audit.specs.Refusals.{holds, allow, at_mkdir, at_rmdir, Judges, status_code}
 use Rattle.sftp_audit.proofs.Limits.{fits-with_node, fits-without_node, kept-with_node, kept-without_node}
 
 -- ---- a path that leads nowhere

@@ -1,13 +1,12 @@
 -- A tree with an entry more or less: its limits, and that its root stays.
-use Rattle.std.proofs.Common.{◌≡◌, ℕ, ◌+◌, ◌-◌, ◌≤◌, Bool, true, false, ◌&&◌, not, List, [], ◌∷◌, length, refl, sym, ◌∙◌, ap, subst, arith, Option, Some, None, nat_le, IsTrue}
-use Rattle.std.specs.List.{list_all}
+use Rattle.std.proofs.Common.{◌≡◌, ℕ, ◌+◌, ◌-◌, ◌≤◌, Bool, true, false, ◌&&◌, [], ◌∷◌, length, refl, ◌∙◌, ap, arith, Option, Some, None, nat_le, IsTrue}
 use Rattle.std.specs.Map.{lookup, remove_entry}
 use Rattle.std.specs.BTreeMap.{insert_entry, is_at}
 use Rattle.std.specs.Cmp.{first_so, second_so}
 use Rattle.std.proofs.lemmas.Bool.Decides.{nat_tests}
 use Rattle.sftp_audit.specs.declared.trees.Node.{Node}
-use Rattle.sftp_audit.specs.Place.{Name, Place, place_cmp}
-use Rattle.sftp_audit.specs.Tree.{Names, Tree, IsKept, fits, entries_fit, depths_fit, home_fits, depth_fits, node_at, with_node, without_node, is_directory, is_taken}
+use Rattle.sftp_audit.specs.Place.{Place, place_cmp}
+use Rattle.sftp_audit.specs.Tree.{Names, Tree, IsKept, fits, entries_fit, depths_fit, home_fits, depth_fits, node_at, with_node, without_node, is_directory}
 use Rattle.sftp_audit.specs.Steps.{is_root}
 use Rattle.sftp_audit.proofs.Tables.{length-insert, all-insert, root-insert, length-remove, all-remove, root-remove}
 

@@ -1,8 +1,7 @@
 -- The causes at a place, from what stands there.
-use Rattle.std.proofs.Common.{◌≡◌, ℕ, ◌==◌, ◌<◌, ◌≤◌, Bool, true, false, ◌&&◌, not, length, refl, sym, ◌∙◌, ap, Option, Some, None, nat_le, nat_lt, arith}
+use Rattle.std.proofs.Common.{◌≡◌, ℕ, ◌==◌, ◌<◌, ◌≤◌, Bool, true, false, ◌&&◌, not, length, sym, ◌∙◌, ap, Option, Some, None, nat_le, nat_lt, arith}
 use Rattle.std.proofs.lemmas.Bool.Decides.{nat_tests}
 use Rattle.sftp_audit.specs.declared.refusals.Causes.{Causes}
-use Rattle.sftp_audit.specs.declared.trees.Owner.{Owner}
 use Rattle.sftp_audit.specs.declared.trees.Node.{Node}
 use Rattle.sftp_audit.specs.declared.trees.Node.TheVariants.{Dir}
 use Rattle.sftp_audit.specs.Place.{Place}

@@ -1,5 +1,5 @@
 -- Walks, component by component.
-use Rattle.std.proofs.Common.{◌≡◌, Option, Some, None, List, [], ◌∷◌, refl, sym, ◌∙◌, ap, Bor, MatchOption, length, ◌<◌, ◌+◌, arith, Result, Ok, Err, ◌⊎◌, inl, inr, Bool, true, false, is_none, is_some, not}
+use Rattle.std.proofs.Common.{◌≡◌, Option, Some, None, List, [], ◌∷◌, refl, sym, ◌∙◌, ap, Bor, MatchOption, Result, Ok, Bool, true, false, is_none, is_some, not}
 use Rattle.sftp_audit.specs.declared.walking.Met.{Met}
 use Rattle.sftp_audit.specs.declared.trees.Cause.{Cause}
 use Rattle.sftp_audit.specs.Walking.{meeting}

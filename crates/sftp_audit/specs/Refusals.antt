@@ -1,5 +1,5 @@
 -- Sets of causes as the code has them, and what is told of a request by its code alone.
-use Rattle.std.specs.Prelude.{◌≡◌, ◌||◌, ◌&&◌, ◌==◌, not, ℕ, Bool, true, false, List, length, nat_le, ◌⊎◌, IsTrue}
+use Rattle.std.specs.Prelude.{◌≡◌, ◌&&◌, not, ℕ, Bool, false, List, length, nat_le, ◌⊎◌, IsTrue}
 use Rattle.std.specs.List.{list_any}
 use Rattle.sftp_wire.specs.declared.packets.Ask.{Ask}
 use Rattle.sftp_wire.specs.declared.packets.Answer.{Answer}

@@ -1,6 +1,5 @@
-use Rattle.std.proofs.Common.{◌≡◌, List, ℕ, Ok, Err, ap}
+use Rattle.std.proofs.Common.{Ok, Err}
 use Rattle.sftp_wire.specs.declared.packets.Ask.TheVariants.{Mkdir}
-use Rattle.sftp_audit.specs.Walk.{reached}
 use Rattle.sftp_audit.specs.Refusals.{holds}
 use Rattle.sftp_audit.proofs.Judging.{leads, judges-error, judges-refusal, judges-done, barred-by, free-of, mkdir-set, mkdir-keeps, mkdir-target}
 use Rattle.sftp_audit.proofs.trees.Tree.accept_mkdir.Goals as goal
