@@ -3,6 +3,7 @@ pub mod AttributeLaws
 pub mod FieldLaws
 pub mod FlagBits
 pub mod Flags
+pub mod FramingLaws
 pub mod FrontLaws
 pub mod Loops
 pub mod Numbers

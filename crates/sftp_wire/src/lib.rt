@@ -5,6 +5,7 @@
 mod attributes;
 mod errors;
 mod fields;
+mod framing;
 mod laws;
 mod measuring;
 mod packets;
@@ -16,6 +17,7 @@ mod writing;
 
 pub use attributes::{AttrFlags, Attrs};
 pub use errors::{Fault, WireError};
+pub use framing::{FrameBuf, streams};
 pub use laws::spellings_are_apart;
 pub use packets::{Answer, Ask, PACKET_LIMIT, Packet, Reply, Request, Side};
 pub use reading::front;

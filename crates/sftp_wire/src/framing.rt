@@ -1,0 +1,207 @@
+//! A stream of packets that comes in pieces (draft, section 3): each packet is taken out as soon as it is
+//! there whole.
+ghost use Rattle.std.specs.Prelude.{◌≡◌, ◌⊎◌, ◌+◌, ◌-◌, ◌*◌, ◌≤◌, List, ℕ, ◌++◌, length, drop, option_copied, Option, Some, None, Result, Ok, Err, IfOk, IfErr, IfSome};
+ghost use Rattle.std.specs.Vec.{vec_len, vec_capacity};
+ghost use Rattle.sftp_wire.specs.declared.errors.Fault.{Fault};
+ghost use Rattle.sftp_wire.specs.declared.packets.Packet.{Packet};
+ghost use Rattle.sftp_wire.specs.declared.packets.Side.{Side};
+ghost use Rattle.sftp_wire.specs.Spelling.{HasSpelling, packet_limit, side_of, spelling};
+ghost use Rattle.sftp_wire.specs.Framing.{Frames, Step, IsStep, AreSteps, no_frames, place_after, room_of, told_of, all_in, all_out, whole_of, lent_of};
+
+use crate::errors::{Fault, WireError};
+use crate::packets::{PACKET_LIMIT, Packet, Side};
+use crate::reading::front;
+use crate::slices::take_number;
+use std::alloc::Global;
+use std::marker::Model;
+
+/// All the memory that a buffer takes: twice the longest packet.
+const CAPACITY: usize = 2 * PACKET_LIMIT;
+
+/// The buffer of a stream of packets that comes in pieces: what was taken of it and is not yet given out,
+/// the place in the stream of the first byte held, and the fault that was told, if one was.
+///
+/// At most `PACKET_LIMIT` bytes are held. A place stays at 2^64 - 1 once it is there.
+#[derive(Debug, Drop)]
+pub struct FrameBuf {
+    bytes: Vec<u8>,
+    start: usize,
+    place: u64,
+    fault: Option<Fault>,
+}
+
+impl Model for FrameBuf {
+    ghost use Rattle.std.specs.Prelude.{◌+◌, ◌≤◌, ◌*◌, drop};
+    ghost use Rattle.std.specs.Vec.{vec_len, vec_capacity};
+    ghost use Rattle.sftp_wire.specs.Spelling.{packet_limit};
+    ghost use Rattle.sftp_wire.specs.Framing.{Frames};
+
+    ghost Value = { Frames };
+
+    ghost view = { λ b. record { held = drop b.start b.bytes.items; place = b.place; fault = b.fault } };
+
+    ghost invariant = { λ b. (b.start ≤ vec_len b.bytes) × (vec_len b.bytes ≤ b.start + packet_limit) × (2 * packet_limit ≤ vec_capacity b.bytes) };
+}
+
+/// Takes the first `count` bytes away. Those that stay move to the front.
+fn remove_front(store: &mut Vec<u8>, count: usize)
+    requires { count ≤ vec_len store.old }
+    ensures items { store.new.items ≡ drop count store.old.items }
+    ensures len { vec_len store.new ≡ vec_len store.old - count }
+    ensures capacity { vec_capacity store.new ≡ vec_capacity store.old }
+{
+    let len = store.len();
+    store.as_mut_slice().copy_within(count..len, 0);
+    store.truncate(len - count);
+}
+
+/// Appends to the bytes from `start` on, without taking memory, and gives the place where they start
+/// then. They move only where the end is too short, so where more than half of the capacity stands before them:
+/// each byte moves once at most.
+fn append(store: &mut Vec<u8>, start: usize, more: &[u8]) -> usize
+    requires starts_within { start ≤ vec_len store.old }
+    requires has_room { vec_len store.old + length more.now ≤ start + packet_limit }
+    requires has_capacity { 2 * packet_limit ≤ vec_capacity store.old }
+    ensures held { drop result store.new.items ≡ drop start store.old.items ++ more.now }
+    ensures starts_within { result ≤ vec_len store.new }
+    ensures len { vec_len store.new + start ≡ result + (vec_len store.old + length more.now) }
+    ensures capacity { 2 * packet_limit ≤ vec_capacity store.new }
+{
+    let mut first = start;
+    if store.len() + more.len() > CAPACITY {
+        remove_front(store, start);
+        first = 0;
+    }
+    let Ok(()) = store.extend_from_slice(more) else {
+        unreachable!()
+    };
+    first
+}
+
+/// The bytes of the packet in front, where its length is in range and all of them are there.
+#[tactic(auto, unfolding(crate::specs::Framing::whole_of))]
+fn whole(bytes: &[u8]) -> Option<&[u8]>
+    ensures { option_copied result ≡ whole_of bytes.now }
+{
+    let (size, _) = take_number(bytes)?;
+    let size = size as usize;
+    let taken = size + 4;
+    if size == 0 || taken > PACKET_LIMIT || bytes.len() < taken {
+        return None;
+    }
+    Some(&bytes[..taken])
+}
+
+impl FrameBuf {
+    /// An empty buffer at place 0. It takes all the memory that it will ever use for bytes.
+    ///
+    /// # Errors
+    ///
+    /// `NoMemory` where memory runs out, and no other.
+    pub fn new(alloc: Global) -> Result<FrameBuf, WireError>
+        ensures empty { IfOk result (λ frames. frames ≡ no_frames) }
+        ensures err { IfErr result (λ error. error ≡ WireError.NoMemory) }
+    {
+        Ok(FrameBuf {
+            bytes: Vec::with_capacity(alloc, CAPACITY)?,
+            start: 0,
+            place: 0,
+            fault: None,
+        })
+    }
+
+    /// How many bytes more are taken: `PACKET_LIMIT` less those held, and 0 once a fault was told.
+    pub fn room(&self) -> usize
+        ensures exact { result ≡ room_of self.now }
+        // No more bytes are held than a packet may have.
+        ensures within { length self.now.held ≤ packet_limit }
+    {
+        if self.fault.is_some() {
+            return 0;
+        }
+        PACKET_LIMIT - (self.bytes.len() - self.start)
+    }
+
+    /// Takes as many of the bytes as there is room for, and says how many. It takes no memory.
+    pub fn push(&mut self, bytes: &[u8]) -> usize
+        ensures exact { IsStep self.old (Step.Push bytes.now result) self.new }
+    {
+        let taken = self.room().min(bytes.len());
+        self.start = append(&mut self.bytes, self.start, &bytes[..taken]);
+        taken
+    }
+
+    /// The bytes of the packet in front, its length field included, not copied. `None` where its length is
+    /// out of range or not all of them are there, and once a fault was told.
+    pub fn lent(&self) -> Option<&[u8]>
+        ensures { option_copied result ≡ lent_of self.now }
+    {
+        if self.fault.is_some() {
+            return None;
+        }
+        whole(&self.bytes[self.start..])
+    }
+
+    /// Takes the packet in front out, of that side; `None` where it is not there whole.
+    ///
+    /// # Errors
+    ///
+    /// `Unreadable` with the first fault from the left and the place in the stream of its packet's first
+    /// byte. It stands for good: each later call gives it again. `NoMemory` where memory runs out: then
+    /// nothing changes. Never `TooLong`.
+    pub fn next(&mut self, side: Side) -> Result<Option<Packet>, WireError>
+        ensures exact { IsStep self.old (Step.Next side result) self.new }
+        // What is given is spelled out in front, and exactly its bytes are taken out.
+        ensures found { IfOk result (λ given. IfSome given (λ packet.
+            HasSpelling packet × (side_of packet ≡ side) × (self.old.held ≡ spelling packet ++ self.new.held)
+            × (self.new.place ≡ place_after self.old.place (length (spelling packet))))) }
+        // Where no fault was told, what is spelled out in front is given, unless memory runs out.
+        ensures only { (packet : Packet) (rest : List ℕ) → self.old.fault ≡ None → HasSpelling packet → side_of packet ≡ side → self.old.held ≡ spelling packet ++ rest
+            → ((result ≡ Ok (Some packet)) × (self.new.held ≡ rest)) ⊎ (result ≡ Err WireError.NoMemory) }
+    {
+        if let Some(fault) = self.fault {
+            return Err(WireError::Unreadable {
+                fault,
+                place: self.place,
+            });
+        }
+        let alloc = *self.bytes.allocator();
+        match front(alloc, &self.bytes[self.start..], side) {
+            Ok(None) => Ok(None),
+            Ok(Some((packet, taken))) => {
+                self.start += taken;
+                self.place = self.place.saturating_add(taken as u64);
+                Ok(Some(packet))
+            }
+            Err(WireError::Unreadable { fault, .. }) => {
+                self.fault = Some(fault);
+                Err(WireError::Unreadable {
+                    fault,
+                    place: self.place,
+                })
+            }
+            Err(error) => Err(error),
+        }
+    }
+}
+
+/// The law of streams: after any steps from the empty buffer, the packets that were given, spelled one after
+/// the other, and then the bytes held, are the bytes that were taken, in their order.
+pub fn streams()
+    // What is given out and what is held are what was taken.
+    ensures kept { (steps : List (Step × Frames)) (t : Frames) → AreSteps no_frames steps t → all_out steps ++ t.held ≡ all_in steps }
+    // Nothing is given only where no whole packet and no fault stands in front.
+    ensures nothing { (side : Side) (s t : Frames) → IsStep s (Step.Next side (Ok None)) t → told_of side s ≡ Ok None }
+    // There nothing is given, unless memory runs out.
+    ensures waits { (side : Side) (s t : Frames) (given : Result (Option Packet) WireError) → IsStep s (Step.Next side given) t → told_of side s ≡ Ok None
+        → (given ≡ Ok None) ⊎ (given ≡ Err WireError.NoMemory) }
+    // A fault that was told is told again for good: nothing changes.
+    ensures fault_stands { (side : Side) (s t : Frames) (fault : Fault) (given : Result (Option Packet) WireError) → s.fault ≡ Some fault → IsStep s (Step.Next side given) t
+        → (given ≡ Err (WireError.Unreadable fault s.place)) × (t ≡ s) }
+    // Then nothing more is taken.
+    ensures fault_takes_none { (s t : Frames) (fault : Fault) (bytes : List ℕ) (taken : ℕ) → s.fault ≡ Some fault → IsStep s (Step.Push bytes taken) t
+        → (taken ≡ 0) × (t ≡ s) }
+{}
+
+#[cfg(test)]
+mod tests;
