@@ -1,16 +1,20 @@
 -- A stream of packets that comes in pieces: what a step takes in and gives out.
-use Rattle.std.proofs.Common.{◌≡◌, ℕ, zero, suc, ◌-◌, ◌⊎◌, inl, inr, List, [], ◌∷◌, ◌++◌, length, take, drop, Option, Some, None, Result, Ok, Err, refl, sym, ap, subst, ◌∙◌, append_assoc, append-nil, arith}
+use Rattle.std.proofs.Common.{◌≡◌, ℕ, zero, suc, ◌+◌, ◌-◌, ◌<◌, ◌≤◌, ◌⊎◌, inl, inr, false, eqb, ltb, List, [], ◌∷◌, ◌++◌, length, take, drop, Option, Some, None, Result, Ok, Err, refl, sym, ap, subst, ◌∙◌, append_assoc, append-nil, arith}
 use Rattle.std.specs.Prelude.{min, if◌then◌else◌, is_some}
 use Rattle.std.proofs.Math.Nat.{zero-min}
+use Rattle.std.specs.Int.{w32, from_be_bytes}
+use Rattle.std.proofs.lemmas.Bool.{le-ltb, ne_eqb}
+use Rattle.std.proofs.lemmas.List.{take_at, length-append}
 use Rattle.sftp_wire.specs.declared.errors.Fault.{Fault}
 use Rattle.sftp_wire.specs.declared.errors.WireError.{WireError}
 use Rattle.sftp_wire.specs.declared.errors.WireError.TheVariants.{Unreadable, NoMemory}
 use Rattle.sftp_wire.specs.declared.packets.Packet.{Packet}
 use Rattle.sftp_wire.specs.declared.packets.Side.{Side}
-use Rattle.sftp_wire.specs.Spelling.{packet_limit, spelling, AreBytes}
+use Rattle.sftp_wire.specs.Spelling.{uint32, contents, packet_limit, spelling, AreBytes, HasSpelling}
 use Rattle.sftp_wire.specs.Reading.{front_of}
-use Rattle.sftp_wire.specs.Framing.{Frames, Step, Push, Next, IsStep, AreSteps, no_frames, room_of, front_unless, told_of, telling, push_of, bytes_in, bytes_out, all_in, all_out}
-use Rattle.sftp_wire.proofs.Numbers.{IsBytes, IsBytes-take, IsBytes-drop}
+use Rattle.sftp_wire.specs.Framing.{Frames, Step, Push, Next, IsStep, AreSteps, no_frames, room_of, front_unless, told_of, telling, push_of, bytes_in, bytes_out, all_in, all_out, whole_of}
+use Rattle.sftp_wire.proofs.Numbers.{IsBytes, IsBytes-take, IsBytes-drop, wide32}
+use Rattle.sftp_wire.proofs.PacketLaws.{contents-parts}
 use Rattle.sftp_wire.proofs.FrontLaws.{front_takes}
 
 -- ---- bytes
@@ -120,3 +124,28 @@ fault_takes_none s t fault bytes taken told leads =
     let none : min (room_of s) (length bytes) ≡ 0 = ap (λ (n : ℕ). min n (length bytes)) room ∙ zero-min (length bytes) in
     let held : s.held ++ take (min (room_of s) (length bytes)) bytes ≡ s.held = ap (λ (n : ℕ). s.held ++ take n bytes) none ∙ append-nil s.held in
     (ap (λ (p : ℕ × Frames). p.0) leads.1 ∙ none, ap (λ (p : ℕ × Frames). p.1) leads.1 ∙ ap (λ (x : List ℕ). record { held = x; place = s.place; fault = s.fault }) held)
+
+-- ---- the packet in front, uncopied
+
+length-spelling : (packet : Packet) → length (spelling packet) ≡ length (contents packet) + 4
+unfolding spelling
+length-spelling packet = omega (arith, length-append (uint32 (length (contents packet))) (contents packet))
+
+-- what is spelled in front is lent
+pub spelled_is_lent : (packet : Packet) (rest : List ℕ) → HasSpelling packet → whole_of (spelling packet ++ rest) ≡ Some (spelling packet)
+unfolding whole_of spelling
+spelled_is_lent packet rest has =
+    let text = contents packet in
+    let n = length text in
+    let bytes = spelling packet ++ rest in
+    let total : length (spelling packet) ≡ n + 4 = length-spelling packet in
+    let some : 0 < n = omega (arith, ap length (contents-parts packet)) in
+    let regrouped : bytes ≡ uint32 n ++ (text ++ rest) = append_assoc (uint32 n) text rest in
+    let number : from_be_bytes w32 (take 4 bytes) ≡ n = ap (λ (x : List ℕ). from_be_bytes w32 (take 4 x)) regrouped ∙ ap (from_be_bytes w32) (take_at (uint32 n) (text ++ rest) 4 refl) ∙ wide32.again n (omega (arith, has.whole, total)) in
+    let long : n + 4 ≤ length bytes = omega (arith, length-append (spelling packet) rest, total) in
+    let not_short : ltb (length bytes) 4 ≡ false = le-ltb _ _ (omega (arith, long)) in
+    let not_zero : eqb n 0 ≡ false = ne_eqb n 0 (omega (arith, some)) in
+    let not_over : ltb packet_limit (n + 4) ≡ false = le-ltb _ _ (omega (arith, has.whole, total)) in
+    let there : ltb (length bytes) (n + 4) ≡ false = le-ltb _ _ long in
+    let whole : take (n + 4) bytes ≡ spelling packet = ap (λ (k : ℕ). take k bytes) (sym total) ∙ take_at (spelling packet) rest (length (spelling packet)) refl in
+    rw (not_short, number, not_zero, not_over, there, whole) refl

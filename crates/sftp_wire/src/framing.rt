@@ -201,6 +201,8 @@ pub fn streams()
     // Then nothing more is taken.
     ensures fault_takes_none { (s t : Frames) (fault : Fault) (bytes : List ℕ) (taken : ℕ) → s.fault ≡ Some fault → IsStep s (Step.Push bytes taken) t
         → (taken ≡ 0) × (t ≡ s) }
+    // A packet that is spelled in front is lent as it is spelled.
+    ensures lent { (packet : Packet) (rest : List ℕ) → HasSpelling packet → whole_of (spelling packet ++ rest) ≡ Some (spelling packet) }
 {}
 
 #[cfg(test)]

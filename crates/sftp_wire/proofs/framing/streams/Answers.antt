@@ -1,4 +1,4 @@
-use Rattle.sftp_wire.proofs.FramingLaws.{stream_is_kept, nothing_is_told, nothing_is_given, fault_stands, fault_takes_none}
+use Rattle.sftp_wire.proofs.FramingLaws.{stream_is_kept, nothing_is_told, nothing_is_given, fault_stands, fault_takes_none, spelled_is_lent}
 use Rattle.sftp_wire.proofs.framing.streams.Goals as goal
 
 pub returns-clause-kept : goal.returns-clause-kept
@@ -15,3 +15,6 @@ returns-clause-fault_stands c = fault_stands
 
 pub returns-clause-fault_takes_none : goal.returns-clause-fault_takes_none
 returns-clause-fault_takes_none c = fault_takes_none
+
+pub returns-clause-lent : goal.returns-clause-lent
+returns-clause-lent c = spelled_is_lent
