@@ -1,5 +1,5 @@
 -- What the parts of an audit say of the whole.
-use Rattle.std.proofs.Common.{◌≡◌, ◌≢◌, ℕ, ◌^◌, ◌-◌, ◌<◌, min, List, Result, Ok, Err, IsTrue, length, refl, sym, ap, subst, ◌∙◌, arith}
+use Rattle.std.proofs.Common.{◌≡◌, ◌≢◌, ℕ, List, Result, IsTrue, sym, ap, subst, ◌∙◌}
 use Rattle.std.specs.Result.{IfErr, IsErrAnd}
 use Rattle.std.proofs.lemmas.Result.{err_from_is_err_and}
 use Rattle.sftp_audit.specs.declared.transcripts.Event.{Event}
@@ -10,10 +10,10 @@ use Rattle.sftp_audit.specs.Tree.{Tree}
 use Rattle.sftp_audit.specs.Steps.{Allowed}
 use Rattle.sftp_audit.specs.TreeFile.{IsStart}
 use Rattle.sftp_audit.specs.Transcript.{IsRecord}
-use Rattle.sftp_audit.specs.Explained.{Matching, in_window, entries, settled, Run, Explained}
+use Rattle.sftp_audit.specs.Explained.{Matching, in_window, entries, settled, Run}
 use Rattle.sftp_audit.specs.Ledger.{IsComplete}
 use Rattle.sftp_audit.specs.Exchange.{ledger_of}
-use Rattle.sftp_audit.specs.Audit.{Accounts, request_count}
+use Rattle.sftp_audit.specs.Audit.{Accounts}
 
 -- no run is told of
 abbrev pub TellsNothing : List ℕ → List ℕ → Type 0

@@ -1,15 +1,15 @@
 -- The index of the requests that wait follows the ledger.
-use Rattle.std.proofs.Common.{◌≡◌, ◌≢◌, ◌==◌, ◌&&◌, ◌||◌, nat_lt, nat_eq, eqb, ltb, ℕ, zero, suc, ◌+◌, ◌-◌, ◌<◌, ◌≤◌, Bool, true, false, cond, List, [], ◌∷◌, ◌++◌, Option, Some, None, IsTrue, is_some, length, take, drop, set, slice_get, refl, sym, ap, subst, ◌∙◌, append_assoc, arith, inl, inr, rules}
+use Rattle.std.proofs.Common.{◌≡◌, ◌==◌, nat_eq, ℕ, zero, suc, ◌-◌, ◌<◌, ◌≤◌, true, false, cond, List, [], ◌∷◌, ◌++◌, Option, Some, None, is_some, length, take, drop, set, slice_get, refl, sym, ap, subst, ◌∙◌, append_assoc, arith, inl, inr}
 use Rattle.std.specs.List.{AllByRecursion}
 use Rattle.std.specs.Map.{lookup}
-use Rattle.std.proofs.lemmas.Bool.{or_parts, or_from, or_left, or_right, eqb-true, eqb-false, eq-eqb, ne_eqb, true≢false, cases_Bool, cases_lt, cases_eq, both_ways}
-use Rattle.std.proofs.lemmas.List.{length-append, length-take-le, length-drop, take-append-drop, take-append-le, set_split, length-set}
+use Rattle.std.proofs.lemmas.Bool.{or_from, or_left, or_right, eqb-true, eqb-false, eq-eqb, true≢false, cases_Bool, cases_lt}
+use Rattle.std.proofs.lemmas.List.{length-append, length-drop, take-append-drop, take-append-le, set_split, length-set}
 use Rattle.std.proofs.lemmas.Option.{slice_get_within, none-some, same_Some}
 use Rattle.sftp_wire.specs.declared.packets.Request.{Request}
 use Rattle.sftp_wire.specs.declared.packets.Reply.{Reply}
 use Rattle.sftp_audit.specs.Explained.{window}
 use Rattle.sftp_audit.specs.Ledger.{Entry, is_open, AreApart, keeps_window, IsAnswered, IsIndexed}
-use Rattle.sftp_audit.proofs.Ledger.{is_open-append, AreApart-asked, AreApart-answered, still_shut, alone, or_none, keeps_window-answered, keeps_window-few, keeps_window-many}
+use Rattle.sftp_audit.proofs.Ledger.{is_open-append, AreApart-asked, AreApart-answered, still_shut, alone, keeps_window-answered, keeps_window-few, keeps_window-many}
 
 -- ---- places of a list
 

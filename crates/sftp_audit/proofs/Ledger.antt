@@ -1,13 +1,13 @@
 -- The ledger goes on with each event, and an event out of turn or out of time ends every explanation.
-use Rattle.std.proofs.Common.{◌≡◌, ◌==◌, ◌&&◌, ◌||◌, nat_lt, eqb, ltb, ℕ, suc, ◌+◌, ◌<◌, ◌≤◌, Bool, true, false, cond, List, [], ◌∷◌, ◌++◌, Option, Some, None, IsTrue, length, refl, sym, ap, ◌∙◌, append_assoc, arith, inl, inr, rules, zero-add}
+use Rattle.std.proofs.Common.{◌≡◌, ◌==◌, ◌&&◌, ◌||◌, nat_lt, ℕ, suc, ◌+◌, ◌<◌, ◌≤◌, Bool, true, false, cond, List, [], ◌∷◌, ◌++◌, Some, None, length, refl, sym, ap, ◌∙◌, append_assoc, arith, inl, inr, zero-add}
 use Rattle.std.specs.List.{AllByRecursion}
-use Rattle.std.proofs.lemmas.Bool.{and_parts, and_from, or_parts, or_from, eqb-true, eqb-false, eq-eqb, ne_eqb, true≢false, false≢true, lt-ltb, le-ltb, ltb-true, ltb-false, cases_Bool, both_ways}
+use Rattle.std.proofs.lemmas.Bool.{and_parts, and_from, or_parts, or_from, eqb-true, eqb-false, eq-eqb, ne_eqb, lt-ltb, le-ltb, ltb-true, cases_Bool, both_ways}
 use Rattle.std.proofs.lemmas.List.{length-append, append-nil}
 use Rattle.sftp_wire.specs.declared.packets.Request.{Request}
 use Rattle.sftp_wire.specs.declared.packets.Reply.{Reply}
 use Rattle.sftp_audit.specs.declared.transcripts.Event.{Event}
 use Rattle.sftp_audit.specs.declared.transcripts.Event.TheVariants.{Asked, Replied}
-use Rattle.sftp_audit.specs.Explained.{Turn, closed, waiting, broken, after_asked, after_replied, after_event, turn_after, Matching, next_reply, entries, asked_before_reply, in_window, window}
+use Rattle.sftp_audit.specs.Explained.{Turn, closed, waiting, broken, after_event, turn_after, Matching, next_reply, entries, asked_before_reply, in_window, window}
 use Rattle.sftp_audit.specs.Ledger.{Entry, filled, is_open, turn_of, AreApart, keeps_window, StandsFor, IsAnswered, IsComplete}
 
 -- ---- tests

@@ -1,14 +1,13 @@
 -- A run over exchanges, one step after the other.
-use Rattle.std.proofs.Common.{◌≡◌, ◌≢◌, ℕ, suc, ◌+◌, ◌<◌, ◌≤◌, List, [], ◌∷◌, Option, Some, None, Result, Ok, Err, length, drop, get_or, refl, sym, ap, subst, ◌∙◌, arith}
+use Rattle.std.proofs.Common.{◌≡◌, ℕ, ◌+◌, ◌<◌, ◌≤◌, List, ◌∷◌, Option, Some, None, length, drop, get_or, refl, sym, ap, ◌∙◌}
 use Rattle.std.proofs.lemmas.List.{drop_more, drop_all}
 use Rattle.sftp_wire.specs.declared.packets.Request.{Request}
 use Rattle.sftp_wire.specs.declared.packets.Reply.{Reply}
 use Rattle.sftp_audit.specs.declared.pairing.Exchange.{Exchange}
 use Rattle.sftp_audit.specs.Tree.{Tree}
 use Rattle.sftp_audit.specs.Steps.{Allowed}
-use Rattle.sftp_audit.specs.Explained.{Run, settled}
-use Rattle.sftp_audit.specs.Ledger.{Entry}
-use Rattle.sftp_audit.specs.Exchange.{entry_of, ledger_of}
+use Rattle.sftp_audit.specs.Explained.{settled}
+use Rattle.sftp_audit.specs.Exchange.{ledger_of}
 use Rattle.sftp_audit.proofs.RunEnds.{step_end, go_on, run_end, step_end-of_allowed, allowed-of_step_end}
 
 -- what is left of the exchanges begins with the one that was read

@@ -1,11 +1,9 @@
-use Rattle.std.proofs.Common.{◌≡◌, List, length, refl, sym, ap, subst, ◌∙◌, arith}
+use Rattle.std.proofs.Common.{length, refl, ap, arith}
 use Rattle.std.proofs.lemmas.List.{length-map}
 use Rattle.sftp_audit.specs.declared.errors.TranscriptError.TheVariants as transcript_errors
 use Rattle.sftp_audit.specs.declared.errors.Refusal.TheVariants as refusals
-use Rattle.sftp_audit.specs.declared.pairing.Exchange.{Exchange}
-use Rattle.sftp_audit.specs.Tree as values
 use Rattle.sftp_audit.specs.Steps.{Allowed}
-use Rattle.sftp_audit.specs.Explained.{entries, settled, Run}
+use Rattle.sftp_audit.specs.Explained.{settled, Run}
 use Rattle.sftp_audit.specs.Exchange.{entry_of, ledger_of}
 use Rattle.sftp_audit.specs.Audit.{transcript_refused, session_refused}
 use Rattle.sftp_audit.proofs.Accounting.{refused_by, turns_made, run_made, accounts_made}

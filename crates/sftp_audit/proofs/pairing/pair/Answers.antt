@@ -1,9 +1,7 @@
-use Rattle.std.proofs.Common.{◌≡◌, [], ◌∷◌, ◌++◌, List, length, ap, sym, subst, ◌∙◌, append_assoc, append-nil, arith, refl}
+use Rattle.std.proofs.Common.{◌≡◌, [], ◌∷◌, length, ap, sym, ◌∙◌, append_assoc, append-nil, arith, refl}
 use Rattle.std.specs.Vec.Iter.{into_iter_items}
-use Rattle.sftp_audit.specs.declared.transcripts.Event.{Event}
 use Rattle.sftp_audit.specs.Exchange.{ledger_of}
-use Rattle.sftp_audit.specs.Ledger.{Entry, StandsFor}
-use Rattle.sftp_audit.proofs.Ledger.{stands_from_start, complete, no_end_unanswered}
+use Rattle.sftp_audit.proofs.Ledger.{stands_from_start}
 use Rattle.sftp_audit.proofs.Noted.{nothing_left, all_answered, one_unanswered}
 use Rattle.sftp_audit.proofs.pairing.pair.Goals as goal
 use Rattle.sftp_audit.proofs.pairing.pair.Goals.{After-finish}

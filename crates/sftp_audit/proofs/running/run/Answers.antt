@@ -1,8 +1,6 @@
-use Rattle.std.proofs.Common.{◌≡◌, Option, Some, None, sym, ap, ◌∙◌, subst}
-use Rattle.sftp_audit.specs.Tree as values
 use Rattle.sftp_audit.specs.Explained.{settled}
 use Rattle.sftp_audit.specs.Exchange.{ledger_of}
-use Rattle.sftp_audit.proofs.RunEnds.{run_end, run-of_run_end, no_run-of_run_end}
+use Rattle.sftp_audit.proofs.RunEnds.{run-of_run_end, no_run-of_run_end}
 use Rattle.sftp_audit.proofs.RunSteps.{run_on, run_fails, run_stops, run_ends}
 use Rattle.sftp_audit.proofs.running.run.Goals as goal
 

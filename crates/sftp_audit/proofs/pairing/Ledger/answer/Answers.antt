@@ -1,11 +1,9 @@
-use Rattle.std.proofs.Common.{◌≡◌, ◌<◌, ◌≤◌, ℕ, Option, Some, None, List, [], ◌∷◌, ◌++◌, length, take, drop, suc, set, slice_get, cond, nat_eq, sym, ap, subst, ◌∙◌, refl, arith}
-use Rattle.std.specs.List.{AllByRecursion}
+use Rattle.std.proofs.Common.{◌≡◌, ◌<◌, ◌≤◌, ℕ, Some, None, List, length, take, drop, suc, set, slice_get, cond, nat_eq, sym, ap, ◌∙◌, refl, arith}
 use Rattle.std.specs.Map.{lookup}
-use Rattle.std.proofs.lemmas.List.{length-map, length-set}
+use Rattle.std.proofs.lemmas.List.{length-map}
 use Rattle.sftp_wire.specs.declared.packets.Request.{Request}
 use Rattle.sftp_audit.specs.declared.pairing.Exchange.{Exchange}
 use Rattle.sftp_audit.specs.Exchange.{entry_of, ledger_of}
-use Rattle.sftp_audit.specs.Ledger.{Entry, IsAnswered}
 use Rattle.sftp_audit.proofs.Exchanges.{within_exchanges, ledger_of-set}
 use Rattle.sftp_audit.proofs.Index.{parts_before, parts_after, still_answered, indexed_replied}
 use Rattle.sftp_audit.proofs.pairing.Ledger.answer.Goals as goal

@@ -1,7 +1,6 @@
-use Rattle.std.proofs.Common.{◌≡◌, ◌-◌, ◌≤◌, ◌<◌, ℕ, Some, None, List, [], ◌∷◌, ◌++◌, length, is_some, true, false, cond, nat_eq, inl, inr, sym, ap, ◌∙◌, arith}
+use Rattle.std.proofs.Common.{◌≡◌, ℕ, Some, length, false, cond, nat_eq, inl, inr, sym, ap, ◌∙◌, arith}
 use Rattle.std.specs.Map.{lookup}
 use Rattle.std.proofs.lemmas.List.{length-map, map_push}
-use Rattle.sftp_audit.specs.Explained.{window}
 use Rattle.sftp_audit.specs.Exchange.{entry_of, ledger_of}
 use Rattle.sftp_audit.specs.Ledger.{is_open}
 use Rattle.sftp_audit.proofs.Index.{in_use, not_in_use, too_late, soon_enough, indexed_asked}

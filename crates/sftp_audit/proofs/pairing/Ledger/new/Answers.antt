@@ -1,6 +1,3 @@
-use Rattle.std.proofs.Common.{◌≡◌, [], ap, sym, subst}
-use Rattle.sftp_audit.specs.Ledger.{IsIndexed}
-use Rattle.sftp_audit.specs.Exchange.{ledger_of}
 use Rattle.sftp_audit.proofs.Index.{indexed_from_start}
 use Rattle.sftp_audit.proofs.pairing.Ledger.new.Goals as goal
 
