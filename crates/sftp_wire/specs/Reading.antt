@@ -1,24 +1,25 @@
 -- Packets are read from left to right, up to the first fault (draft-ietf-secsh-filexfer-02, sections 3 to 8).
 -- This is a second account of the packets beside their spelling; that the two agree is proved.
-use Rattle.std.specs.Prelude.{◌≡◌, ◌==◌, ◌||◌, nat_lt, ℕ, zero, suc, ◌+◌, Bool, if◌then◌else◌, List, [], ◌∷◌, ◌++◌, length, take, drop, Option, Some, None, Result, Ok, Err}
+use Rattle.std.specs.Prelude.{◌≡◌, ◌==◌, ◌||◌, nat_lt, ℕ, zero, suc, ◌+◌, Bool, if◌then◌else◌, List, [], ◌∷◌, ◌++◌, length, take, drop, bytes_eq, Option, Some, None, Result, Ok, Err}
 use Rattle.std.specs.Int.{w32, w64, Width, byte_len, from_be_bytes}
 use Rattle.std.specs.Int.RustNames.{bit_and}
 use Rattle.sftp_wire.specs.declared.errors.Fault.{Fault}
-use Rattle.sftp_wire.specs.declared.errors.Fault.TheVariants.{Length, WrongType, Short, Trailing, Flags}
+use Rattle.sftp_wire.specs.declared.errors.Fault.TheVariants.{Length, WrongType, Short, Trailing, Flags, HandleTooLong}
 use Rattle.sftp_wire.specs.declared.errors.ReadError.{ReadError}
 use Rattle.sftp_wire.specs.declared.errors.ReadError.TheVariants as reads
 use Rattle.sftp_wire.specs.declared.errors.WireError.{WireError}
 use Rattle.sftp_wire.specs.declared.errors.WireError.TheVariants as wires
 use Rattle.sftp_wire.specs.declared.attributes.Attrs.{Attrs}
+use Rattle.sftp_wire.specs.declared.names.NameItem.{NameItem}
 use Rattle.sftp_wire.specs.declared.packets.Ask.{Ask}
-use Rattle.sftp_wire.specs.declared.packets.Ask.TheVariants.{Mkdir, Rmdir}
+use Rattle.sftp_wire.specs.declared.packets.Ask.TheVariants as asks
 use Rattle.sftp_wire.specs.declared.packets.Answer.{Answer}
-use Rattle.sftp_wire.specs.declared.packets.Answer.TheVariants.{Status}
+use Rattle.sftp_wire.specs.declared.packets.Answer.TheVariants as answers
 use Rattle.sftp_wire.specs.declared.packets.Packet.{Packet}
 use Rattle.sftp_wire.specs.declared.packets.Packet.TheVariants.{Init, Version, Request, Reply}
 use Rattle.sftp_wire.specs.declared.packets.Side.{Side}
 use Rattle.sftp_wire.specs.declared.packets.Side.TheVariants.{Client, Server}
-use Rattle.sftp_wire.specs.Spelling.{packet_limit, spelling, side_of, HasSpelling}
+use Rattle.sftp_wire.specs.Spelling.{packet_limit, handle_limit, posix_rename_name, hardlink_name, fsync_name, spelling, side_of, HasSpelling}
 
 -- A reader takes a value from the front of the bytes and leaves the rest, or names the first fault.
 abbrev pub Reader : Type 0 → Type 0
@@ -90,6 +91,16 @@ string_at bytes = do
   n ← uint32_at bytes
   if nat_lt (length n.1) n.0 then Err Short else Ok (take n.0 n.1, drop n.0 n.1)
 
+-- a handle, whose length is judged before its bytes are looked for (draft, section 7)
+unfoldable pub handle_at : Reader (List ℕ)
+handle_at bytes = do
+  n ← uint32_at bytes
+  if nat_lt handle_limit n.0 then Err HandleTooLong else (if nat_lt (length n.1) n.0 then Err Short else Ok (take n.0 n.1, drop n.0 n.1))
+
+-- all that is left
+abbrev pub rest_at : Reader (List ℕ)
+rest_at bytes = Ok (bytes, [])
+
 unfoldable pub two_uint32_at : Reader (ℕ × ℕ)
 two_uint32_at = two uint32_at uint32_at (λ a b. (a, b))
 
@@ -132,6 +143,17 @@ attributes_at bytes = do
   flags ← uint32_at bytes
   if are_known flags.0 then attribute_fields_at flags.0 flags.1 else Err Flags
 
+-- ---- names of a directory (draft, section 7)
+
+unfoldable pub name_item_at : Reader NameItem
+name_item_at = three string_at string_at attributes_at (λ filename longname attrs. record { filename = filename; longname = longname; attrs = attrs })
+
+-- as many names as are said
+unfoldable pub names_at : Reader (List NameItem)
+names_at bytes = do
+  n ← uint32_at bytes
+  many_at name_item_at n.0 n.1
+
 -- ---- packets
 
 -- a request: its id, and what is asked
@@ -142,19 +164,55 @@ request_at ask = two uint32_at ask (λ id a. Request (record { id = id; ask = a 
 abbrev pub reply_at : Reader Answer → Reader Packet
 reply_at answer = two uint32_at answer (λ id a. Reply (record { id = id; answer = a }))
 
--- what follows the type in a client's packet (draft, sections 4 and 6)
+-- the data of an extension, by its name (OpenSSH's PROTOCOL, section 4)
+unfoldable pub extension_data_at : List ℕ → Reader Ask
+extension_data_at name =
+    if bytes_eq name posix_rename_name then two string_at string_at asks.PosixRename else
+    if bytes_eq name hardlink_name then two string_at string_at asks.Hardlink else
+    if bytes_eq name fsync_name then one handle_at asks.Fsync else
+    one rest_at (asks.Unknown name)
+
+-- an extension: its name, and then its data (draft, section 8)
+unfoldable pub extension_at : Reader Ask
+extension_at bytes = do
+  name ← string_at bytes
+  extension_data_at name.0 name.1
+
+-- what follows the type in a client's packet (draft, sections 4, 6 and 8)
 unfoldable pub client_packet_at : ℕ → Reader Packet
 client_packet_at kind =
     if kind == 1 then two uint32_at pairs_at Init else
-    if kind == 14 then request_at (two string_at attributes_at Mkdir) else
-    if kind == 15 then request_at (one string_at Rmdir) else
+    if kind == 3 then request_at (three string_at uint32_at attributes_at asks.Open) else
+    if kind == 4 then request_at (one handle_at asks.Close) else
+    if kind == 5 then request_at (three handle_at uint64_at uint32_at asks.Read) else
+    if kind == 6 then request_at (three handle_at uint64_at string_at asks.Write) else
+    if kind == 7 then request_at (one string_at asks.Lstat) else
+    if kind == 8 then request_at (one handle_at asks.Fstat) else
+    if kind == 9 then request_at (two string_at attributes_at asks.Setstat) else
+    if kind == 10 then request_at (two handle_at attributes_at asks.Fsetstat) else
+    if kind == 11 then request_at (one string_at asks.Opendir) else
+    if kind == 12 then request_at (one handle_at asks.Readdir) else
+    if kind == 13 then request_at (one string_at asks.Remove) else
+    if kind == 14 then request_at (two string_at attributes_at asks.Mkdir) else
+    if kind == 15 then request_at (one string_at asks.Rmdir) else
+    if kind == 16 then request_at (one string_at asks.Realpath) else
+    if kind == 17 then request_at (one string_at asks.Stat) else
+    if kind == 18 then request_at (two string_at string_at asks.Rename) else
+    if kind == 19 then request_at (one string_at asks.Readlink) else
+    if kind == 20 then request_at (two string_at string_at asks.Symlink) else
+    if kind == 200 then request_at extension_at else
     refuse WrongType
 
--- what follows the type in a server's packet (draft, sections 4 and 7)
+-- what follows the type in a server's packet (draft, sections 4, 7 and 8)
 unfoldable pub server_packet_at : ℕ → Reader Packet
 server_packet_at kind =
     if kind == 2 then two uint32_at pairs_at Version else
-    if kind == 101 then reply_at (three uint32_at string_at string_at Status) else
+    if kind == 101 then reply_at (three uint32_at string_at string_at answers.Status) else
+    if kind == 102 then reply_at (one handle_at answers.Handle) else
+    if kind == 103 then reply_at (one string_at answers.Data) else
+    if kind == 104 then reply_at (one names_at answers.Name) else
+    if kind == 105 then reply_at (one attributes_at answers.Attrs) else
+    if kind == 201 then reply_at (one rest_at answers.Extended) else
     refuse WrongType
 
 -- the packets of a side, by their type
@@ -199,6 +257,7 @@ IsReading (Ok x) read = read ≡ Ok x
 IsReading (Err (wires.Unreadable fault place)) read = (read ≡ Err fault) × (place ≡ 0)
 IsReading (Err wires.NoMemory) read = Unit {0}
 IsReading (Err wires.TooLong) read = ⊥
+IsReading (Err wires.NotCanonical) read = ⊥
 
 -- a packet of that side stands in front of the bytes, spelled out, and takes so many of them
 pub record StandsInFront (side : Side) (bytes : List ℕ) (packet : Packet) (taken : ℕ) : Type 0 where

@@ -1,12 +1,13 @@
 -- How packets are spelled in bytes (draft-ietf-secsh-filexfer-02, sections 3 to 8).
-use Rattle.std.specs.Prelude.{ℕ, ◌+◌, ◌^◌, ◌<◌, ◌≤◌, List, [], ◌∷◌, ◌++◌, length, Option, Some, None, IfSome}
+use Rattle.std.specs.Prelude.{◌≡◌, ℕ, ◌+◌, ◌^◌, ◌<◌, ◌≤◌, Bool, true, false, List, [], ◌∷◌, ◌++◌, length, codes, bytes_eq, Option, Some, None, IfSome}
 use Rattle.std.specs.Int.{w32, w64, to_be_bytes}
-use Rattle.std.specs.List.{flat_map, AllByRecursion}
+use Rattle.std.specs.List.{flat_map, list_any, AllByRecursion}
 use Rattle.sftp_wire.specs.declared.attributes.Attrs.{Attrs}
+use Rattle.sftp_wire.specs.declared.names.NameItem.{NameItem}
 use Rattle.sftp_wire.specs.declared.packets.Ask.{Ask}
-use Rattle.sftp_wire.specs.declared.packets.Ask.TheVariants.{Mkdir, Rmdir}
+use Rattle.sftp_wire.specs.declared.packets.Ask.TheVariants as asks
 use Rattle.sftp_wire.specs.declared.packets.Answer.{Answer}
-use Rattle.sftp_wire.specs.declared.packets.Answer.TheVariants.{Status}
+use Rattle.sftp_wire.specs.declared.packets.Answer.TheVariants as answers
 use Rattle.sftp_wire.specs.declared.packets.Packet.{Packet}
 use Rattle.sftp_wire.specs.declared.packets.Packet.TheVariants.{Init, Version, Request, Reply}
 use Rattle.sftp_wire.specs.declared.packets.Side.{Side}
@@ -65,23 +66,78 @@ attribute_fields a = optional uint64 a.size ++ (optional two_uint32 a.owner ++ (
 abbrev pub attributes : Attrs → List ℕ
 attributes a = uint32 (attribute_flags a) ++ attribute_fields a
 
--- ---- packets: the type, and then the fields in their order
+-- ---- names of a directory (draft, section 7)
 
--- requests (draft, section 6): the id, and then what is asked
-abbrev pub asked : ℕ → Ask → List ℕ
-asked id (Mkdir path attrs) = 14 ∷ uint32 id ++ (string path ++ attributes attrs)
-asked id (Rmdir path) = 15 ∷ uint32 id ++ string path
+abbrev pub name_item : NameItem → List ℕ
+name_item n = string n.filename ++ (string n.longname ++ attributes n.attrs)
 
--- replies (draft, section 7): the id of the request, and then the answer
-abbrev pub answered : ℕ → Answer → List ℕ
-answered id (Status code message language) = 101 ∷ uint32 id ++ (uint32 code ++ (string message ++ string language))
+-- how many names there are, and then the names
+abbrev pub names : List NameItem → List ℕ
+names ns = uint32 (length ns) ++ flat_map name_item ns
 
--- what stands behind a packet's length (draft, sections 3 and 4)
+-- ---- the names of the extensions that are requests of their own (OpenSSH's PROTOCOL, section 4)
+
+abbrev pub posix_rename_name : List ℕ
+posix_rename_name = codes "posix-rename@openssh.com"
+
+abbrev pub hardlink_name : List ℕ
+hardlink_name = codes "hardlink@openssh.com"
+
+abbrev pub fsync_name : List ℕ
+fsync_name = codes "fsync@openssh.com"
+
+-- whether a name is one of these
+abbrev pub is_known_extension : List ℕ → Bool
+is_known_extension name = list_any (bytes_eq name) (posix_rename_name ∷ hardlink_name ∷ fsync_name ∷ [])
+
+-- ---- packets
+
+-- requests (draft, sections 6 and 8; OpenSSH's PROTOCOL, section 4, for the order of a symbolic link's fields and
+-- for the data of the known extensions): the type, and the fields behind the id
+abbrev pub asked : Ask → ℕ × List ℕ
+asked (asks.Open path pflags attrs) = (3, string path ++ (uint32 pflags ++ attributes attrs))
+asked (asks.Close handle) = (4, string handle)
+asked (asks.Read handle offset len) = (5, string handle ++ (uint64 offset ++ uint32 len))
+asked (asks.Write handle offset bytes) = (6, string handle ++ (uint64 offset ++ string bytes))
+asked (asks.Lstat path) = (7, string path)
+asked (asks.Fstat handle) = (8, string handle)
+asked (asks.Setstat path attrs) = (9, string path ++ attributes attrs)
+asked (asks.Fsetstat handle attrs) = (10, string handle ++ attributes attrs)
+asked (asks.Opendir path) = (11, string path)
+asked (asks.Readdir handle) = (12, string handle)
+asked (asks.Remove path) = (13, string path)
+asked (asks.Mkdir path attrs) = (14, string path ++ attributes attrs)
+asked (asks.Rmdir path) = (15, string path)
+asked (asks.Realpath path) = (16, string path)
+asked (asks.Stat path) = (17, string path)
+asked (asks.Rename oldpath newpath) = (18, string oldpath ++ string newpath)
+asked (asks.Readlink path) = (19, string path)
+asked (asks.Symlink targetpath linkpath) = (20, string targetpath ++ string linkpath)
+asked (asks.PosixRename oldpath newpath) = (200, string posix_rename_name ++ (string oldpath ++ string newpath))
+asked (asks.Hardlink oldpath newpath) = (200, string hardlink_name ++ (string oldpath ++ string newpath))
+asked (asks.Fsync handle) = (200, string fsync_name ++ string handle)
+asked (asks.Unknown name rest) = (200, string name ++ rest)
+
+-- replies (draft, sections 7 and 8): the type, and the fields behind the id
+abbrev pub answered : Answer → ℕ × List ℕ
+answered (answers.Status code message language) = (101, uint32 code ++ (string message ++ string language))
+answered (answers.Handle handle) = (102, string handle)
+answered (answers.Data bytes) = (103, string bytes)
+answered (answers.Name items) = (104, names items)
+answered (answers.Attrs attrs) = (105, attributes attrs)
+answered (answers.Extended bytes) = (201, bytes)
+
+-- a type, then an id, and then the fields in their order (draft, section 3)
+abbrev pub with_id : ℕ → ℕ × List ℕ → List ℕ
+with_id id row = row.0 ∷ uint32 id ++ row.1
+
+-- What stands behind a packet's length (draft, sections 3 and 4). A request has an id of its own, and a reply has
+-- that of its request.
 abbrev pub contents : Packet → List ℕ
 contents (Init version extensions) = 1 ∷ uint32 version ++ pairs extensions
 contents (Version version extensions) = 2 ∷ uint32 version ++ pairs extensions
-contents (Request request) = asked request.id request.ask
-contents (Reply reply) = answered reply.id reply.answer
+contents (Request request) = with_id request.id (asked request.ask)
+contents (Reply reply) = with_id reply.id (answered reply.answer)
 
 -- a packet is its length, which does not count itself, and that many bytes (draft, section 3)
 unfoldable pub spelling : Packet → List ℕ
@@ -124,12 +180,45 @@ pub record FitsAttrs (a : Attrs) : Type 0 where
   pub times : IfSome a.times FitsTwo
   pub extended : IfSome a.extended FitsCounted
 
+pub record FitsNameItem (n : NameItem) : Type 0 where
+  pub filename : FitsString n.filename
+  pub longname : FitsString n.longname
+  pub attrs : FitsAttrs n.attrs
+
+abbrev pub FitsNames : List NameItem → Type 0
+FitsNames ns = (length ns < 2 ^ 32) × AllByRecursion FitsNameItem ns
+
 abbrev pub FitsAsk : Ask → Type 0
-FitsAsk (Mkdir path attrs) = FitsString path × FitsAttrs attrs
-FitsAsk (Rmdir path) = FitsString path
+FitsAsk (asks.Open path pflags attrs) = FitsString path × (pflags < 2 ^ 32) × FitsAttrs attrs
+FitsAsk (asks.Close handle) = FitsString handle
+FitsAsk (asks.Read handle offset len) = FitsString handle × (offset < 2 ^ 64) × (len < 2 ^ 32)
+FitsAsk (asks.Write handle offset bytes) = FitsString handle × (offset < 2 ^ 64) × FitsString bytes
+FitsAsk (asks.Lstat path) = FitsString path
+FitsAsk (asks.Fstat handle) = FitsString handle
+FitsAsk (asks.Setstat path attrs) = FitsString path × FitsAttrs attrs
+FitsAsk (asks.Fsetstat handle attrs) = FitsString handle × FitsAttrs attrs
+FitsAsk (asks.Opendir path) = FitsString path
+FitsAsk (asks.Readdir handle) = FitsString handle
+FitsAsk (asks.Remove path) = FitsString path
+FitsAsk (asks.Mkdir path attrs) = FitsString path × FitsAttrs attrs
+FitsAsk (asks.Rmdir path) = FitsString path
+FitsAsk (asks.Realpath path) = FitsString path
+FitsAsk (asks.Stat path) = FitsString path
+FitsAsk (asks.Rename oldpath newpath) = FitsString oldpath × FitsString newpath
+FitsAsk (asks.Readlink path) = FitsString path
+FitsAsk (asks.Symlink targetpath linkpath) = FitsString targetpath × FitsString linkpath
+FitsAsk (asks.PosixRename oldpath newpath) = FitsString oldpath × FitsString newpath
+FitsAsk (asks.Hardlink oldpath newpath) = FitsString oldpath × FitsString newpath
+FitsAsk (asks.Fsync handle) = FitsString handle
+FitsAsk (asks.Unknown name rest) = FitsString name × AreBytes rest
 
 abbrev pub FitsAnswer : Answer → Type 0
-FitsAnswer (Status code message language) = (code < 2 ^ 32) × FitsString message × FitsString language
+FitsAnswer (answers.Status code message language) = (code < 2 ^ 32) × FitsString message × FitsString language
+FitsAnswer (answers.Handle handle) = FitsString handle
+FitsAnswer (answers.Data bytes) = FitsString bytes
+FitsAnswer (answers.Name items) = FitsNames items
+FitsAnswer (answers.Attrs attrs) = FitsAttrs attrs
+FitsAnswer (answers.Extended bytes) = AreBytes bytes
 
 -- each number is in its field's range, and each byte is one
 abbrev pub FitsFields : Packet → Type 0
@@ -142,8 +231,48 @@ FitsFields (Reply reply) = (reply.id < 2 ^ 32) × FitsAnswer reply.answer
 abbrev pub packet_limit : ℕ
 packet_limit = 34000
 
--- A packet has a spelling where each field can be written and the whole is within the limit. (A whole
--- packet never has fewer than five bytes: its length and its type.)
+-- the most bytes of a handle (draft, section 7)
+abbrev pub handle_limit : ℕ
+handle_limit = 256
+
+-- the handle that a request names
+abbrev pub asked_handle : Ask → Option (List ℕ)
+asked_handle (asks.Close handle) = Some handle
+asked_handle (asks.Read handle offset len) = Some handle
+asked_handle (asks.Write handle offset bytes) = Some handle
+asked_handle (asks.Fstat handle) = Some handle
+asked_handle (asks.Fsetstat handle attrs) = Some handle
+asked_handle (asks.Readdir handle) = Some handle
+asked_handle (asks.Fsync handle) = Some handle
+asked_handle other = None
+
+-- the handle that an answer gives
+abbrev pub answered_handle : Answer → Option (List ℕ)
+answered_handle (answers.Handle handle) = Some handle
+answered_handle other = None
+
+abbrev pub handle_of : Packet → Option (List ℕ)
+handle_of (Init version extensions) = None
+handle_of (Version version extensions) = None
+handle_of (Request request) = asked_handle request.ask
+handle_of (Reply reply) = answered_handle reply.answer
+
+-- an extension that is a request of its own, asked for as if it were not
+abbrev pub asks_known : Ask → Bool
+asks_known (asks.Unknown name rest) = is_known_extension name
+asks_known other = false
+
+abbrev pub hides_extension : Packet → Bool
+hides_extension (Init version extensions) = false
+hides_extension (Version version extensions) = false
+hides_extension (Request request) = asks_known request.ask
+hides_extension (Reply reply) = false
+
+-- A packet has a spelling where each field can be written, the whole and a handle are within their limits, and
+-- an extension that is a request of its own is asked for as that. (A whole packet never has fewer than five bytes:
+-- its length and its type.)
 pub record HasSpelling (packet : Packet) : Type 0 where
   pub fields : FitsFields packet
   pub whole : length (spelling packet) ≤ packet_limit
+  pub handle : IfSome (handle_of packet) (λ handle. length handle ≤ handle_limit)
+  pub canonical : hides_extension packet ≡ false

@@ -26,14 +26,20 @@ pub enum Fault {
     /// Attribute flags with a bit that the protocol does not know.
     #[error("Flags")]
     Flags,
+    /// A handle of more bytes than one may have. It is found as soon as its length is there.
+    #[error("HandleTooLong")]
+    HandleTooLong,
 }
 
-/// Why `encode` or `front` refused.
+/// Why a packet was not written or read.
 #[derive(Clone, Copy, Debug, PartialEq, Eq, Error)]
 pub enum WireError {
-    /// The packet would have more than `PACKET_LIMIT` bytes.
+    /// The packet would have more than `PACKET_LIMIT` bytes, or its handle more than `HANDLE_LIMIT`.
     #[error("TooLong")]
     TooLong,
+    /// The packet is an `Unknown` with the name of an extension that is a request of its own.
+    #[error("NotCanonical")]
+    NotCanonical,
     /// Memory ran out.
     #[error("NoMemory")]
     NoMemory,

@@ -1,9 +1,11 @@
 //! The fields of packets, read from the front of a packet's body (draft, sections 3 to 5). Each reader
 //! moves the body past what it read. Where it fails, the body may stand anywhere.
-ghost use Rattle.sftp_wire.specs.Reading.{Reads, optional_at, uint32_at, uint64_at, two_uint32_at, string_at, pair_at, pairs_at, many_at, counted_pairs_at, attribute_fields_at, attributes_at};
+ghost use Rattle.sftp_wire.specs.Reading.{Reads, optional_at, uint32_at, uint64_at, two_uint32_at, string_at, handle_at, rest_at, name_item_at, names_at, pair_at, pairs_at, many_at, counted_pairs_at, attribute_fields_at, attributes_at};
 
 use crate::attributes::{AttrFlags, Attrs};
 use crate::errors::{Fault, ReadError};
+use crate::names::{NameItem, Names};
+use crate::packets::HANDLE_LIMIT;
 use crate::strings::{ByteString, Pairs};
 use bitflags::Flags;
 use bytes::Buf;
@@ -19,7 +21,7 @@ pub(crate) fn number(body: &mut &[u8]) -> Result<u32, ReadError>
 
 /// A uint64.
 #[tactic(auto, unfolding(crate::specs::Reading::uint64_at))]
-fn long_number(body: &mut &[u8]) -> Result<u64, ReadError>
+pub(crate) fn long_number(body: &mut &[u8]) -> Result<u64, ReadError>
     ensures { Reads result body.new.now (uint64_at body.old.now) }
 {
     Ok(body.try_get_u64()?)
@@ -47,6 +49,32 @@ pub(crate) fn string(alloc: Global, body: &mut &[u8]) -> Result<ByteString, Read
     let (text, rest) = body.split_at(length);
     *body = rest;
     Ok(ByteString::from_slice(alloc, text)?)
+}
+
+/// A handle. Its length is judged before its bytes are looked for.
+#[tactic(auto, unfolding(crate::specs::Reading::handle_at))]
+pub(crate) fn handle(alloc: Global, body: &mut &[u8]) -> Result<ByteString, ReadError>
+    ensures { Reads result body.new.now (handle_at body.old.now) }
+{
+    let length = number(body)? as usize;
+    if length > HANDLE_LIMIT {
+        return Err(ReadError::Fault(Fault::HandleTooLong));
+    }
+    if body.len() < length {
+        return Err(ReadError::Fault(Fault::Short));
+    }
+    let (name, rest) = body.split_at(length);
+    *body = rest;
+    Ok(ByteString::from_slice(alloc, name)?)
+}
+
+/// All that is left.
+pub(crate) fn rest(alloc: Global, body: &mut &[u8]) -> Result<ByteString, ReadError>
+    ensures { Reads result body.new.now (rest_at body.old.now) }
+{
+    let bytes = ByteString::from_slice(alloc, body)?;
+    *body = &[];
+    Ok(bytes)
 }
 
 /// A name and its data.
@@ -165,4 +193,40 @@ pub(crate) fn attributes(alloc: Global, body: &mut &[u8]) -> Result<Attrs, ReadE
         Some(flags) => attribute_fields(alloc, flags, body),
         None => Err(ReadError::Fault(Fault::Flags)),
     }
+}
+
+/// One name of a directory.
+#[tactic(auto, unfolding(crate::specs::Reading::name_item_at))]
+fn name_item(alloc: Global, body: &mut &[u8]) -> Result<NameItem, ReadError>
+    ensures { Reads result body.new.now (name_item_at body.old.now) }
+{
+    let filename = string(alloc, body)?;
+    let longname = string(alloc, body)?;
+    let attrs = attributes(alloc, body)?;
+    Ok(NameItem {
+        filename,
+        longname,
+        attrs,
+    })
+}
+
+/// So many names.
+fn name_items(alloc: Global, count: u32, body: &mut &[u8]) -> Result<Names, ReadError>
+    ensures { Reads result body.new.now (many_at name_item_at count body.old.now) }
+{
+    let mut items = Vec::new(alloc);
+    'items: for _ in 0..count {
+        let next = name_item(alloc, body)?;
+        items.push(next)?;
+    }
+    Ok(Names::new(items))
+}
+
+/// The number of names, and then the names.
+#[tactic(auto, unfolding(crate::specs::Reading::names_at))]
+pub(crate) fn names(alloc: Global, body: &mut &[u8]) -> Result<Names, ReadError>
+    ensures { Reads result body.new.now (names_at body.old.now) }
+{
+    let count = number(body)?;
+    name_items(alloc, count, body)
 }

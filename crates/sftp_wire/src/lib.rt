@@ -4,12 +4,16 @@
 
 mod attributes;
 mod errors;
+mod extensions;
 mod fields;
 mod framing;
 mod laws;
 mod measuring;
+mod names;
+mod open_flags;
 mod packets;
 mod reading;
+mod refusing;
 pub mod rows;
 mod slices;
 mod strings;
@@ -19,7 +23,9 @@ pub use attributes::{AttrFlags, Attrs};
 pub use errors::{Fault, WireError};
 pub use framing::{FrameBuf, streams};
 pub use laws::spellings_are_apart;
-pub use packets::{Answer, Ask, PACKET_LIMIT, Packet, Reply, Request, Side};
+pub use names::{NameItem, Names};
+pub use open_flags::OpenFlags;
+pub use packets::{Answer, Ask, HANDLE_LIMIT, PACKET_LIMIT, Packet, Reply, Request, Side};
 pub use reading::front;
 pub use slices::{take_number, take_string};
 pub use strings::{ByteString, Pairs};

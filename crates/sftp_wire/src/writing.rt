@@ -1,13 +1,20 @@
 //! Packets as bytes (draft, sections 3 to 8). A private function may leave part of what it writes behind
 //! after an error: `encode` takes it away.
-ghost use Rattle.std.specs.Prelude.{◌≡◌, ◌∷◌, ◌++◌, ◌<◌, ◌^◌, ◌↔◌, ◌⊎◌, length, OnOk, OnErr, IfErr, IsErrOf, IfSome};
-ghost use Rattle.sftp_wire.specs.Spelling.{uint32, uint64, two_uint32, string, pair, pairs, counted_pairs, optional, attribute_flags, attribute_fields, attributes, asked, answered, contents, spelling, packet_limit, FitsString, FitsTwo, FitsPair, FitsPairs, FitsCounted, FitsAttrs, FitsAsk, FitsAnswer, FitsFields, HasSpelling};
-ghost use Rattle.sftp_wire.specs.Writing.{Extends};
+ghost use Rattle.std.specs.Prelude.{◌≡◌, ◌∷◌, ◌++◌, ◌<◌, ◌^◌, ◌↔◌, ◌⊎◌, length, OnOk, OnErr, IfErr, IsErrOf};
+ghost use Rattle.sftp_wire.specs.Spelling.{uint32, uint64, two_uint32, string, pair, pairs, counted_pairs, optional, attribute_flags, attribute_fields, attributes, name_item, names, asked, answered, with_id, contents, spelling, HasSpelling};
+ghost use Rattle.sftp_wire.specs.Writing.{Extends, IsTooLong, IsNotCanonical};
 
 use crate::attributes::{AttrFlags, Attrs};
 use crate::errors::WireError;
+use crate::extensions::{FSYNC, HARDLINK, POSIX_RENAME};
 use crate::measuring::contents_length;
-use crate::packets::{Answer, Ask, INIT, MKDIR, PACKET_LIMIT, Packet, RMDIR, STATUS, VERSION};
+use crate::names::{NameItem, Names};
+use crate::packets::{
+    ATTRS, Answer, Ask, CLOSE, DATA, EXTENDED, EXTENDED_REPLY, FSETSTAT, FSTAT, HANDLE, INIT,
+    LSTAT, MKDIR, NAME, OPEN, OPENDIR, PACKET_LIMIT, Packet, READ, READDIR, READLINK, REALPATH,
+    REMOVE, RENAME, RMDIR, SETSTAT, STAT, STATUS, SYMLINK, VERSION, WRITE,
+};
+use crate::refusing::{has_long_handle, hides_extension};
 use crate::strings::{ByteString, Pairs};
 use bitflags::Flags;
 use bytes::BufMut;
@@ -16,7 +23,6 @@ use std::alloc::AllocError;
 fn put_string(out: &mut Vec<u8>, text: &ByteString) -> Result<(), AllocError>
     requires { length (string text.now) < 2 ^ 32 }
     ensures ok { OnOk result (out.new.items ≡ out.old.items ++ string text.now) }
-    ensures fits { OnOk result (FitsString text.now) }
     ensures err { OnErr result (Extends out.old.items out.new.items) }
 {
     let bytes = text.as_slice();
@@ -32,7 +38,6 @@ fn put_two_strings(
 ) -> Result<(), AllocError>
     requires { length (pair (first.now, second.now)) < 2 ^ 32 }
     ensures ok { OnOk result (out.new.items ≡ out.old.items ++ pair (first.now, second.now)) }
-    ensures fits { OnOk result (FitsPair (first.now, second.now)) }
     ensures err { OnErr result (Extends out.old.items out.new.items) }
 {
     put_string(out, first)?;
@@ -43,7 +48,6 @@ fn put_two_strings(
 fn put_pairs(out: &mut Vec<u8>, extensions: &Pairs) -> Result<(), AllocError>
     requires { length (pairs extensions.now) < 2 ^ 32 }
     ensures ok { OnOk result (out.new.items ≡ out.old.items ++ pairs extensions.now) }
-    ensures fits { OnOk result (FitsPairs extensions.now) }
     ensures err { OnErr result (Extends out.old.items out.new.items) }
 {
     for (name, value) in extensions.as_slice() {
@@ -55,7 +59,6 @@ fn put_pairs(out: &mut Vec<u8>, extensions: &Pairs) -> Result<(), AllocError>
 fn put_counted_pairs(out: &mut Vec<u8>, extended: &Pairs) -> Result<(), AllocError>
     requires { length (counted_pairs extended.now) < 2 ^ 32 }
     ensures ok { OnOk result (out.new.items ≡ out.old.items ++ counted_pairs extended.now) }
-    ensures fits { OnOk result (FitsCounted extended.now) }
     ensures err { OnErr result (Extends out.old.items out.new.items) }
 {
     out.put_u32(extended.as_slice().len() as u32)?;
@@ -65,7 +68,6 @@ fn put_counted_pairs(out: &mut Vec<u8>, extended: &Pairs) -> Result<(), AllocErr
 
 fn put_two(out: &mut Vec<u8>, numbers: (u32, u32)) -> Result<(), AllocError>
     ensures ok { OnOk result (out.new.items ≡ out.old.items ++ two_uint32 numbers) }
-    ensures fits { OnOk result (FitsTwo numbers) }
     ensures err { OnErr result (Extends out.old.items out.new.items) }
 {
     out.put_u32(numbers.0)?;
@@ -75,7 +77,6 @@ fn put_two(out: &mut Vec<u8>, numbers: (u32, u32)) -> Result<(), AllocError>
 
 fn put_size(out: &mut Vec<u8>, size: Option<u64>) -> Result<(), AllocError>
     ensures ok { OnOk result (out.new.items ≡ out.old.items ++ optional uint64 size) }
-    ensures fits { OnOk result (IfSome size (λ n. n < 2 ^ 64)) }
     ensures err { OnErr result (Extends out.old.items out.new.items) }
 {
     if let Some(size) = size {
@@ -86,7 +87,6 @@ fn put_size(out: &mut Vec<u8>, size: Option<u64>) -> Result<(), AllocError>
 
 fn put_permissions(out: &mut Vec<u8>, permissions: Option<u32>) -> Result<(), AllocError>
     ensures ok { OnOk result (out.new.items ≡ out.old.items ++ optional uint32 permissions) }
-    ensures fits { OnOk result (IfSome permissions (λ n. n < 2 ^ 32)) }
     ensures err { OnErr result (Extends out.old.items out.new.items) }
 {
     if let Some(permissions) = permissions {
@@ -97,7 +97,6 @@ fn put_permissions(out: &mut Vec<u8>, permissions: Option<u32>) -> Result<(), Al
 
 fn put_optional_two(out: &mut Vec<u8>, numbers: Option<(u32, u32)>) -> Result<(), AllocError>
     ensures ok { OnOk result (out.new.items ≡ out.old.items ++ optional two_uint32 numbers) }
-    ensures fits { OnOk result (IfSome numbers FitsTwo) }
     ensures err { OnErr result (Extends out.old.items out.new.items) }
 {
     if let Some(numbers) = numbers {
@@ -109,7 +108,6 @@ fn put_optional_two(out: &mut Vec<u8>, numbers: Option<(u32, u32)>) -> Result<()
 fn put_extended(out: &mut Vec<u8>, extended: &Option<Pairs>) -> Result<(), AllocError>
     requires { length (optional counted_pairs extended.now) < 2 ^ 32 }
     ensures ok { OnOk result (out.new.items ≡ out.old.items ++ optional counted_pairs extended.now) }
-    ensures fits { OnOk result (IfSome extended.now FitsCounted) }
     ensures err { OnErr result (Extends out.old.items out.new.items) }
 {
     if let Some(extended) = extended {
@@ -133,8 +131,6 @@ fn flag_bits(attrs: &Attrs) -> u32
 fn put_size_and_owner(out: &mut Vec<u8>, attrs: &Attrs) -> Result<(), AllocError>
     ensures ok { OnOk result (out.new.items
         ≡ out.old.items ++ (optional uint64 attrs.now.size ++ optional two_uint32 attrs.now.owner)) }
-    ensures size_fits { OnOk result (IfSome attrs.now.size (λ n. n < 2 ^ 64)) }
-    ensures owner_fits { OnOk result (IfSome attrs.now.owner FitsTwo) }
     ensures err { OnErr result (Extends out.old.items out.new.items) }
 {
     put_size(out, attrs.size)?;
@@ -145,8 +141,6 @@ fn put_size_and_owner(out: &mut Vec<u8>, attrs: &Attrs) -> Result<(), AllocError
 fn put_permissions_and_times(out: &mut Vec<u8>, attrs: &Attrs) -> Result<(), AllocError>
     ensures ok { OnOk result (out.new.items
         ≡ out.old.items ++ (optional uint32 attrs.now.permissions ++ optional two_uint32 attrs.now.times)) }
-    ensures permissions_fit { OnOk result (IfSome attrs.now.permissions (λ n. n < 2 ^ 32)) }
-    ensures times_fit { OnOk result (IfSome attrs.now.times FitsTwo) }
     ensures err { OnErr result (Extends out.old.items out.new.items) }
 {
     put_permissions(out, attrs.permissions)?;
@@ -157,7 +151,6 @@ fn put_permissions_and_times(out: &mut Vec<u8>, attrs: &Attrs) -> Result<(), All
 fn put_attribute_fields(out: &mut Vec<u8>, attrs: &Attrs) -> Result<(), AllocError>
     requires { length (attribute_fields attrs.now) < 2 ^ 32 }
     ensures ok { OnOk result (out.new.items ≡ out.old.items ++ attribute_fields attrs.now) }
-    ensures fits { OnOk result (FitsAttrs attrs.now) }
     ensures err { OnErr result (Extends out.old.items out.new.items) }
 {
     put_size_and_owner(out, attrs)?;
@@ -169,7 +162,6 @@ fn put_attribute_fields(out: &mut Vec<u8>, attrs: &Attrs) -> Result<(), AllocErr
 fn put_attributes(out: &mut Vec<u8>, attrs: &Attrs) -> Result<(), AllocError>
     requires { length (attributes attrs.now) < 2 ^ 32 }
     ensures ok { OnOk result (out.new.items ≡ out.old.items ++ attributes attrs.now) }
-    ensures fits { OnOk result (FitsAttrs attrs.now) }
     ensures err { OnErr result (Extends out.old.items out.new.items) }
 {
     out.put_u32(flag_bits(attrs))?;
@@ -181,7 +173,6 @@ fn put_init(out: &mut Vec<u8>, version: u32, extensions: &Pairs) -> Result<(), A
     requires { length (contents (Packet.Init version extensions.now)) < 2 ^ 32 }
     ensures ok { OnOk result (out.new.items
         ≡ out.old.items ++ contents (Packet.Init version extensions.now)) }
-    ensures fits { OnOk result (FitsFields (Packet.Init version extensions.now)) }
     ensures err { OnErr result (Extends out.old.items out.new.items) }
 {
     out.put_u8(INIT)?;
@@ -194,7 +185,6 @@ fn put_version(out: &mut Vec<u8>, version: u32, extensions: &Pairs) -> Result<()
     requires { length (contents (Packet.Version version extensions.now)) < 2 ^ 32 }
     ensures ok { OnOk result (out.new.items
         ≡ out.old.items ++ contents (Packet.Version version extensions.now)) }
-    ensures fits { OnOk result (FitsFields (Packet.Version version extensions.now)) }
     ensures err { OnErr result (Extends out.old.items out.new.items) }
 {
     out.put_u8(VERSION)?;
@@ -212,65 +202,269 @@ fn put_type_and_id(out: &mut Vec<u8>, kind: u8, id: u32) -> Result<(), AllocErro
     Ok(())
 }
 
-fn put_mkdir(out: &mut Vec<u8>, id: u32, path: &ByteString, attrs: &Attrs) -> Result<(), AllocError>
-    requires { length (asked id (Ask.Mkdir path.now attrs.now)) < 2 ^ 32 }
-    ensures ok { OnOk result (out.new.items
-        ≡ out.old.items ++ asked id (Ask.Mkdir path.now attrs.now)) }
-    ensures fits { OnOk result (FitsAsk (Ask.Mkdir path.now attrs.now)) }
+fn put_string_and_attributes(
+    out: &mut Vec<u8>,
+    text: &ByteString,
+    attrs: &Attrs,
+) -> Result<(), AllocError>
+    requires { length (string text.now ++ attributes attrs.now) < 2 ^ 32 }
+    ensures ok { OnOk result (out.new.items ≡ out.old.items ++ (string text.now ++ attributes attrs.now)) }
     ensures err { OnErr result (Extends out.old.items out.new.items) }
 {
-    put_type_and_id(out, MKDIR, id)?;
-    put_string(out, path)?;
+    put_string(out, text)?;
     put_attributes(out, attrs)?;
     Ok(())
 }
 
-fn put_rmdir(out: &mut Vec<u8>, id: u32, path: &ByteString) -> Result<(), AllocError>
-    requires { length (asked id (Ask.Rmdir path.now)) < 2 ^ 32 }
-    ensures ok { OnOk result (out.new.items ≡ out.old.items ++ asked id (Ask.Rmdir path.now)) }
-    ensures fits { OnOk result (FitsAsk (Ask.Rmdir path.now)) }
+fn put_open_fields(
+    out: &mut Vec<u8>,
+    path: &ByteString,
+    pflags: u32,
+    attrs: &Attrs,
+) -> Result<(), AllocError>
+    requires { length (string path.now ++ (uint32 pflags ++ attributes attrs.now)) < 2 ^ 32 }
+    ensures ok { OnOk result (out.new.items
+        ≡ out.old.items ++ (string path.now ++ (uint32 pflags ++ attributes attrs.now))) }
     ensures err { OnErr result (Extends out.old.items out.new.items) }
 {
-    put_type_and_id(out, RMDIR, id)?;
     put_string(out, path)?;
+    out.put_u32(pflags)?;
+    put_attributes(out, attrs)?;
     Ok(())
 }
 
-fn put_status(
+fn put_read_fields(
     out: &mut Vec<u8>,
-    id: u32,
+    handle: &ByteString,
+    offset: u64,
+    len: u32,
+) -> Result<(), AllocError>
+    requires { length (string handle.now) < 2 ^ 32 }
+    ensures ok { OnOk result (out.new.items
+        ≡ out.old.items ++ (string handle.now ++ (uint64 offset ++ uint32 len))) }
+    ensures err { OnErr result (Extends out.old.items out.new.items) }
+{
+    put_string(out, handle)?;
+    out.put_u64(offset)?;
+    out.put_u32(len)?;
+    Ok(())
+}
+
+fn put_write_fields(
+    out: &mut Vec<u8>,
+    handle: &ByteString,
+    offset: u64,
+    bytes: &ByteString,
+) -> Result<(), AllocError>
+    requires { length (string handle.now ++ (uint64 offset ++ string bytes.now)) < 2 ^ 32 }
+    ensures ok { OnOk result (out.new.items
+        ≡ out.old.items ++ (string handle.now ++ (uint64 offset ++ string bytes.now))) }
+    ensures err { OnErr result (Extends out.old.items out.new.items) }
+{
+    put_string(out, handle)?;
+    out.put_u64(offset)?;
+    put_string(out, bytes)?;
+    Ok(())
+}
+
+fn put_status_fields(
+    out: &mut Vec<u8>,
     code: u32,
     message: &ByteString,
     language: &ByteString,
 ) -> Result<(), AllocError>
-    requires { length (answered id (Answer.Status code message.now language.now)) < 2 ^ 32 }
+    requires { length (uint32 code ++ (string message.now ++ string language.now)) < 2 ^ 32 }
     ensures ok { OnOk result (out.new.items
-        ≡ out.old.items ++ answered id (Answer.Status code message.now language.now)) }
-    ensures fits { OnOk result (FitsAnswer (Answer.Status code message.now language.now)) }
+        ≡ out.old.items ++ (uint32 code ++ (string message.now ++ string language.now))) }
     ensures err { OnErr result (Extends out.old.items out.new.items) }
 {
-    put_type_and_id(out, STATUS, id)?;
     out.put_u32(code)?;
     put_two_strings(out, message, language)?;
     Ok(())
 }
 
-fn put_asked(out: &mut Vec<u8>, id: u32, ask: &Ask) -> Result<(), AllocError>
-    requires { length (asked id ask.now) < 2 ^ 32 }
-    ensures ok { OnOk result (out.new.items ≡ out.old.items ++ asked id ask.now) }
-    ensures fits { OnOk result (FitsAsk ask.now) }
+fn put_name_item(out: &mut Vec<u8>, item: &NameItem) -> Result<(), AllocError>
+    requires { length (name_item item.now) < 2 ^ 32 }
+    ensures ok { OnOk result (out.new.items ≡ out.old.items ++ name_item item.now) }
     ensures err { OnErr result (Extends out.old.items out.new.items) }
 {
+    put_string(out, &item.filename)?;
+    put_string(out, &item.longname)?;
+    put_attributes(out, &item.attrs)?;
+    Ok(())
+}
+
+fn put_names(out: &mut Vec<u8>, items: &Names) -> Result<(), AllocError>
+    requires { length (names items.now) < 2 ^ 32 }
+    ensures ok { OnOk result (out.new.items ≡ out.old.items ++ names items.now) }
+    ensures err { OnErr result (Extends out.old.items out.new.items) }
+{
+    out.put_u32(items.as_slice().len() as u32)?;
+    for item in items.as_slice() {
+        put_name_item(out, item)?;
+    }
+    Ok(())
+}
+
+/// The name of an extension.
+fn put_extension_name(out: &mut Vec<u8>, name: &[u8]) -> Result<(), AllocError>
+    requires { length name.now < 2 ^ 32 }
+    ensures ok { OnOk result (out.new.items ≡ out.old.items ++ string name.now) }
+    ensures err { OnErr result (Extends out.old.items out.new.items) }
+{
+    out.put_u32(name.len() as u32)?;
+    out.put_slice(name)?;
+    Ok(())
+}
+
+fn put_two_paths_extension(
+    out: &mut Vec<u8>,
+    name: &[u8],
+    oldpath: &ByteString,
+    newpath: &ByteString,
+) -> Result<(), AllocError>
+    requires { length (string name.now ++ pair (oldpath.now, newpath.now)) < 2 ^ 32 }
+    ensures ok { OnOk result (out.new.items
+        ≡ out.old.items ++ (string name.now ++ pair (oldpath.now, newpath.now))) }
+    ensures err { OnErr result (Extends out.old.items out.new.items) }
+{
+    put_extension_name(out, name)?;
+    put_two_strings(out, oldpath, newpath)?;
+    Ok(())
+}
+
+fn put_handle_extension(
+    out: &mut Vec<u8>,
+    name: &[u8],
+    handle: &ByteString,
+) -> Result<(), AllocError>
+    requires { length (string name.now ++ string handle.now) < 2 ^ 32 }
+    ensures ok { OnOk result (out.new.items ≡ out.old.items ++ (string name.now ++ string handle.now)) }
+    ensures err { OnErr result (Extends out.old.items out.new.items) }
+{
+    put_extension_name(out, name)?;
+    put_string(out, handle)?;
+    Ok(())
+}
+
+fn put_unknown(out: &mut Vec<u8>, name: &ByteString, rest: &ByteString) -> Result<(), AllocError>
+    requires { length (string name.now ++ rest.now) < 2 ^ 32 }
+    ensures ok { OnOk result (out.new.items ≡ out.old.items ++ (string name.now ++ rest.now)) }
+    ensures err { OnErr result (Extends out.old.items out.new.items) }
+{
+    put_string(out, name)?;
+    out.put_slice(rest.as_slice())?;
+    Ok(())
+}
+
+/// The type of a request's packet.
+fn asked_type(ask: &Ask) -> u8
+    ensures { result ≡ (asked ask.now).0 }
+{
     match ask {
-        Ask::Mkdir { path, attrs } => put_mkdir(out, id, path, attrs),
-        Ask::Rmdir { path } => put_rmdir(out, id, path),
+        Ask::Open { .. } => OPEN,
+        Ask::Close { .. } => CLOSE,
+        Ask::Read { .. } => READ,
+        Ask::Write { .. } => WRITE,
+        Ask::Lstat { .. } => LSTAT,
+        Ask::Fstat { .. } => FSTAT,
+        Ask::Setstat { .. } => SETSTAT,
+        Ask::Fsetstat { .. } => FSETSTAT,
+        Ask::Opendir { .. } => OPENDIR,
+        Ask::Readdir { .. } => READDIR,
+        Ask::Remove { .. } => REMOVE,
+        Ask::Mkdir { .. } => MKDIR,
+        Ask::Rmdir { .. } => RMDIR,
+        Ask::Realpath { .. } => REALPATH,
+        Ask::Stat { .. } => STAT,
+        Ask::Rename { .. } => RENAME,
+        Ask::Readlink { .. } => READLINK,
+        Ask::Symlink { .. } => SYMLINK,
+        Ask::PosixRename { .. } | Ask::Hardlink { .. } | Ask::Fsync { .. } | Ask::Unknown { .. } =>
+            EXTENDED,
     }
 }
 
-fn put_answered(out: &mut Vec<u8>, id: u32, answer: &Answer) -> Result<(), AllocError>
-    requires { length (answered id answer.now) < 2 ^ 32 }
-    ensures ok { OnOk result (out.new.items ≡ out.old.items ++ answered id answer.now) }
-    ensures fits { OnOk result (FitsAnswer answer.now) }
+/// What is asked, behind the request's id.
+fn put_ask_fields(out: &mut Vec<u8>, ask: &Ask) -> Result<(), AllocError>
+    requires { length ((asked ask.now).1) < 2 ^ 32 }
+    ensures ok { OnOk result (out.new.items ≡ out.old.items ++ (asked ask.now).1) }
+    ensures err { OnErr result (Extends out.old.items out.new.items) }
+{
+    match ask {
+        Ask::Lstat { path }
+        | Ask::Opendir { path }
+        | Ask::Remove { path }
+        | Ask::Rmdir { path }
+        | Ask::Realpath { path }
+        | Ask::Stat { path }
+        | Ask::Readlink { path } => put_string(out, path),
+        Ask::Open {
+            path,
+            pflags,
+            attrs,
+        } => put_open_fields(out, path, *pflags, attrs),
+        Ask::Setstat { path, attrs } | Ask::Mkdir { path, attrs } => {
+            put_string_and_attributes(out, path, attrs)
+        }
+        Ask::Fsetstat { handle, attrs } => put_string_and_attributes(out, handle, attrs),
+        Ask::Close { handle } | Ask::Fstat { handle } | Ask::Readdir { handle } => {
+            put_string(out, handle)
+        }
+        Ask::Read {
+            handle,
+            offset,
+            len,
+        } => put_read_fields(out, handle, *offset, *len),
+        Ask::Write {
+            handle,
+            offset,
+            bytes,
+        } => put_write_fields(out, handle, *offset, bytes),
+        Ask::Rename { oldpath, newpath } => put_two_strings(out, oldpath, newpath),
+        Ask::Symlink {
+            targetpath,
+            linkpath,
+        } => put_two_strings(out, targetpath, linkpath),
+        Ask::PosixRename { oldpath, newpath } => {
+            put_two_paths_extension(out, POSIX_RENAME, oldpath, newpath)
+        }
+        Ask::Hardlink { oldpath, newpath } => {
+            put_two_paths_extension(out, HARDLINK, oldpath, newpath)
+        }
+        Ask::Fsync { handle } => put_handle_extension(out, FSYNC, handle),
+        Ask::Unknown { name, rest } => put_unknown(out, name, rest),
+    }
+}
+
+fn put_asked(out: &mut Vec<u8>, id: u32, ask: &Ask) -> Result<(), AllocError>
+    requires { length (with_id id (asked ask.now)) < 2 ^ 32 }
+    ensures ok { OnOk result (out.new.items ≡ out.old.items ++ with_id id (asked ask.now)) }
+    ensures err { OnErr result (Extends out.old.items out.new.items) }
+{
+    put_type_and_id(out, asked_type(ask), id)?;
+    put_ask_fields(out, ask)?;
+    Ok(())
+}
+
+/// The type of a reply's packet.
+fn answered_type(answer: &Answer) -> u8
+    ensures { result ≡ (answered answer.now).0 }
+{
+    match answer {
+        Answer::Status { .. } => STATUS,
+        Answer::Handle(_) => HANDLE,
+        Answer::Data(_) => DATA,
+        Answer::Name(_) => NAME,
+        Answer::Attrs(_) => ATTRS,
+        Answer::Extended(_) => EXTENDED_REPLY,
+    }
+}
+
+/// What is answered, behind the id.
+fn put_answer_fields(out: &mut Vec<u8>, answer: &Answer) -> Result<(), AllocError>
+    requires { length ((answered answer.now).1) < 2 ^ 32 }
+    ensures ok { OnOk result (out.new.items ≡ out.old.items ++ (answered answer.now).1) }
     ensures err { OnErr result (Extends out.old.items out.new.items) }
 {
     match answer {
@@ -278,14 +472,31 @@ fn put_answered(out: &mut Vec<u8>, id: u32, answer: &Answer) -> Result<(), Alloc
             code,
             message,
             language,
-        } => put_status(out, id, *code, message, language),
+        } => put_status_fields(out, *code, message, language),
+        Answer::Handle(handle) => put_string(out, handle),
+        Answer::Data(bytes) => put_string(out, bytes),
+        Answer::Name(items) => put_names(out, items),
+        Answer::Attrs(attrs) => put_attributes(out, attrs),
+        Answer::Extended(bytes) => {
+            out.put_slice(bytes.as_slice())?;
+            Ok(())
+        }
     }
+}
+
+fn put_answered(out: &mut Vec<u8>, id: u32, answer: &Answer) -> Result<(), AllocError>
+    requires { length (with_id id (answered answer.now)) < 2 ^ 32 }
+    ensures ok { OnOk result (out.new.items ≡ out.old.items ++ with_id id (answered answer.now)) }
+    ensures err { OnErr result (Extends out.old.items out.new.items) }
+{
+    put_type_and_id(out, answered_type(answer), id)?;
+    put_answer_fields(out, answer)?;
+    Ok(())
 }
 
 fn put_contents(out: &mut Vec<u8>, packet: &Packet) -> Result<(), AllocError>
     requires { length (contents packet.now) < 2 ^ 32 }
     ensures ok { OnOk result (out.new.items ≡ out.old.items ++ contents packet.now) }
-    ensures fits { OnOk result (FitsFields packet.now) }
     ensures err { OnErr result (Extends out.old.items out.new.items) }
 {
     match packet {
@@ -306,7 +517,6 @@ fn put_contents(out: &mut Vec<u8>, packet: &Packet) -> Result<(), AllocError>
 fn put_packet(out: &mut Vec<u8>, size: u32, packet: &Packet) -> Result<(), AllocError>
     requires { size ≡ length (contents packet.now) }
     ensures ok { OnOk result (out.new.items ≡ out.old.items ++ spelling packet.now) }
-    ensures fits { OnOk result (FitsFields packet.now) }
     ensures err { OnErr result (Extends out.old.items out.new.items) }
 {
     out.put_u32(size)?;
@@ -318,20 +528,26 @@ fn put_packet(out: &mut Vec<u8>, size: u32, packet: &Packet) -> Result<(), Alloc
 ///
 /// # Errors
 ///
-/// `TooLong` exactly where the whole packet would have more than `PACKET_LIMIT` bytes, which is judged
-/// before any memory is asked for; otherwise `NoMemory` where memory runs out. No other error comes.
+/// In this order: `TooLong` exactly where the whole packet would have more than `PACKET_LIMIT` bytes or its handle
+/// has more than `HANDLE_LIMIT`; `NotCanonical` exactly where an `Unknown` has the name of an extension that is a
+/// request of its own; `NoMemory` where memory runs out. Both of the first are judged before any memory is asked for,
+/// and `NoMemory` comes only for a packet that has a spelling.
 #[tactic(auto, unfolding(crate::specs::Spelling::spelling))]
 pub fn encode(packet: &Packet, out: &mut Vec<u8>) -> Result<(), WireError>
     ensures ok { OnOk result (out.new.items ≡ out.old.items ++ spelling packet.now) }
     ensures spelled { OnOk result (HasSpelling packet.now) }
-    ensures too_long { IsErrOf result WireError.TooLong
-        ↔ (packet_limit < length (spelling packet.now)) }
+    ensures too_long { IsErrOf result WireError.TooLong ↔ IsTooLong packet.now }
+    ensures not_canonical { IsErrOf result WireError.NotCanonical ↔ IsNotCanonical packet.now }
+    ensures no_memory { IsErrOf result WireError.NoMemory → HasSpelling packet.now }
     ensures err { OnErr result (out.new.items ≡ out.old.items) }
-    ensures kinds { IfErr result (λ e. (e ≡ WireError.TooLong) ⊎ (e ≡ WireError.NoMemory)) }
+    ensures kinds { IfErr result (λ e. (e ≡ WireError.TooLong) ⊎ (e ≡ WireError.NotCanonical) ⊎ (e ≡ WireError.NoMemory)) }
 {
     let size = contents_length(packet);
-    if size > PACKET_LIMIT - 4 {
+    if size > PACKET_LIMIT - 4 || has_long_handle(packet) {
         return Err(WireError::TooLong);
+    }
+    if hides_extension(packet) {
+        return Err(WireError::NotCanonical);
     }
     let before = out.len();
     match put_packet(out, size as u32, packet) {
