@@ -13,11 +13,11 @@ Extends-after old mid new word is more = record {
   parts = more.parts ∙ ap (λ (x : List ℕ). x ++ more.tail) is ∙ append_assoc old word more.tail;
 }
 
--- a pair is no longer than all of them
-pub pair_is_short : (limit : ℕ) (ps : List (List ℕ × List ℕ)) (i : ℕ) (p : List ℕ × List ℕ) → length (pairs ps) < limit → i < length ps → p ≡ get_or ps i p → length (pair (p.0, p.1)) < limit
-pair_is_short limit ps i p short lt is =
-    let all = length-flat_map-take pair ps i p lt in
-    let same : length (pair p) ≡ length (pair (get_or ps i p)) = ap (λ (q : List ℕ × List ℕ). length (pair q)) is in
+-- what one of them takes is no longer than what all of them take
+pub part_is_short : {A : Type 0} (spell : A → List ℕ) (limit : ℕ) (xs : List A) (i : ℕ) (x : A) → length (flat_map spell xs) < limit → i < length xs → x ≡ get_or xs i x → length (spell x) < limit
+part_is_short {A = A} spell limit xs i x short lt is =
+    let all = length-flat_map-take spell xs i x lt in
+    let same : length (spell x) ≡ length (spell (get_or xs i x)) = ap (λ (y : A). length (spell y)) is in
     omega (arith, all, same)
 
 -- a pair takes a byte at least
