@@ -25,122 +25,117 @@ fn no_attributes() -> Attrs {
     }
 }
 
-fn bytes_of(alloc: Global, packet: &Packet) -> Result<Vec<u8>, WireError> {
+fn request(id: u32, ask: Ask) -> Packet {
+    Packet::Request(Request { id, ask })
+}
+
+fn rmdir(alloc: Global, path: &[u8]) -> Result<Packet, AllocError> {
+    let path = ByteString::from_slice(alloc, path)?;
+    Ok(request(1, Ask::Rmdir { path }))
+}
+
+/// Whether a packet is written as these bytes.
+fn is_spelled(alloc: Global, packet: &Packet, bytes: &[u8]) -> Result<bool, WireError> {
     let mut out = Vec::new(alloc);
     encode(packet, &mut out)?;
-    Ok(out)
+    Ok(out.as_slice() == bytes)
 }
 
 #[test]
-fn first_packets(rt: HostRuntime) -> Result<(), Fail> {
+fn init(rt: HostRuntime) -> Result<(), Fail> {
     let alloc = rt.alloc();
     let init = Packet::Init {
         version: 3,
         extensions: Pairs::new(Vec::new(alloc)),
     };
-    let bytes = bytes_of(alloc, &init)?;
-    assert_eq!(rt; bytes.as_slice(), b"\0\0\0\x05\x01\0\0\0\x03".as_slice());
+    assert!(rt; is_spelled(alloc, &init, b"\0\0\0\x05\x01\0\0\0\x03".as_slice())?);
+    Ok(())
+}
+
+#[test]
+fn version_with_extensions(rt: HostRuntime) -> Result<(), Fail> {
+    let alloc = rt.alloc();
+    let extensions = pairs_of(
+        alloc,
+        &[
+            (b"posix-rename@openssh.com".as_slice(), b"1".as_slice()),
+            (b"hardlink@openssh.com".as_slice(), b"1".as_slice()),
+            (b"fsync@openssh.com".as_slice(), b"1".as_slice()),
+        ],
+    )?;
     let version = Packet::Version {
         version: 3,
-        extensions: pairs_of(
-            alloc,
-            &[
-                (b"posix-rename@openssh.com".as_slice(), b"1".as_slice()),
-                (b"hardlink@openssh.com".as_slice(), b"1".as_slice()),
-                (b"fsync@openssh.com".as_slice(), b"1".as_slice()),
-            ],
-        )?,
+        extensions,
     };
-    let bytes = bytes_of(alloc, &version)?;
-    assert_eq!(rt; bytes.len(), 97);
-    assert_eq!(rt;
-        bytes.as_slice(),
-        b"\0\0\0\x5d\x02\0\0\0\x03\
+    let bytes = b"\0\0\0\x5d\x02\0\0\0\x03\
         \0\0\0\x18posix-rename@openssh.com\0\0\0\x011\
         \0\0\0\x14hardlink@openssh.com\0\0\0\x011\
-        \0\0\0\x11fsync@openssh.com\0\0\0\x011"
-            .as_slice()
-    );
+        \0\0\0\x11fsync@openssh.com\0\0\0\x011";
+    assert!(rt; is_spelled(alloc, &version, bytes.as_slice())?);
     Ok(())
 }
 
 #[test]
-fn requests_and_replies(rt: HostRuntime) -> Result<(), Fail> {
+fn mkdir_without_attributes(rt: HostRuntime) -> Result<(), Fail> {
     let alloc = rt.alloc();
-    let mkdir = Packet::Request(Request {
-        id: 1,
-        ask: Ask::Mkdir {
-            path: ByteString::from_slice(alloc, b"/a".as_slice())?,
-            attrs: no_attributes(),
-        },
-    });
-    let bytes = bytes_of(alloc, &mkdir)?;
-    assert_eq!(rt;
-        bytes.as_slice(),
-        b"\0\0\0\x0f\x0e\0\0\0\x01\0\0\0\x02/a\0\0\0\0".as_slice()
-    );
-    let status = Packet::Reply(Reply {
-        id: 1,
-        answer: Answer::Status {
-            code: 0,
-            message: ByteString::new(Vec::new(alloc)),
-            language: ByteString::new(Vec::new(alloc)),
-        },
-    });
-    let bytes = bytes_of(alloc, &status)?;
-    assert_eq!(rt;
-        bytes.as_slice(),
-        b"\0\0\0\x11\x65\0\0\0\x01\0\0\0\0\0\0\0\0\0\0\0\0".as_slice()
-    );
+    let path = ByteString::from_slice(alloc, b"/a".as_slice())?;
+    let attrs = no_attributes();
+    let mkdir = request(1, Ask::Mkdir { path, attrs });
+    let bytes = b"\0\0\0\x0f\x0e\0\0\0\x01\0\0\0\x02/a\0\0\0\0";
+    assert!(rt; is_spelled(alloc, &mkdir, bytes.as_slice())?);
     Ok(())
 }
 
 #[test]
-fn all_attributes(rt: HostRuntime) -> Result<(), Fail> {
+fn status_without_texts(rt: HostRuntime) -> Result<(), Fail> {
     let alloc = rt.alloc();
-    let mkdir = Packet::Request(Request {
-        id: 7,
-        ask: Ask::Mkdir {
-            path: ByteString::from_slice(alloc, b"/d".as_slice())?,
-            attrs: Attrs {
-                size: Some(0x0102_0304_0506_0708),
-                owner: Some((1000, 1001)),
-                permissions: Some(0o755),
-                times: Some((1, 2)),
-                extended: Some(pairs_of(alloc, &[(b"a".as_slice(), b"b".as_slice())])?),
-            },
-        },
-    });
-    let bytes = bytes_of(alloc, &mkdir)?;
-    assert_eq!(rt;
-        bytes.as_slice(),
-        b"\0\0\0\x39\x0e\0\0\0\x07\0\0\0\x02/d\x80\0\0\x0f\
+    let answer = Answer::Status {
+        code: 0,
+        message: ByteString::new(Vec::new(alloc)),
+        language: ByteString::new(Vec::new(alloc)),
+    };
+    let status = Packet::Reply(Reply { id: 1, answer });
+    let bytes = b"\0\0\0\x11\x65\0\0\0\x01\0\0\0\0\0\0\0\0\0\0\0\0";
+    assert!(rt; is_spelled(alloc, &status, bytes.as_slice())?);
+    Ok(())
+}
+
+#[test]
+fn mkdir_with_all_attributes(rt: HostRuntime) -> Result<(), Fail> {
+    let alloc = rt.alloc();
+    let path = ByteString::from_slice(alloc, b"/d".as_slice())?;
+    let extended = pairs_of(alloc, &[(b"a".as_slice(), b"b".as_slice())])?;
+    let attrs = Attrs {
+        size: Some(0x0102_0304_0506_0708),
+        owner: Some((1000, 1001)),
+        permissions: Some(0o755),
+        times: Some((1, 2)),
+        extended: Some(extended),
+    };
+    let mkdir = request(7, Ask::Mkdir { path, attrs });
+    let bytes = b"\0\0\0\x39\x0e\0\0\0\x07\0\0\0\x02/d\x80\0\0\x0f\
         \x01\x02\x03\x04\x05\x06\x07\x08\0\0\x03\xe8\0\0\x03\xe9\0\0\x01\xed\0\0\0\x01\0\0\0\x02\
-        \0\0\0\x01\0\0\0\x01a\0\0\0\x01b"
-            .as_slice()
-    );
+        \0\0\0\x01\0\0\0\x01a\0\0\0\x01b";
+    assert!(rt; is_spelled(alloc, &mkdir, bytes.as_slice())?);
     Ok(())
 }
 
 #[test]
-fn too_long_leaves_the_bytes(rt: HostRuntime) -> Result<(), Fail> {
+fn a_long_packet_leaves_the_bytes(rt: HostRuntime) -> Result<(), Fail> {
     let alloc = rt.alloc();
     let mut out = Vec::from_slice(alloc, b"kept".as_slice())?;
-    let long = Packet::Request(Request {
-        id: 1,
-        ask: Ask::Rmdir {
-            path: ByteString::new(vec![in alloc; b'a'; 34_000]?),
-        },
-    });
+    let path = ByteString::new(vec![in alloc; b'a'; 34_000]?);
+    let long = request(1, Ask::Rmdir { path });
     assert_eq!(rt; encode(&long, &mut out), Err(WireError::TooLong));
     assert_eq!(rt; out.as_slice(), b"kept".as_slice());
-    let short = Packet::Request(Request {
-        id: 1,
-        ask: Ask::Rmdir {
-            path: ByteString::from_slice(alloc, b"/a".as_slice())?,
-        },
-    });
-    encode(&short, &mut out)?;
+    Ok(())
+}
+
+#[test]
+fn a_packet_stands_behind_the_bytes(rt: HostRuntime) -> Result<(), Fail> {
+    let alloc = rt.alloc();
+    let mut out = Vec::from_slice(alloc, b"kept".as_slice())?;
+    encode(&rmdir(alloc, b"/a".as_slice())?, &mut out)?;
     assert_eq!(rt;
         out.as_slice(),
         b"kept\0\0\0\x0b\x0f\0\0\0\x01\0\0\0\x02/a".as_slice()
