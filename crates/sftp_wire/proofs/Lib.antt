@@ -11,4 +11,3 @@ pub mod PacketLaws
 pub mod PairLaws
 pub mod ReaderLaws
 pub mod Steps
-pub mod WorkedRows
