@@ -16,4 +16,3 @@ pub mod PacketRows
 pub mod PairLaws
 pub mod ReaderLaws
 pub mod Steps
-pub mod WorkedRows

@@ -1,7 +1,15 @@
--- What the worked rows name: bytes written in hexadecimal, attributes that say nothing, and the extensions
--- that the server tells of.
-use Rattle.std.specs.Prelude.{◌==◌, nat_lt, not, ℕ, ◌+◌, ◌-◌, ◌*◌, if◌then◌else◌, List, [], ◌∷◌, filter, codes, None}
+-- What the worked rows name: bytes written in hexadecimal, packets that are exactly such bytes, attributes that say
+-- nothing, and the extensions that the server tells of.
+use Rattle.std.specs.Prelude.{◌≡◌, ◌==◌, nat_lt, not, ℕ, ◌+◌, ◌-◌, ◌*◌, if◌then◌else◌, List, [], ◌∷◌, length, filter, codes, Some, None, Ok}
 use Rattle.sftp_wire.specs.declared.attributes.Attrs.{Attrs}
+use Rattle.sftp_wire.specs.declared.packets.Answer.{Answer}
+use Rattle.sftp_wire.specs.declared.packets.Ask.{Ask}
+use Rattle.sftp_wire.specs.declared.packets.Packet.{Packet}
+use Rattle.sftp_wire.specs.declared.packets.Packet.TheVariants.{Request, Reply}
+use Rattle.sftp_wire.specs.declared.packets.Side.{Side}
+use Rattle.sftp_wire.specs.declared.packets.Side.TheVariants.{Client, Server}
+use Rattle.sftp_wire.specs.Spelling.{spelling}
+use Rattle.sftp_wire.specs.Reading.{front_of}
 
 -- the worth of a hexadecimal digit, `0` to `9` or `a` to `f`
 abbrev pub digit_worth : ℕ → ℕ
@@ -16,6 +24,19 @@ bytes_of_digits (high ∷ low ∷ others) = (digit_worth high * 16 + digit_worth
 -- the bytes of a text in hexadecimal digits; its spaces only group them
 unfoldable pub hex : List ℕ → List ℕ
 hex text = bytes_of_digits (filter (λ code. not (code == 32)) text)
+
+-- the bytes and the packet are one another's: they are read as it and all of them, and it is spelled as them
+pub record IsRow (side : Side) (bytes : List ℕ) (packet : Packet) : Type 0 where
+  pub read : front_of side bytes ≡ Ok (Some (packet, length bytes))
+  pub spelled : spelling packet ≡ bytes
+
+-- the same of a request with an id, its bytes in hexadecimal
+abbrev pub IsAsked : List ℕ → ℕ → Ask → Type 0
+IsAsked text id ask = IsRow Client (hex text) (Request (record { id = id; ask = ask }))
+
+-- and of a reply with the id of its request
+abbrev pub IsAnswered : List ℕ → ℕ → Answer → Type 0
+IsAnswered text id answer = IsRow Server (hex text) (Reply (record { id = id; answer = answer }))
 
 -- nothing is said of a file
 abbrev pub no_attributes : Attrs

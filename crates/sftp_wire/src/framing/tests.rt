@@ -143,3 +143,103 @@ fn a_long_stream_goes_through(rt: HostRuntime) -> Result<(), Fail> {
     assert!(rt; is_fault(&mut frames, Fault::Length, 180_000));
     Ok(())
 }
+
+#[test]
+fn a_packet_without_its_id_is_short(rt: HostRuntime) -> Result<(), Fail> {
+    let mut frames = empty(&rt)?;
+    assert_eq!(rt; frames.push(&[0x00, 0x00, 0x00, 0x01, 0x03]), 5);
+    assert!(rt; frames.lent().is_some());
+    assert!(rt; is_fault(&mut frames, Fault::Short, 0));
+    assert!(rt; frames.lent().is_none());
+    assert_eq!(rt; frames.room(), 0);
+    Ok(())
+}
+
+#[test]
+fn a_fault_carries_the_place_of_its_packet(rt: HostRuntime) -> Result<(), Fail> {
+    let mut frames = empty(&rt)?;
+    assert_eq!(rt; frames.push(&INIT), 9);
+    assert_eq!(rt; frames.push(&MKDIR_AND_MORE[..19]), 19);
+    assert!(rt; is_init(&mut frames));
+    assert!(rt; is_mkdir(&mut frames));
+    // REMOVE of "/a" and one byte more, in two pieces.
+    assert_eq!(rt; frames.push(b"\0\0\0\x0c\x0d\0\0\0\x01\0\0\0\x02"), 13);
+    assert!(rt; is_waiting(&mut frames));
+    assert_eq!(rt; frames.push(b"/a\0"), 3);
+    assert!(rt; is_fault(&mut frames, Fault::Trailing, 28));
+    assert!(rt; is_fault(&mut frames, Fault::Trailing, 28));
+    assert_eq!(rt; frames.room(), 0);
+    assert!(rt; frames.lent().is_none());
+    Ok(())
+}
+
+#[test]
+fn an_unknown_extension_comes_behind_init(rt: HostRuntime) -> Result<(), Fail> {
+    let mut frames = empty(&rt)?;
+    assert_eq!(rt; frames.push(&INIT), 9);
+    assert_eq!(rt; frames.push(b"\0\0\0\x0c\xc8\0\0\0\x02\0\0\0\x01xab"), 16);
+    assert!(rt; is_init(&mut frames));
+    match frames.next(Side::Client)? {
+        Some(
+            Packet::Request(
+                Request {
+                    id,
+                    ask: Ask::Unknown { name, rest },
+                },
+            ),
+        ) => {
+            assert_eq!(rt; id, 2);
+            assert!(rt; name.as_slice() == b"x".as_slice());
+            assert!(rt; rest.as_slice() == b"ab".as_slice());
+        }
+        _ => return Err(Fail::from("another packet")),
+    }
+    assert!(rt; is_waiting(&mut frames));
+    Ok(())
+}
+
+/// CLOSE with that id, of the empty handle.
+fn close(id: u32) -> [u8; 13] {
+    let [first, second, third, fourth] = id.to_be_bytes();
+    [
+        0x00, 0x00, 0x00, 0x09, 0x04, first, second, third, fourth, 0x00, 0x00, 0x00, 0x00,
+    ]
+}
+
+fn is_close(frames: &mut FrameBuf, expected: u32) -> bool {
+    match frames.next(Side::Client) {
+        Ok(
+            Some(
+                Packet::Request(
+                    Request {
+                        id,
+                        ask: Ask::Close { handle },
+                    },
+                ),
+            ),
+        ) => id == expected && handle.as_slice().is_empty(),
+        _ => false,
+    }
+}
+
+/// The buffer is filled with 2,615 packets of 13 bytes. Then one goes in for each one that comes out, until the bytes
+/// have moved to the front many times, and the rest comes out.
+#[test]
+fn packets_come_in_order_through_a_full_buffer(rt: HostRuntime) -> Result<(), Fail> {
+    let mut frames = empty(&rt)?;
+    for id in 0..2615_u32 {
+        assert_eq!(rt; frames.push(&close(id)), 13);
+    }
+    assert_eq!(rt; frames.room(), 5);
+    for id in 0..20_000_u32 {
+        assert!(rt; is_close(&mut frames, id));
+        assert_eq!(rt; frames.room(), 18);
+        assert_eq!(rt; frames.push(&close(id + 2615)), 13);
+    }
+    for id in 20_000..22_615_u32 {
+        assert!(rt; is_close(&mut frames, id));
+    }
+    assert!(rt; is_waiting(&mut frames));
+    assert_eq!(rt; frames.room(), 34_000);
+    Ok(())
+}

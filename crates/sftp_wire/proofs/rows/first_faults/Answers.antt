@@ -1,5 +1,8 @@
-use Rattle.sftp_wire.proofs.WorkedRows.{other_side, no_id, byte_less, byte_more, flags_unknown, flags_first}
+use Rattle.std.proofs.Common.{refl}
+use Rattle.sftp_wire.specs.Reading.{front_of, packet_of, client_packet_at, server_packet_at, names_at, name_item_at, attributes_at, string_at, uint32_at}
+use Rattle.sftp_wire.specs.Rows.{hex}
 use Rattle.sftp_wire.proofs.rows.first_faults.Goals as goal
 
 pub returns : goal.returns
-returns c = record { other_side = other_side; no_id = no_id; byte_less = byte_less; byte_more = byte_more; flags_unknown = flags_unknown; flags_first = flags_first }
+unfolding front_of packet_of client_packet_at server_packet_at names_at name_item_at attributes_at string_at uint32_at hex
+returns c = record { other_side = refl; no_id = refl; byte_less = refl; byte_more = refl; flags_unknown = refl; flags_first = refl; flags_of_reply = refl; count_of_names = refl }

@@ -1,5 +1,8 @@
-use Rattle.sftp_wire.proofs.WorkedRows.{length_zero, length_most, length_beyond, length_cut}
+use Rattle.std.proofs.Common.{refl}
+use Rattle.sftp_wire.specs.Reading.{front_of}
+use Rattle.sftp_wire.specs.Rows.{hex}
 use Rattle.sftp_wire.proofs.rows.lengths.Goals as goal
 
 pub returns : goal.returns
-returns c = record { zero = length_zero; most = length_most; beyond = length_beyond; cut = length_cut }
+unfolding front_of hex
+returns c = record { zero = refl; most = refl; beyond = refl; cut = refl }
