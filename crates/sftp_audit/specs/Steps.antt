@@ -20,7 +20,7 @@ use Rattle.sftp_audit.specs.Walk.{reached}
 
 -- ---- the requests that are judged
 
--- whether the request's step has come; no reply is allowed to the others yet
+-- whether the request's step has come; no reply is allowed to the others yet, whatever the tables below say of them
 abbrev pub has_step : Ask → Bool
 has_step (Mkdir path attrs) = true
 has_step (Rmdir path) = true
@@ -136,16 +136,11 @@ abbrev pub refuses : CauseSet → Answer → Bool
 refuses causes (Status code message language) = list_any (λ cause. causes cause && allows cause code) every_cause
 refuses causes other = false
 
--- a status that says OK
-abbrev pub says_ok : Answer → Bool
-says_ok (Status code message language) = code == 0
-says_ok other = false
-
--- the answer of a request that no cause refuses
+-- the answer of a request that no cause refuses: a status that says OK
 abbrev pub answers : Tree → Ask → Answer → Bool
-answers t (Mkdir path attrs) answer = says_ok answer
-answers t (Rmdir path) answer = says_ok answer
-answers t other answer = false
+answers t (Mkdir path attrs) (Status code message language) = code == 0
+answers t (Rmdir path) (Status code message language) = code == 0
+answers t ask answer = false
 
 -- one of the causes that hold allows the answer, and nothing changes
 pub record Refuses (t : Tree) (ask : Ask) (answer : Answer) (after : Tree) : Type 0 where
