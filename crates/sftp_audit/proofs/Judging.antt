@@ -1,6 +1,7 @@
 -- The causes of a request as the code has them, and what a status code tells.
 use Rattle.std.proofs.Common.{◌≡◌, ℕ, Bool, true, false, ◌&&◌, ◌||◌, not, if◌then◌else◌, List, [], ◌∷◌, ◌++◌, length, refl, sym, ◌∙◌, ap, subst, Option, Some, None, nat_le, IsTrue, ◌⊎◌, inl, inr, Result, Ok, Err, arith}
 use Rattle.std.proofs.lemmas.Bool.Decides.{nat_tests}
+use Rattle.std.proofs.lemmas.Option.{same_Some}
 use Rattle.std.proofs.Math.Bool.{or-false}
 use Rattle.sftp_wire.specs.declared.attributes.Attrs.{Attrs}
 use Rattle.sftp_wire.specs.declared.packets.Ask.{Ask}
@@ -19,7 +20,7 @@ use Rattle.sftp_audit.specs.declared.trees.Cause.TheVariants.{BadPath, NoEntry, 
 use Rattle.sftp_audit.specs.Place.{Name, Place, parent, is_dot, is_dot_dot, is_good_path}
 use Rattle.sftp_audit.specs.Tree.{Names, Tree, IsKept, fits, node_at, with_node, without_node, is_directory, is_taken, has_entries, depth_fits}
 use Rattle.sftp_audit.specs.Walk.{reached, walk, meets, met, is_last, going_on, Meeting, enters, ends, fails, steps_of}
-use Rattle.sftp_audit.specs.Steps.{CauseSet, every_cause, allows, only, is_root, is_none, causes, plain_causes, by_path, causes_at, path_of, mkdir_causes, rmdir_causes, target, target_at, target_by, directory_owner, answers, Refuses, Does, Allowed}
+use Rattle.sftp_audit.specs.Steps.{CauseSet, every_cause, allows, only, is_root, is_none, causes, plain_causes, by_path, causes_at, path_of, mkdir_causes, rmdir_causes, target, target_at, target_by, directory_owner, has_step, answers, Refuses, Does, Allowed}
 use Rattle.sftp_audit.specs.Refusals.{holds, allow, at_mkdir, at_rmdir, Judges, status_code}
 use Rattle.sftp_audit.proofs.Limits.{fits-with_node, fits-without_node, kept-with_node, kept-without_node}
 
@@ -181,10 +182,12 @@ causes-rmdir t path place kept e =
 answered-code : (t : Tree) (ask : Ask) (code : ℕ) (message language : List ℕ) → IsTrue (answers t ask (Status code message language)) → code ≡ 0
 answered-code t (Mkdir path attrs) code message language e = grind (arith, nat_tests)
 answered-code t (Rmdir path) code message language e = grind (arith, nat_tests)
+answered-code t other code message language e = cc
 
-answered-zero : (t : Tree) (ask : Ask) (message language : List ℕ) → IsTrue (answers t ask (Status 0 message language))
-answered-zero t (Mkdir path attrs) message language = refl
-answered-zero t (Rmdir path) message language = refl
+pub answered-zero : (t : Tree) (ask : Ask) (message language : List ℕ) → IsTrue (has_step ask) → IsTrue (answers t ask (Status 0 message language))
+answered-zero t (Mkdir path attrs) message language judged = refl
+answered-zero t (Rmdir path) message language judged = refl
+answered-zero t other message language judged = judged
 
 -- a refusal, where a cause holds or the code says another thing than OK
 pub judges-refusal : (t : Tree) (ask : Ask) (code : ℕ) (s : CauseSet) (ok : Bool) → causes t ask ≡ s → ok ≡ allow s code → (is_none s ≡ true → code ≡ 0 → ⊥) → Judges t ask code ok t
@@ -198,9 +201,9 @@ judges-refusal t ask code s ok are is barred = record {
     refused h w = let a = ap (λ f. allow f code) are in cc
 
 -- a request that is done
-pub judges-done : (t : Tree) (ask : Ask) (code : ℕ) (s : CauseSet) (after : Tree) → causes t ask ≡ s → is_none s ≡ true → code ≡ 0 → after ≡ target t ask → Judges t ask code true after
-judges-done t ask code s after are none is changed = record {
-  yes = λ h message language. inr (record { free = ap is_none are ∙ none; answered = subst (λ n. IsTrue (answers t ask (Status n message language))) (sym is) (answered-zero t ask message language); changed = changed });
+pub judges-done : (t : Tree) (ask : Ask) (code : ℕ) (s : CauseSet) (after : Tree) → IsTrue (has_step ask) → causes t ask ≡ s → is_none s ≡ true → code ≡ 0 → after ≡ target t ask → Judges t ask code true after
+judges-done t ask code s after judged are none is changed = record {
+  yes = λ h message language. inr (record { free = ap is_none are ∙ none; answered = subst (λ n. IsTrue (answers t ask (Status n message language))) (sym is) (answered-zero t ask message language judged); changed = changed });
   no = λ h. cc;
   kept = λ h. cc;
 }
@@ -268,24 +271,27 @@ rmdir-target t after path place e changed = changed ∙ sym (target-at t (Rmdir 
 Step : Tree → Ask → Answer → Tree → Type 0
 Step t ask answer after = Refuses t ask answer after ⊎ Does t ask answer after
 
-step-from_judges : (t : Tree) (ask : Ask) (answer : Answer) (code : ℕ) (ok : Bool) (after : Tree) → code ≡ status_code answer → Judges t ask code ok after → IsTrue ok → Step t ask answer after
+step-from_judges : (t : Tree) (ask : Ask) (answer : Answer) (code : ℕ) (ok : Bool) (after : Tree) → Some code ≡ status_code answer → Judges t ask code ok after → IsTrue ok → Step t ask answer after
 unfolding Step
 step-from_judges t ask (Status k message language) code ok after is judged h =
-    subst (λ n. Refuses t ask (Status n message language) after ⊎ Does t ask (Status n message language) after) is (judged.yes h message language)
+    subst (λ n. Refuses t ask (Status n message language) after ⊎ Does t ask (Status n message language) after) (same_Some code k is) (judged.yes h message language)
+step-from_judges t ask other code ok after is judged h = absurd cc
 
-no_step-from_judges : (t : Tree) (ask : Ask) (answer : Answer) (code : ℕ) (ok : Bool) (after : Tree) → code ≡ status_code answer → Judges t ask code ok after → ok ≡ false → (other : Tree) → Step t ask answer other → ⊥
+no_step-from_judges : (t : Tree) (ask : Ask) (answer : Answer) (code : ℕ) (ok : Bool) (after : Tree) → Some code ≡ status_code answer → Judges t ask code ok after → ok ≡ false → (other : Tree) → Step t ask answer other → ⊥
 unfolding Step
 no_step-from_judges t ask (Status k message language) code ok after is judged h other step =
-    judged.no h message language other (subst (λ n. Refuses t ask (Status n message language) other ⊎ Does t ask (Status n message language) other) (sym is) step)
+    judged.no h message language other (subst (λ n. Refuses t ask (Status n message language) other ⊎ Does t ask (Status n message language) other) (sym (same_Some code k is)) step)
+no_step-from_judges t ask unlike code ok after is judged h other step = cc
 
-pub allowed-from_judges : (t : Tree) (request : Request) (reply : Reply) (ask : Ask) (code : ℕ) (ok : Bool) (after : Tree) → reply.id ≡ request.id → request.ask ≡ ask → code ≡ status_code reply.answer → Judges t ask code ok after → IsTrue ok → Allowed t request reply after
+pub allowed-from_judges : (t : Tree) (request : Request) (reply : Reply) (ask : Ask) (code : ℕ) (ok : Bool) (after : Tree) → reply.id ≡ request.id → IsTrue (has_step ask) → request.ask ≡ ask → Some code ≡ status_code reply.answer → Judges t ask code ok after → IsTrue ok → Allowed t request reply after
 unfolding Step
-allowed-from_judges t request reply ask code ok after same asked is judged h = record {
+allowed-from_judges t request reply ask code ok after same known asked is judged h = record {
+  judged = ap has_step asked ∙ known;
   same_id = same;
   step = subst (λ a. Step t a reply.answer after) (sym asked) (step-from_judges t ask reply.answer code ok after is judged h);
 }
 
-pub refused-from_judges : (t : Tree) (request : Request) (reply : Reply) (ask : Ask) (code : ℕ) (ok : Bool) (after : Tree) → request.ask ≡ ask → code ≡ status_code reply.answer → Judges t ask code ok after → ok ≡ false → (other : Tree) → Allowed t request reply other → ⊥
+pub refused-from_judges : (t : Tree) (request : Request) (reply : Reply) (ask : Ask) (code : ℕ) (ok : Bool) (after : Tree) → request.ask ≡ ask → Some code ≡ status_code reply.answer → Judges t ask code ok after → ok ≡ false → (other : Tree) → Allowed t request reply other → ⊥
 unfolding Step
 refused-from_judges t request reply ask code ok after asked is judged h other allowed =
     no_step-from_judges t ask reply.answer code ok after is judged h other (subst (λ a. Step t a reply.answer other) asked allowed.step)

@@ -44,8 +44,8 @@ module _ (apart : (p q : Packet) (x y : List ℕ) → HasSpelling p → HasSpell
   AreRecords-one [] others bytes are same = sym (no_events others bytes (ap length are.bytes_are) same)
   AreRecords-one (e ∷ es) [] bytes are same = no_events (e ∷ es) bytes (ap length same.bytes_are) are
   AreRecords-one (e ∷ es) (o ∷ os) bytes are same =
-      let first : Begins bytes (packet_of e) (flat_map event_text es) = record { spelled = are.spelled.0; bytes_are = are.bytes_are ∙ flat_map-cons event_text e es ∙ ap (λ (t : List ℕ). t ++ flat_map event_text es) (text_of_record e) } in
-      let second : Begins bytes (packet_of o) (flat_map event_text os) = record { spelled = same.spelled.0; bytes_are = same.bytes_are ∙ flat_map-cons event_text o os ∙ ap (λ (t : List ℕ). t ++ flat_map event_text os) (text_of_record o) } in
+      let first : Begins bytes (packet_of e) (flat_map event_text es) = record { spelled = are.spelled.0.spelled; bytes_are = are.bytes_are ∙ flat_map-cons event_text e es ∙ ap (λ (t : List ℕ). t ++ flat_map event_text es) (text_of_record e) } in
+      let second : Begins bytes (packet_of o) (flat_map event_text os) = record { spelled = same.spelled.0.spelled; bytes_are = same.bytes_are ∙ flat_map-cons event_text o os ∙ ap (λ (t : List ℕ). t ++ flat_map event_text os) (text_of_record o) } in
       let one = Begins-one bytes (packet_of e) (packet_of o) (flat_map event_text es) (flat_map event_text os) first second in
       let rest = AreRecords-one es os (flat_map event_text es) (record { spelled = are.spelled.1; bytes_are = refl }) (record { spelled = same.spelled.1; bytes_are = one.1 }) in
       let head = event_from_packet e o one.0 in

@@ -26,16 +26,16 @@ nothing_fits : FitsAttrs no_attributes
 nothing_fits = record { size = tt; owner = tt; permissions = tt; times = tt; extended = tt }
 
 mkdir_spelled : (id : ℕ) (path : List ℕ) → id < 2 ^ 32 → FitsString path → length (spelling (packet_of (mkdir id path))) ≤ 34000 → IsEvent (mkdir id path)
-mkdir_spelled id path small fits whole = record { fields = (small, (fits, nothing_fits)); whole = whole }
+mkdir_spelled id path small fits whole = record { spelled = record { fields = (small, (fits, nothing_fits)); whole = whole; handle = tt; canonical = refl }; judged = refl }
 
 rmdir_spelled : (id : ℕ) (path : List ℕ) → id < 2 ^ 32 → FitsString path → length (spelling (packet_of (rmdir id path))) ≤ 34000 → IsEvent (rmdir id path)
-rmdir_spelled id path small fits whole = record { fields = (small, fits); whole = whole }
+rmdir_spelled id path small fits whole = record { spelled = record { fields = (small, fits); whole = whole; handle = tt; canonical = refl }; judged = refl }
 
 empty : FitsString []
 empty = record { bytes_fit = tt; length_fits = lit< tt }
 
 status_spelled : (id code : ℕ) → id < 2 ^ 32 → code < 2 ^ 32 → length (spelling (packet_of (status id code))) ≤ 34000 → IsEvent (status id code)
-status_spelled id code small code_small whole = record { fields = (small, (code_small, empty, empty)); whole = whole }
+status_spelled id code small code_small whole = record { spelled = record { fields = (small, (code_small, empty, empty)); whole = whole; handle = tt; canonical = refl }; judged = refl }
 
 one : FitsString (codes "1")
 one = string_by (codes "1") refl (lit< tt)
@@ -51,11 +51,11 @@ extensions_fit = (
 
 init_spelled : HasSpelling (Init 3 [])
 unfolding spelling
-init_spelled = record { fields = (lit< tt, tt); whole = lit≤ tt }
+init_spelled = record { fields = (lit< tt, tt); whole = lit≤ tt; handle = tt; canonical = refl }
 
 version_spelled : HasSpelling (Version 3 server_extensions)
 unfolding spelling
-version_spelled = record { fields = (lit< tt, extensions_fit); whole = lit≤ tt }
+version_spelled = record { fields = (lit< tt, extensions_fit); whole = lit≤ tt; handle = tt; canonical = refl }
 
 events_spelled : AllByRecursion IsEvent (replied_backwards 4)
 unfolding spelling

@@ -1,5 +1,5 @@
 -- The end of a run is computed: the tree and the pairs decide it.
-use Rattle.std.proofs.Common.{◌≡◌, ◌==◌, ◌&&◌, ◌||◌, Bool, true, false, not, List, [], ◌∷◌, Option, Some, None, refl, sym, ap, eqb-true, eq-eqb, inl, inr, ◌⊎◌}
+use Rattle.std.proofs.Common.{◌≡◌, ◌==◌, ◌&&◌, ◌||◌, Bool, true, false, not, List, [], ◌∷◌, Option, Some, None, refl, sym, ap, ◌∙◌, eqb-true, eq-eqb, inl, inr, ◌⊎◌}
 use Rattle.std.specs.List.{list_any}
 use Rattle.sftp_wire.specs.declared.packets.Answer.{Answer}
 use Rattle.sftp_wire.specs.declared.packets.Answer.TheVariants.{Status}
@@ -7,10 +7,10 @@ use Rattle.sftp_wire.specs.declared.packets.Request.{Request}
 use Rattle.sftp_wire.specs.declared.packets.Reply.{Reply}
 use Rattle.sftp_audit.specs.declared.trees.Cause.{Cause}
 use Rattle.sftp_audit.specs.Tree.{Tree}
-use Rattle.sftp_audit.specs.Steps.{CauseSet, every_cause, allows, is_none, causes, refuses, answers, target, Allowed}
+use Rattle.sftp_audit.specs.Steps.{CauseSet, every_cause, allows, has_step, is_none, causes, refuses, answers, target, Allowed}
 use Rattle.sftp_audit.specs.Explained.{Run}
 
--- a step by its tests: whether the id is the request's, whether the reply refuses, whether no cause holds, and
+-- a step by its tests: whether the request is judged and the id is its, whether the reply refuses, whether no cause holds, and
 -- whether the reply is the request's answer
 abbrev pub chosen : Bool → Bool → Bool → Bool → Tree → Tree → Option Tree
 chosen true true none answered before after = Some before
@@ -20,7 +20,7 @@ chosen _ _ _ _ before after = None
 -- where a request and a reply lead, if the reply is allowed
 abbrev pub step_end : Tree → Request → Reply → Option Tree
 step_end t request reply =
-    chosen (reply.id == request.id) (refuses (causes t request.ask) reply.answer) (is_none (causes t request.ask)) (answers t request.ask reply.answer) t (target t request.ask)
+    chosen (has_step request.ask && reply.id == request.id) (refuses (causes t request.ask) reply.answer) (is_none (causes t request.ask)) (answers t request.ask reply.answer) t (target t request.ask)
 
 abbrev pub go_on : Option Tree → (Tree → Option Tree) → Option Tree
 go_on None rest = None
@@ -44,6 +44,7 @@ any_both p q (x ∷ xs) is = by (any_both p q xs) (p x) refl (q x) refl is
 -- a code that one of the causes allows says that there is one
 refused_by_one : (set : CauseSet) (answer : Answer) → refuses set answer ≡ true → is_none set ≡ false
 refused_by_one set (Status code message language) is = ap not (any_both set (λ cause. allows cause code) every_cause is)
+refused_by_one set other is = cc
 
 -- what the tests say of a step
 abbrev Tests : Bool → Bool → Bool → Bool → Tree → Tree → Tree → Type 0
@@ -67,19 +68,25 @@ chosen_by true false true false before after end apart tests = elim tests.1 [ in
 chosen_by true false false answered before after end apart tests = elim tests.1 [ inl a ↦ absurd (let f : false ≡ true = a.0 in cc) | inr b ↦ absurd (let f : false ≡ true = b.0 in cc) ]
 chosen_by false refused none answered before after end apart tests = absurd (let f : false ≡ true = tests.0 in cc)
 
+both_true : (a b : Bool) → (a && b) ≡ true → (a ≡ true) × (b ≡ true)
+both_true true b is = (refl, is)
+both_true false b is = absurd cc
+
 -- a step that is allowed leads where the tests say
 pub step_end-of_allowed : (t : Tree) (request : Request) (reply : Reply) (after : Tree) → Allowed t request reply after → step_end t request reply ≡ Some after
 step_end-of_allowed t request reply after a =
-    chosen_by (reply.id == request.id) (refuses (causes t request.ask) reply.answer) (is_none (causes t request.ask)) (answers t request.ask reply.answer) t (target t request.ask) after
+    chosen_by (has_step request.ask && reply.id == request.id) (refuses (causes t request.ask) reply.answer) (is_none (causes t request.ask)) (answers t request.ask reply.answer) t (target t request.ask) after
     (refused_by_one (causes t request.ask) reply.answer)
-    (eq-eqb reply.id request.id a.same_id, elim a.step [ inl r ↦ inl (r.cause, r.unchanged) | inr d ↦ inr (d.free, d.answered, d.changed) ])
+    (ap (λ b. b && reply.id == request.id) a.judged ∙ eq-eqb reply.id request.id a.same_id, elim a.step [ inl r ↦ inl (r.cause, r.unchanged) | inr d ↦ inr (d.free, d.answered, d.changed) ])
 
 -- and where they say that it leads, the step is allowed
 pub allowed-of_step_end : (t : Tree) (request : Request) (reply : Reply) (after : Tree) → step_end t request reply ≡ Some after → Allowed t request reply after
 allowed-of_step_end t request reply after e =
-    let tests = tests_of (reply.id == request.id) (refuses (causes t request.ask) reply.answer) (is_none (causes t request.ask)) (answers t request.ask reply.answer) t (target t request.ask) after e in
+    let tests = tests_of (has_step request.ask && reply.id == request.id) (refuses (causes t request.ask) reply.answer) (is_none (causes t request.ask)) (answers t request.ask reply.answer) t (target t request.ask) after e in
+    let both = both_true (has_step request.ask) (reply.id == request.id) tests.0 in
     record {
-      same_id = eqb-true reply.id request.id tests.0;
+      judged = both.0;
+      same_id = eqb-true reply.id request.id both.1;
       step = elim tests.1 [ inl r ↦ inl (record { cause = r.0; unchanged = r.1 }) | inr d ↦ inr (record { free = d.0; answered = d.1; changed = d.2 }) ];
     }
 

@@ -1,9 +1,7 @@
 -- Laws of steps and runs: a start and its replies fix the end, some reply is always allowed, and a session whose
 -- turns close runs each of its requests.
-use Rattle.std.proofs.Common.{◌≡◌, ◌==◌, ◌&&◌, ◌||◌, ℕ, suc, ◌^◌, ◌<◌, Bool, true, false, not, List, [], ◌∷◌, length, Option, Some, refl, ap, eq-eqb, inl, inr, lit<, lit≤}
+use Rattle.std.proofs.Common.{◌≡◌, ◌==◌, ◌&&◌, ◌||◌, ℕ, suc, ◌^◌, ◌<◌, Bool, true, false, not, List, [], ◌∷◌, length, Option, Some, refl, ap, eq-eqb, IsTrue, inl, inr, lit<, lit≤}
 use Rattle.std.specs.List.{list_any}
-use Rattle.sftp_wire.specs.declared.packets.Ask.{Ask}
-use Rattle.sftp_wire.specs.declared.packets.Ask.TheVariants.{Mkdir, Rmdir}
 use Rattle.sftp_wire.specs.declared.packets.Answer.TheVariants.{Status}
 use Rattle.sftp_wire.specs.declared.packets.Packet.TheVariants.{Reply as reply_packet}
 use Rattle.sftp_wire.specs.declared.packets.Request.{Request}
@@ -14,9 +12,10 @@ use Rattle.sftp_audit.specs.declared.trees.Cause.TheVariants.{BadPath, NoEntry, 
 use Rattle.sftp_audit.specs.declared.transcripts.Event.{Event}
 use Rattle.sftp_audit.specs.declared.transcripts.Event.TheVariants.{Asked, Replied}
 use Rattle.sftp_audit.specs.Tree.{Tree}
-use Rattle.sftp_audit.specs.Steps.{CauseSet, every_cause, allows, causes, answers, target, Allowed}
+use Rattle.sftp_audit.specs.Steps.{CauseSet, every_cause, allows, has_step, causes, target, Allowed}
 use Rattle.sftp_audit.specs.Explained.{Turn, closed, waiting, broken, after_asked, after_event, turn_after, next_reply, entries, settled, Matching, Explained}
 use Rattle.sftp_audit.specs.Laws.{IsAnswerable}
+use Rattle.sftp_audit.proofs.Judging.{answered-zero}
 use Rattle.sftp_audit.proofs.RunEnds.{step_end, step_end-of_allowed, run_end, run_end-of_run}
 
 -- ---- one end
@@ -79,14 +78,12 @@ unfolding spelling
 plain_spelled id code id_small code_small = record {
   fields = (id_small, (code_small, record { bytes_fit = tt; length_fits = lit< tt }, record { bytes_fit = tt; length_fits = lit< tt }));
   whole = lit≤ tt;
+  handle = tt;
+  canonical = refl;
 }
 
-ok_answers : (t : Tree) (ask : Ask) → answers t ask (Status 0 [] []) ≡ true
-ok_answers t (Mkdir path attrs) = refl
-ok_answers t (Rmdir path) = refl
-
-pub some_allowed : (t : Tree) (request : Request) → request.id < 2 ^ 32 → IsAnswerable t request
-some_allowed t request small = by (list_any (causes t request.ask) every_cause) refl
+pub some_allowed : (t : Tree) (request : Request) → request.id < 2 ^ 32 → IsTrue (has_step request.ask) → IsAnswerable t request
+some_allowed t request small judged = by (list_any (causes t request.ask) every_cause) refl
   where
     by : (b : Bool) → list_any (causes t request.ask) every_cause ≡ b → IsAnswerable t request
     by true one =
@@ -94,14 +91,14 @@ some_allowed t request small = by (list_any (causes t request.ask) every_cause) 
         record {
           reply = record { id = request.id; answer = Status found.0 [] [] };
           end = t;
-          allowed = record { same_id = refl; step = inl (record { cause = found.2; unchanged = refl }) };
+          allowed = record { judged = judged; same_id = refl; step = inl (record { cause = found.2; unchanged = refl }) };
           spelled = plain_spelled request.id found.0 small found.1;
         }
     by false none =
         record {
           reply = record { id = request.id; answer = Status 0 [] [] };
           end = target t request.ask;
-          allowed = record { same_id = refl; step = inr (record { free = ap not none; answered = ok_answers t request.ask; changed = refl }) };
+          allowed = record { judged = judged; same_id = refl; step = inr (record { free = ap not none; answered = answered-zero t request.ask [] [] judged; changed = refl }) };
           spelled = plain_spelled request.id 0 small (lit< tt);
         }
 

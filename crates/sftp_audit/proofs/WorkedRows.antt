@@ -8,7 +8,7 @@ use Rattle.sftp_audit.specs.Walk.{meets, walk, reached}
 use Rattle.sftp_audit.specs.Steps.{plain_causes, causes, target, Allowed}
 use Rattle.sftp_audit.specs.TreeFile.{picture, IsStart}
 use Rattle.sftp_audit.specs.Explained.{closed, waiting, broken, turn_after, next_reply, entries, settled, asked_before_reply, in_window, Explained}
-use Rattle.sftp_audit.specs.Rows.{blank, blank_bytes, with_a, with_a_and_b, with_a_and_b_bytes, replied_backwards, one_unanswered, one_answered_twice, made_twice, Unexplained}
+use Rattle.sftp_audit.specs.Rows.{blank, blank_bytes, with_a, with_a_and_b, with_a_and_b_bytes, replied_backwards, one_unanswered, one_answered_twice, made_twice, told_for_made, stat_of_nothing, Unexplained}
 use Rattle.sftp_audit.proofs.Turns.{Matching-from_ids}
 use Rattle.sftp_audit.proofs.RunEnds.{run_end, run-of_run_end, no_run-of_run_end}
 
@@ -94,6 +94,22 @@ absent_end = refl
 
 pub not_absent : Unexplained (made_twice 2)
 not_absent end e = no_run-of_run_end blank (settled (entries (made_twice 2))) absent_end end e.run
+
+-- ---- packets of other kinds
+
+told_end : run_end blank (settled (entries told_for_made)) ≡ None
+unfolding settled entries next_reply causes plain_causes target reached walk meets is_good_path components parts node_at with_node without_node has_entries fits
+told_end = refl
+
+pub other_reply : Unexplained told_for_made
+other_reply end e = no_run-of_run_end blank (settled (entries told_for_made)) told_end end e.run
+
+stat_end : run_end blank (settled (entries stat_of_nothing)) ≡ None
+unfolding settled entries next_reply
+stat_end = refl
+
+pub other_request : Unexplained stat_of_nothing
+other_request end e = no_run-of_run_end blank (settled (entries stat_of_nothing)) stat_end end e.run
 
 -- ---- the blank tree and its file
 

@@ -1,8 +1,8 @@
 -- The steps by which a transcript file is read from left to right. This profile's own.
 use Rattle.std.specs.Prelude.{◌≡◌, ◌==◌, ℕ, ◌≤◌, List, ◌∷◌, ◌++◌, Option, Some, None, Result, MatchResult, if◌then◌else◌}
-use Rattle.sftp_wire.specs.declared.errors.Fault.TheVariants.{Length}
+use Rattle.sftp_wire.specs.declared.errors.Fault.TheVariants.{Length, WrongType}
 use Rattle.sftp_wire.specs.declared.errors.WireError.{WireError}
-use Rattle.sftp_wire.specs.declared.errors.WireError.TheVariants.{TooLong, Unreadable, NoMemory as wire_no_memory}
+use Rattle.sftp_wire.specs.declared.errors.WireError.TheVariants.{TooLong, NotCanonical, Unreadable, NoMemory as wire_no_memory}
 use Rattle.sftp_wire.specs.declared.packets.Packet.{Packet}
 use Rattle.sftp_wire.specs.declared.packets.Packet.TheVariants.{Init, Version}
 use Rattle.sftp_wire.specs.declared.packets.Side.{Side}
@@ -49,4 +49,5 @@ GivesOnly P result = MatchResult result P (λ e. e ≡ NoMemory)
 abbrev pub unreadable_at : ℕ → WireError → TranscriptError
 unreadable_at number wire_no_memory = NoMemory
 unreadable_at number TooLong = Wire Length number
+unreadable_at number NotCanonical = Wire WrongType number
 unreadable_at number (Unreadable fault place) = Wire fault number

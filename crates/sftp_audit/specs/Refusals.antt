@@ -1,5 +1,5 @@
 -- Sets of causes as the code has them, and what is told of a request by its code alone.
-use Rattle.std.specs.Prelude.{◌≡◌, ◌&&◌, not, ℕ, Bool, false, List, length, nat_le, ◌⊎◌, IsTrue}
+use Rattle.std.specs.Prelude.{◌≡◌, ◌&&◌, not, ℕ, Bool, false, List, length, nat_le, Option, Some, None, ◌⊎◌, IsTrue}
 use Rattle.std.specs.List.{list_any}
 use Rattle.sftp_wire.specs.declared.packets.Ask.{Ask}
 use Rattle.sftp_wire.specs.declared.packets.Answer.{Answer}
@@ -46,8 +46,9 @@ at_rmdir names place = record no_causes {
 }
 
 -- the code of a status
-abbrev pub status_code : Answer → ℕ
-status_code (Status code message language) = code
+abbrev pub status_code : Answer → Option ℕ
+status_code (Status code message language) = Some code
+status_code other = None
 
 -- that `ok` tells whether a status of this code is allowed, and that the tree has changed as it says
 pub record Judges (t : Tree) (ask : Ask) (code : ℕ) (ok : Bool) (after : Tree) : Type 0 where

@@ -1,7 +1,7 @@
 -- What the worked rows name: trees, events, and the sessions made of them.
 use Rattle.std.specs.Prelude.{ℕ, List, [], ◌∷◌, ◌++◌, codes}
-use Rattle.sftp_wire.specs.declared.packets.Ask.TheVariants.{Mkdir, Rmdir}
-use Rattle.sftp_wire.specs.declared.packets.Answer.TheVariants.{Status}
+use Rattle.sftp_wire.specs.declared.packets.Ask.TheVariants.{Mkdir, Rmdir, Stat}
+use Rattle.sftp_wire.specs.declared.packets.Answer.TheVariants.{Status, Data}
 use Rattle.sftp_wire.specs.Rows.{hex, no_attributes, version_bytes}
 use Rattle.sftp_audit.specs.declared.trees.Node.{Node}
 use Rattle.sftp_audit.specs.declared.trees.Node.TheVariants.{Dir}
@@ -51,9 +51,17 @@ mkdir id path = Asked (record { id = id; ask = Mkdir path no_attributes })
 abbrev pub rmdir : ℕ → List ℕ → Event
 rmdir id path = Asked (record { id = id; ask = Rmdir path })
 
+-- a request that is not judged yet
+abbrev pub stat : ℕ → List ℕ → Event
+stat id path = Asked (record { id = id; ask = Stat path })
+
 -- a reply with a code, and no texts
 abbrev pub status : ℕ → ℕ → Event
 status id code = Replied (record { id = id; answer = Status code [] [] })
+
+-- a reply with bytes of a file
+abbrev pub told : ℕ → List ℕ → Event
+told id bytes = Replied (record { id = id; answer = Data bytes })
 
 -- ---- sessions
 
@@ -76,6 +84,14 @@ one_answered_twice = three_asked ++ status 3 4 ∷ status 2 0 ∷ status 1 0 ∷
 -- the same directory, asked for twice and in two spellings; the second is refused with this code
 abbrev pub made_twice : ℕ → List Event
 made_twice code = mkdir 1 (codes "/a") ∷ mkdir 2 (codes "a/.") ∷ status 2 code ∷ status 1 0 ∷ []
+
+-- a directory is asked for, and the reply has bytes of a file
+abbrev pub told_for_made : List Event
+told_for_made = mkdir 1 (codes "/a") ∷ told 1 (codes "a") ∷ []
+
+-- a request that is not judged yet, about nothing, with the code that says so
+abbrev pub stat_of_nothing : List Event
+stat_of_nothing = stat 1 (codes "/a") ∷ status 1 2 ∷ []
 
 -- the transcript file of a session without a request: the opening, an INIT of version 3, and the VERSION
 abbrev pub handshake_bytes : List ℕ

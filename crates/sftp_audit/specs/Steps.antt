@@ -18,6 +18,14 @@ use Rattle.sftp_audit.specs.Place.{Place}
 use Rattle.sftp_audit.specs.Tree.{Tree, node_at, with_node, without_node, is_directory, is_taken, has_entries, fits}
 use Rattle.sftp_audit.specs.Walk.{reached}
 
+-- ---- the requests that are judged
+
+-- whether the request's step has come; no reply is allowed to the others yet, whatever the tables below say of them
+abbrev pub has_step : Ask → Bool
+has_step (Mkdir path attrs) = true
+has_step (Rmdir path) = true
+has_step other = false
+
 -- ---- causes, as sets of them
 
 abbrev pub CauseSet : Type 0
@@ -70,11 +78,13 @@ rmdir_causes t place _ = false
 abbrev pub causes_at : Tree → Ask → Place → CauseSet
 causes_at t (Mkdir path attrs) place = mkdir_causes t place
 causes_at t (Rmdir path) place = rmdir_causes t place
+causes_at t other place = λ cause. false
 
 -- the path of a request
 abbrev pub path_of : Ask → List ℕ
 path_of (Mkdir path attrs) = path
 path_of (Rmdir path) = path
+path_of other = []
 
 -- a path that leads nowhere has that one cause
 abbrev pub by_path : Result Place Cause → (Place → CauseSet) → CauseSet
@@ -103,6 +113,7 @@ directory_owner t attrs = record {
 abbrev pub target_at : Tree → Ask → Place → Tree
 target_at t (Mkdir path attrs) place = record t { names = with_node t.names place (Dir (directory_owner t attrs)) }
 target_at t (Rmdir path) place = record t { names = without_node t.names place }
+target_at t other place = t
 
 abbrev pub target_by : Tree → Result Place Cause → (Place → Tree) → Tree
 target_by t (Ok place) at = at place
@@ -123,11 +134,13 @@ causes t ask cause = plain_causes t ask cause
 -- a status with a code that one of the causes allows
 abbrev pub refuses : CauseSet → Answer → Bool
 refuses causes (Status code message language) = list_any (λ cause. causes cause && allows cause code) every_cause
+refuses causes other = false
 
 -- the answer of a request that no cause refuses: a status that says OK
 abbrev pub answers : Tree → Ask → Answer → Bool
 answers t (Mkdir path attrs) (Status code message language) = code == 0
 answers t (Rmdir path) (Status code message language) = code == 0
+answers t ask answer = false
 
 -- one of the causes that hold allows the answer, and nothing changes
 pub record Refuses (t : Tree) (ask : Ask) (answer : Answer) (after : Tree) : Type 0 where
@@ -140,7 +153,8 @@ pub record Does (t : Tree) (ask : Ask) (answer : Answer) (after : Tree) : Type 0
   pub answered : IsTrue (answers t ask answer)
   pub changed : after ≡ target t ask
 
--- the reply carries the request's number, and refuses or does what was asked
+-- the request is one that is judged, and the reply carries its number, and refuses or does what was asked
 pub record Allowed (t : Tree) (request : Request) (reply : Reply) (after : Tree) : Type 0 where
+  pub judged : IsTrue (has_step request.ask)
   pub same_id : reply.id ≡ request.id
   pub step : Refuses t request.ask reply.answer after ⊎ Does t request.ask reply.answer after

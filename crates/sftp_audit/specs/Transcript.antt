@@ -1,6 +1,6 @@
 -- Recorded sessions as bytes: the transcript file. This profile's own; the packets are those of
 -- draft-ietf-secsh-filexfer-02, section 4 on.
-use Rattle.std.specs.Prelude.{◌≡◌, ℕ, ◌≤◌, List, ◌∷◌, ◌++◌, codes, Result, MatchResult}
+use Rattle.std.specs.Prelude.{◌≡◌, ℕ, ◌≤◌, Bool, true, List, ◌∷◌, ◌++◌, codes, Result, MatchResult, IsTrue}
 use Rattle.std.specs.Global.{Vec}
 use Rattle.std.specs.List.{flat_map, AllByRecursion}
 use Rattle.sftp_wire.specs.declared.packets.Packet.{Packet}
@@ -10,6 +10,7 @@ use Rattle.sftp_audit.specs.declared.errors.TranscriptError.{TranscriptError}
 use Rattle.sftp_audit.specs.declared.errors.TranscriptError.TheVariants.{NoMemory}
 use Rattle.sftp_audit.specs.declared.transcripts.Event.{Event}
 use Rattle.sftp_audit.specs.declared.transcripts.Event.TheVariants.{Asked, Replied}
+use Rattle.sftp_audit.specs.Steps.{has_step}
 
 -- `SFTPTR01`
 abbrev pub transcript_opening : List ℕ
@@ -25,8 +26,15 @@ abbrev pub event_text : Event → List ℕ
 event_text (Asked request) = 67 ∷ spelling (request_packet request)
 event_text (Replied reply) = 83 ∷ spelling (reply_packet reply)
 
-abbrev pub IsEvent : Event → Type 0
-IsEvent event = HasSpelling (packet_of event)
+-- a reply, or a request whose step has come
+abbrev pub is_judged : Event → Bool
+is_judged (Asked request) = has_step request.ask
+is_judged (Replied reply) = true
+
+-- what an event of a transcript file may be; the other requests are not read yet
+pub record IsEvent (event : Event) : Type 0 where
+  pub spelled : HasSpelling (packet_of event)
+  pub judged : IsTrue (is_judged event)
 
 -- the events, one record after the other
 pub record AreRecords (events : List Event) (bytes : List ℕ) : Type 0 where

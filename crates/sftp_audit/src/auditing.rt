@@ -31,8 +31,8 @@ pub struct Accepted {
 ///
 /// # Errors
 ///
-/// `Tree` where the tree file is none, `Transcript` where the transcript file is none or holds packets that
-/// have not come yet, `Refused` where the session is not explained by the tree, and `NoMemory` where memory
+/// `Tree` where the tree file is none, `Transcript` where the transcript file is none or holds a request that
+/// cannot be judged yet, `Refused` where the session is not explained by the tree, and `NoMemory` where memory
 /// runs out, in whatever part; no other refusal carries a want of memory inside.
 pub fn audit(alloc: Global, tree: &[u8], transcript: &[u8]) -> Result<Accepted, AuditError>
     // What is accepted accounts for a run, and what is given back is the tree where it ends.
@@ -53,3 +53,6 @@ pub fn audit(alloc: Global, tree: &[u8], transcript: &[u8]) -> Result<Accepted, 
     let tree = write(alloc, &state)?;
     Ok(Accepted { tree, requests })
 }
+
+#[cfg(test)]
+mod tests;

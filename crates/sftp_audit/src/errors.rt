@@ -88,7 +88,7 @@ pub enum TranscriptError {
     Start {
         record: u64,
     },
-    /// The packet cannot be read.
+    /// The packet cannot be read, or is a request that cannot be judged yet.
     #[error("record {record}: Wire {fault}")]
     Wire {
         fault: sftp_wire::Fault,

@@ -1,15 +1,18 @@
 //! Transcript files: the recorded bytes of a session. This profile's own; the packets in them are those of
 //! draft-ietf-secsh-filexfer-02, section 4 on.
-ghost use Rattle.std.specs.Prelude.{◌≡◌, ℕ, List, ◌++◌, ◌<◌, length, IfOk};
+ghost use Rattle.std.specs.Prelude.{◌≡◌, ℕ, List, ◌++◌, ◌<◌, length, IfOk, IfErr, IsTrue, false};
 ghost use Rattle.sftp_wire.specs.declared.packets.Packet.{Packet};
 ghost use Rattle.sftp_wire.specs.Spelling.{spelling, HasSpelling, side_of};
 ghost use Rattle.sftp_audit.specs.declared.transcripts.Event.{Event};
-ghost use Rattle.sftp_audit.specs.Transcript.{transcript_opening, event_text, IsEvent, AreRecords, IsRecord, GivesRecorded};
+ghost use Rattle.sftp_audit.specs.declared.transcripts.Event.TheVariants.{Asked};
+ghost use Rattle.sftp_audit.specs.Steps.{has_step};
+ghost use Rattle.sftp_audit.specs.Transcript.{transcript_opening, event_text, is_judged, IsEvent, AreRecords, IsRecord, GivesRecorded};
 ghost use Rattle.sftp_audit.specs.Records.{side_named, unreadable_at, Begins, BeginsInit, BeginsVersion, GivesOnly};
 
 use crate::errors::TranscriptError;
+use crate::steps::has_step;
 use crate::transcripts::Event;
-use sftp_wire::{Fault, Packet, Side, WireError, front};
+use sftp_wire::{Fault, Packet, Request, Side, WireError, front};
 use std::alloc::Global;
 
 /// What a transcript file begins with.
@@ -34,7 +37,8 @@ const PROTOCOL_VERSION: u32 = 3;
 ///   VERSION 3 from the server, or the file ends before one of them begins, or a later record is an INIT or
 ///   a VERSION.
 /// - `Direction` where the byte before a packet is neither `C` nor `S`.
-/// - `Wire` where a packet cannot be read.
+/// - `Wire` where a packet cannot be read; its fault is `WrongType` where the packet is a request that cannot be
+///   judged yet.
 /// - `Truncated` where the file ends inside a record.
 /// - `NoMemory` where memory runs out.
 pub fn read_events(alloc: Global, bytes: &[u8]) -> Result<Vec<Event>, TranscriptError>
@@ -111,10 +115,24 @@ fn take_event(alloc: Global, bytes: &[u8], number: u64) -> Result<(Event, &[u8])
 {
     let (packet, rest) = take_record(alloc, bytes, number)?;
     match packet {
-        Packet::Request(request) => Ok((Event::Asked(request), rest)),
+        Packet::Request(request) => Ok((asked(request, number)?, rest)),
         Packet::Reply(reply) => Ok((Event::Replied(reply), rest)),
         _ => Err(TranscriptError::Start { record: number }),
     }
+}
+
+/// The event of a request, which cannot be read where its step has not come.
+fn asked(request: Request, number: u64) -> Result<Event, TranscriptError>
+    ensures found { IfOk result (λ event. (event ≡ Asked request) × IsTrue (is_judged event)) }
+    ensures none { IfErr result (λ _. has_step request.ask ≡ false) }
+{
+    if !has_step(&request.ask) {
+        return Err(TranscriptError::Wire {
+            fault: Fault::WrongType,
+            record: number,
+        });
+    }
+    Ok(Event::Asked(request))
 }
 
 /// The packet of the record in front, and what stands behind it. `Start` where no byte is left.
@@ -159,8 +177,8 @@ fn take_packet(
     }
 }
 
-/// Why the packet of a record could not be read. `front` never says `TooLong`, which would be a fault of the
-/// packet's length.
+/// Why the packet of a record could not be read. `front` never says `TooLong` or `NotCanonical`, which would be
+/// faults of the packet's length and of its type.
 fn unreadable(error: WireError, number: u64) -> TranscriptError
     ensures { result ≡ unreadable_at number error }
 {
@@ -168,6 +186,10 @@ fn unreadable(error: WireError, number: u64) -> TranscriptError
         WireError::NoMemory => TranscriptError::NoMemory,
         WireError::TooLong => TranscriptError::Wire {
             fault: Fault::Length,
+            record: number,
+        },
+        WireError::NotCanonical => TranscriptError::Wire {
+            fault: Fault::WrongType,
             record: number,
         },
         WireError::Unreadable { fault, .. } => TranscriptError::Wire {

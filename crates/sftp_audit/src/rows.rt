@@ -5,7 +5,7 @@ ghost use Rattle.sftp_audit.specs.TreeFile.{picture, IsStart};
 ghost use Rattle.sftp_audit.specs.Transcript.{IsRecord};
 ghost use Rattle.sftp_audit.specs.Steps.{Allowed};
 ghost use Rattle.sftp_audit.specs.Explained.{Explained};
-ghost use Rattle.sftp_audit.specs.Rows.{blank, blank_bytes, with_a, with_a_and_b, with_a_and_b_bytes, handshake_bytes, replied_backwards, replied_backwards_bytes, one_unanswered, one_answered_twice, made_twice, Unexplained};
+ghost use Rattle.sftp_audit.specs.Rows.{blank, blank_bytes, with_a, with_a_and_b, with_a_and_b_bytes, handshake_bytes, replied_backwards, replied_backwards_bytes, one_unanswered, one_answered_twice, made_twice, told_for_made, stat_of_nothing, Unexplained};
 
 /// The 37 bytes of the blank tree's file, from which a run starts at the blank tree.
 pub fn blank_start()
@@ -46,4 +46,11 @@ pub fn wrong_turns()
 pub fn made_twice_refused()
     ensures taken { Explained Allowed blank (made_twice 4) with_a }
     ensures not_absent { Unexplained (made_twice 2) }
+{}
+
+/// No reply of another kind explains a request to make a directory, and none at all a request that cannot be
+/// judged yet.
+pub fn other_kinds()
+    ensures other_reply { Unexplained told_for_made }
+    ensures other_request { Unexplained stat_of_nothing }
 {}

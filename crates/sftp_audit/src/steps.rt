@@ -34,10 +34,13 @@ impl Tree {
         if reply.id != request.id {
             return Ok(false);
         }
-        let code = status_code(&reply.answer);
+        let Some(code) = status_code(&reply.answer) else {
+            return Ok(false);
+        };
         match &request.ask {
             Ask::Mkdir { path, attrs } => self.accept_mkdir(path, attrs, code),
             Ask::Rmdir { path } => self.accept_rmdir(path, code),
+            _ => Ok(false),
         }
     }
 
@@ -99,12 +102,20 @@ impl Tree {
 }
 
 /// The code of a status.
-fn status_code(answer: &Answer) -> u32
+fn status_code(answer: &Answer) -> Option<u32>
     ensures { result ≡ status_code answer.now }
 {
     match answer {
-        Answer::Status { code, .. } => *code,
+        Answer::Status { code, .. } => Some(*code),
+        _ => None,
     }
+}
+
+/// Whether the request's step has come: the others cannot be judged yet.
+pub fn has_step(ask: &Ask) -> bool
+    ensures { result ≡ spec.has_step ask.now }
+{
+    matches!(ask, Ask::Mkdir { .. } | Ask::Rmdir { .. })
 }
 
 #[cfg(test)]

@@ -27,6 +27,11 @@ const MAKE_A_B: &[u8] = b"C\0\0\0\x11\x0e\0\0\0\x02\0\0\0\x04/a/b\0\0\0\0";
 
 const MAKE_A_DOT: &[u8] = b"C\0\0\0\x10\x0e\0\0\0\x02\0\0\0\x03a/.\0\0\0\0";
 
+const STAT_A: &[u8] = b"C\0\0\0\x0b\x11\0\0\0\x01\0\0\0\x02/a";
+
+/// A DATA reply to the first request.
+const DATA: &[u8] = b"S\0\0\0\x0b\x67\0\0\0\x01\0\0\0\x02hi";
+
 const REMOVE_A: &[u8] = b"C\0\0\0\x0b\x0f\0\0\0\x03\0\0\0\x02/a";
 
 /// The codes of STATUS.
@@ -204,6 +209,18 @@ fn refuses_sessions(rt: HostRuntime) -> Result<(), Fail> {
     Ok(())
 }
 
+/// A reply that no request of its kind gets is a refusal and no fault of the transcript.
+#[test]
+fn refuses_a_reply_of_another_kind(rt: HostRuntime) -> Result<(), Fail> {
+    let folder = "test_other_reply";
+    start(&rt, folder)?;
+    let transcript = joined(rt.alloc(), &[OPENING, MAKE_A, DATA])?;
+    let outcome = audit_in(&rt, folder, BLANK, transcript.as_slice())?;
+    expect(&rt, &outcome, 1, "refused record 4: NotAllowed\n", "");
+    fs::remove_dir_all(&rt, folder)?;
+    Ok(())
+}
+
 /// `a/.` is `/a` if that is a directory, and else nothing: a reply to its MKDIR depends on which
 /// request the server did first.
 #[test]
@@ -237,6 +254,16 @@ fn names_what_is_wrong_with_the_files(rt: HostRuntime) -> Result<(), Fail> {
         2,
         "",
         "sftpv3: transcript: record 2: Truncated\n",
+    );
+    // A request that cannot be judged yet.
+    let transcript = joined(rt.alloc(), &[OPENING, STAT_A])?;
+    let outcome = audit_in(&rt, folder, BLANK, transcript.as_slice())?;
+    expect(
+        &rt,
+        &outcome,
+        2,
+        "",
+        "sftpv3: transcript: record 3: Wire Type\n",
     );
     fs::remove_dir_all(&rt, folder)?;
     Ok(())

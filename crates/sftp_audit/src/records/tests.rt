@@ -159,11 +159,18 @@ fn a_session_begins_once(rt: HostRuntime) {
 
 #[test]
 fn a_packet_that_cannot_be_read_is_a_fault_of_its_record(rt: HostRuntime) {
-    // OPEN, a type that is not read, and a length of 0.
+    // A type that no packet has, an OPEN without its attributes, and a length of 0.
+    assert_eq!(rt;
+        refusal(&rt, &changed(33, 21)),
+        Some(TranscriptError::Wire {
+            fault: Fault::WrongType,
+            record: 3
+        })
+    );
     assert_eq!(rt;
         refusal(&rt, &changed(33, 3)),
         Some(TranscriptError::Wire {
-            fault: Fault::WrongType,
+            fault: Fault::Short,
             record: 3
         })
     );
@@ -174,4 +181,71 @@ fn a_packet_that_cannot_be_read_is_a_fault_of_its_record(rt: HostRuntime) {
             record: 3
         })
     );
+}
+
+/// What the file is refused for where this is the third record and the last.
+fn third_refusal(rt: &HostRuntime, record: &[u8]) -> Result<Option<TranscriptError>, Fail> {
+    let mut file = Vec::from_slice(rt.alloc(), &FILE[..28])?;
+    file.extend_from_slice(record)?;
+    Ok(refusal(rt, file.as_slice()))
+}
+
+#[test]
+fn a_request_that_cannot_be_judged_is_a_fault_of_its_record(rt: HostRuntime) -> Result<(), Fail> {
+    let open = &[
+        0x43, 0x00, 0x00, 0x00, 0x13, 0x03, 0x00, 0x00, 0x00, 0x01, // OPEN of "/a" to read
+        0x00, 0x00, 0x00, 0x02, 0x2f, 0x61, 0x00, 0x00, 0x00, 0x01, 0x00, 0x00, 0x00, 0x00,
+    ];
+    let remove = &[
+        0x43, 0x00, 0x00, 0x00, 0x0b, 0x0d, 0x00, 0x00, 0x00, 0x01, // REMOVE of "/a"
+        0x00, 0x00, 0x00, 0x02, 0x2f, 0x61,
+    ];
+    let extended = &[
+        0x43, 0x00, 0x00, 0x00, 0x0a, 0xc8, 0x00, 0x00, 0x00, 0x01, // EXTENDED, named "x"
+        0x00, 0x00, 0x00, 0x01, 0x78,
+    ];
+    for record in [open.as_slice(), remove.as_slice(), extended.as_slice()] {
+        assert_eq!(rt;
+            third_refusal(&rt, record)?,
+            Some(TranscriptError::Wire {
+                fault: Fault::WrongType,
+                record: 3
+            })
+        );
+    }
+    Ok(())
+}
+
+#[test]
+fn a_later_request_is_a_fault_of_its_own_record(rt: HostRuntime) -> Result<(), Fail> {
+    let mut file = Vec::from_slice(rt.alloc(), &FILE)?;
+    file.extend_from_slice(&[
+        0x43, 0x00, 0x00, 0x00, 0x0b, 0x0d, 0x00, 0x00, 0x00, 0x02, // REMOVE of "/a"
+        0x00, 0x00, 0x00, 0x02, 0x2f, 0x61,
+    ])?;
+    assert_eq!(rt;
+        refusal(&rt, file.as_slice()),
+        Some(TranscriptError::Wire {
+            fault: Fault::WrongType,
+            record: 5
+        })
+    );
+    Ok(())
+}
+
+#[test]
+fn replies_of_every_kind_are_read(rt: HostRuntime) -> Result<(), Fail> {
+    let mut file = Vec::from_slice(rt.alloc(), &FILE[..48])?;
+    file.extend_from_slice(&[
+        0x53, 0x00, 0x00, 0x00, 0x0a, 0x66, 0x00, 0x00, 0x00, 0x01, // HANDLE
+        0x00, 0x00, 0x00, 0x01, 0x68, 0x53, 0x00, 0x00, 0x00, 0x0a, 0x67, 0x00, 0x00, 0x00, 0x01, // DATA
+        0x00, 0x00, 0x00, 0x01, 0x68, 0x53, 0x00, 0x00, 0x00, 0x09, 0x68, 0x00, 0x00, 0x00, 0x01, // NAME
+        0x00, 0x00, 0x00, 0x00, 0x53, 0x00, 0x00, 0x00, 0x09, 0x69, 0x00, 0x00, 0x00, 0x01, // ATTRS
+        0x00, 0x00, 0x00, 0x00, 0x53, 0x00, 0x00, 0x00, 0x05, 0xc9, 0x00, 0x00, 0x00, 0x01, // EXTENDED_REPLY
+    ])?;
+    let events = read_events(rt.alloc(), file.as_slice())
+        .ok()
+        .ok_or("refused")?;
+    assert_eq!(rt; events.len(), 6);
+    Ok(())
 }

@@ -1,7 +1,7 @@
 //! Tests of what a tree allows.
 use crate::paths::Place;
 use crate::trees::{Node, Owner, Tree};
-use sftp_wire::{Answer, Ask, Attrs, ByteString, Reply, Request};
+use sftp_wire::{Answer, Ask, Attrs, ByteString, Names, Reply, Request};
 use std::alloc::{AllocError, Global};
 use std::collections::BTreeMap;
 use std::process::Abort;
@@ -20,18 +20,22 @@ fn bare(alloc: Global) -> Result<Tree, Fail> {
     Ok(Tree::from_parts(names, Place::root(alloc), 1000, 100))
 }
 
-/// To make a directory, with nothing said of it.
-fn mkdir(alloc: Global, path: &[u8]) -> Result<Ask, AllocError> {
-    let attrs = Attrs {
+/// Nothing is said.
+fn no_attributes() -> Attrs {
+    Attrs {
         size: None,
         owner: None,
         permissions: None,
         times: None,
         extended: None,
-    };
+    }
+}
+
+/// To make a directory, with nothing said of it.
+fn mkdir(alloc: Global, path: &[u8]) -> Result<Ask, AllocError> {
     Ok(Ask::Mkdir {
         path: ByteString::from_slice(alloc, path)?,
-        attrs,
+        attrs: no_attributes(),
     })
 }
 
@@ -52,6 +56,12 @@ fn allows(alloc: Global, tree: &mut Tree, ask: Ask, id: u32, code: u32) -> Resul
         language,
     };
     Ok(tree.accept(&Request { id: 7, ask }, &Reply { id, answer })?)
+}
+
+/// Whether the tree allows the answer to MKDIR of `/a`.
+fn answers_mkdir(alloc: Global, tree: &mut Tree, answer: Answer) -> Result<bool, Fail> {
+    let ask = mkdir(alloc, b"/a".as_slice())?;
+    Ok(tree.accept(&Request { id: 7, ask }, &Reply { id: 7, answer })?)
 }
 
 /// Makes directories.
@@ -124,6 +134,45 @@ fn makes_a_directory_once(rt: HostRuntime) -> Result<(), Fail> {
         cannot_make(&rt, alloc, &mut tree, path, [4].as_slice())?;
     }
     assert_eq!(rt; tree.names().len(), 2);
+    Ok(())
+}
+
+#[test]
+fn only_a_status_answers_mkdir(rt: HostRuntime) -> Result<(), Fail> {
+    let alloc = rt.alloc();
+    let mut tree = bare(alloc)?;
+    let handle = Answer::Handle(ByteString::from_slice(alloc, b"h".as_slice())?);
+    assert!(rt; !answers_mkdir(alloc, &mut tree, handle)?);
+    let data = Answer::Data(ByteString::new(Vec::new(alloc)));
+    assert!(rt; !answers_mkdir(alloc, &mut tree, data)?);
+    let names = Answer::Name(Names::new(Vec::new(alloc)));
+    assert!(rt; !answers_mkdir(alloc, &mut tree, names)?);
+    let attrs = Answer::Attrs(no_attributes());
+    assert!(rt; !answers_mkdir(alloc, &mut tree, attrs)?);
+    let extended = Answer::Extended(ByteString::new(Vec::new(alloc)));
+    assert!(rt; !answers_mkdir(alloc, &mut tree, extended)?);
+    assert_eq!(rt; tree.names().len(), 1);
+    Ok(())
+}
+
+/// No reply is allowed to a request that cannot be judged yet, a refusal no more than another.
+#[test]
+fn nothing_answers_other_requests(rt: HostRuntime) -> Result<(), Fail> {
+    let alloc = rt.alloc();
+    let mut tree = bare(alloc)?;
+    for code in 0..10 {
+        let path = ByteString::from_slice(alloc, b"/x".as_slice())?;
+        assert!(rt;
+            !allows(alloc, &mut tree, Ask::Remove { path }, 7, code)?,
+            "code {code}"
+        );
+        let path = ByteString::from_slice(alloc, b"/x/y".as_slice())?;
+        assert!(rt;
+            !allows(alloc, &mut tree, Ask::Stat { path }, 7, code)?,
+            "code {code}"
+        );
+    }
+    assert_eq!(rt; tree.names().len(), 1);
     Ok(())
 }
 

@@ -1,4 +1,4 @@
-use Rattle.std.proofs.Common.{Ok, Err}
+use Rattle.std.proofs.Common.{refl, Ok, Err}
 use Rattle.sftp_wire.specs.declared.packets.Ask.TheVariants.{Mkdir}
 use Rattle.sftp_audit.specs.Refusals.{holds}
 use Rattle.sftp_audit.proofs.Judging.{leads, judges-error, judges-refusal, judges-done, barred-by, free-of, mkdir-set, mkdir-keeps, mkdir-target}
@@ -21,4 +21,4 @@ put-requires c =
 pub returns-clause-ok : goal.returns-clause-ok
 returns-clause-ok c =
     let found = leads c.args.self.now c.as_slice.result.now c.args.path.now c.in_ok-place.field-0 (Ok c.in-Ok.place) c.in_ok-place.ensures c.as_slice.ensures c.in-Ok.is in
-    judges-done c.args.self.now (Mkdir c.args.path.now c.args.attrs.now) c.args.code (holds c.of_mkdir-causes.result) c.put.new.self (mkdir-set c.args.self.now c.args.path.now c.args.attrs.now c.in-Ok.place c.of_mkdir-causes.result c.names.result.now.entries c.names.ensures.kept found c.of_mkdir-causes.ensures c.names.ensures.names) (free-of (holds c.of_mkdir-causes.result) c.has_any.result c.has_any.ensures c.if-has_any.false) c.if-code-ne0.false (mkdir-target c.args.self.now c.put.new.self c.args.path.now c.args.attrs.now c.in-Ok.place c.directory_owner-owner.result found c.in_ok-put.ensures.ok c.directory_owner-owner.ensures)
+    judges-done c.args.self.now (Mkdir c.args.path.now c.args.attrs.now) c.args.code (holds c.of_mkdir-causes.result) c.put.new.self refl (mkdir-set c.args.self.now c.args.path.now c.args.attrs.now c.in-Ok.place c.of_mkdir-causes.result c.names.result.now.entries c.names.ensures.kept found c.of_mkdir-causes.ensures c.names.ensures.names) (free-of (holds c.of_mkdir-causes.result) c.has_any.result c.has_any.ensures c.if-has_any.false) c.if-code-ne0.false (mkdir-target c.args.self.now c.put.new.self c.args.path.now c.args.attrs.now c.in-Ok.place c.directory_owner-owner.result found c.in_ok-put.ensures.ok c.directory_owner-owner.ensures)

@@ -1,4 +1,4 @@
-use Rattle.std.proofs.Common.{Ok, Err}
+use Rattle.std.proofs.Common.{refl, Ok, Err}
 use Rattle.sftp_wire.specs.declared.packets.Ask.TheVariants.{Rmdir}
 use Rattle.sftp_audit.specs.Refusals.{holds}
 use Rattle.sftp_audit.proofs.Judging.{leads, judges-error, judges-refusal, judges-done, barred-by, free-of, rmdir-set, rmdir-keeps, rmdir-target}
@@ -21,4 +21,4 @@ remove-requires c =
 pub returns-clause-ok : goal.returns-clause-ok
 returns-clause-ok c =
     let found = leads c.args.self.now c.as_slice.result.now c.args.path.now c.in_ok-place.field-0 (Ok c.in-Ok.place) c.in_ok-place.ensures c.as_slice.ensures c.in-Ok.is in
-    judges-done c.args.self.now (Rmdir c.args.path.now) c.args.code (holds c.of_rmdir-causes.result) c.remove.new.self (rmdir-set c.args.self.now c.args.path.now c.in-Ok.place c.of_rmdir-causes.result c.names.result.now.entries c.names.ensures.kept found c.of_rmdir-causes.ensures c.names.ensures.names) (free-of (holds c.of_rmdir-causes.result) c.has_any.result c.has_any.ensures c.if-has_any.false) c.if-code-ne0.false (rmdir-target c.args.self.now c.remove.new.self c.args.path.now c.in-Ok.place found c.remove.ensures)
+    judges-done c.args.self.now (Rmdir c.args.path.now) c.args.code (holds c.of_rmdir-causes.result) c.remove.new.self refl (rmdir-set c.args.self.now c.args.path.now c.in-Ok.place c.of_rmdir-causes.result c.names.result.now.entries c.names.ensures.kept found c.of_rmdir-causes.ensures c.names.ensures.names) (free-of (holds c.of_rmdir-causes.result) c.has_any.result c.has_any.ensures c.if-has_any.false) c.if-code-ne0.false (rmdir-target c.args.self.now c.remove.new.self c.args.path.now c.in-Ok.place found c.remove.ensures)
