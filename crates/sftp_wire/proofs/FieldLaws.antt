@@ -1,11 +1,12 @@
--- Numbers, strings and pairs: a field that is read is spelled so, and what is spelled so is read again.
-use Rattle.std.proofs.Common.{◌≡◌, ℕ, ◌+◌, ◌^◌, ◌<◌, ◌≤◌, false, cond, ltb, List, ◌++◌, length, take, drop, Ok, Err, refl, sym, ap, subst, arith}
+-- Numbers, strings, handles and pairs: a field that is read is spelled so, and what is spelled so is read again.
+use Rattle.std.proofs.Common.{◌≡◌, ℕ, ◌+◌, ◌^◌, ◌<◌, ◌≤◌, false, cond, ltb, List, [], ◌++◌, length, take, drop, Result, Ok, Err, refl, sym, ap, subst, arith}
 use Rattle.std.specs.Int.{Width, w32, w64, byte_len, from_be_bytes, to_be_bytes}
 use Rattle.std.proofs.lemmas.Bool.{ltb-false, le-ltb}
-use Rattle.std.proofs.lemmas.List.{take_at, drop_at, take-append-drop, length-append, length-take, length-drop}
-use Rattle.sftp_wire.specs.declared.errors.Fault.TheVariants.{Short}
-use Rattle.sftp_wire.specs.Spelling.{uint32, uint64, string, two_uint32, pair, FitsString, FitsTwo, FitsPair}
-use Rattle.sftp_wire.specs.Reading.{◌>>=◌, number_at, uint32_at, uint64_at, string_at, two_uint32_at, pair_at}
+use Rattle.std.proofs.lemmas.List.{take_at, drop_at, take-append-drop, append-nil, length-append, length-take, length-drop}
+use Rattle.sftp_wire.specs.declared.errors.Fault.{Fault}
+use Rattle.sftp_wire.specs.declared.errors.Fault.TheVariants.{Short, HandleTooLong}
+use Rattle.sftp_wire.specs.Spelling.{uint32, uint64, string, two_uint32, pair, handle_limit, AreBytes, FitsString, FitsTwo, FitsPair}
+use Rattle.sftp_wire.specs.Reading.{◌>>=◌, number_at, uint32_at, uint64_at, string_at, handle_at, rest_at, two_uint32_at, pair_at}
 use Rattle.sftp_wire.proofs.Numbers.{IsBytes-take, IsBytes-drop, AreBytes-from_places, IsWide, wide32, wide64}
 use Rattle.sftp_wire.proofs.Steps.{bind_ok, guard_ok, ok_is, Takes, Takes-then}
 use Rattle.sftp_wire.proofs.ReaderLaws.{TakesAs, AgainAs, two_takes, two_again}
@@ -53,26 +54,72 @@ two_uint32_again rest p fits = two_again uint32_at uint32_at (λ a b. (a, b)) ui
 
 -- ---- strings
 
+-- as many bytes as were said
+abbrev text_behind : ℕ × List ℕ → Result (List ℕ × List ℕ) Fault
+text_behind n = cond (ltb (length n.1) n.0) (Err Short) (Ok (take n.0 n.1, drop n.0 n.1))
+
+-- the bytes behind their number are taken where they are there
+text_takes : (bytes : List ℕ) (n : ℕ × List ℕ) (text rest : List ℕ) → Takes bytes (uint32 n.0) n.1 → n.0 < 2 ^ 32 → text_behind n ≡ Ok (text, rest) → Takes bytes (string text) rest × FitsString text × (length text ≡ n.0)
+text_takes bytes n text rest taken lt e =
+    let g = guard_ok (ltb (length n.1) n.0) Short (Ok (take n.0 n.1, drop n.0 n.1)) (text, rest) e in
+    let long : n.0 ≤ length n.1 = ltb-false _ _ g.0 in
+    let len : length (take n.0 n.1) ≡ n.0 = omega (arith, length-take n.0 n.1) in
+    let second : Takes n.1 (take n.0 n.1) (drop n.0 n.1) = record { parts = sym (take-append-drop n.0 n.1); rest_fits = IsBytes-drop n.0 n.1 taken.rest_fits } in
+    let both = Takes-then bytes (uint32 n.0) n.1 (take n.0 n.1) (drop n.0 n.1) taken second in
+    let whole : Takes bytes (string (take n.0 n.1)) (drop n.0 n.1) = subst (λ (k : ℕ). Takes bytes (uint32 k ++ take n.0 n.1) (drop n.0 n.1)) (sym len) both in
+    let fit : FitsString (take n.0 n.1) = record { bytes_fit = AreBytes-from_places (take n.0 n.1) (IsBytes-take n.0 n.1 taken.rest_fits); length_fits = omega (arith, lt) } in
+    subst (λ (p : List ℕ × List ℕ). Takes bytes (string p.0) p.1 × FitsString p.0 × (length p.0 ≡ n.0)) (ok_is _ _ g.1) (whole, fit, len)
+
 pub string_takes : TakesAs string_at string FitsString
 unfolding string_at
 string_takes bytes text rest fits e =
-    let b = bind_ok (uint32_at bytes) (λ n. cond (ltb (length n.1) n.0) (Err Short) (Ok (take n.0 n.1, drop n.0 n.1))) (text, rest) e in
-    let n = b.0 in
-    let t = uint32_takes bytes n.0 n.1 fits b.1 in
-    let g = guard_ok (ltb (length n.1) n.0) Short (Ok (take n.0 n.1, drop n.0 n.1)) (text, rest) b.2 in
-    let long : n.0 ≤ length n.1 = ltb-false _ _ g.0 in
-    let len : length (take n.0 n.1) ≡ n.0 = omega (arith, length-take n.0 n.1) in
-    let second : Takes n.1 (take n.0 n.1) (drop n.0 n.1) = record { parts = sym (take-append-drop n.0 n.1); rest_fits = IsBytes-drop n.0 n.1 t.0.rest_fits } in
-    let both = Takes-then bytes (uint32 n.0) n.1 (take n.0 n.1) (drop n.0 n.1) t.0 second in
-    let whole : Takes bytes (string (take n.0 n.1)) (drop n.0 n.1) = subst (λ (k : ℕ). Takes bytes (uint32 k ++ take n.0 n.1) (drop n.0 n.1)) (sym len) both in
-    let fit : FitsString (take n.0 n.1) = record { bytes_fit = AreBytes-from_places (take n.0 n.1) (IsBytes-take n.0 n.1 t.0.rest_fits); length_fits = omega (arith, t.1) } in
-    subst (λ (p : List ℕ × List ℕ). Takes bytes (string p.0) p.1 × FitsString p.0) (ok_is _ _ g.1) (whole, fit)
+    let b = bind_ok (uint32_at bytes) text_behind (text, rest) e in
+    let t = uint32_takes bytes b.0.0 b.0.1 fits b.1 in
+    let all = text_takes bytes b.0 text rest t.0 t.1 b.2 in
+    (all.0, all.1)
 
 pub string_again : AgainAs string_at string FitsString
 unfolding string_at
 string_again rest text fits =
     let long : ltb (length (text ++ rest)) (length text) ≡ false = le-ltb _ _ (omega (arith, length-append text rest)) in
     rw (uint32_again (text ++ rest) (length text) fits.length_fits, long, take_at text rest (length text) refl, drop_at text rest (length text) refl) refl
+
+-- ---- handles
+
+-- a string within the limit of a handle
+abbrev pub FitsHandle : List ℕ → Type 0
+FitsHandle handle = FitsString handle × (length handle ≤ handle_limit)
+
+pub handle_takes : TakesAs handle_at string FitsHandle
+unfolding handle_at
+handle_takes bytes text rest fits e =
+    let b = bind_ok (uint32_at bytes) (λ n. cond (ltb handle_limit n.0) (Err HandleTooLong) (text_behind n)) (text, rest) e in
+    let t = uint32_takes bytes b.0.0 b.0.1 fits b.1 in
+    let g = guard_ok (ltb handle_limit b.0.0) HandleTooLong _ (text, rest) b.2 in
+    let all = text_takes bytes b.0 text rest t.0 t.1 g.1 in
+    let small : b.0.0 ≤ handle_limit = ltb-false _ _ g.0 in
+    (all.0, (all.1, omega (arith, small, all.2)))
+
+pub handle_again : AgainAs handle_at string FitsHandle
+unfolding handle_at
+handle_again rest text fits =
+    let small : ltb handle_limit (length text) ≡ false = le-ltb _ _ fits.1 in
+    let long : ltb (length (text ++ rest)) (length text) ≡ false = le-ltb _ _ (omega (arith, length-append text rest)) in
+    rw (uint32_again (text ++ rest) (length text) fits.0.length_fits, small, long, take_at text rest (length text) refl, drop_at text rest (length text) refl) refl
+
+-- ---- all that is left
+
+abbrev pub as_bytes : List ℕ → List ℕ
+as_bytes bytes = bytes
+
+pub rest_takes : TakesAs rest_at as_bytes AreBytes
+rest_takes bytes text rest fits e =
+    let all : Takes bytes bytes [] = record { parts = sym (append-nil bytes); rest_fits = λ i. omega arith } in
+    subst (λ (p : List ℕ × List ℕ). Takes bytes p.0 p.1 × AreBytes p.0) (ok_is _ _ e) (all, AreBytes-from_places bytes fits)
+
+-- what is left is read again where nothing follows it
+pub rest_again : (bytes : List ℕ) → rest_at (bytes ++ []) ≡ Ok (bytes, [])
+rest_again bytes = rw (append-nil bytes) refl
 
 -- ---- pairs
 
@@ -96,7 +143,7 @@ number-shortens w bytes n rest e =
 string-shortens : (bytes text rest : List ℕ) → string_at bytes ≡ Ok (text, rest) → length rest < length bytes
 unfolding string_at uint32_at
 string-shortens bytes text rest e =
-    let b = bind_ok (uint32_at bytes) (λ n. cond (ltb (length n.1) n.0) (Err Short) (Ok (take n.0 n.1, drop n.0 n.1))) (text, rest) e in
+    let b = bind_ok (uint32_at bytes) text_behind (text, rest) e in
     let n = b.0 in
     let g = guard_ok (ltb (length n.1) n.0) Short (Ok (take n.0 n.1, drop n.0 n.1)) (text, rest) b.2 in
     let is : drop n.0 n.1 ≡ rest = ap (λ (x : List ℕ × List ℕ). x.1) (ok_is _ _ g.1) in

@@ -14,7 +14,7 @@ use Rattle.sftp_wire.specs.Spelling.{uint32, contents, packet_limit, spelling, A
 use Rattle.sftp_wire.specs.Reading.{front_of}
 use Rattle.sftp_wire.specs.Framing.{Frames, Step, Push, Next, IsStep, AreSteps, no_frames, room_of, front_unless, told_of, telling, push_of, bytes_in, bytes_out, all_in, all_out, whole_of}
 use Rattle.sftp_wire.proofs.Numbers.{IsBytes, IsBytes-take, IsBytes-drop, wide32}
-use Rattle.sftp_wire.proofs.PacketLaws.{contents-parts}
+use Rattle.sftp_wire.proofs.PacketRows.{contents-parts}
 use Rattle.sftp_wire.proofs.FrontLaws.{front_takes}
 
 -- ---- bytes

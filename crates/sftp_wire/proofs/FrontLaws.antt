@@ -15,7 +15,9 @@ use Rattle.sftp_wire.specs.Spelling.{uint32, contents, spelling, side_of, packet
 use Rattle.sftp_wire.specs.Reading.{IsReading, StandsInFront, packet_of, front_of}
 use Rattle.sftp_wire.proofs.Numbers.{IsBytes, IsBytes-take, IsBytes-drop, wide32}
 use Rattle.sftp_wire.proofs.Steps.{bind_ok, guard_ok, ok_is}
-use Rattle.sftp_wire.proofs.PacketLaws.{contents-parts, packet_of_takes, packet_of_again}
+use Rattle.sftp_wire.proofs.PacketRows.{contents-parts}
+use Rattle.sftp_wire.proofs.PacketLaws.{packet_of_takes}
+use Rattle.sftp_wire.proofs.PacketAgain.{packet_of_again}
 
 -- a test that gives nothing where it holds, and did not
 guard_none : {A : Type 0} (test : Bool) (read : Result (Option A) Fault) (x : A) → cond test (Ok None) read ≡ Ok (Some x) → (test ≡ false) × (read ≡ Ok (Some x))
@@ -49,8 +51,8 @@ stands side bytes packet size is_bytes is within there e =
     append_assoc (take 4 bytes) body (drop size (drop 4 bytes)) ∙ ap (λ (x : List ℕ). take 4 bytes ++ x) (take-append-drop size (drop 4 bytes)) ∙ take-append-drop 4 bytes in
     let total : length (spelling packet) ≡ size + 4 = length-spelling packet ∙ ap (λ (n : ℕ). n + 4) contents_length in
     record {
-      has_spelling = record { fields = t.1; whole = omega (arith, total) };
-      is_sent = t.2;
+      has_spelling = record { fields = t.1.fields; whole = omega (arith, total); handle = t.1.handle; canonical = t.1.canonical };
+      is_sent = t.1.is_sent;
       is_whole = sym total;
       is_spelled = sym parts ∙ ap (λ (x : List ℕ). x ++ drop size (drop 4 bytes)) (sym whole) ∙ ap (λ (x : List ℕ). spelling packet ++ x) (sym rest);
     }
@@ -86,7 +88,7 @@ front_again packet rest has =
     let not_over : ltb packet_limit (n + 4) ≡ false = le-ltb _ _ (omega (arith, has.whole, total)) in
     let there : ltb (length bytes) (n + 4) ≡ false = le-ltb _ _ long in
     let body : take n (drop 4 bytes) ≡ text = ap (take n) after ∙ take_at text rest n refl in
-    rw (not_short, number, not_zero, not_over, there, body, packet_of_again packet has.fields, total) refl
+    rw (not_short, number, not_zero, not_over, there, body, packet_of_again packet has, total) refl
 
 -- no packet's spelling begins another's
 pub spellings-apart : (p q : Packet) (x y : List ℕ) → HasSpelling p → HasSpelling q → side_of p ≡ side_of q → spelling p ++ x ≡ spelling q ++ y → (p ≡ q) × (x ≡ y)
@@ -107,6 +109,7 @@ is_found side bytes (Err error) is_bytes given = tt
 given_or_no_memory : (r : Result (Option (Packet × ℕ)) WireError) (f : Option (Packet × ℕ)) → IsReading r (Ok f) → (r ≡ Ok f) ⊎ (r ≡ Err wires.NoMemory)
 given_or_no_memory (Ok g) f given = inl (ap (λ (h : Option (Packet × ℕ)). Ok h) (sym (ok_is f g given)))
 given_or_no_memory (Err wires.TooLong) f given = absurd given
+given_or_no_memory (Err wires.NotCanonical) f given = absurd given
 given_or_no_memory (Err wires.NoMemory) f given = inr refl
 given_or_no_memory (Err (wires.Unreadable fault place)) f given = absurd (let e = given.0 in cc)
 

@@ -2,7 +2,8 @@
 //! does not fit is the largest that does. What takes few enough bytes can be written: each of its numbers and
 //! bytes is in range, by its type, and each of its lengths is, since the whole is.
 ghost use Rattle.std.specs.Prelude.{◌≡◌, ◌-◌, ◌^◌, ◌<◌, ◌++◌, length, min, IfSome};
-ghost use Rattle.sftp_wire.specs.Spelling.{string, pair, pairs, counted_pairs, optional, attributes, name_item, names, asked, answered, with_id, contents, FitsString, FitsPair, FitsPairs, FitsCounted, FitsAttrs, FitsNameItem, FitsNames, FitsAsk, FitsAnswer, FitsFields};
+ghost use Rattle.std.specs.List.{flat_map, AllByRecursion};
+ghost use Rattle.sftp_wire.specs.Spelling.{uint32, uint64, two_uint32, string, pair, pairs, counted_pairs, optional, attributes, name_item, names, asked, answered, with_id, contents, AreBytes, FitsString, FitsTwo, FitsPair, FitsPairs, FitsCounted, FitsAttrs, FitsNameItem, FitsNames, FitsAsk, FitsAnswer, FitsFields};
 
 use crate::attributes::Attrs;
 use crate::extensions::{FSYNC, HARDLINK, POSIX_RENAME};
@@ -10,65 +11,36 @@ use crate::names::{NameItem, Names};
 use crate::packets::{Answer, Ask, Packet};
 use crate::strings::{ByteString, Pairs};
 
+/// The bytes of a uint32.
+fn number_length(number: u32) -> usize
+    ensures exact { result ≡ 4 }
+    ensures fits { number < 2 ^ 32 }
+{
+    number.to_be_bytes().len()
+}
+
+/// The bytes of a uint64.
+fn long_number_length(number: u64) -> usize
+    ensures exact { result ≡ 8 }
+    ensures fits { number < 2 ^ 64 }
+{
+    number.to_be_bytes().len()
+}
+
+/// The bytes behind a string's length, or of all that is left.
+fn text_length(text: &ByteString) -> usize
+    ensures exact { result ≡ min (length text.now) (2 ^ 64 - 1) }
+    ensures fits { AreBytes text.now }
+{
+    let bytes = text.as_slice();
+    bytes.len()
+}
+
 fn string_length(text: &ByteString) -> usize
     ensures exact { result ≡ min (length (string text.now)) (2 ^ 64 - 1) }
     ensures fits { length (string text.now) < 2 ^ 32 → FitsString text.now }
 {
-    text.as_slice().len().saturating_add(4)
-}
-
-fn pairs_length(extensions: &Pairs) -> usize
-    ensures exact { result ≡ min (length (pairs extensions.now)) (2 ^ 64 - 1) }
-    ensures fits { length (pairs extensions.now) < 2 ^ 32 → FitsPairs extensions.now }
-{
-    let mut total = 0_usize;
-    for (name, data) in extensions.as_slice() {
-        total = total
-            .saturating_add(string_length(name))
-            .saturating_add(string_length(data));
-    }
-    total
-}
-
-fn extended_length(extended: &Option<Pairs>) -> usize
-    ensures exact { result ≡ min (length (optional counted_pairs extended.now)) (2 ^ 64 - 1) }
-    ensures fits { length (optional counted_pairs extended.now) < 2 ^ 32 → IfSome extended.now FitsCounted }
-{
-    match extended {
-        None => 0,
-        Some(extensions) => pairs_length(extensions).saturating_add(4),
-    }
-}
-
-fn attributes_length(attrs: &Attrs) -> usize
-    ensures exact { result ≡ min (length (attributes attrs.now)) (2 ^ 64 - 1) }
-    ensures fits { length (attributes attrs.now) < 2 ^ 32 → FitsAttrs attrs.now }
-{
-    let size = if attrs.size.is_some() { 8 } else { 0 };
-    let owner = if attrs.owner.is_some() { 8 } else { 0 };
-    let permissions = if attrs.permissions.is_some() { 4 } else { 0 };
-    let times = if attrs.times.is_some() { 8 } else { 0 };
-    extended_length(&attrs.extended).saturating_add(4 + size + owner + permissions + times)
-}
-
-fn name_item_length(item: &NameItem) -> usize
-    ensures exact { result ≡ min (length (name_item item.now)) (2 ^ 64 - 1) }
-    ensures fits { length (name_item item.now) < 2 ^ 32 → FitsNameItem item.now }
-{
-    string_length(&item.filename)
-        .saturating_add(string_length(&item.longname))
-        .saturating_add(attributes_length(&item.attrs))
-}
-
-fn names_length(items: &Names) -> usize
-    ensures exact { result ≡ min (length (names items.now)) (2 ^ 64 - 1) }
-    ensures fits { length (names items.now) < 2 ^ 32 → FitsNames items.now }
-{
-    let mut total = 4_usize;
-    for item in items.as_slice() {
-        total = total.saturating_add(name_item_length(item));
-    }
-    total
+    text_length(text).saturating_add(4)
 }
 
 fn two_strings_length(first: &ByteString, second: &ByteString) -> usize
@@ -78,6 +50,77 @@ fn two_strings_length(first: &ByteString, second: &ByteString) -> usize
     string_length(first).saturating_add(string_length(second))
 }
 
+fn pairs_length(extensions: &Pairs) -> usize
+    ensures exact { result ≡ min (length (pairs extensions.now)) (2 ^ 64 - 1) }
+    ensures fits { length (pairs extensions.now) < 2 ^ 32 → FitsPairs extensions.now }
+{
+    let mut total = 0_usize;
+    for (name, data) in extensions.as_slice() {
+        total = total.saturating_add(two_strings_length(name, data));
+    }
+    total
+}
+
+#[tactic(auto, using(crate::proofs::Appending::length_pairs))]
+fn counted_pairs_length(extensions: &Pairs) -> usize
+    ensures exact { result ≡ min (length (counted_pairs extensions.now)) (2 ^ 64 - 1) }
+    ensures fits { length (counted_pairs extensions.now) < 2 ^ 32 → FitsCounted extensions.now }
+{
+    pairs_length(extensions).saturating_add(4)
+}
+
+fn size_length(size: Option<u64>) -> usize
+    ensures exact { result ≡ length (optional uint64 size) }
+    ensures fits { IfSome size (λ n. n < 2 ^ 64) }
+{
+    match size {
+        None => 0,
+        Some(size) => long_number_length(size),
+    }
+}
+
+fn two_numbers_length(numbers: Option<(u32, u32)>) -> usize
+    ensures exact { result ≡ length (optional two_uint32 numbers) }
+    ensures fits { IfSome numbers FitsTwo }
+{
+    match numbers {
+        None => 0,
+        Some((first, second)) => number_length(first) + number_length(second),
+    }
+}
+
+fn permissions_length(permissions: Option<u32>) -> usize
+    ensures exact { result ≡ length (optional uint32 permissions) }
+    ensures fits { IfSome permissions (λ n. n < 2 ^ 32) }
+{
+    match permissions {
+        None => 0,
+        Some(permissions) => number_length(permissions),
+    }
+}
+
+fn extended_length(extended: &Option<Pairs>) -> usize
+    ensures exact { result ≡ min (length (optional counted_pairs extended.now)) (2 ^ 64 - 1) }
+    ensures fits { length (optional counted_pairs extended.now) < 2 ^ 32 → IfSome extended.now FitsCounted }
+{
+    match extended {
+        None => 0,
+        Some(extensions) => counted_pairs_length(extensions),
+    }
+}
+
+fn attributes_length(attrs: &Attrs) -> usize
+    ensures exact { result ≡ min (length (attributes attrs.now)) (2 ^ 64 - 1) }
+    ensures fits { length (attributes attrs.now) < 2 ^ 32 → FitsAttrs attrs.now }
+{
+    extended_length(&attrs.extended)
+        .saturating_add(size_length(attrs.size))
+        .saturating_add(two_numbers_length(attrs.owner))
+        .saturating_add(permissions_length(attrs.permissions))
+        .saturating_add(two_numbers_length(attrs.times))
+        .saturating_add(4)
+}
+
 fn string_and_attributes_length(text: &ByteString, attrs: &Attrs) -> usize
     ensures exact { result ≡ min (length (string text.now ++ attributes attrs.now)) (2 ^ 64 - 1) }
     ensures fits { length (string text.now ++ attributes attrs.now) < 2 ^ 32 → FitsString text.now × FitsAttrs attrs.now }
@@ -85,12 +128,41 @@ fn string_and_attributes_length(text: &ByteString, attrs: &Attrs) -> usize
     string_length(text).saturating_add(attributes_length(attrs))
 }
 
-/// How many bytes a request's type, id and fields take.
-fn asked_length(ask: &Ask) -> usize
-    ensures exact { result ≡ min (length (with_id 0 (asked ask.now))) (2 ^ 64 - 1) }
-    ensures fits { length (with_id 0 (asked ask.now)) < 2 ^ 32 → FitsAsk ask.now }
+fn name_item_length(item: &NameItem) -> usize
+    ensures exact { result ≡ min (length (name_item item.now)) (2 ^ 64 - 1) }
+    ensures fits { length (name_item item.now) < 2 ^ 32 → FitsNameItem item.now }
 {
-    let fields = match ask {
+    string_length(&item.filename).saturating_add(string_and_attributes_length(
+        &item.longname,
+        &item.attrs,
+    ))
+}
+
+fn name_items_length(items: &Names) -> usize
+    ensures exact { result ≡ min (length (flat_map name_item items.now)) (2 ^ 64 - 1) }
+    ensures fits { length (flat_map name_item items.now) < 2 ^ 32 → AllByRecursion FitsNameItem items.now }
+{
+    let mut total = 0_usize;
+    for item in items.as_slice() {
+        total = total.saturating_add(name_item_length(item));
+    }
+    total
+}
+
+#[tactic(auto, using(crate::proofs::Appending::length_names))]
+fn names_length(items: &Names) -> usize
+    ensures exact { result ≡ min (length (names items.now)) (2 ^ 64 - 1) }
+    ensures fits { length (names items.now) < 2 ^ 32 → FitsNames items.now }
+{
+    name_items_length(items).saturating_add(4)
+}
+
+/// The bytes of what is asked, behind the request's id.
+fn asked_length(ask: &Ask) -> usize
+    ensures exact { result ≡ min (length ((asked ask.now).1)) (2 ^ 64 - 1) }
+    ensures fits { length ((asked ask.now).1) < 2 ^ 32 → FitsAsk ask.now }
+{
+    match ask {
         Ask::Lstat { path }
         | Ask::Opendir { path }
         | Ask::Remove { path }
@@ -98,9 +170,11 @@ fn asked_length(ask: &Ask) -> usize
         | Ask::Realpath { path }
         | Ask::Stat { path }
         | Ask::Readlink { path } => string_length(path),
-        Ask::Open { path, attrs, .. } => {
-            string_and_attributes_length(path, attrs).saturating_add(4)
-        }
+        Ask::Open {
+            path,
+            pflags,
+            attrs,
+        } => string_and_attributes_length(path, attrs).saturating_add(number_length(*pflags)),
         Ask::Setstat { path, attrs } | Ask::Mkdir { path, attrs } => {
             string_and_attributes_length(path, attrs)
         }
@@ -108,8 +182,18 @@ fn asked_length(ask: &Ask) -> usize
         Ask::Close { handle } | Ask::Fstat { handle } | Ask::Readdir { handle } => {
             string_length(handle)
         }
-        Ask::Read { handle, .. } => string_length(handle).saturating_add(12),
-        Ask::Write { handle, bytes, .. } => two_strings_length(handle, bytes).saturating_add(8),
+        Ask::Read {
+            handle,
+            offset,
+            len,
+        } => string_length(handle).saturating_add(
+            long_number_length(*offset) + number_length(*len),
+        ),
+        Ask::Write {
+            handle,
+            offset,
+            bytes,
+        } => two_strings_length(handle, bytes).saturating_add(long_number_length(*offset)),
         Ask::Rename { oldpath, newpath } => two_strings_length(oldpath, newpath),
         Ask::Symlink {
             targetpath,
@@ -122,41 +206,48 @@ fn asked_length(ask: &Ask) -> usize
             two_strings_length(oldpath, newpath).saturating_add(4 + HARDLINK.len())
         }
         Ask::Fsync { handle } => string_length(handle).saturating_add(4 + FSYNC.len()),
-        Ask::Unknown { name, rest } => string_length(name).saturating_add(rest.as_slice().len()),
-    };
-    fields.saturating_add(5)
+        Ask::Unknown { name, rest } => string_length(name).saturating_add(text_length(rest)),
+    }
 }
 
-/// How many bytes a reply's type, id and fields take.
+/// The bytes of what is answered, behind the id.
 fn answered_length(answer: &Answer) -> usize
-    ensures exact { result ≡ min (length (with_id 0 (answered answer.now))) (2 ^ 64 - 1) }
-    ensures fits { length (with_id 0 (answered answer.now)) < 2 ^ 32 → FitsAnswer answer.now }
+    ensures exact { result ≡ min (length ((answered answer.now).1)) (2 ^ 64 - 1) }
+    ensures fits { length ((answered answer.now).1) < 2 ^ 32 → FitsAnswer answer.now }
 {
-    let fields = match answer {
+    match answer {
         Answer::Status {
+            code,
             message,
             language,
-            ..
-        } => two_strings_length(message, language).saturating_add(4),
+        } => two_strings_length(message, language).saturating_add(number_length(*code)),
         Answer::Handle(handle) => string_length(handle),
         Answer::Data(bytes) => string_length(bytes),
         Answer::Name(items) => names_length(items),
         Answer::Attrs(attrs) => attributes_length(attrs),
-        Answer::Extended(bytes) => bytes.as_slice().len(),
-    };
-    fields.saturating_add(5)
+        Answer::Extended(bytes) => text_length(bytes),
+    }
 }
 
-/// How many bytes stand behind the packet's length.
+/// The bytes behind the packet's length.
 pub(crate) fn contents_length(packet: &Packet) -> usize
     ensures exact { result ≡ min (length (contents packet.now)) (2 ^ 64 - 1) }
     ensures fits { length (contents packet.now) < 2 ^ 32 → FitsFields packet.now }
 {
     match packet {
-        Packet::Init { extensions, .. } | Packet::Version { extensions, .. } => {
-            pairs_length(extensions).saturating_add(5)
+        Packet::Init {
+            version,
+            extensions,
         }
-        Packet::Request(request) => asked_length(&request.ask),
-        Packet::Reply(reply) => answered_length(&reply.answer),
+        | Packet::Version {
+            version,
+            extensions,
+        } => pairs_length(extensions).saturating_add(1 + number_length(*version)),
+        Packet::Request(request) => {
+            asked_length(&request.ask).saturating_add(1 + number_length(request.id))
+        }
+        Packet::Reply(reply) => {
+            answered_length(&reply.answer).saturating_add(1 + number_length(reply.id))
+        }
     }
 }

@@ -1,6 +1,7 @@
 //! Packets as bytes (draft, sections 3 to 8). A private function may leave part of what it writes behind
 //! after an error: `encode` takes it away.
 ghost use Rattle.std.specs.Prelude.{◌≡◌, ◌∷◌, ◌++◌, ◌<◌, ◌^◌, ◌↔◌, ◌⊎◌, length, OnOk, OnErr, IfErr, IsErrOf};
+ghost use Rattle.std.specs.List.{flat_map};
 ghost use Rattle.sftp_wire.specs.Spelling.{uint32, uint64, two_uint32, string, pair, pairs, counted_pairs, optional, attribute_flags, attribute_fields, attributes, name_item, names, asked, answered, with_id, contents, spelling, HasSpelling};
 ghost use Rattle.sftp_wire.specs.Writing.{Extends, IsTooLong, IsNotCanonical};
 
@@ -56,6 +57,7 @@ fn put_pairs(out: &mut Vec<u8>, extensions: &Pairs) -> Result<(), AllocError>
     Ok(())
 }
 
+#[tactic(auto, using(crate::proofs::Appending::length_pairs))]
 fn put_counted_pairs(out: &mut Vec<u8>, extended: &Pairs) -> Result<(), AllocError>
     requires { length (counted_pairs extended.now) < 2 ^ 32 }
     ensures ok { OnOk result (out.new.items ≡ out.old.items ++ counted_pairs extended.now) }
@@ -233,6 +235,15 @@ fn put_open_fields(
     Ok(())
 }
 
+fn put_range(out: &mut Vec<u8>, offset: u64, len: u32) -> Result<(), AllocError>
+    ensures ok { OnOk result (out.new.items ≡ out.old.items ++ (uint64 offset ++ uint32 len)) }
+    ensures err { OnErr result (Extends out.old.items out.new.items) }
+{
+    out.put_u64(offset)?;
+    out.put_u32(len)?;
+    Ok(())
+}
+
 fn put_read_fields(
     out: &mut Vec<u8>,
     handle: &ByteString,
@@ -245,8 +256,17 @@ fn put_read_fields(
     ensures err { OnErr result (Extends out.old.items out.new.items) }
 {
     put_string(out, handle)?;
+    put_range(out, offset, len)?;
+    Ok(())
+}
+
+fn put_bytes_at(out: &mut Vec<u8>, offset: u64, bytes: &ByteString) -> Result<(), AllocError>
+    requires { length (uint64 offset ++ string bytes.now) < 2 ^ 32 }
+    ensures ok { OnOk result (out.new.items ≡ out.old.items ++ (uint64 offset ++ string bytes.now)) }
+    ensures err { OnErr result (Extends out.old.items out.new.items) }
+{
     out.put_u64(offset)?;
-    out.put_u32(len)?;
+    put_string(out, bytes)?;
     Ok(())
 }
 
@@ -262,8 +282,7 @@ fn put_write_fields(
     ensures err { OnErr result (Extends out.old.items out.new.items) }
 {
     put_string(out, handle)?;
-    out.put_u64(offset)?;
-    put_string(out, bytes)?;
+    put_bytes_at(out, offset, bytes)?;
     Ok(())
 }
 
@@ -294,15 +313,25 @@ fn put_name_item(out: &mut Vec<u8>, item: &NameItem) -> Result<(), AllocError>
     Ok(())
 }
 
+fn put_name_items(out: &mut Vec<u8>, items: &Names) -> Result<(), AllocError>
+    requires { length (flat_map name_item items.now) < 2 ^ 32 }
+    ensures ok { OnOk result (out.new.items ≡ out.old.items ++ flat_map name_item items.now) }
+    ensures err { OnErr result (Extends out.old.items out.new.items) }
+{
+    for item in items.as_slice() {
+        put_name_item(out, item)?;
+    }
+    Ok(())
+}
+
+#[tactic(auto, using(crate::proofs::Appending::length_names))]
 fn put_names(out: &mut Vec<u8>, items: &Names) -> Result<(), AllocError>
     requires { length (names items.now) < 2 ^ 32 }
     ensures ok { OnOk result (out.new.items ≡ out.old.items ++ names items.now) }
     ensures err { OnErr result (Extends out.old.items out.new.items) }
 {
     out.put_u32(items.as_slice().len() as u32)?;
-    for item in items.as_slice() {
-        put_name_item(out, item)?;
-    }
+    put_name_items(out, items)?;
     Ok(())
 }
 

@@ -93,7 +93,7 @@ fn the_first_fault_is_named(rt: HostRuntime) {
     assert!(rt; is_fault(&rt, &[0x00, 0x00, 0x00, 0x00], Fault::Length));
     assert!(rt; is_waiting(&rt, &[0x00, 0x00, 0x84, 0xcc]));
     assert!(rt; is_fault(&rt, &[0x00, 0x00, 0x84, 0xcd], Fault::Length));
-    assert!(rt; is_fault(&rt, &[0x00, 0x00, 0x00, 0x01, 0x03], Fault::WrongType));
+    assert!(rt; is_fault(&rt, &[0x00, 0x00, 0x00, 0x01, 0x15], Fault::WrongType));
     assert!(rt; is_fault(&rt, &MKDIR_FLAGS, Fault::Flags));
     assert!(rt; is_fault(&rt, &MKDIR_CUT, Fault::Short));
     assert!(rt; is_fault(&rt, &RMDIR_LONGER, Fault::Trailing));
