@@ -30,15 +30,15 @@ fn run(rt: &HostRuntime) -> Result<(), BenchError> {
     let alloc = rt.alloc();
     let words: Vec<String> = env::args(rt)?.collect(alloc)?;
     let task = command_line::parse(words.as_slice())?;
-    for workload in [
-        Workload::status(alloc)?,
-        Workload::mkdir(alloc)?,
-        Workload::write(alloc)?,
-    ] {
-        match task {
-            Task::Count => figures::print_counts(rt, &workload)?,
-            Task::Measure { megabytes } => figures::print_figures(rt, &workload, megabytes)?,
-        }
+    perform(rt, task, Workload::status(alloc)?)?;
+    perform(rt, task, Workload::mkdir(alloc)?)?;
+    perform(rt, task, Workload::write(alloc)?)
+}
+
+/// Does the task with one workload, and prints a line on it.
+fn perform(rt: &HostRuntime, task: Task, workload: Workload) -> Result<(), BenchError> {
+    match task {
+        Task::Count => figures::print_counts(rt, &workload),
+        Task::Measure { megabytes } => figures::print_figures(rt, &workload, megabytes),
     }
-    Ok(())
 }
