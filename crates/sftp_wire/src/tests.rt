@@ -1,5 +1,6 @@
 //! Whole packets in bytes that are worked out by hand from the packet table (draft, sections 3 to 8). Each packet is
-//! written as its bytes, and they are read as it in front of a further packet.
+//! written as its bytes, and they are read, in front of a further packet, as what is written so: no two packets of one
+//! side are.
 use crate::{
     Answer, Ask, Attrs, ByteString, Fault, NameItem, Names, Packet, Pairs, Reply, Request, Side,
     WireError, encode, front,
@@ -47,53 +48,46 @@ fn reply(id: u32, answer: Answer) -> Packet {
     Packet::Reply(Reply { id, answer })
 }
 
-/// Whether a packet is written as these bytes, behind what is there already.
-fn is_written_as(alloc: Global, packet: &Packet, bytes: &[u8]) -> Result<bool, AllocError> {
-    let mut out = Vec::from_slice(alloc, b"kept")?;
-    let mut expected = Vec::from_slice(alloc, b"kept")?;
-    expected.extend_from_slice(bytes)?;
-    Ok(encode(packet, &mut out).is_ok() && out.as_slice() == expected.as_slice())
+/// Whether a packet is written as these bytes.
+fn is_written(alloc: Global, packet: &Packet, bytes: &[u8]) -> bool {
+    let mut out = Vec::new(alloc);
+    encode(packet, &mut out).is_ok() && out.as_slice() == bytes
 }
 
-/// The packet that exactly these bytes are, read in front of the beginning of a further one.
-fn packet_of(alloc: Global, side: Side, bytes: &[u8]) -> Result<Packet, &'static str> {
-    let mut stream = Vec::new(alloc);
-    if stream.extend_from_slice(bytes).is_err() || stream.extend_from_slice(MORE).is_err() {
-        return Err("no memory");
-    }
-    match front(alloc, stream.as_slice(), side) {
-        Ok(Some((packet, taken))) if taken == bytes.len() => Ok(packet),
-        Ok(Some(_)) => Err("another length"),
-        Ok(None) => Err("not whole"),
-        Err(_) => Err("a fault"),
-    }
+/// These bytes, with the beginning of a further packet behind them.
+fn with_more(alloc: Global, bytes: &[u8]) -> Result<Vec<u8>, AllocError> {
+    let mut stream = Vec::from_slice(alloc, bytes)?;
+    stream.extend_from_slice(MORE)?;
+    Ok(stream)
 }
 
-/// What is asked in a client's packet with that id.
-fn ask_of(alloc: Global, bytes: &[u8], expected: u32) -> Result<Ask, &'static str> {
-    match packet_of(alloc, Side::Client, bytes)? {
-        Packet::Request(Request { id, ask }) if id == expected => Ok(ask),
-        _ => Err("another packet"),
+/// Whether so many bytes are read in front of the stream, as a packet that is written as they are.
+fn is_read(alloc: Global, side: Side, stream: &[u8], length: usize) -> bool {
+    match front(alloc, stream, side) {
+        Ok(Some((packet, taken))) => {
+            taken == length && taken <= stream.len() && is_written(alloc, &packet, &stream[..taken])
+        }
+        _ => false,
     }
 }
 
-/// What is answered in a server's packet with that id.
-fn answer_of(alloc: Global, bytes: &[u8], expected: u32) -> Result<Answer, &'static str> {
-    match packet_of(alloc, Side::Server, bytes)? {
-        Packet::Reply(Reply { id, answer }) if id == expected => Ok(answer),
-        _ => Err("another packet"),
+/// Whether a packet is written as these bytes, and they are read as it.
+fn is_packet(alloc: Global, side: Side, packet: Packet, bytes: &[u8]) -> bool {
+    is_written(alloc, &packet, bytes) && reads_back(alloc, side, bytes)
+}
+
+fn is_request(alloc: Global, id: u32, ask: Ask, bytes: &[u8]) -> bool {
+    is_packet(alloc, Side::Client, request(id, ask), bytes)
+}
+
+fn is_reply(alloc: Global, id: u32, answer: Answer, bytes: &[u8]) -> bool {
+    is_packet(alloc, Side::Server, reply(id, answer), bytes)
+}
+
+/// Whether these bytes are read in front of a further packet, as one that is written as they are.
+fn reads_back(alloc: Global, side: Side, bytes: &[u8]) -> bool {
+    match with_more(alloc, bytes) {
+        Ok(stream) => is_read(alloc, side, stream.as_slice(), bytes.len()),
+        Err(_) => false,
     }
-}
-
-/// Whether a string is these bytes.
-fn is(string: &ByteString, bytes: &[u8]) -> bool {
-    string.as_slice() == bytes
-}
-
-/// Whether these are all of the pairs, in their order.
-fn are(pairs: &Pairs, expected: &[(&[u8], &[u8])]) -> bool {
-    let pairs = pairs.as_slice();
-    pairs.len() == expected.len()
-        && pairs.iter().zip(expected.iter()).all(|((name, data), (first, second))| is(name, first)
-            && is(data, second))
 }

@@ -173,27 +173,31 @@ fn a_fault_carries_the_place_of_its_packet(rt: HostRuntime) -> Result<(), Fail> 
     Ok(())
 }
 
+fn is_unknown(frames: &mut FrameBuf) -> bool {
+    match frames.next(Side::Client) {
+        Ok(
+            Some(
+                Packet::Request(
+                    Request {
+                        id,
+                        ask: Ask::Unknown { name, rest },
+                    },
+                ),
+            ),
+        ) => {
+            id == 2 && name.as_slice() == b"x".as_slice() && rest.as_slice() == b"ab".as_slice()
+        }
+        _ => false,
+    }
+}
+
 #[test]
 fn an_unknown_extension_comes_behind_init(rt: HostRuntime) -> Result<(), Fail> {
     let mut frames = empty(&rt)?;
     assert_eq!(rt; frames.push(&INIT), 9);
     assert_eq!(rt; frames.push(b"\0\0\0\x0c\xc8\0\0\0\x02\0\0\0\x01xab"), 16);
     assert!(rt; is_init(&mut frames));
-    match frames.next(Side::Client)? {
-        Some(
-            Packet::Request(
-                Request {
-                    id,
-                    ask: Ask::Unknown { name, rest },
-                },
-            ),
-        ) => {
-            assert_eq!(rt; id, 2);
-            assert!(rt; name.as_slice() == b"x".as_slice());
-            assert!(rt; rest.as_slice() == b"ab".as_slice());
-        }
-        _ => return Err(Fail::from("another packet")),
-    }
+    assert!(rt; is_unknown(&mut frames));
     assert!(rt; is_waiting(&mut frames));
     Ok(())
 }

@@ -1,5 +1,6 @@
 //! Packets in bytes that are written out by hand.
 use super::*;
+use crate::attributes::Attrs;
 use std::test::*;
 
 /// INIT of version 3, with no extensions.
@@ -38,54 +39,64 @@ fn is_waiting(rt: &HostRuntime, bytes: &[u8]) -> bool {
     matches!(front(rt.alloc(), bytes, Side::Client), Ok(None))
 }
 
-#[test]
-fn init_is_read_once_it_is_whole(rt: HostRuntime) -> Result<(), Fail> {
-    for cut in 0..INIT.len() {
-        assert!(rt; is_waiting(&rt, &INIT[..cut]));
+/// Whether INIT of version 3 is in front, and takes nine bytes.
+fn is_init(rt: &HostRuntime, bytes: &[u8]) -> bool {
+    match front(rt.alloc(), bytes, Side::Client) {
+        Ok(
+            Some(
+                (
+                    Packet::Init {
+                        version,
+                        extensions,
+                    },
+                    taken,
+                ),
+            ),
+        ) => version == 3 && extensions.as_slice().is_empty() && taken == 9,
+        _ => false,
     }
-    let found = front(rt.alloc(), &INIT, Side::Client)
-        .ok()
-        .ok_or("a fault")?;
-    let (packet, taken) = found.ok_or("no packet")?;
-    assert_eq!(rt; taken, 9);
-    match packet {
-        Packet::Init {
-            version,
-            extensions,
-        } => {
-            assert_eq!(rt; version, 3);
-            assert!(rt; extensions.as_slice().is_empty());
-        }
-        _ => return Err(Fail::from("another packet")),
-    }
-    Ok(())
 }
 
 #[test]
-fn mkdir_is_read_field_by_field(rt: HostRuntime) -> Result<(), Fail> {
-    let found = front(rt.alloc(), &MKDIR, Side::Client)
-        .ok()
-        .ok_or("a fault")?;
-    let (packet, taken) = found.ok_or("no packet")?;
-    assert_eq!(rt; taken, 19);
-    match packet {
-        Packet::Request(
-            Request {
-                id,
-                ask: Ask::Mkdir { path, attrs },
-            },
-        ) => {
-            assert_eq!(rt; id, 1);
-            assert_eq!(rt; path.as_slice(), b"/a".as_slice());
-            assert_eq!(rt; attrs.size, None);
-            assert_eq!(rt; attrs.owner, None);
-            assert_eq!(rt; attrs.permissions, None);
-            assert_eq!(rt; attrs.times, None);
-            assert!(rt; attrs.extended.is_none());
-        }
-        _ => return Err(Fail::from("another packet")),
+fn init_is_read_once_it_is_whole(rt: HostRuntime) {
+    for cut in 0..INIT.len() {
+        assert!(rt; is_waiting(&rt, &INIT[..cut]));
     }
-    Ok(())
+    assert!(rt; is_init(&rt, &INIT));
+}
+
+/// Whether attributes say nothing.
+fn are_none(attrs: &Attrs) -> bool {
+    attrs.size.is_none()
+        && attrs.owner.is_none()
+        && attrs.permissions.is_none()
+        && attrs.times.is_none()
+        && attrs.extended.is_none()
+}
+
+/// Whether MKDIR of "/a" with the id 1 and no attributes is in front, and takes 19 bytes.
+fn is_mkdir(rt: &HostRuntime, bytes: &[u8]) -> bool {
+    match front(rt.alloc(), bytes, Side::Client) {
+        Ok(
+            Some(
+                (
+                    Packet::Request(
+                        Request {
+                            id,
+                            ask: Ask::Mkdir { path, attrs },
+                        },
+                    ),
+                    taken,
+                ),
+            ),
+        ) => id == 1 && path.as_slice() == b"/a".as_slice() && are_none(&attrs) && taken == 19,
+        _ => false,
+    }
+}
+
+#[test]
+fn mkdir_is_read_field_by_field(rt: HostRuntime) {
+    assert!(rt; is_mkdir(&rt, &MKDIR));
 }
 
 #[test]

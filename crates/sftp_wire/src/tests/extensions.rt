@@ -12,14 +12,7 @@ fn posix_rename(rt: HostRuntime) -> Result<(), Fail> {
         oldpath: text(alloc, b"/a")?,
         newpath: text(alloc, b"/b")?,
     };
-    assert!(rt; is_written_as(alloc, &request(0x15, ask), bytes)?);
-    match ask_of(alloc, bytes, 0x15)? {
-        Ask::PosixRename { oldpath, newpath } => {
-            assert!(rt; is(&oldpath, b"/a"));
-            assert!(rt; is(&newpath, b"/b"));
-        }
-        _ => return Err(Fail::from("another request")),
-    }
+    assert!(rt; is_request(alloc, 0x15, ask, bytes));
     Ok(())
 }
 
@@ -33,14 +26,7 @@ fn hardlink(rt: HostRuntime) -> Result<(), Fail> {
         oldpath: text(alloc, b"/\xe9")?,
         newpath: text(alloc, b"")?,
     };
-    assert!(rt; is_written_as(alloc, &request(0x16, ask), bytes)?);
-    match ask_of(alloc, bytes, 0x16)? {
-        Ask::Hardlink { oldpath, newpath } => {
-            assert!(rt; is(&oldpath, b"/\xe9"));
-            assert!(rt; is(&newpath, b""));
-        }
-        _ => return Err(Fail::from("another request")),
-    }
+    assert!(rt; is_request(alloc, 0x16, ask, bytes));
     Ok(())
 }
 
@@ -51,9 +37,7 @@ fn fsync(rt: HostRuntime) -> Result<(), Fail> {
     let ask = Ask::Fsync {
         handle: text(alloc, b"h")?,
     };
-    assert!(rt; is_written_as(alloc, &request(0x17, ask), bytes)?);
-    let found = ask_of(alloc, bytes, 0x17)?;
-    assert!(rt; matches!(&found, Ask::Fsync { handle } if is(handle, b"h")));
+    assert!(rt; is_request(alloc, 0x17, ask, bytes));
     Ok(())
 }
 
@@ -66,14 +50,7 @@ fn unknown(rt: HostRuntime) -> Result<(), Fail> {
         name: text(alloc, b"x")?,
         rest: text(alloc, b"ab")?,
     };
-    assert!(rt; is_written_as(alloc, &request(2, ask), bytes)?);
-    match ask_of(alloc, bytes, 2)? {
-        Ask::Unknown { name, rest } => {
-            assert!(rt; is(&name, b"x"));
-            assert!(rt; is(&rest, b"ab"));
-        }
-        _ => return Err(Fail::from("another request")),
-    }
+    assert!(rt; is_request(alloc, 2, ask, bytes));
     Ok(())
 }
 
@@ -86,13 +63,6 @@ fn unknown_without_data(rt: HostRuntime) -> Result<(), Fail> {
         name: text(alloc, b"fsync@openssh.co")?,
         rest: text(alloc, b"")?,
     };
-    assert!(rt; is_written_as(alloc, &request(3, ask), bytes)?);
-    match ask_of(alloc, bytes, 3)? {
-        Ask::Unknown { name, rest } => {
-            assert!(rt; is(&name, b"fsync@openssh.co"));
-            assert!(rt; is(&rest, b""));
-        }
-        _ => return Err(Fail::from("another request")),
-    }
+    assert!(rt; is_request(alloc, 3, ask, bytes));
     Ok(())
 }

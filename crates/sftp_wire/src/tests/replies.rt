@@ -14,19 +14,7 @@ fn status(rt: HostRuntime) -> Result<(), Fail> {
         message: text(alloc, b"Failure")?,
         language: text(alloc, b"en")?,
     };
-    assert!(rt; is_written_as(alloc, &reply(0x10, answer), bytes)?);
-    match answer_of(alloc, bytes, 0x10)? {
-        Answer::Status {
-            code,
-            message,
-            language,
-        } => {
-            assert_eq!(rt; code, 4);
-            assert!(rt; is(&message, b"Failure"));
-            assert!(rt; is(&language, b"en"));
-        }
-        _ => return Err(Fail::from("another reply")),
-    }
+    assert!(rt; is_reply(alloc, 0x10, answer, bytes));
     Ok(())
 }
 
@@ -40,19 +28,7 @@ fn status_of_an_unknown_code(rt: HostRuntime) -> Result<(), Fail> {
         message: text(alloc, b"")?,
         language: text(alloc, b"\xc3\xa9")?,
     };
-    assert!(rt; is_written_as(alloc, &reply(0x10, answer), bytes)?);
-    match answer_of(alloc, bytes, 0x10)? {
-        Answer::Status {
-            code,
-            message,
-            language,
-        } => {
-            assert_eq!(rt; code, 0xffff_ffff);
-            assert!(rt; is(&message, b""));
-            assert!(rt; is(&language, b"\xc3\xa9"));
-        }
-        _ => return Err(Fail::from("another reply")),
-    }
+    assert!(rt; is_reply(alloc, 0x10, answer, bytes));
     Ok(())
 }
 
@@ -62,9 +38,7 @@ fn handle(rt: HostRuntime) -> Result<(), Fail> {
     let bytes = b"\0\0\0\x15\x66\0\0\0\x11\0\0\0\x0c\0\0\0\0\0\0\0\x01\0\0\0\x02";
     let name = b"\0\0\0\0\0\0\0\x01\0\0\0\x02";
     let answer = Answer::Handle(text(alloc, name)?);
-    assert!(rt; is_written_as(alloc, &reply(0x11, answer), bytes)?);
-    let found = answer_of(alloc, bytes, 0x11)?;
-    assert!(rt; matches!(&found, Answer::Handle(handle) if is(handle, name)));
+    assert!(rt; is_reply(alloc, 0x11, answer, bytes));
     Ok(())
 }
 
@@ -73,10 +47,16 @@ fn data(rt: HostRuntime) -> Result<(), Fail> {
     let alloc = rt.alloc();
     let bytes = b"\0\0\0\x0c\x67\0\0\0\x12\0\0\0\x03\0\xff\x7f";
     let answer = Answer::Data(text(alloc, b"\0\xff\x7f")?);
-    assert!(rt; is_written_as(alloc, &reply(0x12, answer), bytes)?);
-    let found = answer_of(alloc, bytes, 0x12)?;
-    assert!(rt; matches!(&found, Answer::Data(data) if is(data, b"\0\xff\x7f")));
+    assert!(rt; is_reply(alloc, 0x12, answer, bytes));
     Ok(())
+}
+
+fn item(filename: ByteString, longname: ByteString, attrs: Attrs) -> NameItem {
+    NameItem {
+        filename,
+        longname,
+        attrs,
+    }
 }
 
 #[test]
@@ -87,44 +67,21 @@ fn name(rt: HostRuntime) -> Result<(), Fail> {
         \0\0\0\x07\0\0\0\0\0\0\0\x2a\0\0\x03\xe8\0\0\0\x64\0\0\x81\xa4\
         \0\0\0\x02\xc3\xa9\0\0\0\0\
         \0\0\0\0";
+    let file = Attrs {
+        size: Some(42),
+        owner: Some((1000, 100)),
+        permissions: Some(0o100_644),
+        ..no_attributes()
+    };
     let mut items = Vec::new(alloc);
-    items.push(NameItem {
-        filename: text(alloc, b"a")?,
-        longname: text(alloc, b"-rw a")?,
-        attrs: Attrs {
-            size: Some(42),
-            owner: Some((1000, 100)),
-            permissions: Some(0o100_644),
-            ..no_attributes()
-        },
-    })?;
-    items.push(NameItem {
-        filename: text(alloc, b"\xc3\xa9")?,
-        longname: text(alloc, b"")?,
-        attrs: no_attributes(),
-    })?;
+    items.push(item(text(alloc, b"a")?, text(alloc, b"-rw a")?, file))?;
+    items.push(item(
+        text(alloc, b"\xc3\xa9")?,
+        text(alloc, b"")?,
+        no_attributes(),
+    ))?;
     let answer = Answer::Name(Names::new(items));
-    assert!(rt; is_written_as(alloc, &reply(0x13, answer), bytes)?);
-    let Answer::Name(found) = answer_of(alloc, bytes, 0x13)? else {
-        return Err(Fail::from("another reply"));
-    };
-    let [first, second] = found.as_slice() else {
-        return Err(Fail::from("another number of names"));
-    };
-    assert!(rt; is(&first.filename, b"a"));
-    assert!(rt; is(&first.longname, b"-rw a"));
-    assert_eq!(rt; first.attrs.size, Some(42));
-    assert_eq!(rt; first.attrs.owner, Some((1000, 100)));
-    assert_eq!(rt; first.attrs.permissions, Some(0o100_644));
-    assert_eq!(rt; first.attrs.times, None);
-    assert!(rt; first.attrs.extended.is_none());
-    assert!(rt; is(&second.filename, b"\xc3\xa9"));
-    assert!(rt; is(&second.longname, b""));
-    assert_eq!(rt; second.attrs.size, None);
-    assert_eq!(rt; second.attrs.owner, None);
-    assert_eq!(rt; second.attrs.permissions, None);
-    assert_eq!(rt; second.attrs.times, None);
-    assert!(rt; second.attrs.extended.is_none());
+    assert!(rt; is_reply(alloc, 0x13, answer, bytes));
     Ok(())
 }
 
@@ -133,9 +90,7 @@ fn name_without_names(rt: HostRuntime) -> Result<(), Fail> {
     let alloc = rt.alloc();
     let bytes = b"\0\0\0\x09\x68\0\0\0\x01\0\0\0\0";
     let answer = Answer::Name(Names::new(Vec::new(alloc)));
-    assert!(rt; is_written_as(alloc, &reply(1, answer), bytes)?);
-    let found = answer_of(alloc, bytes, 1)?;
-    assert!(rt; matches!(&found, Answer::Name(items) if items.as_slice().is_empty()));
+    assert!(rt; is_reply(alloc, 1, answer, bytes));
     Ok(())
 }
 
@@ -156,17 +111,7 @@ fn attrs(rt: HostRuntime) -> Result<(), Fail> {
         times: Some((0xffff_ffff, 3)),
         extended: Some(pairs(alloc, &extended)?),
     });
-    assert!(rt; is_written_as(alloc, &reply(0x14, answer), bytes)?);
-    match answer_of(alloc, bytes, 0x14)? {
-        Answer::Attrs(attrs) => {
-            assert_eq!(rt; attrs.size, Some(0x8000_0000_0000_0001));
-            assert_eq!(rt; attrs.owner, Some((1, 2)));
-            assert_eq!(rt; attrs.permissions, Some(0o040_755));
-            assert_eq!(rt; attrs.times, Some((0xffff_ffff, 3)));
-            assert!(rt; matches!(&attrs.extended, Some(found) if are(found, &extended)));
-        }
-        _ => return Err(Fail::from("another reply")),
-    }
+    assert!(rt; is_reply(alloc, 0x14, answer, bytes));
     Ok(())
 }
 
@@ -175,12 +120,11 @@ fn attrs(rt: HostRuntime) -> Result<(), Fail> {
 fn attrs_with_an_empty_list(rt: HostRuntime) -> Result<(), Fail> {
     let alloc = rt.alloc();
     let bytes = b"\0\0\0\x0d\x69\0\0\0\x01\x80\0\0\0\0\0\0\0";
-    let found = answer_of(alloc, bytes, 1)?;
-    assert!(rt;
-        matches!(&found,
-        Answer::Attrs(attrs) if matches!(&attrs.extended, Some(pairs) if are(pairs, &[])))
-    );
-    assert!(rt; is_written_as(alloc, &reply(1, found), bytes)?);
+    let answer = Answer::Attrs(Attrs {
+        extended: Some(Pairs::new(Vec::new(alloc))),
+        ..no_attributes()
+    });
+    assert!(rt; is_reply(alloc, 1, answer, bytes));
     Ok(())
 }
 
@@ -189,9 +133,7 @@ fn extended_reply(rt: HostRuntime) -> Result<(), Fail> {
     let alloc = rt.alloc();
     let bytes = b"\0\0\0\x08\xc9\0\0\0\x18\0\xc8\xff";
     let answer = Answer::Extended(text(alloc, b"\0\xc8\xff")?);
-    assert!(rt; is_written_as(alloc, &reply(0x18, answer), bytes)?);
-    let found = answer_of(alloc, bytes, 0x18)?;
-    assert!(rt; matches!(&found, Answer::Extended(bytes) if is(bytes, b"\0\xc8\xff")));
+    assert!(rt; is_reply(alloc, 0x18, answer, bytes));
     Ok(())
 }
 
@@ -200,8 +142,6 @@ fn empty_extended_reply(rt: HostRuntime) -> Result<(), Fail> {
     let alloc = rt.alloc();
     let bytes = b"\0\0\0\x05\xc9\0\0\0\x19";
     let answer = Answer::Extended(text(alloc, b"")?);
-    assert!(rt; is_written_as(alloc, &reply(0x19, answer), bytes)?);
-    let found = answer_of(alloc, bytes, 0x19)?;
-    assert!(rt; matches!(&found, Answer::Extended(bytes) if is(bytes, b"")));
+    assert!(rt; is_reply(alloc, 0x19, answer, bytes));
     Ok(())
 }

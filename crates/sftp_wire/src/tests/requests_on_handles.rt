@@ -9,9 +9,7 @@ fn close(rt: HostRuntime) -> Result<(), Fail> {
     let ask = Ask::Close {
         handle: text(alloc, b"\0\xff")?,
     };
-    assert!(rt; is_written_as(alloc, &request(0, ask), bytes)?);
-    let found = ask_of(alloc, bytes, 0)?;
-    assert!(rt; matches!(&found, Ask::Close { handle } if is(handle, b"\0\xff")));
+    assert!(rt; is_request(alloc, 0, ask, bytes));
     Ok(())
 }
 
@@ -27,19 +25,7 @@ fn read(rt: HostRuntime) -> Result<(), Fail> {
         offset: 0x0102_0304_0506_0708,
         len: 0x8000,
     };
-    assert!(rt; is_written_as(alloc, &request(2, ask), bytes)?);
-    match ask_of(alloc, bytes, 2)? {
-        Ask::Read {
-            handle,
-            offset,
-            len,
-        } => {
-            assert!(rt; is(&handle, b"h1"));
-            assert_eq!(rt; offset, 0x0102_0304_0506_0708);
-            assert_eq!(rt; len, 0x8000);
-        }
-        _ => return Err(Fail::from("another request")),
-    }
+    assert!(rt; is_request(alloc, 2, ask, bytes));
     Ok(())
 }
 
@@ -55,19 +41,7 @@ fn write(rt: HostRuntime) -> Result<(), Fail> {
         offset: 0xffff_ffff_ffff_ffff,
         bytes: text(alloc, b"\0\x80")?,
     };
-    assert!(rt; is_written_as(alloc, &request(3, ask), bytes)?);
-    match ask_of(alloc, bytes, 3)? {
-        Ask::Write {
-            handle,
-            offset,
-            bytes,
-        } => {
-            assert!(rt; is(&handle, b"\x01\x02\x03"));
-            assert_eq!(rt; offset, 0xffff_ffff_ffff_ffff);
-            assert!(rt; is(&bytes, b"\0\x80"));
-        }
-        _ => return Err(Fail::from("another request")),
-    }
+    assert!(rt; is_request(alloc, 3, ask, bytes));
     Ok(())
 }
 
@@ -78,9 +52,7 @@ fn fstat_of_the_empty_handle(rt: HostRuntime) -> Result<(), Fail> {
     let ask = Ask::Fstat {
         handle: text(alloc, b"")?,
     };
-    assert!(rt; is_written_as(alloc, &request(0x8000_0000, ask), bytes)?);
-    let found = ask_of(alloc, bytes, 0x8000_0000)?;
-    assert!(rt; matches!(&found, Ask::Fstat { handle } if is(handle, b"")));
+    assert!(rt; is_request(alloc, 0x8000_0000, ask, bytes));
     Ok(())
 }
 
@@ -103,18 +75,7 @@ fn fsetstat(rt: HostRuntime) -> Result<(), Fail> {
             ..no_attributes()
         },
     };
-    assert!(rt; is_written_as(alloc, &request(5, ask), bytes)?);
-    match ask_of(alloc, bytes, 5)? {
-        Ask::Fsetstat { handle, attrs } => {
-            assert!(rt; is(&handle, b"abcdefghijkl"));
-            assert_eq!(rt; attrs.size, Some(0));
-            assert_eq!(rt; attrs.owner, None);
-            assert_eq!(rt; attrs.permissions, None);
-            assert_eq!(rt; attrs.times, None);
-            assert!(rt; matches!(&attrs.extended, Some(found) if are(found, &extended)));
-        }
-        _ => return Err(Fail::from("another request")),
-    }
+    assert!(rt; is_request(alloc, 5, ask, bytes));
     Ok(())
 }
 
@@ -125,9 +86,7 @@ fn readdir(rt: HostRuntime) -> Result<(), Fail> {
     let ask = Ask::Readdir {
         handle: text(alloc, b"\0\0\0\0")?,
     };
-    assert!(rt; is_written_as(alloc, &request(7, ask), bytes)?);
-    let found = ask_of(alloc, bytes, 7)?;
-    assert!(rt; matches!(&found, Ask::Readdir { handle } if is(handle, b"\0\0\0\0")));
+    assert!(rt; is_request(alloc, 7, ask, bytes));
     Ok(())
 }
 
@@ -141,9 +100,7 @@ fn close_of_the_longest_handle(rt: HostRuntime) -> Result<(), Fail> {
     let ask = Ask::Close {
         handle: text(alloc, name.as_slice())?,
     };
-    assert!(rt; is_written_as(alloc, &request(1, ask), bytes.as_slice())?);
-    let found = ask_of(alloc, bytes.as_slice(), 1)?;
-    assert!(rt; matches!(&found, Ask::Close { handle } if is(handle, name.as_slice())));
+    assert!(rt; is_request(alloc, 1, ask, bytes.as_slice()));
     Ok(())
 }
 
@@ -166,18 +123,6 @@ fn write_of_the_longest_packet(rt: HostRuntime) -> Result<(), Fail> {
         offset: 0x1_0000_0000,
         bytes: text(alloc, data.as_slice())?,
     };
-    assert!(rt; is_written_as(alloc, &request(1, ask), packet.as_slice())?);
-    match ask_of(alloc, packet.as_slice(), 1)? {
-        Ask::Write {
-            handle,
-            offset,
-            bytes,
-        } => {
-            assert!(rt; is(&handle, b"abcdefghijkl"));
-            assert_eq!(rt; offset, 0x1_0000_0000);
-            assert!(rt; is(&bytes, data.as_slice()));
-        }
-        _ => return Err(Fail::from("another request")),
-    }
+    assert!(rt; is_request(alloc, 1, ask, packet.as_slice()));
     Ok(())
 }

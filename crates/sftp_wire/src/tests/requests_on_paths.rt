@@ -18,23 +18,7 @@ fn open(rt: HostRuntime) -> Result<(), Fail> {
             ..no_attributes()
         },
     };
-    assert!(rt; is_written_as(alloc, &request(0xffff_fffe, ask), bytes)?);
-    match ask_of(alloc, bytes, 0xffff_fffe)? {
-        Ask::Open {
-            path,
-            pflags,
-            attrs,
-        } => {
-            assert!(rt; is(&path, b"/d\xc3\xa9"));
-            assert_eq!(rt; pflags, 0x1a);
-            assert_eq!(rt; attrs.size, Some(0x1_0000_0002));
-            assert_eq!(rt; attrs.owner, None);
-            assert_eq!(rt; attrs.permissions, Some(0o644));
-            assert_eq!(rt; attrs.times, None);
-            assert!(rt; attrs.extended.is_none());
-        }
-        _ => return Err(Fail::from("another request")),
-    }
+    assert!(rt; is_request(alloc, 0xffff_fffe, ask, bytes));
     Ok(())
 }
 
@@ -45,9 +29,7 @@ fn lstat_of_the_empty_path(rt: HostRuntime) -> Result<(), Fail> {
     let ask = Ask::Lstat {
         path: text(alloc, b"")?,
     };
-    assert!(rt; is_written_as(alloc, &request(0x7f, ask), bytes)?);
-    let found = ask_of(alloc, bytes, 0x7f)?;
-    assert!(rt; matches!(&found, Ask::Lstat { path } if is(path, b"")));
+    assert!(rt; is_request(alloc, 0x7f, ask, bytes));
     Ok(())
 }
 
@@ -66,18 +48,7 @@ fn setstat(rt: HostRuntime) -> Result<(), Fail> {
             ..no_attributes()
         },
     };
-    assert!(rt; is_written_as(alloc, &request(4, ask), bytes)?);
-    match ask_of(alloc, bytes, 4)? {
-        Ask::Setstat { path, attrs } => {
-            assert!(rt; is(&path, b"/a b"));
-            assert_eq!(rt; attrs.size, None);
-            assert_eq!(rt; attrs.owner, Some((0, 0xffff_ffff)));
-            assert_eq!(rt; attrs.permissions, Some(0o7777));
-            assert_eq!(rt; attrs.times, Some((0x5fee_6600, 0x5fee_6601)));
-            assert!(rt; attrs.extended.is_none());
-        }
-        _ => return Err(Fail::from("another request")),
-    }
+    assert!(rt; is_request(alloc, 4, ask, bytes));
     Ok(())
 }
 
@@ -88,9 +59,7 @@ fn opendir(rt: HostRuntime) -> Result<(), Fail> {
     let ask = Ask::Opendir {
         path: text(alloc, b".")?,
     };
-    assert!(rt; is_written_as(alloc, &request(6, ask), bytes)?);
-    let found = ask_of(alloc, bytes, 6)?;
-    assert!(rt; matches!(&found, Ask::Opendir { path } if is(path, b".")));
+    assert!(rt; is_request(alloc, 6, ask, bytes));
     Ok(())
 }
 
@@ -101,9 +70,7 @@ fn remove(rt: HostRuntime) -> Result<(), Fail> {
     let ask = Ask::Remove {
         path: text(alloc, b"/\xff\xfe")?,
     };
-    assert!(rt; is_written_as(alloc, &request(8, ask), bytes)?);
-    let found = ask_of(alloc, bytes, 8)?;
-    assert!(rt; matches!(&found, Ask::Remove { path } if is(path, b"/\xff\xfe")));
+    assert!(rt; is_request(alloc, 8, ask, bytes));
     Ok(())
 }
 
@@ -118,18 +85,7 @@ fn mkdir(rt: HostRuntime) -> Result<(), Fail> {
             ..no_attributes()
         },
     };
-    assert!(rt; is_written_as(alloc, &request(9, ask), bytes)?);
-    match ask_of(alloc, bytes, 9)? {
-        Ask::Mkdir { path, attrs } => {
-            assert!(rt; is(&path, b"/a"));
-            assert_eq!(rt; attrs.size, None);
-            assert_eq!(rt; attrs.owner, None);
-            assert_eq!(rt; attrs.permissions, Some(0o755));
-            assert_eq!(rt; attrs.times, None);
-            assert!(rt; attrs.extended.is_none());
-        }
-        _ => return Err(Fail::from("another request")),
-    }
+    assert!(rt; is_request(alloc, 9, ask, bytes));
     Ok(())
 }
 
@@ -140,9 +96,7 @@ fn rmdir(rt: HostRuntime) -> Result<(), Fail> {
     let ask = Ask::Rmdir {
         path: text(alloc, b"/a/")?,
     };
-    assert!(rt; is_written_as(alloc, &request(10, ask), bytes)?);
-    let found = ask_of(alloc, bytes, 10)?;
-    assert!(rt; matches!(&found, Ask::Rmdir { path } if is(path, b"/a/")));
+    assert!(rt; is_request(alloc, 10, ask, bytes));
     Ok(())
 }
 
@@ -153,9 +107,7 @@ fn realpath(rt: HostRuntime) -> Result<(), Fail> {
     let ask = Ask::Realpath {
         path: text(alloc, b"../..")?,
     };
-    assert!(rt; is_written_as(alloc, &request(11, ask), bytes)?);
-    let found = ask_of(alloc, bytes, 11)?;
-    assert!(rt; matches!(&found, Ask::Realpath { path } if is(path, b"../..")));
+    assert!(rt; is_request(alloc, 11, ask, bytes));
     Ok(())
 }
 
@@ -166,9 +118,7 @@ fn stat(rt: HostRuntime) -> Result<(), Fail> {
     let ask = Ask::Stat {
         path: text(alloc, b"/")?,
     };
-    assert!(rt; is_written_as(alloc, &request(12, ask), bytes)?);
-    let found = ask_of(alloc, bytes, 12)?;
-    assert!(rt; matches!(&found, Ask::Stat { path } if is(path, b"/")));
+    assert!(rt; is_request(alloc, 12, ask, bytes));
     Ok(())
 }
 
@@ -180,14 +130,7 @@ fn rename(rt: HostRuntime) -> Result<(), Fail> {
         oldpath: text(alloc, b"/old")?,
         newpath: text(alloc, b"/n")?,
     };
-    assert!(rt; is_written_as(alloc, &request(13, ask), bytes)?);
-    match ask_of(alloc, bytes, 13)? {
-        Ask::Rename { oldpath, newpath } => {
-            assert!(rt; is(&oldpath, b"/old"));
-            assert!(rt; is(&newpath, b"/n"));
-        }
-        _ => return Err(Fail::from("another request")),
-    }
+    assert!(rt; is_request(alloc, 13, ask, bytes));
     Ok(())
 }
 
@@ -198,9 +141,7 @@ fn readlink_of_a_path_with_a_byte_0(rt: HostRuntime) -> Result<(), Fail> {
     let ask = Ask::Readlink {
         path: text(alloc, b"/l\0")?,
     };
-    assert!(rt; is_written_as(alloc, &request(14, ask), bytes)?);
-    let found = ask_of(alloc, bytes, 14)?;
-    assert!(rt; matches!(&found, Ask::Readlink { path } if is(path, b"/l\0")));
+    assert!(rt; is_request(alloc, 14, ask, bytes));
     Ok(())
 }
 
@@ -213,16 +154,6 @@ fn symlink(rt: HostRuntime) -> Result<(), Fail> {
         targetpath: text(alloc, b"../t")?,
         linkpath: text(alloc, b"/l")?,
     };
-    assert!(rt; is_written_as(alloc, &request(15, ask), bytes)?);
-    match ask_of(alloc, bytes, 15)? {
-        Ask::Symlink {
-            targetpath,
-            linkpath,
-        } => {
-            assert!(rt; is(&targetpath, b"../t"));
-            assert!(rt; is(&linkpath, b"/l"));
-        }
-        _ => return Err(Fail::from("another request")),
-    }
+    assert!(rt; is_request(alloc, 15, ask, bytes));
     Ok(())
 }
