@@ -39,20 +39,21 @@ fn is_waiting(rt: &HostRuntime, bytes: &[u8]) -> bool {
     matches!(front(rt.alloc(), bytes, Side::Client), Ok(None))
 }
 
+/// Whether a packet is an INIT of version 3 without extensions.
+fn is_init_packet(packet: &Packet) -> bool {
+    match packet {
+        Packet::Init {
+            version,
+            extensions,
+        } => *version == 3 && extensions.as_slice().is_empty(),
+        _ => false,
+    }
+}
+
 /// Whether INIT of version 3 is in front, and takes nine bytes.
 fn is_init(rt: &HostRuntime, bytes: &[u8]) -> bool {
     match front(rt.alloc(), bytes, Side::Client) {
-        Ok(
-            Some(
-                (
-                    Packet::Init {
-                        version,
-                        extensions,
-                    },
-                    taken,
-                ),
-            ),
-        ) => version == 3 && extensions.as_slice().is_empty() && taken == 9,
+        Ok(Some((packet, taken))) => taken == 9 && is_init_packet(&packet),
         _ => false,
     }
 }
@@ -74,22 +75,23 @@ fn are_none(attrs: &Attrs) -> bool {
         && attrs.extended.is_none()
 }
 
-/// Whether MKDIR of "/a" with the id 1 and no attributes is in front, and takes 19 bytes.
+/// Whether a packet is a MKDIR of "/a" with the id 1 and no attributes.
+fn is_mkdir_packet(packet: &Packet) -> bool {
+    match packet {
+        Packet::Request(
+            Request {
+                id,
+                ask: Ask::Mkdir { path, attrs },
+            },
+        ) => *id == 1 && path.as_slice() == b"/a".as_slice() && are_none(attrs),
+        _ => false,
+    }
+}
+
+/// Whether that MKDIR is in front, and takes 19 bytes.
 fn is_mkdir(rt: &HostRuntime, bytes: &[u8]) -> bool {
     match front(rt.alloc(), bytes, Side::Client) {
-        Ok(
-            Some(
-                (
-                    Packet::Request(
-                        Request {
-                            id,
-                            ask: Ask::Mkdir { path, attrs },
-                        },
-                    ),
-                    taken,
-                ),
-            ),
-        ) => id == 1 && path.as_slice() == b"/a".as_slice() && are_none(&attrs) && taken == 19,
+        Ok(Some((packet, taken))) => taken == 19 && is_mkdir_packet(&packet),
         _ => false,
     }
 }
