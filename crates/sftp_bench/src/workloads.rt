@@ -4,7 +4,7 @@ ghost use Rattle.sftp_wire.specs.Spelling.{spelling};
 
 use crate::errors::BenchError;
 use sftp_wire::{Answer, Ask, Attrs, ByteString, Packet, Reply, Request, Side, encode};
-use std::alloc::{AllocError, Global};
+use std::alloc::Global;
 
 /// How many bytes of data a request to write has.
 const DATA: usize = 32_768;
