@@ -1,6 +1,6 @@
 -- Names, places and paths (draft-ietf-secsh-filexfer-02, section 6.2). The limits, and that empty
 -- components are passed over, are this profile's own.
-use Rattle.std.specs.Prelude.{◌==◌, ◌&&◌, not, nat_lt, nat_le, nat_eq, ℕ, ◌-◌, Bool, true, false, if◌then◌else◌, List, [], ◌∷◌, length, take, filter}
+use Rattle.std.specs.Prelude.{◌==◌, ◌&&◌, ◌||◌, not, nat_lt, nat_le, nat_eq, ℕ, ◌-◌, Bool, true, false, if◌then◌else◌, List, [], ◌∷◌, length, take, filter}
 use Rattle.std.specs.Ordering.{nat_cmp}
 use Rattle.std.specs.declared.cmp.Ordering.{Ordering}
 use Rattle.std.specs.Cmp.Lexicographic.{slice_cmp, pointwise}
@@ -34,6 +34,10 @@ name_limit = 255
 -- a name has 1 to 255 bytes, and is neither `.` nor `..`
 abbrev pub is_name : List ℕ → Bool
 is_name name = (nat_lt 0 (length name) && nat_le (length name) name_limit) && (list_all is_name_byte name && (not (is_dot name) && not (is_dot_dot name)))
+
+-- what a walk may look at: `.`, `..` or a name
+abbrev pub is_step : List ℕ → Bool
+is_step component = is_dot component || (is_dot_dot component || is_name component)
 
 -- byte strings, and so names, are ordered by their first bytes that differ, and one before those that it begins
 abbrev pub bytes_cmp : List ℕ → List ℕ → Ordering
@@ -83,6 +87,10 @@ absolute [] = 47 ∷ []
 absolute (n ∷ ns) = flat_map (λ name. 47 ∷ name) (n ∷ ns)
 
 -- ---- paths
+
+-- a byte that is no `/`
+abbrev pub is_inner : ℕ → Bool
+is_inner b = not (b == 47)
 
 -- a byte in front of the first part
 abbrev pub with_first : ℕ → List (List ℕ) → List (List ℕ)

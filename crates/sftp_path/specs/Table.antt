@@ -1,6 +1,6 @@
 -- Finite maps that compute. A table is the list of its entries in rising order of their keys, which is what
 -- a clause sees of a `BTreeMap`. Each operation takes the comparison of the keys.
-use Rattle.std.specs.Prelude.{ℕ, Bool, List, [], ◌∷◌, length, filter, Option}
+use Rattle.std.specs.Prelude.{ℕ, Bool, List, [], ◌∷◌, length, filter, Option, Some, None, cond}
 use Rattle.std.specs.declared.cmp.Ordering.{Ordering}
 use Rattle.std.specs.BTreeMap.{insert_entry, is_at}
 use Rattle.std.specs.Map.{lookup, remove_entry, keys_of}
@@ -15,8 +15,13 @@ module _ {K X : Type 0} where
   size table = length table
 
   -- the entries that pass a test
-  unfoldable pub retain : (K × X → Bool) → Table K X → Table K X
-  retain keeps table = filter keeps table
+  unfoldable pub retain : Table K X → (K × X → Bool) → Table K X
+  retain table keeps = filter keeps table
+
+  -- what of a value at a key passes a test
+  abbrev pub kept : (K × X → Bool) → K → Option X → Option X
+  kept keeps key None = None
+  kept keeps key (Some value) = cond (keeps (key, value)) (Some value) None
 
   module _ (cmp : K → K → Ordering) where
     -- the keys rise, each coming once

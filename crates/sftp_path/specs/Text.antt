@@ -1,5 +1,5 @@
 -- The texts of places.
-use Rattle.std.specs.Prelude.{◌≡◌, ℕ, List, [], ◌∷◌, ◌++◌, Option, None, Some, IsTrue}
+use Rattle.std.specs.Prelude.{◌≡◌, ℕ, List, [], ◌∷◌, ◌++◌, IsTrue}
 use Rattle.sftp_path.specs.Place.{Place, are_names, absolute}
 
 -- what is the absolute text of a place

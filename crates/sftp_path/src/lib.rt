@@ -2,10 +2,13 @@
 #![tactic(auto)]
 
 mod errors;
+pub mod laws;
 mod names;
 mod parts;
 mod paths;
 mod places;
+pub mod rows;
+pub mod tables;
 mod texts;
 
 pub use errors::NoMemory;
@@ -14,3 +17,6 @@ pub use parts::Parts;
 pub use paths::{BadPath, components, good_path};
 pub use places::Place;
 pub use texts::{absolute, canonical};
+
+#[cfg(test)]
+mod tests;

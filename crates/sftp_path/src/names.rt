@@ -14,6 +14,9 @@ use std::marker::Model;
 /// The most bytes of a name. The limit is this profile's own.
 pub(crate) const NAME_LIMIT: usize = 255;
 
+/// The byte that no path holds.
+pub(crate) const NUL: u8 = b'\0';
+
 /// One name of a directory's entry: 1 to 255 bytes, no byte 0, no `/`, and neither `.` nor `..`.
 #[derive(Debug, Drop)]
 pub struct Name {
@@ -136,7 +139,7 @@ pub fn is_name(component: &[u8]) -> bool
 fn are_name_bytes(bytes: &[u8]) -> bool
     ensures { result ≡ list_all spec.is_name_byte bytes.now }
 {
-    bytes.iter().all(|byte| *byte != 0 && *byte != b'/')
+    bytes.iter().all(|byte| *byte != NUL && *byte != b'/')
 }
 
 /// Whether the component is `.`, which stays.

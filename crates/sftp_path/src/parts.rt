@@ -10,7 +10,7 @@ use std::marker::Model;
 
 /// The components of a path, those that are `.` and `..` among them, as slices of it. Empty ones are passed
 /// over.
-#[derive(Drop)]
+#[derive(Debug, Drop)]
 pub struct Parts<'a> {
     /// Whether the path starts at the root.
     pub absolute: bool,

@@ -2,7 +2,7 @@
 ghost use Rattle.std.specs.Prelude.{◌≡◌, IfOk, OnErr, IsTrue, false};
 ghost use Rattle.sftp_path.specs.Place as spec;
 
-use crate::names::NAME_LIMIT;
+use crate::names::{NAME_LIMIT, NUL};
 use crate::parts::Parts;
 use thiserror::Error;
 
@@ -40,7 +40,7 @@ pub fn good_path(path: &[u8]) -> bool
     }
     let mut component_len = 0;
     for byte in path {
-        if *byte == 0 {
+        if *byte == NUL {
             return false;
         }
         component_len = if *byte == b'/' { 0 } else { component_len + 1 };

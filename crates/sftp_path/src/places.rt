@@ -99,7 +99,7 @@ impl Place {
         ensures ok { OnOk result (self.new ≡ self.old ++ name ∷ []) }
         ensures err { OnErr result (self.new ≡ self.old) }
     {
-        let _ = name.as_slice();
+        see_name(&name);
         self.names.push(name)?;
         Ok(())
     }
@@ -134,12 +134,19 @@ impl Place {
     }
 }
 
-/// Does nothing. Its contract says what is known of each `Name`.
+/// Does nothing. Its contract says what every `Name` keeps.
+fn see_name(name: &Name)
+    ensures { IsTrue (spec.is_name name.now) }
+{
+    let _ = name.as_slice();
+}
+
+/// Does nothing. Its contract says what every list of `Name`s keeps.
 fn see_names(names: &[Name])
     ensures { IsTrue (spec.are_names names.now) }
 {
     for name in names {
-        let _ = name.as_slice();
+        see_name(name);
     }
 }
 

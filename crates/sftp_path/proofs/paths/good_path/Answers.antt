@@ -1,14 +1,14 @@
 use Rattle.std.proofs.Common.{arith}
-use Rattle.sftp_path.proofs.Splitting.{bad_by_length, bad_at_zero, bad_by_component, good_to_the_end}
+use Rattle.sftp_path.proofs.GoodPaths.{bad_by_length, bad_at_zero, bad_by_component, good_to_the_end}
 use Rattle.sftp_path.proofs.paths.good_path.Goals as goal
 use Rattle.sftp_path.proofs.paths.good_path.Goals.{then-byte-eq47, else-byte-eq47}
 
 pub returns-then-path-gt-PATH_LIMIT : goal.returns-then-path-gt-PATH_LIMIT
 returns-then-path-gt-PATH_LIMIT c = bad_by_length c.args.path.now (omega arith)
 
-pub returns-then-byte-eq0 : goal.returns-then-byte-eq0
-returns-then-byte-eq0 c =
-    bad_at_zero c.args.path.now c.loop-byte.component_len c.loop-byte.byte-index (omega arith) c.if-byte-eq0.true c.loop-byte.invariant.decides
+pub returns-then-byte-eq-NUL : goal.returns-then-byte-eq-NUL
+returns-then-byte-eq-NUL c =
+    bad_at_zero c.args.path.now c.loop-byte.component_len c.loop-byte.byte-index (omega arith) c.if-byte-eq-NUL.true c.loop-byte.invariant.decides
 
 pub returns-then-component_len-gt-NAME_LIMIT : goal.returns-then-component_len-gt-NAME_LIMIT
 returns-then-component_len-gt-NAME_LIMIT c =

@@ -1,4 +1,3 @@
-use Rattle.std.proofs.Common.{◌∙◌}
 use Rattle.sftp_path.proofs.Order.{begins-is}
 use Rattle.sftp_path.proofs.places.Place.starts_with.Goals as goal
 
