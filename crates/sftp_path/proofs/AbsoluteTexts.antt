@@ -1,0 +1,71 @@
+-- The places that absolute texts stand for.
+use Rattle.std.proofs.Common.{◌≡◌, ◌≢◌, ℕ, ◌<◌, true, false, not, ◌&&◌, nat_lt, nat_le, List, [], ◌∷◌, ◌++◌, length, refl, sym, ap, ◌∙◌, arith, filter}
+use Rattle.std.specs.List.{list_all, flat_map}
+use Rattle.std.specs.Option.{IfSome, IfNone}
+use Rattle.std.specs.Prelude.{Option, Some, None}
+use Rattle.std.proofs.lemmas.Bool.{and_parts, false≢true}
+use Rattle.std.proofs.lemmas.List.{append-nil}
+use Rattle.sftp_path.specs.Place.{is_inner, is_dot, is_dot_dot, is_name_byte, is_name, name_limit, are_names, absolute, parts, components, is_nonempty, is_absolute, Name, Place}
+use Rattle.sftp_path.specs.Text.{IsTextOf}
+use Rattle.sftp_path.specs.Cut.{begins_at_slash, parts_behind}
+use Rattle.sftp_path.proofs.Splitting.{is_nonzero, parts-whole, parts-append, parts-from_slash, parts-slash, components-slash, components-nil, components-are}
+use Rattle.sftp_path.proofs.GoodPaths.{is_octet, list_all-weaker, list_all-between, filter_all}
+
+-- ---- absolute texts
+
+name-inner : (n : List ℕ) → is_name n ≡ true → list_all is_inner n ≡ true
+name-inner n h =
+    let a = and_parts (nat_lt 0 (length n) && nat_le (length n) name_limit) (list_all is_name_byte n && (not (is_dot n) && not (is_dot_dot n))) h in
+    let b = and_parts (list_all is_name_byte n) (not (is_dot n) && not (is_dot_dot n)) a.1 in
+    list_all-weaker is_name_byte is_inner (λ x p. (and_parts (is_nonzero x) (is_inner x) (and_parts (is_octet x) (is_nonzero x && is_inner x) p).1).1) n b.0
+
+name-nonempty : (n : List ℕ) → is_name n ≡ true → is_nonempty n ≡ true
+name-nonempty n h =
+    let a = and_parts (nat_lt 0 (length n) && nat_le (length n) name_limit) (list_all is_name_byte n && (not (is_dot n) && not (is_dot_dot n))) h in
+    (and_parts (nat_lt 0 (length n)) (nat_le (length n) name_limit) a.0).0
+
+parts-names : (n : List ℕ) (ns : Place) → is_name n ≡ true → are_names ns ≡ true → parts (n ++ flat_map (λ name. 47 ∷ name) ns) ≡ n ∷ ns
+parts-names n [] h g = ap parts (append-nil n) ∙ parts-whole n (name-inner n h)
+parts-names n (m ∷ ms) h g =
+    let a = and_parts (is_name m) (list_all is_name ms) g in
+    parts-append n (m ++ flat_map (λ name. 47 ∷ name) ms) (name-inner n h) ∙ ap (λ ps. n ∷ ps) (parts-names m ms a.0 a.1)
+
+-- the parts of the absolute text of a place other than the root
+pub parts-absolute : (n : Name) (ns : Place) → are_names (n ∷ ns) ≡ true → parts (absolute (n ∷ ns)) ≡ [] ∷ n ∷ ns
+parts-absolute n ns h =
+    let a = and_parts (is_name n) (list_all is_name ns) h in
+    parts-from_slash (n ++ flat_map (λ name. 47 ∷ name) ns) ∙ ap (λ ps. [] ∷ ps) (parts-names n ns a.0 a.1)
+
+-- the components of a place's absolute text are its names
+pub components-absolute : (place : Place) → are_names place ≡ true → components (absolute place) ≡ place
+components-absolute [] h = components-slash [] ∙ components-nil
+components-absolute (n ∷ ns) h =
+    components-are (absolute (n ∷ ns)) ∙ ap (filter is_nonempty) (parts-absolute n ns h) ∙ filter_all is_nonempty (n ∷ ns) (list_all-weaker is_name is_nonempty name-nonempty (n ∷ ns) h)
+
+pub is_absolute-absolute : (place : Place) → is_absolute (absolute place) ≡ true
+is_absolute-absolute [] = refl
+is_absolute-absolute (n ∷ ns) = refl
+
+-- what a text that starts at the root begins with
+pub is_absolute-begins : (text : List ℕ) → is_absolute text ≡ true → (begins_at_slash text ≡ true) × (parts text ≡ [] ∷ parts_behind text) × (0 < length text)
+is_absolute-begins [] h = absurd (false≢true h)
+is_absolute-begins (b ∷ bs) h = (h, parts-slash b bs h, omega arith)
+
+-- no two places have the same absolute text
+pub absolute-injective : (p q : Place) → are_names p ≡ true → are_names q ≡ true → absolute p ≡ absolute q → p ≡ q
+absolute-injective p q h g e = sym (components-absolute p h) ∙ ap components e ∙ components-absolute q g
+
+-- a text with a part that is no name is no place's
+pub not_absolute : (text : List ℕ) (place : Place) (part : List ℕ) (more : List (List ℕ)) → text ≢ 47 ∷ [] → parts text ≡ [] ∷ (place ++ part ∷ more) → is_name part ≡ false → (q : Place) → are_names q ≡ true → text ≡ absolute q → ⊥
+not_absolute text place part more apart cut bad [] names e = apart e
+not_absolute text place part more apart cut bad (n ∷ ns) names e =
+    let same : place ++ part ∷ more ≡ n ∷ ns = tail_same (sym cut ∙ ap parts e ∙ parts-absolute n ns names) in
+    false≢true (sym bad ∙ list_all-between is_name place part more (ap (list_all is_name) same ∙ names))
+  where
+    tail_same : {xs ys : List (List ℕ)} → [] ∷ xs ≡ [] ∷ ys → xs ≡ ys
+    tail_same h = cc
+
+-- what is found of a place's text is the place
+pub found-absolute : (place : Place) (found : Option Place) → are_names place ≡ true → IfSome found (λ p. IsTextOf (absolute place) p) → IfNone found ((p : Place) → IsTextOf (absolute place) p → ⊥) → found ≡ Some place
+found-absolute place None names some none = absurd (none place (names, refl))
+found-absolute place (Some p) names some none = ap (λ q. Some q) (absolute-injective p place some.0 names (sym some.1))

@@ -1,0 +1,5 @@
+pub mod Splitting
+pub mod GoodPaths
+pub mod AbsoluteTexts
+pub mod Order
+pub mod TableLaws

@@ -1,0 +1,5 @@
+use Rattle.sftp_path.proofs.AbsoluteTexts.{absolute-injective}
+use Rattle.sftp_path.proofs.laws.absolute_is_one.Goals as goal
+
+pub returns : goal.returns
+returns c = absolute-injective

@@ -1,0 +1,5 @@
+use Rattle.sftp_path.proofs.AbsoluteTexts.{found-absolute}
+use Rattle.sftp_path.proofs.laws.canonical_undoes_absolute.Goals as goal
+
+pub returns : goal.returns
+returns c = found-absolute

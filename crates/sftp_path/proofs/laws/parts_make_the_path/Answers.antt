@@ -1,0 +1,12 @@
+use Rattle.sftp_path.proofs.Splitting.{joined-parts, parts-joined}
+use Rattle.sftp_path.proofs.GoodPaths.{list_all-inner-parts}
+use Rattle.sftp_path.proofs.laws.parts_make_the_path.Goals as goal
+
+pub returns-clause-inner : goal.returns-clause-inner
+returns-clause-inner c = list_all-inner-parts
+
+pub returns-clause-joined : goal.returns-clause-joined
+returns-clause-joined c = joined-parts
+
+pub returns-clause-only : goal.returns-clause-only
+returns-clause-only c = parts-joined

@@ -1,0 +1,47 @@
+-- Finite maps that compute. A table is the list of its entries in rising order of their keys, which is what
+-- a clause sees of a `BTreeMap`. Each operation takes the comparison of the keys.
+use Rattle.std.specs.Prelude.{ℕ, Bool, List, [], ◌∷◌, length, filter, Option, Some, None, cond}
+use Rattle.std.specs.declared.cmp.Ordering.{Ordering}
+use Rattle.std.specs.BTreeMap.{insert_entry, is_at}
+use Rattle.std.specs.Map.{lookup, remove_entry, keys_of}
+use Rattle.std.specs.List.Sorted.{IsStrictlySortedBy}
+
+abbrev pub Table : Type 0 → Type 0 → Type 0
+Table K X = List (K × X)
+
+module _ {K X : Type 0} where
+  -- how many entries
+  abbrev pub size : Table K X → ℕ
+  size table = length table
+
+  -- the entries that pass a test
+  unfoldable pub retain : Table K X → (K × X → Bool) → Table K X
+  retain table keeps = filter keeps table
+
+  -- what of a value at a key passes a test
+  abbrev pub kept : (K × X → Bool) → K → Option X → Option X
+  kept keeps key None = None
+  kept keeps key (Some value) = cond (keeps (key, value)) (Some value) None
+
+  module _ (cmp : K → K → Ordering) where
+    -- the keys rise, each coming once
+    abbrev pub InOrder : Table K X → Type 0
+    InOrder table = IsStrictlySortedBy cmp (keys_of table)
+
+    -- what stands at a key
+    unfoldable pub get : Table K X → K → Option X
+    get table key = lookup (is_at (cmp key)) table
+
+    -- with this at the key
+    unfoldable pub put : Table K X → K → X → Table K X
+    put table key value = insert_entry cmp table key value
+
+    -- with nothing at the key
+    unfoldable pub without : Table K X → K → Table K X
+    without table key = remove_entry (is_at (cmp key)) table
+
+    -- the table of these entries; of those with one key, the first
+    unfoldable pub from_entries : List (K × X) → Table K X
+    unfolding put
+    from_entries [] = []
+    from_entries (e ∷ es) = put (from_entries es) e.0 e.1

@@ -1,0 +1,13 @@
+-- The texts of places.
+use Rattle.std.specs.Prelude.{◌≡◌, ℕ, List, [], ◌∷◌, ◌++◌, IsTrue}
+use Rattle.sftp_path.specs.Place.{Place, are_names, absolute}
+
+-- what is the absolute text of a place
+abbrev pub IsTextOf : List ℕ → Place → Type 0
+IsTextOf text place = IsTrue (are_names place) × (text ≡ absolute place)
+
+-- the parts again, with a `/` between each and the next
+abbrev pub joined : List (List ℕ) → List ℕ
+joined [] = []
+joined (part ∷ []) = part
+joined (part ∷ next ∷ parts) = part ++ 47 ∷ joined (next ∷ parts)

@@ -1,0 +1,52 @@
+//! Laws of paths, texts and places, as theorems on the definitions that the contracts name. The functions do
+//! nothing; each promise is in the contract.
+ghost use Rattle.std.specs.Prelude.{◌≡◌, ◌&&◌, ◌++◌, ◌∷◌, nat_lt, true, ℕ, List, [], Option, Some, IsTrue, IfSome, IfNone, length, drop};
+ghost use Rattle.std.specs.List.{list_all};
+ghost use Rattle.sftp_path.specs.Place.{Name, Place, are_names, is_step, is_inner, begins, is_below, parent, absolute, parts, components, is_absolute, is_good_path};
+ghost use Rattle.sftp_path.specs.Text.{IsTextOf, joined};
+
+/// Two places whose absolute texts are equal are equal.
+pub fn absolute_is_one()
+    ensures { (p q : Place) → IsTrue (are_names p) → IsTrue (are_names q) → absolute p ≡ absolute q → p ≡ q }
+{}
+
+/// `canonical` undoes `absolute`: what its contract lets it give for the absolute text of a place is that
+/// place.
+pub fn canonical_undoes_absolute()
+    ensures { (place : Place) (found : Option Place) → IsTrue (are_names place) →
+        IfSome found (λ p. IsTextOf (absolute place) p) →
+        IfNone found ((p : Place) → IsTextOf (absolute place) p → ⊥) → found ≡ Some place }
+{}
+
+/// The absolute text of a place is an absolute path, whose components are the names of the place.
+pub fn absolute_leads_there()
+    ensures absolute { (place : Place) → is_absolute (absolute place) ≡ true }
+    ensures components { (place : Place) → IsTrue (are_names place) → components (absolute place) ≡ place }
+{}
+
+/// The parts of a path have no `/`, and make the path with a `/` between each and the next. No other list of
+/// such parts makes it.
+pub fn parts_make_the_path()
+    ensures inner { (path : List ℕ) → IsTrue (list_all (list_all is_inner) (parts path)) }
+    ensures joined { (path : List ℕ) → joined (parts path) ≡ path }
+    ensures only { (first : List ℕ) (others : List (List ℕ)) → IsTrue (list_all (list_all is_inner) (first ∷ others)) →
+        parts (joined (first ∷ others)) ≡ first ∷ others }
+{}
+
+/// Each component of a good path is `.`, `..` or a name.
+pub fn components_are_steps()
+    ensures { (path : List ℕ) → IsTrue (is_good_path path) → IsTrue (list_all (λ b. nat_lt b 256) path) →
+        IsTrue (list_all is_step (components path)) }
+{}
+
+/// A place begins those that have its names in front, and what stands below it are those with more names.
+pub fn places_in_front()
+    ensures front { (top place : Place) → IsTrue (begins top place) → place ≡ top ++ drop (length top) place }
+    ensures begins { (top rest : Place) → IsTrue (begins top (top ++ rest)) }
+    ensures below { (top place : Place) → is_below top place ≡ (begins top place && nat_lt (length top) (length place)) }
+{}
+
+/// The parent of what is entered from a place is that place.
+pub fn parent_of_entered()
+    ensures { (place : Place) (name : Name) → parent (place ++ name ∷ []) ≡ place }
+{}

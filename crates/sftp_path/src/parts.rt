@@ -1,0 +1,78 @@
+//! The components of a path, one by one.
+ghost use Rattle.std.specs.Prelude.{◌≡◌, ◌==◌, ◌++◌, ◌∷◌, not, IsTrue};
+ghost use Rattle.std.specs.List.{position};
+ghost use Rattle.std.specs.Iterator.{YieldsFirstRef, item_count};
+ghost use Rattle.sftp_path.specs.Cut.{begins_at_slash, parts_behind};
+ghost use Rattle.sftp_path.specs.Place as spec;
+
+use bstr::ByteSlice;
+use std::marker::Model;
+
+/// The components of a path, those that are `.` and `..` among them, as slices of it. Empty ones are passed
+/// over.
+#[derive(Debug, Drop)]
+pub struct Parts<'a> {
+    /// Whether the path starts at the root.
+    pub absolute: bool,
+    rest: &'a [u8],
+}
+
+impl<'a> Model for Parts<'a> {
+    ghost use Rattle.sftp_path.specs.Split.{Split};
+    ghost use Rattle.sftp_path.specs.Place.{components};
+
+    ghost Value = { Split };
+
+    ghost view = { λ p. record { absolute = p.absolute; left = components p.rest.now } };
+}
+
+impl<'a> Parts<'a> {
+    /// The components of a path.
+    pub(crate) fn new(path: &'a [u8]) -> Parts<'a>
+        ensures { result ≡ record { absolute = spec.is_absolute path.now; left = spec.components path.now } }
+    {
+        Parts {
+            absolute: is_absolute(path),
+            rest: path,
+        }
+    }
+}
+
+impl<'a> Iterator for Parts<'a> {
+    type Item = &'a [u8];
+
+    ghost next_gives = { YieldsFirstRef (λ p. p.left) };
+
+    ghost remaining = { item_count (λ p. p.left) };
+
+    fn next(&mut self) -> Option<&'a [u8]> {
+        let start = first_inner(self.rest)?;
+        let (component, rest) = cut(&self.rest[start..]);
+        self.rest = rest;
+        Some(component)
+    }
+}
+
+/// Whether the path starts at the root.
+pub(crate) fn is_absolute(path: &[u8]) -> bool
+    ensures { result ≡ spec.is_absolute path.now }
+{
+    matches!(path, [b'/', ..])
+}
+
+/// The index of the first byte that is no `/`.
+fn first_inner(path: &[u8]) -> Option<usize>
+    ensures { result ≡ position (λ b. not (b == 47)) path.now }
+{
+    path.iter().position(|byte| *byte != b'/')
+}
+
+/// The bytes before the first `/`, and the rest from that `/` on. All of them where none stands.
+pub(crate) fn cut(bytes: &[u8]) -> (&[u8], &[u8])
+    ensures whole { bytes.now ≡ result.0.now ++ result.1.now }
+    ensures parts { spec.parts bytes.now ≡ result.0.now ∷ parts_behind result.1.now }
+    ensures behind { IsTrue (begins_at_slash result.1.now) }
+{
+    let end = bytes.find_byte(b'/').unwrap_or(bytes.len());
+    bytes.split_at(end)
+}

@@ -1,0 +1,82 @@
+//! Worked rows of the definitions, computed by the checker. The functions do nothing; each promise is in the
+//! contract.
+ghost use Rattle.std.specs.Prelude.{◌≡◌, ℕ, List, [], ◌∷◌, true, false, codes, Some, None};
+ghost use Rattle.std.specs.Ordering.{nat_cmp};
+ghost use Rattle.std.specs.declared.cmp.Ordering.TheVariants.{Less, Equal, Greater};
+ghost use Rattle.sftp_path.specs.Place.{Place, is_name, name_cmp, place_cmp, parent, begins, is_below, absolute, components, is_absolute, is_good_path};
+ghost use Rattle.sftp_path.specs.Table.{get, put, without, from_entries};
+
+/// Empty components do not count; `.` and `..` do.
+#[tactic(auto, unfolding(crate::specs::Place::components, crate::specs::Place::parts))]
+pub fn components_of_paths()
+    ensures absolute { components (codes "/a/b") ≡ codes "a" ∷ codes "b" ∷ [] }
+    ensures doubled { components (codes "a//b/") ≡ codes "a" ∷ codes "b" ∷ [] }
+    ensures empty { components [] ≡ [] }
+    ensures root { components (codes "/") ≡ [] }
+    ensures dots { components (codes "./../x") ≡ codes "." ∷ codes ".." ∷ codes "x" ∷ [] }
+{}
+
+/// A path starts at the root where its first byte is a `/`.
+pub fn absolute_paths()
+    ensures root { is_absolute (codes "/") ≡ true }
+    ensures name { is_absolute (codes "a/") ≡ false }
+    ensures empty { is_absolute [] ≡ false }
+{}
+
+/// The empty path is good, and one with a byte 0 is bad.
+#[tactic(auto, unfolding(crate::specs::Place::is_good_path, crate::specs::Place::components, crate::specs::Place::parts))]
+pub fn good_and_bad_paths()
+    ensures empty { is_good_path [] ≡ true }
+    ensures slashes { is_good_path (codes "//a/./..//") ≡ true }
+    ensures zero { is_good_path (97 ∷ 0 ∷ []) ≡ false }
+{}
+
+/// Names, and what is none.
+pub fn names()
+    ensures letter { is_name (codes "a") ≡ true }
+    ensures three_dots { is_name (codes "...") ≡ true }
+    ensures high { is_name (255 ∷ 128 ∷ []) ≡ true }
+    ensures empty { is_name [] ≡ false }
+    ensures dot { is_name (codes ".") ≡ false }
+    ensures dot_dot { is_name (codes "..") ≡ false }
+    ensures slash { is_name (codes "a/b") ≡ false }
+    ensures zero { is_name (97 ∷ 0 ∷ []) ≡ false }
+    ensures no_byte { is_name (256 ∷ []) ≡ false }
+{}
+
+/// The texts of the root and of a place below it.
+pub fn texts()
+    ensures root { absolute [] ≡ codes "/" }
+    ensures below { absolute (codes "a" ∷ codes "b" ∷ []) ≡ codes "/a/b" }
+{}
+
+/// Names are ordered by bytes without sign; a place comes before those that it begins, and what stands below
+/// `a` before `ab`.
+pub fn orders()
+    ensures high { name_cmp (127 ∷ []) (128 ∷ []) ≡ Less }
+    ensures longer { name_cmp (codes "a") (codes "aa") ≡ Less }
+    ensures same { name_cmp (codes "a") (codes "a") ≡ Equal }
+    ensures root { place_cmp [] (codes "a" ∷ []) ≡ Less }
+    ensures below { place_cmp (codes "a" ∷ codes "z" ∷ []) (codes "ab" ∷ []) ≡ Less }
+    ensures above { place_cmp (codes "b" ∷ []) (codes "a" ∷ codes "b" ∷ []) ≡ Greater }
+{}
+
+/// The root is its own parent; a place begins itself and is not below itself.
+pub fn parents_and_places_below()
+    ensures root { parent [] ≡ [] }
+    ensures deeper { parent (codes "a" ∷ codes "b" ∷ []) ≡ codes "a" ∷ [] }
+    ensures itself { begins (codes "a" ∷ []) (codes "a" ∷ []) ≡ true }
+    ensures not_below { is_below (codes "a" ∷ []) (codes "a" ∷ []) ≡ false }
+    ensures below { is_below (codes "a" ∷ []) (codes "a" ∷ codes "b" ∷ []) ≡ true }
+    ensures beside { is_below (codes "a" ∷ []) (codes "ab" ∷ codes "b" ∷ []) ≡ false }
+{}
+
+/// Tables of numbers: entries come in any order, and of two with one key the first counts.
+#[tactic(auto, unfolding(crate::specs::Table::from_entries, crate::specs::Table::put, crate::specs::Table::without, crate::specs::Table::get))]
+pub fn tables()
+    ensures made { from_entries nat_cmp ((3, codes "c") ∷ (1, codes "a") ∷ (3, codes "d") ∷ []) ≡ (1, codes "a") ∷ (3, codes "c") ∷ [] }
+    ensures put { put nat_cmp ((1, codes "a") ∷ []) 1 (codes "b") ≡ (1, codes "b") ∷ [] }
+    ensures without { without nat_cmp ((1, codes "a") ∷ (2, codes "b") ∷ []) 1 ≡ (2, codes "b") ∷ [] }
+    ensures there { get nat_cmp ((1, codes "a") ∷ (2, codes "b") ∷ []) 2 ≡ Some (codes "b") }
+    ensures absent { get nat_cmp ((1, codes "a") ∷ []) 2 ≡ None }
+{}

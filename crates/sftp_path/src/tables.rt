@@ -1,0 +1,68 @@
+//! Laws of tables, the finite maps that the definitions of trees and sessions are made of, as theorems on
+//! those definitions. The functions do nothing; each promise is in the contract.
+ghost use Rattle.std.specs.Prelude.{◌≡◌, ◌≢◌, ◌+◌, ℕ, Bool, List, [], Some, None};
+ghost use Rattle.std.specs.Ordering.{nat_cmp};
+ghost use Rattle.std.specs.declared.cmp.Ordering.TheVariants.{Equal};
+ghost use Rattle.sftp_path.specs.Place.{Place, bytes_cmp, place_cmp};
+ghost use Rattle.sftp_path.specs.Table.{Table, InOrder, get, put, without, retain, from_entries, size, kept};
+
+/// What stands at a key after each operation, for keys of any order and any values.
+pub fn answers<K: Ord, X>()
+    ensures empty { (key : K) → get {X = X} K.cmp [] key ≡ None }
+    ensures put_here { (table : Table K X) (key : K) (value : X) →
+        get K.cmp (put K.cmp table key value) key ≡ Some value }
+    ensures put_elsewhere { (table : Table K X) (key other : K) (value : X) → K.cmp other key ≢ Equal →
+        get K.cmp (put K.cmp table key value) other ≡ get K.cmp table other }
+    ensures without_here { (table : Table K X) (key : K) → InOrder K.cmp table →
+        get K.cmp (without K.cmp table key) key ≡ None }
+    ensures without_elsewhere { (table : Table K X) (key other : K) → InOrder K.cmp table → K.cmp key other ≢ Equal →
+        get K.cmp (without K.cmp table key) other ≡ get K.cmp table other }
+    ensures from_entries { (entries : List (K × X)) (key : K) →
+        get K.cmp (from_entries K.cmp entries) key ≡ get K.cmp entries key }
+{}
+
+/// Each operation leaves the keys in order, and entries that come in no order are put in one.
+pub fn order_stays<K: Ord, X>()
+    ensures empty { InOrder {X = X} K.cmp [] }
+    ensures put { (table : Table K X) (key : K) (value : X) → InOrder K.cmp table → InOrder K.cmp (put K.cmp table key value) }
+    ensures without { (table : Table K X) (key : K) → InOrder K.cmp table → InOrder K.cmp (without K.cmp table key) }
+    ensures retain { (table : Table K X) (keeps : K × X → Bool) → InOrder K.cmp table → InOrder K.cmp (retain table keeps) }
+    ensures from_entries { (entries : List (K × X)) → InOrder K.cmp (from_entries K.cmp entries) }
+{}
+
+/// A new key makes one entry more, another value at a key none, and a key taken away one less.
+pub fn sizes<K: Ord, X>()
+    ensures put_new { (table : Table K X) (key : K) (value : X) → get K.cmp table key ≡ None →
+        size (put K.cmp table key value) ≡ size table + 1 }
+    ensures put_again { (table : Table K X) (key : K) (value old : X) → InOrder K.cmp table → get K.cmp table key ≡ Some old →
+        size (put K.cmp table key value) ≡ size table }
+    ensures without { (table : Table K X) (key : K) (value : X) → get K.cmp table key ≡ Some value →
+        size (without K.cmp table key) + 1 ≡ size table }
+{}
+
+/// What is left at a key is what stood there, where it passes the test.
+pub fn answers_after_retain<X>()
+    ensures places { (table : Table Place X) (keeps : Place × X → Bool) (place : Place) → InOrder place_cmp table →
+        get place_cmp (retain table keeps) place ≡ kept keeps place (get place_cmp table place) }
+    ensures byte_strings { (table : Table (List ℕ) X) (keeps : List ℕ × X → Bool) (name : List ℕ) → InOrder bytes_cmp table →
+        get bytes_cmp (retain table keeps) name ≡ kept keeps name (get bytes_cmp table name) }
+    ensures numbers { (table : Table ℕ X) (keeps : ℕ × X → Bool) (number : ℕ) → InOrder nat_cmp table →
+        get nat_cmp (retain table keeps) number ≡ kept keeps number (get nat_cmp table number) }
+{}
+
+/// Two tables in order that answer alike at every key are equal.
+pub fn same_table<X>()
+    ensures places { (a b : Table Place X) → InOrder place_cmp a → InOrder place_cmp b →
+        ((place : Place) → get place_cmp a place ≡ get place_cmp b place) → a ≡ b }
+    ensures byte_strings { (a b : Table (List ℕ) X) → InOrder bytes_cmp a → InOrder bytes_cmp b →
+        ((name : List ℕ) → get bytes_cmp a name ≡ get bytes_cmp b name) → a ≡ b }
+    ensures numbers { (a b : Table ℕ X) → InOrder nat_cmp a → InOrder nat_cmp b →
+        ((number : ℕ) → get nat_cmp a number ≡ get nat_cmp b number) → a ≡ b }
+{}
+
+/// The table of a table's entries is that table.
+pub fn made_of_its_entries<X>()
+    ensures places { (table : Table Place X) → InOrder place_cmp table → from_entries place_cmp table ≡ table }
+    ensures byte_strings { (table : Table (List ℕ) X) → InOrder bytes_cmp table → from_entries bytes_cmp table ≡ table }
+    ensures numbers { (table : Table ℕ X) → InOrder nat_cmp table → from_entries nat_cmp table ≡ table }
+{}

@@ -1,0 +1,57 @@
+//! The one absolute text of each place.
+ghost use Rattle.std.specs.Prelude.{◌≡◌, IfOk, IfSome, IfNone};
+ghost use Rattle.sftp_path.specs.Place as spec;
+ghost use Rattle.sftp_path.specs.Text.{IsTextOf};
+
+use crate::errors::NoMemory;
+use crate::names::Name;
+use crate::parts::{cut, is_absolute};
+use std::alloc::Global;
+
+/// The absolute text of a place: a `/` before each name, and `/` alone for the root.
+///
+/// # Errors
+///
+/// `NoMemory` where memory runs out.
+pub fn absolute(alloc: Global, names: &[Name]) -> Result<Vec<u8>, NoMemory>
+    ensures { IfOk result (λ text. text.items ≡ spec.absolute names.now) }
+{
+    let mut text = Vec::new(alloc);
+    if names.is_empty() {
+        text.push(b'/')?;
+        return Ok(text);
+    }
+    for name in names {
+        text.push(b'/')?;
+        text.extend_from_slice(name.as_slice())?;
+    }
+    Ok(text)
+}
+
+/// The names of the place that this text is the absolute text of, if it is one's. No two places have the same.
+///
+/// # Errors
+///
+/// `NoMemory` where memory runs out.
+pub fn canonical(alloc: Global, text: &[u8]) -> Result<Option<Vec<Name>>, NoMemory>
+    ensures found { IfOk result (λ o. IfSome o (λ names. IsTextOf text.now names.items)) }
+    ensures none { IfOk result (λ o. IfNone o ((place : spec.Place) → IsTextOf text.now place → ⊥)) }
+{
+    let mut names = Vec::new(alloc);
+    if text == b"/".as_slice() {
+        return Ok(Some(names));
+    }
+    if !is_absolute(text) {
+        return Ok(None);
+    }
+    let mut rest = text;
+    while let [_, behind @ ..] = rest {
+        let (component, next) = cut(behind);
+        let Some(name) = Name::from_slice(alloc, component)? else {
+            return Ok(None);
+        };
+        names.push(name)?;
+        rest = next;
+    }
+    Ok(Some(names))
+}
