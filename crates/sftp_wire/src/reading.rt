@@ -348,8 +348,10 @@ fn extended_reply(alloc: Global, body: &mut &[u8]) -> Result<Packet, ReadError>
     Ok(reply(id, Answer::Extended(bytes)))
 }
 
-/// What follows the type in a client's packet.
+/// What follows the type in a client's packet. Inlined, it would have the packet copied field by field at each
+/// caller above it.
 #[tactic(auto, unfolding(crate::specs::Reading::client_packet_at))]
+#[inline(never)]
 fn client_packet(alloc: Global, kind: u8, body: &mut &[u8]) -> Result<Packet, ReadError>
     ensures { Reads result body.new.now (client_packet_at kind body.old.now) }
 {
@@ -378,8 +380,9 @@ fn client_packet(alloc: Global, kind: u8, body: &mut &[u8]) -> Result<Packet, Re
     }
 }
 
-/// What follows the type in a server's packet.
+/// What follows the type in a server's packet. It is not inlined either.
 #[tactic(auto, unfolding(crate::specs::Reading::server_packet_at))]
+#[inline(never)]
 fn server_packet(alloc: Global, kind: u8, body: &mut &[u8]) -> Result<Packet, ReadError>
     ensures { Reads result body.new.now (server_packet_at kind body.old.now) }
 {

@@ -36,6 +36,10 @@ impl ByteString {
     pub fn from_slice(alloc: Global, bytes: &[u8]) -> Result<ByteString, AllocError>
         ensures { IfOk result (λ string. string ≡ bytes.now) }
     {
+        // A copy of no bytes would be a call all the same.
+        if bytes.is_empty() {
+            return Ok(ByteString::new(Vec::new(alloc)));
+        }
         Ok(ByteString {
             bytes: Vec::from_slice(alloc, bytes)?,
         })

@@ -28,7 +28,10 @@ fn put_string(out: &mut Vec<u8>, text: &ByteString) -> Result<(), AllocError>
 {
     let bytes = text.as_slice();
     out.put_u32(bytes.len() as u32)?;
-    out.put_slice(bytes)?;
+    // A copy of no bytes would be a call all the same.
+    if !bytes.is_empty() {
+        out.put_slice(bytes)?;
+    }
     Ok(())
 }
 
