@@ -15,7 +15,7 @@ pub use errors::NoMemory;
 pub use names::{Name, is_dot, is_dot_dot, is_name};
 pub use parts::Parts;
 pub use paths::{BadPath, components, good_path};
-pub use places::Place;
+pub use places::{DEPTH_LIMIT, Place};
 pub use texts::{absolute, canonical};
 
 #[cfg(test)]

@@ -12,6 +12,9 @@ use std::alloc::Global;
 use std::cmp::Ordering;
 use std::marker::Model;
 
+/// The most names of a place in a tree. The limit is this profile's own.
+pub const DEPTH_LIMIT: usize = 64;
+
 /// Where an entry of a tree stands: the names that lead to it from the root. The root has none.
 #[derive(Debug, Drop)]
 pub struct Place {

@@ -1,0 +1,117 @@
+-- Tree files: what a tree is, as rows and as bytes. This profile's own.
+use Rattle.std.specs.Prelude.{◌≡◌, ◌&&◌, ◌||◌, nat_lt, nat_eq, ℕ, ◌<◌, ◌≤◌, ◌^◌, Bool, true, false, List, [], ◌∷◌, ◌++◌, length, Result, MatchResult, IsTrue, codes}
+use Rattle.std.specs.List.{flat_map, list_all, list_any, AllByRecursion}
+use Rattle.std.specs.Cmp.Lexicographic.{pointwise}
+use Rattle.std.specs.declared.cmp.Ordering.TheVariants.{Less}
+use Rattle.sftp_wire.specs.Spelling.{uint32, string}
+use Rattle.sftp_path.specs.Place.{Place, place_cmp, parent, are_names, absolute, components, is_good_path, depth_limit}
+use Rattle.sftp_treefile.specs.declared.errors.TreeError.{TreeError}
+use Rattle.sftp_treefile.specs.declared.errors.TreeError.TheVariants.{NoMemory}
+use Rattle.sftp_treefile.specs.declared.files.Owner.{Owner}
+use Rattle.sftp_treefile.specs.declared.files.Kind.{Kind}
+use Rattle.sftp_treefile.specs.declared.files.Kind.TheVariants.{Dir, Link}
+use Rattle.sftp_treefile.specs.declared.files.Row.{Row}
+use Rattle.sftp_treefile.specs.declared.files.TreeFile.{TreeFile}
+use Rattle.sftp_treefile.specs.Limits.{usual_limits}
+
+-- ---- as bytes
+
+-- `SFTREE01`
+abbrev pub tree_opening : List ℕ
+tree_opening = codes "SFTREE01"
+
+abbrev pub owner_text : Owner → List ℕ
+owner_text owner = uint32 owner.uid ++ (uint32 owner.gid ++ uint32 owner.permissions)
+
+-- the kind's letter, and what it says: `D` and the owner, `L` and the target
+abbrev pub kind_text : Kind → List ℕ
+kind_text (Dir owner) = 68 ∷ owner_text owner
+kind_text (Link target) = 76 ∷ string target
+
+abbrev pub row_text : Row → List ℕ
+row_text row = string row.path ++ kind_text row.kind
+
+-- how many rows there are, the root's owner, and then the rows
+abbrev pub rows_text : Owner → List Row → List ℕ
+rows_text root rows = uint32 (length rows) ++ (owner_text root ++ flat_map row_text rows)
+
+-- the bytes of a tree file
+unfoldable pub spelled : TreeFile → List ℕ
+spelled file = tree_opening ++ (string file.home ++ (uint32 file.uid ++ (uint32 file.gid ++ rows_text file.root file.rows)))
+
+-- ---- which rows a tree file may have
+
+-- the place that a text leads to from the root
+abbrev pub place_of : List ℕ → Place
+place_of text = components text
+
+-- the one absolute text of a place within the limit
+pub record IsPlaceText (text : List ℕ) : Type 0 where
+  pub names : IsTrue (are_names (place_of text))
+  pub depth : length (place_of text) ≤ depth_limit
+  pub one : text ≡ absolute (place_of text)
+
+-- permissions have twelve bits
+abbrev pub IsOwner : Owner → Type 0
+IsOwner owner = (owner.uid < 2 ^ 32) × (owner.gid < 2 ^ 32) × (owner.permissions < 2 ^ 12)
+
+-- the target of a link is a good path, and not empty
+abbrev pub is_target : List ℕ → Bool
+is_target target = nat_lt 0 (length target) && is_good_path target
+
+abbrev pub are_bytes : List ℕ → Bool
+are_bytes bytes = list_all (λ b. nat_lt b 256) bytes
+
+abbrev pub IsKind : Kind → Type 0
+IsKind (Dir owner) = IsOwner owner
+IsKind (Link target) = IsTrue (is_target target) × IsTrue (are_bytes target)
+
+abbrev pub same_place : Place → Place → Bool
+same_place p q = pointwise (pointwise nat_eq) p q
+
+abbrev pub is_root : Place → Bool
+is_root [] = true
+is_root (n ∷ ns) = false
+
+abbrev pub is_dir : Kind → Bool
+is_dir (Dir owner) = true
+is_dir (Link target) = false
+
+-- whether a row is that of a directory at this place
+abbrev pub is_dir_at : Place → Row → Bool
+is_dir_at place row = is_dir row.kind && same_place (place_of row.path) place
+
+-- whether the place is a directory: the root, or one of the rows says so
+unfoldable pub has_dir : List Row → Place → Bool
+has_dir rows place = is_root place || list_any (is_dir_at place) rows
+
+-- the row may stand behind these: its place comes after theirs, and its parent is the root or a directory among them
+pub record IsNext (earlier : List Row) (row : Row) : Type 0 where
+  pub path : IsPlaceText row.path
+  pub below_root : 0 < length (place_of row.path)
+  pub later : AllByRecursion (λ (r : Row). place_cmp (place_of r.path) (place_of row.path) ≡ Less) earlier
+  pub parent : IsTrue (has_dir earlier (parent (place_of row.path)))
+  pub kind : IsKind row.kind
+
+-- each row may stand behind those before it
+abbrev pub AreRows : List Row → List Row → Type 0
+AreRows earlier [] = Unit {0}
+AreRows earlier (row ∷ rows) = IsNext earlier row × AreRows (earlier ++ row ∷ []) rows
+
+-- what a tree file may say
+pub record IsTreeFile (file : TreeFile) : Type 0 where
+  pub home : IsPlaceText file.home
+  pub uid : file.uid < 2 ^ 32
+  pub gid : file.gid < 2 ^ 32
+  pub count : length file.rows ≤ usual_limits.entries
+  pub root : IsOwner file.root
+  pub rows : AreRows [] file.rows
+
+-- the bytes are the tree file that says this
+pub record IsSpelled (file : TreeFile) (bytes : List ℕ) : Type 0 where
+  pub may_be : IsTreeFile file
+  pub bytes_are : bytes ≡ spelled file
+
+-- the result says this, unless memory ran out
+abbrev pub GivesFile : Result TreeFile TreeError → TreeFile → Type 0
+GivesFile result file = MatchResult result (λ f. f ≡ file) (λ error. error ≡ NoMemory)

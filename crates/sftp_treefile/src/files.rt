@@ -1,0 +1,85 @@
+//! What a tree file says, as values.
+ghost use Rattle.std.specs.Prelude.{◌≡◌};
+
+use sftp_wire::ByteString;
+use std::marker::Model;
+
+/// Who owns an entry, and what may be done with it.
+#[derive(Clone, Copy, Debug, PartialEq, Eq)]
+pub struct Owner {
+    /// The number of the owning user.
+    pub uid: u32,
+    /// The number of the owning group.
+    pub gid: u32,
+    /// The permission bits, at most 0o7777.
+    pub permissions: u32,
+}
+
+/// What an entry is.
+#[derive(Debug, Drop)]
+pub enum Kind {
+    /// A directory.
+    Dir(Owner),
+    /// A symbolic link, with its target: a good path that is not empty.
+    Link(ByteString),
+}
+
+/// An entry below the root.
+#[derive(Debug, Drop)]
+pub struct Row {
+    /// The absolute text of its place: 1 to 64 names, a `/` before each.
+    pub path: ByteString,
+    pub kind: Kind,
+}
+
+/// The entries of a tree file, in their order.
+#[derive(Debug, Drop)]
+pub struct Rows {
+    rows: Vec<Row>,
+}
+
+impl Model for Rows {
+    ghost use Rattle.std.specs.Prelude.{List};
+    ghost use Rattle.sftp_treefile.specs.declared.files.Row.{Row};
+
+    ghost Value = { List Row };
+
+    ghost view = { λ r. r.rows.items };
+}
+
+impl Rows {
+    /// These rows, in this order. It takes no memory.
+    pub fn new(rows: Vec<Row>) -> Rows
+        ensures { result ≡ rows.items }
+    {
+        Rows { rows }
+    }
+
+    /// The rows in their order.
+    pub fn as_slice(&self) -> &[Row]
+        ensures { result.now ≡ self.now }
+    {
+        self.rows.as_slice()
+    }
+
+    /// The rows, given back without a copy.
+    pub fn into_vec(self) -> Vec<Row>
+        ensures { result.items ≡ self }
+    {
+        self.rows
+    }
+}
+
+/// What a tree file says. The count of the entries is that of the rows.
+#[derive(Debug, Drop)]
+pub struct TreeFile {
+    /// The absolute text of the place where relative paths start; it has at most 64 names, and need not exist.
+    pub home: ByteString,
+    /// The user who owns what is made with no owner given.
+    pub uid: u32,
+    /// The group that owns what is made with no owner given.
+    pub gid: u32,
+    /// The owner of the root, which has no row.
+    pub root: Owner,
+    pub rows: Rows,
+}
