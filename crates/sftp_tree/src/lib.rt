@@ -1,2 +1,16 @@
-//! Trees.
+//! The tree that a session asks of: directories and symbolic links, where paths lead, why requests are refused and
+//! what they do (draft-ietf-secsh-filexfer-02, section 6).
 #![tactic(auto)]
+
+mod attributes;
+mod causes;
+mod judging;
+mod nodes;
+mod pictures;
+mod steps;
+mod trees;
+mod walking;
+
+pub use causes::{Cause, Causes, Refused};
+pub use sftp_treefile::{NoMemory, TreeError, TreeLimits};
+pub use trees::Tree;

@@ -3,14 +3,12 @@
 
 mod errors;
 mod files;
-mod laws;
 mod limits;
 mod reading;
 mod writing;
 
 pub use errors::TreeError;
 pub use files::{Kind, Owner, Row, Rows, TreeFile};
-pub use laws::files_are_one;
 pub use limits::{TreeLimits, usual_limits};
 pub use reading::read_rows;
 pub use sftp_path::NoMemory;

@@ -1,0 +1,49 @@
+-- Where a path leads, once more: the rules of a walk, one by one (draft-ietf-secsh-filexfer-02, section 6.2). The
+-- function of `Walk` is by them.
+use Rattle.std.specs.Prelude.{◌≡◌, ℕ, zero, suc, Bool, true, false, List, [], ◌∷◌, ◌++◌, Some, None, Result, Ok, Err, IsTrue}
+use Rattle.sftp_treefile.specs.declared.files.Owner.{Owner}
+use Rattle.sftp_path.specs.Place.{Name, Place, parent, is_dot, is_dot_dot, components}
+use Rattle.sftp_tree.specs.declared.nodes.Node.TheVariants.{Dir, Link}
+use Rattle.sftp_tree.specs.declared.causes.Cause.{Cause}
+use Rattle.sftp_tree.specs.declared.causes.Cause.TheVariants.{NoEntry, Loop}
+use Rattle.sftp_tree.specs.Tree.{Names, node_at}
+use Rattle.sftp_tree.specs.Walk.{start_of}
+
+-- neither `.` nor `..`
+abbrev pub IsPlain : Name → Type 0
+IsPlain name = (is_dot name ≡ false) × (is_dot_dot name ≡ false)
+
+-- a link is the answer only where it is last and not followed
+pub data GoesThrough (follow : Bool) : List Name → Type 0 where
+  not_last : (name : Name) (rest : List Name) → GoesThrough follow (name ∷ rest)
+  followed : IsTrue follow → GoesThrough follow []
+
+-- with so many links left, the components lead from a directory to an answer
+pub data Leads (names : Names) (follow : Bool) : ℕ → Place → List Name → Result Place Cause → Type 0 where
+  -- with no component left, the answer is where the walk stands
+  done : (left : ℕ) (at : Place) → Leads names follow left at [] (Ok at)
+  -- `.` stays
+  stays : (left : ℕ) (at : Place) (name : Name) (rest : List Name) (answer : Result Place Cause) →
+      IsTrue (is_dot name) → Leads names follow left at rest answer → Leads names follow left at (name ∷ rest) answer
+  -- `..` goes to the parent
+  goes_up : (left : ℕ) (at : Place) (name : Name) (rest : List Name) (answer : Result Place Cause) →
+      IsTrue (is_dot_dot name) → Leads names follow left (parent at) rest answer → Leads names follow left at (name ∷ rest) answer
+  -- what is absent is the answer if it is last
+  is_absent : (left : ℕ) (at : Place) (name : Name) → IsPlain name →
+      node_at names (at ++ name ∷ []) ≡ None → Leads names follow left at (name ∷ []) (Ok (at ++ name ∷ []))
+  -- and leads nowhere if it is not
+  is_lost : (left : ℕ) (at : Place) (name next : Name) (rest : List Name) → IsPlain name →
+      node_at names (at ++ name ∷ []) ≡ None → Leads names follow left at (name ∷ next ∷ rest) (Err NoEntry)
+  -- a directory is entered
+  enters : (left : ℕ) (at : Place) (name : Name) (rest : List Name) (answer : Result Place Cause) (owner : Owner) → IsPlain name →
+      node_at names (at ++ name ∷ []) ≡ Some (Dir owner) → Leads names follow left (at ++ name ∷ []) rest answer → Leads names follow left at (name ∷ rest) answer
+  -- a link that is last is the answer of a walk that does not follow it
+  finds_link : (left : ℕ) (at : Place) (name : Name) (target : List ℕ) → IsPlain name →
+      follow ≡ false → node_at names (at ++ name ∷ []) ≡ Some (Link target) → Leads names follow left at (name ∷ []) (Ok (at ++ name ∷ []))
+  -- any other link is replaced by its target's components, in front of the rest
+  goes_through : (left : ℕ) (at : Place) (name : Name) (rest : List Name) (answer : Result Place Cause) (target : List ℕ) → IsPlain name →
+      GoesThrough follow rest → node_at names (at ++ name ∷ []) ≡ Some (Link target) →
+      Leads names follow left (start_of at target) (components target ++ rest) answer → Leads names follow (suc left) at (name ∷ rest) answer
+  -- but for a link with none left, which is a loop
+  loops : (at : Place) (name : Name) (rest : List Name) (target : List ℕ) → IsPlain name →
+      GoesThrough follow rest → node_at names (at ++ name ∷ []) ≡ Some (Link target) → Leads names follow zero at (name ∷ rest) (Err Loop)

@@ -1,0 +1,161 @@
+//! Why requests are refused, and with which status codes (draft, section 7).
+ghost use Rattle.std.specs.Prelude.{◌≡◌};
+ghost use Rattle.std.specs.List.{list_any};
+ghost use Rattle.sftp_tree.specs.Steps as steps;
+ghost use Rattle.sftp_tree.specs.Sets.{in_set};
+
+use sftp_path::NoMemory;
+use std::alloc::{AllocError, AllocFailed};
+use thiserror::Error;
+
+/// Why a request is refused: a row of the status table.
+#[derive(Clone, Copy, Debug, PartialEq, Eq, Error)]
+pub enum Cause {
+    /// A path has a byte 0, more than 4,096 bytes, or a component of more than 255; the target of a link also where
+    /// it is empty.
+    #[error("BadPath")]
+    BadPath,
+    /// A place that is needed, or a directory on the way to it, is absent.
+    #[error("NoEntry")]
+    NoEntry,
+    /// What stands where a directory is needed is none.
+    #[error("NotDir")]
+    NotDir,
+    /// More than 40 links on the way.
+    #[error("Loop")]
+    Loop,
+    /// The new place is taken.
+    #[error("Exists")]
+    Exists,
+    /// The target is asked of what is no link.
+    #[error("NotLink")]
+    NotLink,
+    /// A directory that must be empty is not.
+    #[error("NotEmpty")]
+    NotEmpty,
+    /// The root would be removed.
+    #[error("Root")]
+    Root,
+    /// No other cause holds, and what would stand after the request breaks a limit.
+    #[error("NoRoom")]
+    NoRoom,
+}
+
+/// The rows of the status table.
+const EVERY_CAUSE: [Cause; 9] = [
+    Cause::BadPath,
+    Cause::NoEntry,
+    Cause::NotDir,
+    Cause::Loop,
+    Cause::Exists,
+    Cause::NotLink,
+    Cause::NotEmpty,
+    Cause::Root,
+    Cause::NoRoom,
+];
+
+impl Cause {
+    /// Whether this cause allows the status code.
+    pub fn allows(self, code: u32) -> bool
+        ensures { result ≡ steps.allows self code }
+    {
+        match self {
+            Cause::BadPath => code == 4 || code == 5,
+            Cause::NoEntry => code == 2,
+            Cause::NotDir | Cause::Loop => code == 2 || code == 4,
+            Cause::Exists | Cause::NotLink | Cause::NotEmpty | Cause::Root | Cause::NoRoom => {
+                code == 4
+            }
+        }
+    }
+}
+
+/// A set of causes.
+#[derive(Clone, Copy, Debug)]
+pub struct Causes {
+    pub(crate) bad_path: bool,
+    pub(crate) no_entry: bool,
+    pub(crate) not_dir: bool,
+    pub(crate) too_many_links: bool,
+    pub(crate) exists: bool,
+    pub(crate) not_link: bool,
+    pub(crate) not_empty: bool,
+    pub(crate) root: bool,
+    pub(crate) no_room: bool,
+}
+
+impl Causes {
+    /// Whether a cause is in the set.
+    pub fn holds(&self, cause: Cause) -> bool
+        ensures { result ≡ in_set self.now cause }
+    {
+        match cause {
+            Cause::BadPath => self.bad_path,
+            Cause::NoEntry => self.no_entry,
+            Cause::NotDir => self.not_dir,
+            Cause::Loop => self.too_many_links,
+            Cause::Exists => self.exists,
+            Cause::NotLink => self.not_link,
+            Cause::NotEmpty => self.not_empty,
+            Cause::Root => self.root,
+            Cause::NoRoom => self.no_room,
+        }
+    }
+
+    /// Whether there is a cause in the set.
+    pub fn has_any(&self) -> bool
+        ensures { result ≡ list_any (in_set self.now) steps.every_cause }
+    {
+        EVERY_CAUSE.iter().any(|cause| self.holds(*cause))
+    }
+
+    /// Whether one of the causes allows the status code.
+    pub fn allow(&self, code: u32) -> bool
+        ensures { result ≡ steps.allow (in_set self.now) code }
+    {
+        EVERY_CAUSE
+            .iter()
+            .any(|cause| self.holds(*cause) && cause.allows(code))
+    }
+}
+
+/// Why a call was refused.
+#[derive(Clone, Copy, Debug, PartialEq, Eq, Error)]
+pub enum Refused {
+    /// A cause that holds.
+    #[error("{0}")]
+    Cause(Cause),
+    /// Memory ran out.
+    #[error("out of memory")]
+    NoMemory,
+}
+
+impl From<AllocError> for Refused {
+    ghost use Rattle.sftp_tree.specs.declared.causes.Refused.TheVariants.{NoMemory as no_memory};
+
+    ghost from_gives = { λ _ e. e ≡ no_memory };
+
+    fn from(_error: AllocError) -> Refused {
+        Refused::NoMemory
+    }
+}
+
+impl<T: Drop> From<AllocFailed<T>> for Refused {
+    ghost use Rattle.sftp_tree.specs.declared.causes.Refused.TheVariants.{NoMemory as no_memory};
+
+    ghost from_gives = { λ _ e. e ≡ no_memory };
+
+    fn from(_error: AllocFailed<T>) -> Refused {
+        Refused::NoMemory
+    }
+}
+
+impl From<NoMemory> for Refused {
+    ghost use Rattle.sftp_tree.specs.declared.causes.Refused.TheVariants.{NoMemory as no_memory};
+
+    ghost from_gives = { λ _ e. e ≡ no_memory };
+
+    fn from(_error: NoMemory) -> Refused {
+        Refused::NoMemory
+    }
+}
