@@ -5,6 +5,7 @@
 mod attributes;
 mod causes;
 mod judging;
+pub mod laws;
 mod nodes;
 mod pictures;
 mod steps;
