@@ -1,8 +1,11 @@
 //! Tree files: a tree as bytes, and the rows in between. The format is this profile's own.
 #![tactic(auto)]
 
+mod entries;
 mod errors;
+mod fields;
 mod files;
+mod heads;
 mod laws;
 mod limits;
 mod reading;
