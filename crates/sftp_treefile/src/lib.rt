@@ -9,6 +9,7 @@ mod heads;
 mod laws;
 mod limits;
 mod reading;
+pub mod rows;
 mod writing;
 
 pub use errors::TreeError;
@@ -18,3 +19,6 @@ pub use limits::{TreeLimits, usual_limits};
 pub use reading::read_rows;
 pub use sftp_path::NoMemory;
 pub use writing::write_rows;
+
+#[cfg(test)]
+mod tests;
