@@ -192,6 +192,26 @@ fn values_of_the_head(rt: HostRuntime) -> Result<(), Fail> {
     Ok(())
 }
 
+/// The blank tree's file, with a home of 64 names behind this front of its text.
+fn with_home(alloc: Global, front: &[u8]) -> Result<Vec<u8>, AllocError> {
+    let mut file = Vec::from_slice(alloc, b"SFTREE01")?;
+    file.extend_from_slice(front)?;
+    for _ in 0..8 {
+        file.extend_from_slice(b"/a/a/a/a/a/a/a/a")?;
+    }
+    file.extend_from_slice(b"\0\0\0\0\0\0\0\0\0\0\0\0\0\0\0\0\0\0\0\0\0\0\x01\xed")?;
+    Ok(file)
+}
+
+#[test]
+fn deepest_homes(rt: HostRuntime) -> Result<(), Fail> {
+    let file = with_home(rt.alloc(), b"\0\0\0\x80")?;
+    assert!(rt; stays(rt.alloc(), file.as_slice())?);
+    let file = with_home(rt.alloc(), b"\0\0\0\x82/b")?;
+    assert!(rt; is_refused(rt.alloc(), file.as_slice(), TreeError::Value { entry: 0 }));
+    Ok(())
+}
+
 #[test]
 fn paths_out_of_range(rt: HostRuntime) -> Result<(), Fail> {
     for path in [
@@ -252,20 +272,35 @@ fn kinds(rt: HostRuntime) -> Result<(), Fail> {
     Ok(())
 }
 
+/// Whether a link with this target, whose size stands in front, is accepted.
+fn accepts_target(alloc: Global, size: &[u8], target: &[u8]) -> Result<bool, NoMemory> {
+    let path = b"\0\0\0\x02/lL".as_slice();
+    accepts(alloc, 1, &[path, size, target])
+}
+
+/// Whether such a link is refused for its target.
+fn refuses_target(alloc: Global, size: &[u8], target: &[u8]) -> Result<bool, AllocError> {
+    let path = b"\0\0\0\x02/lL".as_slice();
+    refuses(
+        alloc,
+        1,
+        &[path, size, target],
+        TreeError::Value { entry: 1 },
+    )
+}
+
 #[test]
 fn targets(rt: HostRuntime) -> Result<(), Fail> {
-    let value = TreeError::Value { entry: 1 };
-    let path = b"\0\0\0\x02/l".as_slice();
-    assert!(rt; refuses(rt.alloc(), 1, &[path, b"L\0\0\0\0"], value)?);
-    assert!(rt; refuses(rt.alloc(), 1, &[path, b"L\0\0\0\x02t\0"], value)?);
+    assert!(rt; refuses_target(rt.alloc(), b"\0\0\0\0", b"")?);
+    assert!(rt; refuses_target(rt.alloc(), b"\0\0\0\x02", b"t\0")?);
     let slashes = [b'/'; 4097];
-    assert!(rt; accepts(rt.alloc(), 1, &[path, b"L\0\0\x10\0", &slashes[..4096]])?);
-    assert!(rt; refuses(rt.alloc(), 1, &[path, b"L\0\0\x10\x01", &slashes], value)?);
+    assert!(rt; accepts_target(rt.alloc(), b"\0\0\x10\0", &slashes[..4096])?);
+    assert!(rt; refuses_target(rt.alloc(), b"\0\0\x10\x01", &slashes)?);
     let component = [b'a'; 256];
-    assert!(rt; accepts(rt.alloc(), 1, &[path, b"L\0\0\0\xff", &component[..255]])?);
-    assert!(rt; refuses(rt.alloc(), 1, &[path, b"L\0\0\x01\0", &component], value)?);
+    assert!(rt; accepts_target(rt.alloc(), b"\0\0\0\xff", &component[..255])?);
+    assert!(rt; refuses_target(rt.alloc(), b"\0\0\x01\0", &component)?);
     // A target need not lead anywhere, nor be the text of a place.
-    assert!(rt; accepts(rt.alloc(), 1, &[path, b"L\0\0\0\x06/..//\xff"])?);
+    assert!(rt; accepts_target(rt.alloc(), b"\0\0\0\x06", b"/..//\xff")?);
     Ok(())
 }
 
