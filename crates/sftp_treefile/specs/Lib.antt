@@ -1,2 +1,3 @@
 pub mod Limits
 pub mod TreeFile
+pub mod TreeFileParts
