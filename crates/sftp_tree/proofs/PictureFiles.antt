@@ -13,13 +13,14 @@ use Rattle.sftp_treefile.specs.declared.files.Kind.TheVariants as kinds
 use Rattle.sftp_treefile.specs.declared.files.Row.{Row}
 use Rattle.sftp_treefile.specs.declared.files.TreeFile.{TreeFile}
 use Rattle.sftp_treefile.specs.TreeFile.{place_of, IsPlaceText, IsOwner, AreRows, IsTreeFile, spelled, IsSpelled}
+use Rattle.sftp_treefile.proofs.FileTexts.{one_file}
 use Rattle.sftp_tree.specs.declared.nodes.Node.{Node}
 use Rattle.sftp_tree.specs.declared.nodes.Node.TheVariants.{Dir, Link}
 use Rattle.sftp_tree.specs.Tree.{Names, Tree, IsKept, IsNode, node_at, fits, entries_fit, depths_fit, depth_fits, home_fits, links_fit, link_fits}
 use Rattle.sftp_tree.specs.Picture.{kind_of, rows_of, root_owner, file_of, picture, IsStart, blank}
-use Rattle.sftp_tree.specs.PictureParts.{node_of, entry_of, only_root, names_of, tree_of, IsPlace, IsFitNode, IsTable}
+use Rattle.sftp_tree.specs.PictureParts.{node_of, entry_of, only_root, names_of, tree_of}
 use Rattle.sftp_tree.proofs.PictureLists.{all_weaker, all_pass, each_passes, all_together, all_right}
-use Rattle.sftp_tree.proofs.PictureTables.{text_place, root_table, table_of_rows, rows_of_table, root_first, root_at, entries_below}
+use Rattle.sftp_tree.proofs.PictureTables.{IsPlace, IsFitNode, IsTable, text_place, root_table, table_of_rows, rows_of_table, root_first, root_at, entries_below}
 
 -- ---- the limits, entry by entry
 
@@ -237,3 +238,10 @@ unfolding picture
 start_of_spelled file bytes is =
     let kept = kept_of_file file is.may_be in
     record { well_formed = kept.well_formed; within_limits = kept.within_limits; picture_is = is.bytes_are ∙ ap spelled (sym (file_again file is.may_be)) }
+
+-- bytes are the tree file of one tree
+pub one_start : (t u : Tree) (bytes : List ℕ) → IsStart t bytes → IsStart u bytes → t ≡ u
+one_start t u bytes t-start u-start =
+    sym (tree_again t (kept_of_start t bytes t-start))
+    ∙ ap tree_of (one_file (file_of t) (file_of u) bytes (spelled_of_start t bytes t-start) (spelled_of_start u bytes u-start))
+    ∙ tree_again u (kept_of_start u bytes u-start)

@@ -15,7 +15,7 @@ use Rattle.std.proofs.lemmas.List.{append-nil, map-append}
 use Rattle.std.proofs.lemmas.Map.{lookup-none}
 use Rattle.std.proofs.lemmas.Map.Entries.{none_below_head}
 use Rattle.std.proofs.lemmas.Map.Keys.{sorted_head, sorted_tail}
-use Rattle.sftp_path.specs.Place.{Place, place_cmp, parent}
+use Rattle.sftp_path.specs.Place.{Place, place_cmp, parent, are_names}
 use Rattle.sftp_path.specs.Table.{InOrder, get}
 use Rattle.sftp_path.proofs.Order.{place_cmp-total, place_cmp-same}
 use Rattle.sftp_path.proofs.TableLaws.{get-below}
@@ -26,9 +26,27 @@ use Rattle.sftp_treefile.specs.declared.files.Row.{Row}
 use Rattle.sftp_treefile.specs.TreeFile.{place_of, same_place, is_dir, is_dir_at, has_dir, IsOwner, IsKind, IsPlaceText, IsNext, AreRows}
 use Rattle.sftp_tree.specs.declared.nodes.Node.{Node}
 use Rattle.sftp_tree.specs.declared.nodes.Node.TheVariants.{Dir, Link}
-use Rattle.sftp_tree.specs.Tree.{Names, node_at, is_directory, is_taken}
-use Rattle.sftp_tree.specs.PictureParts.{node_of, entry_of, only_root, names_of, IsPlace, IsFitNode, IsTable}
+use Rattle.sftp_tree.specs.Tree.{Names, IsNode, node_at, is_directory, is_taken, depth_fits, link_fits}
+use Rattle.sftp_tree.specs.PictureParts.{node_of, entry_of, only_root, names_of}
 use Rattle.sftp_tree.proofs.PictureLists.{all_both, all_right, all_weaker, all_from_map, all_to_map, sorted_push, sorted_before, sorted_right, sorted_left, keys_append, lookup_left, lookup_right, lookup_found, insert_last, places_tie, parent_less, root_before}
+
+-- ---- tables
+
+-- a place within the limit
+abbrev pub IsPlace : Place → Type 0
+IsPlace place = IsTrue (are_names place) × IsTrue (depth_fits place)
+
+-- what may stand there
+abbrev pub IsFitNode : Node → Type 0
+IsFitNode node = IsNode node × IsTrue (link_fits node)
+
+-- what holds of the table of a tree within the limits, but for their number
+pub record IsTable (root : Owner) (names : Names) : Type 0 where
+  pub ordered : InOrder place_cmp names
+  pub places : AllByRecursion (λ e. IsPlace e.0) names
+  pub nodes : AllByRecursion (λ e. IsFitNode e.1) names
+  pub root_is : node_at names [] ≡ Some (Dir root)
+  pub parents : (place : Place) → IsTrue (is_taken (node_at names place)) → IsTrue (is_directory (node_at names (parent place)))
 
 -- ---- look-ups in a table and in its front
 

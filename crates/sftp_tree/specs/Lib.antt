@@ -6,3 +6,4 @@ pub mod Steps
 pub mod Sets
 pub mod Picture
 pub mod PictureParts
+pub mod PictureRows
