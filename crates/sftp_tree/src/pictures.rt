@@ -4,6 +4,8 @@ ghost use Rattle.sftp_tree.specs.Tree.{Tree as tree};
 ghost use Rattle.sftp_tree.specs.Picture.{IsStart, GivesTree, picture, blank};
 
 mod reading;
+#[cfg(test)]
+mod tests;
 mod writing;
 
 use crate::nodes::Node;
