@@ -7,6 +7,7 @@ mod causes;
 mod judging;
 pub mod laws;
 mod nodes;
+pub mod picture_laws;
 mod pictures;
 mod steps;
 mod trees;

@@ -1,0 +1,3 @@
+pub mod PictureLists
+pub mod PictureTables
+pub mod PictureFiles
