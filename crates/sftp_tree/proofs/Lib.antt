@@ -1,1 +1,4 @@
 pub mod WalkRoutes
+pub mod WalkSteps
+pub mod WalkMeetings
+pub mod WalkPlaces

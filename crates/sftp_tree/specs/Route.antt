@@ -1,5 +1,5 @@
 -- What is left of the targets that a walk goes over.
-use Rattle.std.specs.Prelude.{ℕ, ◌==◌, Bool, List, [], ◌∷◌, ◌++◌, length}
+use Rattle.std.specs.Prelude.{◌==◌, Bool, List, [], ◌∷◌, ◌++◌, length}
 use Rattle.sftp_path.specs.Place.{Name}
 use Rattle.sftp_path.specs.Split.{Split}
 
