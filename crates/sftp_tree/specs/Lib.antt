@@ -7,3 +7,5 @@ pub mod Sets
 pub mod Picture
 pub mod PictureParts
 pub mod PictureRows
+pub mod Route
+pub mod Walking

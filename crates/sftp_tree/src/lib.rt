@@ -9,6 +9,7 @@ pub mod laws;
 mod nodes;
 pub mod picture_laws;
 mod pictures;
+mod route;
 mod steps;
 mod trees;
 mod walking;
