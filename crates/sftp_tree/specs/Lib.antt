@@ -5,3 +5,4 @@ pub mod Attributes
 pub mod Steps
 pub mod Sets
 pub mod Picture
+pub mod Judged

@@ -1,0 +1,5 @@
+pub mod StepBelow
+pub mod StepTables
+pub mod StepKept
+pub mod StepCauses
+pub mod StepAnswers
