@@ -5,3 +5,8 @@ pub mod WalkRoutes
 pub mod WalkSteps
 pub mod WalkMeetings
 pub mod WalkPlaces
+pub mod StepBelow
+pub mod StepTables
+pub mod StepKept
+pub mod StepCauses
+pub mod StepAnswers

@@ -9,3 +9,4 @@ pub mod PictureParts
 pub mod PictureRows
 pub mod Route
 pub mod Walking
+pub mod Judged
