@@ -6,9 +6,9 @@ use Rattle.sftp_audit.specs.declared.transcripts.Event.{Event}
 use Rattle.sftp_audit.specs.declared.errors.AuditError.{AuditError}
 use Rattle.sftp_audit.specs.declared.errors.AuditError.TheVariants as audit_errors
 use Rattle.sftp_audit.specs.declared.pairing.Exchange.{Exchange}
-use Rattle.sftp_audit.specs.Tree.{Tree}
+use Rattle.sftp_tree.specs.Tree.{Tree}
 use Rattle.sftp_audit.specs.Steps.{Allowed}
-use Rattle.sftp_audit.specs.TreeFile.{IsStart}
+use Rattle.sftp_tree.specs.Picture.{IsStart}
 use Rattle.sftp_audit.specs.Transcript.{IsRecord}
 use Rattle.sftp_audit.specs.Explained.{Matching, in_window, entries, settled, Run}
 use Rattle.sftp_audit.specs.Ledger.{IsComplete}

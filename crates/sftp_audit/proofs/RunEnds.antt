@@ -5,9 +5,10 @@ use Rattle.sftp_wire.specs.declared.packets.Answer.{Answer}
 use Rattle.sftp_wire.specs.declared.packets.Answer.TheVariants.{Status}
 use Rattle.sftp_wire.specs.declared.packets.Request.{Request}
 use Rattle.sftp_wire.specs.declared.packets.Reply.{Reply}
-use Rattle.sftp_audit.specs.declared.trees.Cause.{Cause}
-use Rattle.sftp_audit.specs.Tree.{Tree}
-use Rattle.sftp_audit.specs.Steps.{CauseSet, every_cause, allows, has_step, is_none, causes, refuses, answers, target, Allowed}
+use Rattle.sftp_tree.specs.declared.causes.Cause.{Cause}
+use Rattle.sftp_tree.specs.Tree.{Tree}
+use Rattle.sftp_tree.specs.Steps.{CauseSet, every_cause, allows, has_step, is_none, causes, target}
+use Rattle.sftp_audit.specs.Steps.{refuses, answers, Allowed}
 use Rattle.sftp_audit.specs.Explained.{Run}
 
 -- a step by its tests: whether the request is judged and the id is its, whether the reply refuses, whether no cause holds, and

@@ -4,7 +4,7 @@ use Rattle.std.proofs.lemmas.List.{drop_more, drop_all}
 use Rattle.sftp_wire.specs.declared.packets.Request.{Request}
 use Rattle.sftp_wire.specs.declared.packets.Reply.{Reply}
 use Rattle.sftp_audit.specs.declared.pairing.Exchange.{Exchange}
-use Rattle.sftp_audit.specs.Tree.{Tree}
+use Rattle.sftp_tree.specs.Tree.{Tree}
 use Rattle.sftp_audit.specs.Steps.{Allowed}
 use Rattle.sftp_audit.specs.Explained.{settled}
 use Rattle.sftp_audit.specs.Exchange.{ledger_of}

@@ -1,14 +1,18 @@
 -- Worked rows: sessions on the blank tree that are explained, and such that are not.
-use Rattle.std.proofs.Common.{◌≡◌, [], ◌∷◌, Some, None, IsTrue, refl, sym, ◌∙◌, lit<}
-use Rattle.std.specs.List.Sorted.{IsStrictlySortedBy}
+use Rattle.std.proofs.Common.{◌≡◌, [], ◌∷◌, Some, None, refl, sym, subst, ◌∙◌}
 use Rattle.sftp_wire.specs.Rows.{hex}
-use Rattle.sftp_audit.specs.Place.{Place, parent, parts, components, is_good_path}
-use Rattle.sftp_audit.specs.Tree.{node_at, with_node, without_node, has_entries, fits, is_taken, is_directory, WellFormed}
-use Rattle.sftp_audit.specs.Walk.{meets, walk, reached}
-use Rattle.sftp_audit.specs.Steps.{plain_causes, causes, target, Allowed}
-use Rattle.sftp_audit.specs.TreeFile.{picture, IsStart}
+use Rattle.sftp_path.specs.Place.{parts, components, is_good_path}
+use Rattle.sftp_path.specs.Table.{get, put, without}
+use Rattle.sftp_treefile.specs.TreeFile.{spelled}
+use Rattle.sftp_tree.specs.Tree.{has_entries, fits}
+use Rattle.sftp_tree.specs.Walk.{meets, walk, walk_parts, reached}
+use Rattle.sftp_tree.specs.Steps.{led, plain_causes, causes, target, shown_to, target_to, text_to}
+use Rattle.sftp_tree.specs.Picture.{picture, IsStart}
+use Rattle.sftp_audit.specs.Steps.{Allowed}
 use Rattle.sftp_audit.specs.Explained.{closed, waiting, broken, turn_after, next_reply, entries, settled, asked_before_reply, in_window, Explained}
-use Rattle.sftp_audit.specs.Rows.{blank, blank_bytes, with_a, with_a_and_b, with_a_and_b_bytes, replied_backwards, one_unanswered, one_answered_twice, made_twice, told_for_made, stat_of_nothing, Unexplained}
+use Rattle.sftp_audit.specs.Rows.{blank, blank_bytes, with_a, with_a_and_b, with_a_and_b_bytes, replied_backwards, one_unanswered, one_answered_twice, made_twice, told_for_made, remove_of_nothing, Unexplained}
+use Rattle.sftp_audit.specs.Audit.{blank_bytes as file_bytes}
+use Rattle.sftp_audit.proofs.BlankTree.{blank_start as start_of_blank}
 use Rattle.sftp_audit.proofs.Turns.{Matching-from_ids}
 use Rattle.sftp_audit.proofs.RunEnds.{run_end, run-of_run_end, no_run-of_run_end}
 
@@ -21,7 +25,7 @@ nothing_asked = record { matching = λ id. refl; within_window = refl; run = ref
 -- ---- the replies come backwards
 
 backwards_end : run_end blank (settled (entries (replied_backwards 4))) ≡ Some with_a_and_b
-unfolding settled entries next_reply causes plain_causes target reached walk meets is_good_path components parts node_at with_node without_node has_entries fits
+unfolding settled entries next_reply causes plain_causes led target reached walk walk_parts meets is_good_path components parts get put without has_entries fits
 backwards_end = refl
 
 pub backwards : Explained Allowed blank (replied_backwards 4) with_a_and_b
@@ -33,12 +37,12 @@ backwards = record {
 }
 
 pub backwards_picture : picture with_a_and_b ≡ with_a_and_b_bytes
-unfolding picture node_at hex
+unfolding picture spelled get hex
 backwards_picture = refl
 
 -- the removal would have to succeed after what came before it in the order asked
 removed_end : run_end blank (settled (entries (replied_backwards 0))) ≡ None
-unfolding settled entries next_reply causes plain_causes target reached walk meets is_good_path components parts node_at with_node without_node has_entries fits
+unfolding settled entries next_reply causes plain_causes led target reached walk walk_parts meets is_good_path components parts get put without has_entries fits
 removed_end = refl
 
 pub removed : Unexplained (replied_backwards 0)
@@ -46,7 +50,7 @@ removed end e = no_run-of_run_end blank (settled (entries (replied_backwards 0))
 
 -- in the order in which the replies came the removal would be of what is absent
 arrival_end : run_end blank (settled (entries (replied_backwards 2))) ≡ None
-unfolding settled entries next_reply causes plain_causes target reached walk meets is_good_path components parts node_at with_node without_node has_entries fits
+unfolding settled entries next_reply causes plain_causes led target reached walk walk_parts meets is_good_path components parts get put without has_entries fits
 arrival_end = refl
 
 pub in_order_of_arrival : Unexplained (replied_backwards 2)
@@ -77,7 +81,7 @@ answered_twice end e = broken_open (sym first_breaks ∙ e.matching 1)
 -- ---- one place in two spellings
 
 made_twice_end : run_end blank (settled (entries (made_twice 4))) ≡ Some with_a
-unfolding settled entries next_reply causes plain_causes target reached walk meets is_good_path components parts node_at with_node without_node has_entries fits
+unfolding settled entries next_reply causes plain_causes led target reached walk walk_parts meets is_good_path components parts get put without has_entries fits
 made_twice_end = refl
 
 pub taken : Explained Allowed blank (made_twice 4) with_a
@@ -89,7 +93,7 @@ taken = record {
 }
 
 absent_end : run_end blank (settled (entries (made_twice 2))) ≡ None
-unfolding settled entries next_reply causes plain_causes target reached walk meets is_good_path components parts node_at with_node without_node has_entries fits
+unfolding settled entries next_reply causes plain_causes led target reached walk walk_parts meets is_good_path components parts get put without has_entries fits
 absent_end = refl
 
 pub not_absent : Unexplained (made_twice 2)
@@ -98,46 +102,24 @@ not_absent end e = no_run-of_run_end blank (settled (entries (made_twice 2))) ab
 -- ---- packets of other kinds
 
 told_end : run_end blank (settled (entries told_for_made)) ≡ None
-unfolding settled entries next_reply causes plain_causes target reached walk meets is_good_path components parts node_at with_node without_node has_entries fits
+unfolding settled entries next_reply causes plain_causes led target reached walk walk_parts meets is_good_path components parts get put without has_entries fits
 told_end = refl
 
 pub other_reply : Unexplained told_for_made
 other_reply end e = no_run-of_run_end blank (settled (entries told_for_made)) told_end end e.run
 
-stat_end : run_end blank (settled (entries stat_of_nothing)) ≡ None
+remove_end : run_end blank (settled (entries remove_of_nothing)) ≡ None
 unfolding settled entries next_reply
-stat_end = refl
+remove_end = refl
 
-pub other_request : Unexplained stat_of_nothing
-other_request end e = no_run-of_run_end blank (settled (entries stat_of_nothing)) stat_end end e.run
+pub other_request : Unexplained remove_of_nothing
+other_request end e = no_run-of_run_end blank (settled (entries remove_of_nothing)) remove_end end e.run
 
 -- ---- the blank tree and its file
 
-blank_parents : (place : Place) → IsTrue (is_taken (node_at blank.names place)) → IsTrue (is_directory (node_at blank.names (parent place)))
-unfolding node_at
-blank_parents [] there = refl
-blank_parents (n ∷ ns) there = absurd cc
-
-blank_formed : WellFormed blank
-unfolding node_at IsStrictlySortedBy
-blank_formed = record {
-  ordered = (tt, tt);
-  named = (refl, tt);
-  owned = ((lit< tt, lit< tt, lit< tt), tt);
-  root = refl;
-  parents = blank_parents;
-  home = refl;
-  uid = lit< tt;
-  gid = lit< tt;
-}
-
-blank_picture : blank_bytes ≡ picture blank
-unfolding picture node_at hex
-blank_picture = refl
-
-blank_fits : IsTrue (fits blank)
-unfolding fits
-blank_fits = refl
+blank_is : blank_bytes ≡ file_bytes
+unfolding hex
+blank_is = refl
 
 pub blank_start : IsStart blank blank_bytes
-blank_start = record { well_formed = blank_formed; within_limits = blank_fits; picture_is = blank_picture }
+blank_start = subst (IsStart blank) (sym blank_is) start_of_blank

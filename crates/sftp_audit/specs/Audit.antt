@@ -1,17 +1,17 @@
 -- What an auditor accepts: the bytes of a starting tree and of a recorded session that account for a run.
-use Rattle.std.specs.Prelude.{ℕ, ◌^◌, ◌-◌, min, List, length}
+use Rattle.std.specs.Prelude.{ℕ, ◌^◌, ◌-◌, min, List, [], ◌∷◌, length}
 use Rattle.sftp_audit.specs.declared.transcripts.Event.{Event}
-use Rattle.sftp_audit.specs.declared.errors.TreeError.{TreeError}
-use Rattle.sftp_audit.specs.declared.errors.TreeError.TheVariants as tree_errors
+use Rattle.sftp_treefile.specs.declared.errors.TreeError.{TreeError}
+use Rattle.sftp_treefile.specs.declared.errors.TreeError.TheVariants as tree_errors
 use Rattle.sftp_audit.specs.declared.errors.TranscriptError.{TranscriptError}
 use Rattle.sftp_audit.specs.declared.errors.TranscriptError.TheVariants as transcript_errors
 use Rattle.sftp_audit.specs.declared.errors.Refusal.{Refusal}
 use Rattle.sftp_audit.specs.declared.errors.Refusal.TheVariants as refusals
 use Rattle.sftp_audit.specs.declared.errors.AuditError.{AuditError}
 use Rattle.sftp_audit.specs.declared.errors.AuditError.TheVariants as audit_errors
-use Rattle.sftp_audit.specs.Tree.{Tree}
+use Rattle.sftp_tree.specs.Tree.{Tree}
+use Rattle.sftp_tree.specs.Picture.{IsStart}
 use Rattle.sftp_audit.specs.Steps.{Allowed}
-use Rattle.sftp_audit.specs.TreeFile.{IsStart}
 use Rattle.sftp_audit.specs.Transcript.{IsRecord}
 use Rattle.sftp_audit.specs.Explained.{Explained, entries}
 
@@ -45,3 +45,8 @@ IsPlain (audit_errors.Tree tree_errors.NoMemory) = ⊥
 IsPlain (audit_errors.Transcript transcript_errors.NoMemory) = ⊥
 IsPlain (audit_errors.Refused refusals.NoMemory) = ⊥
 IsPlain _ = Unit {0}
+
+-- the tree file of the blank tree: `SFTREE01`, the home `/`, uid and gid 0, no entries, and the root with uid and gid 0 and
+-- permissions 0o755
+abbrev pub blank_bytes : List ℕ
+blank_bytes = 0x53 ∷ 0x46 ∷ 0x54 ∷ 0x52 ∷ 0x45 ∷ 0x45 ∷ 0x30 ∷ 0x31 ∷ 0x00 ∷ 0x00 ∷ 0x00 ∷ 0x01 ∷ 0x2f ∷ 0x00 ∷ 0x00 ∷ 0x00 ∷ 0x00 ∷ 0x00 ∷ 0x00 ∷ 0x00 ∷ 0x00 ∷ 0x00 ∷ 0x00 ∷ 0x00 ∷ 0x00 ∷ 0x00 ∷ 0x00 ∷ 0x00 ∷ 0x00 ∷ 0x00 ∷ 0x00 ∷ 0x00 ∷ 0x00 ∷ 0x00 ∷ 0x00 ∷ 0x01 ∷ 0xed ∷ []

@@ -1,13 +1,5 @@
-pub mod Place
-pub mod Cut
-pub mod PlaceOrder
-pub mod Tree
-pub mod Walk
-pub mod Walking
 pub mod Steps
-pub mod Refusals
-pub mod TreeFile
-pub mod TreeFileParts
+pub mod Judging
 pub mod Transcript
 pub mod Records
 pub mod Explained

@@ -1,14 +1,16 @@
 -- What the worked rows name: trees, events, and the sessions made of them.
-use Rattle.std.specs.Prelude.{ℕ, List, [], ◌∷◌, ◌++◌, codes}
-use Rattle.sftp_wire.specs.declared.packets.Ask.TheVariants.{Mkdir, Rmdir, Stat}
-use Rattle.sftp_wire.specs.declared.packets.Answer.TheVariants.{Status, Data}
+use Rattle.std.specs.Prelude.{ℕ, List, [], ◌∷◌, ◌++◌, map, codes, Some, None}
+use Rattle.sftp_wire.specs.declared.attributes.Attrs.{Attrs}
+use Rattle.sftp_wire.specs.declared.names.NameItem.{NameItem}
+use Rattle.sftp_wire.specs.declared.packets.Ask.TheVariants.{Mkdir, Rmdir, Remove, Stat, Lstat, Realpath, Readlink, Symlink}
+use Rattle.sftp_wire.specs.declared.packets.Answer.TheVariants.{Status, Data, Name, Attrs as attributes}
 use Rattle.sftp_wire.specs.Rows.{hex, no_attributes, version_bytes}
-use Rattle.sftp_audit.specs.declared.trees.Node.{Node}
-use Rattle.sftp_audit.specs.declared.trees.Node.TheVariants.{Dir}
 use Rattle.sftp_audit.specs.declared.transcripts.Event.{Event}
 use Rattle.sftp_audit.specs.declared.transcripts.Event.TheVariants.{Asked, Replied}
-use Rattle.sftp_audit.specs.Place.{Place}
-use Rattle.sftp_audit.specs.Tree.{Tree}
+use Rattle.sftp_path.specs.Place.{Place}
+use Rattle.sftp_tree.specs.declared.nodes.Node.{Node}
+use Rattle.sftp_tree.specs.declared.nodes.Node.TheVariants.{Dir, Link}
+use Rattle.sftp_tree.specs.Tree.{Tree}
 use Rattle.sftp_audit.specs.Steps.{Allowed}
 use Rattle.sftp_audit.specs.Explained.{Explained}
 
@@ -42,6 +44,10 @@ with_a_and_b = tree_of (([], plain_directory) ∷ (codes "a" ∷ [], plain_direc
 abbrev pub with_a_and_b_bytes : List ℕ
 with_a_and_b_bytes = hex (codes "5346545245453031 00000001 2f 00000000 00000000 00000002 00000000 00000000 000001ed 00000002 2f61 44 00000000 00000000 000001ed 00000004 2f612f62 44 00000000 00000000 000001ed")
 
+-- with the link `/l` to `x y`
+abbrev pub with_link : Tree
+with_link = tree_of (([], plain_directory) ∷ (codes "l" ∷ [], Link (codes "x y")) ∷ [])
+
 -- ---- events
 
 -- a request for a directory of the tree's own owner
@@ -52,8 +58,24 @@ abbrev pub rmdir : ℕ → List ℕ → Event
 rmdir id path = Asked (record { id = id; ask = Rmdir path })
 
 -- a request that is not judged yet
+abbrev pub remove : ℕ → List ℕ → Event
+remove id path = Asked (record { id = id; ask = Remove path })
+
 abbrev pub stat : ℕ → List ℕ → Event
 stat id path = Asked (record { id = id; ask = Stat path })
+
+abbrev pub lstat : ℕ → List ℕ → Event
+lstat id path = Asked (record { id = id; ask = Lstat path })
+
+abbrev pub real_path : ℕ → List ℕ → Event
+real_path id path = Asked (record { id = id; ask = Realpath path })
+
+abbrev pub read_link : ℕ → List ℕ → Event
+read_link id path = Asked (record { id = id; ask = Readlink path })
+
+-- a request for a link with this target
+abbrev pub symlink : ℕ → List ℕ → List ℕ → Event
+symlink id linktarget link = Asked (record { id = id; ask = Symlink linktarget link })
 
 -- a reply with a code, and no texts
 abbrev pub status : ℕ → ℕ → Event
@@ -62,6 +84,26 @@ status id code = Replied (record { id = id; answer = Status code [] [] })
 -- a reply with bytes of a file
 abbrev pub told : ℕ → List ℕ → Event
 told id bytes = Replied (record { id = id; answer = Data bytes })
+
+-- a name of which nothing else is said
+abbrev pub bare_name : List ℕ → NameItem
+bare_name name = record { filename = name; longname = []; attrs = no_attributes }
+
+-- a reply with these names
+abbrev pub named : ℕ → List (List ℕ) → Event
+named id names = Replied (record { id = id; answer = Name (map bare_name names) })
+
+-- a reply with these attributes
+abbrev pub shown : ℕ → Attrs → Event
+shown id attrs = Replied (record { id = id; answer = attributes attrs })
+
+-- those of a link of user 0 and group 0, whose target has so many bytes
+abbrev pub of_link : ℕ → Attrs
+of_link size = record no_attributes { size = Some size; owner = Some (0, 0); permissions = Some 0o120777 }
+
+-- the same, but for the permissions
+abbrev pub with_no_permissions : ℕ → Attrs
+with_no_permissions size = record no_attributes { size = Some size; owner = Some (0, 0) }
 
 -- ---- sessions
 
@@ -90,8 +132,18 @@ abbrev pub told_for_made : List Event
 told_for_made = mkdir 1 (codes "/a") ∷ told 1 (codes "a") ∷ []
 
 -- a request that is not judged yet, about nothing, with the code that says so
-abbrev pub stat_of_nothing : List Event
-stat_of_nothing = stat 1 (codes "/a") ∷ status 1 2 ∷ []
+abbrev pub remove_of_nothing : List Event
+remove_of_nothing = remove 1 (codes "/a") ∷ status 1 2 ∷ []
+
+-- the link `/l` to `x y` is made and looked at: READLINK is answered with these names, STAT says that there is no such file, and LSTAT
+-- is answered with these attributes
+abbrev pub link_made : List (List ℕ) → Attrs → List Event
+link_made names attrs =
+    symlink 1 (codes "x y") (codes "/l") ∷ status 1 0 ∷ read_link 2 (codes "/l") ∷ named 2 names ∷ stat 3 (codes "/l") ∷ status 3 2 ∷ lstat 4 (codes "/l") ∷ shown 4 attrs ∷ []
+
+-- the parent of the root's parent is asked for
+abbrev pub above_the_root : List Event
+above_the_root = real_path 1 (codes "/../..") ∷ named 1 (codes "/" ∷ []) ∷ []
 
 -- the transcript file of a session without a request: the opening, an INIT of version 3, and the VERSION
 abbrev pub handshake_bytes : List ℕ

@@ -1,146 +1,68 @@
 -- Which replies a tree allows to a request, and the tree after them (draft-ietf-secsh-filexfer-02, sections
--- 6.6 and 7). The causes of refusals and the codes that each of them allows are this profile's own.
-use Rattle.std.specs.Prelude.{◌≡◌, ◌==◌, ◌&&◌, ◌||◌, not, ℕ, ◌%◌, ◌^◌, Bool, true, false, List, [], ◌∷◌, Result, Ok, Err, IsTrue, ◌⊎◌, unwrap_or}
-use Rattle.std.specs.Option.{option_map}
-use Rattle.std.specs.List.{list_any}
+-- 6.6 to 6.11 and 7). Which fields of a reply are free is this profile's own.
+use Rattle.std.specs.Prelude.{◌≡◌, ◌==◌, ◌&&◌, ℕ, Bool, true, false, List, [], ◌∷◌, Option, Some, None, IsTrue, ◌⊎◌}
 use Rattle.sftp_wire.specs.declared.attributes.Attrs.{Attrs}
+use Rattle.sftp_wire.specs.declared.names.NameItem.{NameItem}
 use Rattle.sftp_wire.specs.declared.packets.Ask.{Ask}
-use Rattle.sftp_wire.specs.declared.packets.Ask.TheVariants.{Mkdir, Rmdir}
+use Rattle.sftp_wire.specs.declared.packets.Ask.TheVariants.{Mkdir, Rmdir, Symlink, Stat, Lstat, Realpath, Readlink}
 use Rattle.sftp_wire.specs.declared.packets.Answer.{Answer}
-use Rattle.sftp_wire.specs.declared.packets.Answer.TheVariants.{Status}
+use Rattle.sftp_wire.specs.declared.packets.Answer.TheVariants as replies
 use Rattle.sftp_wire.specs.declared.packets.Request.{Request}
 use Rattle.sftp_wire.specs.declared.packets.Reply.{Reply}
-use Rattle.sftp_audit.specs.declared.trees.Owner.{Owner}
-use Rattle.sftp_audit.specs.declared.trees.Node.TheVariants.{Dir}
-use Rattle.sftp_audit.specs.declared.trees.Cause.{Cause}
-use Rattle.sftp_audit.specs.declared.trees.Cause.TheVariants.{BadPath, NoEntry, NotDir, Exists, NotEmpty, Root, NoRoom}
-use Rattle.sftp_audit.specs.Place.{Place}
-use Rattle.sftp_audit.specs.Tree.{Tree, node_at, with_node, without_node, is_directory, is_taken, has_entries, fits}
-use Rattle.sftp_audit.specs.Walk.{reached}
+use Rattle.sftp_path.specs.Place.{same_bytes}
+use Rattle.sftp_tree.specs.Tree.{Tree}
+use Rattle.sftp_tree.specs.Steps.{CauseSet, has_step, causes, is_none, allow, target, shown_to, target_to, text_to}
 
--- ---- the requests that are judged
-
--- whether the request's step has come; no reply is allowed to the others yet, whatever the tables below say of them
-abbrev pub has_step : Ask → Bool
-has_step (Mkdir path attrs) = true
-has_step (Rmdir path) = true
-has_step other = false
-
--- ---- causes, as sets of them
-
-abbrev pub CauseSet : Type 0
-CauseSet = Cause → Bool
-
--- the rows of the status table
-abbrev pub every_cause : List Cause
-every_cause = BadPath ∷ NoEntry ∷ NotDir ∷ Exists ∷ NotEmpty ∷ Root ∷ NoRoom ∷ []
-
--- the status codes that a cause allows
-abbrev pub allows : Cause → ℕ → Bool
-allows BadPath code = code == 4 || code == 5
-allows NoEntry code = code == 2
-allows NotDir code = code == 2 || code == 4
-allows Exists code = code == 4
-allows NotEmpty code = code == 4
-allows Root code = code == 4
-allows NoRoom code = code == 4
-
--- the set of one cause
-abbrev pub only : Cause → CauseSet
-only BadPath BadPath = true
-only NoEntry NoEntry = true
-only NotDir NotDir = true
-only Exists Exists = true
-only NotEmpty NotEmpty = true
-only Root Root = true
-only NoRoom NoRoom = true
-only _ _ = false
-
--- the causes of MKDIR at the place that its path leads to
-abbrev pub mkdir_causes : Tree → Place → CauseSet
-mkdir_causes t place Exists = is_taken (node_at t.names place)
-mkdir_causes t place _ = false
-
--- whether a place is the root
-abbrev pub is_root : Place → Bool
-is_root [] = true
-is_root (n ∷ ns) = false
-
--- the causes of RMDIR at the place that its path leads to
-abbrev pub rmdir_causes : Tree → Place → CauseSet
-rmdir_causes t place NoEntry = not (is_taken (node_at t.names place))
-rmdir_causes t place NotDir = is_taken (node_at t.names place) && not (is_directory (node_at t.names place))
-rmdir_causes t place NotEmpty = is_directory (node_at t.names place) && has_entries t.names place
-rmdir_causes t place Root = is_root place
-rmdir_causes t place _ = false
-
--- the causes at the place that a request's path leads to, but for the want of room
-abbrev pub causes_at : Tree → Ask → Place → CauseSet
-causes_at t (Mkdir path attrs) place = mkdir_causes t place
-causes_at t (Rmdir path) place = rmdir_causes t place
-causes_at t other place = λ cause. false
-
--- the path of a request
-abbrev pub path_of : Ask → List ℕ
-path_of (Mkdir path attrs) = path
-path_of (Rmdir path) = path
-path_of other = []
-
--- a path that leads nowhere has that one cause
-abbrev pub by_path : Result Place Cause → (Place → CauseSet) → CauseSet
-by_path (Ok place) at cause = at place cause
-by_path (Err failed) at cause = only failed cause
-
--- the causes but for the want of room
-unfoldable pub plain_causes : Tree → Ask → CauseSet
-plain_causes t ask cause = by_path (reached t (path_of ask)) (causes_at t ask) cause
-
--- no cause is in the set
-abbrev pub is_none : CauseSet → Bool
-is_none causes = not (list_any causes every_cause)
-
--- ---- what a request does
-
--- the owner that attributes give, and the tree's where they give none; of permissions the low twelve bits
-abbrev pub directory_owner : Tree → Attrs → Owner
-directory_owner t attrs = record {
-  uid = unwrap_or (option_map (λ o. o.0) attrs.owner) t.uid;
-  gid = unwrap_or (option_map (λ o. o.1) attrs.owner) t.gid;
-  permissions = unwrap_or (option_map (λ p. p % 2 ^ 12) attrs.permissions) 0o755;
-}
-
--- what a request does at the place that its path leads to
-abbrev pub target_at : Tree → Ask → Place → Tree
-target_at t (Mkdir path attrs) place = record t { names = with_node t.names place (Dir (directory_owner t attrs)) }
-target_at t (Rmdir path) place = record t { names = without_node t.names place }
-target_at t other place = t
-
-abbrev pub target_by : Tree → Result Place Cause → (Place → Tree) → Tree
-target_by t (Ok place) at = at place
-target_by t (Err cause) at = t
-
--- the tree after a request that no cause refuses
-unfoldable pub target : Tree → Ask → Tree
-target t ask = target_by t (reached t (path_of ask)) (target_at t ask)
-
--- ---- which replies are allowed
-
--- The causes that hold. There is no room where no other cause holds and what would stand afterwards
--- breaks a limit.
-unfoldable pub causes : Tree → Ask → CauseSet
-causes t ask NoRoom = is_none (plain_causes t ask) && not (fits (target t ask))
-causes t ask cause = plain_causes t ask cause
+-- ---- what a reply says
 
 -- a status with a code that one of the causes allows
 abbrev pub refuses : CauseSet → Answer → Bool
-refuses causes (Status code message language) = list_any (λ cause. causes cause && allows cause code) every_cause
-refuses causes other = false
+refuses set (replies.Status code message language) = allow set code
+refuses set other = false
 
--- the answer of a request that no cause refuses: a status that says OK
+-- a status that says OK
+abbrev pub is_done : Answer → Bool
+is_done (replies.Status code message language) = code == 0
+is_done other = false
+
+abbrev pub same_number : Option ℕ → Option ℕ → Bool
+same_number (Some a) (Some b) = a == b
+same_number _ _ = false
+
+abbrev pub same_numbers : Option (ℕ × ℕ) → Option (ℕ × ℕ) → Bool
+same_numbers (Some a) (Some b) = a.0 == b.0 && a.1 == b.1
+same_numbers _ _ = false
+
+-- whether attributes say the same size, owner and permissions, and leave none of them out; times and extended pairs are free
+abbrev pub same_attributes : Attrs → Attrs → Bool
+same_attributes a b = same_number a.size b.size && (same_numbers a.owner b.owner && same_number a.permissions b.permissions)
+
+-- the attributes of what was asked for
+abbrev pub is_shown : Option Attrs → Answer → Bool
+is_shown (Some shown) (replies.Attrs attrs) = same_attributes shown attrs
+is_shown _ _ = false
+
+-- one name; what else is said of it is free
+abbrev pub is_one_name : List ℕ → List NameItem → Bool
+is_one_name text (item ∷ []) = same_bytes text item.filename
+is_one_name text _ = false
+
+abbrev pub is_named : Option (List ℕ) → Answer → Bool
+is_named (Some text) (replies.Name items) = is_one_name text items
+is_named _ _ = false
+
+-- the answer of a request that no cause refuses
 abbrev pub answers : Tree → Ask → Answer → Bool
-answers t (Mkdir path attrs) (Status code message language) = code == 0
-answers t (Rmdir path) (Status code message language) = code == 0
-answers t ask answer = false
+answers t (Mkdir path attrs) answer = is_done answer
+answers t (Rmdir path) answer = is_done answer
+answers t (Symlink linktarget link) answer = is_done answer
+answers t (Stat path) answer = is_shown (shown_to t (Stat path)) answer
+answers t (Lstat path) answer = is_shown (shown_to t (Lstat path)) answer
+answers t (Realpath path) answer = is_named (text_to t (Realpath path)) answer
+answers t (Readlink path) answer = is_named (target_to t (Readlink path)) answer
+answers t other answer = false
+
+-- ---- which replies are allowed
 
 -- one of the causes that hold allows the answer, and nothing changes
 pub record Refuses (t : Tree) (ask : Ask) (answer : Answer) (after : Tree) : Type 0 where

@@ -10,7 +10,7 @@ use Rattle.sftp_audit.specs.declared.errors.TranscriptError.{TranscriptError}
 use Rattle.sftp_audit.specs.declared.errors.TranscriptError.TheVariants.{NoMemory}
 use Rattle.sftp_audit.specs.declared.transcripts.Event.{Event}
 use Rattle.sftp_audit.specs.declared.transcripts.Event.TheVariants.{Asked, Replied}
-use Rattle.sftp_audit.specs.Steps.{has_step}
+use Rattle.sftp_tree.specs.Steps.{has_step}
 
 -- `SFTPTR01`
 abbrev pub transcript_opening : List ℕ

@@ -1,15 +1,15 @@
 //! The auditor, from bytes to bytes.
 ghost use Rattle.std.specs.Prelude.{◌≡◌, ◌≢◌, List, IfOk, IfErr};
 ghost use Rattle.sftp_audit.specs.declared.errors.AuditError.TheVariants.{NoMemory};
-ghost use Rattle.sftp_audit.specs.Tree as values;
-ghost use Rattle.sftp_audit.specs.TreeFile.{picture};
+ghost use Rattle.sftp_tree.specs.Tree as values;
+ghost use Rattle.sftp_tree.specs.Picture.{picture};
 ghost use Rattle.sftp_audit.specs.Audit.{Accounts, IsPlain, request_count};
 
 use crate::errors::AuditError;
 use crate::pairing::pair;
 use crate::records::read_events;
 use crate::running::run;
-use crate::treefiles::{read, write};
+use sftp_tree::Tree;
 use std::alloc::Global;
 
 /// What an accepted session comes to.
@@ -45,12 +45,12 @@ pub fn audit(alloc: Global, tree: &[u8], transcript: &[u8]) -> Result<Accepted, 
         → Accounts tree.now transcript.now start events end → ⊥) }
     ensures plain { IfErr result IsPlain }
 {
-    let mut state = read(alloc, tree)?;
+    let mut state = Tree::read(alloc, tree)?;
     let events = read_events(alloc, transcript)?;
     let exchanges = pair(alloc, events)?;
     run(&mut state, exchanges.as_slice())?;
     let requests = exchanges.len() as u64;
-    let tree = write(alloc, &state)?;
+    let tree = state.write(alloc)?;
     Ok(Accepted { tree, requests })
 }
 

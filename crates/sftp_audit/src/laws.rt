@@ -1,13 +1,13 @@
 //! Laws of steps and sessions, as theorems on the definitions that the auditor's contract names. The functions
 //! do nothing; each promise is in the contract.
-ghost use Rattle.std.specs.Prelude.{◌≡◌, ℕ, ◌^◌, ◌<◌, List, length, IsTrue};
+ghost use Rattle.std.specs.Prelude.{◌≡◌, List, length};
 ghost use Rattle.sftp_wire.specs.declared.packets.Request.{Request};
 ghost use Rattle.sftp_wire.specs.declared.packets.Reply.{Reply};
 ghost use Rattle.sftp_audit.specs.declared.transcripts.Event.{Event};
-ghost use Rattle.sftp_audit.specs.Tree.{Tree};
-ghost use Rattle.sftp_audit.specs.Steps.{has_step, Allowed};
+ghost use Rattle.sftp_tree.specs.Tree.{Tree, IsKept};
+ghost use Rattle.sftp_audit.specs.Steps.{Allowed};
 ghost use Rattle.sftp_audit.specs.Explained.{Matching, Explained, entries, settled};
-ghost use Rattle.sftp_audit.specs.Laws.{IsAnswerable};
+ghost use Rattle.sftp_audit.specs.Laws.{IsAskable, IsAnswerable};
 
 /// A tree, a request and its reply fix the tree after them, and so a start and the events of a session fix
 /// the end.
@@ -16,9 +16,10 @@ pub fn one_end()
     ensures session { (t : Tree) (events : List Event) (a b : Tree) → Explained Allowed t events a → Explained Allowed t events b → a ≡ b }
 {}
 
-/// Whatever the tree, some reply to each request whose step has come is allowed and can be written.
+/// Some reply to each request whose step has come is allowed and can be written. The request is one that can be written, and
+/// the tree is as every tree of the program is kept: well-formed, and within the limits.
 pub fn some_reply()
-    ensures { (t : Tree) (request : Request) → request.id < 2 ^ 32 → IsTrue (has_step request.ask) → IsAnswerable t request }
+    ensures { (t : Tree) (request : Request) → IsKept t → IsAskable request → IsAnswerable t request }
 {}
 
 /// Where requests and replies of each id take turns, each request has a reply, so that a session's run goes

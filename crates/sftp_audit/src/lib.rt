@@ -3,23 +3,19 @@
 #![tactic(auto)]
 
 mod auditing;
+mod blank;
 mod errors;
 pub mod laws;
 mod pairing;
-mod path_text;
-mod paths;
 mod records;
-mod refusals;
 pub mod rows;
 mod running;
 mod steps;
 mod transcripts;
-mod treefiles;
-mod trees;
-mod walking;
 
 pub use auditing::{Accepted, audit};
-pub use errors::{AuditError, NoMemory, Refusal, TranscriptError, TreeError};
+pub use blank::{blank_tree, blank_tree_is_a_start};
+pub use errors::{AuditError, Refusal, TranscriptError};
 pub use records::records_are_one;
+pub use sftp_tree::{NoMemory, TreeError};
 pub use transcripts::Event;
-pub use treefiles::{blank_tree, blank_tree_is_a_start, starts_are_one};

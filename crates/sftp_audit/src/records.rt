@@ -5,7 +5,7 @@ ghost use Rattle.sftp_wire.specs.declared.packets.Packet.{Packet};
 ghost use Rattle.sftp_wire.specs.Spelling.{spelling, HasSpelling, side_of};
 ghost use Rattle.sftp_audit.specs.declared.transcripts.Event.{Event};
 ghost use Rattle.sftp_audit.specs.declared.transcripts.Event.TheVariants.{Asked};
-ghost use Rattle.sftp_audit.specs.Steps.{has_step};
+ghost use Rattle.sftp_tree.specs.Steps.{has_step};
 ghost use Rattle.sftp_audit.specs.Transcript.{transcript_opening, event_text, is_judged, IsEvent, AreRecords, IsRecord, GivesRecorded};
 ghost use Rattle.sftp_audit.specs.Records.{side_named, unreadable_at, Begins, BeginsInit, BeginsVersion, GivesOnly};
 

@@ -1,11 +1,11 @@
 //! Worked rows: sessions that the definitions explain, and such that they do not, as theorems on the
 //! definitions that the auditor's contract names. The functions do nothing; each promise is in the contract.
-ghost use Rattle.std.specs.Prelude.{◌≡◌, List, []};
-ghost use Rattle.sftp_audit.specs.TreeFile.{picture, IsStart};
+ghost use Rattle.std.specs.Prelude.{◌≡◌, List, [], ◌∷◌, codes};
+ghost use Rattle.sftp_tree.specs.Picture.{picture, IsStart};
 ghost use Rattle.sftp_audit.specs.Transcript.{IsRecord};
 ghost use Rattle.sftp_audit.specs.Steps.{Allowed};
 ghost use Rattle.sftp_audit.specs.Explained.{Explained};
-ghost use Rattle.sftp_audit.specs.Rows.{blank, blank_bytes, with_a, with_a_and_b, with_a_and_b_bytes, handshake_bytes, replied_backwards, replied_backwards_bytes, one_unanswered, one_answered_twice, made_twice, told_for_made, stat_of_nothing, Unexplained};
+ghost use Rattle.sftp_audit.specs.Rows.{blank, blank_bytes, with_a, with_a_and_b, with_a_and_b_bytes, with_link, handshake_bytes, replied_backwards, replied_backwards_bytes, one_unanswered, one_answered_twice, made_twice, told_for_made, remove_of_nothing, link_made, of_link, with_no_permissions, above_the_root, Unexplained};
 
 /// The 37 bytes of the blank tree's file, from which a run starts at the blank tree.
 pub fn blank_start()
@@ -52,5 +52,28 @@ pub fn made_twice_refused()
 /// judged yet.
 pub fn other_kinds()
     ensures other_reply { Unexplained told_for_made }
-    ensures other_request { Unexplained stat_of_nothing }
+    ensures other_request { Unexplained remove_of_nothing }
+{}
+
+/// The link `/l` to `x y` is made; READLINK gives its target, STAT finds no such file, since nothing stands where it
+/// leads, and LSTAT gives the target's length as the size, the tree's owner, and the permissions of a link.
+pub fn link_is_made()
+    ensures { Explained Allowed blank (link_made (codes "x y" ∷ []) (of_link 3)) with_link }
+{}
+
+/// The same session is not explained where LSTAT gives another size, or leaves the permissions out.
+pub fn wrong_attributes()
+    ensures other_size { Unexplained (link_made (codes "x y" ∷ []) (of_link 4)) }
+    ensures no_permissions { Unexplained (link_made (codes "x y" ∷ []) (with_no_permissions 3)) }
+{}
+
+/// The same session is not explained where READLINK gives another text, or two names.
+pub fn wrong_names()
+    ensures other_text { Unexplained (link_made (codes "x" ∷ []) (of_link 3)) }
+    ensures two_names { Unexplained (link_made (codes "x y" ∷ codes "x y" ∷ []) (of_link 3)) }
+{}
+
+/// The parent of the root is the root, as REALPATH tells.
+pub fn root_is_its_parent()
+    ensures { Explained Allowed blank above_the_root blank }
 {}

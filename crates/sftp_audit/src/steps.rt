@@ -1,121 +1,212 @@
-//! Which replies a tree allows to a request (draft, sections 6.6 and 7).
-ghost use Rattle.std.specs.Prelude.{◌≡◌, IfOk, OnErr, IsTrue, false};
-ghost use Rattle.sftp_wire.specs.declared.packets.Ask.TheVariants.{Mkdir, Rmdir};
-ghost use Rattle.sftp_audit.specs.Tree as trees;
+//! Which replies a tree allows to a request (draft, sections 6.6 to 6.11 and 7).
+ghost use Rattle.std.specs.Prelude.{◌≡◌, ℕ, List, IfOk, OnErr, IsTrue, false};
+ghost use Rattle.sftp_wire.specs.declared.packets.Ask.TheVariants.{Realpath, Readlink};
+ghost use Rattle.sftp_wire.specs.declared.packets.Answer.TheVariants as answers;
+ghost use Rattle.sftp_tree.specs.Tree as trees;
+ghost use Rattle.sftp_tree.specs.Steps as steps;
+ghost use Rattle.sftp_tree.specs.Sets.{stat_ask};
 ghost use Rattle.sftp_audit.specs.Steps as spec;
-ghost use Rattle.sftp_audit.specs.Refusals.{Judges, status_code};
+ghost use Rattle.sftp_audit.specs.Judging.{given, is_done, is_answer, IsDone, Judges};
 
-use crate::errors::NoMemory;
-use crate::refusals::Causes;
-use crate::trees::{Node, Owner, Tree};
-use sftp_wire::{Answer, Ask, Attrs, ByteString, Reply, Request};
+use sftp_tree::{NoMemory, Refused, Tree};
+use sftp_wire::{Answer, Ask, Attrs, ByteString, Names, Reply, Request};
 
-/// The permissions of what is made with none given.
-const DEFAULT_PERMISSIONS: u32 = 0o755;
-
-/// Permissions have twelve bits.
-const PERMISSION_BITS: u32 = 0o7777;
-
-impl Tree {
-    /// Whether the tree allows the reply to the request. Where it does, the tree is then as the two leave it;
-    /// where it does not, it is as before.
-    ///
-    /// # Errors
-    ///
-    /// `NoMemory` where memory runs out; the tree is then as before.
-    pub fn accept(&mut self, request: &Request, reply: &Reply) -> Result<bool, NoMemory>
-        ensures allowed { IfOk result
-            (λ ok. IsTrue ok → spec.Allowed self.old request.now reply.now self.new) }
-        ensures refused { IfOk result
-            (λ ok. ok ≡ false → (after : trees.Tree) → spec.Allowed self.old request.now reply.now after → ⊥) }
-        ensures kept { IfOk result (λ ok. ok ≡ false → self.new ≡ self.old) }
-        ensures err { OnErr result (self.new ≡ self.old) }
-    {
-        if reply.id != request.id {
-            return Ok(false);
-        }
-        let Some(code) = status_code(&reply.answer) else {
-            return Ok(false);
-        };
-        match &request.ask {
-            Ask::Mkdir { path, attrs } => self.accept_mkdir(path, attrs, code),
-            Ask::Rmdir { path } => self.accept_rmdir(path, code),
-            _ => Ok(false),
-        }
+/// Whether the tree allows the reply to the request. Where it does, the tree is then as the two leave it; where it does
+/// not, it is as before.
+///
+/// # Errors
+///
+/// `NoMemory` where memory runs out; the tree is then as before.
+pub fn accept(tree: &mut Tree, request: &Request, reply: &Reply) -> Result<bool, NoMemory>
+    ensures allowed { IfOk result
+        (λ ok. IsTrue ok → spec.Allowed tree.old request.now reply.now tree.new) }
+    ensures refused { IfOk result
+        (λ ok. ok ≡ false → (after : trees.Tree) → spec.Allowed tree.old request.now reply.now after → ⊥) }
+    ensures kept { IfOk result (λ ok. ok ≡ false → tree.new ≡ tree.old) }
+    ensures err { OnErr result (tree.new ≡ tree.old) }
+{
+    if reply.id != request.id || !has_step(&request.ask) {
+        return Ok(false);
     }
+    judge(tree, &request.ask, &reply.answer)
+}
 
-    /// Whether the tree allows a status of this code to a MKDIR.
-    fn accept_mkdir(
-        &mut self,
-        path: &ByteString,
-        attrs: &Attrs,
-        code: u32,
-    ) -> Result<bool, NoMemory>
-        ensures ok { IfOk result (λ ok. Judges self.old (Mkdir path.now attrs.now) code ok self.new) }
-        ensures err { OnErr result (self.new ≡ self.old) }
-    {
-        let place = match self.reach(path.as_slice())? {
-            Ok(place) => place,
-            Err(cause) => return Ok(cause.allows(code)),
-        };
-        let causes = Causes::of_mkdir(self.names(), &place);
-        if code != 0 || causes.has_any() {
-            return Ok(causes.allow(code));
-        }
-        let owner = self.directory_owner(attrs);
-        self.put(place, Node::Dir(owner))?;
-        Ok(true)
-    }
-
-    /// Whether the tree allows a status of this code to an RMDIR.
-    fn accept_rmdir(&mut self, path: &ByteString, code: u32) -> Result<bool, NoMemory>
-        ensures ok { IfOk result (λ ok. Judges self.old (Rmdir path.now) code ok self.new) }
-        ensures err { OnErr result (self.new ≡ self.old) }
-    {
-        let place = match self.reach(path.as_slice())? {
-            Ok(place) => place,
-            Err(cause) => return Ok(cause.allows(code)),
-        };
-        let causes = Causes::of_rmdir(self.names(), &place);
-        if code != 0 || causes.has_any() {
-            return Ok(causes.allow(code));
-        }
-        self.remove(&place);
-        Ok(true)
-    }
-
-    /// The owner that attributes give, and the tree's where they give none; of permissions the low twelve bits.
-    fn directory_owner(&self, attrs: &Attrs) -> Owner
-        ensures { result ≡ spec.directory_owner self.now attrs.now }
-    {
-        let (uid, gid) = attrs.owner.unwrap_or((self.uid(), self.gid()));
-        let permissions = match attrs.permissions {
-            Some(permissions) => permissions & PERMISSION_BITS,
-            None => DEFAULT_PERMISSIONS,
-        };
-        Owner {
-            uid,
-            gid,
-            permissions,
-        }
+/// Whether the tree allows the answer to a request.
+fn judge(tree: &mut Tree, ask: &Ask, answer: &Answer) -> Result<bool, NoMemory>
+    ensures ok { IfOk result (λ ok. Judges tree.old ask.now answer.now ok tree.new) }
+    ensures err { OnErr result (tree.new ≡ tree.old) }
+{
+    match answer {
+        Answer::Status { code, .. } => judge_status(tree, ask, *code),
+        Answer::Attrs(attrs) => shows(tree, ask, attrs),
+        Answer::Name(names) => tells(tree, ask, names),
+        Answer::Handle(_) | Answer::Data(_) | Answer::Extended(_) => Ok(false),
     }
 }
 
-/// The code of a status.
-fn status_code(answer: &Answer) -> Option<u32>
-    ensures { result ≡ status_code answer.now }
+/// Whether the tree allows a status of this code: a refusal, or the answer of a request that changes the tree.
+fn judge_status(tree: &mut Tree, ask: &Ask, code: u32) -> Result<bool, NoMemory>
+    ensures ok { IfOk result (λ ok. (message language : List ℕ) →
+        Judges tree.old ask.now (answers.Status code message language) ok tree.new) }
+    ensures err { OnErr result (tree.new ≡ tree.old) }
 {
-    match answer {
-        Answer::Status { code, .. } => Some(*code),
-        _ => None,
+    if code == 0 {
+        return perform(tree, ask);
+    }
+    let causes = tree.causes(ask)?;
+    Ok(causes.allow(code))
+}
+
+/// Does a request that changes the tree, where no cause refuses it. Another request is not done.
+fn perform(tree: &mut Tree, ask: &Ask) -> Result<bool, NoMemory>
+    ensures ok { IfOk result (λ ok. IsDone tree.old ask.now ok tree.new) }
+    ensures err { OnErr result (tree.new ≡ tree.old) }
+{
+    match ask {
+        Ask::Mkdir { path, attrs } => is_done(tree.mkdir(path.as_slice(), attrs)),
+        Ask::Rmdir { path } => is_done(tree.rmdir(path.as_slice())),
+        Ask::Symlink {
+            targetpath,
+            linkpath,
+        } => is_done(tree.symlink(targetpath.as_slice(), linkpath.as_slice())),
+        _ => Ok(false),
+    }
+}
+
+/// Whether a call that changes the tree was done, and not refused by a cause.
+fn is_done(outcome: Result<(), Refused>) -> Result<bool, NoMemory>
+    ensures { result ≡ is_done outcome }
+{
+    match outcome {
+        Ok(()) => Ok(true),
+        Err(Refused::Cause(_)) => Ok(false),
+        Err(Refused::NoMemory) => Err(NoMemory),
+    }
+}
+
+/// Whether attributes answer the request: STAT or LSTAT, of what has these.
+fn shows(tree: &Tree, ask: &Ask, attrs: &Attrs) -> Result<bool, NoMemory>
+    ensures { IfOk result (λ ok. ok ≡ is_answer tree.now ask.now (answers.Attrs attrs.now)) }
+{
+    match ask {
+        Ask::Stat { path } => shows_at(tree, path, true, attrs),
+        Ask::Lstat { path } => shows_at(tree, path, false, attrs),
+        _ => Ok(false),
+    }
+}
+
+/// Whether what stands where a path leads has these attributes.
+fn shows_at(tree: &Tree, path: &ByteString, follow: bool, attrs: &Attrs) -> Result<bool, NoMemory>
+    ensures { IfOk result (λ ok. ok ≡ is_answer tree.now (stat_ask follow path.now) (answers.Attrs attrs.now)) }
+{
+    match given(tree.stat(path.as_slice(), follow))? {
+        Some(shown) => Ok(same_attributes(&shown, attrs)),
+        None => Ok(false),
+    }
+}
+
+/// Whether names answer the request: REALPATH or READLINK, with the one text that is asked for.
+fn tells(tree: &Tree, ask: &Ask, names: &Names) -> Result<bool, NoMemory>
+    ensures { IfOk result (λ ok. ok ≡ is_answer tree.now ask.now (answers.Name names.now)) }
+{
+    match ask {
+        Ask::Realpath { path } => tells_place(tree, path, names),
+        Ask::Readlink { path } => tells_target(tree, path, names),
+        _ => Ok(false),
+    }
+}
+
+/// Whether the one name is the text of the place where a path leads.
+fn tells_place(tree: &Tree, path: &ByteString, names: &Names) -> Result<bool, NoMemory>
+    ensures { IfOk result (λ ok. ok ≡ is_answer tree.now (Realpath path.now) (answers.Name names.now)) }
+{
+    match given(tree.real_path(path.as_slice()))? {
+        Some(text) => Ok(is_one_name(text.as_slice(), names)),
+        None => Ok(false),
+    }
+}
+
+/// Whether the one name is the target of the link where a path leads.
+fn tells_target(tree: &Tree, path: &ByteString, names: &Names) -> Result<bool, NoMemory>
+    ensures { IfOk result (λ ok. ok ≡ is_answer tree.now (Readlink path.now) (answers.Name names.now)) }
+{
+    match given(tree.read_link(path.as_slice()))? {
+        Some(target) => Ok(is_one_name(target.as_slice(), names)),
+        None => Ok(false),
+    }
+}
+
+/// What a call of the tree gave, if no cause refused it.
+fn given<T>(outcome: Result<T, Refused>) -> Result<Option<T>, NoMemory>
+    ensures { result ≡ given outcome }
+{
+    match outcome {
+        Ok(value) => Ok(Some(value)),
+        Err(Refused::Cause(_)) => Ok(None),
+        Err(Refused::NoMemory) => Err(NoMemory),
+    }
+}
+
+/// Whether the attributes say the size, the owner and the permissions that are shown. The rest is free.
+fn same_attributes(shown: &Attrs, attrs: &Attrs) -> bool
+    ensures { result ≡ spec.same_attributes shown.now attrs.now }
+{
+    same_sizes(shown.size, attrs.size)
+        && same_owners(shown.owner, attrs.owner)
+        && same_permissions(shown.permissions, attrs.permissions)
+}
+
+fn same_sizes(shown: Option<u64>, size: Option<u64>) -> bool
+    ensures { result ≡ spec.same_number shown size }
+{
+    match (shown, size) {
+        (Some(shown), Some(size)) => shown == size,
+        _ => false,
+    }
+}
+
+fn same_owners(shown: Option<(u32, u32)>, owner: Option<(u32, u32)>) -> bool
+    ensures { result ≡ spec.same_numbers shown owner }
+{
+    match (shown, owner) {
+        (Some(shown), Some(owner)) => shown.0 == owner.0 && shown.1 == owner.1,
+        _ => false,
+    }
+}
+
+fn same_permissions(shown: Option<u32>, permissions: Option<u32>) -> bool
+    ensures { result ≡ spec.same_number shown permissions }
+{
+    match (shown, permissions) {
+        (Some(shown), Some(permissions)) => shown == permissions,
+        _ => false,
+    }
+}
+
+/// Whether there is one name, with these bytes. What else is said of it is free.
+fn is_one_name(text: &[u8], names: &Names) -> bool
+    ensures { result ≡ spec.is_one_name text.now names.now }
+{
+    match names.as_slice() {
+        [item] => text == item.filename.as_slice(),
+        _ => false,
     }
 }
 
 /// Whether the request's step has come: the others cannot be judged yet.
 pub fn has_step(ask: &Ask) -> bool
-    ensures { result ≡ spec.has_step ask.now }
+    ensures { result ≡ steps.has_step ask.now }
 {
-    matches!(ask, Ask::Mkdir { .. } | Ask::Rmdir { .. })
+    matches!(
+        ask,
+        Ask::Mkdir { .. }
+            | Ask::Rmdir { .. }
+            | Ask::Stat { .. }
+            | Ask::Lstat { .. }
+            | Ask::Realpath { .. }
+            | Ask::Readlink { .. }
+            | Ask::Symlink { .. }
+    )
 }
 
 #[cfg(test)]

@@ -16,7 +16,7 @@ returns-then-not-branch-clause-refused c =
 
 pub loop-exchange-preserved : goal.loop-exchange-preserved
 loop-exchange-preserved c =
-    run_on c.args.exchanges.now c.loop-exchange.exchange-index c.exchange-item.result c.in-Some.reply c.loop-exchange.tree c.accept.new.self _ c.loop-exchange-test.true c.exchange-item.is c.in-Some.is (c.in_ok-accept.ensures.allowed c.if-not-branch.false) c.loop-exchange.invariant
+    run_on c.args.exchanges.now c.loop-exchange.exchange-index c.exchange-item.result c.in-Some.reply c.loop-exchange.tree c.accept.new.tree _ c.loop-exchange-test.true c.exchange-item.is c.in-Some.is (c.in_ok-accept.ensures.allowed c.if-not-branch.false) c.loop-exchange.invariant
 
 pub returns-clause-ran : goal.returns-clause-ran
 returns-clause-ran c =

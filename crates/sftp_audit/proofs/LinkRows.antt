@@ -1,0 +1,64 @@
+-- Worked rows of links: sessions on the blank tree that are explained, and such that are not.
+use Rattle.std.proofs.Common.{◌≡◌, [], ◌∷◌, codes, Some, None, refl}
+use Rattle.sftp_path.specs.Place.{parts, components, is_good_path}
+use Rattle.sftp_path.specs.Table.{get, put}
+use Rattle.sftp_tree.specs.Tree.{fits}
+use Rattle.sftp_tree.specs.Walk.{meets, walk, walk_parts, reached}
+use Rattle.sftp_tree.specs.Steps.{led, plain_causes, causes, target, shown_to, target_to, text_to}
+use Rattle.sftp_audit.specs.Steps.{Allowed}
+use Rattle.sftp_audit.specs.Explained.{turn_after, next_reply, entries, settled, asked_before_reply, in_window, Explained}
+use Rattle.sftp_audit.specs.Rows.{blank, with_link, link_made, of_link, with_no_permissions, above_the_root, Unexplained}
+use Rattle.sftp_audit.proofs.Turns.{Matching-from_ids}
+use Rattle.sftp_audit.proofs.RunEnds.{run_end, run-of_run_end, no_run-of_run_end}
+
+made_end : run_end blank (settled (entries (link_made (codes "x y" ∷ []) (of_link 3)))) ≡ Some with_link
+unfolding settled entries next_reply causes plain_causes led target shown_to target_to reached walk walk_parts meets is_good_path components parts get put fits
+made_end = refl
+
+pub made : Explained Allowed blank (link_made (codes "x y" ∷ []) (of_link 3)) with_link
+unfolding turn_after in_window asked_before_reply
+made = record {
+  matching = Matching-from_ids (link_made (codes "x y" ∷ []) (of_link 3)) (refl, (refl, (refl, (refl, (refl, (refl, (refl, (refl, tt))))))));
+  within_window = refl;
+  run = run-of_run_end blank (settled (entries (link_made (codes "x y" ∷ []) (of_link 3)))) with_link made_end;
+}
+
+other_size_end : run_end blank (settled (entries (link_made (codes "x y" ∷ []) (of_link 4)))) ≡ None
+unfolding settled entries next_reply causes plain_causes led target shown_to target_to reached walk walk_parts meets is_good_path components parts get put fits
+other_size_end = refl
+
+pub other_size : Unexplained (link_made (codes "x y" ∷ []) (of_link 4))
+other_size end e = no_run-of_run_end blank (settled (entries (link_made (codes "x y" ∷ []) (of_link 4)))) other_size_end end e.run
+
+no_permissions_end : run_end blank (settled (entries (link_made (codes "x y" ∷ []) (with_no_permissions 3)))) ≡ None
+unfolding settled entries next_reply causes plain_causes led target shown_to target_to reached walk walk_parts meets is_good_path components parts get put fits
+no_permissions_end = refl
+
+pub no_permissions : Unexplained (link_made (codes "x y" ∷ []) (with_no_permissions 3))
+no_permissions end e = no_run-of_run_end blank (settled (entries (link_made (codes "x y" ∷ []) (with_no_permissions 3)))) no_permissions_end end e.run
+
+other_text_end : run_end blank (settled (entries (link_made (codes "x" ∷ []) (of_link 3)))) ≡ None
+unfolding settled entries next_reply causes plain_causes led target shown_to target_to reached walk walk_parts meets is_good_path components parts get put fits
+other_text_end = refl
+
+pub other_text : Unexplained (link_made (codes "x" ∷ []) (of_link 3))
+other_text end e = no_run-of_run_end blank (settled (entries (link_made (codes "x" ∷ []) (of_link 3)))) other_text_end end e.run
+
+two_names_end : run_end blank (settled (entries (link_made (codes "x y" ∷ codes "x y" ∷ []) (of_link 3)))) ≡ None
+unfolding settled entries next_reply causes plain_causes led target shown_to target_to reached walk walk_parts meets is_good_path components parts get put fits
+two_names_end = refl
+
+pub two_names : Unexplained (link_made (codes "x y" ∷ codes "x y" ∷ []) (of_link 3))
+two_names end e = no_run-of_run_end blank (settled (entries (link_made (codes "x y" ∷ codes "x y" ∷ []) (of_link 3)))) two_names_end end e.run
+
+above_end : run_end blank (settled (entries above_the_root)) ≡ Some blank
+unfolding settled entries next_reply causes plain_causes led target text_to reached walk walk_parts meets is_good_path components parts get fits
+above_end = refl
+
+pub above : Explained Allowed blank above_the_root blank
+unfolding turn_after in_window asked_before_reply
+above = record {
+  matching = Matching-from_ids above_the_root (refl, (refl, tt));
+  within_window = refl;
+  run = run-of_run_end blank (settled (entries above_the_root)) blank above_end;
+}

@@ -1,7 +1,0 @@
-use Rattle.std.proofs.Common.{◌≡◌, ◌∷◌, take}
-use Rattle.std.specs.List.{flat_map}
-use Rattle.sftp_audit.proofs.path_text.absolute.Given as goal
-
--- the names so far, each behind a `/`
-abbrev pub invariant-loop-name : goal.invariant-loop-name
-invariant-loop-name l = l.text.items ≡ flat_map (λ name. 47 ∷ name) (take l.name-index l.place)

@@ -1,0 +1,31 @@
+//! The blank tree's file.
+ghost use Rattle.std.specs.Prelude.{◌≡◌, IfOk};
+ghost use Rattle.sftp_tree.specs.Tree.{Tree as tree};
+ghost use Rattle.sftp_tree.specs.Picture.{IsStart};
+ghost use Rattle.sftp_audit.specs.Audit.{blank_bytes};
+
+use sftp_tree::NoMemory;
+use std::alloc::Global;
+
+/// The bytes of the blank tree's file.
+const BLANK: [u8; 37] = [
+    0x53, 0x46, 0x54, 0x52, 0x45, 0x45, 0x30, 0x31, 0, 0, 0, 1, 0x2f, 0, 0, 0, 0, 0, 0, 0, 0, 0, 0,
+    0, 0, 0, 0, 0, 0, 0, 0, 0, 0, 0, 0, 1, 0xed,
+];
+
+/// The tree file of the blank tree: its home is the root, which has uid and gid 0 and permissions 0o755
+/// and no entries, and uid and gid 0 own what is made with no owner given.
+///
+/// # Errors
+///
+/// `NoMemory` where memory runs out.
+pub fn blank_tree(alloc: Global) -> Result<Vec<u8>, NoMemory>
+    ensures { IfOk result (λ v. v.items ≡ blank_bytes) }
+{
+    Ok(Vec::from_slice(alloc, &BLANK)?)
+}
+
+/// The blank tree's bytes are the tree file of a tree.
+pub fn blank_tree_is_a_start()
+    ensures { (t : tree) × IsStart t blank_bytes }
+{}
