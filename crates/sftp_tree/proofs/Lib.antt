@@ -1,3 +1,4 @@
 pub mod PictureLists
 pub mod PictureTables
 pub mod PictureFiles
+pub mod PictureRows
