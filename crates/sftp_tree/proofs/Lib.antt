@@ -10,3 +10,4 @@ pub mod StepTables
 pub mod StepKept
 pub mod StepCauses
 pub mod StepAnswers
+pub mod PictureRows

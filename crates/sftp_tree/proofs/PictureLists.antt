@@ -132,11 +132,7 @@ parent_less p below =
     let whole : take (length p - 1) p ++ drop (length p - 1) p ≡ p = take-append-drop (length p - 1) p in
     subst (λ (q : Place). place_cmp (parent p) q ≡ Less) whole (front_less nat_list_cmp_total (parent p) (drop (length p - 1) p) (omega (arith, length-drop (length p - 1) p)))
 
--- no place is before the root, and the root is before all others
-pub none_before_root : (p : Place) → place_cmp p [] ≡ Less → ⊥
-none_before_root [] e = cc
-none_before_root (n ∷ ns) e = cc
-
+-- the root is before all others
 pub root_before : (p : Place) → 0 < length p → place_cmp [] p ≡ Less
 root_before [] below = absurd (omega arith)
 root_before (n ∷ ns) below = refl

@@ -22,8 +22,9 @@ pub fn blank_is_a_start()
     ensures bytes { picture blank ≡ blank_bytes }
 {}
 
-/// The tree file of a tree with a directory and a link to it.
+/// A tree with a directory and a link to it is one that the program may have, and these 69 bytes are its tree file.
 #[tactic(auto, unfolding(crate::specs::Picture::picture, sftp_treefile::specs::TreeFile::spelled, sftp_path::specs::Table::get))]
 pub fn file_of_a_directory_and_a_link()
-    ensures { picture linked ≡ linked_front ++ (linked_root ++ (linked_directory ++ linked_link)) }
+    ensures kept { IsKept linked }
+    ensures bytes { picture linked ≡ linked_front ++ (linked_root ++ (linked_directory ++ linked_link)) }
 {}
