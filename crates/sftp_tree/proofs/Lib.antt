@@ -11,3 +11,5 @@ pub mod StepKept
 pub mod StepCauses
 pub mod StepAnswers
 pub mod PictureRows
+pub mod WalkRules
+pub mod WalkCounts

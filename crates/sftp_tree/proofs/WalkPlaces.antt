@@ -10,9 +10,10 @@ use Rattle.sftp_treefile.specs.TreeFile.{are_bytes}
 use Rattle.sftp_tree.specs.declared.nodes.Node.{Node}
 use Rattle.sftp_tree.specs.declared.nodes.Node.TheVariants.{Link}
 use Rattle.sftp_tree.specs.declared.causes.Cause.{Cause}
+use Rattle.sftp_tree.specs.declared.causes.Cause.TheVariants.{BadPath}
 use Rattle.sftp_tree.specs.Tree.{node_at, is_directory, is_taken, Tree, IsKept}
-use Rattle.sftp_tree.specs.Walk.{Meeting, is_last, start_of, meets, walk}
-use Rattle.sftp_tree.proofs.WalkSteps.{behind_link, walk_on, walk-nil, walk-cons}
+use Rattle.sftp_tree.specs.Walk.{Meeting, is_last, start_of, meets, walk, steps_of, reached}
+use Rattle.sftp_tree.proofs.WalkSteps.{behind_link, walk_on, walk-nil, walk-cons, reached-good, reached-bad}
 use Rattle.sftp_tree.proofs.WalkMeetings.{MetBy, by_dot, by_dot_dot, by_directory, by_link, by_last_link, by_last_absent, by_absent, met_by, plain-is_name, steps-behind}
 
 -- a walk stands at a directory
@@ -120,3 +121,18 @@ steps-from home path names good bytes =
 -- and the place that is its answer
 pub found-at : (t : Tree) (follow : Bool) (left : ℕ) (at : Place) (path : List Name) (place : Place) → IsKept t → Stands t at → list_all is_step path ≡ true → Ok place ≡ walk t.names follow left at path → Found t place
 found-at t follow left at path place kept stands steps is = subst (FoundBy t) (sym is) (found t follow left kept at path stands steps)
+
+steps-of : (t : Tree) (path : List ℕ) (absolute : Bool) → IsKept t → is_good_path path ≡ true → are_bytes path ≡ true → list_all is_step (if absolute then components path else t.home ++ components path) ≡ true
+steps-of t path true kept good bytes = components-steps path good bytes
+steps-of t path false kept good bytes = steps-from t.home path kept.well_formed.home good bytes
+
+reached-found : (t : Tree) (follow : Bool) (path : List ℕ) (place : Place) (good : Bool) → is_good_path path ≡ good → IsKept t → are_bytes path ≡ true → reached t follow path ≡ Ok place → Found t place
+reached-found t follow path place true good kept bytes is =
+    found-at t follow 40 [] (steps_of t path) place kept (root-stands t kept) (steps-of t path (is_absolute path) kept good bytes) (sym is ∙ reached-good t follow path good)
+reached-found t follow path place false bad kept bytes is =
+    let none : Ok place ≡ Err BadPath = sym is ∙ reached-bad t follow path bad in
+    cc
+
+-- where a path of bytes leads
+pub path-found : (t : Tree) (follow : Bool) (path : List ℕ) (place : Place) → IsKept t → are_bytes path ≡ true → reached t follow path ≡ Ok place → Found t place
+path-found t follow path place = reached-found t follow path place (is_good_path path) refl
