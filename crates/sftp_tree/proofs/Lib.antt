@@ -3,3 +3,4 @@ pub mod StepTables
 pub mod StepKept
 pub mod StepCauses
 pub mod StepAnswers
+pub mod StepKeeps
