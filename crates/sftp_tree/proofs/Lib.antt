@@ -13,3 +13,4 @@ pub mod StepAnswers
 pub mod PictureRows
 pub mod WalkRules
 pub mod WalkCounts
+pub mod StepKeeps

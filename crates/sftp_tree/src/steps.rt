@@ -154,3 +154,6 @@ fn see_place(place: &Place)
 {
     let _ = place.names();
 }
+
+#[cfg(test)]
+mod tests;
