@@ -5,3 +5,5 @@ pub mod Attributes
 pub mod Steps
 pub mod Sets
 pub mod Picture
+pub mod Route
+pub mod Walking

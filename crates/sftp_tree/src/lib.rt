@@ -8,6 +8,7 @@ mod judging;
 pub mod laws;
 mod nodes;
 mod pictures;
+mod route;
 mod steps;
 mod trees;
 mod walking;
