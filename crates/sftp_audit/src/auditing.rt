@@ -55,4 +55,6 @@ pub fn audit(alloc: Global, tree: &[u8], transcript: &[u8]) -> Result<Accepted, 
 }
 
 #[cfg(test)]
+mod links;
+#[cfg(test)]
 mod tests;
