@@ -87,14 +87,13 @@ fn open(alloc: Global, transcript: &mut Vec<u8>) -> Result<(), BenchError> {
         version: 3,
         extensions: Pairs::new(Vec::new(alloc)),
     };
-    encode(&init, transcript)?;
+    put(transcript, init)?;
     transcript.push(b'S')?;
     let version = Packet::Version {
         version: 3,
         extensions: Pairs::new(Vec::new(alloc)),
     };
-    encode(&version, transcript)?;
-    Ok(())
+    put(transcript, version)
 }
 
 /// STAT by a link, LSTAT of a directory, or READLINK.
@@ -128,9 +127,14 @@ fn exchange(
 ) -> Result<(), BenchError> {
     let answer = answered(alloc, tree, &ask)?;
     transcript.push(b'C')?;
-    encode(&Packet::Request(Request { id, ask }), transcript)?;
+    put(transcript, Packet::Request(Request { id, ask }))?;
     transcript.push(b'S')?;
-    encode(&Packet::Reply(Reply { id, answer }), transcript)?;
+    put(transcript, Packet::Reply(Reply { id, answer }))
+}
+
+/// Appends a packet.
+fn put(transcript: &mut Vec<u8>, packet: Packet) -> Result<(), BenchError> {
+    encode(&packet, transcript)?;
     Ok(())
 }
 
