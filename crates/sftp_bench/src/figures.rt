@@ -98,7 +98,7 @@ pub(crate) fn print_audit_figures<R: AllocGlobal + Clock + Print>(
         let session = Session::new(rt.alloc(), groups, REQUESTS)?;
         let micros = least_micros(rt, &session)?;
         let entries = groups as u64 * ENTRIES;
-        let speed = REQUESTS as u128 * 1_000_000 / micros;
+        let speed = REQUESTS as u128 * 1_000_000 / micros.max(1);
         let bytes = session.transcript.len();
         println!(rt;
             "audit over {entries} entries: {speed} requests/s, {REQUESTS} of them with their replies in {bytes} bytes"
@@ -119,5 +119,5 @@ fn least_micros<R: AllocGlobal + Clock>(rt: &R, session: &Session) -> Result<u12
         )?;
         least = least.min(start.elapsed(rt)?.as_micros());
     }
-    Ok(least.max(1))
+    Ok(least)
 }
