@@ -7,3 +7,4 @@ pub mod Sets
 pub mod Picture
 pub mod Route
 pub mod Walking
+pub mod WalkRows
