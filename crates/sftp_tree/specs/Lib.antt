@@ -10,3 +10,4 @@ pub mod PictureRows
 pub mod Route
 pub mod Walking
 pub mod Judged
+pub mod WalkRows

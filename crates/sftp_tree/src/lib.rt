@@ -12,6 +12,7 @@ mod pictures;
 mod route;
 mod steps;
 mod trees;
+pub mod walk_rows;
 mod walking;
 
 pub use causes::{Cause, Causes, Refused};
