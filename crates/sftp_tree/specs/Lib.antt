@@ -6,3 +6,4 @@ pub mod Steps
 pub mod Sets
 pub mod Picture
 pub mod Judged
+pub mod StepRows

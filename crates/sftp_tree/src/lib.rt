@@ -8,6 +8,7 @@ mod judging;
 pub mod laws;
 mod nodes;
 mod pictures;
+pub mod step_rows;
 mod steps;
 mod trees;
 mod walking;
