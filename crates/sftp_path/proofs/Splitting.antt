@@ -1,7 +1,7 @@
 -- The parts and components of a path.
 use Rattle.std.proofs.Common.{◌≡◌, ◌≢◌, ℕ, suc, zero, ◌+◌, ◌-◌, ◌<◌, ◌≤◌, Bool, true, false, cond, not, ◌==◌, nat_lt, nat_le, List, [], ◌∷◌, ◌++◌, length, take, drop, refl, sym, ap, ◌∙◌, subst, arith, filter}
 use Rattle.std.specs.List.{list_all, position, position_or_len}
-use Rattle.std.specs.Prelude.{slice_index, Option, Some, None, unwrap_or}
+use Rattle.std.specs.Prelude.{slice_index, Option, Some, None, is_some, unwrap_or}
 use Rattle.bstr.specs.Find.{IsFirstByte, is_byte}
 use Rattle.std.proofs.Common.{inl, inr}
 use Rattle.std.proofs.lemmas.Bool.{eq-eqb, eqb-true, ne_eqb, lt-ltb, ltb-true, ltb-false, cond-true, and_parts, cases_Bool, not-true, false≢true}
@@ -63,6 +63,17 @@ parts-whole [] h = parts-nil
 parts-whole (b ∷ w) h =
     let p = and_parts (is_inner b) (list_all is_inner w) h in
     parts-inner b w (not-true (b == 47) p.0) ∙ ap (with_first b) (parts-whole w p.1)
+
+-- a path has a part, if only an empty one
+pub parts-first : (bs : List ℕ) → (w : List ℕ) × (ws : List (List ℕ)) × (parts bs ≡ w ∷ ws)
+parts-first [] = ([], [], parts-nil)
+parts-first (b ∷ bs) =
+    elim (cases_Bool (b == 47)) [
+      | inl slash ↦ ([], parts bs, parts-slash b bs slash)
+      | inr inner ↦
+          let rest = parts-first bs in
+          (b ∷ rest.0, rest.1, parts-inner b bs inner ∙ ap (with_first b) rest.2)
+    ]
 
 -- ---- components
 
@@ -157,6 +168,32 @@ components-end bs none =
     ] in
     sym (components-skip bs) ∙ ap components (drop_all (position_or_len is_inner bs) bs past) ∙ components-nil
 
+-- where a byte is no `/`, there is a component
+components-there : (bs : List ℕ) → position_or_len is_inner bs < length bs → 0 < length (components bs)
+components-there [] there = absurd (omega arith)
+components-there (b ∷ bs) there =
+    elim (cases_Bool (b == 47)) [
+      | inl slash ↦
+          let skipped : components (b ∷ bs) ≡ components bs = ap (λ v. components (v ∷ bs)) (eqb-true b 47 slash) ∙ components-slash bs in
+          let passed : position_or_len is_inner (b ∷ bs) ≡ 1 + position_or_len is_inner bs = ap (λ v. cond (not (not v)) (1 + position_or_len is_inner bs) 0) slash in
+          let further : position_or_len is_inner bs < length bs = omega arith in
+          rw skipped (components-there bs further)
+      | inr inner ↦
+          let rest = parts-first bs in
+          let first : components (b ∷ bs) ≡ (b ∷ rest.0) ∷ filter is_nonempty rest.1 =
+          components-are (b ∷ bs) ∙ ap (filter is_nonempty) (parts-inner b bs inner ∙ ap (with_first b) rest.2) ∙ filter-nonempty (b ∷ rest.0) rest.1 (omega arith) in
+          omega (arith, ap length first)
+    ]
+
+-- whether there is a component, by the first byte that is no `/`
+pub components-none_left : (bs : List ℕ) (found : Option ℕ) (none : Bool) → found ≡ position is_inner bs → is_some found ≡ not none → none ≡ (length (components bs) == 0)
+components-none_left bs None true e h = sym (eq-eqb (length (components bs)) 0 (ap length (components-end bs (sym e))))
+components-none_left bs None false e h = cc
+components-none_left bs (Some n) true e h = cc
+components-none_left bs (Some n) false e h =
+    let there = components-there bs (position-some bs n (sym e)).0 in
+    sym (ne_eqb (length (components bs)) 0 (λ z. omega arith))
+
 -- the first place of a `/`, or the end, cuts the first part off
 pub parts-found : (bs : List ℕ) (r : Option ℕ) → IsFirstByte (is_byte 47) bs r → parts bs ≡ take (unwrap_or r (length bs)) bs ∷ parts_behind (drop (unwrap_or r (length bs)) bs)
 parts-found bs None h = parts-cut bs (length bs) (λ k l e. h k (omega arith) l (eq-eqb (slice_index bs k) 47 e)) (λ l. absurd (omega arith))
@@ -167,17 +204,6 @@ parts-found bs (Some n) h = parts-cut bs n (λ k l e. h.0.before k (omega arith)
 joined-with_first : (b : ℕ) (w : List ℕ) (ws : List (List ℕ)) → joined (with_first b (w ∷ ws)) ≡ b ∷ joined (w ∷ ws)
 joined-with_first b w [] = refl
 joined-with_first b w (v ∷ vs) = refl
-
--- a path has a part, if only an empty one
-pub parts-first : (bs : List ℕ) → (w : List ℕ) × (ws : List (List ℕ)) × (parts bs ≡ w ∷ ws)
-parts-first [] = ([], [], parts-nil)
-parts-first (b ∷ bs) =
-    elim (cases_Bool (b == 47)) [
-      | inl slash ↦ ([], parts bs, parts-slash b bs slash)
-      | inr inner ↦
-          let rest = parts-first bs in
-          (b ∷ rest.0, rest.1, parts-inner b bs inner ∙ ap (with_first b) rest.2)
-    ]
 
 pub joined-parts : (bs : List ℕ) → joined (parts bs) ≡ bs
 joined-parts [] = ap joined parts-nil

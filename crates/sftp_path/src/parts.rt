@@ -1,5 +1,5 @@
 //! The components of a path, one by one.
-ghost use Rattle.std.specs.Prelude.{◌≡◌, ◌==◌, ◌++◌, ◌∷◌, not, IsTrue};
+ghost use Rattle.std.specs.Prelude.{◌≡◌, ◌==◌, ◌++◌, ◌∷◌, not, length, IsTrue};
 ghost use Rattle.std.specs.List.{position};
 ghost use Rattle.std.specs.Iterator.{YieldsFirstRef, item_count};
 ghost use Rattle.sftp_path.specs.Cut.{begins_at_slash, parts_behind};
@@ -28,13 +28,20 @@ impl<'a> Model for Parts<'a> {
 
 impl<'a> Parts<'a> {
     /// The components of a path.
-    pub(crate) fn new(path: &'a [u8]) -> Parts<'a>
+    pub fn new(path: &'a [u8]) -> Parts<'a>
         ensures { result ≡ record { absolute = spec.is_absolute path.now; left = spec.components path.now } }
     {
         Parts {
             absolute: is_absolute(path),
             rest: path,
         }
+    }
+
+    /// Whether no component is left.
+    pub fn is_empty(&self) -> bool
+        ensures { result ≡ (length self.now.left == 0) }
+    {
+        first_inner(self.rest).is_none()
     }
 }
 

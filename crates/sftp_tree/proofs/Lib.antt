@@ -4,3 +4,9 @@ pub mod StepKept
 pub mod StepCauses
 pub mod StepAnswers
 pub mod StepKeeps
+pub mod WalkRoutes
+pub mod WalkSteps
+pub mod WalkMeetings
+pub mod WalkPlaces
+pub mod WalkRules
+pub mod WalkCounts

@@ -7,3 +7,6 @@ pub mod Sets
 pub mod Picture
 pub mod Judged
 pub mod StepRows
+pub mod Route
+pub mod Walking
+pub mod WalkRows

@@ -8,9 +8,11 @@ mod judging;
 pub mod laws;
 mod nodes;
 mod pictures;
+mod route;
 pub mod step_rows;
 mod steps;
 mod trees;
+pub mod walk_rows;
 mod walking;
 
 pub use causes::{Cause, Causes, Refused};

@@ -1,12 +1,72 @@
 //! Where paths lead (draft, section 6.2).
-ghost use Rattle.std.specs.Prelude.{◌≡◌, IfOk, IsTrue};
-ghost use Rattle.sftp_path.specs.Place.{parent};
+ghost use Rattle.std.specs.Prelude.{◌≡◌, [], IfOk, IsTrue};
+ghost use Rattle.std.specs.List.{list_all};
+ghost use Rattle.sftp_path.specs.Place.{parent, is_step};
 ghost use Rattle.sftp_tree.specs.Tree as spec;
 ghost use Rattle.sftp_tree.specs.Walk as walks;
+ghost use Rattle.sftp_tree.specs.Walking.{meeting, StaysAtLink};
 
 use crate::causes::Cause;
+use crate::nodes::Node;
+use crate::route::Route;
 use crate::trees::Tree;
-use sftp_path::{NoMemory, Place};
+use sftp_path::{NoMemory, Parts, Place, components, is_dot, is_dot_dot};
+use std::collections::BTreeMap;
+
+/// The most links that one walk follows. The limit is this profile's own.
+const LINK_LIMIT: usize = 40;
+
+/// What a walk meets at a component. It was moved to the place where it goes on or ends; at a link that it goes
+/// through it stands where it stood.
+#[derive(Clone, Copy)]
+pub(crate) enum Met<'a> {
+    /// It goes on.
+    Enters,
+    /// It ends.
+    Ends,
+    /// It leads nowhere.
+    Fails(Cause),
+    /// It goes on by this target.
+    Through(&'a [u8]),
+}
+
+/// Goes on by one component from `at`, with one look-up at most. Where the walk leads nowhere, `at` may have moved.
+///
+/// # Errors
+///
+/// `NoMemory` where memory runs out.
+#[tactic(auto, unfolding(crate::specs::Walk::meets, sftp_path::specs::Table::get))]
+fn meet<'a>(
+    names: &'a BTreeMap<Place, Node>,
+    at: &mut Place,
+    component: &[u8],
+    is_last: bool,
+    follow: bool,
+) -> Result<Met<'a>, NoMemory>
+    requires { IsTrue (is_step component.now) }
+    ensures meets { IfOk result
+        (λ met. walks.meets names.now.entries follow at.old component.now is_last ≡ meeting met at.new) }
+    ensures stays { IfOk result (λ met. StaysAtLink met at.old at.new) }
+{
+    if is_dot(component) {
+        return Ok(Met::Enters);
+    }
+    if is_dot_dot(component) {
+        at.leave();
+        return Ok(Met::Enters);
+    }
+    at.enter_component(component)?;
+    Ok(match names.get(&*at) {
+        Some(Node::Dir(_)) => Met::Enters,
+        Some(Node::Link(_)) if is_last && !follow => Met::Ends,
+        Some(Node::Link(target)) => {
+            at.leave();
+            Met::Through(target.as_slice())
+        }
+        None if is_last => Met::Ends,
+        None => Met::Fails(Cause::NoEntry),
+    })
+}
 
 impl Tree {
     /// Where a path leads, or why it leads nowhere. A path that is not absolute follows the home's components; a
@@ -20,6 +80,53 @@ impl Tree {
         ensures parent { IfOk result (λ reached. IfOk reached
             (λ place. IsTrue (spec.is_directory (spec.node_at self.now.names (parent place))))) }
     {
-        Err(NoMemory)
+        let Ok(parts) = components(path) else {
+            return Ok(Err(Cause::BadPath));
+        };
+        let home = if parts.absolute {
+            &[]
+        } else {
+            self.home().names()
+        };
+        let route = Route::new(self.home().allocator(), home, parts);
+        self.walk(follow, route)
+    }
+
+    /// The place to which a route leads from the root, or why it leads nowhere.
+    ///
+    /// # Errors
+    ///
+    /// `NoMemory` where memory runs out.
+    fn walk<'a>(
+        &'a self,
+        follow: bool,
+        mut route: Route<'a>,
+    ) -> Result<Result<Place, Cause>, NoMemory>
+        requires { IsTrue (list_all is_step route) }
+        ensures reached { IfOk result
+            (λ reached. reached ≡ walks.walk self.now.names follow walks.link_limit [] route.entry) }
+        ensures parent { IfOk result (λ reached. IfOk reached
+            (λ place. IsTrue (spec.is_directory (spec.node_at self.now.names (parent place))))) }
+    {
+        let names = self.names();
+        let mut at = Place::root(self.home().allocator());
+        let mut links_left = LINK_LIMIT;
+        while let Some(component) = route.next_component() {
+            match meet(names, &mut at, component, route.is_done(), follow)? {
+                Met::Enters => {}
+                Met::Ends => return Ok(Ok(at)),
+                Met::Fails(cause) => return Ok(Err(cause)),
+                Met::Through(_) if links_left == 0 => return Ok(Err(Cause::Loop)),
+                Met::Through(target) => {
+                    links_left -= 1;
+                    let target = Parts::new(target);
+                    if target.absolute {
+                        at = Place::root(at.allocator());
+                    }
+                    route.go_through(target)?;
+                }
+            }
+        }
+        Ok(Ok(at))
     }
 }

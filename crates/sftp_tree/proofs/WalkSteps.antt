@@ -1,0 +1,112 @@
+-- Walks, component by component.
+use Rattle.std.proofs.Common.{◌≡◌, ℕ, zero, suc, ◌<◌, Bool, true, false, cond, if◌then◌else◌, List, [], ◌∷◌, ◌++◌, refl, sym, ◌∙◌, ap, subst, Result, Ok, Err, Bor, arith}
+use Rattle.sftp_path.specs.Place.{Name, Place, components, is_absolute, is_good_path}
+use Rattle.sftp_tree.specs.declared.causes.Cause.{Cause}
+use Rattle.sftp_tree.specs.declared.causes.Cause.TheVariants.{BadPath, Loop}
+use Rattle.sftp_tree.specs.declared.walking.Met.{Met}
+use Rattle.sftp_tree.specs.declared.walking.Met.TheVariants.{Through}
+use Rattle.sftp_tree.specs.Tree.{Names, Tree}
+use Rattle.sftp_tree.specs.Walk.{Meeting, is_last, start_of, going_on, meets, walk_parts, walk, looked_parts, looked, link_limit, steps_of, reached}
+use Rattle.sftp_tree.specs.Walking.{meeting, StaysAtLink}
+
+-- ---- the place
+
+-- what a walk with so many links left comes to behind a link
+abbrev pub behind_link : Names → Bool → ℕ → Place → List ℕ → List Name → Result Place Cause
+behind_link names follow zero at target rest = Err Loop
+behind_link names follow (suc left) at target rest = walk names follow left (start_of at target) (components target ++ rest)
+
+-- what a walk with so many links left comes to where it met something
+abbrev pub walk_on : Names → Bool → ℕ → Place → List Name → Meeting → Result Place Cause
+walk_on names follow left at rest m = going_on m (λ place. walk names follow left place rest) (λ target. behind_link names follow left at target rest) Ok Err
+
+pub walk-nil : (names : Names) (follow : Bool) (left : ℕ) (at : Place) → walk names follow left at [] ≡ Ok at
+unfolding walk walk_parts
+walk-nil names follow zero at = refl
+walk-nil names follow (suc left) at = refl
+
+pub walk-cons : (names : Names) (follow : Bool) (left : ℕ) (at : Place) (component : Name) (rest : List Name) → walk names follow left at (component ∷ rest) ≡ walk_on names follow left at rest (meets names follow at component (is_last rest))
+unfolding walk walk_parts
+walk-cons names follow zero at component rest = refl
+walk-cons names follow (suc left) at component rest = refl
+
+-- ---- how many components it looks at
+
+abbrev pub looked_behind : Names → Bool → ℕ → Place → List ℕ → List Name → ℕ
+looked_behind names follow zero at target rest = 0
+looked_behind names follow (suc left) at target rest = looked names follow left (start_of at target) (components target ++ rest)
+
+abbrev pub looked_on : Names → Bool → ℕ → Place → List Name → Meeting → ℕ
+looked_on names follow left at rest m = going_on m (λ place. looked names follow left place rest) (λ target. looked_behind names follow left at target rest) (λ place. 0) (λ cause. 0)
+
+pub looked-nil : (names : Names) (follow : Bool) (left : ℕ) (at : Place) → looked names follow left at [] ≡ 0
+unfolding looked looked_parts
+looked-nil names follow zero at = refl
+looked-nil names follow (suc left) at = refl
+
+pub looked-cons : (names : Names) (follow : Bool) (left : ℕ) (at : Place) (component : Name) (rest : List Name) → looked names follow left at (component ∷ rest) ≡ suc (looked_on names follow left at rest (meets names follow at component (is_last rest)))
+unfolding looked looked_parts
+looked-cons names follow zero at component rest = refl
+looked-cons names follow (suc left) at component rest = refl
+
+-- ---- a turn of the code's loop
+
+-- where the walk took a component and met something, the answer is what it comes to there
+pub walk-turn : (names seen : Names) (follow : Bool) (left : ℕ) (at at' : Place) (before : List Name) (component : Name) (rest : List Name) (last : Bool) (met met' : Met) (whole : Result Place Cause) → seen ≡ names → whole ≡ walk names follow left at before → before ≡ component ∷ rest → last ≡ is_last rest → meets seen follow at component last ≡ meeting met at' → met ≡ met' → whole ≡ walk_on names follow left at rest (meeting met' at')
+walk-turn names seen follow left at at' before component rest last met met' whole same so_far taken is meets_it met_is =
+    so_far ∙ ap (walk names follow left at) taken ∙ walk-cons names follow left at component rest
+    ∙ ap (walk_on names follow left at rest) (ap (meets names follow at component) (sym is) ∙ ap (λ n. meets n follow at component last) (sym same) ∙ meets_it ∙ ap (λ m. meeting m at') met_is)
+
+pub looked-turn : (names seen : Names) (follow : Bool) (left : ℕ) (at at' : Place) (before : List Name) (component : Name) (rest : List Name) (last : Bool) (met met' : Met) → seen ≡ names → before ≡ component ∷ rest → last ≡ is_last rest → meets seen follow at component last ≡ meeting met at' → met ≡ met' → looked names follow left at before ≡ suc (looked_on names follow left at rest (meeting met' at'))
+looked-turn names seen follow left at at' before component rest last met met' same taken is meets_it met_is =
+    ap (looked names follow left at) taken ∙ looked-cons names follow left at component rest
+    ∙ ap (λ v. suc (looked_on names follow left at rest v)) (ap (meets names follow at component) (sym is) ∙ ap (λ n. meets n follow at component last) (sym same) ∙ meets_it ∙ ap (λ m. meeting m at') met_is)
+
+-- with no link left
+pub behind_link-none : (names : Names) (follow : Bool) (left : ℕ) (at : Place) (target : List ℕ) (rest : List Name) → left ≡ 0 → behind_link names follow left at target rest ≡ Err Loop
+behind_link-none names follow zero at target rest none = refl
+behind_link-none names follow (suc left) at target rest none = cc
+
+-- with a link left
+pub behind_link-some : (names : Names) (follow : Bool) (left left' : ℕ) (at at' : Place) (target : List ℕ) (rest rest' : List Name) → left ≡ suc left' → at' ≡ start_of at target → rest' ≡ components target ++ rest → behind_link names follow left at target rest ≡ walk names follow left' at' rest'
+behind_link-some names follow left left' at at' target rest rest' some starts goes =
+    ap (λ n. behind_link names follow n at target rest) some
+    ∙ ap (λ p. walk names follow left' p (components target ++ rest)) (sym starts) ∙ ap (walk names follow left' at') (sym goes)
+
+pub looked_behind-some : (names : Names) (follow : Bool) (left left' : ℕ) (at at' : Place) (target : List ℕ) (rest rest' : List Name) → left ≡ suc left' → at' ≡ start_of at target → rest' ≡ components target ++ rest → looked_behind names follow left at target rest ≡ looked names follow left' at' rest'
+looked_behind-some names follow left left' at at' target rest rest' some starts goes =
+    ap (λ n. looked_behind names follow n at target rest) some
+    ∙ ap (λ p. looked names follow left' p (components target ++ rest)) (sym starts) ∙ ap (looked names follow left' at') (sym goes)
+
+-- where the code's walk goes on from behind a link
+pub start-absolute : (at place : Place) (target : List ℕ) (absolute : Bool) → absolute ≡ is_absolute target → absolute ≡ true → place ≡ [] → place ≡ start_of at target
+start-absolute at place target absolute is so root = root ∙ ap (λ b. cond b [] at) (sym (sym is ∙ so))
+
+pub start-relative : (at place : Place) (target : List ℕ) (absolute : Bool) → absolute ≡ is_absolute target → absolute ≡ false → place ≡ at → place ≡ start_of at target
+start-relative at place target absolute is so here = here ∙ ap (λ b. cond b [] at) (sym (sym is ∙ so))
+
+-- where the walk stands at a link
+pub stays : (met : Met) (target : Bor (List ℕ)) (before after : Place) → StaysAtLink met before after → met ≡ Through target → after ≡ before
+stays met target before after at_link is = subst (λ m. StaysAtLink m before after) is at_link
+
+pub below : (a b : ℕ) → b ≡ suc a → a < b
+below a b e = omega arith
+
+-- ---- a whole path
+
+pub reached-good : (t : Tree) (follow : Bool) (path : List ℕ) → is_good_path path ≡ true → reached t follow path ≡ walk t.names follow link_limit [] (steps_of t path)
+unfolding reached
+reached-good t follow path good = ap (λ b. if b then walk t.names follow link_limit [] (steps_of t path) else Err BadPath) good
+
+pub reached-bad : (t : Tree) (follow : Bool) (path : List ℕ) → is_good_path path ≡ false → reached t follow path ≡ Err BadPath
+unfolding reached
+reached-bad t follow path bad = ap (λ b. if b then walk t.names follow link_limit [] (steps_of t path) else Err BadPath) bad
+
+-- the components that the code's walk goes over
+pub steps-absolute : (t : Tree) (path : List ℕ) (absolute : Bool) (home left : List Name) → absolute ≡ is_absolute path → absolute ≡ true → home ≡ [] → left ≡ components path → home ++ left ≡ steps_of t path
+steps-absolute t path absolute home left is so none parts =
+    ap (λ h. h ++ left) none ∙ parts ∙ ap (λ b. if b then components path else t.home ++ components path) (sym (sym is ∙ so))
+
+pub steps-relative : (t : Tree) (path : List ℕ) (absolute : Bool) (home left : List Name) → absolute ≡ is_absolute path → absolute ≡ false → home ≡ t.home → left ≡ components path → home ++ left ≡ steps_of t path
+steps-relative t path absolute home left is so there parts =
+    ap (λ h. h ++ left) there ∙ ap (λ l. t.home ++ l) parts ∙ ap (λ b. if b then components path else t.home ++ components path) (sym (sym is ∙ so))

@@ -1,0 +1,10 @@
+use Rattle.std.proofs.Common.{◌++◌, ap, ◌∙◌}
+use Rattle.sftp_path.specs.Split.{Split}
+use Rattle.sftp_path.proofs.Splitting.{components-nil}
+use Rattle.sftp_tree.specs.Route.{left_of}
+use Rattle.sftp_tree.proofs.route.Targets.new.Goals as goal
+
+pub returns : goal.returns
+returns c =
+    ap (λ (s : Split). s.left ++ left_of c.new-2.result.items) c.new.ensures ∙ ap (λ xs. xs ++ left_of c.new-2.result.items) components-nil
+    ∙ ap left_of c.new-2.ensures.items

@@ -1,0 +1,41 @@
+use Rattle.std.proofs.Common.{◌≡◌, ◌++◌, [], refl, sym, ap, ◌∙◌, subst, IfOk}
+use Rattle.std.specs.List.{list_all}
+use Rattle.sftp_path.specs.Place.{is_step, is_absolute, are_names, components}
+use Rattle.sftp_path.specs.Split.{Split}
+use Rattle.sftp_path.proofs.GoodPaths.{list_all-octets}
+use Rattle.sftp_tree.specs.Walk.{walk, link_limit, steps_of}
+use Rattle.sftp_tree.proofs.WalkSteps.{reached-good, reached-bad, steps-absolute, steps-relative}
+use Rattle.sftp_tree.proofs.WalkPlaces.{steps-from}
+use Rattle.sftp_tree.proofs.trees.Tree.reach.Goals as goal
+use Rattle.sftp_tree.proofs.trees.Tree.reach.Goals.{then-parts, else-parts}
+
+pub returns-in_default-clause-reached : goal.returns-in_default-clause-reached
+returns-in_default-clause-reached c = sym (reached-bad c.args.self.now c.args.follow c.args.path.now c.in_default.ensures.bad)
+
+-- the route has the components that a walk goes over
+route : (c : goal.After-walk) → c.new-route.result ≡ steps_of c.args.self.now c.args.path.now
+route c =
+    let absolute : c.parts.inside.absolute ≡ is_absolute c.args.path.now = ap (λ (s : Split). s.absolute) (c.parts.view_is ∙ c.in-Ok.ensures.parts) in
+    let left : c.in-Ok.parts.left ≡ components c.args.path.now = ap (λ (s : Split). s.left) c.in-Ok.ensures.parts in
+    c.new-route.ensures
+    ∙ elim c.if-parts.branch [
+      | then-parts w ↦ steps-absolute c.args.self.now c.args.path.now c.parts.inside.absolute c.if-parts.home.now c.in-Ok.parts.left absolute w.if-parts.true (ap (λ h. h.now) w.home-is) left
+      | else-parts w ↦ steps-relative c.args.self.now c.args.path.now c.parts.inside.absolute c.if-parts.home.now c.in-Ok.parts.left absolute w.if-parts.false (ap (λ h. h.now) w.home-is ∙ w.names-home.ensures.names ∙ w.home.ensures) left
+    ]
+
+pub walk-requires : goal.walk-requires
+walk-requires c =
+    let path = c.args.path.now in
+    let left : c.in-Ok.parts.left ≡ components path = ap (λ (s : Split). s.left) c.in-Ok.ensures.parts in
+    let bytes = list_all-octets path c.type_inv.path in
+    ap (list_all is_step) c.new-route.ensures ∙ ap (λ l. list_all is_step (c.if-parts.home.now ++ l)) left
+    ∙ elim c.if-parts.branch [
+      | then-parts w ↦ ap (λ h. list_all is_step (h.now ++ components path)) w.home-is ∙ steps-from [] path refl c.in-Ok.ensures.good bytes
+      | else-parts w ↦
+          ap (λ h. list_all is_step (h.now ++ components path)) w.home-is
+          ∙ steps-from w.names-home.result.now path (ap are_names w.names-home.ensures.names ∙ w.names-home.ensures.named) c.in-Ok.ensures.good bytes
+    ]
+
+pub returns-clause-reached : goal.returns-clause-reached
+returns-clause-reached c =
+    subst (λ w. IfOk c.walk.result (λ r. r ≡ w)) (ap (walk c.args.self.now.names c.args.follow link_limit []) (route c) ∙ sym (reached-good c.args.self.now c.args.follow c.args.path.now c.in-Ok.ensures.good)) c.walk.ensures.reached

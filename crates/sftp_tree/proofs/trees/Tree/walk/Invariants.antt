@@ -1,0 +1,14 @@
+use Rattle.std.proofs.Common.{◌≡◌, [], true}
+use Rattle.std.specs.List.{list_all}
+use Rattle.sftp_path.specs.Place.{is_step}
+use Rattle.sftp_tree.specs.Walk as walks
+use Rattle.sftp_tree.proofs.trees.Tree.walk.Given as goal
+
+abbrev pub invariant-loop-component : goal.invariant-loop-component
+invariant-loop-component l = record {
+  steps : list_all is_step l.route ≡ true;
+  same : walks.walk l.self.names l.follow 40 [] l.fn.route ≡ walks.walk l.self.names l.follow l.links_left l.at l.route;
+}
+
+abbrev pub decreases-loop-component : goal.decreases-loop-component
+decreases-loop-component l = walks.looked l.self.names l.follow l.links_left l.at l.route

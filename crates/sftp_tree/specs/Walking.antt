@@ -1,0 +1,20 @@
+-- What the code's walk answers at a component, as the definition of walks has it.
+use Rattle.std.specs.Prelude.{◌≡◌}
+use Rattle.sftp_path.specs.Place.{Place}
+use Rattle.sftp_tree.specs.declared.walking.Met.{Met}
+use Rattle.sftp_tree.specs.declared.walking.Met.TheVariants.{Enters, Ends, Fails, Through}
+use Rattle.sftp_tree.specs.Walk.{Meeting, enters, ends, fails, through}
+
+-- the meeting at the place that the walk stands at
+abbrev pub meeting : Met → Place → Meeting
+meeting Enters at = enters at
+meeting Ends at = ends at
+meeting (Fails cause) at = fails cause
+meeting (Through target) at = through target.now
+
+-- at a link the walk stands where it stood
+abbrev pub StaysAtLink : Met → Place → Place → Type 0
+StaysAtLink Enters before after = Unit {0}
+StaysAtLink Ends before after = Unit {0}
+StaysAtLink (Fails cause) before after = Unit {0}
+StaysAtLink (Through target) before after = after ≡ before
