@@ -1,7 +1,6 @@
 -- What stands after a request that no cause refuses is a tree within the limits.
 use Rattle.std.proofs.Common.{◌≡◌, ℕ, ◌<◌, ◌^◌, ◌%◌, Bool, true, false, ◌&&◌, ◌||◌, not, List, [], ◌∷◌, refl, sym, subst, ◌∙◌, ap, arith, Option, Some, None, unwrap_or, IsTrue, Result, Ok, Err, lit<}
 use Rattle.std.specs.Option.{option_map, IfSome}
-use Rattle.std.specs.List.{AllByRecursion}
 use Rattle.std.proofs.lemmas.Bool.{lt-ltb}
 use Rattle.sftp_wire.specs.declared.attributes.Attrs.{Attrs}
 use Rattle.sftp_wire.specs.declared.packets.Ask.{Ask}
@@ -9,14 +8,12 @@ use Rattle.sftp_wire.specs.declared.packets.Ask.TheVariants.{Mkdir, Rmdir, Symli
 use Rattle.sftp_wire.specs.Spelling.{AreBytes, FitsString, FitsTwo, FitsAttrs, FitsAsk}
 use Rattle.sftp_path.specs.Place.{Place, parent, are_names}
 use Rattle.sftp_treefile.specs.TreeFile.{IsOwner, is_target, are_bytes}
-use Rattle.sftp_tree.specs.declared.nodes.Node.TheVariants.{Dir, Link}
 use Rattle.sftp_tree.specs.declared.causes.Cause.{Cause}
-use Rattle.sftp_tree.specs.declared.causes.Cause.TheVariants.{BadPath}
 use Rattle.sftp_tree.specs.declared.causes.Causes.{Causes}
 use Rattle.sftp_tree.specs.Tree.{Tree, IsKept, node_at, is_directory}
 use Rattle.sftp_tree.specs.Walk.{reached}
 use Rattle.sftp_tree.specs.Attributes.{directory_owner}
-use Rattle.sftp_tree.specs.Steps.{led, is_none, target_at, target, causes, led_to}
+use Rattle.sftp_tree.specs.Steps.{led, is_none, target, causes, led_to}
 use Rattle.sftp_tree.specs.Sets.{in_set, IsFree}
 use Rattle.sftp_tree.specs.Judged.{making, removing, with_target}
 use Rattle.sftp_tree.proofs.StepCauses.{led-mkdir, led-rmdir, led-symlink, target-led, causes-mkdir, causes-rmdir, causes-symlink}

@@ -7,7 +7,8 @@ pub mod Sets
 pub mod Picture
 pub mod PictureParts
 pub mod PictureRows
+pub mod Judged
+pub mod StepRows
 pub mod Route
 pub mod Walking
-pub mod Judged
 pub mod WalkRows

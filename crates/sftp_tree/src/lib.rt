@@ -10,6 +10,7 @@ mod nodes;
 pub mod picture_laws;
 mod pictures;
 mod route;
+pub mod step_rows;
 mod steps;
 mod trees;
 pub mod walk_rows;
