@@ -5,7 +5,7 @@ use Rattle.std.specs.declared.cmp.Ordering.TheVariants.{Less}
 use Rattle.sftp_wire.specs.Spelling.{uint32, string}
 use Rattle.sftp_path.specs.Place.{Place, place_cmp, parent}
 use Rattle.sftp_treefile.specs.declared.errors.TreeError.{TreeError}
-use Rattle.sftp_treefile.specs.declared.errors.TreeError.TheVariants.{NoMemory}
+use Rattle.sftp_treefile.specs.declared.errors.TreeError.TheVariants.{Magic, Short, Trailing, Value, Order, Parent, NoMemory}
 use Rattle.sftp_treefile.specs.declared.files.Row.{Row}
 use Rattle.sftp_treefile.specs.declared.files.TreeFile.{TreeFile}
 use Rattle.sftp_treefile.specs.declared.heads.Head.{Head}
@@ -25,6 +25,20 @@ ReadsNone {A} Fits text bytes = (value : A) (rest : List ℕ) → Fits value →
 -- memory ran out, or there is a fault
 abbrev pub OutOfMemoryOr : TreeError → Type 0 → Type 0
 OutOfMemoryOr error Fault = (error ≡ NoMemory) ⊎ Fault
+
+-- the fault is in this entry, unless memory ran out
+abbrev pub IsAt : ℕ → TreeError → Type 0
+IsAt entry (Magic n) = n ≡ entry
+IsAt entry (Short n) = n ≡ entry
+IsAt entry (Trailing n) = n ≡ entry
+IsAt entry (Value n) = n ≡ entry
+IsAt entry (Order n) = n ≡ entry
+IsAt entry (Parent n) = n ≡ entry
+IsAt entry NoMemory = Unit {0}
+
+-- the fault is in one of so many entries, unless memory ran out
+abbrev pub IsAmong : ℕ → TreeError → Type 0
+IsAmong count error = (n : ℕ) × (1 ≤ n) × (n ≤ count) × IsAt n error
 
 -- ---- fields
 

@@ -2,7 +2,7 @@
 ghost use Rattle.std.specs.Prelude.{◌≡◌, [], ◌∷◌, IfOk, IfErr, IsTrue};
 ghost use Rattle.sftp_wire.specs.Spelling.{uint32, string};
 ghost use Rattle.sftp_treefile.specs.TreeFile.{place_of, owner_text, kind_text, are_bytes, IsPlaceText, IsOwner, IsKind};
-ghost use Rattle.sftp_treefile.specs.TreeFileParts.{Reads, ReadsNone, OutOfMemoryOr, IsNumber, IsPermissions, IsTarget};
+ghost use Rattle.sftp_treefile.specs.TreeFileParts.{Reads, ReadsNone, OutOfMemoryOr, IsAt, IsNumber, IsPermissions, IsTarget};
 
 use crate::errors::TreeError;
 use crate::files::{Kind, Owner};
@@ -17,6 +17,7 @@ const PERMISSIONS: u32 = 0o7777;
 pub(crate) fn number_at(entry: u32, bytes: &[u8]) -> Result<(u32, &[u8]), TreeError>
     ensures found { IfOk result (λ taken. Reads IsNumber uint32 bytes.now taken.0 taken.1.now) }
     ensures none { IfErr result (λ _. ReadsNone IsNumber uint32 bytes.now) }
+    ensures number { IfErr result (IsAt entry) }
 {
     take_number(bytes).ok_or(TreeError::Short { entry })
 }
@@ -25,6 +26,7 @@ pub(crate) fn number_at(entry: u32, bytes: &[u8]) -> Result<(u32, &[u8]), TreeEr
 fn permissions_at(entry: u32, bytes: &[u8]) -> Result<(u32, &[u8]), TreeError>
     ensures found { IfOk result (λ taken. Reads IsPermissions uint32 bytes.now taken.0 taken.1.now) }
     ensures none { IfErr result (λ _. ReadsNone IsPermissions uint32 bytes.now) }
+    ensures number { IfErr result (IsAt entry) }
 {
     let (permissions, rest) = number_at(entry, bytes)?;
     if permissions > PERMISSIONS {
@@ -37,6 +39,7 @@ fn permissions_at(entry: u32, bytes: &[u8]) -> Result<(u32, &[u8]), TreeError>
 pub(crate) fn owner_at(entry: u32, bytes: &[u8]) -> Result<(Owner, &[u8]), TreeError>
     ensures found { IfOk result (λ taken. Reads IsOwner owner_text bytes.now taken.0 taken.1.now) }
     ensures none { IfErr result (λ _. ReadsNone IsOwner owner_text bytes.now) }
+    ensures number { IfErr result (IsAt entry) }
 {
     let (uid, rest) = number_at(entry, bytes)?;
     let (gid, rest) = number_at(entry, rest)?;
@@ -58,6 +61,7 @@ pub(crate) fn place_at<'a>(
     ensures found { IfOk result (λ taken. Reads IsPlaceText string bytes.now taken.0.now taken.2.now) }
     ensures place { IfOk result (λ taken. taken.1 ≡ place_of taken.0.now) }
     ensures none { IfErr result (λ error. OutOfMemoryOr error (ReadsNone IsPlaceText string bytes.now)) }
+    ensures number { IfErr result (IsAt entry) }
 {
     let Some((text, rest)) = take_string(bytes) else {
         return Err(TreeError::Short { entry });
@@ -83,6 +87,7 @@ fn see_bytes(bytes: &[u8])
 fn target_at(alloc: Global, entry: u32, bytes: &[u8]) -> Result<(ByteString, &[u8]), TreeError>
     ensures found { IfOk result (λ taken. Reads IsTarget string bytes.now taken.0 taken.1.now) }
     ensures none { IfErr result (λ error. OutOfMemoryOr error (ReadsNone IsTarget string bytes.now)) }
+    ensures number { IfErr result (IsAt entry) }
 {
     let Some((target, rest)) = take_string(bytes) else {
         return Err(TreeError::Short { entry });
@@ -98,6 +103,7 @@ fn target_at(alloc: Global, entry: u32, bytes: &[u8]) -> Result<(ByteString, &[u
 fn letter_at(entry: u32, bytes: &[u8]) -> Result<(u8, &[u8]), TreeError>
     ensures found { IfOk result (λ taken. bytes.now ≡ taken.0 ∷ taken.1.now) }
     ensures none { IfErr result (λ _. bytes.now ≡ []) }
+    ensures number { IfErr result (IsAt entry) }
 {
     let (letter, rest) = bytes.split_first().ok_or(TreeError::Short { entry })?;
     Ok((*letter, rest))
@@ -107,6 +113,7 @@ fn letter_at(entry: u32, bytes: &[u8]) -> Result<(u8, &[u8]), TreeError>
 pub(crate) fn kind_at(alloc: Global, entry: u32, bytes: &[u8]) -> Result<(Kind, &[u8]), TreeError>
     ensures found { IfOk result (λ taken. Reads IsKind kind_text bytes.now taken.0 taken.1.now) }
     ensures none { IfErr result (λ error. OutOfMemoryOr error (ReadsNone IsKind kind_text bytes.now)) }
+    ensures number { IfErr result (IsAt entry) }
 {
     let (letter, rest) = letter_at(entry, bytes)?;
     match letter {

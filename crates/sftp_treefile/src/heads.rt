@@ -2,7 +2,7 @@
 ghost use Rattle.std.specs.Prelude.{◌≡◌, ◌++◌, ℕ, List, IfOk, IfErr};
 ghost use Rattle.sftp_wire.specs.Spelling.{uint32, string};
 ghost use Rattle.sftp_treefile.specs.TreeFile.{tree_opening, IsPlaceText};
-ghost use Rattle.sftp_treefile.specs.TreeFileParts.{Reads, ReadsNone, OutOfMemoryOr, IsCount, head_bytes, IsHead};
+ghost use Rattle.sftp_treefile.specs.TreeFileParts.{Reads, ReadsNone, OutOfMemoryOr, IsAt, IsCount, head_bytes, IsHead};
 
 use crate::errors::TreeError;
 use crate::fields::{number_at, owner_at, place_at};
@@ -25,6 +25,7 @@ pub(crate) struct Head {
 fn after_opening(bytes: &[u8]) -> Result<&[u8], TreeError>
     ensures found { IfOk result (λ rest. bytes.now ≡ tree_opening ++ rest.now) }
     ensures none { IfErr result (λ _. (rest : List ℕ) → bytes.now ≡ tree_opening ++ rest → ⊥) }
+    ensures number { IfErr result (IsAt 0) }
 {
     bytes
         .strip_prefix(b"SFTREE01")
@@ -35,6 +36,7 @@ fn after_opening(bytes: &[u8]) -> Result<&[u8], TreeError>
 fn home_at(alloc: Global, bytes: &[u8]) -> Result<(ByteString, &[u8]), TreeError>
     ensures found { IfOk result (λ taken. Reads IsPlaceText string bytes.now taken.0 taken.1.now) }
     ensures none { IfErr result (λ error. OutOfMemoryOr error (ReadsNone IsPlaceText string bytes.now)) }
+    ensures number { IfErr result (IsAt 0) }
 {
     let (text, _, rest) = place_at(alloc, 0, bytes)?;
     Ok((ByteString::from_slice(alloc, text)?, rest))
@@ -44,6 +46,7 @@ fn home_at(alloc: Global, bytes: &[u8]) -> Result<(ByteString, &[u8]), TreeError
 fn count_at(bytes: &[u8]) -> Result<(u32, &[u8]), TreeError>
     ensures found { IfOk result (λ taken. Reads IsCount uint32 bytes.now taken.0 taken.1.now) }
     ensures none { IfErr result (λ _. ReadsNone IsCount uint32 bytes.now) }
+    ensures number { IfErr result (IsAt 0) }
 {
     let (count, rest) = number_at(0, bytes)?;
     if count > usual_limits().entries {
@@ -56,6 +59,7 @@ fn count_at(bytes: &[u8]) -> Result<(u32, &[u8]), TreeError>
 pub(crate) fn head_at(alloc: Global, bytes: &[u8]) -> Result<(Head, &[u8]), TreeError>
     ensures found { IfOk result (λ taken. Reads IsHead head_bytes bytes.now taken.0 taken.1.now) }
     ensures none { IfErr result (λ error. OutOfMemoryOr error (ReadsNone IsHead head_bytes bytes.now)) }
+    ensures number { IfErr result (IsAt 0) }
 {
     let rest = after_opening(bytes)?;
     let (home, rest) = home_at(alloc, rest)?;

@@ -17,6 +17,16 @@ returns-in_err-row-clause-none c =
     let p = err_from_is_err_and c.from_residual.result c.from_residual.ensures.1 in
     rw (p.1, p.2) (or_fault _ _ _ c.in_err-row.ensures.none (row_none c.args.bytes.now c.loop-entry.entries.rows.items (c.loop-entry.entry - 1) c.args.count c.loop-entry.rest.now c.loop-entry.invariant.read (omega (arith, c.loop-entry-test.true, c.loop-entry.invariant.within))))
 
+pub returns-in_err-row-clause-number : goal.returns-in_err-row-clause-number
+returns-in_err-row-clause-number c =
+    let p = err_from_is_err_and c.from_residual.result c.from_residual.ensures.1 in
+    rw (p.1, p.2) (c.loop-entry.entry, c.loop-entry.invariant.within.0, c.loop-entry-test.true, c.in_err-row.ensures.number)
+
+pub returns-in_err-put_row-clause-number : goal.returns-in_err-put_row-clause-number
+returns-in_err-put_row-clause-number c =
+    let p = err_from_is_err_and c.from_residual-in_err-put_row.result c.from_residual-in_err-put_row.ensures.1 in
+    rw (p.1, p.2, c.in_err-put_row.ensures.none) (c.loop-entry.entry, c.loop-entry.invariant.within.0, c.loop-entry-test.true, tt)
+
 pub loop-entry-preserved : goal.loop-entry-preserved
 loop-entry-preserved c = record {
   within = (omega arith, omega (arith, c.loop-entry-test.true));
