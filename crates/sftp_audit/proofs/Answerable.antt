@@ -1,5 +1,5 @@
 -- Some reply to each request is allowed, and can be written.
-use Rattle.std.proofs.Common.{◌≡◌, ◌==◌, ◌&&◌, ◌||◌, nat_lt, nat_le, ℕ, ◌+◌, ◌^◌, ◌<◌, ◌≤◌, Bool, true, false, not, List, [], ◌∷◌, length, Option, Some, None, Result, Ok, Err, refl, sym, ap, ◌∙◌, eq-eqb, IsTrue, inl, inr, lit<, arith, leb-true}
+use Rattle.std.proofs.Common.{◌≡◌, ◌==◌, ◌&&◌, ◌||◌, nat_lt, nat_le, ℕ, ◌+◌, ◌^◌, ◌<◌, ◌≤◌, Bool, true, false, not, List, [], ◌∷◌, length, Some, None, Ok, refl, ap, ◌∙◌, eq-eqb, IsTrue, inl, inr, lit<, arith, leb-true}
 use Rattle.std.specs.Cmp.Lexicographic.{nat_list_eq_equiv}
 use Rattle.std.specs.List.{list_any, list_all}
 use Rattle.std.specs.Option.{option_map}
@@ -10,8 +10,8 @@ use Rattle.sftp_wire.specs.declared.packets.Answer.{Answer}
 use Rattle.sftp_wire.specs.declared.packets.Answer.TheVariants as replies
 use Rattle.sftp_wire.specs.declared.packets.Packet.TheVariants.{Reply as reply_packet}
 use Rattle.sftp_wire.specs.declared.packets.Request.{Request}
-use Rattle.sftp_wire.specs.Spelling.{AreBytes, FitsString, HasSpelling}
-use Rattle.sftp_path.specs.Place.{Place, parent, absolute, are_names, components, is_good_path, is_absolute, name_limit}
+use Rattle.sftp_wire.specs.Spelling.{AreBytes, HasSpelling}
+use Rattle.sftp_path.specs.Place.{Place, parent, absolute, are_names, components, is_good_path, name_limit}
 use Rattle.sftp_treefile.specs.TreeFile.{are_bytes, is_target}
 use Rattle.sftp_tree.specs.declared.nodes.Node.{Node}
 use Rattle.sftp_tree.specs.declared.nodes.Node.TheVariants.{Dir, Link}
@@ -21,9 +21,9 @@ use Rattle.sftp_tree.specs.Tree.{Tree, IsKept, IsNode, link_fits, node_at, is_di
 use Rattle.sftp_tree.specs.Walk.{reached}
 use Rattle.sftp_tree.specs.Attributes.{said, shown}
 use Rattle.sftp_tree.specs.Steps.{CauseSet, every_cause, allows, has_step, causes, led, led_to, target, shown_to, target_of, target_to, text_to}
-use Rattle.sftp_audit.specs.Steps.{same_attributes, is_shown, is_named, answers, Allowed}
+use Rattle.sftp_audit.specs.Steps.{same_attributes, is_shown, is_named, answers}
 use Rattle.sftp_audit.specs.Laws.{IsAskable, IsAnswerable}
-use Rattle.sftp_audit.proofs.FreeRequests.{IsFree, IsLed, led-stat, led-lstat, led-real_path, led-read_link, there, link_there}
+use Rattle.sftp_audit.proofs.FreeRequests.{IsFree, led-stat, led-lstat, led-real_path, led-read_link, there, link_there}
 use Rattle.sftp_audit.proofs.KeptNodes.{both, node_kept}
 use Rattle.sftp_audit.proofs.PlaceTexts.{bytes_by, text_fits}
 use Rattle.sftp_audit.proofs.ReplySizes.{status_reply, status_spelled, attributes_reply, attributes_spelled, name_reply, name_spelled}

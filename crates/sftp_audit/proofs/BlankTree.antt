@@ -1,5 +1,5 @@
 -- The blank tree, and the one tree file that is its.
-use Rattle.std.proofs.Common.{◌≡◌, ℕ, List, [], ◌∷◌, IsTrue, refl, lit<}
+use Rattle.std.proofs.Common.{◌≡◌, [], ◌∷◌, IsTrue, refl, lit<}
 use Rattle.std.specs.List.Sorted.{IsStrictlySortedBy}
 use Rattle.sftp_path.specs.Place.{Place, parent}
 use Rattle.sftp_path.specs.Table.{get}

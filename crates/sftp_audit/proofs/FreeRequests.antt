@@ -1,5 +1,5 @@
 -- What stands where the path of a request leads, where no cause refuses it.
-use Rattle.std.proofs.Common.{◌≡◌, ◌&&◌, ◌||◌, ℕ, Bool, true, false, not, List, ◌∷◌, Option, Some, None, Result, Ok, Err, refl, sym, ap, ◌∙◌, IsTrue}
+use Rattle.std.proofs.Common.{◌≡◌, ◌||◌, ℕ, Bool, true, false, List, Option, Some, None, Result, Ok, Err, refl, sym, ap, ◌∙◌}
 use Rattle.std.specs.List.{list_any}
 use Rattle.sftp_wire.specs.declared.packets.Ask.{Ask}
 use Rattle.sftp_wire.specs.declared.packets.Ask.TheVariants.{Stat, Lstat, Realpath, Readlink}
@@ -8,7 +8,7 @@ use Rattle.sftp_tree.specs.declared.nodes.Node.{Node}
 use Rattle.sftp_tree.specs.declared.nodes.Node.TheVariants.{Dir, Link}
 use Rattle.sftp_tree.specs.declared.causes.Cause.{Cause}
 use Rattle.sftp_tree.specs.declared.causes.Cause.TheVariants.{BadPath, NoEntry, NotDir, Loop, Exists, NotLink, NotEmpty, Root, NoRoom}
-use Rattle.sftp_tree.specs.Tree.{Tree, node_at, is_taken, is_link}
+use Rattle.sftp_tree.specs.Tree.{Tree}
 use Rattle.sftp_tree.specs.Walk.{reached}
 use Rattle.sftp_tree.specs.Steps.{CauseSet, every_cause, only, led, causes, plain_causes, led_causes, causes_at, needing_causes, link_causes, target_causes}
 use Rattle.sftp_audit.proofs.WalkFailures.{IsOther, reached-fails}

@@ -1,7 +1,6 @@
 -- What the code finds out of a request and an answer says whether the tree allows them.
-use Rattle.std.proofs.Common.{◌≡◌, ◌==◌, ◌&&◌, ◌||◌, ℕ, Bool, true, false, not, if◌then◌else◌, List, [], ◌∷◌, Option, Some, None, Result, Ok, Err, refl, sym, ap, subst, ◌∙◌, IsTrue, ◌⊎◌, inl, inr, eqb-true}
+use Rattle.std.proofs.Common.{◌≡◌, ◌==◌, ◌&&◌, ℕ, Bool, true, false, List, [], ◌∷◌, Option, Some, None, Result, Ok, Err, refl, sym, ap, ◌∙◌, inl, inr}
 use Rattle.std.specs.List.{list_any, AllByRecursion}
-use Rattle.std.specs.Result.{IfOk, IfErr, OnOk, OnErr}
 use Rattle.sftp_wire.specs.declared.attributes.Attrs.{Attrs}
 use Rattle.sftp_wire.specs.declared.names.NameItem.{NameItem}
 use Rattle.sftp_wire.specs.declared.packets.Ask.{Ask}
@@ -10,14 +9,10 @@ use Rattle.sftp_wire.specs.declared.packets.Answer.{Answer}
 use Rattle.sftp_wire.specs.declared.packets.Answer.TheVariants as replies
 use Rattle.sftp_path.specs.Place.{Place}
 use Rattle.sftp_tree.specs.declared.causes.Cause.{Cause}
-use Rattle.sftp_tree.specs.declared.causes.Cause.TheVariants.{BadPath, NoEntry, NotDir, Loop, Exists, NotLink, NotEmpty, Root, NoRoom}
-use Rattle.sftp_tree.specs.declared.causes.Refused.{Refused}
-use Rattle.sftp_tree.specs.declared.causes.Refused.TheVariants as refusals
 use Rattle.sftp_tree.specs.Tree.{Tree}
-use Rattle.sftp_tree.specs.Steps.{CauseSet, every_cause, allows, allow, is_none, causes, led, led_to, target, target_at, shown_to, text_to, target_to}
-use Rattle.sftp_tree.specs.Sets.{IsFree, IsRefusal}
-use Rattle.sftp_audit.specs.Steps.{refuses, is_shown, is_named, answers, Refuses, Does}
-use Rattle.sftp_audit.specs.Judging.{changes, is_done, is_answer, IsDone, Judges}
+use Rattle.sftp_tree.specs.Steps.{CauseSet, every_cause, allows, allow, is_none, causes, led, led_to, target, shown_to, text_to, target_to}
+use Rattle.sftp_audit.specs.Steps.{refuses, is_shown, is_named, answers}
+use Rattle.sftp_audit.specs.Judging.{changes, is_answer, IsDone, Judges}
 
 -- ---- sets of causes
 

@@ -1,13 +1,12 @@
 -- What is known of a node that stands in a tree that is kept, and of places in it.
-use Rattle.std.proofs.Common.{◌≡◌, ◌&&◌, nat_lt, nat_le, ℕ, ◌-◌, ◌^◌, ◌<◌, ◌≤◌, Bool, true, false, List, [], ◌∷◌, length, take, Option, Some, None, refl, ap, subst, IsTrue, arith, cond, ltb-true, leb-true}
+use Rattle.std.proofs.Common.{◌≡◌, ◌&&◌, Bool, true, false, List, [], ◌∷◌, Some, refl, subst, cond}
 use Rattle.std.specs.List.{list_all, AllByRecursion}
 use Rattle.std.specs.Map.{lookup}
 use Rattle.std.specs.BTreeMap.{is_at}
-use Rattle.sftp_path.specs.Place.{Place, place_cmp, parent, depth_limit}
+use Rattle.sftp_path.specs.Place.{Place, place_cmp}
 use Rattle.sftp_path.specs.Table.{get}
 use Rattle.sftp_tree.specs.declared.nodes.Node.{Node}
-use Rattle.sftp_tree.specs.declared.nodes.Node.TheVariants.{Dir, Link}
-use Rattle.sftp_tree.specs.Tree.{Names, Tree, IsKept, IsNode, node_at, entries_fit, depths_fit, home_fits, links_fit, link_fits, depth_fits, fits}
+use Rattle.sftp_tree.specs.Tree.{Tree, IsKept, IsNode, node_at, entries_fit, depths_fit, home_fits, links_fit, link_fits, fits}
 
 pub both : (a b : Bool) → (a && b) ≡ true → (a ≡ true) × (b ≡ true)
 both true b is = (refl, is)

@@ -1,6 +1,6 @@
 -- How long the text of a place is, and that it is bytes.
-use Rattle.std.proofs.Common.{◌≡◌, ◌&&◌, not, nat_lt, nat_le, ◌==◌, ℕ, ◌+◌, ◌-◌, ◌*◌, ◌^◌, ◌<◌, ◌≤◌, Bool, true, false, List, [], ◌∷◌, ◌++◌, length, take, Option, Some, None, refl, sym, ap, subst, IsTrue, arith, cond, ltb-true, leb-true, lit<}
-use Rattle.std.specs.List.{list_all, flat_map, AllByRecursion}
+use Rattle.std.proofs.Common.{◌≡◌, ◌&&◌, not, nat_lt, nat_le, ◌==◌, ℕ, ◌+◌, ◌-◌, ◌*◌, ◌≤◌, Bool, true, false, List, [], ◌∷◌, ◌++◌, length, Option, Some, None, refl, sym, subst, arith, cond, ltb-true, leb-true, lit<}
+use Rattle.std.specs.List.{list_all, flat_map}
 use Rattle.std.specs.Map.{lookup}
 use Rattle.std.specs.BTreeMap.{is_at}
 use Rattle.std.specs.Ordering.{is_eq}
@@ -8,7 +8,7 @@ use Rattle.std.specs.declared.cmp.Ordering.{Ordering}
 use Rattle.std.specs.declared.cmp.Ordering.TheVariants.{Less, Equal, Greater}
 use Rattle.std.proofs.lemmas.List.{length-append, length-take}
 use Rattle.sftp_wire.specs.Spelling.{AreBytes, FitsString}
-use Rattle.sftp_path.specs.Place.{Name, Place, place_cmp, parent, absolute, are_names, is_name, is_name_byte, is_dot, is_dot_dot, depth_limit}
+use Rattle.sftp_path.specs.Place.{Name, Place, place_cmp, parent, absolute, are_names, is_name, is_name_byte, is_dot, is_dot_dot}
 use Rattle.sftp_path.specs.Table.{get}
 use Rattle.sftp_path.proofs.Order.{place_cmp-same}
 use Rattle.sftp_treefile.specs.TreeFile.{are_bytes}

@@ -1,5 +1,5 @@
 -- Replies that say no more than they have to can be written.
-use Rattle.std.proofs.Common.{◌≡◌, ℕ, ◌+◌, ◌^◌, ◌<◌, ◌≤◌, List, [], ◌∷◌, ◌++◌, length, Some, refl, lit<, lit≤, arith}
+use Rattle.std.proofs.Common.{◌≡◌, ℕ, ◌+◌, ◌^◌, ◌<◌, ◌≤◌, List, [], ◌∷◌, ◌++◌, length, refl, lit<, lit≤, arith}
 use Rattle.std.proofs.lemmas.List.{length-append}
 use Rattle.sftp_wire.specs.declared.attributes.Attrs.{Attrs}
 use Rattle.sftp_wire.specs.declared.names.NameItem.{NameItem}

@@ -1,12 +1,12 @@
 -- Worked rows: sessions on the blank tree that are explained, and such that are not.
-use Rattle.std.proofs.Common.{◌≡◌, [], ◌∷◌, Some, None, refl, sym, subst, ◌∙◌}
+use Rattle.std.proofs.Common.{◌≡◌, [], Some, None, refl, sym, subst, ◌∙◌}
 use Rattle.sftp_wire.specs.Rows.{hex}
 use Rattle.sftp_path.specs.Place.{parts, components, is_good_path}
 use Rattle.sftp_path.specs.Table.{get, put, without}
 use Rattle.sftp_treefile.specs.TreeFile.{spelled}
 use Rattle.sftp_tree.specs.Tree.{has_entries, fits}
 use Rattle.sftp_tree.specs.Walk.{meets, walk, walk_parts, reached}
-use Rattle.sftp_tree.specs.Steps.{led, plain_causes, causes, target, shown_to, target_to, text_to}
+use Rattle.sftp_tree.specs.Steps.{led, plain_causes, causes, target}
 use Rattle.sftp_tree.specs.Picture.{picture, IsStart}
 use Rattle.sftp_audit.specs.Steps.{Allowed}
 use Rattle.sftp_audit.specs.Explained.{closed, waiting, broken, turn_after, next_reply, entries, settled, asked_before_reply, in_window, Explained}

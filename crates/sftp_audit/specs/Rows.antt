@@ -1,5 +1,5 @@
 -- What the worked rows name: trees, events, and the sessions made of them.
-use Rattle.std.specs.Prelude.{ℕ, List, [], ◌∷◌, ◌++◌, map, codes, Some, None}
+use Rattle.std.specs.Prelude.{ℕ, List, [], ◌∷◌, ◌++◌, map, codes, Some}
 use Rattle.sftp_wire.specs.declared.attributes.Attrs.{Attrs}
 use Rattle.sftp_wire.specs.declared.names.NameItem.{NameItem}
 use Rattle.sftp_wire.specs.declared.packets.Ask.TheVariants.{Mkdir, Rmdir, Remove, Stat, Lstat, Realpath, Readlink, Symlink}

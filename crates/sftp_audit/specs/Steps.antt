@@ -1,6 +1,6 @@
 -- Which replies a tree allows to a request, and the tree after them (draft-ietf-secsh-filexfer-02, sections
 -- 6.6 to 6.11 and 7). Which fields of a reply are free is this profile's own.
-use Rattle.std.specs.Prelude.{◌≡◌, ◌==◌, ◌&&◌, ℕ, Bool, true, false, List, [], ◌∷◌, Option, Some, None, IsTrue, ◌⊎◌}
+use Rattle.std.specs.Prelude.{◌≡◌, ◌==◌, ◌&&◌, ℕ, Bool, false, List, [], ◌∷◌, Option, Some, IsTrue, ◌⊎◌}
 use Rattle.sftp_wire.specs.declared.attributes.Attrs.{Attrs}
 use Rattle.sftp_wire.specs.declared.names.NameItem.{NameItem}
 use Rattle.sftp_wire.specs.declared.packets.Ask.{Ask}

@@ -9,6 +9,8 @@ ghost use Rattle.sftp_audit.specs.Steps.{Allowed};
 ghost use Rattle.sftp_audit.specs.Explained.{Matching, Explained, entries, settled};
 ghost use Rattle.sftp_audit.specs.Laws.{IsAskable, IsAnswerable};
 
+use sftp_tree::laws::walks_give_places;
+
 /// A tree, a request and its reply fix the tree after them, and so a start and the events of a session fix
 /// the end.
 pub fn one_end()
@@ -20,7 +22,9 @@ pub fn one_end()
 /// the tree is as every tree of the program is kept: well-formed, and within the limits.
 pub fn some_reply()
     ensures { (t : Tree) (request : Request) → IsKept t → IsAskable request → IsAnswerable t request }
-{}
+{
+    walks_give_places();
+}
 
 /// Where requests and replies of each id take turns, each request has a reply, so that a session's run goes
 /// over all of them.
