@@ -36,7 +36,7 @@ impl Session {
             exchange(alloc, &mut transcript, &tree, number, ask)?;
         }
         Ok(Session {
-            tree: tree.write(alloc)?,
+            tree: tree.write()?,
             transcript,
         })
     }

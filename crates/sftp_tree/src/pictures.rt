@@ -57,9 +57,10 @@ impl Tree {
     ///
     /// `NoMemory` where memory runs out.
     #[tactic(auto, unfolding(crate::specs::Picture::picture))]
-    pub fn write(&self, alloc: Global) -> Result<Vec<u8>, NoMemory>
+    pub fn write(&self) -> Result<Vec<u8>, NoMemory>
         ensures { IfOk result (λ v. v.items ≡ picture self.now) }
     {
+        let alloc = self.home().allocator();
         let file = file_of(alloc, self)?;
         let bytes = write_rows(alloc, &file)?;
         Ok(bytes)

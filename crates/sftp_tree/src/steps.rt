@@ -1,4 +1,5 @@
-//! What requests do to a tree, and what they are told (draft, sections 6.6 to 6.11).
+//! What requests do to a tree, and what they are told (draft, sections 6.6 to 6.11). A path that leads nowhere has one
+//! cause, the walk's: `NoEntry`, `NotDir` or `Loop`.
 ghost use Rattle.std.specs.Prelude.{◌≡◌, Some, Ok, IfOk, IfErr, IsTrue, OnOk, OnErr};
 ghost use Rattle.sftp_path.specs.Place.{are_names, parent};
 ghost use Rattle.sftp_wire.specs.declared.packets.Ask.TheVariants.{Mkdir, Rmdir, Realpath, Readlink, Symlink};
@@ -17,12 +18,12 @@ use sftp_wire::{Attrs, ByteString};
 
 impl Tree {
     /// MKDIR: makes an empty directory. What the attributes do not give is the tree's owner, and permissions 0o755;
-    /// of the permissions given the low twelve bits count.
+    /// of the permissions given the low twelve bits count, and a size and times are passed over.
     ///
     /// # Errors
     ///
-    /// A cause that holds: of the walk, `Exists` or `NoRoom`. `NoMemory` where memory runs out. The tree is then as
-    /// before.
+    /// The first cause that holds: `BadPath`, the walk's, `Exists` or `NoRoom`. `NoMemory` where memory runs out. The tree is
+    /// then as before.
     pub fn mkdir(&mut self, path: &[u8], attrs: &Attrs) -> Result<(), Refused>
         ensures free { OnOk result (IsFree self.old (Mkdir path.now attrs.now)) }
         ensures done { OnOk result (self.new ≡ steps.target self.old (Mkdir path.now attrs.now)) }
@@ -40,8 +41,8 @@ impl Tree {
     ///
     /// # Errors
     ///
-    /// A cause that holds: of the walk, `NoEntry`, `NotDir`, `NotEmpty` or `Root`. `NoMemory` where memory runs out.
-    /// The tree is then as before.
+    /// The first cause that holds: `BadPath`, the walk's, `NoEntry`, `NotDir`, `NotEmpty` or `Root`. `NoMemory` where memory
+    /// runs out. The tree is then as before.
     pub fn rmdir(&mut self, path: &[u8]) -> Result<(), Refused>
         ensures free { OnOk result (IsFree self.old (Rmdir path.now)) }
         ensures done { OnOk result (self.new ≡ steps.target self.old (Rmdir path.now)) }
@@ -58,8 +59,8 @@ impl Tree {
     ///
     /// # Errors
     ///
-    /// A cause that holds: of the walk, `BadPath` also for the target, `Exists` or `NoRoom`. `NoMemory` where memory runs
-    /// out. The tree is then as before.
+    /// The first cause that holds: `BadPath`, of the target or of the link's path, the walk's, `Exists` or `NoRoom`. `NoMemory`
+    /// where memory runs out. The tree is then as before.
     pub fn symlink(&mut self, target: &[u8], link: &[u8]) -> Result<(), Refused>
         ensures free { OnOk result (IsFree self.old (Symlink target.now link.now)) }
         ensures done { OnOk result (self.new ≡ steps.target self.old (Symlink target.now link.now)) }
@@ -81,7 +82,7 @@ impl Tree {
     ///
     /// # Errors
     ///
-    /// A cause that holds: of the walk, or `NoEntry`. `NoMemory` where memory runs out.
+    /// The first cause that holds: `BadPath`, the walk's, or `NoEntry`. `NoMemory` where memory runs out.
     pub fn stat(&self, path: &[u8], follow: bool) -> Result<Attrs, Refused>
         ensures free { OnOk result (IsFree self.now (stat_ask follow path.now)) }
         ensures shown { IfOk result (λ attrs. steps.shown_to self.now (stat_ask follow path.now) ≡ Some attrs) }
@@ -98,7 +99,7 @@ impl Tree {
     ///
     /// # Errors
     ///
-    /// A cause of the walk. `NoMemory` where memory runs out.
+    /// The first cause that holds: `BadPath`, or the walk's. `NoMemory` where memory runs out.
     pub fn real_path(&self, path: &[u8]) -> Result<Vec<u8>, Refused>
         ensures free { OnOk result (IsFree self.now (Realpath path.now)) }
         ensures text { IfOk result (λ text. steps.text_to self.now (Realpath path.now) ≡ Some text.items) }
@@ -112,7 +113,7 @@ impl Tree {
     ///
     /// # Errors
     ///
-    /// A cause that holds: of the walk, `NoEntry` or `NotLink`. `NoMemory` where memory runs out.
+    /// The first cause that holds: `BadPath`, the walk's, `NoEntry` or `NotLink`. `NoMemory` where memory runs out.
     pub fn read_link(&self, path: &[u8]) -> Result<Vec<u8>, Refused>
         ensures free { OnOk result (IsFree self.now (Readlink path.now)) }
         ensures target { IfOk result (λ target. steps.target_to self.now (Readlink path.now) ≡ Some target.items) }

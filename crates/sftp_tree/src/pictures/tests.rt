@@ -36,7 +36,7 @@ fn comes_back(alloc: Global, bytes: &[u8]) -> bool {
 
 /// Whether these bytes are written of a tree.
 fn is_written(alloc: Global, tree: Tree, bytes: &[u8]) -> bool {
-    match tree.write(alloc) {
+    match tree.write() {
         Ok(written) => written.as_slice() == bytes,
         Err(_) => false,
     }

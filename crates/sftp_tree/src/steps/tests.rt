@@ -391,10 +391,10 @@ fn tells_when_no_cause_holds(rt: HostRuntime) -> Result<(), Fail> {
 fn leaves_the_tree_where_it_refuses(rt: HostRuntime) -> Result<(), Fail> {
     let alloc = rt.alloc();
     let mut tree = nested(alloc)?;
-    let before = tree.write(alloc)?;
+    let before = tree.write()?;
     assert!(rt; cannot_make(&mut tree, b"/d".as_slice(), Cause::Exists));
     assert!(rt; cannot_remove(&mut tree, b"/d".as_slice(), Cause::NotEmpty));
     assert!(rt; cannot_link(&mut tree, b"".as_slice(), b"/f".as_slice(), Cause::BadPath));
-    assert!(rt; tree.write(alloc)?.as_slice() == before.as_slice());
+    assert!(rt; tree.write()?.as_slice() == before.as_slice());
     Ok(())
 }
