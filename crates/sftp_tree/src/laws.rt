@@ -2,6 +2,7 @@
 //! the contract.
 ghost use Rattle.std.specs.Prelude.{◌≡◌, ◌↔◌, ◌≤◌, ℕ, Bool, List, Result, Ok, [], IsTrue};
 ghost use Rattle.sftp_wire.specs.declared.packets.Ask.{Ask};
+ghost use Rattle.sftp_wire.specs.Spelling.{FitsAsk};
 ghost use Rattle.sftp_path.specs.Place.{Name, Place, parent, are_names, is_good_path};
 ghost use Rattle.sftp_treefile.specs.TreeFile.{are_bytes};
 ghost use Rattle.sftp_tree.specs.declared.causes.Cause.{Cause};
@@ -9,10 +10,16 @@ ghost use Rattle.sftp_tree.specs.Tree.{Names, Tree, IsKept, limits, is_directory
 ghost use Rattle.sftp_tree.specs.Walk.{walk, reached, looked, steps_of, looked_limit, link_limit};
 ghost use Rattle.sftp_tree.specs.WalkRules.{Leads};
 ghost use Rattle.sftp_tree.specs.Steps.{target};
+ghost use Rattle.sftp_tree.specs.Sets.{IsFree};
 
 /// No request changes the limits of a tree.
 pub fn limits_stay()
     ensures { (t : Tree) (ask : Ask) → limits (target t ask) ≡ limits t }
+{}
+
+/// A request that no cause refuses, and whose fields fit their places on the wire, leaves a tree within the limits.
+pub fn steps_keep()
+    ensures { (t : Tree) (ask : Ask) → IsKept t → FitsAsk ask → IsFree t ask → IsKept (target t ask) }
 {}
 
 /// The function of walks is by the rules of walks, and no rule leads elsewhere.
