@@ -50,7 +50,7 @@ pub fn audit(alloc: Global, tree: &[u8], transcript: &[u8]) -> Result<Accepted, 
     let exchanges = pair(alloc, events)?;
     run(&mut state, exchanges.as_slice())?;
     let requests = exchanges.len() as u64;
-    let tree = state.write(alloc)?;
+    let tree = state.write()?;
     Ok(Accepted { tree, requests })
 }
 

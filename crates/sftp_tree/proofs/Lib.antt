@@ -1,6 +1,16 @@
+pub mod PictureLists
+pub mod PictureTables
+pub mod PictureFiles
 pub mod WalkRoutes
 pub mod WalkSteps
 pub mod WalkMeetings
 pub mod WalkPlaces
+pub mod StepBelow
+pub mod StepTables
+pub mod StepKept
+pub mod StepCauses
+pub mod StepAnswers
+pub mod PictureRows
 pub mod WalkRules
 pub mod WalkCounts
+pub mod StepKeeps

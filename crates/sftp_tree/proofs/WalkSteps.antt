@@ -1,5 +1,5 @@
 -- Walks, component by component.
-use Rattle.std.proofs.Common.{◌≡◌, ℕ, zero, suc, ◌<◌, Bool, true, false, cond, if◌then◌else◌, List, [], ◌∷◌, ◌++◌, refl, sym, ◌∙◌, ap, subst, Result, Ok, Err, Bor, arith}
+use Rattle.std.proofs.Common.{◌≡◌, ℕ, zero, suc, ◌<◌, Bool, true, false, if◌then◌else◌, List, [], ◌∷◌, ◌++◌, refl, sym, ◌∙◌, ap, subst, Result, Ok, Err, Bor, arith}
 use Rattle.sftp_path.specs.Place.{Name, Place, components, is_absolute, is_good_path}
 use Rattle.sftp_tree.specs.declared.causes.Cause.{Cause}
 use Rattle.sftp_tree.specs.declared.causes.Cause.TheVariants.{BadPath, Loop}
@@ -77,13 +77,6 @@ pub looked_behind-some : (names : Names) (follow : Bool) (left left' : ℕ) (at 
 looked_behind-some names follow left left' at at' target rest rest' some starts goes =
     ap (λ n. looked_behind names follow n at target rest) some
     ∙ ap (λ p. looked names follow left' p (components target ++ rest)) (sym starts) ∙ ap (looked names follow left' at') (sym goes)
-
--- where the code's walk goes on from behind a link
-pub start-absolute : (at place : Place) (target : List ℕ) (absolute : Bool) → absolute ≡ is_absolute target → absolute ≡ true → place ≡ [] → place ≡ start_of at target
-start-absolute at place target absolute is so root = root ∙ ap (λ b. cond b [] at) (sym (sym is ∙ so))
-
-pub start-relative : (at place : Place) (target : List ℕ) (absolute : Bool) → absolute ≡ is_absolute target → absolute ≡ false → place ≡ at → place ≡ start_of at target
-start-relative at place target absolute is so here = here ∙ ap (λ b. cond b [] at) (sym (sym is ∙ so))
 
 -- where the walk stands at a link
 pub stays : (met : Met) (target : Bor (List ℕ)) (before after : Place) → StaysAtLink met before after → met ≡ Through target → after ≡ before

@@ -1,6 +1,6 @@
 -- What attributes say of a request and of an entry (draft-ietf-secsh-filexfer-02, section 5). What stands for those
 -- that are not given is this profile's own.
-use Rattle.std.specs.Prelude.{ℕ, ◌+◌, ◌%◌, ◌^◌, List, length, Option, Some, None, unwrap_or}
+use Rattle.std.specs.Prelude.{ℕ, ◌+◌, ◌%◌, ◌^◌, length, Some, None, unwrap_or}
 use Rattle.std.specs.Option.{option_map}
 use Rattle.sftp_wire.specs.declared.attributes.Attrs.{Attrs}
 use Rattle.sftp_treefile.specs.declared.files.Owner.{Owner}

@@ -5,5 +5,10 @@ pub mod Attributes
 pub mod Steps
 pub mod Sets
 pub mod Picture
+pub mod PictureParts
+pub mod PictureRows
+pub mod Judged
+pub mod StepRows
 pub mod Route
 pub mod Walking
+pub mod WalkRows

@@ -1,8 +1,7 @@
 -- Refusals, and sets of causes as the code has them.
-use Rattle.std.specs.Prelude.{◌≡◌, Bool, true, false, List, ℕ, IsTrue}
+use Rattle.std.specs.Prelude.{Bool, true, false, List, ℕ, IsTrue}
 use Rattle.sftp_wire.specs.declared.packets.Ask.{Ask}
 use Rattle.sftp_wire.specs.declared.packets.Ask.TheVariants.{Stat, Lstat}
-use Rattle.sftp_tree.specs.declared.causes.Cause.{Cause as cause_}
 use Rattle.sftp_tree.specs.declared.causes.Cause.TheVariants.{BadPath, NoEntry, NotDir, Loop, Exists, NotLink, NotEmpty, Root, NoRoom}
 use Rattle.sftp_tree.specs.declared.causes.Causes.{Causes}
 use Rattle.sftp_tree.specs.declared.causes.Refused.{Refused}

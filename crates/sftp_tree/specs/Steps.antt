@@ -1,7 +1,7 @@
 -- Why requests are refused, and what they do to a tree (draft-ietf-secsh-filexfer-02, sections 6.6 to 6.11; OpenSSH's
 -- PROTOCOL, section 4.1, for the order of SYMLINK's arguments). The causes, the codes that each of them allows, and which
 -- walks follow a last link are this profile's own.
-use Rattle.std.specs.Prelude.{◌==◌, ◌&&◌, ◌||◌, not, ℕ, Bool, true, false, List, [], ◌∷◌, Option, Some, None, Result, Ok, Err, IsTrue}
+use Rattle.std.specs.Prelude.{◌==◌, ◌&&◌, ◌||◌, not, ℕ, Bool, true, false, List, [], ◌∷◌, Option, Some, None, Result, Ok, Err}
 use Rattle.std.specs.Option.{option_map}
 use Rattle.std.specs.List.{list_any}
 use Rattle.sftp_wire.specs.declared.attributes.Attrs.{Attrs}
@@ -95,19 +95,19 @@ allow causes code = list_any (λ cause. causes cause && allows cause code) every
 
 -- of what is to be made there
 abbrev pub making_causes : Option Node → CauseSet
-making_causes node Exists = is_taken node
-making_causes node _ = false
+making_causes standing Exists = is_taken standing
+making_causes standing _ = false
 
 -- of what is to be there
 abbrev pub needing_causes : Option Node → CauseSet
-needing_causes node NoEntry = not (is_taken node)
-needing_causes node _ = false
+needing_causes standing NoEntry = not (is_taken standing)
+needing_causes standing _ = false
 
 -- of a link that is to be there
 abbrev pub link_causes : Option Node → CauseSet
-link_causes node NoEntry = not (is_taken node)
-link_causes node NotLink = is_taken node && not (is_link node)
-link_causes node _ = false
+link_causes standing NoEntry = not (is_taken standing)
+link_causes standing NotLink = is_taken standing && not (is_link standing)
+link_causes standing _ = false
 
 -- of a directory that is to be removed
 abbrev pub removing_causes : Names → Place → CauseSet

@@ -1,6 +1,6 @@
 -- The tree: what stands at each place, where relative paths start, and who owns what is made with no owner
 -- given. The limits are this profile's own.
-use Rattle.std.specs.Prelude.{◌&&◌, nat_le, ℕ, ◌-◌, ◌<◌, ◌^◌, Bool, true, false, List, [], length, Option, Some, None, IsTrue}
+use Rattle.std.specs.Prelude.{◌&&◌, nat_le, ℕ, ◌-◌, ◌<◌, ◌^◌, Bool, true, false, [], length, Option, Some, None, IsTrue}
 use Rattle.std.specs.List.{list_any, list_all, AllByRecursion}
 use Rattle.sftp_path.specs.Place.{Place, place_cmp, parent, is_below, are_names, depth_limit}
 use Rattle.sftp_path.specs.Table.{Table, InOrder, get, put, without}

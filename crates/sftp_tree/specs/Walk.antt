@@ -1,7 +1,7 @@
 -- Where a path leads (draft-ietf-secsh-filexfer-02, section 6.2). How links are followed, and how many of them, is
 -- this profile's own.
-use Rattle.std.specs.Prelude.{ℕ, zero, suc, ◌+◌, Bool, true, false, if◌then◌else◌, List, [], ◌∷◌, ◌++◌, Option, Some, None, Result, Ok, Err}
-use Rattle.sftp_path.specs.Place.{Name, Place, parent, is_dot, is_dot_dot, components, is_absolute, is_good_path}
+use Rattle.std.specs.Prelude.{ℕ, zero, suc, ◌+◌, ◌*◌, Bool, true, false, if◌then◌else◌, List, [], ◌∷◌, ◌++◌, Option, Some, None, Result, Ok, Err}
+use Rattle.sftp_path.specs.Place.{Name, Place, parent, is_dot, is_dot_dot, components, is_absolute, is_good_path, depth_limit}
 use Rattle.sftp_tree.specs.declared.nodes.Node.{Node}
 use Rattle.sftp_tree.specs.declared.nodes.Node.TheVariants.{Dir, Link}
 use Rattle.sftp_tree.specs.declared.causes.Cause.{Cause}
@@ -49,7 +49,7 @@ meets names follow at component last =
 
 -- ---- the walk
 
--- where a target starts: at the root if it is absolute, else where the link stands
+-- where a target starts: at the root if it is absolute, else in the directory that holds the link
 abbrev pub start_of : Place → List ℕ → Place
 start_of at target = if is_absolute target then [] else at
 
@@ -96,6 +96,10 @@ unfoldable pub looked : Names → Bool → ℕ → Place → List Name → ℕ
 looked names follow zero at path = looked_parts (λ at target rest. 0) names follow at path
 looked names follow (suc left) at path = looked_parts (λ at target rest. looked names follow left (start_of at target) (components target ++ rest)) names follow at path
 
+-- the most components of a good path: each but the last takes two bytes at least
+abbrev pub component_limit : ℕ
+component_limit = 2048
+
 -- the most components that one walk looks at: the home's, the path's, and those of each target
 abbrev pub looked_limit : ℕ
-looked_limit = 84032
+looked_limit = depth_limit + (component_limit + link_limit * component_limit)

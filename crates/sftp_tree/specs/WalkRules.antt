@@ -1,6 +1,6 @@
 -- Where a path leads, once more: the rules of a walk, one by one (draft-ietf-secsh-filexfer-02, section 6.2). The
 -- function of `Walk` is by them.
-use Rattle.std.specs.Prelude.{◌≡◌, ℕ, zero, suc, Bool, true, false, List, [], ◌∷◌, ◌++◌, Some, None, Result, Ok, Err, IsTrue}
+use Rattle.std.specs.Prelude.{◌≡◌, ℕ, zero, suc, Bool, false, List, [], ◌∷◌, ◌++◌, Some, None, Result, Ok, Err, IsTrue}
 use Rattle.sftp_treefile.specs.declared.files.Owner.{Owner}
 use Rattle.sftp_path.specs.Place.{Name, Place, parent, is_dot, is_dot_dot, components}
 use Rattle.sftp_tree.specs.declared.nodes.Node.TheVariants.{Dir, Link}

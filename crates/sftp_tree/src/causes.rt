@@ -1,8 +1,9 @@
 //! Why requests are refused, and with which status codes (draft, section 7).
-ghost use Rattle.std.specs.Prelude.{◌≡◌};
+ghost use Rattle.std.specs.Prelude.{◌≡◌, IfErr, IsTrue, OnOk};
 ghost use Rattle.std.specs.List.{list_any};
 ghost use Rattle.sftp_tree.specs.Steps as steps;
 ghost use Rattle.sftp_tree.specs.Sets.{in_set};
+ghost use Rattle.sftp_tree.specs.Judged as judged;
 
 use sftp_path::NoMemory;
 use std::alloc::{AllocError, AllocFailed};
@@ -85,6 +86,42 @@ pub struct Causes {
 }
 
 impl Causes {
+    /// The set of no cause.
+    pub(crate) fn none() -> Causes
+        ensures { result ≡ judged.no_causes }
+    {
+        Causes {
+            bad_path: false,
+            no_entry: false,
+            not_dir: false,
+            too_many_links: false,
+            exists: false,
+            not_link: false,
+            not_empty: false,
+            root: false,
+            no_room: false,
+        }
+    }
+
+    /// The set of this cause alone.
+    pub(crate) fn just(cause: Cause) -> Causes
+        ensures { result ≡ judged.just cause }
+    {
+        let mut causes = Causes::none();
+        match cause {
+            Cause::BadPath => causes.bad_path = true,
+            Cause::NoEntry => causes.no_entry = true,
+            Cause::NotDir => causes.not_dir = true,
+            Cause::Loop => causes.too_many_links = true,
+            Cause::Exists => causes.exists = true,
+            Cause::NotLink => causes.not_link = true,
+            Cause::NotEmpty => causes.not_empty = true,
+            Cause::Root => causes.root = true,
+            Cause::NoRoom => causes.no_room = true,
+        }
+        causes
+    }
+
     /// Whether a cause is in the set.
     pub fn holds(&self, cause: Cause) -> bool
         ensures { result ≡ in_set self.now cause }
@@ -109,6 +146,21 @@ impl Causes {
         EVERY_CAUSE.iter().any(|cause| self.holds(*cause))
     }
 
+    /// Refuses with the first of the causes, in the order of the table.
+    ///
+    /// # Errors
+    ///
+    /// A cause of the set, where it has one.
+    pub(crate) fn refuse(&self) -> Result<(), Cause>
+        ensures free { OnOk result (IsTrue (steps.is_none (in_set self.now))) }
+        ensures cause { IfErr result (λ cause. IsTrue (in_set self.now cause)) }
+    {
+        match EVERY_CAUSE.iter().find(|cause| self.holds(**cause)) {
+            Some(cause) => Err(*cause),
+            None => Ok(()),
+        }
+    }
+
     /// Whether one of the causes allows the status code.
     pub fn allow(&self, code: u32) -> bool
         ensures { result ≡ steps.allow (in_set self.now) code }
@@ -128,6 +180,16 @@ pub enum Refused {
     /// Memory ran out.
     #[error("out of memory")]
     NoMemory,
+}
+
+impl From<Cause> for Refused {
+    ghost use Rattle.sftp_tree.specs.declared.causes.Refused.TheVariants.{Cause as refused_by};
+
+    ghost from_gives = { λ cause e. e ≡ refused_by cause };
+
+    fn from(cause: Cause) -> Refused {
+        Refused::Cause(cause)
+    }
 }
 
 impl From<AllocError> for Refused {

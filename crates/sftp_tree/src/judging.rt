@@ -1,13 +1,21 @@
 //! Which causes hold of a request.
-ghost use Rattle.std.specs.Prelude.{◌≡◌, IfOk};
+ghost use Rattle.std.specs.Prelude.{◌≡◌, IfOk, true, false};
+ghost use Rattle.sftp_path.specs.Place as places;
+ghost use Rattle.sftp_treefile.specs.TreeFile.{is_target};
 ghost use Rattle.sftp_tree.specs.declared.causes.Cause.{Cause as cause};
+ghost use Rattle.sftp_tree.specs.Tree as tree;
 ghost use Rattle.sftp_tree.specs.Steps as steps;
 ghost use Rattle.sftp_tree.specs.Sets.{in_set};
+ghost use Rattle.sftp_tree.specs.Walk.{reached};
+ghost use Rattle.sftp_tree.specs.Judged as judged;
 
-use crate::causes::Causes;
+use crate::causes::{Cause, Causes};
+use crate::nodes::Node;
 use crate::trees::Tree;
-use sftp_path::NoMemory;
+use sftp_path::{DEPTH_LIMIT, NoMemory, Place, good_path};
 use sftp_wire::Ask;
+use std::collections::BTreeMap;
+use std::ops::Bound;
 
 impl Tree {
     /// Every cause that holds of a request for what a path names. There is none of a request on a handle, and none of
@@ -19,6 +27,185 @@ impl Tree {
     pub fn causes(&self, ask: &Ask) -> Result<Causes, NoMemory>
         ensures { IfOk result (λ set. (c : cause) → in_set set c ≡ steps.causes self.now ask.now c) }
     {
-        Err(NoMemory)
+        self.see();
+        Ok(match ask {
+            Ask::Mkdir { path, .. } => self.causes_of_making(path.as_slice())?,
+            Ask::Rmdir { path } => self.causes_of_removing(path.as_slice())?,
+            Ask::Stat { path } => self.causes_of_needing(path.as_slice(), true)?,
+            Ask::Lstat { path } => self.causes_of_needing(path.as_slice(), false)?,
+            Ask::Realpath { path } => self.causes_of_leading(path.as_slice())?,
+            Ask::Readlink { path } => self.causes_of_reading(path.as_slice())?,
+            Ask::Symlink {
+                targetpath,
+                linkpath,
+            } => self
+                .causes_of_making(linkpath.as_slice())?
+                .with_target(targetpath.as_slice()),
+            _ => Causes::none(),
+        })
+    }
+
+    /// Does nothing. Its contract says what every tree keeps.
+    pub(crate) fn see(&self)
+        ensures { tree.IsKept self.now }
+    {
+        let _ = self.names();
+    }
+
+    /// The causes of what is to be made where a path leads; a link that is last is not followed.
+    fn causes_of_making(&self, path: &[u8]) -> Result<Causes, NoMemory>
+        ensures { IfOk result
+            (λ set. set ≡ judged.led_set (reached self.now false path.now) (judged.making self.now)) }
+    {
+        Ok(match self.reach(false, path)? {
+            Ok(place) => self.making(&place),
+            Err(cause) => Causes::just(cause),
+        })
+    }
+
+    /// The causes of a directory that is to be removed where a path leads; a link that is last is not followed.
+    fn causes_of_removing(&self, path: &[u8]) -> Result<Causes, NoMemory>
+        ensures { IfOk result
+            (λ set. set ≡ judged.led_set (reached self.now false path.now) (judged.removing self.now.names)) }
+    {
+        Ok(match self.reach(false, path)? {
+            Ok(place) => self.removing(&place),
+            Err(cause) => Causes::just(cause),
+        })
+    }
+
+    /// The causes of what is to be where a path leads; a link that is last is followed where `follow` says so.
+    fn causes_of_needing(&self, path: &[u8], follow: bool) -> Result<Causes, NoMemory>
+        ensures { IfOk result
+            (λ set. set ≡ judged.led_set (reached self.now follow path.now)
+            (λ place. judged.needing (tree.node_at self.now.names place))) }
+    {
+        Ok(match self.reach(follow, path)? {
+            Ok(place) => self.needing(&place),
+            Err(cause) => Causes::just(cause),
+        })
+    }
+
+    /// The causes of a path that is to lead to a place; a link that is last is followed.
+    fn causes_of_leading(&self, path: &[u8]) -> Result<Causes, NoMemory>
+        ensures { IfOk result
+            (λ set. set ≡ judged.led_set (reached self.now true path.now) (λ place. judged.no_causes)) }
+    {
+        Ok(match self.reach(true, path)? {
+            Ok(_) => Causes::none(),
+            Err(cause) => Causes::just(cause),
+        })
+    }
+
+    /// The causes of a link that is to be where a path leads; it is not followed.
+    fn causes_of_reading(&self, path: &[u8]) -> Result<Causes, NoMemory>
+        ensures { IfOk result
+            (λ set. set ≡ judged.led_set (reached self.now false path.now)
+            (λ place. judged.reading (tree.node_at self.now.names place))) }
+    {
+        Ok(match self.reach(false, path)? {
+            Ok(place) => self.reading(&place),
+            Err(cause) => Causes::just(cause),
+        })
+    }
+
+    /// The causes of what is to be made at a place.
+    #[tactic(auto, unfolding(sftp_path::specs::Table::get))]
+    pub(crate) fn making(&self, place: &Place) -> Causes
+        ensures { result ≡ judged.making self.now place.now }
+    {
+        let mut causes = Causes::none();
+        match self.names().get(place) {
+            Some(_) => causes.exists = true,
+            None => causes.no_room = !self.has_room(place),
+        }
+        causes
+    }
+
+    /// The causes of a directory that is to be removed from a place.
+    #[tactic(auto, unfolding(sftp_path::specs::Table::get))]
+    pub(crate) fn removing(&self, place: &Place) -> Causes
+        ensures { result ≡ judged.removing self.now.names place.now }
+    {
+        let mut causes = Causes::none();
+        causes.root = place.depth() == 0;
+        match self.names().get(place) {
+            Some(Node::Dir(_)) => causes.not_empty = has_entries(self.names(), place),
+            Some(Node::Link(_)) => causes.not_dir = true,
+            None => causes.no_entry = true,
+        }
+        causes
+    }
+
+    /// The causes of what is to be at a place.
+    #[tactic(auto, unfolding(sftp_path::specs::Table::get))]
+    fn needing(&self, place: &Place) -> Causes
+        ensures { result ≡ judged.needing (tree.node_at self.now.names place.now) }
+    {
+        let mut causes = Causes::none();
+        causes.no_entry = !self.names().contains_key(place);
+        causes
+    }
+
+    /// The causes of a link that is to be at a place.
+    #[tactic(auto, unfolding(sftp_path::specs::Table::get))]
+    fn reading(&self, place: &Place) -> Causes
+        ensures { result ≡ judged.reading (tree.node_at self.now.names place.now) }
+    {
+        let mut causes = Causes::none();
+        match self.names().get(place) {
+            Some(Node::Dir(_)) => causes.not_link = true,
+            Some(Node::Link(_)) => {}
+            None => causes.no_entry = true,
+        }
+        causes
+    }
+
+    /// Whether one entry more, at a new place, keeps to the limits. The root is one of the places, and no entry.
+    fn has_room(&self, place: &Place) -> bool
+        ensures { result ≡ judged.has_room self.now place.now }
+    {
+        self.names().len() <= self.limits().entries as usize && place.depth() <= DEPTH_LIMIT
+    }
+}
+
+impl Causes {
+    /// The set with the causes of a link's target.
+    fn with_target(self, target: &[u8]) -> Causes
+        ensures { result ≡ judged.with_target target.now self }
+    {
+        let good = is_target(target);
+        Causes {
+            bad_path: self.bad_path || !good,
+            no_room: self.no_room && good,
+            ..self
+        }
+    }
+}
+
+/// Whether a link may have the target: a good path that is not empty.
+pub(crate) fn is_target(target: &[u8]) -> bool
+    ensures { result ≡ is_target target.now }
+{
+    !target.is_empty() && good_path(target)
+}
+
+/// Whether the second place stands below the first.
+fn is_below(place: &Place, other: &Place) -> bool
+    ensures { result ≡ places.is_below place.now other.now }
+{
+    other.starts_with(place) && place.depth() < other.depth()
+}
+
+/// Whether anything stands below a place: the next place in order would.
+fn has_entries(names: &BTreeMap<Place, Node>, place: &Place) -> bool
+    ensures { result ≡ tree.has_entries names.now.entries place.now }
+{
+    match names
+        .range((Bound::Excluded(place), Bound::Unbounded))
+        .next()
+    {
+        Some((next, _)) => is_below(place, next),
+        None => false,
     }
 }

@@ -7,10 +7,13 @@ mod causes;
 mod judging;
 pub mod laws;
 mod nodes;
+pub mod picture_laws;
 mod pictures;
 mod route;
+pub mod step_rows;
 mod steps;
 mod trees;
+pub mod walk_rows;
 mod walking;
 
 pub use causes::{Cause, Causes, Refused};

@@ -3,10 +3,19 @@ ghost use Rattle.std.specs.Prelude.{◌≡◌, IfOk};
 ghost use Rattle.sftp_tree.specs.Tree.{Tree as tree};
 ghost use Rattle.sftp_tree.specs.Picture.{IsStart, GivesTree, picture, blank};
 
+mod reading;
+#[cfg(test)]
+mod tests;
+mod writing;
+
+use crate::nodes::Node;
 use crate::trees::Tree;
-use sftp_path::NoMemory;
-use sftp_treefile::TreeError;
+use reading::tree_of;
+use sftp_path::{NoMemory, Place};
+use sftp_treefile::{Owner, TreeError, read_rows, write_rows};
 use std::alloc::Global;
+use std::collections::BTreeMap;
+use writing::file_of;
 
 impl Tree {
     /// The tree of nothing but a root: it is the home, it has permissions 0o755, and the user and the group 0 own it and
@@ -18,7 +27,14 @@ impl Tree {
     pub fn blank(alloc: Global) -> Result<Tree, NoMemory>
         ensures { IfOk result (λ t. t ≡ blank) }
     {
-        Err(NoMemory)
+        let owner = Owner {
+            uid: 0,
+            gid: 0,
+            permissions: 0o755,
+        };
+        let mut names = BTreeMap::new(alloc);
+        names.insert(Place::root(alloc), Node::Dir(owner))?;
+        Ok(Tree::from_parts(names, Place::root(alloc), 0, 0))
     }
 
     /// The tree of a tree file.
@@ -30,7 +46,9 @@ impl Tree {
         ensures found { IfOk result (λ t. IsStart t bytes.now) }
         ensures only { (t : tree) → IsStart t bytes.now → GivesTree result t }
     {
-        Err(TreeError::NoMemory)
+        let file = read_rows(alloc, bytes)?;
+        let tree = tree_of(alloc, file)?;
+        Ok(tree)
     }
 
     /// The tree file of the tree.
@@ -38,9 +56,13 @@ impl Tree {
     /// # Errors
     ///
     /// `NoMemory` where memory runs out.
-    pub fn write(&self, alloc: Global) -> Result<Vec<u8>, NoMemory>
+    #[tactic(auto, unfolding(crate::specs::Picture::picture))]
+    pub fn write(&self) -> Result<Vec<u8>, NoMemory>
         ensures { IfOk result (λ v. v.items ≡ picture self.now) }
     {
-        Err(NoMemory)
+        let alloc = self.home().allocator();
+        let file = file_of(alloc, self)?;
+        let bytes = write_rows(alloc, &file)?;
+        Ok(bytes)
     }
 }

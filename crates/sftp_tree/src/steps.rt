@@ -1,58 +1,80 @@
-//! What requests do to a tree, and what they are told (draft, sections 6.6 to 6.11).
-ghost use Rattle.std.specs.Prelude.{◌≡◌, Some, IfOk, IfErr, OnOk, OnErr};
+//! What requests do to a tree, and what they are told (draft, sections 6.6 to 6.11). A path that leads nowhere has one
+//! cause, the walk's: `NoEntry`, `NotDir` or `Loop`.
+ghost use Rattle.std.specs.Prelude.{◌≡◌, Some, Ok, IfOk, IfErr, IsTrue, OnOk, OnErr};
+ghost use Rattle.sftp_path.specs.Place.{are_names, parent};
 ghost use Rattle.sftp_wire.specs.declared.packets.Ask.TheVariants.{Mkdir, Rmdir, Realpath, Readlink, Symlink};
+ghost use Rattle.sftp_tree.specs.Tree as tree;
+ghost use Rattle.sftp_tree.specs.Walk.{reached};
 ghost use Rattle.sftp_tree.specs.Steps as steps;
 ghost use Rattle.sftp_tree.specs.Sets.{IsFree, IsRefusal, stat_ask};
+ghost use Rattle.sftp_tree.specs.Judged.{IsLost};
 
-use crate::causes::Refused;
+use crate::causes::{Cause, Refused};
+use crate::judging::is_target;
+use crate::nodes::Node;
 use crate::trees::Tree;
-use sftp_wire::Attrs;
+use sftp_path::{Place, absolute};
+use sftp_wire::{Attrs, ByteString};
 
 impl Tree {
     /// MKDIR: makes an empty directory. What the attributes do not give is the tree's owner, and permissions 0o755;
-    /// of the permissions given the low twelve bits count.
+    /// of the permissions given the low twelve bits count, and a size and times are passed over.
     ///
     /// # Errors
     ///
-    /// A cause that holds: of the walk, `Exists` or `NoRoom`. `NoMemory` where memory runs out. The tree is then as
-    /// before.
+    /// The first cause that holds: `BadPath`, the walk's, `Exists` or `NoRoom`. `NoMemory` where memory runs out. The tree is
+    /// then as before.
     pub fn mkdir(&mut self, path: &[u8], attrs: &Attrs) -> Result<(), Refused>
         ensures free { OnOk result (IsFree self.old (Mkdir path.now attrs.now)) }
         ensures done { OnOk result (self.new ≡ steps.target self.old (Mkdir path.now attrs.now)) }
         ensures refused { IfErr result (λ refused. IsRefusal self.old (Mkdir path.now attrs.now) refused) }
         ensures kept { OnErr result (self.new ≡ self.old) }
     {
-        Err(Refused::NoMemory)
+        let place = self.lead(false, path)?;
+        self.making(&place).refuse()?;
+        let owner = self.directory_owner(attrs);
+        self.put(place, Node::Dir(owner))?;
+        Ok(())
     }
 
     /// RMDIR: removes an empty directory.
     ///
     /// # Errors
     ///
-    /// A cause that holds: of the walk, `NoEntry`, `NotDir`, `NotEmpty` or `Root`. `NoMemory` where memory runs out.
-    /// The tree is then as before.
+    /// The first cause that holds: `BadPath`, the walk's, `NoEntry`, `NotDir`, `NotEmpty` or `Root`. `NoMemory` where memory
+    /// runs out. The tree is then as before.
     pub fn rmdir(&mut self, path: &[u8]) -> Result<(), Refused>
         ensures free { OnOk result (IsFree self.old (Rmdir path.now)) }
         ensures done { OnOk result (self.new ≡ steps.target self.old (Rmdir path.now)) }
         ensures refused { IfErr result (λ refused. IsRefusal self.old (Rmdir path.now) refused) }
         ensures kept { OnErr result (self.new ≡ self.old) }
     {
-        Err(Refused::NoMemory)
+        let place = self.lead(false, path)?;
+        self.removing(&place).refuse()?;
+        self.remove(&place);
+        Ok(())
     }
 
     /// SYMLINK: makes a link with these bytes for its target, as they came.
     ///
     /// # Errors
     ///
-    /// A cause that holds: of the walk, `BadPath` also for the target, `Exists` or `NoRoom`. `NoMemory` where memory runs
-    /// out. The tree is then as before.
+    /// The first cause that holds: `BadPath`, of the target or of the link's path, the walk's, `Exists` or `NoRoom`. `NoMemory`
+    /// where memory runs out. The tree is then as before.
     pub fn symlink(&mut self, target: &[u8], link: &[u8]) -> Result<(), Refused>
         ensures free { OnOk result (IsFree self.old (Symlink target.now link.now)) }
         ensures done { OnOk result (self.new ≡ steps.target self.old (Symlink target.now link.now)) }
         ensures refused { IfErr result (λ refused. IsRefusal self.old (Symlink target.now link.now) refused) }
         ensures kept { OnErr result (self.new ≡ self.old) }
     {
-        Err(Refused::NoMemory)
+        if !is_target(target) {
+            return Err(Refused::Cause(Cause::BadPath));
+        }
+        let place = self.lead(false, link)?;
+        self.making(&place).refuse()?;
+        let target = ByteString::from_slice(self.home().allocator(), target)?;
+        self.put(place, Node::Link(target))?;
+        Ok(())
     }
 
     /// STAT where a link that is last is followed, LSTAT where it is not: the size, the owner and the permissions, with the bits
@@ -60,38 +82,79 @@ impl Tree {
     ///
     /// # Errors
     ///
-    /// A cause that holds: of the walk, or `NoEntry`. `NoMemory` where memory runs out.
+    /// The first cause that holds: `BadPath`, the walk's, or `NoEntry`. `NoMemory` where memory runs out.
     pub fn stat(&self, path: &[u8], follow: bool) -> Result<Attrs, Refused>
         ensures free { OnOk result (IsFree self.now (stat_ask follow path.now)) }
         ensures shown { IfOk result (λ attrs. steps.shown_to self.now (stat_ask follow path.now) ≡ Some attrs) }
         ensures refused { IfErr result (λ refused. IsRefusal self.now (stat_ask follow path.now) refused) }
     {
-        Err(Refused::NoMemory)
+        let place = self.lead(follow, path)?;
+        match self.names().get(&place) {
+            Some(node) => Ok(self.shown(node)),
+            None => Err(Refused::Cause(Cause::NoEntry)),
+        }
     }
 
     /// REALPATH: the absolute text of the place that the path leads to. Its last name may be absent.
     ///
     /// # Errors
     ///
-    /// A cause of the walk. `NoMemory` where memory runs out.
+    /// The first cause that holds: `BadPath`, or the walk's. `NoMemory` where memory runs out.
     pub fn real_path(&self, path: &[u8]) -> Result<Vec<u8>, Refused>
         ensures free { OnOk result (IsFree self.now (Realpath path.now)) }
         ensures text { IfOk result (λ text. steps.text_to self.now (Realpath path.now) ≡ Some text.items) }
         ensures refused { IfErr result (λ refused. IsRefusal self.now (Realpath path.now) refused) }
     {
-        Err(Refused::NoMemory)
+        let place = self.lead(true, path)?;
+        Ok(absolute(self.home().allocator(), place.names())?)
     }
 
     /// READLINK: the target of a link, as it was made.
     ///
     /// # Errors
     ///
-    /// A cause that holds: of the walk, `NoEntry` or `NotLink`. `NoMemory` where memory runs out.
+    /// The first cause that holds: `BadPath`, the walk's, `NoEntry` or `NotLink`. `NoMemory` where memory runs out.
     pub fn read_link(&self, path: &[u8]) -> Result<Vec<u8>, Refused>
         ensures free { OnOk result (IsFree self.now (Readlink path.now)) }
         ensures target { IfOk result (λ target. steps.target_to self.now (Readlink path.now) ≡ Some target.items) }
         ensures refused { IfErr result (λ refused. IsRefusal self.now (Readlink path.now) refused) }
     {
-        Err(Refused::NoMemory)
+        let place = self.lead(false, path)?;
+        match self.names().get(&place) {
+            Some(Node::Link(target)) => {
+                Ok(Vec::from_slice(self.home().allocator(), target.as_slice())?)
+            }
+            Some(Node::Dir(_)) => Err(Refused::Cause(Cause::NotLink)),
+            None => Err(Refused::Cause(Cause::NoEntry)),
+        }
+    }
+
+    /// The place that a path leads to.
+    ///
+    /// # Errors
+    ///
+    /// The cause for which it leads nowhere. `NoMemory` where memory runs out.
+    fn lead(&self, follow: bool, path: &[u8]) -> Result<Place, Refused>
+        ensures reached { IfOk result (λ place. reached self.now follow path.now ≡ Ok place) }
+        ensures named { IfOk result (λ place. IsTrue (are_names place)) }
+        ensures parent { IfOk result
+            (λ place. IsTrue (tree.is_directory (tree.node_at self.now.names (parent place)))) }
+        ensures kept { tree.IsKept self.now }
+        ensures lost { IfErr result (λ refused. IsLost self.now follow path.now refused) }
+    {
+        self.see();
+        let place = self.reach(follow, path)??;
+        see_place(&place);
+        Ok(place)
     }
 }
+
+/// Does nothing. Its contract says what every place keeps.
+fn see_place(place: &Place)
+    ensures { IsTrue (are_names place.now) }
+{
+    let _ = place.names();
+}
+
+#[cfg(test)]
+mod tests;

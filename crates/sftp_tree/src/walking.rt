@@ -1,5 +1,5 @@
 //! Where paths lead (draft, section 6.2).
-ghost use Rattle.std.specs.Prelude.{◌≡◌, [], IfOk, IsTrue};
+ghost use Rattle.std.specs.Prelude.{◌≡◌, [], if◌then◌else◌, IfOk, IsTrue};
 ghost use Rattle.std.specs.List.{list_all};
 ghost use Rattle.sftp_path.specs.Place.{parent, is_step};
 ghost use Rattle.sftp_tree.specs.Tree as spec;
@@ -68,6 +68,15 @@ fn meet<'a>(
     })
 }
 
+/// Goes from a link to where its target starts: to the root where the target is absolute.
+fn go_to_start(at: &mut Place, target: &Parts<'_>)
+    ensures { at.new ≡ (if target.now.absolute then [] else at.old) }
+{
+    if target.absolute {
+        *at = Place::root(at.allocator());
+    }
+}
+
 impl Tree {
     /// Where a path leads, or why it leads nowhere. A path that is not absolute follows the home's components; a
     /// link that is last is followed where `follow` says so.
@@ -120,9 +129,7 @@ impl Tree {
                 Met::Through(target) => {
                     links_left -= 1;
                     let target = Parts::new(target);
-                    if target.absolute {
-                        at = Place::root(at.allocator());
-                    }
+                    go_to_start(&mut at, &target);
                     route.go_through(target)?;
                 }
             }

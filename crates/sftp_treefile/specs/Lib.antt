@@ -1,2 +1,4 @@
 pub mod Limits
 pub mod TreeFile
+pub mod TreeFileParts
+pub mod Rows

@@ -1,15 +1,24 @@
 //! Tree files: a tree as bytes, and the rows in between. The format is this profile's own.
 #![tactic(auto)]
 
+mod entries;
 mod errors;
+mod fields;
 mod files;
+mod heads;
+mod laws;
 mod limits;
 mod reading;
+pub mod rows;
 mod writing;
 
 pub use errors::TreeError;
 pub use files::{Kind, Owner, Row, Rows, TreeFile};
+pub use laws::files_are_one;
 pub use limits::{TreeLimits, usual_limits};
 pub use reading::read_rows;
 pub use sftp_path::NoMemory;
 pub use writing::write_rows;
+
+#[cfg(test)]
+mod tests;

@@ -1,15 +1,14 @@
-use Rattle.std.proofs.Common.{◌≡◌, suc, ◌-◌, ◌++◌, [], ◌∷◌, sym, ap, ◌∙◌, arith}
+use Rattle.std.proofs.Common.{◌≡◌, suc, ◌-◌, ◌++◌, [], ◌∷◌, if◌then◌else◌, sym, ap, ◌∙◌, arith}
 use Rattle.std.specs.List.{list_all}
 use Rattle.std.proofs.lemmas.Bool.{and_parts}
-use Rattle.sftp_path.specs.Place.{is_step, is_absolute, components}
+use Rattle.sftp_path.specs.Place.{is_step, components}
 use Rattle.sftp_path.specs.Split.{Split}
 use Rattle.sftp_tree.specs.Walk.{walk, start_of, meets, is_last, through}
 use Rattle.sftp_tree.specs.Walking.{meeting}
-use Rattle.sftp_tree.proofs.WalkSteps.{walk-turn, looked-turn, walk-nil, behind_link-none, behind_link-some, looked_behind-some, start-absolute, start-relative, stays, below}
+use Rattle.sftp_tree.proofs.WalkSteps.{walk-turn, looked-turn, walk-nil, behind_link-none, behind_link-some, looked_behind-some, stays, below}
 use Rattle.sftp_tree.proofs.WalkMeetings.{steps-behind, through-link}
 use Rattle.sftp_tree.proofs.WalkPlaces.{root-stands, found-at}
 use Rattle.sftp_tree.proofs.trees.Tree.walk.Goals as goal
-use Rattle.sftp_tree.proofs.trees.Tree.walk.Goals.{then-target, else-target}
 
 pub loop-component-smaller-in-Enters : goal.loop-component-smaller-in-Enters
 loop-component-smaller-in-Enters c =
@@ -49,13 +48,10 @@ returns-in-Through-clause-reached c =
     ∙ behind_link-none c.args.self.now.names c.args.follow c.loop-component.links_left c.loop-component.at c.in-Through.field-0.now c.next_component.new.self c.if-links_left-eq0.true)
 
 -- behind a link the walk starts where its target does
-start : (c : goal.In_ok-go_through-in-Through-2) → c.if-target.at ≡ start_of c.loop-component.at c.in-Through.field-0.now
+start : (c : goal.In_ok-go_through-in-Through-2) → c.go_to_start.new.at ≡ start_of c.loop-component.at c.in-Through.field-0.now
 start c =
-    let absolute : c.target.inside.absolute ≡ is_absolute c.in-Through.field-0.now = ap (λ (s : Split). s.absolute) (c.target.view_is ∙ c.new-target.ensures) in
-    elim c.if-target.branch [
-      | then-target w ↦ start-absolute c.loop-component.at c.if-target.at c.in-Through.field-0.now c.target.inside.absolute absolute w.if-target.true (w.at-is ∙ w.root-at-then-target.ensures)
-      | else-target w ↦ start-relative c.loop-component.at c.if-target.at c.in-Through.field-0.now c.target.inside.absolute absolute w.if-target.false (w.at-is ∙ stays c.in_ok-meet.field-0 c.in-Through.field-0 c.loop-component.at c.meet.new.at c.in_ok-meet.ensures.stays c.in-Through.is)
-    ]
+    c.go_to_start.ensures ∙ ap (λ (s : Split). if s.absolute then [] else c.meet.new.at) c.new-target.ensures
+    ∙ ap (λ p. start_of p c.in-Through.field-0.now) (stays c.in_ok-meet.field-0 c.in-Through.field-0 c.loop-component.at c.meet.new.at c.in_ok-meet.ensures.stays c.in-Through.is)
 
 -- and goes over its components first
 goes : (c : goal.In_ok-go_through-in-Through-2) → c.go_through.new.self ≡ components c.in-Through.field-0.now ++ c.next_component.new.self
@@ -67,7 +63,7 @@ left c = omega arith
 pub loop-component-smaller : goal.loop-component-smaller
 loop-component-smaller c =
     below _ _ (looked-turn c.args.self.now.names c.names-names.result.now.entries c.args.follow c.loop-component.links_left c.loop-component.at c.meet.new.at c.loop-component.route c.in-Some.component.now c.next_component.new.self c.is_done.result c.in_ok-meet.field-0 _ c.names-names.ensures.names c.in-Some.ensures c.is_done.ensures c.in_ok-meet.ensures.meets c.in-Through.is
-    ∙ ap (λ n. suc n) (looked_behind-some c.args.self.now.names c.args.follow c.loop-component.links_left (c.loop-component.links_left - 1) c.loop-component.at c.if-target.at c.in-Through.field-0.now c.next_component.new.self c.go_through.new.self (left c) (start c) (goes c)))
+    ∙ ap (λ n. suc n) (looked_behind-some c.args.self.now.names c.args.follow c.loop-component.links_left (c.loop-component.links_left - 1) c.loop-component.at c.go_to_start.new.at c.in-Through.field-0.now c.next_component.new.self c.go_through.new.self (left c) (start c) (goes c)))
 
 pub loop-component-preserved : goal.loop-component-preserved
 loop-component-preserved c =
@@ -82,5 +78,5 @@ loop-component-preserved c =
       steps = ap (list_all is_step) (goes c) ∙ steps-behind c.args.self.now c.names-names.ensures.kept (c.loop-component.at ++ c.in-Some.component.now ∷ []) c.in-Through.field-0.now c.next_component.new.self there rest;
       same =
           walk-turn c.args.self.now.names c.names-names.result.now.entries c.args.follow c.loop-component.links_left c.loop-component.at c.meet.new.at c.loop-component.route c.in-Some.component.now c.next_component.new.self c.is_done.result c.in_ok-meet.field-0 _ _ c.names-names.ensures.names c.loop-component.invariant.same c.in-Some.ensures c.is_done.ensures c.in_ok-meet.ensures.meets c.in-Through.is
-          ∙ behind_link-some c.args.self.now.names c.args.follow c.loop-component.links_left (c.loop-component.links_left - 1) c.loop-component.at c.if-target.at c.in-Through.field-0.now c.next_component.new.self c.go_through.new.self (left c) (start c) (goes c);
+          ∙ behind_link-some c.args.self.now.names c.args.follow c.loop-component.links_left (c.loop-component.links_left - 1) c.loop-component.at c.go_to_start.new.at c.in-Through.field-0.now c.next_component.new.self c.go_through.new.self (left c) (start c) (goes c);
     }

@@ -1,0 +1,45 @@
+-- A worked tree is one that the program may have.
+use Rattle.std.proofs.Common.{[], ◌∷◌, refl, arith}
+use Rattle.std.specs.Prelude.{codes}
+use Rattle.sftp_path.specs.Place.{components, parts, is_good_path}
+use Rattle.sftp_treefile.specs.declared.files.Kind.TheVariants as kinds
+use Rattle.sftp_treefile.specs.declared.files.TreeFile.{TreeFile}
+use Rattle.sftp_treefile.specs.TreeFile.{has_dir, IsPlaceText, IsTreeFile}
+use Rattle.sftp_tree.specs.Tree.{IsKept}
+use Rattle.sftp_tree.specs.PictureRows.{user_owner, linked}
+use Rattle.sftp_tree.proofs.PictureFiles.{kept_of_file}
+
+linked_file : TreeFile
+linked_file = record {
+  home = codes "/d";
+  uid = 1000;
+  gid = 100;
+  root = record { uid = 0; gid = 5; permissions = 0o755 };
+  rows = record { path = codes "/d"; kind = kinds.Dir user_owner } ∷ record { path = codes "/l"; kind = kinds.Link (codes "d") } ∷ [];
+}
+
+text_d : IsPlaceText (codes "/d")
+unfolding components parts
+text_d = record { names = refl; depth = omega arith; one = refl }
+
+text_l : IsPlaceText (codes "/l")
+unfolding components parts
+text_l = record { names = refl; depth = omega arith; one = refl }
+
+may_be : IsTreeFile linked_file
+unfolding linked_file components parts has_dir is_good_path
+may_be = record {
+  home = text_d;
+  uid = omega arith;
+  gid = omega arith;
+  count = omega arith;
+  root = (omega arith, omega arith, omega arith);
+  rows = (
+    record { path = text_d; below_root = omega arith; later = tt; parent = refl; kind = (omega arith, omega arith, omega arith) },
+    (record { path = text_l; below_root = omega arith; later = (refl, tt); parent = refl; kind = (refl, refl) }, tt),
+  );
+}
+
+pub linked_kept : IsKept linked
+unfolding linked_file components parts
+linked_kept = kept_of_file linked_file may_be

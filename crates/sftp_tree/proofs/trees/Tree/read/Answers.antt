@@ -1,0 +1,21 @@
+-- A tree's file is that of one tree.
+use Rattle.std.proofs.Common.{sym, ap, subst, ◌∙◌}
+use Rattle.std.proofs.lemmas.Result.{err_from_is_err_and}
+use Rattle.sftp_tree.specs.Tree.{Tree}
+use Rattle.sftp_tree.specs.Picture.{IsStart, file_of}
+use Rattle.sftp_tree.specs.PictureParts.{tree_of}
+use Rattle.sftp_tree.proofs.PictureFiles.{kept_of_start, tree_again, spelled_of_start, start_of_spelled}
+use Rattle.sftp_tree.proofs.trees.Tree.read.Goals as goal
+
+pub returns-in_err-file-clause-only : goal.returns-in_err-file-clause-only
+returns-in_err-file-clause-only c = λ t start.
+    let p = err_from_is_err_and c.from_residual.result c.from_residual.ensures.1 in
+    rw (p.1, p.2) (c.in_err-file.ensures.only (file_of t) (spelled_of_start t c.args.bytes.now start))
+
+pub returns-clause-found : goal.returns-clause-found
+returns-clause-found c =
+    subst (λ (t : Tree). IsStart t c.args.bytes.now) (sym c.in_ok-tree.ensures) (start_of_spelled c.in_ok-file.file c.args.bytes.now c.in_ok-file.ensures.found)
+
+pub returns-clause-only : goal.returns-clause-only
+returns-clause-only c = λ t start.
+    c.in_ok-tree.ensures ∙ ap tree_of (c.in_ok-file.ensures.only (file_of t) (spelled_of_start t c.args.bytes.now start)) ∙ tree_again t (kept_of_start t c.args.bytes.now start)

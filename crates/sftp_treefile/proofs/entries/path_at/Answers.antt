@@ -1,0 +1,23 @@
+-- A path that stands in front and may not come next: no path that may stands there.
+use Rattle.std.proofs.Common.{inr, ap, length, sym, ◌∙◌, arith}
+use Rattle.std.proofs.lemmas.Bool.{false≢true}
+use Rattle.std.proofs.lemmas.Result.{err_from_is_err_and}
+use Rattle.sftp_treefile.proofs.EntryTexts.{or_fault, path_unfit, path_absent}
+use Rattle.sftp_treefile.proofs.entries.path_at.Goals as goal
+
+pub returns-in_err-text-clause-none : goal.returns-in_err-text-clause-none
+returns-in_err-text-clause-none c =
+    let p = err_from_is_err_and c.from_residual.result c.from_residual.ensures.1 in
+    rw (p.1, p.2) (or_fault _ _ _ c.in_err-text.ensures.none (path_absent c.args.entries.now.rows.items c.args.bytes.now))
+
+pub returns-then-depth-eq0-clause-none : goal.returns-then-depth-eq0-clause-none
+returns-then-depth-eq0-clause-none c =
+    inr (path_unfit c.args.entries.now.rows.items c.args.bytes.now c.in_ok-text.text.now c.in_ok-text.rest.now c.in_ok-text.ensures.found (λ f. omega (arith, f.below_root, c.depth.ensures, c.if-depth-eq0.true, ap length c.in_ok-text.ensures.place)))
+
+pub returns-then-not-is_later-clause-none : goal.returns-then-not-is_later-clause-none
+returns-then-not-is_later-clause-none c =
+    inr (path_unfit c.args.entries.now.rows.items c.args.bytes.now c.in_ok-text.text.now c.in_ok-text.rest.now c.in_ok-text.ensures.found (λ f. false≢true (c.if-not-is_later.ensures.1 (rw c.in_ok-text.ensures.place f.later))))
+
+pub returns-then-not-branch-clause-none : goal.returns-then-not-branch-clause-none
+returns-then-not-branch-clause-none c =
+    inr (path_unfit c.args.entries.now.rows.items c.args.bytes.now c.in_ok-text.text.now c.in_ok-text.rest.now c.in_ok-text.ensures.found (λ f. false≢true (sym c.if-not-branch.true ∙ c.in_ok-has_parent.ensures ∙ rw c.in_ok-text.ensures.place f.parent)))

@@ -1,0 +1,24 @@
+use Rattle.std.proofs.Common.{refl, arith}
+use Rattle.sftp_wire.specs.Rows.{hex}
+use Rattle.sftp_path.specs.Place.{components, parts}
+use Rattle.sftp_treefile.specs.TreeFile.{spelled}
+use Rattle.sftp_treefile.proofs.rows.blank_file.Goals as goal
+
+pub returns-clause-length : goal.returns-clause-length
+unfolding hex
+returns-clause-length c = refl
+
+pub returns-clause-spelled : goal.returns-clause-spelled
+unfolding spelled hex
+returns-clause-spelled c = refl
+
+pub returns-clause-may_be : goal.returns-clause-may_be
+unfolding components parts
+returns-clause-may_be c = record {
+  home = record { names = refl; depth = omega arith; one = refl };
+  uid = omega arith;
+  gid = omega arith;
+  count = omega arith;
+  root = (omega arith, omega arith, omega arith);
+  rows = tt;
+}

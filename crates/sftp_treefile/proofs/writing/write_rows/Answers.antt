@@ -1,0 +1,23 @@
+-- Each entry can be written, and all are.
+use Rattle.std.proofs.Common.{[], ◌++◌, ap, sym, subst, ◌∙◌, length, List, arith}
+use Rattle.std.specs.List.{flat_map}
+use Rattle.std.proofs.lemmas.List.{take_all}
+use Rattle.sftp_treefile.specs.declared.files.Row.{Row}
+use Rattle.sftp_treefile.specs.TreeFile.{row_text, AreRows}
+use Rattle.sftp_treefile.specs.TreeFileParts.{head_text}
+use Rattle.sftp_treefile.proofs.FileTexts.{head_written}
+use Rattle.sftp_treefile.proofs.Written.{row_at_place}
+use Rattle.sftp_treefile.proofs.writing.write_rows.Goals as goal
+
+pub put_row-requires-clause-path : goal.put_row-requires-clause-path
+put_row-requires-clause-path c =
+    (row_at_place [] c.as_slice-row-items.result.now c.loop-row.row-index c.row-item.result (subst (AreRows []) (sym c.as_slice-row-items.ensures) c.requires.rows) c.loop-row-test.true c.row-item.is).0
+
+pub put_row-requires-clause-kind : goal.put_row-requires-clause-kind
+put_row-requires-clause-kind c =
+    (row_at_place [] c.as_slice-row-items.result.now c.loop-row.row-index c.row-item.result (subst (AreRows []) (sym c.as_slice-row-items.ensures) c.requires.rows) c.loop-row-test.true c.row-item.is).1
+
+pub returns : goal.returns
+returns c =
+    let all = take_all c.loop-row.row-index c.args.file.now.rows (omega (arith, c.loop-row-test.false, ap length c.as_slice-row-items.ensures)) in
+    c.loop-row.invariant ∙ ap (λ (rows : List Row). head_text c.args.file.now ++ flat_map row_text rows) all ∙ sym (head_written c.args.file.now)

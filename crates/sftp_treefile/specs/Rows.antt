@@ -1,0 +1,27 @@
+-- What the worked rows speak of.
+use Rattle.std.specs.Prelude.{ℕ, List, [], ◌∷◌, codes}
+use Rattle.sftp_wire.specs.Rows.{hex}
+use Rattle.sftp_treefile.specs.declared.files.Kind.TheVariants.{Dir, Link}
+use Rattle.sftp_treefile.specs.declared.files.TreeFile.{TreeFile}
+
+-- the root alone, which is the home
+abbrev pub blank : TreeFile
+blank = record { home = codes "/"; uid = 0; gid = 0; root = record { uid = 0; gid = 0; permissions = 0o755 }; rows = [] }
+
+abbrev pub blank_bytes : List ℕ
+blank_bytes = hex (codes "5346545245453031 00000001 2f 00000000 00000000 00000000 00000000 00000000 000001ed")
+
+-- `/d`, which is the home, `/d/e` and a link to it, `/l`; no two numbers are the same
+abbrev pub linked : TreeFile
+linked = record {
+  home = codes "/d";
+  uid = 1000;
+  gid = 100;
+  root = record { uid = 1; gid = 2; permissions = 0o1755 };
+  rows = record { path = codes "/d"; kind = Dir (record { uid = 3; gid = 4; permissions = 0o700 }) }
+      ∷ record { path = codes "/d/e"; kind = Dir (record { uid = 5; gid = 6; permissions = 0o7777 }) }
+      ∷ record { path = codes "/l"; kind = Link (codes "d/e") } ∷ [];
+}
+
+abbrev pub linked_bytes : List ℕ
+linked_bytes = hex (codes "5346545245453031 00000002 2f64 000003e8 00000064 00000003 00000001 00000002 000003ed 00000002 2f64 44 00000003 00000004 000001c0 00000004 2f642f65 44 00000005 00000006 00000fff 00000002 2f6c 4c 00000003 642f65")

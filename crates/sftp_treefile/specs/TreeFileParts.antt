@@ -1,0 +1,103 @@
+-- The parts of a tree file, as they are read one after the other.
+use Rattle.std.specs.Prelude.{◌≡◌, ℕ, ◌<◌, ◌≤◌, ◌^◌, ◌⊎◌, ◌↔◌, Bool, List, [], ◌++◌, length, take, IsTrue}
+use Rattle.std.specs.List.{flat_map, AllByRecursion}
+use Rattle.std.specs.declared.cmp.Ordering.TheVariants.{Less}
+use Rattle.sftp_wire.specs.Spelling.{uint32, string}
+use Rattle.sftp_path.specs.Place.{Place, place_cmp, parent}
+use Rattle.sftp_treefile.specs.declared.errors.TreeError.{TreeError}
+use Rattle.sftp_treefile.specs.declared.errors.TreeError.TheVariants.{Magic, Short, Trailing, Value, Order, Parent, NoMemory}
+use Rattle.sftp_treefile.specs.declared.files.Row.{Row}
+use Rattle.sftp_treefile.specs.declared.files.TreeFile.{TreeFile}
+use Rattle.sftp_treefile.specs.declared.heads.Head.{Head}
+use Rattle.sftp_treefile.specs.Limits.{usual_limits}
+use Rattle.sftp_treefile.specs.TreeFile.{tree_opening, owner_text, row_text, place_of, has_dir, is_target, are_bytes, IsPlaceText, IsOwner, AreRows}
+
+-- ---- reading a field
+
+-- what is read can be written, and stands in front of the rest
+abbrev pub Reads : {A : Type 0} → (A → Type 0) → (A → List ℕ) → List ℕ → A → List ℕ → Type 0
+Reads Fits text bytes value rest = Fits value × (bytes ≡ text value ++ rest)
+
+-- nothing that can be written stands in front
+abbrev pub ReadsNone : {A : Type 0} → (A → Type 0) → (A → List ℕ) → List ℕ → Type 0
+ReadsNone {A} Fits text bytes = (value : A) (rest : List ℕ) → Fits value → bytes ≡ text value ++ rest → ⊥
+
+-- memory ran out, or there is a fault
+abbrev pub OutOfMemoryOr : TreeError → Type 0 → Type 0
+OutOfMemoryOr error Fault = (error ≡ NoMemory) ⊎ Fault
+
+-- the fault is in this entry, unless memory ran out
+abbrev pub IsAt : ℕ → TreeError → Type 0
+IsAt entry (Magic n) = n ≡ entry
+IsAt entry (Short n) = n ≡ entry
+IsAt entry (Trailing n) = n ≡ entry
+IsAt entry (Value n) = n ≡ entry
+IsAt entry (Order n) = n ≡ entry
+IsAt entry (Parent n) = n ≡ entry
+IsAt entry NoMemory = Unit {0}
+
+-- the fault is in one of so many entries, unless memory ran out
+abbrev pub IsAmong : ℕ → TreeError → Type 0
+IsAmong count error = (n : ℕ) × (1 ≤ n) × (n ≤ count) × IsAt n error
+
+-- ---- fields
+
+abbrev pub IsNumber : ℕ → Type 0
+IsNumber n = n < 2 ^ 32
+
+abbrev pub IsPermissions : ℕ → Type 0
+IsPermissions n = n < 2 ^ 12
+
+abbrev pub IsCount : ℕ → Type 0
+IsCount n = n ≤ usual_limits.entries
+
+abbrev pub IsTarget : List ℕ → Type 0
+IsTarget target = IsTrue (is_target target) × IsTrue (are_bytes target)
+
+-- ---- the head
+
+abbrev pub head_bytes : Head → List ℕ
+head_bytes head = tree_opening ++ (string head.home ++ (uint32 head.uid ++ (uint32 head.gid ++ (uint32 head.count ++ owner_text head.root))))
+
+-- the opening, the home, and who owns what is made with no owner given
+abbrev pub front_text : TreeFile → List ℕ
+front_text file = tree_opening ++ (string file.home ++ (uint32 file.uid ++ uint32 file.gid))
+
+-- what stands before the entries
+abbrev pub head_text : TreeFile → List ℕ
+head_text file = front_text file ++ (uint32 (length file.rows) ++ owner_text file.root)
+
+pub record IsHead (head : Head) : Type 0 where
+  pub home : IsPlaceText head.home
+  pub uid : IsNumber head.uid
+  pub gid : IsNumber head.gid
+  pub count : IsCount head.count
+  pub root : IsOwner head.root
+
+-- ---- entries
+
+-- the path may be that of an entry behind these
+pub record Follows (earlier : List Row) (path : List ℕ) : Type 0 where
+  pub text : IsPlaceText path
+  pub below_root : 0 < length (place_of path)
+  pub later : AllByRecursion (λ (r : Row). place_cmp (place_of r.path) (place_of path) ≡ Less) earlier
+  pub parent : IsTrue (has_dir earlier (parent (place_of path)))
+
+-- what the place of the last entry, and whether that is a directory, say of all entries so far
+pub record IsLast (rows : List Row) (last : Place) (is_dir : Bool) : Type 0 where
+  -- what comes after the last comes after each
+  pub later : (place : Place) → 0 < length place → (place_cmp last place ≡ Less) ↔ AllByRecursion (λ (r : Row). place_cmp (place_of r.path) place ≡ Less) rows
+  -- what stands above the last is a directory
+  pub above : (depth : ℕ) → depth < length last → IsTrue (has_dir rows (take depth last))
+  -- whether the last is
+  pub itself : has_dir rows last ≡ is_dir
+
+-- so many entries are read, and the rest of the bytes is not
+pub record AreRead (bytes : List ℕ) (rows : List Row) (count : ℕ) (rest : List ℕ) : Type 0 where
+  pub rows_fit : AreRows [] rows
+  pub counted : length rows ≡ count
+  pub bytes_are : bytes ≡ flat_map row_text rows ++ rest
+
+-- no so many entries stand in front
+abbrev pub AreNone : ℕ → List ℕ → Type 0
+AreNone count bytes = (rows : List Row) (rest : List ℕ) → AreRows [] rows → length rows ≡ count → bytes ≡ flat_map row_text rows ++ rest → ⊥

@@ -1,0 +1,130 @@
+//! The fields of tree files, read one by one.
+ghost use Rattle.std.specs.Prelude.{◌≡◌, [], ◌∷◌, IfOk, IfErr, IsTrue};
+ghost use Rattle.sftp_wire.specs.Spelling.{uint32, string};
+ghost use Rattle.sftp_treefile.specs.TreeFile.{place_of, owner_text, kind_text, are_bytes, IsPlaceText, IsOwner, IsKind};
+ghost use Rattle.sftp_treefile.specs.TreeFileParts.{Reads, ReadsNone, OutOfMemoryOr, IsAt, IsNumber, IsPermissions, IsTarget};
+
+use crate::errors::TreeError;
+use crate::files::{Kind, Owner};
+use sftp_path::{DEPTH_LIMIT, Place, canonical, good_path};
+use sftp_wire::{ByteString, take_number, take_string};
+use std::alloc::Global;
+
+/// All the bits of permissions.
+const PERMISSIONS: u32 = 0o7777;
+
+/// The number in front, and what follows it.
+pub(crate) fn number_at(entry: u32, bytes: &[u8]) -> Result<(u32, &[u8]), TreeError>
+    ensures found { IfOk result (λ taken. Reads IsNumber uint32 bytes.now taken.0 taken.1.now) }
+    ensures none { IfErr result (λ _. ReadsNone IsNumber uint32 bytes.now) }
+    ensures number { IfErr result (IsAt entry) }
+{
+    take_number(bytes).ok_or(TreeError::Short { entry })
+}
+
+/// The permissions in front, and what follows them.
+fn permissions_at(entry: u32, bytes: &[u8]) -> Result<(u32, &[u8]), TreeError>
+    ensures found { IfOk result (λ taken. Reads IsPermissions uint32 bytes.now taken.0 taken.1.now) }
+    ensures none { IfErr result (λ _. ReadsNone IsPermissions uint32 bytes.now) }
+    ensures number { IfErr result (IsAt entry) }
+{
+    let (permissions, rest) = number_at(entry, bytes)?;
+    if permissions > PERMISSIONS {
+        return Err(TreeError::Value { entry });
+    }
+    Ok((permissions, rest))
+}
+
+/// The owner in front, and what follows it.
+pub(crate) fn owner_at(entry: u32, bytes: &[u8]) -> Result<(Owner, &[u8]), TreeError>
+    ensures found { IfOk result (λ taken. Reads IsOwner owner_text bytes.now taken.0 taken.1.now) }
+    ensures none { IfErr result (λ _. ReadsNone IsOwner owner_text bytes.now) }
+    ensures number { IfErr result (IsAt entry) }
+{
+    let (uid, rest) = number_at(entry, bytes)?;
+    let (gid, rest) = number_at(entry, rest)?;
+    let (permissions, rest) = permissions_at(entry, rest)?;
+    let owner = Owner {
+        uid,
+        gid,
+        permissions,
+    };
+    Ok((owner, rest))
+}
+
+/// The string in front that is the absolute text of a place, that place, and what follows the string.
+pub(crate) fn place_at<'a>(
+    alloc: Global,
+    entry: u32,
+    bytes: &'a [u8],
+) -> Result<(&'a [u8], Place, &'a [u8]), TreeError>
+    ensures found { IfOk result (λ taken. Reads IsPlaceText string bytes.now taken.0.now taken.2.now) }
+    ensures place { IfOk result (λ taken. taken.1 ≡ place_of taken.0.now) }
+    ensures none { IfErr result (λ error. OutOfMemoryOr error (ReadsNone IsPlaceText string bytes.now)) }
+    ensures number { IfErr result (IsAt entry) }
+{
+    let Some((text, rest)) = take_string(bytes) else {
+        return Err(TreeError::Short { entry });
+    };
+    let Some(names) = canonical(alloc, text)? else {
+        return Err(TreeError::Value { entry });
+    };
+    let place = Place::from_names(names);
+    if place.depth() > DEPTH_LIMIT {
+        return Err(TreeError::Value { entry });
+    }
+    Ok((text, place, rest))
+}
+
+/// Does nothing. Its contract says what every list of bytes keeps.
+fn see_bytes(bytes: &[u8])
+    ensures { IsTrue (are_bytes bytes.now) }
+{
+    let _ = bytes.len();
+}
+
+/// The target of a link in front, and what follows it.
+fn target_at(alloc: Global, entry: u32, bytes: &[u8]) -> Result<(ByteString, &[u8]), TreeError>
+    ensures found { IfOk result (λ taken. Reads IsTarget string bytes.now taken.0 taken.1.now) }
+    ensures none { IfErr result (λ error. OutOfMemoryOr error (ReadsNone IsTarget string bytes.now)) }
+    ensures number { IfErr result (IsAt entry) }
+{
+    let Some((target, rest)) = take_string(bytes) else {
+        return Err(TreeError::Short { entry });
+    };
+    if target.is_empty() || !good_path(target) {
+        return Err(TreeError::Value { entry });
+    }
+    see_bytes(target);
+    Ok((ByteString::from_slice(alloc, target)?, rest))
+}
+
+/// The letter in front, and what follows it.
+fn letter_at(entry: u32, bytes: &[u8]) -> Result<(u8, &[u8]), TreeError>
+    ensures found { IfOk result (λ taken. bytes.now ≡ taken.0 ∷ taken.1.now) }
+    ensures none { IfErr result (λ _. bytes.now ≡ []) }
+    ensures number { IfErr result (IsAt entry) }
+{
+    let (letter, rest) = bytes.split_first().ok_or(TreeError::Short { entry })?;
+    Ok((*letter, rest))
+}
+
+/// What the entry in front is, and what follows that.
+pub(crate) fn kind_at(alloc: Global, entry: u32, bytes: &[u8]) -> Result<(Kind, &[u8]), TreeError>
+    ensures found { IfOk result (λ taken. Reads IsKind kind_text bytes.now taken.0 taken.1.now) }
+    ensures none { IfErr result (λ error. OutOfMemoryOr error (ReadsNone IsKind kind_text bytes.now)) }
+    ensures number { IfErr result (IsAt entry) }
+{
+    let (letter, rest) = letter_at(entry, bytes)?;
+    match letter {
+        b'D' => {
+            let (owner, rest) = owner_at(entry, rest)?;
+            Ok((Kind::Dir(owner), rest))
+        }
+        b'L' => {
+            let (target, rest) = target_at(alloc, entry, rest)?;
+            Ok((Kind::Link(target), rest))
+        }
+        _ => Err(TreeError::Value { entry }),
+    }
+}

@@ -1,0 +1,78 @@
+//! What tree files say before their entries.
+ghost use Rattle.std.specs.Prelude.{◌≡◌, ◌++◌, ℕ, List, IfOk, IfErr};
+ghost use Rattle.sftp_wire.specs.Spelling.{uint32, string};
+ghost use Rattle.sftp_treefile.specs.TreeFile.{tree_opening, IsPlaceText};
+ghost use Rattle.sftp_treefile.specs.TreeFileParts.{Reads, ReadsNone, OutOfMemoryOr, IsAt, IsCount, head_bytes, IsHead};
+
+use crate::errors::TreeError;
+use crate::fields::{number_at, owner_at, place_at};
+use crate::files::Owner;
+use crate::limits::usual_limits;
+use sftp_wire::ByteString;
+use std::alloc::Global;
+
+/// What a tree file says before its entries.
+#[derive(Debug, Drop)]
+pub(crate) struct Head {
+    pub home: ByteString,
+    pub uid: u32,
+    pub gid: u32,
+    pub count: u32,
+    pub root: Owner,
+}
+
+/// What follows the opening.
+fn after_opening(bytes: &[u8]) -> Result<&[u8], TreeError>
+    ensures found { IfOk result (λ rest. bytes.now ≡ tree_opening ++ rest.now) }
+    ensures none { IfErr result (λ _. (rest : List ℕ) → bytes.now ≡ tree_opening ++ rest → ⊥) }
+    ensures number { IfErr result (IsAt 0) }
+{
+    bytes
+        .strip_prefix(b"SFTREE01")
+        .ok_or(TreeError::Magic { entry: 0 })
+}
+
+/// The home in front, and what follows it.
+fn home_at(alloc: Global, bytes: &[u8]) -> Result<(ByteString, &[u8]), TreeError>
+    ensures found { IfOk result (λ taken. Reads IsPlaceText string bytes.now taken.0 taken.1.now) }
+    ensures none { IfErr result (λ error. OutOfMemoryOr error (ReadsNone IsPlaceText string bytes.now)) }
+    ensures number { IfErr result (IsAt 0) }
+{
+    let (text, _, rest) = place_at(alloc, 0, bytes)?;
+    Ok((ByteString::from_slice(alloc, text)?, rest))
+}
+
+/// The number of entries in front, and what follows it.
+fn count_at(bytes: &[u8]) -> Result<(u32, &[u8]), TreeError>
+    ensures found { IfOk result (λ taken. Reads IsCount uint32 bytes.now taken.0 taken.1.now) }
+    ensures none { IfErr result (λ _. ReadsNone IsCount uint32 bytes.now) }
+    ensures number { IfErr result (IsAt 0) }
+{
+    let (count, rest) = number_at(0, bytes)?;
+    if count > usual_limits().entries {
+        return Err(TreeError::Value { entry: 0 });
+    }
+    Ok((count, rest))
+}
+
+/// What stands before the entries, and what follows it.
+pub(crate) fn head_at(alloc: Global, bytes: &[u8]) -> Result<(Head, &[u8]), TreeError>
+    ensures found { IfOk result (λ taken. Reads IsHead head_bytes bytes.now taken.0 taken.1.now) }
+    ensures none { IfErr result (λ error. OutOfMemoryOr error (ReadsNone IsHead head_bytes bytes.now)) }
+    ensures number { IfErr result (IsAt 0) }
+{
+    let rest = after_opening(bytes)?;
+    let (home, rest) = home_at(alloc, rest)?;
+    let (uid, rest) = number_at(0, rest)?;
+    let (gid, rest) = number_at(0, rest)?;
+    let (count, rest) = count_at(rest)?;
+    let (root, rest) = owner_at(0, rest)?;
+    let head = Head {
+        home,
+        uid,
+        gid,
+        count,
+        root,
+    };
+    Ok((head, rest))
+}

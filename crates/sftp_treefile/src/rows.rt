@@ -1,0 +1,19 @@
+//! Worked rows of the definitions, computed by the checker. The functions do nothing; each promise is in the
+//! contract.
+ghost use Rattle.std.specs.Prelude.{◌≡◌, ℕ, List, length};
+ghost use Rattle.sftp_treefile.specs.TreeFile.{IsTreeFile, IsSpelled, spelled};
+ghost use Rattle.sftp_treefile.specs.Rows.{blank, blank_bytes, linked, linked_bytes};
+
+/// The blank tree: its home is the root, which has uid and gid 0 and permissions 0o755 and no entries, and uid
+/// and gid 0 own what is made with no owner given. Its file has 37 bytes.
+pub fn blank_file()
+    ensures length { length blank_bytes ≡ 37 }
+    ensures spelled { spelled blank ≡ blank_bytes }
+    ensures may_be { IsTreeFile blank }
+{}
+
+/// A directory, a directory in it, and a symbolic link to that: 92 bytes.
+pub fn linked_file()
+    ensures length { length linked_bytes ≡ 92 }
+    ensures spelled { IsSpelled linked linked_bytes }
+{}
