@@ -479,6 +479,3 @@ pub fn front(alloc: Global, bytes: &[u8], side: Side) -> Result<Option<(Packet, 
 {
     placed_front(alloc, bytes, side)
 }
-
-#[cfg(test)]
-mod tests;

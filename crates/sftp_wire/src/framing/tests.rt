@@ -1,208 +1,195 @@
 //! Streams that are written out by hand.
 use super::*;
-use crate::packets::{Ask, Request};
+use std::alloc::AllocError;
 use std::test::*;
 
 /// INIT of version 3, with no extensions.
-const INIT: [u8; 9] = [0x00, 0x00, 0x00, 0x05, 0x01, 0x00, 0x00, 0x00, 0x03];
+const INIT: &[u8] = b"\0\0\0\x05\x01\0\0\0\x03";
+
+const INIT_WORDS: &str = "Ok(Some(Init { version: 3, extensions: Pairs { pairs: [] } }))";
 
 /// MKDIR of "/a" with the id 1 and no attributes, and the first five bytes of what follows it.
-const MKDIR_AND_MORE: [u8; 24] = [
-    0x00, 0x00, 0x00, 0x0f, 0x0e, 0x00, 0x00, 0x00, 0x01, 0x00, 0x00, 0x00, 0x02, 0x2f, 0x61, 0x00,
-    0x00, 0x00, 0x00, 0x00, 0x00, 0x00, 0x05, 0x01,
+const MKDIR_AND_MORE: &[u8] = b"\0\0\0\x0f\x0e\0\0\0\x01\0\0\0\x02/a\0\0\0\0\0\0\0\x05\x01";
+
+const MKDIR: &[u8] = b"\0\0\0\x0f\x0e\0\0\0\x01\0\0\0\x02/a\0\0\0\0";
+
+const MKDIR_WORDS: &str =
+    "Ok(Some(Request(Request { id: 1, ask: Mkdir { path: ByteString { bytes: [47, 97] }, \
+    attrs: Attrs { size: None, owner: None, permissions: None, times: None, extended: None } } })))";
+
+const WAITING: &str = "Ok(None)";
+
+/// A call of a buffer, and what it has to give.
+#[derive(Clone, Copy)]
+enum Call<'a> {
+    /// So many of the bytes are taken.
+    Push(&'a [u8], usize),
+    /// The words of `{:?}`.
+    Next(&'a str),
+    Room(usize),
+    Lent(Option<&'a [u8]>),
+}
+
+/// What is taken out of the buffer, in the words of `{:?}`.
+fn given(alloc: Global, frames: &mut FrameBuf) -> Result<String, AllocError> {
+    let given = frames.next(Side::Client);
+    let words = format!(in alloc; "{given:?}");
+    drop(given);
+    words
+}
+
+/// Whether a call gives what it has to.
+fn holds(alloc: Global, frames: &mut FrameBuf, call: &Call) -> Result<bool, AllocError> {
+    Ok(match call {
+        Call::Push(bytes, taken) => frames.push(bytes) == *taken,
+        Call::Next(words) => given(alloc, frames)?.as_str() == *words,
+        Call::Room(room) => frames.room() == *room,
+        Call::Lent(bytes) => frames.lent() == *bytes,
+    })
+}
+
+/// The first of these calls that does not give what it has to.
+fn first_wrong(
+    alloc: Global,
+    frames: &mut FrameBuf,
+    calls: &[Call],
+) -> Result<Option<usize>, AllocError> {
+    for (index, call) in calls.iter().enumerate() {
+        if !holds(alloc, frames, call)? {
+            return Ok(Some(index));
+        }
+    }
+    Ok(None)
+}
+
+/// INIT comes byte by byte.
+const BYTES: &[Call] = &[
+    Call::Next(WAITING),
+    Call::Room(34_000),
+    Call::Push(b"\0", 1),
+    Call::Next(WAITING),
+    Call::Push(b"\0", 1),
+    Call::Next(WAITING),
+    Call::Push(b"\0", 1),
+    Call::Next(WAITING),
+    Call::Push(b"\x05", 1),
+    Call::Next(WAITING),
+    Call::Room(33_996),
+    Call::Push(b"\x01", 1),
+    Call::Next(WAITING),
+    Call::Push(b"\0", 1),
+    Call::Next(WAITING),
+    Call::Push(b"\0", 1),
+    Call::Next(WAITING),
+    Call::Push(b"\0", 1),
+    Call::Next(WAITING),
+    Call::Lent(None),
+    Call::Room(33_992),
+    Call::Push(b"\x03", 1),
+    Call::Lent(Some(INIT)),
+    Call::Next(INIT_WORDS),
+    Call::Next(WAITING),
+    Call::Room(34_000),
 ];
 
-fn empty(rt: &HostRuntime) -> Result<FrameBuf, &'static str> {
-    FrameBuf::new(rt.alloc()).ok().ok_or("no memory")
-}
+const NO_LENGTH: &[Call] = &[
+    Call::Push(b"\0\0\0\0", 4),
+    Call::Lent(None),
+    Call::Next("Err(Unreadable { fault: Length, place: 0 })"),
+];
 
-fn is_waiting(frames: &mut FrameBuf) -> bool {
-    matches!(frames.next(Side::Client), Ok(None)) && frames.lent().is_none()
-}
+const LONGEST: &[Call] = &[
+    Call::Push(b"\0\0\x84\xcc", 4),
+    Call::Lent(None),
+    Call::Next(WAITING),
+];
 
-fn is_init(frames: &mut FrameBuf) -> bool {
-    match frames.next(Side::Client) {
-        Ok(
-            Some(
-                Packet::Init {
-                    version,
-                    extensions,
-                },
-            ),
-        ) => version == 3 && extensions.as_slice().is_empty(),
-        _ => false,
+const LONGER: &[Call] = &[
+    Call::Push(b"\0\0\x84\xcd", 4),
+    Call::Lent(None),
+    Call::Next("Err(Unreadable { fault: Length, place: 0 })"),
+];
+
+const OPEN_WITHOUT_ITS_ID: &[Call] = &[
+    Call::Push(b"\0\0\0\x01\x03", 5),
+    Call::Lent(Some(b"\0\0\0\x01\x03")),
+    Call::Next("Err(Unreadable { fault: Short, place: 0 })"),
+    Call::Lent(None),
+    Call::Room(0),
+];
+
+/// A whole packet and five bytes of the next one.
+const MORE_THAN_A_PACKET: &[Call] = &[
+    Call::Push(MKDIR_AND_MORE, 24),
+    Call::Lent(Some(MKDIR)),
+    Call::Next(MKDIR_WORDS),
+    Call::Lent(None),
+    Call::Next(WAITING),
+    Call::Room(33_995),
+];
+
+/// A fault stands at its packet for good, and nothing more is taken.
+const WRONG_TYPE_BEHIND_INIT: &[Call] = &[
+    Call::Push(INIT, 9),
+    Call::Push(b"\0\0\0\x01\x63", 5),
+    Call::Next(INIT_WORDS),
+    Call::Next("Err(Unreadable { fault: WrongType, place: 9 })"),
+    Call::Next("Err(Unreadable { fault: WrongType, place: 9 })"),
+    Call::Room(0),
+    Call::Push(INIT, 0),
+    Call::Lent(None),
+    Call::Next("Err(Unreadable { fault: WrongType, place: 9 })"),
+];
+
+/// INIT, MKDIR, and then REMOVE of "/a" and one byte more, in two pieces.
+const TRAILING_BEHIND_MKDIR: &[Call] = &[
+    Call::Push(INIT, 9),
+    Call::Push(MKDIR, 19),
+    Call::Next(INIT_WORDS),
+    Call::Next(MKDIR_WORDS),
+    Call::Push(b"\0\0\0\x0c\x0d\0\0\0\x01\0\0\0\x02", 13),
+    Call::Next(WAITING),
+    Call::Push(b"/a\0", 3),
+    Call::Next("Err(Unreadable { fault: Trailing, place: 28 })"),
+    Call::Next("Err(Unreadable { fault: Trailing, place: 28 })"),
+    Call::Room(0),
+    Call::Lent(None),
+];
+
+const UNKNOWN_EXTENSION_BEHIND_INIT: &[Call] = &[
+    Call::Push(INIT, 9),
+    Call::Push(b"\0\0\0\x0c\xc8\0\0\0\x02\0\0\0\x01xab", 16),
+    Call::Next(INIT_WORDS),
+    Call::Next(
+        "Ok(Some(Request(Request { id: 2, ask: Unknown { \
+        name: ByteString { bytes: [120] }, rest: ByteString { bytes: [97, 98] } } })))",
+    ),
+    Call::Next(WAITING),
+];
+
+const STREAMS: &[(&str, &[Call])] = &[
+    ("bytes", BYTES),
+    ("no length", NO_LENGTH),
+    ("longest", LONGEST),
+    ("longer", LONGER),
+    ("OPEN without its id", OPEN_WITHOUT_ITS_ID),
+    ("more than a packet", MORE_THAN_A_PACKET),
+    ("wrong type", WRONG_TYPE_BEHIND_INIT),
+    ("trailing", TRAILING_BEHIND_MKDIR),
+    ("unknown extension", UNKNOWN_EXTENSION_BEHIND_INIT),
+];
+
+#[test]
+fn streams_of_calls(rt: HostRuntime) -> Result<(), Fail> {
+    for (name, calls) in STREAMS {
+        let mut frames = FrameBuf::new(rt.alloc())?;
+        let wrong = first_wrong(rt.alloc(), &mut frames, calls)?;
+        assert!(rt; wrong.is_none(), "{name}: {wrong:?}");
     }
-}
-
-fn is_mkdir(frames: &mut FrameBuf) -> bool {
-    match frames.next(Side::Client) {
-        Ok(
-            Some(
-                Packet::Request(
-                    Request {
-                        id,
-                        ask: Ask::Mkdir { path, attrs: _ },
-                    },
-                ),
-            ),
-        ) => { id == 1 && path.as_slice() == b"/a".as_slice() }
-        _ => false,
-    }
-}
-
-fn is_fault(frames: &mut FrameBuf, expected: Fault, at: u64) -> bool {
-    match frames.next(Side::Client) {
-        Err(WireError::Unreadable { fault, place }) => fault == expected && place == at,
-        _ => false,
-    }
-}
-
-#[test]
-fn a_packet_comes_byte_by_byte(rt: HostRuntime) -> Result<(), Fail> {
-    let mut frames = empty(&rt)?;
-    for (index, byte) in INIT.iter().enumerate() {
-        assert!(rt; is_waiting(&mut frames));
-        assert_eq!(rt; frames.room(), 34_000 - index);
-        assert_eq!(rt; frames.push(&[*byte]), 1);
-    }
-    assert!(rt; is_init(&mut frames));
-    assert!(rt; is_waiting(&mut frames));
-    assert_eq!(rt; frames.room(), 34_000);
     Ok(())
 }
 
-#[test]
-fn lengths_out_of_range_are_told_at_once(rt: HostRuntime) -> Result<(), Fail> {
-    let mut none = empty(&rt)?;
-    assert_eq!(rt; none.push(&[0x00, 0x00, 0x00, 0x00]), 4);
-    assert!(rt; none.lent().is_none());
-    assert!(rt; is_fault(&mut none, Fault::Length, 0));
-    let mut longest = empty(&rt)?;
-    assert_eq!(rt; longest.push(&[0x00, 0x00, 0x84, 0xcc]), 4);
-    assert!(rt; is_waiting(&mut longest));
-    let mut longer = empty(&rt)?;
-    assert_eq!(rt; longer.push(&[0x00, 0x00, 0x84, 0xcd]), 4);
-    assert!(rt; longer.lent().is_none());
-    assert!(rt; is_fault(&mut longer, Fault::Length, 0));
-    Ok(())
-}
-
-#[test]
-fn more_than_a_packet_comes_at_once(rt: HostRuntime) -> Result<(), Fail> {
-    let mut frames = empty(&rt)?;
-    assert_eq!(rt; frames.push(&MKDIR_AND_MORE), 24);
-    let lent = frames.lent().ok_or("nothing is lent")?;
-    assert!(rt; lent == &MKDIR_AND_MORE[..19]);
-    assert!(rt; is_mkdir(&mut frames));
-    assert!(rt; is_waiting(&mut frames));
-    assert_eq!(rt; frames.room(), 33_995);
-    Ok(())
-}
-
-#[test]
-fn a_fault_stands_at_its_packet(rt: HostRuntime) -> Result<(), Fail> {
-    let mut frames = empty(&rt)?;
-    assert_eq!(rt; frames.push(&INIT), 9);
-    assert_eq!(rt; frames.push(&[0x00, 0x00, 0x00, 0x01, 0x63]), 5);
-    assert!(rt; is_init(&mut frames));
-    assert!(rt; is_fault(&mut frames, Fault::WrongType, 9));
-    assert!(rt; is_fault(&mut frames, Fault::WrongType, 9));
-    assert_eq!(rt; frames.room(), 0);
-    assert_eq!(rt; frames.push(&INIT), 0);
-    assert!(rt; frames.lent().is_none());
-    assert!(rt; is_fault(&mut frames, Fault::WrongType, 9));
-    Ok(())
-}
-
-#[test]
-fn no_more_is_held_than_the_limit(rt: HostRuntime) -> Result<(), Fail> {
-    let mut frames = empty(&rt)?;
-    for _ in 0..3777 {
-        assert_eq!(rt; frames.push(&INIT), 9);
-    }
-    assert_eq!(rt; frames.room(), 7);
-    assert_eq!(rt; frames.push(&INIT), 7);
-    assert_eq!(rt; frames.push(&INIT), 0);
-    for _ in 0..3777 {
-        assert!(rt; is_init(&mut frames));
-    }
-    assert_eq!(rt; frames.room(), 33_993);
-    assert_eq!(rt; frames.push(&INIT[7..]), 2);
-    assert!(rt; is_init(&mut frames));
-    Ok(())
-}
-
-#[test]
-fn a_long_stream_goes_through(rt: HostRuntime) -> Result<(), Fail> {
-    let mut frames = empty(&rt)?;
-    for _ in 0..20_000 {
-        assert_eq!(rt; frames.push(&INIT), 9);
-        assert!(rt; is_init(&mut frames));
-    }
-    assert_eq!(rt; frames.push(&[0x00, 0x00, 0x00, 0x00]), 4);
-    assert!(rt; is_fault(&mut frames, Fault::Length, 180_000));
-    Ok(())
-}
-
-#[test]
-fn a_packet_without_its_id_is_short(rt: HostRuntime) -> Result<(), Fail> {
-    let mut frames = empty(&rt)?;
-    assert_eq!(rt; frames.push(&[0x00, 0x00, 0x00, 0x01, 0x03]), 5);
-    assert!(rt; frames.lent().is_some());
-    assert!(rt; is_fault(&mut frames, Fault::Short, 0));
-    assert!(rt; frames.lent().is_none());
-    assert_eq!(rt; frames.room(), 0);
-    Ok(())
-}
-
-#[test]
-fn a_fault_carries_the_place_of_its_packet(rt: HostRuntime) -> Result<(), Fail> {
-    let mut frames = empty(&rt)?;
-    assert_eq!(rt; frames.push(&INIT), 9);
-    assert_eq!(rt; frames.push(&MKDIR_AND_MORE[..19]), 19);
-    assert!(rt; is_init(&mut frames));
-    assert!(rt; is_mkdir(&mut frames));
-    // REMOVE of "/a" and one byte more, in two pieces.
-    assert_eq!(rt; frames.push(b"\0\0\0\x0c\x0d\0\0\0\x01\0\0\0\x02"), 13);
-    assert!(rt; is_waiting(&mut frames));
-    assert_eq!(rt; frames.push(b"/a\0"), 3);
-    assert!(rt; is_fault(&mut frames, Fault::Trailing, 28));
-    assert!(rt; is_fault(&mut frames, Fault::Trailing, 28));
-    assert_eq!(rt; frames.room(), 0);
-    assert!(rt; frames.lent().is_none());
-    Ok(())
-}
-
-fn is_unknown(frames: &mut FrameBuf) -> bool {
-    match frames.next(Side::Client) {
-        Ok(
-            Some(
-                Packet::Request(
-                    Request {
-                        id,
-                        ask: Ask::Unknown { name, rest },
-                    },
-                ),
-            ),
-        ) => {
-            id == 2 && name.as_slice() == b"x".as_slice() && rest.as_slice() == b"ab".as_slice()
-        }
-        _ => false,
-    }
-}
-
-#[test]
-fn an_unknown_extension_comes_behind_init(rt: HostRuntime) -> Result<(), Fail> {
-    let mut frames = empty(&rt)?;
-    assert_eq!(rt; frames.push(&INIT), 9);
-    assert_eq!(rt; frames.push(b"\0\0\0\x0c\xc8\0\0\0\x02\0\0\0\x01xab"), 16);
-    assert!(rt; is_init(&mut frames));
-    assert!(rt; is_unknown(&mut frames));
-    assert!(rt; is_waiting(&mut frames));
-    Ok(())
-}
-
-/// CLOSE with that id, of the empty handle.
+/// The bytes of CLOSE with that id, of the empty handle.
 fn close(id: u32) -> [u8; 13] {
     let [first, second, third, fourth] = id.to_be_bytes();
     [
@@ -210,40 +197,82 @@ fn close(id: u32) -> [u8; 13] {
     ]
 }
 
-fn is_close(frames: &mut FrameBuf, expected: u32) -> bool {
-    match frames.next(Side::Client) {
-        Ok(
-            Some(
-                Packet::Request(
-                    Request {
-                        id,
-                        ask: Ask::Close { handle },
-                    },
-                ),
-            ),
-        ) => id == expected && handle.as_slice().is_empty(),
-        _ => false,
+/// Whether the buffer takes CLOSE with each of the ids from 0 on that it has room for: 2,615 packets of 13 bytes.
+fn is_filled(frames: &mut FrameBuf) -> bool {
+    for id in 0..2615_u32 {
+        if frames.push(&close(id)) != 13 {
+            return false;
+        }
     }
+    frames.room() == 5
 }
 
-/// The buffer is filled with 2,615 packets of 13 bytes. Then one goes in for each one that comes out, until the bytes
-/// have moved to the front many times, and the rest comes out.
+/// Whether CLOSE with that id comes out.
+fn is_close(alloc: Global, frames: &mut FrameBuf, id: u32) -> Result<bool, AllocError> {
+    let words = format!(in alloc;
+        "Ok(Some(Request(Request {{ id: {id}, \
+        ask: Close {{ handle: ByteString {{ bytes: [] }} }} }})))"
+    )?;
+    Ok(given(alloc, frames)?.as_str() == words.as_str())
+}
+
+/// Whether CLOSE comes out with each of 2,615 ids, from that one on.
+fn is_emptied(alloc: Global, frames: &mut FrameBuf, first: u32) -> Result<bool, AllocError> {
+    for count in 0..2615_u32 {
+        if !is_close(alloc, frames, first.saturating_add(count))? {
+            return Ok(false);
+        }
+    }
+    Ok(true)
+}
+
+/// Five bytes of INIT go into the full buffer, and the others once it is empty.
+#[test]
+fn no_more_is_held_than_the_limit(rt: HostRuntime) -> Result<(), Fail> {
+    let alloc = rt.alloc();
+    let mut frames = FrameBuf::new(alloc)?;
+    assert!(rt; is_filled(&mut frames));
+    let full = [Call::Push(INIT, 5), Call::Room(0), Call::Push(INIT, 0)];
+    assert!(rt; first_wrong(alloc, &mut frames, &full)?.is_none());
+    assert!(rt; is_emptied(alloc, &mut frames, 0)?);
+    assert!(rt; first_wrong(alloc, &mut frames, REST_OF_INIT)?.is_none());
+    Ok(())
+}
+
+const REST_OF_INIT: &[Call] = &[
+    Call::Next(WAITING),
+    Call::Room(33_995),
+    Call::Push(b"\0\0\0\x03", 4),
+    Call::Next(INIT_WORDS),
+    Call::Room(34_000),
+];
+
+/// Whether CLOSE with that id comes out of the full buffer, and one with a later id goes in behind the others.
+fn passes_close(alloc: Global, frames: &mut FrameBuf, id: u32) -> Result<bool, AllocError> {
+    Ok(
+        is_close(alloc, frames, id)?
+            && frames.room() == 18
+            && frames.push(&close(id.saturating_add(2615))) == 13,
+    )
+}
+
+/// The fault stands behind 22,615 packets of 13 bytes.
+const FAULT_BEHIND_ALL: &[Call] = &[
+    Call::Room(34_000),
+    Call::Push(b"\0\0\0\0", 4),
+    Call::Next("Err(Unreadable { fault: Length, place: 293995 })"),
+];
+
+/// The bytes move to the front many times, and then the rest comes out.
 #[test]
 fn packets_come_in_order_through_a_full_buffer(rt: HostRuntime) -> Result<(), Fail> {
-    let mut frames = empty(&rt)?;
-    for id in 0..2615_u32 {
-        assert_eq!(rt; frames.push(&close(id)), 13);
-    }
-    assert_eq!(rt; frames.room(), 5);
+    let alloc = rt.alloc();
+    let mut frames = FrameBuf::new(alloc)?;
+    assert!(rt; is_filled(&mut frames));
     for id in 0..20_000_u32 {
-        assert!(rt; is_close(&mut frames, id));
-        assert_eq!(rt; frames.room(), 18);
-        assert_eq!(rt; frames.push(&close(id + 2615)), 13);
+        assert!(rt; passes_close(alloc, &mut frames, id)?, "packet {id}");
     }
-    for id in 20_000..22_615_u32 {
-        assert!(rt; is_close(&mut frames, id));
-    }
-    assert!(rt; is_waiting(&mut frames));
-    assert_eq!(rt; frames.room(), 34_000);
+    assert!(rt; is_emptied(alloc, &mut frames, 20_000)?);
+    assert!(rt; first_wrong(alloc, &mut frames, FAULT_BEHIND_ALL)?.is_none());
     Ok(())
 }

@@ -1,151 +1,154 @@
 //! Packets that are not written, and the texts of errors.
 use super::*;
+use crate::Fault;
 use std::test::*;
 
-/// Whether a packet is refused with that error, and nothing is written.
-fn is_refused(alloc: Global, packet: Packet, expected: WireError) -> bool {
-    match Vec::from_slice(alloc, b"kept") {
-        Ok(mut out) => {
-            encode(&packet, &mut out) == Err(expected) && out.as_slice() == b"kept".as_slice()
-        }
-        Err(_) => false,
+/// The bytes in front of which a refused packet leaves nothing.
+const KEPT: &[u8] = b"kept";
+
+fn kept(alloc: Global) -> Result<Vec<u8>, AllocError> {
+    Vec::from_slice(alloc, KEPT)
+}
+
+/// Whether a packet is refused with that error, and the bytes stay as they were.
+fn is_refused(kept: Vec<u8>, packet: Packet, expected: WireError) -> bool {
+    let (said, out) = written(kept, packet);
+    said == Err(expected) && out.as_slice() == KEPT
+}
+
+/// The requests that hold a handle, by their types; FSYNC where it is the type of extensions.
+fn with_handle(alloc: Global, kind: u8, handle: ByteString) -> Ask {
+    match kind {
+        4 => Ask::Close { handle },
+        5 => Ask::Read {
+            handle,
+            offset: 0,
+            len: 1,
+        },
+        6 => Ask::Write {
+            handle,
+            offset: 0,
+            bytes: ByteString::new(Vec::new(alloc)),
+        },
+        8 => Ask::Fstat { handle },
+        10 => Ask::Fsetstat {
+            handle,
+            attrs: no_attributes(),
+        },
+        12 => Ask::Readdir { handle },
+        _ => Ask::Fsync { handle },
     }
 }
 
-/// A byte string of so many bytes.
-fn long(alloc: Global, length: usize) -> Result<ByteString, AllocError> {
-    Ok(ByteString::new(vec![in alloc; b'h'; length]?))
-}
-
-/// Whether what is asked is refused as too long.
-fn is_too_long(alloc: Global, ask: Ask) -> bool {
-    is_refused(alloc, request(1, ask), WireError::TooLong)
-}
-
+/// Handles of 257 bytes, and a packet of 34,001.
 #[test]
-fn short_requests_with_handles_of_257_bytes(rt: HostRuntime) -> Result<(), Fail> {
+fn too_long(rt: HostRuntime) -> Result<(), Fail> {
     let alloc = rt.alloc();
-    let handle = long(alloc, 257)?;
-    assert!(rt; is_too_long(alloc, Ask::Close { handle }));
-    let handle = long(alloc, 257)?;
-    assert!(rt; is_too_long(alloc, Ask::Fstat { handle }));
-    let handle = long(alloc, 257)?;
-    assert!(rt; is_too_long(alloc, Ask::Readdir { handle }));
-    let handle = long(alloc, 257)?;
-    assert!(rt; is_too_long(alloc, Ask::Fsync { handle }));
-    Ok(())
-}
-
-#[test]
-fn longer_packets_with_handles_of_257_bytes(rt: HostRuntime) -> Result<(), Fail> {
-    let alloc = rt.alloc();
-    let handle = long(alloc, 257)?;
-    assert!(rt;
-        is_too_long(
-            alloc,
-            Ask::Read {
-                handle,
-                offset: 0,
-                len: 1,
-            }
-        )
-    );
-    let handle = long(alloc, 257)?;
-    let bytes = text(alloc, b"a")?;
-    assert!(rt;
-        is_too_long(
-            alloc,
-            Ask::Write {
-                handle,
-                offset: 0,
-                bytes,
-            }
-        )
-    );
-    let handle = long(alloc, 257)?;
-    let attrs = no_attributes();
-    assert!(rt; is_too_long(alloc, Ask::Fsetstat { handle, attrs }));
-    let given = long(alloc, 257)?;
-    assert!(rt; is_refused(alloc, reply(1, Answer::Handle(given)), WireError::TooLong));
-    Ok(())
-}
-
-/// 34,000 bytes are written, and one more is refused.
-#[test]
-fn packets_of_34_001_bytes(rt: HostRuntime) -> Result<(), Fail> {
-    let alloc = rt.alloc();
-    let mut bytes = Vec::from_slice(alloc, b"\0\0\x84\xcc\x67\0\0\0\x01\0\0\x84\xc3")?;
-    bytes.extend_from_slice(vec![in alloc; b'h'; 33_987]?.as_slice())?;
-    assert_eq!(rt; bytes.len(), 34_000);
-    let longest = long(alloc, 33_987)?;
-    assert!(rt; is_reply(alloc, 1, Answer::Data(longest), bytes.as_slice()));
-    let longer = long(alloc, 33_988)?;
-    assert!(rt; is_refused(alloc, reply(1, Answer::Data(longer)), WireError::TooLong));
+    for kind in [4, 5, 6, 8, 10, 12, 200_u8] {
+        let before = kept(alloc)?;
+        let ask = with_handle(alloc, kind, long(alloc, 257)?);
+        assert!(rt;
+            is_refused(before, request(1, ask), WireError::TooLong),
+            "type {kind}"
+        );
+    }
+    let before = kept(alloc)?;
+    let answer = Answer::Handle(long(alloc, 257)?);
+    assert!(rt; is_refused(before, reply(1, answer), WireError::TooLong));
+    let before = kept(alloc)?;
+    let answer = Answer::Data(long(alloc, 33_988)?);
+    assert!(rt; is_refused(before, reply(1, answer), WireError::TooLong));
     Ok(())
 }
 
 /// Whether a request for the extension of that name, as if it were not known, is refused with that error.
-fn is_hidden(alloc: Global, name: ByteString, rest: ByteString, expected: WireError) -> bool {
-    is_refused(alloc, request(1, Ask::Unknown { name, rest }), expected)
+fn is_hidden(
+    alloc: Global,
+    name: &[u8],
+    length: usize,
+    expected: WireError,
+) -> Result<bool, AllocError> {
+    let before = kept(alloc)?;
+    let name = text(alloc, name)?;
+    let rest = long(alloc, length)?;
+    Ok(is_refused(before, request(1, Ask::Unknown { name, rest }), expected))
 }
+
+/// Names of known extensions, so many bytes behind them, and the error. As an unknown one such a packet is not
+/// canonical, up to the longest packet. One byte more is too long first.
+const HIDDEN: &[(&[u8], usize, WireError)] = &[
+    (b"posix-rename@openssh.com", 5, WireError::NotCanonical),
+    (b"hardlink@openssh.com", 5, WireError::NotCanonical),
+    (b"fsync@openssh.com", 5, WireError::NotCanonical),
+    (b"fsync@openssh.com", 33_970, WireError::NotCanonical),
+    (b"fsync@openssh.com", 33_971, WireError::TooLong),
+];
 
 #[test]
 fn known_extensions_as_unknown_ones(rt: HostRuntime) -> Result<(), Fail> {
-    let alloc = rt.alloc();
-    for known in [
-        b"posix-rename@openssh.com".as_slice(),
-        b"hardlink@openssh.com".as_slice(),
-        b"fsync@openssh.com".as_slice(),
-    ] {
-        let name = text(alloc, known)?;
-        let rest = text(alloc, b"\0\0\0\x01h")?;
-        assert!(rt; is_hidden(alloc, name, rest, WireError::NotCanonical));
+    for (name, length, expected) in HIDDEN {
+        assert!(rt;
+            is_hidden(rt.alloc(), name, *length, *expected)?,
+            "{name:?} and {length} bytes"
+        );
     }
     Ok(())
 }
 
-#[test]
-fn too_long_before_not_canonical(rt: HostRuntime) -> Result<(), Fail> {
-    let alloc = rt.alloc();
-    let name = text(alloc, b"fsync@openssh.com")?;
-    let rest = long(alloc, 33_970)?;
-    assert!(rt; is_hidden(alloc, name, rest, WireError::NotCanonical));
-    let name = text(alloc, b"fsync@openssh.com")?;
-    let rest = long(alloc, 33_971)?;
-    assert!(rt; is_hidden(alloc, name, rest, WireError::TooLong));
-    Ok(())
-}
+/// Errors and their texts.
+const TEXTS: &[(WireError, &str)] = &[
+    (
+        WireError::Unreadable {
+            fault: Fault::Length,
+            place: 0,
+        },
+        "Length at 0",
+    ),
+    (
+        WireError::Unreadable {
+            fault: Fault::WrongType,
+            place: 0,
+        },
+        "Type at 0",
+    ),
+    (
+        WireError::Unreadable {
+            fault: Fault::Short,
+            place: 28,
+        },
+        "Short at 28",
+    ),
+    (
+        WireError::Unreadable {
+            fault: Fault::Trailing,
+            place: 0,
+        },
+        "Trailing at 0",
+    ),
+    (
+        WireError::Unreadable {
+            fault: Fault::Flags,
+            place: 0,
+        },
+        "Flags at 0",
+    ),
+    (
+        WireError::Unreadable {
+            fault: Fault::HandleTooLong,
+            place: 18_446_744_073_709_551_615,
+        },
+        "HandleTooLong at 18446744073709551615",
+    ),
+    (WireError::TooLong, "TooLong"),
+    (WireError::NotCanonical, "NotCanonical"),
+    (WireError::NoMemory, "NoMemory"),
+];
 
 #[test]
 fn texts(rt: HostRuntime) -> Result<(), Fail> {
-    let alloc = rt.alloc();
-    for (fault, expected) in [
-        (Fault::Length, "Length at 0"),
-        (Fault::WrongType, "Type at 0"),
-        (Fault::Short, "Short at 0"),
-        (Fault::Trailing, "Trailing at 0"),
-        (Fault::Flags, "Flags at 0"),
-        (Fault::HandleTooLong, "HandleTooLong at 0"),
-    ] {
-        let error = WireError::Unreadable { fault, place: 0 };
-        let told = format!(in alloc; "{error}")?;
-        assert_eq!(rt; told.as_str(), expected);
-        let kind = format!(in alloc; "{fault} at 0")?;
-        assert_eq!(rt; kind.as_str(), expected);
-    }
-    let late = WireError::Unreadable {
-        fault: Fault::Short,
-        place: 18_446_744_073_709_551_615,
-    };
-    let told = format!(in alloc; "{late}")?;
-    assert_eq!(rt; told.as_str(), "Short at 18446744073709551615");
-    for (error, expected) in [
-        (WireError::TooLong, "TooLong"),
-        (WireError::NotCanonical, "NotCanonical"),
-        (WireError::NoMemory, "NoMemory"),
-    ] {
-        let told = format!(in alloc; "{error}")?;
-        assert_eq!(rt; told.as_str(), expected);
+    for (error, expected) in TEXTS {
+        let text = format!(in rt.alloc(); "{error}")?;
+        assert!(rt; text.as_str() == *expected, "{expected}");
     }
     Ok(())
 }
