@@ -1,8 +1,8 @@
 //! Packets as bytes (draft, sections 3 to 8). A private function may leave part of what it writes behind
 //! after an error: `encode` takes it away.
-ghost use Rattle.std.specs.Prelude.{◌≡◌, ◌∷◌, ◌++◌, ◌<◌, ◌^◌, ◌↔◌, ◌⊎◌, length, OnOk, OnErr, IfErr, IsErrOf};
+ghost use Rattle.std.specs.Prelude.{◌≡◌, ◌∷◌, ◌++◌, ◌<◌, ◌^◌, ◌↔◌, ◌⊎◌, length, IsSome, OnOk, OnErr, IfErr, IsErrOf};
 ghost use Rattle.std.specs.List.{flat_map};
-ghost use Rattle.sftp_wire.specs.Spelling.{uint32, uint64, two_uint32, string, pair, pairs, counted_pairs, optional, attribute_flags, attribute_fields, attributes, name_item, names, asked, answered, with_id, contents, spelling, HasSpelling};
+ghost use Rattle.sftp_wire.specs.Spelling.{uint32, uint64, two_uint32, string, pair, pairs, counted_pairs, optional, attribute_flags, attribute_fields, attributes, name_item, names, asked, asked_handle, answered, with_id, contents, spelling, HasSpelling};
 ghost use Rattle.sftp_wire.specs.Writing.{Extends, IsTooLong, IsNotCanonical};
 
 use crate::attributes::{AttrFlags, Attrs};
@@ -417,6 +417,33 @@ fn asked_type(ask: &Ask) -> u8
     }
 }
 
+/// What is asked through a handle, behind the request's id.
+fn put_fields_on_handle(out: &mut Vec<u8>, ask: &Ask) -> Result<(), AllocError>
+    requires on_handle { IsSome (asked_handle ask.now) }
+    requires within { length ((asked ask.now).1) < 2 ^ 32 }
+    ensures ok { OnOk result (out.new.items ≡ out.old.items ++ (asked ask.now).1) }
+    ensures err { OnErr result (Extends out.old.items out.new.items) }
+{
+    match ask {
+        Ask::Close { handle } | Ask::Fstat { handle } | Ask::Readdir { handle } => {
+            put_string(out, handle)
+        }
+        Ask::Read {
+            handle,
+            offset,
+            len,
+        } => put_read_fields(out, handle, *offset, *len),
+        Ask::Write {
+            handle,
+            offset,
+            bytes,
+        } => put_write_fields(out, handle, *offset, bytes),
+        Ask::Fsetstat { handle, attrs } => put_string_and_attributes(out, handle, attrs),
+        Ask::Fsync { handle } => put_handle_extension(out, FSYNC, handle),
+        _ => unreachable!(),
+    }
+}
+
 /// What is asked, behind the request's id.
 fn put_ask_fields(out: &mut Vec<u8>, ask: &Ask) -> Result<(), AllocError>
     requires { length ((asked ask.now).1) < 2 ^ 32 }
@@ -439,20 +466,6 @@ fn put_ask_fields(out: &mut Vec<u8>, ask: &Ask) -> Result<(), AllocError>
         Ask::Setstat { path, attrs } | Ask::Mkdir { path, attrs } => {
             put_string_and_attributes(out, path, attrs)
         }
-        Ask::Fsetstat { handle, attrs } => put_string_and_attributes(out, handle, attrs),
-        Ask::Close { handle } | Ask::Fstat { handle } | Ask::Readdir { handle } => {
-            put_string(out, handle)
-        }
-        Ask::Read {
-            handle,
-            offset,
-            len,
-        } => put_read_fields(out, handle, *offset, *len),
-        Ask::Write {
-            handle,
-            offset,
-            bytes,
-        } => put_write_fields(out, handle, *offset, bytes),
         Ask::Rename { oldpath, newpath } => put_two_strings(out, oldpath, newpath),
         Ask::Symlink {
             targetpath,
@@ -464,8 +477,8 @@ fn put_ask_fields(out: &mut Vec<u8>, ask: &Ask) -> Result<(), AllocError>
         Ask::Hardlink { oldpath, newpath } => {
             put_two_paths_extension(out, HARDLINK, oldpath, newpath)
         }
-        Ask::Fsync { handle } => put_handle_extension(out, FSYNC, handle),
         Ask::Unknown { name, rest } => put_unknown(out, name, rest),
+        _ => put_fields_on_handle(out, ask),
     }
 }
 
