@@ -179,8 +179,8 @@ taken-set taken = record no_causes { exists = taken }
 
 making-same : (node : Option Node) (c : Cause) → (making_causes node c || false) ≡ in_set (taken-set (is_taken node)) c
 unfolding taken-set
-making-same node Exists = or-false (is_taken node)
-making-same node _ = refl
+making-same standing Exists = or-false (is_taken standing)
+making-same standing _ = refl
 
 making-room : (t : Tree) (place : Place) (node : Node) → IsKept t → IsTrue (link_fits node) → (found : Option Node) → node_at t.names place ≡ found → (is_none (in_set (taken-set (is_taken found))) && not (fits (record t { names = with_node t.names place node }))) ≡ (not (is_taken found) && not (has_room t place))
 unfolding taken-set
@@ -201,8 +201,8 @@ kept-room t ask p kept same =
     ap (λ u. is_none (in_set p) && not (fits u)) same ∙ ap (λ b. is_none (in_set p) && not b) kept.within_limits ∙ and-false (is_none (in_set p))
 
 needing-same : (node : Option Node) (c : Cause) → (needing_causes node c || false) ≡ in_set (needing node) c
-needing-same node NoEntry = or-false (not (is_taken node))
-needing-same node _ = refl
+needing-same standing NoEntry = or-false (not (is_taken standing))
+needing-same standing _ = refl
 
 causes-needing : (t : Tree) (ask : Ask) → IsKept t → ((c : Cause) → target_causes ask c ≡ false) → ((place : Place) → causes_at t ask place ≡ needing_causes (node_at t.names place)) → ((place : Place) → target_at t ask place ≡ t) → (r : Result Place Cause) → led t ask ≡ Some r → (c : Cause) → causes t ask c ≡ in_set (led_set r (λ place. needing (node_at t.names place))) c
 causes-needing t ask kept plain at same (Err failed) e c = causes-failed t ask failed plain e c
@@ -224,9 +224,9 @@ causes-realpath t path kept (Ok place) e c =
     causes-set t (Realpath path) no_causes false (λ c. plain-led t (Realpath path) (Ok place) e c ∙ none-same c) (kept-room t (Realpath path) no_causes kept (target-led t (Realpath path) (Ok place) e)) c
 
 reading-same : (node : Option Node) (c : Cause) → (link_causes node c || false) ≡ in_set (reading node) c
-reading-same node NoEntry = or-false (not (is_taken node))
-reading-same node NotLink = or-false (is_taken node && not (is_link node))
-reading-same node _ = refl
+reading-same standing NoEntry = or-false (not (is_taken standing))
+reading-same standing NotLink = or-false (is_taken standing && not (is_link standing))
+reading-same standing _ = refl
 
 pub causes-readlink : (t : Tree) (path : List ℕ) → IsKept t → (r : Result Place Cause) → led t (Readlink path) ≡ Some r → (c : Cause) → causes t (Readlink path) c ≡ in_set (led_set r (λ place. reading (node_at t.names place))) c
 causes-readlink t path kept (Err failed) e c = causes-failed t (Readlink path) failed (λ c. refl) e c
