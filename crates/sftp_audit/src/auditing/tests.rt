@@ -1,7 +1,7 @@
 //! Sessions of one request, which is the third record, and its reply, the fourth.
 use super::*;
-use crate::errors::{Refusal, TranscriptError};
 use crate::blank::blank_tree;
+use crate::errors::{Refusal, TranscriptError};
 use sftp_wire::Fault;
 use std::test::*;
 
