@@ -5,7 +5,7 @@ use std::test::*;
 
 /// MKDIR with all attributes, and RMDIR behind other bytes.
 #[test]
-fn of_the_client(rt: HostRuntime) -> Result<(), Fail> {
+fn requests(rt: HostRuntime) -> Result<(), Fail> {
     let alloc = rt.alloc();
     let path = text(alloc, b"/d")?;
     let extended = pairs(alloc, &[(b"a", b"b")])?;
@@ -28,9 +28,8 @@ fn of_the_client(rt: HostRuntime) -> Result<(), Fail> {
     Ok(())
 }
 
-/// VERSION with extensions, STATUS with texts, and NAME of one file.
 #[test]
-fn of_the_server(rt: HostRuntime) -> Result<(), Fail> {
+fn version_with_extensions(rt: HostRuntime) -> Result<(), Fail> {
     let alloc = rt.alloc();
     let extensions = pairs(
         alloc,
@@ -49,6 +48,13 @@ fn of_the_server(rt: HostRuntime) -> Result<(), Fail> {
         \0\0\0\x14hardlink@openssh.com\0\0\0\x011\
         \0\0\0\x11fsync@openssh.com\0\0\0\x011";
     assert!(rt; is_written(alloc, version, bytes));
+    Ok(())
+}
+
+/// STATUS with texts, and NAME of one file.
+#[test]
+fn replies(rt: HostRuntime) -> Result<(), Fail> {
+    let alloc = rt.alloc();
     let message = text(alloc, b"Failure")?;
     let language = text(alloc, b"en")?;
     let answer = Answer::Status {
