@@ -174,6 +174,28 @@ fn readlink(alloc: Global, path: &[u8]) -> Result<Ask, Fail> {
     })
 }
 
+/// `./` so many times, and then a name.
+fn padded(alloc: Global, times: u32, name: &[u8]) -> Result<Vec<u8>, Fail> {
+    let mut path = Vec::new(alloc);
+    for _ in 0..times {
+        path.extend_from_slice(b"./".as_slice())?;
+    }
+    path.extend_from_slice(name)?;
+    Ok(path)
+}
+
+/// A tree with nothing but a root, and this home.
+fn homed(alloc: Global, home: &[u8]) -> Result<Tree, Fail> {
+    let mut bytes = Vec::from_slice(alloc, b"SFTREE01\0\0\0".as_slice())?;
+    bytes.push(home.len() as u8)?;
+    bytes.extend_from_slice(home)?;
+    for _ in 0..22 {
+        bytes.push(0)?;
+    }
+    bytes.extend_from_slice([1, 0o355].as_slice())?;
+    Ok(Tree::read(alloc, bytes.as_slice())?)
+}
+
 /// A tree with directories `/d` and `/d/e`.
 fn nested(alloc: Global) -> Result<Tree, Fail> {
     let mut tree = Tree::blank(alloc)?;
@@ -334,6 +356,49 @@ fn follows_forty_links(rt: HostRuntime) -> Result<(), Fail> {
     }
     assert!(rt; shows(&tree, [41].as_slice(), true, 0, (0, 0), 0o040755));
     assert!(rt; cannot_show(&tree, [42].as_slice(), true, Cause::Loop));
+    Ok(())
+}
+
+#[test]
+fn follows_the_longest_targets(rt: HostRuntime) -> Result<(), Fail> {
+    let alloc = rt.alloc();
+    let mut tree = Tree::blank(alloc)?;
+    assert!(rt; makes(&mut tree, [b'l', 1].as_slice()));
+    for next in 2..42 {
+        let target = padded(alloc, 2047, [b'l', next - 1].as_slice())?;
+        assert!(rt; links(&mut tree, target.as_slice(), [b'l', next].as_slice()));
+    }
+    let path = padded(alloc, 2047, [b'l', 41].as_slice())?;
+    assert!(rt; shows(&tree, path.as_slice(), true, 0, (0, 0), 0o040755));
+    assert!(rt; links(&mut tree, path.as_slice(), [b'l', 42].as_slice()));
+    let path = padded(alloc, 2047, [b'l', 42].as_slice())?;
+    assert!(rt; cannot_show(&tree, path.as_slice(), true, Cause::Loop));
+    Ok(())
+}
+
+#[test]
+fn refuses_bad_paths(rt: HostRuntime) -> Result<(), Fail> {
+    let alloc = rt.alloc();
+    let tree = Tree::blank(alloc)?;
+    let path = padded(alloc, 2048, b"".as_slice())?;
+    assert!(rt; leads(&tree, path.as_slice(), b"/".as_slice()));
+    let path = padded(alloc, 2048, b"/".as_slice())?;
+    assert!(rt; cannot_lead(&tree, path.as_slice(), Cause::BadPath));
+    assert!(rt; cannot_show(&tree, [b'a'; 255].as_slice(), true, Cause::NoEntry));
+    assert!(rt; cannot_show(&tree, [b'a'; 256].as_slice(), true, Cause::BadPath));
+    assert!(rt; cannot_show(&tree, b"\0".as_slice(), false, Cause::BadPath));
+    Ok(())
+}
+
+#[test]
+fn starts_at_homes_that_are_absent(rt: HostRuntime) -> Result<(), Fail> {
+    let alloc = rt.alloc();
+    let near = homed(alloc, b"/u".as_slice())?;
+    assert!(rt; leads(&near, b"".as_slice(), b"/u".as_slice()));
+    assert!(rt; cannot_lead(&near, b"x".as_slice(), Cause::NoEntry));
+    assert!(rt; leads(&near, b"/x".as_slice(), b"/x".as_slice()));
+    let far = homed(alloc, b"/home/u".as_slice())?;
+    assert!(rt; cannot_lead(&far, b"".as_slice(), Cause::NoEntry));
     Ok(())
 }
 
