@@ -184,10 +184,10 @@ fn padded(alloc: Global, times: u32, name: &[u8]) -> Result<Vec<u8>, Fail> {
     Ok(path)
 }
 
-/// A tree with nothing but a root, and this home.
-fn homed(alloc: Global, home: &[u8]) -> Result<Tree, Fail> {
+/// A tree with nothing but a root, and this home, whose text has so many bytes.
+fn homed(alloc: Global, length: u8, home: &[u8]) -> Result<Tree, Fail> {
     let mut bytes = Vec::from_slice(alloc, b"SFTREE01\0\0\0".as_slice())?;
-    bytes.push(home.len() as u8)?;
+    bytes.push(length)?;
     bytes.extend_from_slice(home)?;
     for _ in 0..22 {
         bytes.push(0)?;
@@ -393,11 +393,11 @@ fn refuses_bad_paths(rt: HostRuntime) -> Result<(), Fail> {
 #[test]
 fn starts_at_homes_that_are_absent(rt: HostRuntime) -> Result<(), Fail> {
     let alloc = rt.alloc();
-    let near = homed(alloc, b"/u".as_slice())?;
+    let near = homed(alloc, 2, b"/u".as_slice())?;
     assert!(rt; leads(&near, b"".as_slice(), b"/u".as_slice()));
     assert!(rt; cannot_lead(&near, b"x".as_slice(), Cause::NoEntry));
     assert!(rt; leads(&near, b"/x".as_slice(), b"/x".as_slice()));
-    let far = homed(alloc, b"/home/u".as_slice())?;
+    let far = homed(alloc, 7, b"/home/u".as_slice())?;
     assert!(rt; cannot_lead(&far, b"".as_slice(), Cause::NoEntry));
     Ok(())
 }
