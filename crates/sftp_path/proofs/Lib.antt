@@ -3,3 +3,4 @@ pub mod GoodPaths
 pub mod AbsoluteTexts
 pub mod Order
 pub mod TableLaws
+pub mod RekeyingLaws

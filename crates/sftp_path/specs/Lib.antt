@@ -4,3 +4,4 @@ pub mod Cut
 pub mod Split
 pub mod Text
 pub mod Table
+pub mod Rekeying

@@ -7,6 +7,7 @@ mod names;
 mod parts;
 mod paths;
 mod places;
+pub mod rekeying;
 pub mod rows;
 pub mod tables;
 mod texts;

@@ -5,6 +5,7 @@ ghost use Rattle.std.specs.Ordering.{nat_cmp};
 ghost use Rattle.std.specs.declared.cmp.Ordering.TheVariants.{Less, Equal, Greater};
 ghost use Rattle.sftp_path.specs.Place.{Place, is_name, name_cmp, place_cmp, parent, begins, is_below, absolute, components, is_absolute, is_good_path};
 ghost use Rattle.sftp_path.specs.Table.{get, put, without, from_entries};
+ghost use Rattle.sftp_path.specs.Rekeying.{renamed, rekeyed};
 
 /// Empty components do not count; `.` and `..` do.
 #[tactic(auto, unfolding(crate::specs::Place::components, crate::specs::Place::parts))]
@@ -79,4 +80,29 @@ pub fn tables()
     ensures without { without nat_cmp ((1, codes "a") ∷ (2, codes "b") ∷ []) 1 ≡ (2, codes "b") ∷ [] }
     ensures there { get nat_cmp ((1, codes "a") ∷ (2, codes "b") ∷ []) 2 ≡ Some (codes "b") }
     ensures absent { get nat_cmp ((1, codes "a") ∷ []) 2 ≡ None }
+{}
+
+/// Renaming turns the names in front alone: `/dd` is no place below `/d`.
+pub fn renamed_places()
+    ensures itself { renamed (codes "d" ∷ []) (codes "x" ∷ []) (codes "d" ∷ []) ≡ codes "x" ∷ [] }
+    ensures below { renamed (codes "d" ∷ []) (codes "x" ∷ []) (codes "d" ∷ codes "e" ∷ []) ≡ codes "x" ∷ codes "e" ∷ [] }
+    ensures beside { renamed (codes "d" ∷ []) (codes "x" ∷ []) (codes "dd" ∷ []) ≡ codes "dd" ∷ [] }
+    ensures deeper { renamed (codes "d" ∷ []) (codes "x" ∷ codes "y" ∷ []) (codes "d" ∷ codes "e" ∷ []) ≡ codes "x" ∷ codes "y" ∷ codes "e" ∷ [] }
+{}
+
+/// `/d` moves to `/x` with what stands below it, and the entries come in their new order; `/dd` and `/f` stay.
+#[tactic(auto, unfolding(crate::specs::Rekeying::rekeyed, crate::specs::Table::from_entries, crate::specs::Table::put))]
+pub fn rekeyed_tables()
+    ensures moved { rekeyed {X = ℕ} (codes "d" ∷ []) (codes "x" ∷ []) ((codes "d" ∷ [], 1) ∷ (codes "d" ∷ codes "e" ∷ [], 2) ∷ (codes "f" ∷ [], 3) ∷ []) ≡ (codes "f" ∷ [], 3) ∷ (codes "x" ∷ [], 1) ∷ (codes "x" ∷ codes "e" ∷ [], 2) ∷ [] }
+    ensures beside { rekeyed {X = ℕ} (codes "d" ∷ []) (codes "x" ∷ []) ((codes "d" ∷ [], 1) ∷ (codes "dd" ∷ [], 2) ∷ []) ≡ (codes "dd" ∷ [], 2) ∷ (codes "x" ∷ [], 1) ∷ [] }
+{}
+
+/// What the premises of the laws keep out. Where something stands at the new place, the entry that moves may be
+/// lost. What moves below itself stands below its old place. What moves up to a place above may come to its old
+/// place again.
+#[tactic(auto, unfolding(crate::specs::Rekeying::rekeyed, crate::specs::Table::from_entries, crate::specs::Table::put))]
+pub fn rekeyed_without_premises()
+    ensures taken { rekeyed {X = ℕ} (codes "f" ∷ []) (codes "d" ∷ []) ((codes "d" ∷ [], 1) ∷ (codes "f" ∷ [], 3) ∷ []) ≡ (codes "d" ∷ [], 1) ∷ [] }
+    ensures below_itself { rekeyed {X = ℕ} (codes "d" ∷ []) (codes "d" ∷ codes "e" ∷ []) ((codes "d" ∷ [], 1) ∷ []) ≡ (codes "d" ∷ codes "e" ∷ [], 1) ∷ [] }
+    ensures up { rekeyed {X = ℕ} (codes "d" ∷ codes "e" ∷ []) (codes "d" ∷ []) ((codes "d" ∷ codes "e" ∷ codes "e" ∷ [], 1) ∷ []) ≡ (codes "d" ∷ codes "e" ∷ [], 1) ∷ [] }
 {}

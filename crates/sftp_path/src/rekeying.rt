@@ -1,0 +1,50 @@
+//! Laws of a directory that moves in a table of places, as theorems on the definitions. The functions do
+//! nothing; each promise is in the contract. A clause without a premise on the table holds for each list of
+//! entries, in order or not.
+ghost use Rattle.std.specs.Prelude.{◌≡◌, ◌+◌, ◌++◌, true, false, None, length};
+ghost use Rattle.sftp_path.specs.Place.{Place, place_cmp, begins};
+ghost use Rattle.sftp_path.specs.Table.{Table, InOrder, get, size};
+ghost use Rattle.sftp_path.specs.Rekeying.{renamed, rekeyed, NothingFrom};
+
+/// What stood at or below the old place stands at or below the new one, where nothing stood; at and below the
+/// old place nothing is left; and elsewhere stands what stood there. That nothing is left needs no premise on
+/// the table where the new place does not begin the place that is looked at.
+pub fn answers_after_rekeying<X>()
+    ensures moved { (old new rest : Place) (table : Table Place X) → get place_cmp table (new ++ rest) ≡ None →
+        get place_cmp (rekeyed old new table) (new ++ rest) ≡ get place_cmp table (old ++ rest) }
+    ensures left { (old new rest : Place) (table : Table Place X) → begins old new ≡ false → NothingFrom table new →
+        get place_cmp (rekeyed old new table) (old ++ rest) ≡ None }
+    ensures left_beside { (old new place : Place) (table : Table Place X) → begins old place ≡ true → begins new place ≡ false →
+        get place_cmp (rekeyed old new table) place ≡ None }
+    ensures elsewhere { (old new place : Place) (table : Table Place X) → begins old place ≡ false → begins new place ≡ false →
+        get place_cmp (rekeyed old new table) place ≡ get place_cmp table place }
+{}
+
+/// The places are in order after the move, and where nothing stood at the new place or below it, no entry is
+/// lost.
+pub fn order_and_size_after_rekeying<X>()
+    ensures order { (old new : Place) (table : Table Place X) → InOrder place_cmp (rekeyed old new table) }
+    ensures size { (old new : Place) (table : Table Place X) → InOrder place_cmp table → NothingFrom table new →
+        size (rekeyed old new table) ≡ size table }
+{}
+
+/// A renamed place has as many names more, or fewer, as the new place has than the old one.
+pub fn depth_after_renaming()
+    ensures { (old new place : Place) → begins old place ≡ true →
+        length (renamed old new place) + length old ≡ length place + length new }
+{}
+
+/// A table in order that answers as the moved directory does is that table: with nothing at the old place or
+/// below it, or with nothing where the old place begins and the new one does not.
+pub fn rekeyed_is_one<X>()
+    ensures left { (old new : Place) (table other : Table Place X) → InOrder place_cmp other → NothingFrom table new →
+        ((rest : Place) → get place_cmp other (new ++ rest) ≡ get place_cmp table (old ++ rest)) →
+        NothingFrom other old →
+        ((place : Place) → begins old place ≡ false → begins new place ≡ false → get place_cmp other place ≡ get place_cmp table place) →
+        other ≡ rekeyed old new table }
+    ensures left_beside { (old new : Place) (table other : Table Place X) → InOrder place_cmp other → NothingFrom table new →
+        ((rest : Place) → get place_cmp other (new ++ rest) ≡ get place_cmp table (old ++ rest)) →
+        ((place : Place) → begins old place ≡ true → begins new place ≡ false → get place_cmp other place ≡ None) →
+        ((place : Place) → begins old place ≡ false → begins new place ≡ false → get place_cmp other place ≡ get place_cmp table place) →
+        other ≡ rekeyed old new table }
+{}
