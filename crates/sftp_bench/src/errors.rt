@@ -1,6 +1,4 @@
 //! Why a run ended early.
-use sftp_audit::AuditError;
-use sftp_tree::{NoMemory, Refused};
 use sftp_wire::WireError;
 use std::alloc::AllocError;
 use std::io;
@@ -18,21 +16,12 @@ pub(crate) enum BenchError {
     /// The buffer of packets took no more bytes, and gave no packet.
     #[error("the buffer of packets is stuck")]
     Stuck,
-    /// The tree of a session refused a request.
-    #[error("the tree: {0}")]
-    Tree(#[from] Refused),
-    /// A session was not accepted.
-    #[error("the audit: {0}")]
-    Audit(#[from] AuditError),
     /// The clock, an argument or standard output failed.
     #[error(transparent)]
     Io(#[from] io::Error),
     /// Memory ran out.
     #[error("out of memory")]
     Memory(#[from(alloc)] AllocError),
-    /// Memory ran out.
-    #[error("out of memory")]
-    NoMemory(#[from] NoMemory),
 }
 
 impl BenchError {

@@ -1,13 +1,11 @@
-//! The program `sftp_bench`: how fast packets are read and written by `sftp_wire`, and how fast sessions are audited by
-//! `sftp_audit`. With a size in megabytes it prints figures; without arguments it does a small round, and prints counts
-//! only.
+//! The program `sftp_bench`: how fast packets are read and written by `sftp_wire`. With a size in megabytes it
+//! prints figures; without arguments it does a small round, and prints counts only.
 #![tactic(auto)]
 
 mod command_line;
 mod errors;
 mod figures;
 mod rounds;
-mod sessions;
 mod workloads;
 
 use command_line::Task;
@@ -34,16 +32,7 @@ fn run(rt: &HostRuntime) -> Result<(), BenchError> {
     let task = command_line::parse(words.as_slice())?;
     perform(rt, task, Workload::status(alloc)?)?;
     perform(rt, task, Workload::mkdir(alloc)?)?;
-    perform(rt, task, Workload::write(alloc)?)?;
-    audit(rt, task)
-}
-
-/// Does the task with recorded sessions, and prints lines on them.
-fn audit(rt: &HostRuntime, task: Task) -> Result<(), BenchError> {
-    match task {
-        Task::Count => figures::print_audit_counts(rt),
-        Task::Measure { .. } => figures::print_audit_figures(rt),
-    }
+    perform(rt, task, Workload::write(alloc)?)
 }
 
 /// Does the task with one workload, and prints a line on it.
