@@ -1,6 +1,6 @@
 -- Finite maps that compute. A table is the list of its entries in rising order of their keys, which is what
 -- a clause sees of a `BTreeMap`. Each operation takes the comparison of the keys.
-use Rattle.std.specs.Prelude.{ℕ, Bool, List, [], ◌∷◌, length, filter, Option, Some, None, cond}
+use Rattle.std.specs.Prelude.{ℕ, Bool, List, [], ◌∷◌, length, filter, map, Option, Some, None, cond}
 use Rattle.std.specs.declared.cmp.Ordering.{Ordering}
 use Rattle.std.specs.BTreeMap.{insert_entry, is_at}
 use Rattle.std.specs.Map.{lookup, remove_entry, keys_of}
@@ -17,6 +17,10 @@ module _ {K X : Type 0} where
   -- the entries that pass a test
   unfoldable pub retain : Table K X → (K × X → Bool) → Table K X
   retain table keeps = filter keeps table
+
+  -- how many values pass a test
+  abbrev pub count : Table K X → (X → Bool) → ℕ
+  count table passes = size (retain table (λ e. passes e.1))
 
   -- what of a value at a key passes a test
   abbrev pub kept : (K × X → Bool) → K → Option X → Option X
@@ -45,3 +49,7 @@ module _ {K X : Type 0} where
     unfolding put
     from_entries [] = []
     from_entries (e ∷ es) = put (from_entries es) e.0 e.1
+
+-- the keys with other values
+abbrev pub with_values : {K X Y : Type 0} → (X → Y) → Table K X → Table K Y
+with_values f table = map (λ e. (e.0, f e.1)) table
