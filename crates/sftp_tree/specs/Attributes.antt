@@ -1,12 +1,13 @@
 -- What attributes say of a request and of an entry (draft-ietf-secsh-filexfer-02, section 5). What stands for those
 -- that are not given is this profile's own.
-use Rattle.std.specs.Prelude.{ℕ, ◌+◌, ◌%◌, ◌^◌, length, Some, None, unwrap_or}
+use Rattle.std.specs.Prelude.{ℕ, ◌+◌, ◌-◌, ◌%◌, ◌^◌, List, ◌++◌, length, take, replicate, Option, Some, None, unwrap_or}
 use Rattle.std.specs.Option.{option_map}
 use Rattle.sftp_wire.specs.declared.attributes.Attrs.{Attrs}
 use Rattle.sftp_treefile.specs.declared.files.Owner.{Owner}
+use Rattle.sftp_tree.specs.declared.contents.Content.{Content}
 use Rattle.sftp_tree.specs.declared.nodes.Node.{Node}
-use Rattle.sftp_tree.specs.declared.nodes.Node.TheVariants.{Dir, Link}
-use Rattle.sftp_tree.specs.Tree.{Tree}
+use Rattle.sftp_tree.specs.declared.nodes.Node.TheVariants.{Dir, File, Link}
+use Rattle.sftp_tree.specs.Tree.{Tree, content_at}
 
 -- the owner of a new directory: that given, else the tree's, and of the permissions given the low twelve bits, else 0o755
 abbrev pub directory_owner : Tree → Attrs → Owner
@@ -16,12 +17,37 @@ directory_owner t attrs = record {
   permissions = unwrap_or (option_map (λ p. p % 2 ^ 12) attrs.permissions) 0o755;
 }
 
+-- the owner of what is there already: that given, else as it was, and of the permissions given the low twelve bits, else as they
+-- were
+abbrev pub changed_owner : Attrs → Owner → Owner
+changed_owner attrs owner = record {
+  uid = unwrap_or (option_map (λ o. o.0) attrs.owner) owner.uid;
+  gid = unwrap_or (option_map (λ o. o.1) attrs.owner) owner.gid;
+  permissions = unwrap_or (option_map (λ p. p % 2 ^ 12) attrs.permissions) owner.permissions;
+}
+
+-- so many bytes: the first of these, and zeros where they end
+abbrev pub resized : ℕ → List ℕ → List ℕ
+resized size bytes = take size bytes ++ replicate (size - length bytes) 0
+
+-- the bytes of a file: as many as are given, else as they were
+abbrev pub changed_bytes : Attrs → List ℕ → List ℕ
+changed_bytes attrs bytes = unwrap_or (option_map (λ size. resized size bytes) attrs.size) bytes
+
+-- a file whose attributes are set
+abbrev pub changed_content : Attrs → Content → Content
+changed_content attrs content = record { owner = changed_owner attrs content.owner; bytes = changed_bytes attrs content.bytes }
+
 -- size, owner and permissions, and nothing else
 abbrev pub said : ℕ → ℕ → ℕ → ℕ → Attrs
 said size uid gid permissions = record { size = Some size; owner = Some (uid, gid); permissions = Some permissions; times = None; extended = None }
 
--- what is shown of an entry: of a directory the size 0, of a link its target's length and the tree's owner; the permissions with the
--- bits of the type
-abbrev pub shown : Tree → Node → Attrs
-shown t (Dir owner) = said 0 owner.uid owner.gid (0o040000 + owner.permissions)
-shown t (Link target) = said (length target) t.uid t.gid 0o120777
+abbrev pub shown_content : Content → Attrs
+shown_content content = said (length content.bytes) content.owner.uid content.owner.gid (0o100000 + content.owner.permissions)
+
+-- what is shown of an entry: of a directory the size 0, of a file its bytes' count, of a link its target's length and the tree's
+-- owner; the permissions with the bits of the type
+abbrev pub shown : Tree → Node → Option Attrs
+shown t (Dir owner) = Some (said 0 owner.uid owner.gid (0o040000 + owner.permissions))
+shown t (File number) = option_map shown_content (content_at t.files number)
+shown t (Link target) = Some (said (length target) t.uid t.gid 0o120777)

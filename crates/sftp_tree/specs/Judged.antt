@@ -2,18 +2,21 @@
 use Rattle.std.specs.Prelude.{◌≡◌, ◌&&◌, ◌||◌, not, nat_le, Bool, true, false, List, length, ℕ, Option, Result, Ok, Err}
 use Rattle.sftp_path.specs.Place.{Place}
 use Rattle.sftp_treefile.specs.TreeFile.{is_root, is_target}
+use Rattle.sftp_wire.specs.declared.packets.Ask.{Ask}
 use Rattle.sftp_tree.specs.declared.nodes.Node.{Node}
 use Rattle.sftp_tree.specs.declared.causes.Cause.{Cause}
-use Rattle.sftp_tree.specs.declared.causes.Cause.TheVariants.{BadPath, NoEntry, NotDir, Loop, Exists, NotLink, NotEmpty, Root, NoRoom}
+use Rattle.sftp_tree.specs.declared.causes.Cause.TheVariants.{BadPath, NoEntry, NotDir, Loop, Exists, IsDir, NotLink, NotFile, NotEmpty, Root, Inside, NoRoom}
 use Rattle.sftp_tree.specs.declared.causes.Causes.{Causes}
 use Rattle.sftp_tree.specs.declared.causes.Refused.{Refused}
 use Rattle.sftp_tree.specs.declared.causes.Refused.TheVariants as refusals
-use Rattle.sftp_tree.specs.Tree.{Tree, Names, limits, node_at, is_taken, is_directory, is_link, has_entries, depth_fits}
+use Rattle.sftp_tree.specs.Tree.{Tree, Names, limits, node_at, is_taken, is_directory, is_link, has_entries, depth_fits, fits}
 use Rattle.sftp_tree.specs.Walk.{reached}
+use Rattle.sftp_tree.specs.Steps.{CauseSet, causes_at, new_causes_at, causes_between, target_at, target_between, is_none}
+use Rattle.sftp_tree.specs.Sets.{in_set}
 
 -- no cause
 abbrev pub no_causes : Causes
-no_causes = record { bad_path = false; no_entry = false; not_dir = false; too_many_links = false; exists = false; not_link = false; not_empty = false; root = false; no_room = false }
+no_causes = record { bad_path = false; no_entry = false; not_dir = false; too_many_links = false; exists = false; is_dir = false; not_link = false; not_file = false; not_empty = false; root = false; inside = false; no_room = false }
 
 -- this cause alone
 abbrev pub just : Cause → Causes
@@ -22,10 +25,34 @@ just NoEntry = record no_causes { no_entry = true }
 just NotDir = record no_causes { not_dir = true }
 just Loop = record no_causes { too_many_links = true }
 just Exists = record no_causes { exists = true }
+just IsDir = record no_causes { is_dir = true }
 just NotLink = record no_causes { not_link = true }
+just NotFile = record no_causes { not_file = true }
 just NotEmpty = record no_causes { not_empty = true }
 just Root = record no_causes { root = true }
+just Inside = record no_causes { inside = true }
 just NoRoom = record no_causes { no_room = true }
+
+-- ---- sets of causes with the want of room
+
+-- there is no room where there is no other cause and what is asked for breaks a limit
+abbrev pub with_room : CauseSet → Tree → CauseSet
+with_room plain asked NoRoom = is_none plain && not (fits asked)
+with_room plain asked cause = plain cause
+
+-- of a request at the place that its path leads to
+abbrev pub causes_at_place : Tree → Ask → Place → CauseSet
+causes_at_place t ask place = with_room (causes_at t ask place) (target_at t ask place)
+
+-- and at the two places that its paths lead to
+abbrev pub causes_at_places : Tree → Ask → Place → Place → CauseSet
+causes_at_places t ask old new = with_room (λ cause. causes_at t ask old cause || (new_causes_at t ask new cause || causes_between t ask old new cause)) (target_between t ask old new)
+
+-- the code's set is this one
+abbrev pub IsSet : Causes → CauseSet → Type 0
+IsSet s set = (cause : Cause) → in_set s cause ≡ set cause
+
+-- ---- as the code has them
 
 -- whether one entry more, at a new place, keeps to the limits: the root is one of the places and no entry
 abbrev pub has_room : Tree → Place → Bool

@@ -1,4 +1,5 @@
 pub mod Tree
+pub mod Stored
 pub mod Walk
 pub mod WalkRules
 pub mod Attributes

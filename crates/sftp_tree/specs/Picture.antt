@@ -1,6 +1,6 @@
 -- Trees as tree files. This profile's own.
-use Rattle.std.specs.Prelude.{◌≡◌, ℕ, List, [], ◌∷◌, Option, Some, None, Result, MatchResult, IsTrue}
-use Rattle.std.specs.List.{flat_map}
+use Rattle.std.specs.Prelude.{◌≡◌, ◌&&◌, ◌==◌, nat_le, ℕ, suc, Bool, true, if◌then◌else◌, List, [], ◌∷◌, ◌++◌, Option, Some, None, Result, MatchResult, IsTrue}
+use Rattle.std.specs.Option.{option_map}
 use Rattle.sftp_path.specs.Place.{Place, absolute}
 use Rattle.sftp_treefile.specs.declared.errors.TreeError.{TreeError}
 use Rattle.sftp_treefile.specs.declared.errors.TreeError.TheVariants.{NoMemory}
@@ -10,25 +10,47 @@ use Rattle.sftp_treefile.specs.declared.files.Kind.TheVariants as kinds
 use Rattle.sftp_treefile.specs.declared.files.Row.{Row}
 use Rattle.sftp_treefile.specs.declared.files.TreeFile.{TreeFile}
 use Rattle.sftp_treefile.specs.TreeFile.{spelled}
+use Rattle.sftp_tree.specs.declared.contents.Content.{Content}
 use Rattle.sftp_tree.specs.declared.nodes.Node.{Node}
-use Rattle.sftp_tree.specs.declared.nodes.Node.TheVariants.{Dir, Link}
-use Rattle.sftp_tree.specs.Tree.{Tree, WellFormed, fits, node_at}
+use Rattle.sftp_tree.specs.declared.nodes.Node.TheVariants.{Dir, File, Link}
+use Rattle.sftp_tree.specs.Tree.{Names, Files, Tree, WellFormed, IsTrimmed, fits, node_at, content_at, names_file}
 
-abbrev pub kind_of : Node → Kind
-kind_of (Dir owner) = kinds.Dir owner
-kind_of (Link target) = kinds.Link target
+-- ---- what the tree file of a tree says
 
--- the rows of an entry: the root has none, since its owner stands in the head
-abbrev pub rows_of : Place × Node → List Row
-rows_of ([], node) = []
-rows_of (n ∷ ns, node) = record { path = absolute (n ∷ ns); kind = kind_of node } ∷ []
+-- the number of the first entry that is a name of a file; the root, which is none, stands in front with the number 0
+abbrev pub entry_naming : ℕ → Names → Option ℕ
+entry_naming number [] = None
+entry_naming number (e ∷ es) = if names_file number e.1 then Some 0 else option_map suc (entry_naming number es)
 
 abbrev pub no_owner : Owner
 no_owner = record { uid = 0; gid = 0; permissions = 0 }
 
+-- a name of a file is a further one where an earlier entry is its name; the first one comes with the file
+abbrev pub naming : Option ℕ → Option Content → Kind
+naming (Some entry) content = kinds.Further entry
+naming None (Some content) = kinds.First content.owner content.bytes
+naming None None = kinds.First no_owner []
+
+-- behind these entries, the root among them
+abbrev pub kind_of : Files → Names → Node → Kind
+kind_of files earlier (Dir owner) = kinds.Dir owner
+kind_of files earlier (File number) = naming (entry_naming number earlier) (content_at files number)
+kind_of files earlier (Link target) = kinds.Link target
+
+-- the rows of an entry: the root has none, since its owner stands in the head
+abbrev pub rows_of : Files → Names → Place × Node → List Row
+rows_of files earlier ([], standing) = []
+rows_of files earlier (n ∷ ns, standing) = record { path = absolute (n ∷ ns); kind = kind_of files earlier standing } ∷ []
+
+-- the rows of entries behind others
+abbrev pub rows_behind : Files → Names → Names → List Row
+rows_behind files earlier [] = []
+rows_behind files earlier (e ∷ es) = rows_of files earlier e ++ rows_behind files (earlier ++ e ∷ []) es
+
 -- the owner of what stands at the root, which is a directory in every tree
 abbrev pub root_owner : Option Node → Owner
 root_owner (Some (Dir owner)) = owner
+root_owner (Some (File number)) = no_owner
 root_owner (Some (Link target)) = no_owner
 root_owner None = no_owner
 
@@ -39,17 +61,38 @@ file_of t = record {
   uid = t.uid;
   gid = t.gid;
   root = root_owner (node_at t.names []);
-  rows = flat_map rows_of t.names;
+  rows = rows_behind t.files [] t.names;
 }
 
 -- the tree file of a tree
 unfoldable pub picture : Tree → List ℕ
 picture t = spelled (file_of t)
 
--- the tree that a tree file is that of
+-- ---- the tree of a tree file
+
+-- where so many numbers are given to files, whether a name's number is one of them or the next
+abbrev pub is_given_or_next : Node → ℕ → Bool
+is_given_or_next (Dir owner) given = true
+is_given_or_next (File number) given = nat_le number given
+is_given_or_next (Link target) given = true
+
+-- and how many are given with it
+abbrev pub given_with : Node → ℕ → ℕ
+given_with (Dir owner) given = given
+given_with (File number) given = if number == given then suc given else given
+given_with (Link target) given = given
+
+-- the files are numbered in the order of their first names, and these are the numbers that were given
+abbrev pub is_numbered : ℕ → Names → ℕ → Bool
+is_numbered given [] made = given == made
+is_numbered given (e ∷ es) made = is_given_or_next e.1 given && is_numbered (given_with e.1 given) es made
+
+-- the tree that a tree file is that of: its files are numbered from 0
 pub record IsStart (t : Tree) (bytes : List ℕ) : Type 0 where
   pub well_formed : WellFormed t
   pub within_limits : IsTrue (fits t)
+  pub trimmed : IsTrimmed t
+  pub numbered : IsTrue (is_numbered 0 t.names t.made)
   pub picture_is : bytes ≡ picture t
 
 -- the result is the tree, unless memory ran out
@@ -58,4 +101,4 @@ GivesTree result t = MatchResult result (λ u. u ≡ t) (λ error. error ≡ NoM
 
 -- nothing but a root with permissions 0o755, which is the home; the user and the group 0 own everything
 abbrev pub blank : Tree
-blank = record { names = ([], Dir (record { uid = 0; gid = 0; permissions = 0o755 })) ∷ []; home = []; uid = 0; gid = 0 }
+blank = record { names = ([], Dir (record { uid = 0; gid = 0; permissions = 0o755 })) ∷ []; files = []; made = 0; home = []; uid = 0; gid = 0 }

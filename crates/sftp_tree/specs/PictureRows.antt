@@ -16,6 +16,8 @@ user_owner = record { uid = 1000; gid = 100; permissions = 0o750 }
 abbrev pub linked : Tree
 linked = record {
   names = ([], Dir (record { uid = 0; gid = 5; permissions = 0o755 })) ∷ (codes "d" ∷ [], Dir user_owner) ∷ (codes "l" ∷ [], Link (codes "d")) ∷ [];
+  files = [];
+  made = 0;
   home = codes "d" ∷ [];
   uid = 1000;
   gid = 100;

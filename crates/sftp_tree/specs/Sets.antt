@@ -2,7 +2,7 @@
 use Rattle.std.specs.Prelude.{Bool, true, false, List, ℕ, IsTrue}
 use Rattle.sftp_wire.specs.declared.packets.Ask.{Ask}
 use Rattle.sftp_wire.specs.declared.packets.Ask.TheVariants.{Stat, Lstat}
-use Rattle.sftp_tree.specs.declared.causes.Cause.TheVariants.{BadPath, NoEntry, NotDir, Loop, Exists, NotLink, NotEmpty, Root, NoRoom}
+use Rattle.sftp_tree.specs.declared.causes.Cause.TheVariants.{BadPath, NoEntry, NotDir, Loop, Exists, IsDir, NotLink, NotFile, NotEmpty, Root, Inside, NoRoom}
 use Rattle.sftp_tree.specs.declared.causes.Causes.{Causes}
 use Rattle.sftp_tree.specs.declared.causes.Refused.{Refused}
 use Rattle.sftp_tree.specs.declared.causes.Refused.TheVariants.{Cause, NoMemory}
@@ -16,9 +16,12 @@ in_set s NoEntry = s.no_entry
 in_set s NotDir = s.not_dir
 in_set s Loop = s.too_many_links
 in_set s Exists = s.exists
+in_set s IsDir = s.is_dir
 in_set s NotLink = s.not_link
+in_set s NotFile = s.not_file
 in_set s NotEmpty = s.not_empty
 in_set s Root = s.root
+in_set s Inside = s.inside
 in_set s NoRoom = s.no_room
 
 -- no cause refuses the request

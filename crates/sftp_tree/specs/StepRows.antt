@@ -9,7 +9,7 @@ use Rattle.sftp_tree.specs.Tree.{Tree}
 
 -- the root, with one entry below it
 abbrev pub tree_with : Place → Node → Tree
-tree_with place node = record { names = ([], Dir (record { uid = 0; gid = 0; permissions = 0o755 })) ∷ (place, node) ∷ []; home = []; uid = 0; gid = 0 }
+tree_with place node = record { names = ([], Dir (record { uid = 0; gid = 0; permissions = 0o755 })) ∷ (place, node) ∷ []; files = []; made = 0; home = []; uid = 0; gid = 0 }
 
 -- the link `/l` to `x y`
 abbrev pub linked : Tree

@@ -1,52 +1,67 @@
--- Why requests are refused, and what they do to a tree (draft-ietf-secsh-filexfer-02, sections 6.6 to 6.11; OpenSSH's
--- PROTOCOL, section 4.1, for the order of SYMLINK's arguments). The causes, the codes that each of them allows, and which
--- walks follow a last link are this profile's own.
-use Rattle.std.specs.Prelude.{◌==◌, ◌&&◌, ◌||◌, not, ℕ, Bool, true, false, List, [], ◌∷◌, Option, Some, None, Result, Ok, Err}
+-- Why requests are refused, and what they do to a tree (draft-ietf-secsh-filexfer-02, sections 6.5 to 6.11; OpenSSH's
+-- PROTOCOL, section 4.1 for the order of SYMLINK's arguments, 4.3 for posix-rename and 4.5 for hardlink). The causes, the codes that
+-- each of them allows, and which walks follow a last link are this profile's own.
+use Rattle.std.specs.Prelude.{◌==◌, ◌&&◌, ◌||◌, not, ℕ, Bool, true, false, if◌then◌else◌, List, [], ◌∷◌, Option, Some, None, is_some, Result, Ok, Err}
 use Rattle.std.specs.Option.{option_map}
 use Rattle.std.specs.List.{list_any}
 use Rattle.sftp_wire.specs.declared.attributes.Attrs.{Attrs}
 use Rattle.sftp_wire.specs.declared.packets.Ask.{Ask}
-use Rattle.sftp_wire.specs.declared.packets.Ask.TheVariants.{Lstat, Mkdir, Rmdir, Realpath, Stat, Readlink, Symlink}
-use Rattle.sftp_path.specs.Place.{Place, absolute}
-use Rattle.sftp_treefile.specs.TreeFile.{is_root, is_target}
+use Rattle.sftp_wire.specs.declared.packets.Ask.TheVariants.{Lstat, Setstat, Remove, Mkdir, Rmdir, Realpath, Stat, Rename, Readlink, Symlink, PosixRename, Hardlink}
+use Rattle.sftp_path.specs.Place.{Place, absolute, is_below}
+use Rattle.sftp_path.specs.Rekeying.{rekeyed}
+use Rattle.sftp_treefile.specs.TreeFile.{is_root, is_target, same_place}
+use Rattle.sftp_tree.specs.declared.contents.Content.{Content}
 use Rattle.sftp_tree.specs.declared.nodes.Node.{Node}
-use Rattle.sftp_tree.specs.declared.nodes.Node.TheVariants.{Dir, Link}
+use Rattle.sftp_tree.specs.declared.nodes.Node.TheVariants.{Dir, File, Link}
 use Rattle.sftp_tree.specs.declared.causes.Cause.{Cause}
-use Rattle.sftp_tree.specs.declared.causes.Cause.TheVariants.{BadPath, NoEntry, NotDir, Loop, Exists, NotLink, NotEmpty, Root, NoRoom}
-use Rattle.sftp_tree.specs.Tree.{Tree, Names, node_at, with_node, without_node, is_directory, is_link, is_taken, has_entries, fits}
+use Rattle.sftp_tree.specs.declared.causes.Cause.TheVariants.{BadPath, NoEntry, NotDir, Loop, Exists, IsDir, NotLink, NotFile, NotEmpty, Root, Inside, NoRoom}
+use Rattle.sftp_tree.specs.Tree.{Tree, Names, node_at, with_node, without_node, content_at, with_content, is_directory, is_file, is_link, is_taken, has_entries, trim, fits}
 use Rattle.sftp_tree.specs.Walk.{reached}
-use Rattle.sftp_tree.specs.Attributes.{directory_owner, shown}
+use Rattle.sftp_tree.specs.Attributes.{directory_owner, changed_owner, changed_content, shown}
 
 -- ---- the paths of requests
 
--- the path that a request walks, where its step has come
+-- the path that a request walks, where its step has come; of two paths the first
 abbrev pub path_of : Ask → Option (List ℕ)
 path_of (Mkdir path attrs) = Some path
 path_of (Rmdir path) = Some path
+path_of (Remove path) = Some path
+path_of (Setstat path attrs) = Some path
 path_of (Stat path) = Some path
 path_of (Lstat path) = Some path
 path_of (Realpath path) = Some path
 path_of (Readlink path) = Some path
 path_of (Symlink target link) = Some link
+path_of (Rename oldpath newpath) = Some oldpath
+path_of (PosixRename oldpath newpath) = Some oldpath
+path_of (Hardlink oldpath newpath) = Some oldpath
 path_of other = None
 
-abbrev pub is_given : Option (List ℕ) → Bool
-is_given None = false
-is_given (Some path) = true
+-- the second path of a request that has two: a new name
+abbrev pub new_path_of : Ask → Option (List ℕ)
+new_path_of (Rename oldpath newpath) = Some newpath
+new_path_of (PosixRename oldpath newpath) = Some newpath
+new_path_of (Hardlink oldpath newpath) = Some newpath
+new_path_of other = None
 
 -- whether the request's step has come
 abbrev pub has_step : Ask → Bool
-has_step ask = is_given (path_of ask)
+has_step ask = is_some (path_of ask)
 
 -- whether a link that is last is followed
 abbrev pub follows : Ask → Bool
 follows (Stat path) = true
+follows (Setstat path attrs) = true
 follows (Realpath path) = true
 follows other = false
 
 -- where the path of a request leads
 unfoldable pub led : Tree → Ask → Option (Result Place Cause)
 led t ask = option_map (reached t (follows ask)) (path_of ask)
+
+-- where its new name leads; a link that is last is not followed
+unfoldable pub new_led : Tree → Ask → Option (Result Place Cause)
+new_led t ask = option_map (reached t false) (new_path_of ask)
 
 -- ---- causes, as sets of them
 
@@ -55,7 +70,7 @@ CauseSet = Cause → Bool
 
 -- the rows of the status table
 abbrev pub every_cause : List Cause
-every_cause = BadPath ∷ NoEntry ∷ NotDir ∷ Loop ∷ Exists ∷ NotLink ∷ NotEmpty ∷ Root ∷ NoRoom ∷ []
+every_cause = BadPath ∷ NoEntry ∷ NotDir ∷ Loop ∷ Exists ∷ IsDir ∷ NotLink ∷ NotFile ∷ NotEmpty ∷ Root ∷ Inside ∷ NoRoom ∷ []
 
 -- the status codes that a cause allows (draft, section 7): 2 says that there is no such file, 4 that the request failed, 5 that
 -- it is a bad one
@@ -65,9 +80,12 @@ allows NoEntry code = code == 2
 allows NotDir code = code == 2 || code == 4
 allows Loop code = code == 2 || code == 4
 allows Exists code = code == 4
+allows IsDir code = code == 4
 allows NotLink code = code == 4
+allows NotFile code = code == 4
 allows NotEmpty code = code == 4
 allows Root code = code == 4
+allows Inside code = code == 4
 allows NoRoom code = code == 4
 
 -- the set of one cause
@@ -77,9 +95,12 @@ only NoEntry NoEntry = true
 only NotDir NotDir = true
 only Loop Loop = true
 only Exists Exists = true
+only IsDir IsDir = true
 only NotLink NotLink = true
+only NotFile NotFile = true
 only NotEmpty NotEmpty = true
 only Root Root = true
+only Inside Inside = true
 only NoRoom NoRoom = true
 only _ _ = false
 
@@ -109,6 +130,18 @@ link_causes standing NoEntry = not (is_taken standing)
 link_causes standing NotLink = is_taken standing && not (is_link standing)
 link_causes standing _ = false
 
+-- of a file that is to be there
+abbrev pub file_causes : Option Node → CauseSet
+file_causes standing NoEntry = not (is_taken standing)
+file_causes standing NotFile = is_taken standing && not (is_file standing)
+file_causes standing _ = false
+
+-- of what is there and is to get these attributes: only a file has a size that can be set
+abbrev pub setting_causes : Attrs → Option Node → CauseSet
+setting_causes attrs standing NoEntry = not (is_taken standing)
+setting_causes attrs standing NotFile = is_some attrs.size && (is_taken standing && not (is_file standing))
+setting_causes attrs standing _ = false
+
 -- of a directory that is to be removed
 abbrev pub removing_causes : Names → Place → CauseSet
 removing_causes names place NoEntry = not (is_taken (node_at names place))
@@ -117,15 +150,80 @@ removing_causes names place NotEmpty = is_directory (node_at names place) && has
 removing_causes names place Root = is_root place
 removing_causes names place _ = false
 
+-- of a name that is to be removed, which is no directory's
+abbrev pub unlinking_causes : Option Node → CauseSet
+unlinking_causes standing NoEntry = not (is_taken standing)
+unlinking_causes standing IsDir = is_directory standing
+unlinking_causes standing _ = false
+
+-- of what is to go from there to another place
+abbrev pub leaving_causes : Names → Place → CauseSet
+leaving_causes names place NoEntry = not (is_taken (node_at names place))
+leaving_causes names place Root = is_root place
+leaving_causes names place _ = false
+
+-- of a place that is to be given to something else
+abbrev pub giving_causes : Place → CauseSet
+giving_causes place Root = is_root place
+giving_causes place _ = false
+
 -- by request
 abbrev pub causes_at : Tree → Ask → Place → CauseSet
 causes_at t (Mkdir path attrs) place = making_causes (node_at t.names place)
 causes_at t (Rmdir path) place = removing_causes t.names place
+causes_at t (Remove path) place = unlinking_causes (node_at t.names place)
+causes_at t (Setstat path attrs) place = setting_causes attrs (node_at t.names place)
 causes_at t (Stat path) place = needing_causes (node_at t.names place)
 causes_at t (Lstat path) place = needing_causes (node_at t.names place)
 causes_at t (Readlink path) place = link_causes (node_at t.names place)
 causes_at t (Symlink target link) place = making_causes (node_at t.names place)
+causes_at t (Rename oldpath newpath) place = leaving_causes t.names place
+causes_at t (PosixRename oldpath newpath) place = leaving_causes t.names place
+causes_at t (Hardlink oldpath newpath) place = file_causes (node_at t.names place)
 causes_at t other place = λ cause. false
+
+-- at the place that a new name leads to
+abbrev pub new_causes_at : Tree → Ask → Place → CauseSet
+new_causes_at t (Rename oldpath newpath) place = making_causes (node_at t.names place)
+new_causes_at t (PosixRename oldpath newpath) place = giving_causes place
+new_causes_at t (Hardlink oldpath newpath) place = making_causes (node_at t.names place)
+new_causes_at t other place = λ cause. false
+
+-- ---- the causes of two places
+
+-- whether a directory would be moved into itself
+abbrev pub goes_inside : Names → Place → Place → Bool
+goes_inside names old new = is_directory (node_at names old) && is_below old new
+
+-- whether both are names of one file
+abbrev pub are_one_file : Option Node → Option Node → Bool
+are_one_file (Some (File m)) (Some (File n)) = m == n
+are_one_file _ _ = false
+
+-- whether both are one place, or names of one file
+abbrev pub are_one : Names → Place → Place → Bool
+are_one names old new = same_place old new || are_one_file (node_at names old) (node_at names new)
+
+-- of what is to go to a place that is free
+abbrev pub moving_causes : Names → Place → Place → CauseSet
+moving_causes names old new Inside = goes_inside names old new
+moving_causes names old new _ = false
+
+-- of what is to go to a place where something else may stand, in its stead
+abbrev pub replacing_causes : Names → Place → Place → CauseSet
+replacing_causes names old new Inside = goes_inside names old new
+replacing_causes names old new NotDir = is_directory (node_at names old) && (is_taken (node_at names new) && not (is_directory (node_at names new)))
+replacing_causes names old new IsDir = (is_taken (node_at names old) && not (is_directory (node_at names old))) && is_directory (node_at names new)
+replacing_causes names old new NotEmpty = is_directory (node_at names old) && (is_directory (node_at names new) && has_entries names new)
+replacing_causes names old new _ = false
+
+-- by request
+abbrev pub causes_between : Tree → Ask → Place → Place → CauseSet
+causes_between t (Rename oldpath newpath) old new = moving_causes t.names old new
+causes_between t (PosixRename oldpath newpath) old new = λ cause. not (are_one t.names old new) && replacing_causes t.names old new cause
+causes_between t other old new = λ cause. false
+
+-- ---- the causes of a request
 
 -- a target that no link may have
 abbrev pub target_causes : Ask → CauseSet
@@ -138,27 +236,79 @@ led_causes None at cause = false
 led_causes (Some (Ok place)) at cause = at place cause
 led_causes (Some (Err failed)) at cause = only failed cause
 
+-- causes of two places hold where both paths lead to one
+abbrev pub both_causes : Option (Result Place Cause) → Option (Result Place Cause) → (Place → Place → CauseSet) → CauseSet
+both_causes (Some (Ok old)) (Some (Ok new)) between cause = between old new cause
+both_causes _ _ between cause = false
+
 -- the causes but for the want of room
 unfoldable pub plain_causes : Tree → Ask → CauseSet
-plain_causes t ask cause = led_causes (led t ask) (causes_at t ask) cause || target_causes ask cause
+plain_causes t ask cause =
+    led_causes (led t ask) (causes_at t ask) cause
+    || (led_causes (new_led t ask) (new_causes_at t ask) cause
+    || (both_causes (led t ask) (new_led t ask) (causes_between t ask) cause || target_causes ask cause))
 
 -- ---- what a request does
+
+-- the attributes of a file are set
+abbrev pub with_changed_file : Tree → Attrs → ℕ → Option Content → Tree
+with_changed_file t attrs number None = t
+with_changed_file t attrs number (Some content) = record t { files = with_content t.files number (changed_content attrs content) }
+
+-- the attributes of what stands at a place are set; links have none
+abbrev pub with_attributes : Tree → Attrs → Place → Option Node → Tree
+with_attributes t attrs place None = t
+with_attributes t attrs place (Some (Dir owner)) = record t { names = with_node t.names place (Dir (changed_owner attrs owner)) }
+with_attributes t attrs place (Some (File number)) = with_changed_file t attrs number (content_at t.files number)
+with_attributes t attrs place (Some (Link target)) = t
 
 -- at the place that its path leads to
 abbrev pub target_at : Tree → Ask → Place → Tree
 target_at t (Mkdir path attrs) place = record t { names = with_node t.names place (Dir (directory_owner t attrs)) }
 target_at t (Rmdir path) place = record t { names = without_node t.names place }
+target_at t (Remove path) place = record t { names = without_node t.names place }
+target_at t (Setstat path attrs) place = with_attributes t attrs place (node_at t.names place)
 target_at t (Symlink target link) place = record t { names = with_node t.names place (Link target) }
 target_at t other place = t
+
+-- what stands at the old place, with all below it, goes to the new one
+abbrev pub moved : Tree → Place → Place → Tree
+moved t old new = record t { names = rekeyed old new t.names }
+
+-- the same after what stood at the new place is gone
+abbrev pub put_in_its_stead : Tree → Place → Place → Tree
+put_in_its_stead t old new = record t { names = rekeyed old new (without_node t.names new) }
+
+-- what stands there gets the new place too
+abbrev pub with_further_name : Tree → Option Node → Place → Tree
+with_further_name t None new = t
+with_further_name t (Some standing) new = record t { names = with_node t.names new standing }
+
+-- at the two places that its paths lead to
+abbrev pub target_between : Tree → Ask → Place → Place → Tree
+target_between t (Rename oldpath newpath) old new = moved t old new
+target_between t (PosixRename oldpath newpath) old new = if are_one t.names old new then t else put_in_its_stead t old new
+target_between t (Hardlink oldpath newpath) old new = with_further_name t (node_at t.names old) new
+target_between t other old new = t
 
 abbrev pub led_to : {A : Type 0} → A → Option (Result Place Cause) → (Place → A) → A
 led_to otherwise None at = otherwise
 led_to otherwise (Some (Ok place)) at = at place
 led_to otherwise (Some (Err cause)) at = otherwise
 
--- the tree after a request that no cause refuses
+-- with the place of a first path, and of a second one where there is one
+abbrev pub target_on : Tree → Ask → Place → Option (Result Place Cause) → Tree
+target_on t ask place None = target_at t ask place
+target_on t ask place (Some (Ok new)) = target_between t ask place new
+target_on t ask place (Some (Err cause)) = t
+
+-- the tree that a request which no cause refuses asks for; files that lost their last name are still there
 unfoldable pub target : Tree → Ask → Tree
-target t ask = led_to t (led t ask) (target_at t ask)
+target t ask = led_to t (led t ask) (λ place. target_on t ask place (new_led t ask))
+
+-- the tree after such a request: a file goes with its last name
+abbrev pub after : Tree → Ask → Tree
+after t ask = trim (target t ask)
 
 -- The causes that hold. There is no room where no other cause holds and what would stand afterwards breaks a
 -- limit.
@@ -168,13 +318,18 @@ causes t ask cause = plain_causes t ask cause
 
 -- ---- what a request is told
 
+abbrev pub shown_at : Tree → Option Node → Option Attrs
+shown_at t None = None
+shown_at t (Some standing) = shown t standing
+
 -- the attributes of what stands where its path leads
 unfoldable pub shown_to : Tree → Ask → Option Attrs
-shown_to t ask = led_to None (led t ask) (λ place. option_map (shown t) (node_at t.names place))
+shown_to t ask = led_to None (led t ask) (λ place. shown_at t (node_at t.names place))
 
 abbrev pub target_of : Option Node → Option (List ℕ)
 target_of (Some (Link target)) = Some target
 target_of (Some (Dir owner)) = None
+target_of (Some (File number)) = None
 target_of None = None
 
 -- the target of the link that stands where its path leads

@@ -1,14 +1,16 @@
--- The tree: what stands at each place, where relative paths start, and who owns what is made with no owner
--- given. The limits are this profile's own.
-use Rattle.std.specs.Prelude.{◌&&◌, nat_le, ℕ, ◌-◌, ◌<◌, ◌^◌, Bool, true, false, [], length, Option, Some, None, IsTrue}
+-- The tree: what stands at each place, the files that have names there, where relative paths start, and who owns what is made
+-- with no owner given. The limits are this profile's own.
+use Rattle.std.specs.Prelude.{◌&&◌, ◌||◌, ◌==◌, nat_lt, nat_le, ℕ, ◌-◌, ◌<◌, ◌≤◌, ◌^◌, Bool, true, false, [], length, Option, Some, None, is_some, IsTrue}
+use Rattle.std.specs.Ordering.{nat_cmp}
 use Rattle.std.specs.List.{list_any, list_all, AllByRecursion}
 use Rattle.sftp_path.specs.Place.{Place, place_cmp, parent, is_below, are_names, depth_limit}
-use Rattle.sftp_path.specs.Table.{Table, InOrder, get, put, without}
+use Rattle.sftp_path.specs.Table.{Table, InOrder, get, put, without, retain, count}
 use Rattle.sftp_treefile.specs.declared.limits.TreeLimits.{TreeLimits}
 use Rattle.sftp_treefile.specs.Limits.{usual_limits}
 use Rattle.sftp_treefile.specs.TreeFile.{IsOwner, is_target, are_bytes}
+use Rattle.sftp_tree.specs.declared.contents.Content.{Content}
 use Rattle.sftp_tree.specs.declared.nodes.Node.{Node}
-use Rattle.sftp_tree.specs.declared.nodes.Node.TheVariants.{Dir, Link}
+use Rattle.sftp_tree.specs.declared.nodes.Node.TheVariants.{Dir, File, Link}
 
 -- ---- what stands where
 
@@ -34,44 +36,107 @@ is_taken (Some node) = true
 abbrev pub is_directory : Option Node → Bool
 is_directory None = false
 is_directory (Some (Dir owner)) = true
+is_directory (Some (File number)) = false
 is_directory (Some (Link target)) = false
+
+abbrev pub is_file : Option Node → Bool
+is_file None = false
+is_file (Some (Dir owner)) = false
+is_file (Some (File number)) = true
+is_file (Some (Link target)) = false
 
 abbrev pub is_link : Option Node → Bool
 is_link None = false
 is_link (Some (Dir owner)) = false
+is_link (Some (File number)) = false
 is_link (Some (Link target)) = true
 
 -- whether anything stands below a place
 unfoldable pub has_entries : Names → Place → Bool
 has_entries names place = list_any (λ e. is_below place e.0) names
 
+-- ---- files
+
+-- files by their numbers
+abbrev pub Files : Type 0
+Files = Table ℕ Content
+
+-- the file of a number
+abbrev pub content_at : Files → ℕ → Option Content
+content_at files number = get nat_cmp files number
+
+-- with this for the file of a number
+abbrev pub with_content : Files → ℕ → Content → Files
+with_content files number content = put nat_cmp files number content
+
+-- whether it is a name of the file
+abbrev pub names_file : ℕ → Node → Bool
+names_file number (Dir owner) = false
+names_file number (File n) = n == number
+names_file number (Link target) = false
+
+-- how many names a file has
+abbrev pub times_named : Names → ℕ → ℕ
+times_named names number = count names (names_file number)
+
+abbrev pub is_named : Names → ℕ → Bool
+is_named names number = nat_lt 0 (times_named names number)
+
 -- ---- a tree
 
 pub record Tree : Type 0 where
   -- what stands at each place; the root is one of them
   pub names : Names
+  -- the files
+  pub files : Files
+  -- how many numbers were given to files; none is given again
+  pub made : ℕ
   -- where relative paths start; it need not exist
   pub home : Place
   -- who owns what is made with no owner given
   pub uid : ℕ
   pub gid : ℕ
 
--- a directory has an owner and twelve bits of permissions, a link any bytes
-abbrev pub IsNode : Node → Type 0
-IsNode (Dir owner) = IsOwner owner
-IsNode (Link target) = IsTrue (are_bytes target)
+-- the tree without the files that have no name and that nothing else holds
+abbrev pub trimmed : (ℕ → Bool) → Tree → Tree
+trimmed is_held t = record t { files = retain t.files (λ e. is_named t.names e.0 || is_held e.0) }
+
+-- no file is held but by its names
+abbrev pub held_by_names_alone : ℕ → Bool
+held_by_names_alone number = false
+
+-- the tree without the files that have no name
+abbrev pub trim : Tree → Tree
+trim t = trimmed held_by_names_alone t
+
+-- a directory has an owner and twelve bits of permissions, a name of a file the number of one, a link any bytes
+abbrev pub IsNode : Files → Node → Type 0
+IsNode files (Dir owner) = IsOwner owner
+IsNode files (File number) = IsTrue (is_some (content_at files number))
+IsNode files (Link target) = IsTrue (are_bytes target)
+
+abbrev pub IsContent : Content → Type 0
+IsContent content = IsOwner content.owner × IsTrue (are_bytes content.bytes)
 
 -- What makes it a tree: its places are lists of names, in order and each but once, the root is a directory, each
--- other place's parent is one, and each number fits its field.
+-- other place's parent is one, names of files are names of files that are there, the numbers of files were given, and each
+-- number fits its field.
 pub record WellFormed (t : Tree) : Type 0 where
   pub ordered : InOrder place_cmp t.names
   pub named : AllByRecursion (λ e. IsTrue (are_names e.0)) t.names
-  pub nodes : AllByRecursion (λ e. IsNode e.1) t.names
+  pub nodes : AllByRecursion (λ e. IsNode t.files e.1) t.names
   pub root : IsTrue (is_directory (node_at t.names []))
   pub parents : (place : Place) → IsTrue (is_taken (node_at t.names place)) → IsTrue (is_directory (node_at t.names (parent place)))
+  pub numbered : InOrder nat_cmp t.files
+  pub contents : AllByRecursion (λ e. IsContent e.1) t.files
+  pub given : AllByRecursion (λ e. e.0 < t.made) t.files
   pub home : IsTrue (are_names t.home)
   pub uid : t.uid < 2 ^ 32
   pub gid : t.gid < 2 ^ 32
+
+-- each file has a name
+abbrev pub IsTrimmed : Tree → Type 0
+IsTrimmed t = AllByRecursion (λ e. IsTrue (is_named t.names e.0)) t.files
 
 -- ---- limits
 
@@ -98,16 +163,28 @@ home_fits t = depth_fits t.home
 -- the target of a link is a good path, and not empty
 abbrev pub link_fits : Node → Bool
 link_fits (Dir owner) = true
+link_fits (File number) = true
 link_fits (Link target) = is_target target
 
 abbrev pub links_fit : Tree → Bool
 links_fit t = list_all (λ e. link_fits e.1) t.names
 
+abbrev pub content_fits : TreeLimits → Content → Bool
+content_fits bounds content = nat_le (length content.bytes) bounds.file_bytes
+
+abbrev pub files_fit : Tree → Bool
+files_fit t = list_all (λ e. content_fits (limits t) e.1) t.files
+
+-- how many numbers were given to files has 32 bits
+abbrev pub numbers_fit : Tree → Bool
+numbers_fit t = nat_lt t.made (2 ^ 32)
+
 -- a tree within the limits
 unfoldable pub fits : Tree → Bool
-fits t = entries_fit t && (depths_fit t && (home_fits t && links_fit t))
+fits t = entries_fit t && (depths_fit t && (home_fits t && (links_fit t && (files_fit t && numbers_fit t))))
 
 -- what every tree of the program keeps
 pub record IsKept (t : Tree) : Type 0 where
   pub well_formed : WellFormed t
   pub within_limits : IsTrue (fits t)
+  pub trimmed : IsTrimmed t

@@ -3,9 +3,9 @@
 use Rattle.std.specs.Prelude.{ℕ, zero, suc, ◌+◌, ◌*◌, Bool, true, false, if◌then◌else◌, List, [], ◌∷◌, ◌++◌, Option, Some, None, Result, Ok, Err}
 use Rattle.sftp_path.specs.Place.{Name, Place, parent, is_dot, is_dot_dot, components, is_absolute, is_good_path, depth_limit}
 use Rattle.sftp_tree.specs.declared.nodes.Node.{Node}
-use Rattle.sftp_tree.specs.declared.nodes.Node.TheVariants.{Dir, Link}
+use Rattle.sftp_tree.specs.declared.nodes.Node.TheVariants.{Dir, File, Link}
 use Rattle.sftp_tree.specs.declared.causes.Cause.{Cause}
-use Rattle.sftp_tree.specs.declared.causes.Cause.TheVariants.{BadPath, NoEntry, Loop}
+use Rattle.sftp_tree.specs.declared.causes.Cause.TheVariants.{BadPath, NoEntry, NotDir, Loop}
 use Rattle.sftp_tree.specs.Tree.{Names, node_at, Tree}
 
 -- what a walk meets at a component
@@ -29,6 +29,11 @@ met_link target place true false = ends place
 met_link target place true true = through target
 met_link target place false follow = through target
 
+-- a file that is last is the answer, and nothing lies behind it
+abbrev pub met_file : Place → Bool → Meeting
+met_file place true = ends place
+met_file place false = fails NotDir
+
 -- what is absent is the answer if the name is the last, as the place of something to be made
 abbrev pub met_nothing : Place → Bool → Meeting
 met_nothing place true = ends place
@@ -37,6 +42,7 @@ met_nothing place false = fails NoEntry
 -- at a name: a directory is entered
 abbrev pub met : Option Node → Place → Bool → Bool → Meeting
 met (Some (Dir owner)) place last follow = enters place
+met (Some (File number)) place last follow = met_file place last
 met (Some (Link target)) place last follow = met_link target place last follow
 met None place last follow = met_nothing place last
 

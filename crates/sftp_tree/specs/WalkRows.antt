@@ -10,7 +10,7 @@ directory = Dir (record { uid = 0; gid = 0; permissions = 0o755 })
 
 -- the tree with a root and these entries below it, whose home is the root
 abbrev pub tree_of : Names → Tree
-tree_of names = record { names = ([], directory) ∷ names; home = []; uid = 0; gid = 0 }
+tree_of names = record { names = ([], directory) ∷ names; files = []; made = 0; home = []; uid = 0; gid = 0 }
 
 -- the directory `/d/e`, and the link `/l` to it
 abbrev pub with_link : Tree

@@ -3,9 +3,9 @@
 use Rattle.std.specs.Prelude.{◌≡◌, ℕ, zero, suc, Bool, false, List, [], ◌∷◌, ◌++◌, Some, None, Result, Ok, Err, IsTrue}
 use Rattle.sftp_treefile.specs.declared.files.Owner.{Owner}
 use Rattle.sftp_path.specs.Place.{Name, Place, parent, is_dot, is_dot_dot, components}
-use Rattle.sftp_tree.specs.declared.nodes.Node.TheVariants.{Dir, Link}
+use Rattle.sftp_tree.specs.declared.nodes.Node.TheVariants.{Dir, File, Link}
 use Rattle.sftp_tree.specs.declared.causes.Cause.{Cause}
-use Rattle.sftp_tree.specs.declared.causes.Cause.TheVariants.{NoEntry, Loop}
+use Rattle.sftp_tree.specs.declared.causes.Cause.TheVariants.{NoEntry, NotDir, Loop}
 use Rattle.sftp_tree.specs.Tree.{Names, node_at}
 use Rattle.sftp_tree.specs.Walk.{start_of}
 
@@ -37,6 +37,12 @@ pub data Leads (names : Names) (follow : Bool) : ℕ → Place → List Name →
   -- a directory is entered
   enters : (left : ℕ) (at : Place) (name : Name) (rest : List Name) (answer : Result Place Cause) (owner : Owner) → IsPlain name →
       node_at names (at ++ name ∷ []) ≡ Some (Dir owner) → Leads names follow left (at ++ name ∷ []) rest answer → Leads names follow left at (name ∷ rest) answer
+  -- a file that is last is the answer
+  finds_file : (left : ℕ) (at : Place) (name : Name) (number : ℕ) → IsPlain name →
+      node_at names (at ++ name ∷ []) ≡ Some (File number) → Leads names follow left at (name ∷ []) (Ok (at ++ name ∷ []))
+  -- and leads nowhere if it is not
+  stops_at_file : (left : ℕ) (at : Place) (name next : Name) (rest : List Name) (number : ℕ) → IsPlain name →
+      node_at names (at ++ name ∷ []) ≡ Some (File number) → Leads names follow left at (name ∷ next ∷ rest) (Err NotDir)
   -- a link that is last is the answer of a walk that does not follow it
   finds_link : (left : ℕ) (at : Place) (name : Name) (target : List ℕ) → IsPlain name →
       follow ≡ false → node_at names (at ++ name ∷ []) ≡ Some (Link target) → Leads names follow left at (name ∷ []) (Ok (at ++ name ∷ []))

@@ -1,5 +1,6 @@
 //! Attributes of requests and of entries (draft, section 5).
-ghost use Rattle.std.specs.Prelude.{◌≡◌};
+ghost use Rattle.std.specs.Prelude.{◌≡◌, Some, is_some, IsTrue};
+ghost use Rattle.std.specs.Option.{option_map};
 ghost use Rattle.sftp_treefile.specs.TreeFile.{IsOwner};
 ghost use Rattle.sftp_tree.specs.Attributes as spec;
 ghost use Rattle.sftp_tree.specs.Tree as tree;
@@ -17,6 +18,9 @@ const PERMISSION_BITS: u32 = 0o7777;
 
 /// The type bits of a directory, as POSIX has them.
 const DIRECTORY_BITS: u32 = 0o040000;
+
+/// The type bits of a file, as POSIX has them.
+const FILE_BITS: u32 = 0o100000;
 
 /// The type bits of a link, as POSIX has them, with permissions that let everything be done.
 const LINK_PERMISSIONS: u32 = 0o120777;
@@ -40,10 +44,11 @@ impl Tree {
         }
     }
 
-    /// What is shown of an entry: of a directory the size 0, of a link its target's length and the tree's owner.
+    /// What is shown of an entry: of a directory the size 0, of a file the count of its bytes, of a link its target's length and the
+    /// tree's owner.
     pub(crate) fn shown(&self, node: &Node) -> Attrs
-        requires { tree.IsNode node.now }
-        ensures { result ≡ spec.shown self.now node.now }
+        requires { tree.IsNode self.now.files node.now }
+        ensures { spec.shown self.now node.now ≡ Some result }
     {
         match node {
             Node::Dir(owner) => said(
@@ -51,12 +56,46 @@ impl Tree {
                 (owner.uid, owner.gid),
                 DIRECTORY_BITS + owner.permissions,
             ),
+            Node::File(number) => self.shown_file(*number),
             Node::Link(target) => said(
                 target.as_slice().len() as u64,
                 (self.uid(), self.gid()),
                 LINK_PERMISSIONS,
             ),
         }
+    }
+
+    /// What is shown of the file of a number.
+    fn shown_file(&self, number: u32) -> Attrs
+        requires { IsTrue (is_some (tree.content_at self.now.files number)) }
+        ensures { option_map spec.shown_content (tree.content_at self.now.files number) ≡ Some result }
+    {
+        match self.content(number) {
+            Some(content) => said(
+                content.bytes.as_slice().len() as u64,
+                (content.owner.uid, content.owner.gid),
+                FILE_BITS + content.owner.permissions,
+            ),
+            None => unreachable!(),
+        }
+    }
+}
+
+/// The owner of what is there already, where attributes are set: that given, else as it was; of permissions the low twelve bits.
+pub(crate) fn changed_owner(attrs: &Attrs, owner: Owner) -> Owner
+    requires { IsOwner owner }
+    ensures owner { result ≡ spec.changed_owner attrs.now owner }
+    ensures fits { IsOwner result }
+{
+    let (uid, gid) = attrs.owner.unwrap_or((owner.uid, owner.gid));
+    let permissions = match attrs.permissions {
+        Some(permissions) => permissions & PERMISSION_BITS,
+        None => owner.permissions,
+    };
+    Owner {
+        uid,
+        gid,
+        permissions,
     }
 }
 

@@ -1,6 +1,7 @@
 //! Why requests are refused, and with which status codes (draft, section 7).
-ghost use Rattle.std.specs.Prelude.{◌≡◌, IfErr, IsTrue, OnOk};
+ghost use Rattle.std.specs.Prelude.{◌≡◌, ◌||◌, IfErr, IsTrue, OnOk};
 ghost use Rattle.std.specs.List.{list_any};
+ghost use Rattle.sftp_tree.specs.declared.causes.Cause as declared;
 ghost use Rattle.sftp_tree.specs.Steps as steps;
 ghost use Rattle.sftp_tree.specs.Sets.{in_set};
 ghost use Rattle.sftp_tree.specs.Judged as judged;
@@ -28,30 +29,42 @@ pub enum Cause {
     /// The new place is taken.
     #[error("Exists")]
     Exists,
+    /// A directory stands where none may be.
+    #[error("IsDir")]
+    IsDir,
     /// The target is asked of what is no link.
     #[error("NotLink")]
     NotLink,
+    /// A further name or a size is asked for what is no file.
+    #[error("NotFile")]
+    NotFile,
     /// A directory that must be empty is not.
     #[error("NotEmpty")]
     NotEmpty,
-    /// The root would be removed.
+    /// The root would be moved, replaced or removed.
     #[error("Root")]
     Root,
+    /// A directory would be moved into itself.
+    #[error("Inside")]
+    Inside,
     /// No other cause holds, and what would stand after the request breaks a limit.
     #[error("NoRoom")]
     NoRoom,
 }
 
 /// The rows of the status table.
-const EVERY_CAUSE: [Cause; 9] = [
+const EVERY_CAUSE: [Cause; 12] = [
     Cause::BadPath,
     Cause::NoEntry,
     Cause::NotDir,
     Cause::Loop,
     Cause::Exists,
+    Cause::IsDir,
     Cause::NotLink,
+    Cause::NotFile,
     Cause::NotEmpty,
     Cause::Root,
+    Cause::Inside,
     Cause::NoRoom,
 ];
 
@@ -64,9 +77,14 @@ impl Cause {
             Cause::BadPath => code == 4 || code == 5,
             Cause::NoEntry => code == 2,
             Cause::NotDir | Cause::Loop => code == 2 || code == 4,
-            Cause::Exists | Cause::NotLink | Cause::NotEmpty | Cause::Root | Cause::NoRoom => {
-                code == 4
-            }
+            Cause::Exists
+            | Cause::IsDir
+            | Cause::NotLink
+            | Cause::NotFile
+            | Cause::NotEmpty
+            | Cause::Root
+            | Cause::Inside
+            | Cause::NoRoom => code == 4,
         }
     }
 }
@@ -79,9 +97,12 @@ pub struct Causes {
     pub(crate) not_dir: bool,
     pub(crate) too_many_links: bool,
     pub(crate) exists: bool,
+    pub(crate) is_dir: bool,
     pub(crate) not_link: bool,
+    pub(crate) not_file: bool,
     pub(crate) not_empty: bool,
     pub(crate) root: bool,
+    pub(crate) inside: bool,
     pub(crate) no_room: bool,
 }
 
@@ -96,9 +117,12 @@ impl Causes {
             not_dir: false,
             too_many_links: false,
             exists: false,
+            is_dir: false,
             not_link: false,
+            not_file: false,
             not_empty: false,
             root: false,
+            inside: false,
             no_room: false,
         }
     }
@@ -114,9 +138,12 @@ impl Causes {
             Cause::NotDir => causes.not_dir = true,
             Cause::Loop => causes.too_many_links = true,
             Cause::Exists => causes.exists = true,
+            Cause::IsDir => causes.is_dir = true,
             Cause::NotLink => causes.not_link = true,
+            Cause::NotFile => causes.not_file = true,
             Cause::NotEmpty => causes.not_empty = true,
             Cause::Root => causes.root = true,
+            Cause::Inside => causes.inside = true,
             Cause::NoRoom => causes.no_room = true,
         }
         causes
@@ -132,9 +159,12 @@ impl Causes {
             Cause::NotDir => self.not_dir,
             Cause::Loop => self.too_many_links,
             Cause::Exists => self.exists,
+            Cause::IsDir => self.is_dir,
             Cause::NotLink => self.not_link,
+            Cause::NotFile => self.not_file,
             Cause::NotEmpty => self.not_empty,
             Cause::Root => self.root,
+            Cause::Inside => self.inside,
             Cause::NoRoom => self.no_room,
         }
     }
@@ -144,6 +174,26 @@ impl Causes {
         ensures { result ≡ list_any (in_set self.now) steps.every_cause }
     {
         EVERY_CAUSE.iter().any(|cause| self.holds(*cause))
+    }
+
+    /// The causes of either set.
+    pub(crate) fn union(self, other: Causes) -> Causes
+        ensures { (cause : declared.Cause) → in_set result cause ≡ (in_set self cause || in_set other cause) }
+    {
+        Causes {
+            bad_path: self.bad_path || other.bad_path,
+            no_entry: self.no_entry || other.no_entry,
+            not_dir: self.not_dir || other.not_dir,
+            too_many_links: self.too_many_links || other.too_many_links,
+            exists: self.exists || other.exists,
+            is_dir: self.is_dir || other.is_dir,
+            not_link: self.not_link || other.not_link,
+            not_file: self.not_file || other.not_file,
+            not_empty: self.not_empty || other.not_empty,
+            root: self.root || other.root,
+            inside: self.inside || other.inside,
+            no_room: self.no_room || other.no_room,
+        }
     }
 
     /// Refuses with the first of the causes, in the order of the table.

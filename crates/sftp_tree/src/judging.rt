@@ -1,5 +1,6 @@
 //! Which causes hold of a request.
-ghost use Rattle.std.specs.Prelude.{◌≡◌, IfOk, true, false};
+ghost use Rattle.std.specs.Prelude.{◌≡◌, ℕ, List, IfOk, true, false};
+ghost use Rattle.sftp_wire.specs.declared.packets.Ask.TheVariants.{Setstat, Remove, Rename, PosixRename, Hardlink};
 ghost use Rattle.sftp_path.specs.Place as places;
 ghost use Rattle.sftp_treefile.specs.TreeFile.{is_target};
 ghost use Rattle.sftp_tree.specs.declared.causes.Cause.{Cause as cause};
@@ -13,7 +14,7 @@ use crate::causes::{Cause, Causes};
 use crate::nodes::Node;
 use crate::trees::Tree;
 use sftp_path::{DEPTH_LIMIT, NoMemory, Place, good_path};
-use sftp_wire::Ask;
+use sftp_wire::{Ask, Attrs};
 use std::collections::BTreeMap;
 use std::ops::Bound;
 
@@ -31,6 +32,17 @@ impl Tree {
         Ok(match ask {
             Ask::Mkdir { path, .. } => self.causes_of_making(path.as_slice())?,
             Ask::Rmdir { path } => self.causes_of_removing(path.as_slice())?,
+            Ask::Remove { path } => self.causes_of_unlinking(path.as_slice())?,
+            Ask::Setstat { path, attrs } => self.causes_of_setting(path.as_slice(), attrs)?,
+            Ask::Rename { oldpath, newpath } => {
+                self.causes_of_renaming(oldpath.as_slice(), newpath.as_slice())?
+            }
+            Ask::PosixRename { oldpath, newpath } => {
+                self.causes_of_replacing(oldpath.as_slice(), newpath.as_slice())?
+            }
+            Ask::Hardlink { oldpath, newpath } => {
+                self.causes_of_linking(oldpath.as_slice(), newpath.as_slice())?
+            }
             Ask::Stat { path } => self.causes_of_needing(path.as_slice(), true)?,
             Ask::Lstat { path } => self.causes_of_needing(path.as_slice(), false)?,
             Ask::Realpath { path } => self.causes_of_leading(path.as_slice())?,
@@ -109,6 +121,41 @@ impl Tree {
         })
     }
 
+    /// The causes of a name that is to be removed where a path leads.
+    fn causes_of_unlinking(&self, path: &[u8]) -> Result<Causes, NoMemory>
+        ensures { IfOk result (λ set. judged.IsSet set (steps.causes self.now (Remove path.now))) }
+    {
+        Err(NoMemory)
+    }
+
+    /// The causes of what is to get attributes where a path leads; a link that is last is followed.
+    fn causes_of_setting(&self, path: &[u8], attrs: &Attrs) -> Result<Causes, NoMemory>
+        ensures { IfOk result (λ set. judged.IsSet set (steps.causes self.now (Setstat path.now attrs.now))) }
+    {
+        Err(NoMemory)
+    }
+
+    /// The causes of what is to go to a place that is free.
+    fn causes_of_renaming(&self, old: &[u8], new: &[u8]) -> Result<Causes, NoMemory>
+        ensures { IfOk result (λ set. judged.IsSet set (steps.causes self.now (Rename old.now new.now))) }
+    {
+        Err(NoMemory)
+    }
+
+    /// The causes of what is to go to a place in the stead of what stands there.
+    fn causes_of_replacing(&self, old: &[u8], new: &[u8]) -> Result<Causes, NoMemory>
+        ensures { IfOk result (λ set. judged.IsSet set (steps.causes self.now (PosixRename old.now new.now))) }
+    {
+        Err(NoMemory)
+    }
+
+    /// The causes of a file that is to get a further name.
+    fn causes_of_linking(&self, old: &[u8], new: &[u8]) -> Result<Causes, NoMemory>
+        ensures { IfOk result (λ set. judged.IsSet set (steps.causes self.now (Hardlink old.now new.now))) }
+    {
+        Err(NoMemory)
+    }
+
     /// The causes of what is to be made at a place.
     #[tactic(auto, unfolding(sftp_path::specs::Table::get))]
     pub(crate) fn making(&self, place: &Place) -> Causes
@@ -131,7 +178,7 @@ impl Tree {
         causes.root = place.depth() == 0;
         match self.names().get(place) {
             Some(Node::Dir(_)) => causes.not_empty = has_entries(self.names(), place),
-            Some(Node::Link(_)) => causes.not_dir = true,
+            Some(Node::File(_) | Node::Link(_)) => causes.not_dir = true,
             None => causes.no_entry = true,
         }
         causes
@@ -154,11 +201,46 @@ impl Tree {
     {
         let mut causes = Causes::none();
         match self.names().get(place) {
-            Some(Node::Dir(_)) => causes.not_link = true,
+            Some(Node::Dir(_) | Node::File(_)) => causes.not_link = true,
             Some(Node::Link(_)) => {}
             None => causes.no_entry = true,
         }
         causes
+    }
+
+    /// The causes of a name that is to be removed from a place.
+    pub(crate) fn unlinking(&self, place: &Place) -> Causes
+        ensures { (path : List ℕ) → judged.IsSet result (judged.causes_at_place self.now (Remove path) place.now) }
+    {
+        Causes::none()
+    }
+
+    /// The causes of what stands at a place and is to get attributes.
+    pub(crate) fn setting(&self, place: &Place, attrs: &Attrs) -> Causes
+        ensures { (path : List ℕ) → judged.IsSet result (judged.causes_at_place self.now (Setstat path attrs.now) place.now) }
+    {
+        Causes::none()
+    }
+
+    /// The causes of what is to go from one place to another that is free.
+    pub(crate) fn renaming(&self, old: &Place, new: &Place) -> Causes
+        ensures { (oldpath newpath : List ℕ) → judged.IsSet result (judged.causes_at_places self.now (Rename oldpath newpath) old.now new.now) }
+    {
+        Causes::none()
+    }
+
+    /// The causes of what is to go from one place to another, in the stead of what stands there.
+    pub(crate) fn replacing(&self, old: &Place, new: &Place) -> Causes
+        ensures { (oldpath newpath : List ℕ) → judged.IsSet result (judged.causes_at_places self.now (PosixRename oldpath newpath) old.now new.now) }
+    {
+        Causes::none()
+    }
+
+    /// The causes of a file that is to get a further name.
+    pub(crate) fn linking(&self, old: &Place, new: &Place) -> Causes
+        ensures { (oldpath newpath : List ℕ) → judged.IsSet result (judged.causes_at_places self.now (Hardlink oldpath newpath) old.now new.now) }
+    {
+        Causes::none()
     }
 
     /// Whether one entry more, at a new place, keeps to the limits. The root is one of the places, and no entry.

@@ -1,9 +1,10 @@
-//! The tree that a session asks of: directories and symbolic links, where paths lead, why requests are refused and
+//! The tree that a session asks of: directories, files and symbolic links, where paths lead, why requests are refused and
 //! what they do (draft-ietf-secsh-filexfer-02, section 6).
 #![tactic(auto)]
 
 mod attributes;
 mod causes;
+mod contents;
 mod judging;
 pub mod laws;
 mod nodes;

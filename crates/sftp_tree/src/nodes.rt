@@ -7,6 +7,8 @@ use sftp_wire::ByteString;
 pub enum Node {
     /// A directory.
     Dir(Owner),
+    /// A name of the file of this number.
+    File(u32),
     /// A symbolic link, with its target.
     Link(ByteString),
 }

@@ -34,7 +34,8 @@ impl Tree {
         };
         let mut names = BTreeMap::new(alloc);
         names.insert(Place::root(alloc), Node::Dir(owner))?;
-        Ok(Tree::from_parts(names, Place::root(alloc), 0, 0))
+        let files = BTreeMap::new(alloc);
+        Ok(Tree::from_parts(names, files, 0, Place::root(alloc), (0, 0)))
     }
 
     /// The tree of a tree file.

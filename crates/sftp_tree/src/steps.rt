@@ -2,7 +2,7 @@
 //! cause, the walk's: `NoEntry`, `NotDir` or `Loop`.
 ghost use Rattle.std.specs.Prelude.{◌≡◌, Some, Ok, IfOk, IfErr, IsTrue, OnOk, OnErr};
 ghost use Rattle.sftp_path.specs.Place.{are_names, parent};
-ghost use Rattle.sftp_wire.specs.declared.packets.Ask.TheVariants.{Mkdir, Rmdir, Realpath, Readlink, Symlink};
+ghost use Rattle.sftp_wire.specs.declared.packets.Ask.TheVariants.{Setstat, Remove, Mkdir, Rmdir, Realpath, Rename, Readlink, Symlink, PosixRename, Hardlink};
 ghost use Rattle.sftp_tree.specs.Tree as tree;
 ghost use Rattle.sftp_tree.specs.Walk.{reached};
 ghost use Rattle.sftp_tree.specs.Steps as steps;
@@ -26,7 +26,7 @@ impl Tree {
     /// then as before.
     pub fn mkdir(&mut self, path: &[u8], attrs: &Attrs) -> Result<(), Refused>
         ensures free { OnOk result (IsFree self.old (Mkdir path.now attrs.now)) }
-        ensures done { OnOk result (self.new ≡ steps.target self.old (Mkdir path.now attrs.now)) }
+        ensures done { OnOk result (self.new ≡ steps.after self.old (Mkdir path.now attrs.now)) }
         ensures refused { IfErr result (λ refused. IsRefusal self.old (Mkdir path.now attrs.now) refused) }
         ensures kept { OnErr result (self.new ≡ self.old) }
     {
@@ -45,14 +45,93 @@ impl Tree {
     /// runs out. The tree is then as before.
     pub fn rmdir(&mut self, path: &[u8]) -> Result<(), Refused>
         ensures free { OnOk result (IsFree self.old (Rmdir path.now)) }
-        ensures done { OnOk result (self.new ≡ steps.target self.old (Rmdir path.now)) }
+        ensures done { OnOk result (self.new ≡ steps.after self.old (Rmdir path.now)) }
         ensures refused { IfErr result (λ refused. IsRefusal self.old (Rmdir path.now) refused) }
         ensures kept { OnErr result (self.new ≡ self.old) }
     {
         let place = self.lead(false, path)?;
         self.removing(&place).refuse()?;
-        self.remove(&place);
+        self.remove_at(&place);
         Ok(())
+    }
+
+    /// REMOVE: removes a name of a file, or a link. A file goes with its last name.
+    ///
+    /// # Errors
+    ///
+    /// The first cause that holds: `BadPath`, the walk's, `NoEntry` or `IsDir`. `NoMemory` where memory
+    /// runs out. The tree is then as before.
+    pub fn remove(&mut self, path: &[u8]) -> Result<(), Refused>
+        ensures free { OnOk result (IsFree self.old (Remove path.now)) }
+        ensures done { OnOk result (self.new ≡ steps.after self.old (Remove path.now)) }
+        ensures refused { IfErr result (λ refused. IsRefusal self.old (Remove path.now) refused) }
+        ensures kept { OnErr result (self.new ≡ self.old) }
+    {
+        Err(Refused::NoMemory)
+    }
+
+    /// SETSTAT: sets the size of a file, which cuts its bytes or fills them with zeros, and the owner and the low twelve bits of the
+    /// permissions of a file or a directory, each where it is given. Times are passed over.
+    ///
+    /// # Errors
+    ///
+    /// The first cause that holds: `BadPath`, the walk's, `NoEntry`, `NotFile` where a directory is given a size, or `NoRoom`. `NoMemory` where memory
+    /// runs out. The tree is then as before.
+    pub fn set_stat(&mut self, path: &[u8], attrs: &Attrs) -> Result<(), Refused>
+        ensures free { OnOk result (IsFree self.old (Setstat path.now attrs.now)) }
+        ensures done { OnOk result (self.new ≡ steps.after self.old (Setstat path.now attrs.now)) }
+        ensures refused { IfErr result (λ refused. IsRefusal self.old (Setstat path.now attrs.now) refused) }
+        ensures kept { OnErr result (self.new ≡ self.old) }
+    {
+        Err(Refused::NoMemory)
+    }
+
+    /// RENAME: gives what stands at the old path, with all below it, a new place that is free.
+    ///
+    /// # Errors
+    ///
+    /// The first cause that holds: `BadPath`, the walk's of the old path and then of the new one, `NoEntry`, `Exists`, `Root`, `Inside` or `NoRoom`. `NoMemory` where memory
+    /// runs out. The tree is then as before.
+    pub fn rename(&mut self, old: &[u8], new: &[u8]) -> Result<(), Refused>
+        ensures free { OnOk result (IsFree self.old (Rename old.now new.now)) }
+        ensures done { OnOk result (self.new ≡ steps.after self.old (Rename old.now new.now)) }
+        ensures refused { IfErr result (λ refused. IsRefusal self.old (Rename old.now new.now) refused) }
+        ensures kept { OnErr result (self.new ≡ self.old) }
+    {
+        Err(Refused::NoMemory)
+    }
+
+    /// posix-rename (OpenSSH's PROTOCOL, section 4.3): gives what stands at the old path, with all below it, the new place, where a
+    /// directory replaces an empty directory, and what is no directory replaces what is none. Nothing is done where both are one
+    /// place, or names of one file. A file goes with its last name.
+    ///
+    /// # Errors
+    ///
+    /// The first cause that holds: `BadPath`, the walk's of the old path and then of the new one, `NoEntry`, `NotDir`, `IsDir`, `NotEmpty`, `Root`, `Inside`
+    /// or `NoRoom`. `NoMemory` where memory
+    /// runs out. The tree is then as before.
+    pub fn posix_rename(&mut self, old: &[u8], new: &[u8]) -> Result<(), Refused>
+        ensures free { OnOk result (IsFree self.old (PosixRename old.now new.now)) }
+        ensures done { OnOk result (self.new ≡ steps.after self.old (PosixRename old.now new.now)) }
+        ensures refused { IfErr result (λ refused. IsRefusal self.old (PosixRename old.now new.now) refused) }
+        ensures kept { OnErr result (self.new ≡ self.old) }
+    {
+        Err(Refused::NoMemory)
+    }
+
+    /// hardlink (OpenSSH's PROTOCOL, section 4.5): gives a file a further name.
+    ///
+    /// # Errors
+    ///
+    /// The first cause that holds: `BadPath`, the walk's of the old path and then of the new one, `NoEntry`, `Exists`, `NotFile` or `NoRoom`. `NoMemory` where memory
+    /// runs out. The tree is then as before.
+    pub fn hardlink(&mut self, old: &[u8], new: &[u8]) -> Result<(), Refused>
+        ensures free { OnOk result (IsFree self.old (Hardlink old.now new.now)) }
+        ensures done { OnOk result (self.new ≡ steps.after self.old (Hardlink old.now new.now)) }
+        ensures refused { IfErr result (λ refused. IsRefusal self.old (Hardlink old.now new.now) refused) }
+        ensures kept { OnErr result (self.new ≡ self.old) }
+    {
+        Err(Refused::NoMemory)
     }
 
     /// SYMLINK: makes a link with these bytes for its target, as they came.
@@ -63,7 +142,7 @@ impl Tree {
     /// where memory runs out. The tree is then as before.
     pub fn symlink(&mut self, target: &[u8], link: &[u8]) -> Result<(), Refused>
         ensures free { OnOk result (IsFree self.old (Symlink target.now link.now)) }
-        ensures done { OnOk result (self.new ≡ steps.target self.old (Symlink target.now link.now)) }
+        ensures done { OnOk result (self.new ≡ steps.after self.old (Symlink target.now link.now)) }
         ensures refused { IfErr result (λ refused. IsRefusal self.old (Symlink target.now link.now) refused) }
         ensures kept { OnErr result (self.new ≡ self.old) }
     {
@@ -124,7 +203,7 @@ impl Tree {
             Some(Node::Link(target)) => {
                 Ok(Vec::from_slice(self.home().allocator(), target.as_slice())?)
             }
-            Some(Node::Dir(_)) => Err(Refused::Cause(Cause::NotLink)),
+            Some(Node::Dir(_) | Node::File(_)) => Err(Refused::Cause(Cause::NotLink)),
             None => Err(Refused::Cause(Cause::NoEntry)),
         }
     }

@@ -1,16 +1,21 @@
 //! The tree.
-ghost use Rattle.std.specs.Prelude.{◌≡◌, OnOk, OnErr};
+ghost use Rattle.std.specs.Prelude.{◌≡◌, ◌∷◌, false, Some, None, option_copied, OnOk, OnErr, IsTrue};
+ghost use Rattle.sftp_path.specs.Place.{Name, begins};
 
+use crate::contents::{Content, Stored};
 use crate::nodes::Node;
 use sftp_path::{NoMemory, Place};
-use sftp_treefile::{TreeLimits, usual_limits};
+use sftp_treefile::{Owner, TreeLimits, usual_limits};
+use sftp_wire::Attrs;
 use std::collections::BTreeMap;
 use std::marker::Model;
 
-/// A tree of directories and symbolic links, within the limits.
+/// A tree of directories, files and symbolic links, within the limits.
 #[derive(Debug, Drop)]
 pub struct Tree {
     names: BTreeMap<Place, Node>,
+    files: BTreeMap<u32, Stored>,
+    made: u32,
     home: Place,
     uid: u32,
     gid: u32,
@@ -18,27 +23,39 @@ pub struct Tree {
 
 impl Model for Tree {
     ghost use Rattle.sftp_tree.specs.Tree as tree;
+    ghost use Rattle.sftp_tree.specs.Stored as stored;
 
     ghost Value = { tree.Tree };
 
-    ghost view = { λ t. record { names = t.names.entries; home = t.home; uid = t.uid; gid = t.gid } };
+    ghost view = { λ t. record { names = t.names.entries; files = stored.contents t.files.entries; made = t.made; home = t.home; uid = t.uid; gid = t.gid } };
 
-    ghost invariant = { λ t. tree.IsKept (record { names = t.names.entries; home = t.home; uid = t.uid; gid = t.gid }) };
+    ghost invariant = { λ t. tree.IsKept (record { names = t.names.entries; files = stored.contents t.files.entries; made = t.made; home = t.home; uid = t.uid; gid = t.gid })
+        × stored.AreCounted t.names.entries t.files.entries };
 }
 
 impl Tree {
+    ghost use Rattle.sftp_tree.specs.declared.nodes.Node.TheVariants.{Dir};
     ghost use Rattle.sftp_tree.specs.Tree as tree;
+    ghost use Rattle.sftp_tree.specs.Stored as stored;
+    ghost use Rattle.sftp_tree.specs.Steps as steps;
 
     /// A tree of these parts. It takes no memory.
-    pub(crate) fn from_parts(names: BTreeMap<Place, Node>, home: Place, uid: u32, gid: u32) -> Tree
-        requires { tree.IsKept (record { names = names.entries; home = home; uid = uid; gid = gid }) }
-        ensures names { result.names ≡ names.entries }
-        ensures home { result.home ≡ home }
-        ensures uid { result.uid ≡ uid }
-        ensures gid { result.gid ≡ gid }
+    pub(crate) fn from_parts(
+        names: BTreeMap<Place, Node>,
+        files: BTreeMap<u32, Stored>,
+        made: u32,
+        home: Place,
+        owner: (u32, u32),
+    ) -> Tree
+        requires kept { tree.IsKept (record { names = names.entries; files = stored.contents files.entries; made = made; home = home; uid = owner.0; gid = owner.1 }) }
+        requires counted { stored.AreCounted names.entries files.entries }
+        ensures { result ≡ record { names = names.entries; files = stored.contents files.entries; made = made; home = home; uid = owner.0; gid = owner.1 } }
     {
+        let (uid, gid) = owner;
         Tree {
             names,
+            files,
+            made,
             home,
             uid,
             gid,
@@ -51,6 +68,13 @@ impl Tree {
         ensures kept { tree.IsKept self.now }
     {
         &self.names
+    }
+
+    /// The file of a number.
+    pub(crate) fn content(&self, number: u32) -> Option<&Content>
+        ensures { option_copied result ≡ tree.content_at self.now.files number }
+    {
+        self.files.get(&number).map(|stored| &stored.content)
     }
 
     /// Where relative paths start.
@@ -81,28 +105,65 @@ impl Tree {
         usual_limits()
     }
 
-    /// Puts a node at a place.
+    /// Puts a node at a place where nothing stands.
     ///
     /// # Errors
     ///
     /// `NoMemory` where memory runs out; the tree is then as before.
-    #[tactic(auto, unfolding(sftp_path::specs::Table::put))]
     pub(crate) fn put(&mut self, place: Place, node: Node) -> Result<(), NoMemory>
-        requires { tree.IsKept (record self.old { names = tree.with_node self.old.names place node }) }
+        requires absent { tree.node_at self.old.names place ≡ None }
+        requires kept { tree.IsKept (record self.old { names = tree.with_node self.old.names place node }) }
         ensures ok { OnOk result
             (self.new ≡ record self.old { names = tree.with_node self.old.names place node }) }
         ensures err { OnErr result (self.new ≡ self.old) }
     {
-        self.names.insert(place, node)?;
-        Ok(())
+        Err(NoMemory)
     }
 
-    /// Removes what stands at a place.
-    #[tactic(auto, unfolding(sftp_path::specs::Table::without))]
-    pub(crate) fn remove(&mut self, place: &Place)
-        requires { tree.IsKept (record self.old { names = tree.without_node self.old.names place.now }) }
-        ensures { self.new ≡ record self.old { names = tree.without_node self.old.names place.now } }
+    /// Removes what stands at a place; a file goes with its last name.
+    pub(crate) fn remove_at(&mut self, place: &Place)
+        requires { tree.IsKept (tree.trim (record self.old { names = tree.without_node self.old.names place.now })) }
+        ensures { self.new ≡ tree.trim (record self.old { names = tree.without_node self.old.names place.now }) }
     {
-        self.names.remove(place);
+    }
+
+    /// Moves what stands at the old place, with all below it, to the new one, in the stead of what stands there; a file goes with
+    /// its last name.
+    ///
+    /// # Errors
+    ///
+    /// `NoMemory` where memory runs out; the tree is then as before.
+    pub(crate) fn move_to(&mut self, old: &Place, new: Place) -> Result<(), NoMemory>
+        requires taken { IsTrue (tree.is_taken (tree.node_at self.old.names old.now)) }
+        requires apart { begins old.now new ≡ false }
+        requires alone { (n : Name) (ns : List Name) → tree.node_at self.old.names (new ++ n ∷ ns) ≡ None }
+        requires kept { tree.IsKept (tree.trim (steps.put_in_its_stead self.old old.now new)) }
+        ensures ok { OnOk result (self.new ≡ tree.trim (steps.put_in_its_stead self.old old.now new)) }
+        ensures err { OnErr result (self.new ≡ self.old) }
+    {
+        Err(NoMemory)
+    }
+
+    /// Gives a directory an owner.
+    pub(crate) fn set_owner(&mut self, place: &Place, owner: Owner)
+        requires directory { IsTrue (tree.is_directory (tree.node_at self.old.names place.now)) }
+        requires kept { tree.IsKept (record self.old { names = tree.with_node self.old.names place.now (Dir owner) }) }
+        ensures { self.new ≡ record self.old { names = tree.with_node self.old.names place.now (Dir owner) } }
+    {
+    }
+
+    /// Sets the attributes of a file: its size, which cuts the bytes or fills them with zeros, its owner and the low twelve bits of
+    /// its permissions, each where it is given.
+    ///
+    /// # Errors
+    ///
+    /// `NoMemory` where memory runs out; the tree is then as before.
+    pub(crate) fn change_file(&mut self, number: u32, attrs: &Attrs) -> Result<(), NoMemory>
+        requires { tree.IsKept (steps.with_changed_file self.old attrs.now number (tree.content_at self.old.files number)) }
+        ensures ok { OnOk result
+            (self.new ≡ steps.with_changed_file self.old attrs.now number (tree.content_at self.old.files number)) }
+        ensures err { OnErr result (self.new ≡ self.old) }
+    {
+        Err(NoMemory)
     }
 }

@@ -58,6 +58,8 @@ fn meet<'a>(
     at.enter_component(component)?;
     Ok(match names.get(&*at) {
         Some(Node::Dir(_)) => Met::Enters,
+        Some(Node::File(_)) if is_last => Met::Ends,
+        Some(Node::File(_)) => Met::Fails(Cause::NotDir),
         Some(Node::Link(_)) if is_last && !follow => Met::Ends,
         Some(Node::Link(target)) => {
             at.leave();

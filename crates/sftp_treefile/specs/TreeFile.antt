@@ -1,6 +1,6 @@
 -- Tree files: what a tree is, as rows and as bytes. This profile's own.
-use Rattle.std.specs.Prelude.{◌≡◌, ◌&&◌, ◌||◌, nat_lt, nat_eq, ℕ, ◌<◌, ◌≤◌, ◌^◌, Bool, true, false, List, [], ◌∷◌, ◌++◌, length, Result, MatchResult, IsTrue, codes}
-use Rattle.std.specs.List.{flat_map, list_all, list_any, AllByRecursion}
+use Rattle.std.specs.Prelude.{◌≡◌, ◌&&◌, ◌||◌, nat_lt, nat_eq, ℕ, zero, suc, ◌<◌, ◌≤◌, ◌^◌, Bool, true, false, List, [], ◌∷◌, ◌++◌, length, Option, Some, None, Result, MatchResult, IsTrue, codes}
+use Rattle.std.specs.List.{flat_map, list_all, list_any, slice_get, AllByRecursion}
 use Rattle.std.specs.Cmp.Lexicographic.{pointwise}
 use Rattle.std.specs.declared.cmp.Ordering.TheVariants.{Less}
 use Rattle.sftp_wire.specs.Spelling.{uint32, string}
@@ -9,7 +9,7 @@ use Rattle.sftp_treefile.specs.declared.errors.TreeError.{TreeError}
 use Rattle.sftp_treefile.specs.declared.errors.TreeError.TheVariants.{NoMemory}
 use Rattle.sftp_treefile.specs.declared.files.Owner.{Owner}
 use Rattle.sftp_treefile.specs.declared.files.Kind.{Kind}
-use Rattle.sftp_treefile.specs.declared.files.Kind.TheVariants.{Dir, Link}
+use Rattle.sftp_treefile.specs.declared.files.Kind.TheVariants.{Dir, First, Further, Link}
 use Rattle.sftp_treefile.specs.declared.files.Row.{Row}
 use Rattle.sftp_treefile.specs.declared.files.TreeFile.{TreeFile}
 use Rattle.sftp_treefile.specs.Limits.{usual_limits}
@@ -23,9 +23,12 @@ tree_opening = codes "SFTREE01"
 abbrev pub owner_text : Owner → List ℕ
 owner_text owner = uint32 owner.uid ++ (uint32 owner.gid ++ uint32 owner.permissions)
 
--- the kind's letter, and what it says: `D` and the owner, `L` and the target
+-- the kind's letter, and what it says: `D` and the owner, `F` with the owner and the bytes of a file, `H` and the number of the
+-- entry that has its file, `L` and the target
 abbrev pub kind_text : Kind → List ℕ
 kind_text (Dir owner) = 68 ∷ owner_text owner
+kind_text (First owner bytes) = 70 ∷ (owner_text owner ++ string bytes)
+kind_text (Further number) = 72 ∷ uint32 number
 kind_text (Link target) = 76 ∷ string target
 
 abbrev pub row_text : Row → List ℕ
@@ -62,9 +65,28 @@ is_target target = nat_lt 0 (length target) && is_good_path target
 abbrev pub are_bytes : List ℕ → Bool
 are_bytes bytes = list_all (λ b. nat_lt b 256) bytes
 
-abbrev pub IsKind : Kind → Type 0
-IsKind (Dir owner) = IsOwner owner
-IsKind (Link target) = IsTrue (is_target target) × IsTrue (are_bytes target)
+-- whether this is the first name of a file
+abbrev pub is_first : Kind → Bool
+is_first (Dir owner) = false
+is_first (First owner bytes) = true
+is_first (Further number) = false
+is_first (Link target) = false
+
+abbrev pub is_first_row : Option Row → Bool
+is_first_row None = false
+is_first_row (Some row) = is_first row.kind
+
+-- the entry of a number; entries count from 1
+abbrev pub entry_at : List Row → ℕ → Option Row
+entry_at rows zero = None
+entry_at rows (suc n) = slice_get rows n
+
+-- what an entry behind these may be: a further name is that of a file whose first name is among them
+abbrev pub IsKind : List Row → Kind → Type 0
+IsKind earlier (Dir owner) = IsOwner owner
+IsKind earlier (First owner bytes) = IsOwner owner × (length bytes ≤ usual_limits.file_bytes) × IsTrue (are_bytes bytes)
+IsKind earlier (Further number) = (number < 2 ^ 32) × IsTrue (is_first_row (entry_at earlier number))
+IsKind earlier (Link target) = IsTrue (is_target target) × IsTrue (are_bytes target)
 
 abbrev pub same_place : Place → Place → Bool
 same_place p q = pointwise (pointwise nat_eq) p q
@@ -75,6 +97,8 @@ is_root (n ∷ ns) = false
 
 abbrev pub is_dir : Kind → Bool
 is_dir (Dir owner) = true
+is_dir (First owner bytes) = false
+is_dir (Further number) = false
 is_dir (Link target) = false
 
 -- whether a row is that of a directory at this place
@@ -91,9 +115,9 @@ pub record IsNext (earlier : List Row) (row : Row) : Type 0 where
   pub below_root : 0 < length (place_of row.path)
   pub later : AllByRecursion (λ (r : Row). place_cmp (place_of r.path) (place_of row.path) ≡ Less) earlier
   pub parent : IsTrue (has_dir earlier (parent (place_of row.path)))
-  pub kind : IsKind row.kind
+  pub kind : IsKind earlier row.kind
 
--- each row may stand behind those before it
+-- each row may stand behind those before it: the first rows are given, and then the others
 abbrev pub AreRows : List Row → List Row → Type 0
 AreRows earlier [] = Unit {0}
 AreRows earlier (row ∷ rows) = IsNext earlier row × AreRows (earlier ++ row ∷ []) rows

@@ -5,7 +5,7 @@ ghost use Rattle.sftp_treefile.specs.TreeFile.{place_of, owner_text, kind_text, 
 ghost use Rattle.sftp_treefile.specs.TreeFileParts.{Reads, ReadsNone, OutOfMemoryOr, IsAt, IsNumber, IsPermissions, IsTarget};
 
 use crate::errors::TreeError;
-use crate::files::{Kind, Owner};
+use crate::files::{Kind, Owner, Row};
 use sftp_path::{DEPTH_LIMIT, Place, canonical, good_path};
 use sftp_wire::{ByteString, take_number, take_string};
 use std::alloc::Global;
@@ -109,10 +109,15 @@ fn letter_at(entry: u32, bytes: &[u8]) -> Result<(u8, &[u8]), TreeError>
     Ok((*letter, rest))
 }
 
-/// What the entry in front is, and what follows that.
-pub(crate) fn kind_at(alloc: Global, entry: u32, bytes: &[u8]) -> Result<(Kind, &[u8]), TreeError>
-    ensures found { IfOk result (λ taken. Reads IsKind kind_text bytes.now taken.0 taken.1.now) }
-    ensures none { IfErr result (λ error. OutOfMemoryOr error (ReadsNone IsKind kind_text bytes.now)) }
+/// What the entry in front is, which stands behind these rows, and what follows that.
+pub(crate) fn kind_at<'a>(
+    alloc: Global,
+    entry: u32,
+    rows: &[Row],
+    bytes: &'a [u8],
+) -> Result<(Kind, &'a [u8]), TreeError>
+    ensures found { IfOk result (λ taken. Reads (IsKind rows.now) kind_text bytes.now taken.0 taken.1.now) }
+    ensures none { IfErr result (λ error. OutOfMemoryOr error (ReadsNone (IsKind rows.now) kind_text bytes.now)) }
     ensures number { IfErr result (IsAt entry) }
 {
     let (letter, rest) = letter_at(entry, bytes)?;

@@ -20,6 +20,10 @@ pub struct Owner {
 pub enum Kind {
     /// A directory.
     Dir(Owner),
+    /// The first name of a file, with its bytes: 16,777,216 of them at most.
+    First(Owner, ByteString),
+    /// A further name of a file, with the number of the entry that is its first name. Entries count from 1.
+    Further(u32),
     /// A symbolic link, with its target: a good path that is not empty.
     Link(ByteString),
 }

@@ -13,11 +13,16 @@ use std::alloc::Global;
 
 /// What a tree file says before its entries.
 #[derive(Debug, Drop)]
-pub(crate) struct Head {
+pub struct Head {
+    /// The absolute text of the place where relative paths start.
     pub home: ByteString,
+    /// The user who owns what is made with no owner given.
     pub uid: u32,
+    /// The group that owns what is made with no owner given.
     pub gid: u32,
+    /// How many entries there are.
     pub count: u32,
+    /// The owner of the root, which has no entry.
     pub root: Owner,
 }
 

@@ -14,11 +14,12 @@ mod writing;
 
 pub use errors::TreeError;
 pub use files::{Kind, Owner, Row, Rows, TreeFile};
+pub use heads::Head;
 pub use laws::files_are_one;
 pub use limits::{TreeLimits, usual_limits};
 pub use reading::read_rows;
 pub use sftp_path::NoMemory;
-pub use writing::write_rows;
+pub use writing::{put_directory, put_file, put_further_name, put_head, put_link, write_rows};
 
 #[cfg(test)]
 mod tests;

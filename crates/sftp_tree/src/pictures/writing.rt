@@ -66,7 +66,7 @@ fn root_owner(alloc: Global, names: &BTreeMap<Place, Node>) -> Owner
 {
     match names.get(&Place::root(alloc)) {
         Some(Node::Dir(owner)) => *owner,
-        Some(Node::Link(_)) | None => Owner {
+        Some(Node::File(_) | Node::Link(_)) | None => Owner {
             uid: 0,
             gid: 0,
             permissions: 0,

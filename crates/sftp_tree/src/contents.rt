@@ -1,0 +1,67 @@
+//! What files hold.
+ghost use Rattle.std.specs.Prelude.{◌≡◌, ◌≤◌, ◌<◌, ◌^◌, OnOk, OnErr, length};
+ghost use Rattle.sftp_tree.specs.Attributes.{resized};
+
+use sftp_path::NoMemory;
+use sftp_treefile::Owner;
+use std::marker::Model;
+
+/// The bytes of a file.
+#[derive(Debug, Drop)]
+pub struct FileBytes {
+    bytes: Vec<u8>,
+}
+
+impl Model for FileBytes {
+    ghost use Rattle.std.specs.Prelude.{List, ℕ, IsTrue};
+    ghost use Rattle.sftp_treefile.specs.TreeFile.{are_bytes};
+
+    ghost Value = { List ℕ };
+
+    ghost view = { λ b. b.bytes.items };
+}
+
+impl FileBytes {
+    /// These bytes, which are not copied.
+    pub fn new(bytes: Vec<u8>) -> FileBytes
+        ensures { result ≡ bytes.items }
+    {
+        FileBytes { bytes }
+    }
+
+    /// The bytes.
+    pub fn as_slice(&self) -> &[u8]
+        ensures { result.now ≡ self.now }
+    {
+        self.bytes.as_slice()
+    }
+
+    /// Cuts the bytes behind so many of them, or fills them with zeros to so many. Bytes that stay are not moved but where the
+    /// allocator has to.
+    ///
+    /// # Errors
+    ///
+    /// `NoMemory` where memory runs out; the bytes are then as before.
+    pub fn resize(&mut self, size: usize) -> Result<(), NoMemory>
+        ensures ok { OnOk result (self.new ≡ resized size self.old) }
+        ensures err { OnErr result (self.new ≡ self.old) }
+    {
+        self.bytes.resize(size, 0)?;
+        Ok(())
+    }
+}
+
+/// What a file is.
+#[derive(Debug, Drop)]
+pub struct Content {
+    pub owner: Owner,
+    pub bytes: FileBytes,
+}
+
+/// A file as a tree keeps it.
+#[derive(Debug, Drop)]
+pub struct Stored {
+    pub content: Content,
+    /// How many names the file has.
+    pub names: u32,
+}
