@@ -60,7 +60,7 @@ unfoldable pub led : Tree → Ask → Option (Result Place Cause)
 led t ask = option_map (reached t (follows ask)) (path_of ask)
 
 -- where its new name leads; a link that is last is not followed
-unfoldable pub new_led : Tree → Ask → Option (Result Place Cause)
+abbrev pub new_led : Tree → Ask → Option (Result Place Cause)
 new_led t ask = option_map (reached t false) (new_path_of ask)
 
 -- ---- causes, as sets of them

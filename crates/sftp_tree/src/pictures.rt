@@ -12,10 +12,10 @@ use crate::nodes::Node;
 use crate::trees::Tree;
 use reading::tree_of;
 use sftp_path::{NoMemory, Place};
-use sftp_treefile::{Owner, TreeError, read_rows, write_rows};
+use sftp_treefile::{Owner, TreeError, read_rows};
 use std::alloc::Global;
 use std::collections::BTreeMap;
-use writing::file_of;
+use writing::picture_of;
 
 impl Tree {
     /// The tree of nothing but a root: it is the home, it has permissions 0o755, and the user and the group 0 own it and
@@ -57,13 +57,9 @@ impl Tree {
     /// # Errors
     ///
     /// `NoMemory` where memory runs out.
-    #[tactic(auto, unfolding(crate::specs::Picture::picture))]
     pub fn write(&self) -> Result<Vec<u8>, NoMemory>
         ensures { IfOk result (λ v. v.items ≡ picture self.now) }
     {
-        let alloc = self.home().allocator();
-        let file = file_of(alloc, self)?;
-        let bytes = write_rows(alloc, &file)?;
-        Ok(bytes)
+        picture_of(self)
     }
 }

@@ -1,5 +1,5 @@
 //! The tree.
-ghost use Rattle.std.specs.Prelude.{◌≡◌, ◌∷◌, false, Some, None, option_copied, OnOk, OnErr, IsTrue};
+ghost use Rattle.std.specs.Prelude.{◌≡◌, List, ◌∷◌, ◌++◌, false, Some, None, option_copied, OnOk, OnErr, IsTrue};
 ghost use Rattle.sftp_path.specs.Place.{Name, begins};
 
 use crate::contents::{Content, Stored};
@@ -124,8 +124,7 @@ impl Tree {
     pub(crate) fn remove_at(&mut self, place: &Place)
         requires { tree.IsKept (tree.trim (record self.old { names = tree.without_node self.old.names place.now })) }
         ensures { self.new ≡ tree.trim (record self.old { names = tree.without_node self.old.names place.now }) }
-    {
-    }
+    {}
 
     /// Moves what stands at the old place, with all below it, to the new one, in the stead of what stands there; a file goes with
     /// its last name.
@@ -149,8 +148,7 @@ impl Tree {
         requires directory { IsTrue (tree.is_directory (tree.node_at self.old.names place.now)) }
         requires kept { tree.IsKept (record self.old { names = tree.with_node self.old.names place.now (Dir owner) }) }
         ensures { self.new ≡ record self.old { names = tree.with_node self.old.names place.now (Dir owner) } }
-    {
-    }
+    {}
 
     /// Sets the attributes of a file: its size, which cuts the bytes or fills them with zeros, its owner and the low twelve bits of
     /// its permissions, each where it is given.
