@@ -4,3 +4,5 @@ pub mod AbsoluteTexts
 pub mod Order
 pub mod TableLaws
 pub mod RekeyingLaws
+pub mod CountLaws
+pub mod MoveLaws

@@ -1,9 +1,9 @@
 //! Laws of a directory that moves in a table of places, as theorems on the definitions. The functions do
 //! nothing; each promise is in the contract. A clause without a premise on the table holds for each list of
 //! entries, in order or not.
-ghost use Rattle.std.specs.Prelude.{◌≡◌, ◌+◌, ◌++◌, true, false, None, length};
+ghost use Rattle.std.specs.Prelude.{◌≡◌, ◌+◌, ◌++◌, Bool, true, false, None, length};
 ghost use Rattle.sftp_path.specs.Place.{Place, place_cmp, begins};
-ghost use Rattle.sftp_path.specs.Table.{Table, InOrder, get, size};
+ghost use Rattle.sftp_path.specs.Table.{Table, InOrder, get, size, count};
 ghost use Rattle.sftp_path.specs.Rekeying.{renamed, rekeyed, NothingFrom};
 
 /// What stood at or below the old place stands at or below the new one, where nothing stood; at and below the
@@ -47,4 +47,10 @@ pub fn rekeyed_is_one<X>()
         ((place : Place) → begins old place ≡ true → begins new place ≡ false → get place_cmp other place ≡ None) →
         ((place : Place) → begins old place ≡ false → begins new place ≡ false → get place_cmp other place ≡ get place_cmp table place) →
         other ≡ rekeyed old new table }
+{}
+
+/// As many values pass a test after the move as before it.
+pub fn counts_after_rekeying<X>()
+    ensures { (old new : Place) (table : Table Place X) (passes : X → Bool) → InOrder place_cmp table → NothingFrom table new →
+        count (rekeyed old new table) passes ≡ count table passes }
 {}

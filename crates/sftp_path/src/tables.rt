@@ -1,10 +1,10 @@
 //! Laws of tables, the finite maps that the definitions of trees and sessions are made of, as theorems on
 //! those definitions. The functions do nothing; each promise is in the contract.
-ghost use Rattle.std.specs.Prelude.{◌≡◌, ◌≢◌, ◌+◌, ℕ, Bool, List, [], Some, None};
+ghost use Rattle.std.specs.Prelude.{◌≡◌, ◌≢◌, ◌+◌, ◌<◌, ℕ, Bool, List, [], Some, None, if◌then◌else◌, IsTrue};
 ghost use Rattle.std.specs.Ordering.{nat_cmp};
 ghost use Rattle.std.specs.declared.cmp.Ordering.TheVariants.{Equal};
 ghost use Rattle.sftp_path.specs.Place.{Place, bytes_cmp, place_cmp};
-ghost use Rattle.sftp_path.specs.Table.{Table, InOrder, get, put, without, retain, from_entries, size, kept};
+ghost use Rattle.sftp_path.specs.Table.{Table, InOrder, get, put, without, retain, from_entries, size, count, kept};
 
 /// What stands at a key after each operation, for keys of any order and any values.
 pub fn answers<K: Ord, X>()
@@ -38,6 +38,21 @@ pub fn sizes<K: Ord, X>()
         size (put K.cmp table key value) ≡ size table }
     ensures without { (table : Table K X) (key : K) (value : X) → get K.cmp table key ≡ Some value →
         size (without K.cmp table key) + 1 ≡ size table }
+{}
+
+/// How many values pass a test: a new key counts its value, another value at a key stops the count of the old
+/// one, a key taken away stops the count of its value, and where a value that passes stands, at least one is
+/// counted.
+pub fn counts<K: Ord, X>()
+    ensures put_new { (table : Table K X) (key : K) (value : X) (passes : X → Bool) → get K.cmp table key ≡ None →
+        count (put K.cmp table key value) passes ≡ count table passes + (if passes value then 1 else 0) }
+    ensures put_again { (table : Table K X) (key : K) (value old : X) (passes : X → Bool) →
+        InOrder K.cmp table → get K.cmp table key ≡ Some old →
+        count (put K.cmp table key value) passes + (if passes old then 1 else 0) ≡ count table passes + (if passes value then 1 else 0) }
+    ensures without { (table : Table K X) (key : K) (value : X) (passes : X → Bool) → get K.cmp table key ≡ Some value →
+        count (without K.cmp table key) passes + (if passes value then 1 else 0) ≡ count table passes }
+    ensures found { (table : Table K X) (key : K) (value : X) (passes : X → Bool) → get K.cmp table key ≡ Some value →
+        IsTrue (passes value) → 0 < count table passes }
 {}
 
 /// What is left at a key is what stood there, where it passes the test.
