@@ -3,6 +3,7 @@ pub mod GoodPaths
 pub mod AbsoluteTexts
 pub mod Order
 pub mod TableLaws
+pub mod EntryLaws
 pub mod RekeyingLaws
 pub mod CountLaws
 pub mod MoveLaws
