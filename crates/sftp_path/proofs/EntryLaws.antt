@@ -3,7 +3,8 @@ use Rattle.std.proofs.Common.{◌≡◌, ◌≢◌, Bool, true, false, cond, Lis
 use Rattle.std.specs.Ordering.{is_eq}
 use Rattle.std.specs.declared.cmp.Ordering.{Ordering}
 use Rattle.std.specs.declared.cmp.Ordering.TheVariants.{Less, Equal}
-use Rattle.std.specs.Map.{keys_of}
+use Rattle.std.specs.BTreeMap.{is_at}
+use Rattle.std.specs.Map.{lookup, remove_entry, keys_of}
 use Rattle.std.specs.List.{AllByRecursion}
 use Rattle.std.specs.List.Sorted.{IsStrictlySortedBy}
 use Rattle.std.specs.Cmp.{IsTotalOrder, Equal-is}
@@ -113,3 +114,18 @@ module _ {K X : Type 0} (cmp : K → K → Ordering) where
       where
         never : (at : K) → is_eq (cmp at key) ≡ true → is_eq (cmp gone at) ≡ true → ⊥
         never at g h = differ (ap (λ k. cmp gone k) (sym (tie cmp total same at key g)) ∙ (Equal-is (cmp gone at)).0 h)
+
+-- ---- a key that is not there
+
+remove-absent : {K X : Type 0} (test : K → Bool) (es : Table K X) → lookup test es ≡ None → remove_entry test es ≡ es
+remove-absent test [] absent = refl
+remove-absent test (e ∷ es) absent = by (test e.0) absent (remove-absent test es)
+  where
+    by : (b : Bool) → cond b (Some e.1) (lookup test es) ≡ None → (lookup test es ≡ None → remove_entry test es ≡ es) → cond b es (e ∷ remove_entry test es) ≡ e ∷ es
+    by true none rest = cc
+    by false none rest = ap (λ fs. e ∷ fs) (rest none)
+
+-- to take it away changes nothing
+pub without-absent : {K X : Type 0} (cmp : K → K → Ordering) (es : Table K X) (key : K) → get cmp es key ≡ None → without cmp es key ≡ es
+unfolding get without
+without-absent cmp es key = remove-absent (is_at (cmp key)) es

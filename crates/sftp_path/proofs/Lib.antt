@@ -7,3 +7,5 @@ pub mod EntryLaws
 pub mod RekeyingLaws
 pub mod CountLaws
 pub mod MoveLaws
+pub mod ValueLaws
+pub mod TestLaws

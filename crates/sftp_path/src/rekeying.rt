@@ -2,9 +2,10 @@
 //! nothing; each promise is in the contract. A clause without a premise on the table holds for each list of
 //! entries, in order or not.
 ghost use Rattle.std.specs.Prelude.{◌≡◌, ◌+◌, ◌++◌, [], ◌∷◌, Bool, true, false, Some, None, length};
+ghost use Rattle.std.specs.List.{list_all};
 ghost use Rattle.sftp_path.specs.Place.{Name, Place, place_cmp, begins};
 ghost use Rattle.sftp_path.specs.Table.{Table, InOrder, get, put, without, size, count};
-ghost use Rattle.sftp_path.specs.Rekeying.{renamed, rekeyed, NothingFrom};
+ghost use Rattle.sftp_path.specs.Rekeying.{renamed, renamed_entry, rekeyed, NothingFrom};
 
 /// What stood at or below the old place stands at or below the new one, where nothing stood; at and below the
 /// old place nothing is left; and elsewhere stands what stood there. That nothing is left needs no premise on
@@ -53,6 +54,12 @@ pub fn rekeyed_is_one<X>()
 pub fn counts_after_rekeying<X>()
     ensures { (old new : Place) (table : Table Place X) (passes : X → Bool) → InOrder place_cmp table → NothingFrom table new →
         count (rekeyed old new table) passes ≡ count table passes }
+{}
+
+/// All entries pass a test after the move where all that come to be renamed pass it.
+pub fn tests_after_rekeying<X>()
+    ensures { (old new : Place) (table : Table Place X) (keeps : Place × X → Bool) → InOrder place_cmp table → NothingFrom table new →
+        list_all keeps (rekeyed old new table) ≡ list_all (λ entry. keeps (renamed_entry old new entry)) table }
 {}
 
 /// Where nothing stands below the old place, the move is to take the one entry away and put it at the new place,
