@@ -33,6 +33,13 @@ longer-apart place name names is =
     let short : length (place ++ name ∷ names) ≡ length place = ap length is in
     absurd (omega arith)
 
+-- nothing stands from a place on, neither in front nor behind
+pub NothingFrom-front : {X : Type 0} (place : Place) (es fs : Table Place X) → NothingFrom (es ++ fs) place → NothingFrom es place
+NothingFrom-front place es fs nothing rest = get-none_front place_cmp es fs (place ++ rest) (nothing rest)
+
+pub NothingFrom-behind : {X : Type 0} (place : Place) (es fs : Table Place X) → NothingFrom (es ++ fs) place → NothingFrom fs place
+NothingFrom-behind place es fs nothing rest = get-none_behind place_cmp es fs (place ++ rest) (nothing rest)
+
 module _ {X : Type 0} (old new : Place) where
   -- ---- how many values pass
 
@@ -42,8 +49,8 @@ module _ {X : Type 0} (old new : Place) where
   count-made (e ∷ es) passes order nothing =
       let others : Table Place X = map (renamed_entry old new) es in
       let rest : count (from_entries place_cmp others) passes ≡ count es passes = count-made es passes (sorted_tail place_cmp e.0 (keys_of es) order) (nothing-behind old new e es nothing) in
-      let more = count-put_new place_cmp (from_entries place_cmp others) (renamed old new e.0) e.1 passes
-      (get-from_entries place_cmp place_cmp-total others (renamed old new e.0) ∙ first-alone old new e es order nothing) in
+      let absent : get place_cmp (from_entries place_cmp others) (renamed old new e.0) ≡ None = get-from_entries place_cmp place_cmp-total others (renamed old new e.0) ∙ first-alone old new e es order nothing in
+      let more = count-put_new place_cmp (from_entries place_cmp others) (renamed old new e.0) e.1 passes absent in
       let first : count (e ∷ es) passes ≡ one_if (passes e.1) + count es passes = count-step e es passes in
       let swapped : count es passes + one_if (passes e.1) ≡ count (e ∷ es) passes = omega (arith, first) in
       more ∙ ap (λ n. n + one_if (passes e.1)) rest ∙ swapped
@@ -57,13 +64,6 @@ module _ {X : Type 0} (old new : Place) where
   pub rekeyed-empty : rekeyed {X = X} old new [] ≡ []
   unfolding rekeyed from_entries
   rekeyed-empty = refl
-
-  -- nothing stands from a place on, neither in front nor behind
-  pub NothingFrom-front : (place : Place) (es fs : Table Place X) → NothingFrom (es ++ fs) place → NothingFrom es place
-  NothingFrom-front place es fs nothing rest = get-none_front place_cmp es fs (place ++ rest) (nothing rest)
-
-  pub NothingFrom-behind : (place : Place) (es fs : Table Place X) → NothingFrom (es ++ fs) place → NothingFrom fs place
-  NothingFrom-behind place es fs nothing rest = get-none_behind place_cmp es fs (place ++ rest) (nothing rest)
 
   -- no entry in front comes to the place of one behind
   last-alone : (before : Table Place X) (e : Place × X) (rest : Table Place X) → InOrder place_cmp (before ++ e ∷ rest) → NothingFrom (before ++ e ∷ rest) new → get place_cmp (map (renamed_entry old new) before) (renamed old new e.0) ≡ None

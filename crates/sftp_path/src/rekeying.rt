@@ -56,7 +56,7 @@ pub fn counts_after_rekeying<X>()
         count (rekeyed old new table) passes ≡ count table passes }
 {}
 
-/// All entries pass a test after the move where all that come to be renamed pass it.
+/// All entries pass a test after the move just where each one before it passes the test with its place renamed.
 pub fn tests_after_rekeying<X>()
     ensures { (old new : Place) (table : Table Place X) (keeps : Place × X → Bool) → InOrder place_cmp table → NothingFrom table new →
         list_all keeps (rekeyed old new table) ≡ list_all (λ entry. keeps (renamed_entry old new entry)) table }
