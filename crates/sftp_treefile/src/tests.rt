@@ -258,9 +258,6 @@ fn longest_names_and_paths(rt: HostRuntime) -> Result<(), Fail> {
 fn kinds(rt: HostRuntime) -> Result<(), Fail> {
     let path = b"\0\0\0\x02/a".as_slice();
     for kind in [
-        // Files and hard links are not known yet.
-        b"F\0\0\0\0\0\0\0\0\0\0\x01\xed\0\0\0\0".as_slice(),
-        b"H\0\0\0\x02/a".as_slice(),
         b"d\0\0\0\0\0\0\0\0\0\0\x01\xed".as_slice(),
         b"\0".as_slice(),
         // The permissions have thirteen bits.
