@@ -32,16 +32,12 @@ impl Tree {
         ensures owner { result ≡ spec.directory_owner self.now attrs.now }
         ensures fits { IsOwner result }
     {
-        let (uid, gid) = attrs.owner.unwrap_or((self.uid(), self.gid()));
-        let permissions = match attrs.permissions {
-            Some(permissions) => permissions & PERMISSION_BITS,
-            None => DEFAULT_PERMISSIONS,
+        let usual = Owner {
+            uid: self.uid(),
+            gid: self.gid(),
+            permissions: DEFAULT_PERMISSIONS,
         };
-        Owner {
-            uid,
-            gid,
-            permissions,
-        }
+        changed_owner(attrs, usual)
     }
 
     /// What is shown of an entry: of a directory the size 0, of a file the count of its bytes, of a link its target's
