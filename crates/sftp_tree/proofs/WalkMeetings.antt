@@ -11,9 +11,9 @@ use Rattle.sftp_path.proofs.GoodPaths.{components-steps}
 use Rattle.sftp_treefile.specs.declared.files.Owner.{Owner}
 use Rattle.sftp_treefile.specs.TreeFile.{are_bytes}
 use Rattle.sftp_tree.specs.declared.nodes.Node.{Node}
-use Rattle.sftp_tree.specs.declared.nodes.Node.TheVariants.{Dir, Link}
-use Rattle.sftp_tree.specs.declared.causes.Cause.TheVariants.{NoEntry}
-use Rattle.sftp_tree.specs.Tree.{Names, node_at, Tree, IsNode, link_fits, entries_fit, depths_fit, home_fits, links_fit, fits, IsKept}
+use Rattle.sftp_tree.specs.declared.nodes.Node.TheVariants.{Dir, File, Link}
+use Rattle.sftp_tree.specs.declared.causes.Cause.TheVariants.{NoEntry, NotDir}
+use Rattle.sftp_tree.specs.Tree.{Names, node_at, Tree, IsNode, link_fits, entries_fit, depths_fit, home_fits, links_fit, files_fit, numbers_fit, fits, IsKept}
 use Rattle.sftp_tree.specs.Walk.{Meeting, enters, ends, fails, through, is_last, met_link, met, meets}
 use Rattle.sftp_tree.specs.WalkRules.{IsPlain, GoesThrough, not_last, followed}
 
@@ -23,6 +23,8 @@ pub data MetBy (names : Names) (follow : Bool) (at : Place) (name : Name) : List
   by_dot : (rest : List Name) → is_dot name ≡ true → MetBy names follow at name rest (enters at)
   by_dot_dot : (rest : List Name) → is_dot name ≡ false → is_dot_dot name ≡ true → MetBy names follow at name rest (enters (parent at))
   by_directory : (rest : List Name) (owner : Owner) → IsPlain name → node_at names (at ++ name ∷ []) ≡ Some (Dir owner) → MetBy names follow at name rest (enters (at ++ name ∷ []))
+  by_last_file : (number : ℕ) → IsPlain name → node_at names (at ++ name ∷ []) ≡ Some (File number) → MetBy names follow at name [] (ends (at ++ name ∷ []))
+  by_file : (next : Name) (rest : List Name) (number : ℕ) → IsPlain name → node_at names (at ++ name ∷ []) ≡ Some (File number) → MetBy names follow at name (next ∷ rest) (fails NotDir)
   by_link : (rest : List Name) (target : List ℕ) → IsPlain name → GoesThrough follow rest → node_at names (at ++ name ∷ []) ≡ Some (Link target) → MetBy names follow at name rest (through target)
   by_last_link : (target : List ℕ) → IsPlain name → follow ≡ false → node_at names (at ++ name ∷ []) ≡ Some (Link target) → MetBy names follow at name [] (ends (at ++ name ∷ []))
   by_last_absent : IsPlain name → node_at names (at ++ name ∷ []) ≡ None → MetBy names follow at name [] (ends (at ++ name ∷ []))
@@ -34,6 +36,8 @@ met_by_follow names follow at name target false is plain there = by_last_link ta
 
 met_by_node : (names : Names) (follow : Bool) (at : Place) (name : Name) (rest : List Name) (node : Option Node) → IsPlain name → node_at names (at ++ name ∷ []) ≡ node → MetBy names follow at name rest (met node (at ++ name ∷ []) (is_last rest) follow)
 met_by_node names follow at name rest (Some (Dir owner)) plain there = by_directory rest owner plain there
+met_by_node names follow at name [] (Some (File number)) plain there = by_last_file number plain there
+met_by_node names follow at name (next ∷ rest) (Some (File number)) plain there = by_file next rest number plain there
 met_by_node names follow at name [] (Some (Link target)) plain there = met_by_follow names follow at name target follow refl plain there
 met_by_node names follow at name (next ∷ rest) (Some (Link target)) plain there = by_link (next ∷ rest) target plain (not_last next rest) there
 met_by_node names follow at name [] None plain there = by_last_absent plain there
@@ -98,16 +102,17 @@ all-from_test p (x ∷ xs) h =
 links-fit : (t : Tree) → IsKept t → links_fit t ≡ true
 unfolding fits
 links-fit t kept =
-    let a = and_parts (entries_fit t) (depths_fit t && (home_fits t && links_fit t)) kept.within_limits in
-    let b = and_parts (depths_fit t) (home_fits t && links_fit t) a.1 in
-    (and_parts (home_fits t) (links_fit t) b.1).1
+    let a = and_parts (entries_fit t) (depths_fit t && (home_fits t && (links_fit t && (files_fit t && numbers_fit t)))) kept.within_limits in
+    let b = and_parts (depths_fit t) (home_fits t && (links_fit t && (files_fit t && numbers_fit t))) a.1 in
+    let d = and_parts (home_fits t) (links_fit t && (files_fit t && numbers_fit t)) b.1 in
+    (and_parts (links_fit t) (files_fit t && numbers_fit t) d.1).0
 
 pub home-fits : (t : Tree) → IsKept t → home_fits t ≡ true
 unfolding fits
 home-fits t kept =
-    let a = and_parts (entries_fit t) (depths_fit t && (home_fits t && links_fit t)) kept.within_limits in
-    let b = and_parts (depths_fit t) (home_fits t && links_fit t) a.1 in
-    (and_parts (home_fits t) (links_fit t) b.1).0
+    let a = and_parts (entries_fit t) (depths_fit t && (home_fits t && (links_fit t && (files_fit t && numbers_fit t)))) kept.within_limits in
+    let b = and_parts (depths_fit t) (home_fits t && (links_fit t && (files_fit t && numbers_fit t))) a.1 in
+    (and_parts (home_fits t) (links_fit t && (files_fit t && numbers_fit t)) b.1).0
 
 -- a target in a tree is a good path of bytes
 pub target-good : (t : Tree) → IsKept t → (place : Place) (target : List ℕ) → node_at t.names place ≡ Some (Link target) → is_good_path target ≡ true
@@ -119,7 +124,7 @@ target-good t kept place target there =
 target-bytes : (t : Tree) → IsKept t → (place : Place) (target : List ℕ) → node_at t.names place ≡ Some (Link target) → are_bytes target ≡ true
 unfolding get
 target-bytes t kept place target there =
-    lookup_holds IsNode (is_at (place_cmp place)) t.names (Link target) kept.well_formed.nodes there
+    lookup_holds (IsNode t.files) (is_at (place_cmp place)) t.names (Link target) kept.well_formed.nodes there
 
 -- each component of a target is `.`, `..` or a name
 pub target-steps : (t : Tree) → IsKept t → (place : Place) (target : List ℕ) → node_at t.names place ≡ Some (Link target) → list_all is_step (components target) ≡ true
@@ -141,6 +146,8 @@ linked : (names : Names) (follow : Bool) (at : Place) (name : Name) (rest : List
 linked names follow at name rest m target (by_dot r d) e = cc
 linked names follow at name rest m target (by_dot_dot r d dd) e = cc
 linked names follow at name rest m target (by_directory r owner plain there) e = cc
+linked names follow at name rest m target (by_last_file number plain there) e = cc
+linked names follow at name rest m target (by_file next r number plain there) e = cc
 linked names follow at name rest m target (by_link r other plain goes there) e =
     let same : other ≡ target = cc in
     there ∙ ap (λ v. Some (Link v)) same

@@ -14,7 +14,7 @@ use Rattle.sftp_tree.specs.declared.causes.Cause.TheVariants.{BadPath}
 use Rattle.sftp_tree.specs.Tree.{node_at, is_directory, is_taken, Tree, IsKept}
 use Rattle.sftp_tree.specs.Walk.{Meeting, is_last, start_of, meets, walk, steps_of, reached}
 use Rattle.sftp_tree.proofs.WalkSteps.{behind_link, walk_on, walk-nil, walk-cons, reached-good, reached-bad}
-use Rattle.sftp_tree.proofs.WalkMeetings.{MetBy, by_dot, by_dot_dot, by_directory, by_link, by_last_link, by_last_absent, by_absent, met_by, plain-is_name, steps-behind}
+use Rattle.sftp_tree.proofs.WalkMeetings.{MetBy, by_dot, by_dot_dot, by_directory, by_last_file, by_file, by_link, by_last_link, by_last_absent, by_absent, met_by, plain-is_name, steps-behind}
 
 -- a walk stands at a directory
 pub record Stands (t : Tree) (at : Place) : Type 0 where
@@ -72,6 +72,8 @@ found-met t follow left at name rest m kept stands step further behind (by_dot r
 found-met t follow left at name rest m kept stands step further behind (by_dot_dot r d dd) = further (parent at) (parent-stands t kept at stands)
 found-met t follow left at name rest m kept stands step further behind (by_directory r owner plain there) =
     further (at ++ name ∷ []) (record { names = entered-names at name stands.names (plain-is_name name step plain); directory = ap is_directory there })
+found-met t follow left at name rest m kept stands step further behind (by_last_file number plain there) = entered-found t at name stands (plain-is_name name step plain)
+found-met t follow left at name rest m kept stands step further behind (by_file next r number plain there) = tt
 found-met t follow left at name rest m kept stands step further behind (by_link r target plain goes there) = behind target there
 found-met t follow left at name rest m kept stands step further behind (by_last_link target plain not_followed there) = entered-found t at name stands (plain-is_name name step plain)
 found-met t follow left at name rest m kept stands step further behind (by_last_absent plain there) = entered-found t at name stands (plain-is_name name step plain)

@@ -1,13 +1,13 @@
 -- Walks are by the rules, and no rule leads elsewhere.
 use Rattle.std.proofs.Common.{◌≡◌, ◌↔◌, ℕ, zero, suc, Bool, true, false, List, [], ◌∷◌, ◌++◌, sym, ◌∙◌, ap, subst, Some, None, Result}
 use Rattle.sftp_path.specs.Place.{Name, Place, parent, components}
-use Rattle.sftp_tree.specs.declared.nodes.Node.TheVariants.{Dir, Link}
+use Rattle.sftp_tree.specs.declared.nodes.Node.TheVariants.{Dir, File, Link}
 use Rattle.sftp_tree.specs.declared.causes.Cause.{Cause}
 use Rattle.sftp_tree.specs.Tree.{Names, node_at}
 use Rattle.sftp_tree.specs.Walk.{Meeting, is_last, met_link, start_of, meets, walk}
-use Rattle.sftp_tree.specs.WalkRules.{IsPlain, GoesThrough, Leads, done, stays, goes_up, is_absent, is_lost, enters, finds_link, goes_through, loops}
+use Rattle.sftp_tree.specs.WalkRules.{IsPlain, GoesThrough, Leads, done, stays, goes_up, is_absent, is_lost, enters, finds_file, stops_at_file, finds_link, goes_through, loops}
 use Rattle.sftp_tree.proofs.WalkSteps.{behind_link, walk_on, walk-nil, walk-cons}
-use Rattle.sftp_tree.proofs.WalkMeetings.{MetBy, by_dot, by_dot_dot, by_directory, by_link, by_last_link, by_last_absent, by_absent, met_by, meets-dot, meets-dot_dot, meets-plain, met-through}
+use Rattle.sftp_tree.proofs.WalkMeetings.{MetBy, by_dot, by_dot_dot, by_directory, by_last_file, by_file, by_link, by_last_link, by_last_absent, by_absent, met_by, meets-dot, meets-dot_dot, meets-plain, met-through}
 
 -- ---- a walk is by the rules
 
@@ -20,6 +20,8 @@ leads-met names follow left at name rest m behind further (by_dot r d) = stays l
 leads-met names follow left at name rest m behind further (by_dot_dot r d dd) = goes_up left at name r (walk names follow left (parent at) r) dd (further (parent at))
 leads-met names follow left at name rest m behind further (by_directory r owner plain there) =
     enters left at name r (walk names follow left (at ++ name ∷ []) r) owner plain there (further (at ++ name ∷ []))
+leads-met names follow left at name rest m behind further (by_last_file number plain there) = finds_file left at name number plain there
+leads-met names follow left at name rest m behind further (by_file next r number plain there) = stops_at_file left at name next r number plain there
 leads-met names follow left at name rest m behind further (by_link r target plain goes there) = behind at name r target plain goes there
 leads-met names follow left at name rest m behind further (by_last_link target plain not_followed there) = finds_link left at name target plain not_followed there
 leads-met names follow left at name rest m behind further (by_last_absent plain there) = is_absent left at name plain there
@@ -53,6 +55,10 @@ leads-walk names follow left at path answer (is_lost l a name next rest plain th
 leads-walk names follow left at path answer (enters l a name rest found owner plain there h) =
     walk-cons names follow l a name rest ∙ ap (walk_on names follow l a rest) (meets-plain names follow a name (is_last rest) (Some (Dir owner)) plain there)
     ∙ leads-walk names follow l (a ++ name ∷ []) rest found h
+leads-walk names follow left at path answer (finds_file l a name number plain there) =
+    walk-cons names follow l a name [] ∙ ap (walk_on names follow l a []) (meets-plain names follow a name true (Some (File number)) plain there)
+leads-walk names follow left at path answer (stops_at_file l a name next rest number plain there) =
+    walk-cons names follow l a name (next ∷ rest) ∙ ap (walk_on names follow l a (next ∷ rest)) (meets-plain names follow a name false (Some (File number)) plain there)
 leads-walk names follow left at path answer (finds_link l a name target plain not_followed there) =
     walk-cons names follow l a name []
     ∙ ap (walk_on names follow l a []) (meets-plain names follow a name true (Some (Link target)) plain there ∙ ap (met_link target (a ++ name ∷ []) true) not_followed)

@@ -1,7 +1,8 @@
--- What the worked rows of walks name: trees with links.
+-- What the worked rows of walks name: trees with links, and with a file.
 use Rattle.std.specs.Prelude.{ℕ, zero, suc, ◌+◌, List, [], ◌∷◌, ◌++◌, replicate, codes}
+use Rattle.sftp_tree.specs.declared.contents.Content.{Content}
 use Rattle.sftp_tree.specs.declared.nodes.Node.{Node}
-use Rattle.sftp_tree.specs.declared.nodes.Node.TheVariants.{Dir, Link}
+use Rattle.sftp_tree.specs.declared.nodes.Node.TheVariants.{Dir, File, Link}
 use Rattle.sftp_tree.specs.Tree.{Names, Tree}
 
 -- a directory of user 0 and group 0 that its owner may write
@@ -11,6 +12,18 @@ directory = Dir (record { uid = 0; gid = 0; permissions = 0o755 })
 -- the tree with a root and these entries below it, whose home is the root
 abbrev pub tree_of : Names → Tree
 tree_of names = record { names = ([], directory) ∷ names; files = []; made = 0; home = []; uid = 0; gid = 0 }
+
+-- the same with a file, which has the number 0
+abbrev pub holding : Names → Content → Tree
+holding names content = record (tree_of names) { files = (0, content) ∷ []; made = 1 }
+
+-- an empty file of user 0 and group 0 that its owner may write
+abbrev pub empty_file : Content
+empty_file = record { owner = record { uid = 0; gid = 0; permissions = 0o644 }; bytes = [] }
+
+-- nothing but the file `/f`
+abbrev pub with_file : Tree
+with_file = holding ((codes "f" ∷ [], File 0) ∷ []) empty_file
 
 -- the directory `/d/e`, and the link `/l` to it
 abbrev pub with_link : Tree
@@ -40,10 +53,18 @@ with_both_targets = tree_of ((codes "d" ∷ [], directory) ∷ (codes "d" ∷ co
 abbrev pub letters : ℕ → List ℕ
 letters n = replicate n 97
 
--- the directory `/a`, and so many links, each to what has a letter less: `/aa` to `a`, `/aaa` to `aa`
-unfoldable pub chain : ℕ → Names
-chain zero = (letters 1 ∷ [], directory) ∷ []
-chain (suc n) = chain n ++ (letters (suc (suc n)) ∷ [], Link (letters (suc n))) ∷ []
+-- this at `/a`, and so many links, each to what has a letter less: `/aa` to `a`, `/aaa` to `aa`
+unfoldable pub chain : Node → ℕ → Names
+chain last zero = (letters 1 ∷ [], last) ∷ []
+chain last (suc n) = chain last n ++ (letters (suc (suc n)) ∷ [], Link (letters (suc n))) ∷ []
+
+-- the chain ends at a directory
+abbrev pub with_chain : ℕ → Tree
+with_chain n = tree_of (chain directory n)
+
+-- it ends at a file
+abbrev pub with_chained_file : ℕ → Tree
+with_chained_file n = holding (chain (File 0) n) empty_file
 
 -- the path of the last link of so many
 abbrev pub chained : ℕ → List ℕ

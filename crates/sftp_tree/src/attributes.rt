@@ -32,20 +32,16 @@ impl Tree {
         ensures owner { result ≡ spec.directory_owner self.now attrs.now }
         ensures fits { IsOwner result }
     {
-        let (uid, gid) = attrs.owner.unwrap_or((self.uid(), self.gid()));
-        let permissions = match attrs.permissions {
-            Some(permissions) => permissions & PERMISSION_BITS,
-            None => DEFAULT_PERMISSIONS,
+        let usual = Owner {
+            uid: self.uid(),
+            gid: self.gid(),
+            permissions: DEFAULT_PERMISSIONS,
         };
-        Owner {
-            uid,
-            gid,
-            permissions,
-        }
+        changed_owner(attrs, usual)
     }
 
-    /// What is shown of an entry: of a directory the size 0, of a file the count of its bytes, of a link its target's length and the
-    /// tree's owner.
+    /// What is shown of an entry: of a directory the size 0, of a file the count of its bytes, of a link its target's
+    /// length and the tree's owner.
     pub(crate) fn shown(&self, node: &Node) -> Attrs
         requires { tree.IsNode self.now.files node.now }
         ensures { spec.shown self.now node.now ≡ Some result }
@@ -70,6 +66,8 @@ impl Tree {
         requires { IsTrue (is_some (tree.content_at self.now.files number)) }
         ensures { option_map spec.shown_content (tree.content_at self.now.files number) ≡ Some result }
     {
+        // This contract says that the tree is kept, so that the file's permissions have twelve bits.
+        let _ = self.names();
         match self.content(number) {
             Some(content) => said(
                 content.bytes.as_slice().len() as u64,
@@ -81,7 +79,8 @@ impl Tree {
     }
 }
 
-/// The owner of what is there already, where attributes are set: that given, else as it was; of permissions the low twelve bits.
+/// The owner of what is there already, where attributes are set: that given, else as it was; of permissions the low
+/// twelve bits.
 pub(crate) fn changed_owner(attrs: &Attrs, owner: Owner) -> Owner
     requires { IsOwner owner }
     ensures owner { result ≡ spec.changed_owner attrs.now owner }

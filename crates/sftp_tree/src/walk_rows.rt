@@ -3,9 +3,9 @@
 #![tactic(auto, unfolding(crate::specs::WalkRows::chain, crate::specs::Walk::reached, crate::specs::Walk::walk, crate::specs::Walk::walk_parts, crate::specs::Walk::meets, sftp_path::specs::Place::is_good_path, sftp_path::specs::Place::components, sftp_path::specs::Place::parts, sftp_path::specs::Table::get))]
 
 ghost use Rattle.std.specs.Prelude.{◌≡◌, [], ◌∷◌, Bool, true, false, Ok, Err, codes};
-ghost use Rattle.sftp_tree.specs.declared.causes.Cause.TheVariants.{BadPath, NoEntry, Loop};
+ghost use Rattle.sftp_tree.specs.declared.causes.Cause.TheVariants.{BadPath, NoEntry, NotDir, Loop};
 ghost use Rattle.sftp_tree.specs.Walk.{reached};
-ghost use Rattle.sftp_tree.specs.WalkRows.{tree_of, with_link, with_target, with_home, with_linked_home, with_two_links, with_both_targets, letters, chain, chained};
+ghost use Rattle.sftp_tree.specs.WalkRows.{tree_of, with_file, with_link, with_target, with_home, with_linked_home, with_two_links, with_both_targets, letters, with_chain, with_chained_file, chained};
 
 /// `..` behind a link leads to the parent of what the link leads to, and not to the link's; above the root it leads to
 /// the root.
@@ -67,9 +67,33 @@ pub fn targets()
     ensures absolute { reached with_both_targets true (codes "/d/s") ≡ Ok (codes "e" ∷ []) }
 {}
 
+/// A walk may end at a file, and a slash behind its name changes nothing. What lies behind the file leads nowhere, be it
+/// `.` or `..`.
+pub fn files()
+    ensures last { (follow : Bool) → reached with_file follow (codes "/f") ≡ Ok (codes "f" ∷ []) }
+    ensures slash { (follow : Bool) → reached with_file follow (codes "/f/") ≡ Ok (codes "f" ∷ []) }
+    ensures behind { (follow : Bool) → reached with_file follow (codes "/f/x") ≡ Err NotDir }
+    ensures dot { (follow : Bool) → reached with_file follow (codes "/f/.") ≡ Err NotDir }
+    ensures dot_dot { (follow : Bool) → reached with_file follow (codes "/f/..") ≡ Err NotDir }
+{}
+
+/// A link to a file leads to it where it is followed, and what lies behind the link leads nowhere.
+pub fn links_to_files()
+    ensures followed { reached (with_chained_file 1) true (codes "/aa") ≡ Ok (codes "a" ∷ []) }
+    ensures not_followed { reached (with_chained_file 1) false (codes "/aa") ≡ Ok (codes "aa" ∷ []) }
+    ensures behind { (follow : Bool) → reached (with_chained_file 1) follow (codes "/aa/x") ≡ Err NotDir }
+{}
+
 /// Forty links are followed, and one more is a loop.
 pub fn forty_links()
-    ensures forty { reached (tree_of (chain 40)) true (chained 40) ≡ Ok (letters 1 ∷ []) }
-    ensures one_more { reached (tree_of (chain 41)) true (chained 41) ≡ Err Loop }
-    ensures one_more_last { reached (tree_of (chain 41)) false (chained 41) ≡ Ok (letters 42 ∷ []) }
+    ensures forty { reached (with_chain 40) true (chained 40) ≡ Ok (letters 1 ∷ []) }
+    ensures one_more { reached (with_chain 41) true (chained 41) ≡ Err Loop }
+    ensures one_more_last { reached (with_chain 41) false (chained 41) ≡ Ok (letters 42 ∷ []) }
+{}
+
+/// The same where a file is at the end.
+pub fn forty_links_to_a_file()
+    ensures forty { reached (with_chained_file 40) true (chained 40) ≡ Ok (letters 1 ∷ []) }
+    ensures one_more { reached (with_chained_file 41) true (chained 41) ≡ Err Loop }
+    ensures one_more_last { reached (with_chained_file 41) false (chained 41) ≡ Ok (letters 42 ∷ []) }
 {}
