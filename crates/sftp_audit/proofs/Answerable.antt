@@ -4,8 +4,9 @@ use Rattle.std.specs.Cmp.Lexicographic.{nat_list_eq_equiv}
 use Rattle.std.specs.List.{list_any, list_all}
 use Rattle.std.specs.Option.{option_map}
 use Rattle.std.proofs.lemmas.Bool.{lt-ltb}
+use Rattle.sftp_wire.specs.declared.attributes.Attrs.{Attrs}
 use Rattle.sftp_wire.specs.declared.packets.Ask.{Ask}
-use Rattle.sftp_wire.specs.declared.packets.Ask.TheVariants.{Mkdir, Rmdir, Symlink, Stat, Lstat, Realpath, Readlink}
+use Rattle.sftp_wire.specs.declared.packets.Ask.TheVariants.{Lstat, Setstat, Remove, Mkdir, Rmdir, Realpath, Stat, Rename, Readlink, Symlink, PosixRename, Hardlink}
 use Rattle.sftp_wire.specs.declared.packets.Answer.{Answer}
 use Rattle.sftp_wire.specs.declared.packets.Answer.TheVariants as replies
 use Rattle.sftp_wire.specs.declared.packets.Packet.TheVariants.{Reply as reply_packet}
@@ -13,18 +14,19 @@ use Rattle.sftp_wire.specs.declared.packets.Request.{Request}
 use Rattle.sftp_wire.specs.Spelling.{AreBytes, HasSpelling}
 use Rattle.sftp_path.specs.Place.{Place, parent, absolute, are_names, components, is_good_path, name_limit}
 use Rattle.sftp_treefile.specs.TreeFile.{are_bytes, is_target}
+use Rattle.sftp_tree.specs.declared.contents.Content.{Content}
 use Rattle.sftp_tree.specs.declared.nodes.Node.{Node}
-use Rattle.sftp_tree.specs.declared.nodes.Node.TheVariants.{Dir, Link}
+use Rattle.sftp_tree.specs.declared.nodes.Node.TheVariants.{Dir, File, Link}
 use Rattle.sftp_tree.specs.declared.causes.Cause.{Cause}
-use Rattle.sftp_tree.specs.declared.causes.Cause.TheVariants.{BadPath, NoEntry, NotDir, Loop, Exists, NotLink, NotEmpty, Root, NoRoom}
-use Rattle.sftp_tree.specs.Tree.{Tree, IsKept, IsNode, link_fits, node_at, is_directory}
+use Rattle.sftp_tree.specs.declared.causes.Cause.TheVariants.{BadPath, NoEntry, NotDir, Loop, Exists, IsDir, NotLink, NotFile, NotEmpty, Root, Inside, NoRoom}
+use Rattle.sftp_tree.specs.Tree.{Tree, IsKept, IsNode, IsContent, link_fits, node_at, content_at, is_directory}
 use Rattle.sftp_tree.specs.Walk.{reached}
-use Rattle.sftp_tree.specs.Attributes.{said, shown}
-use Rattle.sftp_tree.specs.Steps.{CauseSet, every_cause, allows, has_step, causes, led, led_to, target, shown_to, target_of, target_to, text_to}
+use Rattle.sftp_tree.specs.Attributes.{said, shown_content, shown}
+use Rattle.sftp_tree.specs.Steps.{CauseSet, every_cause, allows, has_step, causes, led, led_to, after, shown_at, shown_to, target_of, target_to, text_to}
 use Rattle.sftp_audit.specs.Steps.{same_attributes, is_shown, is_named, answers}
 use Rattle.sftp_audit.specs.Laws.{IsAskable, IsAnswerable}
 use Rattle.sftp_audit.proofs.FreeRequests.{IsFree, led-stat, led-lstat, led-real_path, led-read_link, there, link_there}
-use Rattle.sftp_audit.proofs.KeptNodes.{both, node_kept}
+use Rattle.sftp_audit.proofs.KeptNodes.{both, node_kept, content_there, content_kept}
 use Rattle.sftp_audit.proofs.PlaceTexts.{bytes_by, text_fits}
 use Rattle.sftp_audit.proofs.ReplySizes.{status_reply, status_spelled, attributes_reply, attributes_spelled, name_reply, name_spelled}
 
@@ -37,9 +39,12 @@ first_code NoEntry = 2
 first_code NotDir = 2
 first_code Loop = 2
 first_code Exists = 4
+first_code IsDir = 4
 first_code NotLink = 4
+first_code NotFile = 4
 first_code NotEmpty = 4
 first_code Root = 4
+first_code Inside = 4
 first_code NoRoom = 4
 
 first_allowed : (cause : Cause) → allows cause (first_code cause) ≡ true
@@ -48,9 +53,12 @@ first_allowed NoEntry = refl
 first_allowed NotDir = refl
 first_allowed Loop = refl
 first_allowed Exists = refl
+first_allowed IsDir = refl
 first_allowed NotLink = refl
+first_allowed NotFile = refl
 first_allowed NotEmpty = refl
 first_allowed Root = refl
+first_allowed Inside = refl
 first_allowed NoRoom = refl
 
 first_small : (cause : Cause) → first_code cause < 2 ^ 32
@@ -59,9 +67,12 @@ first_small NoEntry = lit< tt
 first_small NotDir = lit< tt
 first_small Loop = lit< tt
 first_small Exists = lit< tt
+first_small IsDir = lit< tt
 first_small NotLink = lit< tt
+first_small NotFile = lit< tt
 first_small NotEmpty = lit< tt
 first_small Root = lit< tt
+first_small Inside = lit< tt
 first_small NoRoom = lit< tt
 
 some_code : (set : CauseSet) (xs : List Cause) → list_any set xs ≡ true → (code : ℕ) × (code < 2 ^ 32) × (list_any (λ cause. set cause && allows cause code) xs ≡ true)
@@ -83,7 +94,7 @@ request_of id ask = record { id = id; ask = ask }
 answered : (t : Tree) (id : ℕ) (ask : Ask) (answer : Answer) → IsTrue (has_step ask) → IsFree t ask → IsTrue (answers t ask answer) → HasSpelling (reply_packet (record { id = id; answer = answer })) → IsAnswerable t (request_of id ask)
 answered t id ask answer judged free is spelled = record {
   reply = record { id = id; answer = answer };
-  end = target t ask;
+  end = after t ask;
   allowed = record { judged = judged; same_id = refl; step = inr (record { free = ap not free; answered = is; changed = refl }) };
   spelled = spelled;
 }
@@ -94,10 +105,6 @@ same_itself n = eq-eqb n n refl
 same_said : (size uid gid permissions : ℕ) → same_attributes (said size uid gid permissions) (said size uid gid permissions) ≡ true
 same_said size uid gid permissions = rw (same_itself size, same_itself uid, same_itself gid, same_itself permissions) refl
 
-same_shown : (t : Tree) (node : Node) → same_attributes (shown t node) (shown t node) ≡ true
-same_shown t (Dir owner) = same_said 0 owner.uid owner.gid (0o040000 + owner.permissions)
-same_shown t (Link linktarget) = same_said (length linktarget) t.uid t.gid 0o120777
-
 target_length : (linktarget : List ℕ) → is_target linktarget ≡ true → length linktarget ≤ 4096
 unfolding is_good_path
 target_length linktarget is =
@@ -105,15 +112,36 @@ target_length linktarget is =
     let sizes = both (nat_le (length linktarget) 4096) (list_all (λ b. not (b == 0)) linktarget && list_all (λ part. nat_le (length part) name_limit) (components linktarget)) parts.1 in
     leb-true (length linktarget) 4096 sizes.0
 
-shown_spelled : (t : Tree) (id : ℕ) (node : Node) → IsKept t → id < 2 ^ 32 → IsNode node → link_fits node ≡ true → HasSpelling (reply_packet (attributes_reply id (shown t node)))
-shown_spelled t id (Dir owner) kept small fits link =
-    attributes_spelled id 0 owner.uid owner.gid (0o040000 + owner.permissions) small (lit< tt) fits.0 fits.1 (omega (arith, fits.2))
-shown_spelled t id (Link linktarget) kept small fits link =
-    attributes_spelled id (length linktarget) t.uid t.gid 0o120777 small (omega (arith, target_length linktarget link)) kept.well_formed.uid kept.well_formed.gid (lit< tt)
+-- what is shown of what stands in a tree can be written
+record IsShown (t : Tree) (id : ℕ) (standing : Node) : Type 0 where
+  pub attrs : Attrs
+  pub is : shown t standing ≡ Some attrs
+  pub same : same_attributes attrs attrs ≡ true
+  pub spelled : HasSpelling (reply_packet (attributes_reply id attrs))
 
-shown-at : (t : Tree) (ask : Ask) (place : Place) (node : Node) → led t ask ≡ Some (Ok place) → node_at t.names place ≡ Some node → shown_to t ask ≡ Some (shown t node)
+shown_said : (t : Tree) (id : ℕ) (standing : Node) (size uid gid permissions : ℕ) → shown t standing ≡ Some (said size uid gid permissions) → HasSpelling (reply_packet (attributes_reply id (said size uid gid permissions))) → IsShown t id standing
+shown_said t id standing size uid gid permissions is spelled = record { attrs = said size uid gid permissions; is = is; same = same_said size uid gid permissions; spelled = spelled }
+
+shown_file : (t : Tree) (id : ℕ) (number : ℕ) (content : Content) → id < 2 ^ 32 → content_at t.files number ≡ Some content → IsContent content → length content.bytes ≤ 16777216 → IsShown t id (File number)
+shown_file t id number content small is fits size =
+    shown_said t id (File number) (length content.bytes) content.owner.uid content.owner.gid (0o100000 + content.owner.permissions) (ap (option_map shown_content) is)
+    (attributes_spelled id (length content.bytes) content.owner.uid content.owner.gid (0o100000 + content.owner.permissions) small (omega (arith, size)) fits.0.0 fits.0.1 (omega (arith, fits.0.2)))
+
+shown_spelled : (t : Tree) (id : ℕ) (standing : Node) → IsKept t → id < 2 ^ 32 → IsNode t.files standing → link_fits standing ≡ true → IsShown t id standing
+shown_spelled t id (Dir owner) kept small fits link =
+    shown_said t id (Dir owner) 0 owner.uid owner.gid (0o040000 + owner.permissions) refl
+    (attributes_spelled id 0 owner.uid owner.gid (0o040000 + owner.permissions) small (lit< tt) fits.0 fits.1 (omega (arith, fits.2)))
+shown_spelled t id (File number) kept small fits link =
+    let found = content_there (content_at t.files number) fits in
+    let good = content_kept t kept number found.0 found.1 in
+    shown_file t id number found.0 small found.1 good.0 good.1
+shown_spelled t id (Link linktarget) kept small fits link =
+    shown_said t id (Link linktarget) (length linktarget) t.uid t.gid 0o120777 refl
+    (attributes_spelled id (length linktarget) t.uid t.gid 0o120777 small (omega (arith, target_length linktarget link)) kept.well_formed.uid kept.well_formed.gid (lit< tt))
+
+shown-at : (t : Tree) (ask : Ask) (place : Place) (standing : Node) → led t ask ≡ Some (Ok place) → node_at t.names place ≡ Some standing → shown_to t ask ≡ shown t standing
 unfolding shown_to
-shown-at t ask place node leads is = ap (λ r. led_to None r (λ p. option_map (shown t) (node_at t.names p))) leads ∙ ap (option_map (shown t)) is
+shown-at t ask place standing leads is = ap (λ r. led_to None r (λ p. shown_at t (node_at t.names p))) leads ∙ ap (shown_at t) is
 
 target-at : (t : Tree) (ask : Ask) (place : Place) (linktarget : List ℕ) → led t ask ≡ Some (Ok place) → node_at t.names place ≡ Some (Link linktarget) → target_to t ask ≡ Some linktarget
 unfolding target_to
@@ -128,14 +156,16 @@ stat_answered t id path kept small free =
     let led = led-stat t path free in
     let found = there (node_at t.names led.place) (led.at NoEntry (λ e. cc)) in
     let fits = node_kept t kept led.place found.0 found.1 in
-    answered t id (Stat path) (replies.Attrs (shown t found.0)) refl free (ap (λ o. is_shown o (replies.Attrs (shown t found.0))) (shown-at t (Stat path) led.place found.0 led.led_is found.1) ∙ same_shown t found.0) (shown_spelled t id found.0 kept small fits.0 fits.1)
+    let told = shown_spelled t id found.0 kept small fits.0 fits.1 in
+    answered t id (Stat path) (replies.Attrs told.attrs) refl free (ap (λ o. is_shown o (replies.Attrs told.attrs)) (shown-at t (Stat path) led.place found.0 led.led_is found.1 ∙ told.is) ∙ told.same) told.spelled
 
 lstat_answered : (t : Tree) (id : ℕ) (path : List ℕ) → IsKept t → id < 2 ^ 32 → IsFree t (Lstat path) → IsAnswerable t (request_of id (Lstat path))
 lstat_answered t id path kept small free =
     let led = led-lstat t path free in
     let found = there (node_at t.names led.place) (led.at NoEntry (λ e. cc)) in
     let fits = node_kept t kept led.place found.0 found.1 in
-    answered t id (Lstat path) (replies.Attrs (shown t found.0)) refl free (ap (λ o. is_shown o (replies.Attrs (shown t found.0))) (shown-at t (Lstat path) led.place found.0 led.led_is found.1) ∙ same_shown t found.0) (shown_spelled t id found.0 kept small fits.0 fits.1)
+    let told = shown_spelled t id found.0 kept small fits.0 fits.1 in
+    answered t id (Lstat path) (replies.Attrs told.attrs) refl free (ap (λ o. is_shown o (replies.Attrs told.attrs)) (shown-at t (Lstat path) led.place found.0 led.led_is found.1 ∙ told.is) ∙ told.same) told.spelled
 
 read_link_answered : (t : Tree) (id : ℕ) (path : List ℕ) → IsKept t → id < 2 ^ 32 → IsFree t (Readlink path) → IsAnswerable t (request_of id (Readlink path))
 read_link_answered t id path kept small free =
@@ -169,6 +199,11 @@ done_answered t id ask small judged free done = answered t id ask (replies.Statu
 free_answered : WalksGivePlaces → (t : Tree) (id : ℕ) (ask : Ask) → IsKept t → IsAskable (request_of id ask) → IsFree t ask → IsAnswerable t (request_of id ask)
 free_answered walks t id (Mkdir path attrs) kept askable free = done_answered t id (Mkdir path attrs) askable.spelled.fields.0 refl free refl
 free_answered walks t id (Rmdir path) kept askable free = done_answered t id (Rmdir path) askable.spelled.fields.0 refl free refl
+free_answered walks t id (Remove path) kept askable free = done_answered t id (Remove path) askable.spelled.fields.0 refl free refl
+free_answered walks t id (Setstat path attrs) kept askable free = done_answered t id (Setstat path attrs) askable.spelled.fields.0 refl free refl
+free_answered walks t id (Rename oldpath newpath) kept askable free = done_answered t id (Rename oldpath newpath) askable.spelled.fields.0 refl free refl
+free_answered walks t id (PosixRename oldpath newpath) kept askable free = done_answered t id (PosixRename oldpath newpath) askable.spelled.fields.0 refl free refl
+free_answered walks t id (Hardlink oldpath newpath) kept askable free = done_answered t id (Hardlink oldpath newpath) askable.spelled.fields.0 refl free refl
 free_answered walks t id (Symlink linktarget link) kept askable free = done_answered t id (Symlink linktarget link) askable.spelled.fields.0 refl free refl
 free_answered walks t id (Stat path) kept askable free = stat_answered t id path kept askable.spelled.fields.0 free
 free_answered walks t id (Lstat path) kept askable free = lstat_answered t id path kept askable.spelled.fields.0 free

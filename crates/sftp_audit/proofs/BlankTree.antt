@@ -21,6 +21,9 @@ blank_formed = record {
   nodes = ((lit< tt, lit< tt, lit< tt), tt);
   root = refl;
   parents = blank_parents;
+  numbered = tt;
+  contents = tt;
+  given = tt;
   home = refl;
   uid = lit< tt;
   gid = lit< tt;
@@ -35,4 +38,4 @@ unfolding fits
 blank_fits = refl
 
 pub blank_start : IsStart blank blank_bytes
-blank_start = record { well_formed = blank_formed; within_limits = blank_fits; picture_is = blank_picture }
+blank_start = record { well_formed = blank_formed; within_limits = blank_fits; trimmed = tt; numbered = refl; picture_is = blank_picture }

@@ -5,12 +5,12 @@ use Rattle.sftp_wire.specs.declared.packets.Ask.{Ask}
 use Rattle.sftp_wire.specs.declared.packets.Ask.TheVariants.{Stat, Lstat, Realpath, Readlink}
 use Rattle.sftp_path.specs.Place.{Place}
 use Rattle.sftp_tree.specs.declared.nodes.Node.{Node}
-use Rattle.sftp_tree.specs.declared.nodes.Node.TheVariants.{Dir, Link}
+use Rattle.sftp_tree.specs.declared.nodes.Node.TheVariants.{Dir, File, Link}
 use Rattle.sftp_tree.specs.declared.causes.Cause.{Cause}
-use Rattle.sftp_tree.specs.declared.causes.Cause.TheVariants.{BadPath, NoEntry, NotDir, Loop, Exists, NotLink, NotEmpty, Root, NoRoom}
+use Rattle.sftp_tree.specs.declared.causes.Cause.TheVariants.{BadPath, NoEntry, NotDir, Loop, Exists, IsDir, NotLink, NotFile, NotEmpty, Root, Inside, NoRoom}
 use Rattle.sftp_tree.specs.Tree.{Tree}
 use Rattle.sftp_tree.specs.Walk.{reached}
-use Rattle.sftp_tree.specs.Steps.{CauseSet, every_cause, only, led, causes, plain_causes, led_causes, causes_at, needing_causes, link_causes, target_causes}
+use Rattle.sftp_tree.specs.Steps.{CauseSet, every_cause, only, led, causes, plain_causes, led_causes, both_causes, new_led, causes_at, new_causes_at, causes_between, needing_causes, link_causes, target_causes}
 use Rattle.sftp_audit.proofs.WalkFailures.{IsOther, reached-fails}
 
 -- no cause refuses the request
@@ -28,14 +28,20 @@ one_of set NotDir is = later (set BadPath) _ (later (set NoEntry) _ (rw is refl)
 one_of set Loop is = later (set BadPath) _ (later (set NoEntry) _ (later (set NotDir) _ (rw is refl)))
 one_of set Exists is =
     later (set BadPath) _ (later (set NoEntry) _ (later (set NotDir) _ (later (set Loop) _ (rw is refl))))
-one_of set NotLink is =
+one_of set IsDir is =
     later (set BadPath) _ (later (set NoEntry) _ (later (set NotDir) _ (later (set Loop) _ (later (set Exists) _ (rw is refl)))))
+one_of set NotLink is =
+    later (set BadPath) _ (later (set NoEntry) _ (later (set NotDir) _ (later (set Loop) _ (later (set Exists) _ (later (set IsDir) _ (rw is refl))))))
+one_of set NotFile is =
+    later (set BadPath) _ (later (set NoEntry) _ (later (set NotDir) _ (later (set Loop) _ (later (set Exists) _ (later (set IsDir) _ (later (set NotLink) _ (rw is refl)))))))
 one_of set NotEmpty is =
-    later (set BadPath) _ (later (set NoEntry) _ (later (set NotDir) _ (later (set Loop) _ (later (set Exists) _ (later (set NotLink) _ (rw is refl))))))
+    later (set BadPath) _ (later (set NoEntry) _ (later (set NotDir) _ (later (set Loop) _ (later (set Exists) _ (later (set IsDir) _ (later (set NotLink) _ (later (set NotFile) _ (rw is refl))))))))
 one_of set Root is =
-    later (set BadPath) _ (later (set NoEntry) _ (later (set NotDir) _ (later (set Loop) _ (later (set Exists) _ (later (set NotLink) _ (later (set NotEmpty) _ (rw is refl)))))))
+    later (set BadPath) _ (later (set NoEntry) _ (later (set NotDir) _ (later (set Loop) _ (later (set Exists) _ (later (set IsDir) _ (later (set NotLink) _ (later (set NotFile) _ (later (set NotEmpty) _ (rw is refl)))))))))
+one_of set Inside is =
+    later (set BadPath) _ (later (set NoEntry) _ (later (set NotDir) _ (later (set Loop) _ (later (set Exists) _ (later (set IsDir) _ (later (set NotLink) _ (later (set NotFile) _ (later (set NotEmpty) _ (later (set Root) _ (rw is refl))))))))))
 one_of set NoRoom is =
-    later (set BadPath) _ (later (set NoEntry) _ (later (set NotDir) _ (later (set Loop) _ (later (set Exists) _ (later (set NotLink) _ (later (set NotEmpty) _ (later (set Root) _ (rw is refl))))))))
+    later (set BadPath) _ (later (set NoEntry) _ (later (set NotDir) _ (later (set Loop) _ (later (set Exists) _ (later (set IsDir) _ (later (set NotLink) _ (later (set NotFile) _ (later (set NotEmpty) _ (later (set Root) _ (later (set Inside) _ (rw is refl)))))))))))
 
 none_of : (set : CauseSet) → list_any set every_cause ≡ false → (cause : Cause) → set cause ≡ false
 none_of set none cause = by (set cause) refl
@@ -55,14 +61,18 @@ plain-free t ask free NoEntry other = none_of (causes t ask) free NoEntry
 plain-free t ask free NotDir other = none_of (causes t ask) free NotDir
 plain-free t ask free Loop other = none_of (causes t ask) free Loop
 plain-free t ask free Exists other = none_of (causes t ask) free Exists
+plain-free t ask free IsDir other = none_of (causes t ask) free IsDir
 plain-free t ask free NotLink other = none_of (causes t ask) free NotLink
+plain-free t ask free NotFile other = none_of (causes t ask) free NotFile
 plain-free t ask free NotEmpty other = none_of (causes t ask) free NotEmpty
 plain-free t ask free Root other = none_of (causes t ask) free Root
+plain-free t ask free Inside other = none_of (causes t ask) free Inside
 plain-free t ask free NoRoom other = absurd (other refl)
 
 led-free : (t : Tree) (ask : Ask) → IsFree t ask → (cause : Cause) → IsOther cause → led_causes (led t ask) (causes_at t ask) cause ≡ false
 unfolding plain_causes
-led-free t ask free cause other = either_false (led_causes (led t ask) (causes_at t ask) cause) (target_causes ask cause) (plain-free t ask free cause other)
+led-free t ask free cause other =
+    either_false (led_causes (led t ask) (causes_at t ask) cause) (led_causes (new_led t ask) (new_causes_at t ask) cause || (both_causes (led t ask) (new_led t ask) (causes_between t ask) cause || target_causes ask cause)) (plain-free t ask free cause other)
 
 only_itself : (cause : Cause) → only cause cause ≡ true
 only_itself BadPath = refl
@@ -70,9 +80,12 @@ only_itself NoEntry = refl
 only_itself NotDir = refl
 only_itself Loop = refl
 only_itself Exists = refl
+only_itself IsDir = refl
 only_itself NotLink = refl
+only_itself NotFile = refl
 only_itself NotEmpty = refl
 only_itself Root = refl
+only_itself Inside = refl
 only_itself NoRoom = refl
 
 -- the path leads to a place, where no cause holds
@@ -119,4 +132,5 @@ there (Some node) e = (node, refl)
 pub link_there : (found : Option Node) → link_causes found NoEntry ≡ false → link_causes found NotLink ≡ false → (linktarget : List ℕ) × (found ≡ Some (Link linktarget))
 link_there None e f = absurd cc
 link_there (Some (Dir owner)) e f = absurd cc
+link_there (Some (File number)) e f = absurd cc
 link_there (Some (Link linktarget)) e f = (linktarget, refl)

@@ -1,12 +1,15 @@
 -- What is known of a node that stands in a tree that is kept, and of places in it.
-use Rattle.std.proofs.Common.{◌≡◌, ◌&&◌, Bool, true, false, List, [], ◌∷◌, Some, refl, subst, cond}
+use Rattle.std.proofs.Common.{◌≡◌, ◌&&◌, ◌||◌, ℕ, ◌≤◌, Bool, true, false, List, [], ◌∷◌, length, Option, Some, None, refl, subst, cond, leb-true, ap}
+use Rattle.std.specs.Ordering.{nat_cmp}
 use Rattle.std.specs.List.{list_all, AllByRecursion}
+use Rattle.std.specs.Prelude.{filter, is_some}
 use Rattle.std.specs.Map.{lookup}
 use Rattle.std.specs.BTreeMap.{is_at}
 use Rattle.sftp_path.specs.Place.{Place, place_cmp}
-use Rattle.sftp_path.specs.Table.{get}
+use Rattle.sftp_path.specs.Table.{get, retain}
+use Rattle.sftp_tree.specs.declared.contents.Content.{Content}
 use Rattle.sftp_tree.specs.declared.nodes.Node.{Node}
-use Rattle.sftp_tree.specs.Tree.{Tree, IsKept, IsNode, node_at, entries_fit, depths_fit, home_fits, links_fit, link_fits, fits}
+use Rattle.sftp_tree.specs.Tree.{Tree, trim, is_named, held_by_names_alone, IsKept, IsNode, IsContent, node_at, content_at, limits, entries_fit, depths_fit, home_fits, links_fit, link_fits, files_fit, content_fits, numbers_fit, fits}
 
 pub both : (a b : Bool) → (a && b) ≡ true → (a ≡ true) × (b ≡ true)
 both true b is = (refl, is)
@@ -26,13 +29,51 @@ tested-all : {E : Type 0} (p : E → Bool) (es : List E) → list_all p es ≡ t
 tested-all p [] is = tt
 tested-all p (e ∷ es) is = let parts = both (p e) (list_all p es) is in (parts.0, tested-all p es parts.1)
 
--- a node fits its fields and the limits
-pub node_kept : (t : Tree) → IsKept t → (place : Place) (node : Node) → node_at t.names place ≡ Some node → IsNode node × (link_fits node ≡ true)
-unfolding get fits
-node_kept t kept place node is =
-    let first = both (entries_fit t) (depths_fit t && (home_fits t && links_fit t)) kept.within_limits in
-    let second = both (depths_fit t) (home_fits t && links_fit t) first.1 in
-    let third = both (home_fits t) (links_fit t) second.1 in (
-      found-all IsNode (is_at (place_cmp place)) t.names node kept.well_formed.nodes is,
-      found-all (λ n. link_fits n ≡ true) (is_at (place_cmp place)) t.names node (tested-all (λ e. link_fits e.1) t.names third.1) is,
+-- the limits, one by one
+pub record Limits (t : Tree) : Type 0 where
+  pub depths : depths_fit t ≡ true
+  pub links : links_fit t ≡ true
+  pub files : files_fit t ≡ true
+
+pub limits_of : (t : Tree) → IsKept t → Limits t
+unfolding fits
+limits_of t kept =
+    let first = both (entries_fit t) (depths_fit t && (home_fits t && (links_fit t && (files_fit t && numbers_fit t)))) kept.within_limits in
+    let second = both (depths_fit t) (home_fits t && (links_fit t && (files_fit t && numbers_fit t))) first.1 in
+    let third = both (home_fits t) (links_fit t && (files_fit t && numbers_fit t)) second.1 in
+    let fourth = both (links_fit t) (files_fit t && numbers_fit t) third.1 in
+    let fifth = both (files_fit t) (numbers_fit t) fourth.1 in
+    record { depths = second.0; links = fourth.0; files = fifth.0 }
+
+-- what stands at a place fits its fields and the limits
+pub node_kept : (t : Tree) → IsKept t → (place : Place) (standing : Node) → node_at t.names place ≡ Some standing → IsNode t.files standing × (link_fits standing ≡ true)
+unfolding get
+node_kept t kept place standing is =
+    let l = limits_of t kept in (
+      found-all (IsNode t.files) (is_at (place_cmp place)) t.names standing kept.well_formed.nodes is,
+      found-all (λ n. link_fits n ≡ true) (is_at (place_cmp place)) t.names standing (tested-all (λ e. link_fits e.1) t.names l.links) is,
     )
+
+pub content_there : (found : Option Content) → is_some found ≡ true → (content : Content) × (found ≡ Some content)
+content_there None is = absurd cc
+content_there (Some content) is = (content, refl)
+
+-- and so does a file
+pub content_kept : (t : Tree) → IsKept t → (number : ℕ) (content : Content) → content_at t.files number ≡ Some content → IsContent content × (length content.bytes ≤ 16777216)
+unfolding get
+content_kept t kept number content is =
+    let l = limits_of t kept in (
+      found-all IsContent (is_at (nat_cmp number)) t.files content kept.well_formed.contents is,
+      leb-true (length content.bytes) 16777216 (found-all (λ c. content_fits (limits t) c ≡ true) (is_at (nat_cmp number)) t.files content (tested-all (λ e. content_fits (limits t) e.1) t.files l.files) is),
+    )
+
+-- where each file has a name, none goes
+kept-all : {E : Type 0} (p q : E → Bool) (es : List E) → AllByRecursion (λ e. p e ≡ true) es → filter (λ e. p e || q e) es ≡ es
+kept-all p q [] all = refl
+kept-all p q (e ∷ es) all = rw all.0 (ap (λ rest. e ∷ rest) (kept-all p q es all.1))
+
+pub trimmed_kept : (t : Tree) → IsKept t → trim t ≡ t
+unfolding retain
+trimmed_kept t kept =
+    let same = kept-all (λ (e : ℕ × Content). is_named t.names e.0) (λ (e : ℕ × Content). held_by_names_alone e.0) t.files kept.trimmed in
+    λ i. record t { files = same i }

@@ -1,7 +1,7 @@
 -- Worked rows of links: sessions on the blank tree that are explained, and such that are not.
 use Rattle.std.proofs.Common.{◌≡◌, [], ◌∷◌, codes, Some, None, refl}
 use Rattle.sftp_path.specs.Place.{parts, components, is_good_path}
-use Rattle.sftp_path.specs.Table.{get, put}
+use Rattle.sftp_path.specs.Table.{retain, get, put}
 use Rattle.sftp_tree.specs.Tree.{fits}
 use Rattle.sftp_tree.specs.Walk.{meets, walk, walk_parts, reached}
 use Rattle.sftp_tree.specs.Steps.{led, plain_causes, causes, target, shown_to, target_to, text_to}
@@ -12,7 +12,7 @@ use Rattle.sftp_audit.proofs.Turns.{Matching-from_ids}
 use Rattle.sftp_audit.proofs.RunEnds.{run_end, run-of_run_end, no_run-of_run_end}
 
 made_end : run_end blank (settled (entries (link_made (codes "x y" ∷ []) (of_link 3)))) ≡ Some with_link
-unfolding settled entries next_reply causes plain_causes led target shown_to target_to reached walk walk_parts meets is_good_path components parts get put fits
+unfolding settled entries next_reply causes plain_causes led target shown_to target_to reached walk walk_parts meets is_good_path components parts get put fits retain
 made_end = refl
 
 pub made : Explained Allowed blank (link_made (codes "x y" ∷ []) (of_link 3)) with_link
@@ -24,35 +24,35 @@ made = record {
 }
 
 other_size_end : run_end blank (settled (entries (link_made (codes "x y" ∷ []) (of_link 4)))) ≡ None
-unfolding settled entries next_reply causes plain_causes led target shown_to target_to reached walk walk_parts meets is_good_path components parts get put fits
+unfolding settled entries next_reply causes plain_causes led target shown_to target_to reached walk walk_parts meets is_good_path components parts get put fits retain
 other_size_end = refl
 
 pub other_size : Unexplained (link_made (codes "x y" ∷ []) (of_link 4))
 other_size end e = no_run-of_run_end blank (settled (entries (link_made (codes "x y" ∷ []) (of_link 4)))) other_size_end end e.run
 
 no_permissions_end : run_end blank (settled (entries (link_made (codes "x y" ∷ []) (with_no_permissions 3)))) ≡ None
-unfolding settled entries next_reply causes plain_causes led target shown_to target_to reached walk walk_parts meets is_good_path components parts get put fits
+unfolding settled entries next_reply causes plain_causes led target shown_to target_to reached walk walk_parts meets is_good_path components parts get put fits retain
 no_permissions_end = refl
 
 pub no_permissions : Unexplained (link_made (codes "x y" ∷ []) (with_no_permissions 3))
 no_permissions end e = no_run-of_run_end blank (settled (entries (link_made (codes "x y" ∷ []) (with_no_permissions 3)))) no_permissions_end end e.run
 
 other_text_end : run_end blank (settled (entries (link_made (codes "x" ∷ []) (of_link 3)))) ≡ None
-unfolding settled entries next_reply causes plain_causes led target shown_to target_to reached walk walk_parts meets is_good_path components parts get put fits
+unfolding settled entries next_reply causes plain_causes led target shown_to target_to reached walk walk_parts meets is_good_path components parts get put fits retain
 other_text_end = refl
 
 pub other_text : Unexplained (link_made (codes "x" ∷ []) (of_link 3))
 other_text end e = no_run-of_run_end blank (settled (entries (link_made (codes "x" ∷ []) (of_link 3)))) other_text_end end e.run
 
 two_names_end : run_end blank (settled (entries (link_made (codes "x y" ∷ codes "x y" ∷ []) (of_link 3)))) ≡ None
-unfolding settled entries next_reply causes plain_causes led target shown_to target_to reached walk walk_parts meets is_good_path components parts get put fits
+unfolding settled entries next_reply causes plain_causes led target shown_to target_to reached walk walk_parts meets is_good_path components parts get put fits retain
 two_names_end = refl
 
 pub two_names : Unexplained (link_made (codes "x y" ∷ codes "x y" ∷ []) (of_link 3))
 two_names end e = no_run-of_run_end blank (settled (entries (link_made (codes "x y" ∷ codes "x y" ∷ []) (of_link 3)))) two_names_end end e.run
 
 above_end : run_end blank (settled (entries above_the_root)) ≡ Some blank
-unfolding settled entries next_reply causes plain_causes led target text_to reached walk walk_parts meets is_good_path components parts get fits
+unfolding settled entries next_reply causes plain_causes led target text_to reached walk walk_parts meets is_good_path components parts get fits retain
 above_end = refl
 
 pub above : Explained Allowed blank above_the_root blank

@@ -14,7 +14,7 @@ use Rattle.sftp_path.proofs.Order.{place_cmp-same}
 use Rattle.sftp_treefile.specs.TreeFile.{are_bytes}
 use Rattle.sftp_tree.specs.declared.nodes.Node.{Node}
 use Rattle.sftp_tree.specs.Tree.{Names, Tree, IsKept, node_at, is_directory, entries_fit, depths_fit, home_fits, links_fit, depth_fits, fits}
-use Rattle.sftp_audit.proofs.KeptNodes.{both}
+use Rattle.sftp_audit.proofs.KeptNodes.{both, limits_of}
 
 -- ---- bytes
 
@@ -80,11 +80,9 @@ depth_found (e ∷ names) place node all is =
     by rest here false miss = rest (let f : cond false (Some e.1) (lookup (is_at (place_cmp place)) names) ≡ Some node = rw miss at is in f)
 
 directory_depth : (t : Tree) (place : Place) → IsKept t → is_directory (node_at t.names place) ≡ true → length place ≤ 64
-unfolding get fits
+unfolding get
 directory_depth t place kept there =
-    let first = both (entries_fit t) (depths_fit t && (home_fits t && links_fit t)) kept.within_limits in
-    let second = both (depths_fit t) (home_fits t && links_fit t) first.1 in
-    by (node_at t.names place) refl there second.0
+    by (node_at t.names place) refl there (limits_of t kept).depths
   where
     by : (found : Option Node) → node_at t.names place ≡ found → is_directory found ≡ true → depths_fit t ≡ true → length place ≤ 64
     by None is e deep = absurd cc

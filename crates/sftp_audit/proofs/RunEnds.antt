@@ -7,7 +7,7 @@ use Rattle.sftp_wire.specs.declared.packets.Request.{Request}
 use Rattle.sftp_wire.specs.declared.packets.Reply.{Reply}
 use Rattle.sftp_tree.specs.declared.causes.Cause.{Cause}
 use Rattle.sftp_tree.specs.Tree.{Tree}
-use Rattle.sftp_tree.specs.Steps.{CauseSet, every_cause, allows, has_step, is_none, causes, target}
+use Rattle.sftp_tree.specs.Steps.{CauseSet, every_cause, allows, has_step, is_none, causes, after as tree_after}
 use Rattle.sftp_audit.specs.Steps.{refuses, answers, Allowed}
 use Rattle.sftp_audit.specs.Explained.{Run}
 
@@ -21,7 +21,7 @@ chosen _ _ _ _ before after = None
 -- where a request and a reply lead, if the reply is allowed
 abbrev pub step_end : Tree → Request → Reply → Option Tree
 step_end t request reply =
-    chosen (has_step request.ask && reply.id == request.id) (refuses (causes t request.ask) reply.answer) (is_none (causes t request.ask)) (answers t request.ask reply.answer) t (target t request.ask)
+    chosen (has_step request.ask && reply.id == request.id) (refuses (causes t request.ask) reply.answer) (is_none (causes t request.ask)) (answers t request.ask reply.answer) t (tree_after t request.ask)
 
 abbrev pub go_on : Option Tree → (Tree → Option Tree) → Option Tree
 go_on None rest = None
@@ -76,14 +76,14 @@ both_true false b is = absurd cc
 -- a step that is allowed leads where the tests say
 pub step_end-of_allowed : (t : Tree) (request : Request) (reply : Reply) (after : Tree) → Allowed t request reply after → step_end t request reply ≡ Some after
 step_end-of_allowed t request reply after a =
-    chosen_by (has_step request.ask && reply.id == request.id) (refuses (causes t request.ask) reply.answer) (is_none (causes t request.ask)) (answers t request.ask reply.answer) t (target t request.ask) after
+    chosen_by (has_step request.ask && reply.id == request.id) (refuses (causes t request.ask) reply.answer) (is_none (causes t request.ask)) (answers t request.ask reply.answer) t (tree_after t request.ask) after
     (refused_by_one (causes t request.ask) reply.answer)
     (ap (λ b. b && reply.id == request.id) a.judged ∙ eq-eqb reply.id request.id a.same_id, elim a.step [ inl r ↦ inl (r.cause, r.unchanged) | inr d ↦ inr (d.free, d.answered, d.changed) ])
 
 -- and where they say that it leads, the step is allowed
 pub allowed-of_step_end : (t : Tree) (request : Request) (reply : Reply) (after : Tree) → step_end t request reply ≡ Some after → Allowed t request reply after
 allowed-of_step_end t request reply after e =
-    let tests = tests_of (has_step request.ask && reply.id == request.id) (refuses (causes t request.ask) reply.answer) (is_none (causes t request.ask)) (answers t request.ask reply.answer) t (target t request.ask) after e in
+    let tests = tests_of (has_step request.ask && reply.id == request.id) (refuses (causes t request.ask) reply.answer) (is_none (causes t request.ask)) (answers t request.ask reply.answer) t (tree_after t request.ask) after e in
     let both = both_true (has_step request.ask) (reply.id == request.id) tests.0 in
     record {
       judged = both.0;

@@ -2,7 +2,7 @@
 use Rattle.std.proofs.Common.{◌≡◌, ℕ, zero, suc, Bool, true, false, if◌then◌else◌, List, [], ◌∷◌, ◌++◌, Option, Some, None, Result, Ok, Err, refl, ◌∙◌}
 use Rattle.sftp_path.specs.Place.{Name, Place, parent, is_dot, is_dot_dot, components, is_good_path}
 use Rattle.sftp_tree.specs.declared.nodes.Node.{Node}
-use Rattle.sftp_tree.specs.declared.nodes.Node.TheVariants.{Dir, Link}
+use Rattle.sftp_tree.specs.declared.nodes.Node.TheVariants.{Dir, File, Link}
 use Rattle.sftp_tree.specs.declared.causes.Cause.{Cause}
 use Rattle.sftp_tree.specs.declared.causes.Cause.TheVariants.{BadPath, Loop, NoRoom}
 use Rattle.sftp_tree.specs.Tree.{Names, Tree, node_at}
@@ -16,6 +16,8 @@ met-fails : (found : Option Node) (place : Place) (last follow : Bool) (cause : 
 met-fails None place true follow cause e is = cc
 met-fails None place false follow cause e is = cc
 met-fails (Some (Dir owner)) place last follow cause e is = cc
+met-fails (Some (File number)) place true follow cause e is = cc
+met-fails (Some (File number)) place false follow cause e is = cc
 met-fails (Some (Link linktarget)) place true true cause e is = cc
 met-fails (Some (Link linktarget)) place true false cause e is = cc
 met-fails (Some (Link linktarget)) place false follow cause e is = cc

@@ -1,13 +1,13 @@
 -- How the code judges a reply: by tests on the tree before it. Words of private contracts.
 use Rattle.std.specs.Prelude.{◌≡◌, ◌&&◌, Bool, true, false, if◌then◌else◌, Option, Some, None, Result, Ok, Err, IsTrue, ◌⊎◌}
 use Rattle.sftp_wire.specs.declared.packets.Ask.{Ask}
-use Rattle.sftp_wire.specs.declared.packets.Ask.TheVariants.{Mkdir, Rmdir, Symlink}
+use Rattle.sftp_wire.specs.declared.packets.Ask.TheVariants.{Setstat, Remove, Mkdir, Rmdir, Rename, Symlink, PosixRename, Hardlink}
 use Rattle.sftp_wire.specs.declared.packets.Answer.{Answer}
 use Rattle.sftp_path.specs.declared.errors.NoMemory.{NoMemory}
 use Rattle.sftp_tree.specs.declared.causes.Refused.{Refused}
 use Rattle.sftp_tree.specs.declared.causes.Refused.TheVariants as refusals
 use Rattle.sftp_tree.specs.Tree.{Tree}
-use Rattle.sftp_tree.specs.Steps.{causes, is_none, target}
+use Rattle.sftp_tree.specs.Steps.{causes, is_none, after}
 use Rattle.sftp_audit.specs.Steps.{answers, Refuses, Does}
 
 -- what a call of the tree gave: a value, or none where a cause refused it; want of memory is told as such
@@ -26,6 +26,11 @@ is_done (Err refusals.NoMemory) = Err (record {})
 abbrev pub changes : Ask → Bool
 changes (Mkdir path attrs) = true
 changes (Rmdir path) = true
+changes (Remove path) = true
+changes (Setstat path attrs) = true
+changes (Rename oldpath newpath) = true
+changes (PosixRename oldpath newpath) = true
+changes (Hardlink oldpath newpath) = true
 changes (Symlink linktarget link) = true
 changes other = false
 
@@ -34,12 +39,12 @@ abbrev pub is_answer : Tree → Ask → Answer → Bool
 is_answer t ask answer = is_none (causes t ask) && answers t ask answer
 
 -- that `ok` tells whether a request that changes the tree was done, and what the tree then is
-pub record IsDone (t : Tree) (ask : Ask) (ok : Bool) (after : Tree) : Type 0 where
+pub record IsDone (t : Tree) (ask : Ask) (ok : Bool) (end : Tree) : Type 0 where
   pub done : ok ≡ (changes ask && is_none (causes t ask))
-  pub after_is : after ≡ (if ok then target t ask else t)
+  pub end_is : end ≡ (if ok then after t ask else t)
 
 -- that `ok` tells whether the tree allows the answer to the request, and what the tree then is
-pub record Judges (t : Tree) (ask : Ask) (answer : Answer) (ok : Bool) (after : Tree) : Type 0 where
-  pub allowed : IsTrue ok → Refuses t ask answer after ⊎ Does t ask answer after
+pub record Judges (t : Tree) (ask : Ask) (answer : Answer) (ok : Bool) (end : Tree) : Type 0 where
+  pub allowed : IsTrue ok → Refuses t ask answer end ⊎ Does t ask answer end
   pub refused : ok ≡ false → (other : Tree) → Refuses t ask answer other ⊎ Does t ask answer other → ⊥
-  pub kept : ok ≡ false → after ≡ t
+  pub kept : ok ≡ false → end ≡ t

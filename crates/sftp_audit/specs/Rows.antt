@@ -2,7 +2,7 @@
 use Rattle.std.specs.Prelude.{ℕ, List, [], ◌∷◌, ◌++◌, map, codes, Some}
 use Rattle.sftp_wire.specs.declared.attributes.Attrs.{Attrs}
 use Rattle.sftp_wire.specs.declared.names.NameItem.{NameItem}
-use Rattle.sftp_wire.specs.declared.packets.Ask.TheVariants.{Mkdir, Rmdir, Remove, Stat, Lstat, Realpath, Readlink, Symlink}
+use Rattle.sftp_wire.specs.declared.packets.Ask.TheVariants.{Opendir, Mkdir, Rmdir, Stat, Lstat, Realpath, Readlink, Symlink}
 use Rattle.sftp_wire.specs.declared.packets.Answer.TheVariants.{Status, Data, Name, Attrs as attributes}
 use Rattle.sftp_wire.specs.Rows.{hex, no_attributes, version_bytes}
 use Rattle.sftp_audit.specs.declared.transcripts.Event.{Event}
@@ -22,7 +22,7 @@ plain_directory = Dir (record { uid = 0; gid = 0; permissions = 0o755 })
 
 -- a tree of such directories, whose home is the root
 abbrev pub tree_of : List (Place × Node) → Tree
-tree_of names = record { names = names; home = []; uid = 0; gid = 0 }
+tree_of names = record { names = names; files = []; made = 0; home = []; uid = 0; gid = 0 }
 
 -- the root alone
 abbrev pub blank : Tree
@@ -58,8 +58,8 @@ abbrev pub rmdir : ℕ → List ℕ → Event
 rmdir id path = Asked (record { id = id; ask = Rmdir path })
 
 -- a request that is not judged yet
-abbrev pub remove : ℕ → List ℕ → Event
-remove id path = Asked (record { id = id; ask = Remove path })
+abbrev pub open_directory : ℕ → List ℕ → Event
+open_directory id path = Asked (record { id = id; ask = Opendir path })
 
 abbrev pub stat : ℕ → List ℕ → Event
 stat id path = Asked (record { id = id; ask = Stat path })
@@ -132,8 +132,8 @@ abbrev pub told_for_made : List Event
 told_for_made = mkdir 1 (codes "/a") ∷ told 1 (codes "a") ∷ []
 
 -- a request that is not judged yet, about nothing, with the code that says so
-abbrev pub remove_of_nothing : List Event
-remove_of_nothing = remove 1 (codes "/a") ∷ status 1 2 ∷ []
+abbrev pub list_of_nothing : List Event
+list_of_nothing = open_directory 1 (codes "/a") ∷ status 1 2 ∷ []
 
 -- the link `/l` to `x y` is made and looked at: READLINK is answered with these names, STAT says that there is no such file, and LSTAT
 -- is answered with these attributes

@@ -1,17 +1,17 @@
 -- Which replies a tree allows to a request, and the tree after them (draft-ietf-secsh-filexfer-02, sections
--- 6.6 to 6.11 and 7). Which fields of a reply are free is this profile's own.
+-- 6.5 to 6.11 and 7; OpenSSH's PROTOCOL, sections 4.3 and 4.5). Which fields of a reply are free is this profile's own.
 use Rattle.std.specs.Prelude.{◌≡◌, ◌==◌, ◌&&◌, ℕ, Bool, false, List, [], ◌∷◌, Option, Some, IsTrue, ◌⊎◌}
 use Rattle.sftp_wire.specs.declared.attributes.Attrs.{Attrs}
 use Rattle.sftp_wire.specs.declared.names.NameItem.{NameItem}
 use Rattle.sftp_wire.specs.declared.packets.Ask.{Ask}
-use Rattle.sftp_wire.specs.declared.packets.Ask.TheVariants.{Mkdir, Rmdir, Symlink, Stat, Lstat, Realpath, Readlink}
+use Rattle.sftp_wire.specs.declared.packets.Ask.TheVariants.{Lstat, Setstat, Remove, Mkdir, Rmdir, Realpath, Stat, Rename, Readlink, Symlink, PosixRename, Hardlink}
 use Rattle.sftp_wire.specs.declared.packets.Answer.{Answer}
 use Rattle.sftp_wire.specs.declared.packets.Answer.TheVariants as replies
 use Rattle.sftp_wire.specs.declared.packets.Request.{Request}
 use Rattle.sftp_wire.specs.declared.packets.Reply.{Reply}
 use Rattle.sftp_path.specs.Place.{same_bytes}
 use Rattle.sftp_tree.specs.Tree.{Tree}
-use Rattle.sftp_tree.specs.Steps.{CauseSet, has_step, causes, is_none, allow, target, shown_to, target_to, text_to}
+use Rattle.sftp_tree.specs.Steps.{CauseSet, has_step, causes, is_none, allow, after, shown_to, target_to, text_to}
 
 -- ---- what a reply says
 
@@ -55,6 +55,11 @@ is_named _ _ = false
 abbrev pub answers : Tree → Ask → Answer → Bool
 answers t (Mkdir path attrs) answer = is_done answer
 answers t (Rmdir path) answer = is_done answer
+answers t (Remove path) answer = is_done answer
+answers t (Setstat path attrs) answer = is_done answer
+answers t (Rename oldpath newpath) answer = is_done answer
+answers t (PosixRename oldpath newpath) answer = is_done answer
+answers t (Hardlink oldpath newpath) answer = is_done answer
 answers t (Symlink linktarget link) answer = is_done answer
 answers t (Stat path) answer = is_shown (shown_to t (Stat path)) answer
 answers t (Lstat path) answer = is_shown (shown_to t (Lstat path)) answer
@@ -65,18 +70,18 @@ answers t other answer = false
 -- ---- which replies are allowed
 
 -- one of the causes that hold allows the answer, and nothing changes
-pub record Refuses (t : Tree) (ask : Ask) (answer : Answer) (after : Tree) : Type 0 where
+pub record Refuses (t : Tree) (ask : Ask) (answer : Answer) (end : Tree) : Type 0 where
   pub cause : IsTrue (refuses (causes t ask) answer)
-  pub unchanged : after ≡ t
+  pub unchanged : end ≡ t
 
 -- no cause holds, the answer is the request's, and the tree changes as it says
-pub record Does (t : Tree) (ask : Ask) (answer : Answer) (after : Tree) : Type 0 where
+pub record Does (t : Tree) (ask : Ask) (answer : Answer) (end : Tree) : Type 0 where
   pub free : IsTrue (is_none (causes t ask))
   pub answered : IsTrue (answers t ask answer)
-  pub changed : after ≡ target t ask
+  pub changed : end ≡ after t ask
 
 -- the request is one that is judged, and the reply carries its number, and refuses or does what was asked
-pub record Allowed (t : Tree) (request : Request) (reply : Reply) (after : Tree) : Type 0 where
+pub record Allowed (t : Tree) (request : Request) (reply : Reply) (end : Tree) : Type 0 where
   pub judged : IsTrue (has_step request.ask)
   pub same_id : reply.id ≡ request.id
-  pub step : Refuses t request.ask reply.answer after ⊎ Does t request.ask reply.answer after
+  pub step : Refuses t request.ask reply.answer end ⊎ Does t request.ask reply.answer end

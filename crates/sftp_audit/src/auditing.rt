@@ -55,6 +55,8 @@ pub fn audit(alloc: Global, tree: &[u8], transcript: &[u8]) -> Result<Accepted, 
 }
 
 #[cfg(test)]
+mod files;
+#[cfg(test)]
 mod links;
 #[cfg(test)]
 mod tests;

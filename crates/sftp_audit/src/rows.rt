@@ -5,7 +5,7 @@ ghost use Rattle.sftp_tree.specs.Picture.{picture, IsStart};
 ghost use Rattle.sftp_audit.specs.Transcript.{IsRecord};
 ghost use Rattle.sftp_audit.specs.Steps.{Allowed};
 ghost use Rattle.sftp_audit.specs.Explained.{Explained};
-ghost use Rattle.sftp_audit.specs.Rows.{blank, blank_bytes, with_a, with_a_and_b, with_a_and_b_bytes, with_link, handshake_bytes, replied_backwards, replied_backwards_bytes, one_unanswered, one_answered_twice, made_twice, told_for_made, remove_of_nothing, link_made, of_link, with_no_permissions, above_the_root, Unexplained};
+ghost use Rattle.sftp_audit.specs.Rows.{blank, blank_bytes, with_a, with_a_and_b, with_a_and_b_bytes, with_link, handshake_bytes, replied_backwards, replied_backwards_bytes, one_unanswered, one_answered_twice, made_twice, told_for_made, list_of_nothing, link_made, of_link, with_no_permissions, above_the_root, Unexplained};
 
 /// The 37 bytes of the blank tree's file, from which a run starts at the blank tree.
 pub fn blank_start()
@@ -52,7 +52,7 @@ pub fn made_twice_refused()
 /// judged yet.
 pub fn other_kinds()
     ensures other_reply { Unexplained told_for_made }
-    ensures other_request { Unexplained remove_of_nothing }
+    ensures other_request { Unexplained list_of_nothing }
 {}
 
 /// The link `/l` to `x y` is made; READLINK gives its target, STAT finds no such file, since nothing stands where it

@@ -1,4 +1,5 @@
-//! Which replies a tree allows to a request (draft, sections 6.6 to 6.11 and 7).
+//! Which replies a tree allows to a request (draft, sections 6.5 to 6.11 and 7; OpenSSH's PROTOCOL, sections 4.3 and
+//! 4.5).
 ghost use Rattle.std.specs.Prelude.{◌≡◌, ℕ, List, IfOk, OnErr, IsTrue, false};
 ghost use Rattle.sftp_wire.specs.declared.packets.Ask.TheVariants.{Realpath, Readlink};
 ghost use Rattle.sftp_wire.specs.declared.packets.Answer.TheVariants as answers;
@@ -36,6 +37,7 @@ fn judge(tree: &mut Tree, ask: &Ask, answer: &Answer) -> Result<bool, NoMemory>
     ensures ok { IfOk result (λ ok. Judges tree.old ask.now answer.now ok tree.new) }
     ensures err { OnErr result (tree.new ≡ tree.old) }
 {
+    tree.see();
     match answer {
         Answer::Status { code, .. } => judge_status(tree, ask, *code),
         Answer::Attrs(attrs) => shows(tree, ask, attrs),
@@ -65,6 +67,17 @@ fn perform(tree: &mut Tree, ask: &Ask) -> Result<bool, NoMemory>
     match ask {
         Ask::Mkdir { path, attrs } => is_done(tree.mkdir(path.as_slice(), attrs)),
         Ask::Rmdir { path } => is_done(tree.rmdir(path.as_slice())),
+        Ask::Remove { path } => is_done(tree.remove(path.as_slice())),
+        Ask::Setstat { path, attrs } => is_done(tree.set_stat(path.as_slice(), attrs)),
+        Ask::Rename { oldpath, newpath } => {
+            is_done(tree.rename(oldpath.as_slice(), newpath.as_slice()))
+        }
+        Ask::PosixRename { oldpath, newpath } => {
+            is_done(tree.posix_rename(oldpath.as_slice(), newpath.as_slice()))
+        }
+        Ask::Hardlink { oldpath, newpath } => {
+            is_done(tree.hardlink(oldpath.as_slice(), newpath.as_slice()))
+        }
         Ask::Symlink {
             targetpath,
             linkpath,
@@ -201,6 +214,11 @@ pub fn has_step(ask: &Ask) -> bool
         ask,
         Ask::Mkdir { .. }
             | Ask::Rmdir { .. }
+            | Ask::Remove { .. }
+            | Ask::Setstat { .. }
+            | Ask::Rename { .. }
+            | Ask::PosixRename { .. }
+            | Ask::Hardlink { .. }
             | Ask::Stat { .. }
             | Ask::Lstat { .. }
             | Ask::Realpath { .. }

@@ -1,6 +1,6 @@
 //! Why a run ended early.
 use sftp_audit::AuditError;
-use sftp_tree::{NoMemory, Refused};
+use sftp_tree::{NoMemory, Refused, TreeError};
 use sftp_wire::WireError;
 use std::alloc::AllocError;
 use std::io;
@@ -18,6 +18,9 @@ pub(crate) enum BenchError {
     /// The tree of a session refused a request.
     #[error("the tree: {0}")]
     Tree(#[from] Refused),
+    /// A tree file was not read.
+    #[error("the tree file: {0}")]
+    TreeFile(#[from] TreeError),
     /// A session was not accepted.
     #[error("the audit: {0}")]
     Audit(#[from] AuditError),

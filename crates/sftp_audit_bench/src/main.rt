@@ -1,10 +1,11 @@
-//! The program `sftp_audit_bench`: how fast sessions are audited by `sftp_audit`. With the word `measure` it prints figures;
-//! without arguments it audits a small session, and prints counts only.
+//! The program `sftp_audit_bench`: how fast sessions are audited by `sftp_audit`, and tree files read and written by
+//! `sftp_tree`. With the word `measure` it prints figures; without arguments it does a small round of each, and prints counts only.
 #![tactic(auto)]
 
 mod errors;
 mod figures;
 mod sessions;
+mod trees;
 
 use errors::BenchError;
 use std::env;
@@ -25,8 +26,14 @@ fn main(rt: HostRuntime) -> ExitCode {
 fn run(rt: &HostRuntime) -> Result<(), BenchError> {
     let words: Vec<String> = env::args(rt)?.collect(rt.alloc())?;
     match words.as_slice() {
-        [] | [_] => figures::print_counts(rt),
-        [_, word] if word.as_str() == "measure" => figures::print_figures(rt),
+        [] | [_] => {
+            figures::print_counts(rt)?;
+            trees::print_counts(rt)
+        }
+        [_, word] if word.as_str() == "measure" => {
+            figures::print_figures(rt)?;
+            trees::print_figures(rt)
+        }
         _ => Err(BenchError::Usage),
     }
 }

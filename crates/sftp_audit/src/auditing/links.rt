@@ -7,7 +7,7 @@ use std::alloc::AllocError;
 use std::test::*;
 
 /// The opening, an INIT of version 3 and a VERSION 3, both without extensions.
-const OPENING: &[u8] = b"SFTPTR01C\0\0\0\x05\x01\0\0\0\x03S\0\0\0\x05\x02\0\0\0\x03";
+pub(super) const OPENING: &[u8] = b"SFTPTR01C\0\0\0\x05\x01\0\0\0\x03S\0\0\0\x05\x02\0\0\0\x03";
 
 /// The tree with the one link `/l` to `l`.
 const LINK_TO_ITSELF: &[u8] =
@@ -81,18 +81,22 @@ const DIRECTORY_AND_MORE: &[u8] =
 const DIRECTORY_OF_NOBODY: &[u8] =
     b"S\0\0\0\x15\x69\0\0\0\x01\0\0\0\x05\0\0\0\0\0\0\0\0\0\0\x41\xed";
 
+/// ATTRS of a file of three bytes with the permissions 0o644.
+pub(super) const FILE: &[u8] =
+    b"S\0\0\0\x1d\x69\0\0\0\x01\0\0\0\x07\0\0\0\0\0\0\0\x03\0\0\0\0\0\0\0\0\0\0\x81\xa4";
+
 /// ATTRS of a link whose target has one byte.
 const LINK_OF_ONE: &[u8] =
     b"S\0\0\0\x1d\x69\0\0\0\x01\0\0\0\x07\0\0\0\0\0\0\0\x01\0\0\0\0\0\0\0\0\0\0\xa1\xff";
 
 /// STATUS of this code, without texts.
-fn status(code: u8) -> [u8; 22] {
+pub(super) fn status(code: u8) -> [u8; 22] {
     [
         b'S', 0, 0, 0, 17, 101, 0, 0, 0, 1, 0, 0, 0, code, 0, 0, 0, 0, 0, 0, 0, 0,
     ]
 }
 
-/// The tree with the links `/A` to `B`, `/B` to `C` and so on, up to the directory of this name.
+/// The tree with the links `/A` to `B`, `/B` to `C` and so on, up to the file of this name, which has `abc`.
 fn chain(alloc: Global, end: u8) -> Result<Vec<u8>, AllocError> {
     let mut tree = Vec::from_slice(alloc, b"SFTREE01\0\0\0\x01/\0\0\0\0\0\0\0\0\0\0\0")?;
     tree.push(end.saturating_sub(64))?;
@@ -100,13 +104,18 @@ fn chain(alloc: Global, end: u8) -> Result<Vec<u8>, AllocError> {
     for name in b'A'..end {
         tree.extend_from_slice(&[0, 0, 0, 2, b'/', name, b'L', 0, 0, 0, 1, name + 1])?;
     }
-    tree.extend_from_slice(&[0, 0, 0, 2, b'/', end, b'D'])?;
-    tree.extend_from_slice(b"\0\0\0\0\0\0\0\0\0\0\x01\xed")?;
+    tree.extend_from_slice(&[0, 0, 0, 2, b'/', end, b'F'])?;
+    tree.extend_from_slice(b"\0\0\0\0\0\0\0\0\0\0\x01\xa4\0\0\0\x03abc")?;
     Ok(tree)
 }
 
 /// Whether the reply is accepted; else it is one that the tree does not allow.
-fn accepts(alloc: Global, tree: &[u8], request: &[u8], reply: &[u8]) -> Result<bool, Fail> {
+pub(super) fn accepts(
+    alloc: Global,
+    tree: &[u8],
+    request: &[u8],
+    reply: &[u8],
+) -> Result<bool, Fail> {
     let mut transcript = Vec::from_slice(alloc, OPENING)?;
     transcript.extend_from_slice(request)?;
     transcript.extend_from_slice(reply)?;
@@ -158,12 +167,13 @@ fn a_link_to_itself_leads_nowhere(rt: HostRuntime) -> Result<(), Fail> {
     Ok(())
 }
 
-/// The 40th link leads to the directory `/i`, or there is one link more, and the directory is `/j`.
+/// The 40th link leads to the file `/i`, or there is one link more, and the file is `/j`.
 #[test]
 fn forty_links_are_followed(rt: HostRuntime) -> Result<(), Fail> {
-    assert!(rt; accepts_on_chain(rt.alloc(), b'i', STAT_A, DIRECTORY)?);
+    assert!(rt; accepts_on_chain(rt.alloc(), b'i', STAT_A, FILE)?);
     assert!(rt; accepts_on_chain(rt.alloc(), b'j', STAT_A, &status(2))?);
-    assert!(rt; !accepts_on_chain(rt.alloc(), b'j', STAT_A, DIRECTORY)?);
+    assert!(rt; accepts_on_chain(rt.alloc(), b'j', STAT_A, &status(4))?);
+    assert!(rt; !accepts_on_chain(rt.alloc(), b'j', STAT_A, FILE)?);
     Ok(())
 }
 

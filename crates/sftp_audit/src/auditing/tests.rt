@@ -11,8 +11,8 @@ const OPENING: &[u8] = b"SFTPTR01C\0\0\0\x05\x01\0\0\0\x03S\0\0\0\x05\x02\0\0\0\
 /// MKDIR of `/a` with the id 1.
 const MAKE_A: &[u8] = b"C\0\0\0\x0f\x0e\0\0\0\x01\0\0\0\x02/a\0\0\0\0";
 
-/// REMOVE of `/a` with the id 1.
-const REMOVE_A: &[u8] = b"C\0\0\0\x0b\x0d\0\0\0\x01\0\0\0\x02/a";
+/// OPENDIR of `/a` with the id 1.
+const OPENDIR_A: &[u8] = b"C\0\0\0\x0b\x0b\0\0\0\x01\0\0\0\x02/a";
 
 /// STATUS 0 and STATUS 2 to the id 1, without texts.
 const DONE: &[u8] = b"S\0\0\0\x11\x65\0\0\0\x01\0\0\0\0\0\0\0\0\0\0\0\0";
@@ -59,7 +59,7 @@ fn other_answers_to_mkdir_are_refused(rt: HostRuntime) -> Result<(), Fail> {
 fn a_request_that_cannot_be_judged_is_no_refusal(rt: HostRuntime) -> Result<(), Fail> {
     for reply in [DONE, ABSENT] {
         assert_eq!(rt;
-            audit_one(&rt, REMOVE_A, reply)?,
+            audit_one(&rt, OPENDIR_A, reply)?,
             Err(AuditError::Transcript(TranscriptError::Wire {
                 fault: Fault::WrongType,
                 record: 3

@@ -24,11 +24,11 @@ fn allows_to_rmdir(alloc: Global, id: u32, code: u32) -> Result<bool, NoMemory> 
     allows(tree, Ask::Rmdir { path }, id, status(alloc, code))
 }
 
-/// The same of the REMOVE of a path, which cannot be judged yet.
-fn allows_to_remove(alloc: Global, code: u32) -> Result<bool, NoMemory> {
+/// The same of the OPENDIR of a path, which cannot be judged yet.
+fn allows_to_list(alloc: Global, code: u32) -> Result<bool, NoMemory> {
     let tree = Tree::blank(alloc)?;
     let path = ByteString::from_slice(alloc, b"/x".as_slice())?;
-    allows(tree, Ask::Remove { path }, 7, status(alloc, code))
+    allows(tree, Ask::Opendir { path }, 7, status(alloc, code))
 }
 
 #[test]
@@ -49,7 +49,7 @@ fn a_refusal_has_the_code_of_a_cause_and_the_number_of_its_request(
 #[test]
 fn nothing_answers_other_requests(rt: HostRuntime) -> Result<(), Fail> {
     for code in 0..10 {
-        assert!(rt; !allows_to_remove(rt.alloc(), code)?, "code {code}");
+        assert!(rt; !allows_to_list(rt.alloc(), code)?, "code {code}");
     }
     Ok(())
 }
