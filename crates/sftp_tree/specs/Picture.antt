@@ -17,7 +17,7 @@ use Rattle.sftp_tree.specs.Tree.{Names, Files, Tree, WellFormed, IsTrimmed, fits
 
 -- ---- what the tree file of a tree says
 
--- the number of the first entry that is a name of a file; the root, which is none, stands in front with the number 0
+-- the number of the first entry that is a name of the file of this number; the root, which is none, stands in front with the number 0
 abbrev pub entry_naming : ℕ → Names → Option ℕ
 entry_naming number [] = None
 entry_naming number (e ∷ es) = if names_file number e.1 then Some 0 else option_map suc (entry_naming number es)

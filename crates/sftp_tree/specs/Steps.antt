@@ -73,7 +73,7 @@ abbrev pub every_cause : List Cause
 every_cause = BadPath ∷ NoEntry ∷ NotDir ∷ Loop ∷ Exists ∷ IsDir ∷ NotLink ∷ NotFile ∷ NotEmpty ∷ Root ∷ Inside ∷ NoRoom ∷ []
 
 -- the status codes that a cause allows (draft, section 7): 2 says that there is no such file, 4 that the request failed, 5 that
--- it is a bad one
+-- the message is bad
 abbrev pub allows : Cause → ℕ → Bool
 allows BadPath code = code == 4 || code == 5
 allows NoEntry code = code == 2
@@ -255,7 +255,7 @@ abbrev pub with_changed_file : Tree → Attrs → ℕ → Option Content → Tre
 with_changed_file t attrs number None = t
 with_changed_file t attrs number (Some content) = record t { files = with_content t.files number (changed_content attrs content) }
 
--- the attributes of what stands at a place are set; links have none
+-- the attributes of what stands at a place are set; those of a link stay, and no request sets them, since SETSTAT follows links
 abbrev pub with_attributes : Tree → Attrs → Place → Option Node → Tree
 with_attributes t attrs place None = t
 with_attributes t attrs place (Some (Dir owner)) = record t { names = with_node t.names place (Dir (changed_owner attrs owner)) }

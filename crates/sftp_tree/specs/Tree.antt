@@ -1,6 +1,6 @@
 -- The tree: what stands at each place, the files that have names there, where relative paths start, and who owns what is made
 -- with no owner given. The limits are this profile's own.
-use Rattle.std.specs.Prelude.{◌&&◌, ◌||◌, ◌==◌, nat_lt, nat_le, ℕ, ◌-◌, ◌<◌, ◌≤◌, ◌^◌, Bool, true, false, [], length, Option, Some, None, is_some, IsTrue}
+use Rattle.std.specs.Prelude.{◌&&◌, ◌||◌, ◌==◌, nat_lt, nat_le, ℕ, ◌-◌, ◌<◌, ◌^◌, Bool, true, false, [], length, Option, Some, None, is_some, IsTrue}
 use Rattle.std.specs.Ordering.{nat_cmp}
 use Rattle.std.specs.List.{list_any, list_all, AllByRecursion}
 use Rattle.sftp_path.specs.Place.{Place, place_cmp, parent, is_below, are_names, depth_limit}
@@ -183,7 +183,7 @@ numbers_fit t = nat_lt t.made (2 ^ 32)
 unfoldable pub fits : Tree → Bool
 fits t = entries_fit t && (depths_fit t && (home_fits t && (links_fit t && (files_fit t && numbers_fit t))))
 
--- what every tree of the program keeps
+-- what every tree of the program keeps, as long as nothing but names holds a file
 pub record IsKept (t : Tree) : Type 0 where
   pub well_formed : WellFormed t
   pub within_limits : IsTrue (fits t)
