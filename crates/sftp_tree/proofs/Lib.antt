@@ -14,3 +14,8 @@ pub mod PictureRows
 pub mod WalkRules
 pub mod WalkCounts
 pub mod StepKeeps
+pub mod KeepTables
+pub mod KeepFits
+pub mod KeepTrim
+pub mod KeepPlaces
+pub mod KeepNames

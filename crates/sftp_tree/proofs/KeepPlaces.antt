@@ -1,0 +1,86 @@
+-- Places of a tree, above and below one another: what a taken place stands below is a directory.
+use Rattle.std.proofs.Common.{◌≡◌, ℕ, zero, suc, ◌+◌, ◌-◌, ◌<◌, ◌≤◌, ◌&&◌, Bool, true, false, [], ◌∷◌, ◌++◌, length, take, drop, refl, sym, ap, subst, ◌∙◌, arith, Option, Some, None, IsTrue, nat_lt}
+use Rattle.std.specs.Cmp.Lexicographic.{nat_list_eq_equiv}
+use Rattle.std.proofs.Math.Seq.{take-append_seam}
+use Rattle.std.proofs.lemmas.List.{take-take, length-take-le, length-append}
+use Rattle.std.proofs.lemmas.Bool.{and_parts, and_from, ltb-true, false_from_ne_true, both_ways}
+use Rattle.sftp_path.specs.Place.{Name, Place, parent, begins, is_below, same_bytes, place_cmp}
+use Rattle.sftp_path.specs.Table.{get, InOrder}
+use Rattle.sftp_path.proofs.Order.{begins-front, below-begins, place_cmp-total, place_cmp-same}
+use Rattle.sftp_tree.specs.declared.nodes.Node.{Node}
+use Rattle.sftp_tree.specs.Tree.{Names, node_at, is_taken, is_directory, has_entries}
+use Rattle.sftp_tree.proofs.KeepTables.{get-each}
+use Rattle.sftp_tree.proofs.StepBelow.{has_entries-below, has_entries-none}
+
+-- each taken place has a directory for its parent
+abbrev pub HaveParents : Names → Type 0
+HaveParents names = (place : Place) → IsTrue (is_taken (node_at names place)) → IsTrue (is_directory (node_at names (parent place)))
+
+pub directory-taken : (o : Option Node) → IsTrue (is_directory o) → IsTrue (is_taken o)
+directory-taken None h = absurd cc
+directory-taken (Some it) h = refl
+
+pub taken-some : (o : Option Node) (it : Node) → o ≡ Some it → IsTrue (is_taken o)
+taken-some None it h = absurd cc
+taken-some (Some x) it h = refl
+
+pub none-from : (o : Option Node) → is_taken o ≡ false → o ≡ None
+none-from None h = refl
+none-from (Some it) h = absurd cc
+
+-- ---- lists of names
+
+pub below-further : (p : Place) (n : Name) (ns : Place) → is_below p (p ++ n ∷ ns) ≡ true
+below-further [] n ns = refl
+below-further (m ∷ ms) n ns = ap (λ b. b && is_below ms (ms ++ n ∷ ns)) (nat_list_eq_equiv.refl m) ∙ below-further ms n ns
+
+-- a place stands in front of what is below it
+pub take-below : (p q : Place) → is_below p q ≡ true → (take (length p) q ≡ p) × (length p < length q)
+take-below p q below =
+    let parts = and_parts (begins p q) (nat_lt (length p) (length q)) (sym (below-begins p q) ∙ below) in
+    (ap (take (length p)) (begins-front p q parts.0) ∙ take-append_seam p (drop (length p) q), ltb-true (length p) (length q) parts.1)
+
+-- what begins a parent begins the place
+begins-parent : (p q : Place) (k : ℕ) → begins p (take k q) ≡ true → begins p q ≡ true
+begins-parent [] q k h = refl
+begins-parent (m ∷ ms) [] zero h = absurd cc
+begins-parent (m ∷ ms) [] (suc k) h = absurd cc
+begins-parent (m ∷ ms) (n ∷ ns) zero h = absurd cc
+begins-parent (m ∷ ms) (n ∷ ns) (suc k) h =
+    let parts = and_parts (same_bytes m n) (begins ms (take k ns)) h in
+    and_from (same_bytes m n) (begins ms ns) parts.0 (begins-parent ms ns k parts.1)
+
+-- what does not begin a place does not begin its parent
+pub apart-parent : (p q : Place) → begins p q ≡ false → begins p (parent q) ≡ false
+apart-parent p q apart =
+    false_from_ne_true (begins p (parent q)) (λ h. both_ways (begins p q) apart (begins-parent p q (length q - 1) h))
+
+-- ---- in a tree
+
+climb : (names : Names) → HaveParents names → (more : ℕ) (q : Place) (n : ℕ) → length q ≡ n + 1 + more → IsTrue (is_taken (node_at names q)) → IsTrue (is_directory (node_at names (take n q)))
+climb names parents zero q n is taken =
+    let one : length q - 1 ≡ n = omega arith in
+    subst (λ k. IsTrue (is_directory (node_at names (take k q)))) one (parents q taken)
+climb names parents (suc more) q n is taken =
+    let shorter : length (parent q) ≡ length q - 1 = length-take-le (length q - 1) q (omega arith) in
+    let less : n ≤ length q - 1 = omega arith in
+    subst (λ p. IsTrue (is_directory (node_at names p))) (take-take n (length q - 1) q less)
+    (climb names parents more (parent q) n (omega arith) (directory-taken (node_at names (parent q)) (parents q taken)))
+
+-- what something taken stands below is a directory
+pub above-directory : (names : Names) (p q : Place) → HaveParents names → is_below p q ≡ true → IsTrue (is_taken (node_at names q)) → IsTrue (is_directory (node_at names p))
+above-directory names p q parents below taken =
+    let front = take-below p q below in
+    subst (λ x. IsTrue (is_directory (node_at names x))) front.0
+    (climb names parents (length q - (length p + 1)) q (length p) (omega (arith, front.1)) taken)
+
+pub nothing-below : (names : Names) (place : Place) → InOrder place_cmp names → HaveParents names → is_directory (node_at names place) ≡ false → has_entries names place ≡ false
+nothing-below names place order parents none =
+    has_entries-none place names
+    (get-each place_cmp place_cmp-same place_cmp-total (λ e. is_below place e.0 ≡ false) names order
+    (λ q it there. false_from_ne_true (is_below place q) (λ below. both_ways (is_directory (node_at names place)) none (above-directory names place q parents below (taken-some (node_at names q) it there)))))
+
+pub alone-there : (names : Names) (place : Place) → has_entries names place ≡ false → (n : Name) (ns : Place) → node_at names (place ++ n ∷ ns) ≡ None
+alone-there names place empty n ns =
+    none-from (node_at names (place ++ n ∷ ns))
+    (false_from_ne_true (is_taken (node_at names (place ++ n ∷ ns))) (λ taken. both_ways (has_entries names place) empty (has_entries-below place (place ++ n ∷ ns) names (below-further place n ns) taken)))
