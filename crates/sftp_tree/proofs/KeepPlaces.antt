@@ -1,14 +1,16 @@
 -- Places of a tree, above and below one another: what a taken place stands below is a directory.
-use Rattle.std.proofs.Common.{◌≡◌, ℕ, zero, suc, ◌+◌, ◌-◌, ◌<◌, ◌≤◌, ◌&&◌, Bool, true, false, [], ◌∷◌, ◌++◌, length, take, drop, refl, sym, ap, subst, ◌∙◌, arith, Option, Some, None, IsTrue, nat_lt}
+use Rattle.std.proofs.Common.{◌≡◌, ℕ, zero, suc, ◌+◌, ◌-◌, ◌<◌, ◌≤◌, ◌&&◌, Bool, true, false, [], ◌∷◌, ◌++◌, length, take, drop, refl, sym, ap, subst, ◌∙◌, arith, Option, Some, None, IsTrue, nat_lt, inl, inr}
 use Rattle.std.specs.Cmp.Lexicographic.{nat_list_eq_equiv}
 use Rattle.std.proofs.Math.Seq.{take-append_seam}
-use Rattle.std.proofs.lemmas.List.{take-take, length-take-le, length-append}
-use Rattle.std.proofs.lemmas.Bool.{and_parts, and_from, ltb-true, false_from_ne_true, both_ways}
+use Rattle.std.proofs.lemmas.List.{take-take, length-take-le, take_all}
+use Rattle.std.proofs.lemmas.Bool.{and_parts, and_from, ltb-true, ltb-false, false_from_ne_true, both_ways, cases_lt, cases_Bool}
 use Rattle.sftp_path.specs.Place.{Name, Place, parent, begins, is_below, same_bytes, place_cmp}
 use Rattle.sftp_path.specs.Table.{get, InOrder}
-use Rattle.sftp_path.proofs.Order.{begins-front, below-begins, place_cmp-total, place_cmp-same}
+use Rattle.sftp_path.proofs.Order.{begins-is, begins-front, below-begins, place_cmp-total, place_cmp-same}
+use Rattle.sftp_treefile.specs.TreeFile.{same_place}
 use Rattle.sftp_tree.specs.declared.nodes.Node.{Node}
 use Rattle.sftp_tree.specs.Tree.{Names, node_at, is_taken, is_directory, has_entries}
+use Rattle.sftp_tree.specs.Steps.{goes_inside}
 use Rattle.sftp_tree.proofs.KeepTables.{get-each}
 use Rattle.sftp_tree.proofs.StepBelow.{has_entries-below, has_entries-none}
 
@@ -73,6 +75,44 @@ above-directory names p q parents below taken =
     let front = take-below p q below in
     subst (λ x. IsTrue (is_directory (node_at names x))) front.0
     (climb names parents (length q - (length p + 1)) q (length p) (omega (arith, front.1)) taken)
+
+-- a directory's parents are directories
+pub front-directory : (names : Names) (q : Place) (n : ℕ) → HaveParents names → n ≤ length q → IsTrue (is_directory (node_at names q)) → IsTrue (is_directory (node_at names (take n q)))
+front-directory names q n parents within directory =
+    elim (cases_lt n (length q)) [
+      | inl less ↦ climb names parents (length q - (n + 1)) q n (omega arith) (directory-taken (node_at names q) directory)
+      | inr whole ↦ subst (λ p. IsTrue (is_directory (node_at names p))) (sym (take_all n q whole)) directory
+    ]
+
+-- what begins a place is that place, or the place is below it
+pub begins-or-same : (p q : Place) → begins p q ≡ true → is_below p q ≡ false → same_place p q ≡ true
+begins-or-same p q begun apart =
+    let none = and_right-false (begins p q) (nat_lt (length p) (length q)) begun (sym (below-begins p q) ∙ apart) in
+    ap (same_place p) (sym (take_all (length p) q (ltb-false (length p) (length q) none))) ∙ begins-is p q ∙ begun
+  where
+    and_right-false : (a b : Bool) → a ≡ true → (a && b) ≡ false → b ≡ false
+    and_right-false true b first h = h
+    and_right-false false b first h = absurd cc
+
+-- a place whose parent is a directory stands below no other but a directory
+pub apart-from : (names : Names) (old new : Place) → HaveParents names → goes_inside names old new ≡ false → same_place old new ≡ false → IsTrue (is_directory (node_at names (parent new))) → begins old new ≡ false
+apart-from names old new parents outside differ above = false_from_ne_true (begins old new) begun
+  where
+    inside : is_below old new ≡ true → ⊥
+    inside below =
+        let front = take-below old new below in
+        let shorter : length (parent new) ≡ length new - 1 = length-take-le (length new - 1) new (omega arith) in
+        let within : length old ≤ length new - 1 = omega (arith, front.1) in
+        let is : take (length old) (parent new) ≡ old = take-take (length old) (length new - 1) new within ∙ front.0 in
+        let directory = subst (λ p. IsTrue (is_directory (node_at names p))) is (front-directory names (parent new) (length old) parents (omega arith) above) in
+        both_ways (goes_inside names old new) outside (and_from (is_directory (node_at names old)) (is_below old new) directory below)
+
+    begun : begins old new ≡ true → ⊥
+    begun h =
+        elim (cases_Bool (is_below old new)) [
+          | inl below ↦ inside below
+          | inr apart ↦ both_ways (same_place old new) differ (begins-or-same old new h apart)
+        ]
 
 pub nothing-below : (names : Names) (place : Place) → InOrder place_cmp names → HaveParents names → is_directory (node_at names place) ≡ false → has_entries names place ≡ false
 nothing-below names place order parents none =

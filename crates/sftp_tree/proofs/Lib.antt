@@ -19,3 +19,4 @@ pub mod KeepFits
 pub mod KeepTrim
 pub mod KeepPlaces
 pub mod KeepNames
+pub mod KeepValues
