@@ -105,7 +105,7 @@ names-owner files names place before owner fit there is_owner = record {
 -- ---- one entry less
 
 -- a directory stays where another place goes
-stays-without : (names : Names) (place q : Place) → InOrder place_cmp names → place_cmp place q ≢ Equal → IsTrue (is_directory (node_at names q)) → IsTrue (is_directory (node_at (without_node names place) q))
+pub stays-without : (names : Names) (place q : Place) → InOrder place_cmp names → place_cmp place q ≢ Equal → IsTrue (is_directory (node_at names q)) → IsTrue (is_directory (node_at (without_node names place) q))
 stays-without names place q order differ directory =
     ap is_directory (get-without_elsewhere place_cmp place_cmp-total names place q order differ) ∙ directory
 

@@ -20,3 +20,4 @@ pub mod KeepTrim
 pub mod KeepPlaces
 pub mod KeepNames
 pub mod KeepValues
+pub mod KeepMoves
