@@ -21,3 +21,5 @@ pub mod KeepPlaces
 pub mod KeepNames
 pub mod KeepValues
 pub mod KeepMoves
+pub mod KeepFields
+pub mod KeepCauses

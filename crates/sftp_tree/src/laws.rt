@@ -9,18 +9,21 @@ ghost use Rattle.sftp_tree.specs.declared.causes.Cause.{Cause};
 ghost use Rattle.sftp_tree.specs.Tree.{Names, Tree, IsKept, limits, is_directory, node_at};
 ghost use Rattle.sftp_tree.specs.Walk.{walk, reached, looked, steps_of, looked_limit, link_limit};
 ghost use Rattle.sftp_tree.specs.WalkRules.{Leads};
-ghost use Rattle.sftp_tree.specs.Steps.{target};
+ghost use Rattle.sftp_tree.specs.Steps.{target, after};
 ghost use Rattle.sftp_tree.specs.Sets.{IsFree};
 
 /// No request changes the limits of a tree.
 pub fn limits_stay()
-    ensures { (t : Tree) (ask : Ask) → limits (target t ask) ≡ limits t }
+    ensures target { (t : Tree) (ask : Ask) → limits (target t ask) ≡ limits t }
+    ensures after { (t : Tree) (ask : Ask) → limits (after t ask) ≡ limits t }
 {}
 
 /// A request that no cause refuses, and whose fields fit their places on the wire, leaves a tree within the limits.
 pub fn steps_keep()
-    ensures { (t : Tree) (ask : Ask) → IsKept t → FitsAsk ask → IsFree t ask → IsKept (target t ask) }
-{}
+    ensures { (t : Tree) (ask : Ask) → IsKept t → FitsAsk ask → IsFree t ask → IsKept (after t ask) }
+{
+    walks_give_places();
+}
 
 /// The function of walks is by the rules of walks, and no rule leads elsewhere.
 pub fn walks_are_by_the_rules()
