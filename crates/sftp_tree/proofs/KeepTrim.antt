@@ -14,7 +14,7 @@ use Rattle.sftp_path.proofs.CountLaws.{count-found}
 use Rattle.sftp_tree.specs.declared.contents.Content.{Content}
 use Rattle.sftp_tree.specs.declared.nodes.Node.{Node}
 use Rattle.sftp_tree.specs.declared.nodes.Node.TheVariants.{Dir, File, Link}
-use Rattle.sftp_tree.specs.Tree.{Names, Files, Tree, WellFormed, IsKept, IsTrimmed, IsNode, IsContent, limits, fits, content_fits, node_at, content_at, names_file, times_named, is_named, trimmed, trim, held_by_names_alone}
+use Rattle.sftp_tree.specs.Tree.{Names, Files, Tree, WellFormed, IsKept, IsTrimmed, IsNode, IsContent, limits, fits, files_fit, content_fits, node_at, content_at, names_file, times_named, is_named, trimmed, trim, held_by_names_alone}
 use Rattle.sftp_tree.proofs.KeepTables.{each-weaker, each-retain, each-get, get-each, each-all, all-each}
 use Rattle.sftp_tree.proofs.KeepFits.{fits-parts, fits-from}
 
@@ -69,6 +69,11 @@ well-formed-trimmed is_held t well = record {
   gid = well.gid;
 }
 
+pub files-trimmed : (is_held : ℕ → Bool) (t : Tree) → IsTrue (files_fit t) → IsTrue (files_fit (trimmed is_held t))
+files-trimmed is_held t fit =
+    all-each (λ e. content_fits (limits t) e.1) (retain t.files (stays is_held t.names))
+    (each-retain (λ e. IsTrue (content_fits (limits t) e.1)) (λ e. IsTrue (content_fits (limits t) e.1)) t.files (stays is_held t.names) (λ e h passed. h) (each-all (λ e. content_fits (limits t) e.1) t.files fit))
+
 pub fits-trimmed : (is_held : ℕ → Bool) (t : Tree) → IsTrue (fits t) → IsTrue (fits (trimmed is_held t))
 fits-trimmed is_held t h =
     let parts = fits-parts t h in
@@ -77,9 +82,7 @@ fits-trimmed is_held t h =
       depths = parts.depths;
       home = parts.home;
       links = parts.links;
-      files =
-        all-each (λ e. content_fits (limits t) e.1) (retain t.files (stays is_held t.names))
-        (each-retain (λ e. IsTrue (content_fits (limits t) e.1)) (λ e. IsTrue (content_fits (limits t) e.1)) t.files (stays is_held t.names) (λ e h passed. h) (each-all (λ e. content_fits (limits t) e.1) t.files parts.files));
+      files = files-trimmed is_held t parts.files;
       numbers = parts.numbers;
     })
 

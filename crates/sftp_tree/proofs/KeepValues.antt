@@ -17,6 +17,7 @@ use Rattle.sftp_tree.specs.declared.nodes.Node.TheVariants.{Dir, File, Link}
 use Rattle.sftp_tree.specs.Tree.{Names, Files, Tree, WellFormed, IsKept, IsTrimmed, IsNode, IsContent, limits, fits, content_fits, depth_fits, link_fits, node_at, with_node, content_at, with_content, names_file, times_named, is_named}
 use Rattle.sftp_tree.proofs.KeepTables.{each-weaker, each-get, each-put, each-all, all-each}
 use Rattle.sftp_tree.proofs.KeepFits.{fits-parts, fits-from}
+use Rattle.sftp_tree.proofs.KeepLimits.{entries-again, depths-again, links-again, files-again}
 use Rattle.sftp_tree.proofs.KeepNames.{names-of, names-owner, well-formed-names}
 
 -- ---- another owner of a directory
@@ -24,12 +25,11 @@ use Rattle.sftp_tree.proofs.KeepNames.{names-of, names-owner, well-formed-names}
 pub fits-owner : (t : Tree) (place : Place) (before owner : Owner) → WellFormed t → IsTrue (fits t) → node_at t.names place ≡ Some (Dir before) → IsTrue (fits (record t { names = with_node t.names place (Dir owner) }))
 fits-owner t place before owner well within there =
     let parts = fits-parts t within in
-    let size = size-put_present place_cmp place_cmp-total t.names place (Dir owner) (Dir before) well.ordered there in
     fits-from (record t { names = with_node t.names place (Dir owner) }) (record {
-      entries = ap (λ n. nat_le (n - 1) (limits t).entries) size ∙ parts.entries;
-      depths = keys-put_again place_cmp place_cmp-same t.names place (Dir owner) (Dir before) depth_fits there ∙ parts.depths;
+      entries = entries-again t place (Dir before) (Dir owner) well.ordered there ∙ parts.entries;
+      depths = depths-again t place (Dir before) (Dir owner) there ∙ parts.depths;
       home = parts.home;
-      links = values-put place_cmp t.names place (Dir owner) link_fits parts.links refl;
+      links = links-again t place (Dir owner) parts.links refl;
       files = parts.files;
       numbers = parts.numbers;
     })
@@ -95,7 +95,7 @@ fits-content t number content within small =
       depths = parts.depths;
       home = parts.home;
       links = parts.links;
-      files = values-put nat_cmp t.files number content (content_fits (limits t)) parts.files small;
+      files = files-again t number content parts.files small;
       numbers = parts.numbers;
     })
 

@@ -19,6 +19,7 @@ pub mod KeepFits
 pub mod KeepTrim
 pub mod KeepPlaces
 pub mod KeepNames
+pub mod KeepLimits
 pub mod KeepValues
 pub mod KeepMoves
 pub mod KeepFields

@@ -19,7 +19,7 @@ use Rattle.sftp_tree.specs.declared.nodes.Node.{Node}
 use Rattle.sftp_tree.specs.declared.nodes.Node.TheVariants.{Dir, File, Link}
 use Rattle.sftp_tree.specs.declared.causes.Cause.{Cause}
 use Rattle.sftp_tree.specs.declared.causes.Cause.TheVariants.{NoEntry, NotDir, Exists, IsDir, NotEmpty, Root, Inside}
-use Rattle.sftp_tree.specs.Tree.{Names, Tree, WellFormed, IsKept, IsNode, IsContent, fits, node_at, with_node, without_node, content_at, is_taken, is_directory, has_entries}
+use Rattle.sftp_tree.specs.Tree.{Names, Tree, WellFormed, IsKept, IsNode, IsContent, fits, node_at, with_node, without_node, content_at, is_taken, is_directory, has_entries, trim}
 use Rattle.sftp_tree.specs.Walk.{reached}
 use Rattle.sftp_tree.specs.Attributes.{directory_owner, changed_owner, changed_content}
 use Rattle.sftp_tree.specs.Steps.{path_of, new_path_of, follows, led, new_led, causes_at, new_causes_at, causes_between, making_causes, goes_inside, are_one, are_one_file, replacing_causes, with_changed_file, with_attributes, target_at, moved, put_in_its_stead, with_further_name, target_between, target_on, led_to, target, after}
@@ -194,37 +194,51 @@ target-is : (t : Tree) (ask : Ask) (l n : Option (Result Place Cause)) → led t
 unfolding target
 target-is t ask l n e f = λ i. led_to t (e i) (λ place. target_on t ask place (f i))
 
--- a tree within the limits, that may have files with no name
+-- a tree within the limits, which may have files with no name
 pub record Stands (t : Tree) : Type 0 where
   pub well_formed : WellFormed t
   pub within_limits : IsTrue (fits t)
 
-target-stands-by : (t : Tree) (ask : Ask) (l n : Option (Result Place Cause)) → led t ask ≡ l → new_led t ask ≡ n → LeadsWell t → IsKept t → FitsAsk ask → IsFree t ask → Stands (target t ask)
-target-stands-by t ask None n e f leads kept fit free =
-    subst Stands (sym (target-is t ask None n e f)) (record { well_formed = kept.well_formed; within_limits = kept.within_limits })
-target-stands-by t ask (Some (Err failed)) n e f leads kept fit free =
-    subst Stands (sym (target-is t ask (Some (Err failed)) n e f)) (record { well_formed = kept.well_formed; within_limits = kept.within_limits })
-target-stands-by t ask (Some (Ok place)) None e f leads kept fit free =
+target-stands-by : (t : Tree) (ask : Ask) (l n : Option (Result Place Cause)) → led t ask ≡ l → new_led t ask ≡ n → LeadsWell t → Stands t → FitsAsk ask → IsFree t ask → Stands (target t ask)
+target-stands-by t ask None n e f leads stands fit free = subst Stands (sym (target-is t ask None n e f)) stands
+target-stands-by t ask (Some (Err failed)) n e f leads stands fit free = subst Stands (sym (target-is t ask (Some (Err failed)) n e f)) stands
+target-stands-by t ask (Some (Ok place)) None e f leads stands fit free =
     let none = free-at t ask place free e f in
     record {
-      well_formed = subst WellFormed (sym (target-is t ask (Some (Ok place)) None e f)) (well-at t ask place kept.well_formed fit (place-led t ask place leads fit e) none.none);
+      well_formed = subst WellFormed (sym (target-is t ask (Some (Ok place)) None e f)) (well-at t ask place stands.well_formed fit (place-led t ask place leads fit e) none.none);
       within_limits = none.room;
     }
-target-stands-by t ask (Some (Ok place)) (Some (Err failed)) e f leads kept fit free =
-    subst Stands (sym (target-is t ask (Some (Ok place)) (Some (Err failed)) e f)) (record { well_formed = kept.well_formed; within_limits = kept.within_limits })
-target-stands-by t ask (Some (Ok old)) (Some (Ok new)) e f leads kept fit free =
+target-stands-by t ask (Some (Ok place)) (Some (Err failed)) e f leads stands fit free =
+    subst Stands (sym (target-is t ask (Some (Ok place)) (Some (Err failed)) e f)) stands
+target-stands-by t ask (Some (Ok old)) (Some (Ok new)) e f leads stands fit free =
     let none = free-between t ask old new free e f in
     record {
       well_formed =
         subst WellFormed (sym (target-is t ask (Some (Ok old)) (Some (Ok new)) e f))
-        (well-between t ask old new kept.well_formed (new-place-led t ask new leads fit f) none.at_old none.at_new none.between);
+        (well-between t ask old new stands.well_formed (new-place-led t ask new leads fit f) none.at_old none.at_new none.between);
       within_limits = none.room;
     }
 
-pub target-stands : (t : Tree) (ask : Ask) → LeadsWell t → IsKept t → FitsAsk ask → IsFree t ask → Stands (target t ask)
-target-stands t ask = target-stands-by t ask (led t ask) (new_led t ask) refl refl
+-- where paths of all trees within the limits lead well, the trees that requests ask for are trees
+abbrev pub PathsLeadWell : Type 0
+PathsLeadWell = (t : Tree) → IsKept t → LeadsWell t
 
-pub after-kept : (t : Tree) (ask : Ask) → LeadsWell t → IsKept t → FitsAsk ask → IsFree t ask → IsKept (after t ask)
-after-kept t ask leads kept fit free =
-    let stands = target-stands t ask leads kept fit free in
+-- walks go by names and the home alone
+same-walk : (t : Tree) (follow : Bool) (path : List ℕ) → reached (trim t) follow path ≡ reached t follow path
+unfolding reached
+same-walk t follow path = refl
+
+leads-untrimmed : PathsLeadWell → (t : Tree) → Stands t → LeadsWell t
+leads-untrimmed paths t stands follow path place bytes is =
+    let leads = paths (trim t) (kept-trim t stands.well_formed stands.within_limits) follow path place bytes (same-walk t follow path ∙ is) in
+    record { named = leads.named; above = leads.above }
+
+pub target-stands : PathsLeadWell → (t : Tree) (ask : Ask) → WellFormed t → IsTrue (fits t) → FitsAsk ask → IsFree t ask → Stands (target t ask)
+target-stands paths t ask well within =
+    let stands : Stands t = record { well_formed = well; within_limits = within } in
+    target-stands-by t ask (led t ask) (new_led t ask) refl refl (leads-untrimmed paths t stands) stands
+
+pub after-kept : PathsLeadWell → (t : Tree) (ask : Ask) → IsKept t → FitsAsk ask → IsFree t ask → IsKept (after t ask)
+after-kept paths t ask kept fit free =
+    let stands = target-stands paths t ask kept.well_formed kept.within_limits fit free in
     kept-trim (target t ask) stands.well_formed stands.within_limits

@@ -14,31 +14,9 @@ use Rattle.sftp_tree.proofs.KeepTables.{each-weaker}
 use Rattle.sftp_tree.proofs.KeepFits.{fits-parts, fits-from}
 use Rattle.sftp_tree.proofs.KeepTrim.{kept-trim}
 use Rattle.sftp_tree.proofs.KeepNames.{names-of, names-put, names-without, well-formed-names}
-use Rattle.sftp_tree.proofs.StepTables.{length-without}
+use Rattle.sftp_tree.proofs.KeepLimits.{entries-without, depths-without, links-without}
 
 -- ---- one entry more
-
-more-entries : (n m limit : ℕ) → m ≡ n + 1 → nat_le (m - 1) limit ≡ nat_le n limit
-more-entries n m limit one_more =
-    let same : m - 1 ≡ n = omega arith in ap (λ k. nat_le k limit) same
-
-joined : (a b d : Bool) → (a && ((b && true) && (true && ((d && true) && (true && true))))) ≡ ((a && b) && d)
-joined true true true = refl
-joined true true false = refl
-joined true false d = refl
-joined false b d = refl
-
--- with a new place a tree within the limits fits where there is room, and a link's target is one
-pub fits-put : (t : Tree) (place : Place) (it : Node) → IsTrue (fits t) → node_at t.names place ≡ None → fits (record t { names = with_node t.names place it }) ≡ (has_room t place && link_fits it)
-unfolding fits
-fits-put t place it within absent =
-    let parts = fits-parts t within in
-    let entries = more-entries (length t.names) (length (with_node t.names place it)) (limits t).entries (size-put place_cmp t.names place it absent) in
-    let depths = all-put_new place_cmp t.names place it (λ e. depth_fits e.0) absent in
-    let links = all-put_new place_cmp t.names place it (λ e. link_fits e.1) absent in
-    (λ i. entries i && (depths i && (parts.home i && (links i && (parts.files i && parts.numbers i)))))
-    ∙ (λ i. nat_le (length t.names) (limits t).entries && ((depth_fits place && parts.depths i) && (true && ((link_fits it && parts.links i) && (true && true)))))
-    ∙ joined (nat_le (length t.names) (limits t).entries) (depth_fits place) (link_fits it)
 
 -- what is named stays so where a place is new
 named-put : (names : Names) (place : Place) (it : Node) (number : ℕ) → node_at names place ≡ None → IsTrue (is_named names number) → IsTrue (is_named (with_node names place it) number)
@@ -62,18 +40,15 @@ kept-put t place it kept named absent above is_node within = record {
 
 -- ---- one entry less
 
-fewer : (n m limit : ℕ) → m ≤ n → nat_le (n - 1) limit ≡ true → nat_le (m - 1) limit ≡ true
-fewer n m limit less fit = grind (arith, nat_tests)
-
 -- a tree within the limits fits with an entry less
 pub fits-without : (t : Tree) (place : Place) → IsTrue (fits t) → fits (record t { names = without_node t.names place }) ≡ true
 fits-without t place within =
     let parts = fits-parts t within in
     fits-from (record t { names = without_node t.names place }) (record {
-      entries = fewer (length t.names) (length (without_node t.names place)) (limits t).entries (length-without place t.names) parts.entries;
-      depths = all-without place_cmp t.names place (λ e. depth_fits e.0) parts.depths;
+      entries = entries-without t place parts.entries;
+      depths = depths-without t place parts.depths;
       home = parts.home;
-      links = all-without place_cmp t.names place (λ e. link_fits e.1) parts.links;
+      links = links-without t place parts.links;
       files = parts.files;
       numbers = parts.numbers;
     })
