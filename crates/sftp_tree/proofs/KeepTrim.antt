@@ -86,7 +86,7 @@ fits-trimmed is_held t h =
       numbers = parts.numbers;
     })
 
-or-false : (b : Bool) → (b || false) ≡ b
+pub or-false : (b : Bool) → (b || false) ≡ b
 or-false true = refl
 or-false false = refl
 

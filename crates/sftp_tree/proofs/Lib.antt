@@ -24,3 +24,4 @@ pub mod KeepValues
 pub mod KeepMoves
 pub mod KeepFields
 pub mod KeepCauses
+pub mod KeepFiles
