@@ -1,5 +1,5 @@
 -- A request that no cause refuses: what is so where its paths lead, and that there is room for what it asks for.
-use Rattle.std.proofs.Common.{◌≡◌, ◌&&◌, ◌||◌, not, ℕ, List, [], ◌∷◌, refl, sym, ap, ◌∙◌, Option, Some, None, Bool, true, false, Result, Ok, Err, IsTrue}
+use Rattle.std.proofs.Common.{◌≡◌, ◌&&◌, ◌||◌, not, List, [], ◌∷◌, refl, sym, ap, ◌∙◌, Option, Some, None, true, false, Result, Ok, IsTrue}
 use Rattle.std.specs.List.{list_any, AllByRecursion}
 use Rattle.std.proofs.lemmas.Bool.{or_parts, not-true, not-false, and_right, or_from}
 use Rattle.sftp_wire.specs.declared.packets.Ask.{Ask}
@@ -8,7 +8,7 @@ use Rattle.sftp_path.specs.Place.{Place}
 use Rattle.sftp_tree.specs.declared.causes.Cause.{Cause}
 use Rattle.sftp_tree.specs.declared.causes.Cause.TheVariants.{BadPath, NoEntry, NotDir, Loop, Exists, IsDir, NotLink, NotFile, NotEmpty, Root, Inside, NoRoom}
 use Rattle.sftp_tree.specs.Tree.{Tree, fits}
-use Rattle.sftp_tree.specs.Steps.{CauseSet, every_cause, is_none, led, new_led, causes_at, new_causes_at, causes_between, target_causes, led_causes, both_causes, plain_causes, are_one, target, target_on, led_to, causes}
+use Rattle.sftp_tree.specs.Steps.{CauseSet, every_cause, is_none, led, new_led, causes_at, new_causes_at, causes_between, target_causes, led_causes, both_causes, plain_causes, are_one, target, causes}
 use Rattle.sftp_tree.specs.Sets.{IsFree}
 
 -- ---- sets

@@ -1,7 +1,6 @@
 -- Fields that fit their places on the wire, as parts of a tree: paths, owners and contents.
-use Rattle.std.proofs.Common.{◌≡◌, ℕ, zero, suc, ◌<◌, ◌^◌, ◌%◌, ◌-◌, ◌&&◌, List, [], ◌∷◌, ◌++◌, length, take, replicate, refl, ap, ◌∙◌, arith, Option, Some, None, unwrap_or, Bool, true, IsTrue, lit<, nat_lt}
+use Rattle.std.proofs.Common.{ℕ, zero, suc, ◌<◌, ◌^◌, ◌%◌, ◌-◌, ◌&&◌, List, [], ◌∷◌, length, take, replicate, refl, ◌∙◌, arith, Option, Some, None, unwrap_or, IsTrue, lit<, nat_lt}
 use Rattle.std.specs.Option.{option_map, IfSome}
-use Rattle.std.specs.List.{list_all}
 use Rattle.std.proofs.lemmas.Bool.{lt-ltb, and_parts, and_from}
 use Rattle.std.proofs.lemmas.List.Folds.{list_all-append}
 use Rattle.sftp_wire.specs.declared.attributes.Attrs.{Attrs}
@@ -10,7 +9,7 @@ use Rattle.sftp_treefile.specs.declared.files.Owner.{Owner}
 use Rattle.sftp_treefile.specs.TreeFile.{IsOwner, are_bytes}
 use Rattle.sftp_tree.specs.declared.contents.Content.{Content}
 use Rattle.sftp_tree.specs.Tree.{Tree, WellFormed, IsContent}
-use Rattle.sftp_tree.specs.Attributes.{directory_owner, changed_owner, resized, changed_bytes, changed_content}
+use Rattle.sftp_tree.specs.Attributes.{directory_owner, changed_owner, resized, changed_content}
 
 pub bytes-fit : (bytes : List ℕ) → AreBytes bytes → IsTrue (are_bytes bytes)
 bytes-fit [] fits = refl

@@ -17,7 +17,7 @@ use Rattle.sftp_tree.specs.declared.contents.Content.{Content}
 use Rattle.sftp_tree.specs.declared.nodes.Node.{Node}
 use Rattle.sftp_tree.specs.declared.nodes.Node.TheVariants.{Dir, File, Link}
 use Rattle.sftp_tree.specs.declared.causes.Cause.{Cause}
-use Rattle.sftp_tree.specs.Tree.{Names, Files, Tree, WellFormed, IsNode, node_at, with_node, without_node, content_at, with_content, times_named, is_named, trimmed, trim, held_by_names_alone}
+use Rattle.sftp_tree.specs.Tree.{Names, Tree, WellFormed, IsNode, node_at, with_node, without_node, content_at, with_content, times_named, is_named, trimmed, held_by_names_alone}
 use Rattle.sftp_tree.specs.Attributes.{directory_owner, changed_owner, changed_content}
 use Rattle.sftp_tree.specs.Steps.{led, new_led, are_one, with_changed_file, with_attributes, put_in_its_stead, with_further_name, target_at, target_between, target_on, led_to, target, after}
 use Rattle.sftp_tree.proofs.KeepTables.{each-get}

@@ -1,5 +1,5 @@
 -- The parts of the test whether a tree is within the limits.
-use Rattle.std.proofs.Common.{◌≡◌, true, ◌&&◌, ap, ◌∙◌, IsTrue}
+use Rattle.std.proofs.Common.{◌≡◌, true, ◌&&◌, IsTrue}
 use Rattle.std.proofs.lemmas.Bool.{and_parts, and_from}
 use Rattle.sftp_tree.specs.Tree.{Tree, fits, entries_fit, depths_fit, home_fits, links_fit, files_fit, numbers_fit}
 

@@ -5,7 +5,7 @@ use Rattle.std.proofs.Math.Seq.{take-append_seam}
 use Rattle.std.proofs.lemmas.List.{take-take, length-take-le, take_all}
 use Rattle.std.proofs.lemmas.Bool.{and_parts, and_from, ltb-true, ltb-false, false_from_ne_true, both_ways, cases_lt, cases_Bool}
 use Rattle.sftp_path.specs.Place.{Name, Place, parent, begins, is_below, same_bytes, place_cmp}
-use Rattle.sftp_path.specs.Table.{get, InOrder}
+use Rattle.sftp_path.specs.Table.{InOrder}
 use Rattle.sftp_path.proofs.Order.{begins-is, begins-front, below-begins, place_cmp-total, place_cmp-same}
 use Rattle.sftp_treefile.specs.TreeFile.{same_place}
 use Rattle.sftp_tree.specs.declared.nodes.Node.{Node}

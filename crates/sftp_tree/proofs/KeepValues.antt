@@ -1,21 +1,20 @@
 -- A tree with another owner of a directory, or another content of a file: it stays a tree within the limits.
-use Rattle.std.proofs.Common.{◌≡◌, ◌+◌, ◌<◌, ℕ, Bool, true, false, cond, refl, sym, ap, ◌∙◌, arith, Option, Some, None, is_some, nat_le, nat_lt, ◌-◌, IsTrue, length}
+use Rattle.std.proofs.Common.{◌≡◌, ◌+◌, ◌<◌, ℕ, Bool, true, false, cond, refl, ap, ◌∙◌, arith, Some, is_some, nat_lt, ◌-◌, IsTrue}
 use Rattle.std.specs.Ordering.{nat_cmp, is_eq}
 use Rattle.std.specs.FinMap.{nat_cmp-IsAntisymmetric}
 use Rattle.std.proofs.lemmas.Cmp.{nat_cmp_total}
 use Rattle.sftp_path.specs.Place.{Place, place_cmp}
 use Rattle.sftp_path.specs.Table.{InOrder}
-use Rattle.sftp_path.proofs.Order.{place_cmp-total, place_cmp-same}
-use Rattle.sftp_path.proofs.TableLaws.{size-put_present, get-put, InOrder-put}
-use Rattle.sftp_path.proofs.TestLaws.{keys-put_again, values-put}
+use Rattle.sftp_path.proofs.Order.{place_cmp-total}
+use Rattle.sftp_path.proofs.TableLaws.{get-put, InOrder-put}
 use Rattle.sftp_path.proofs.CountLaws.{count-put_again}
 use Rattle.sftp_treefile.specs.declared.files.Owner.{Owner}
 use Rattle.sftp_treefile.specs.TreeFile.{IsOwner}
 use Rattle.sftp_tree.specs.declared.contents.Content.{Content}
 use Rattle.sftp_tree.specs.declared.nodes.Node.{Node}
 use Rattle.sftp_tree.specs.declared.nodes.Node.TheVariants.{Dir, File, Link}
-use Rattle.sftp_tree.specs.Tree.{Names, Files, Tree, WellFormed, IsKept, IsTrimmed, IsNode, IsContent, limits, fits, content_fits, depth_fits, link_fits, node_at, with_node, content_at, with_content, names_file, times_named, is_named}
-use Rattle.sftp_tree.proofs.KeepTables.{each-weaker, each-get, each-put, each-all, all-each}
+use Rattle.sftp_tree.specs.Tree.{Names, Files, Tree, WellFormed, IsKept, IsNode, IsContent, limits, fits, content_fits, node_at, with_node, content_at, with_content, names_file, times_named, is_named}
+use Rattle.sftp_tree.proofs.KeepTables.{each-weaker, each-get, each-put}
 use Rattle.sftp_tree.proofs.KeepFits.{fits-parts, fits-from}
 use Rattle.sftp_tree.proofs.KeepLimits.{entries-again, depths-again, links-again, files-again}
 use Rattle.sftp_tree.proofs.KeepNames.{names-of, names-owner, well-formed-names}

@@ -1,7 +1,7 @@
 -- What stands after a request that no cause refuses is a tree within the limits.
-use Rattle.std.proofs.Common.{◌≡◌, ℕ, ◌&&◌, ◌||◌, not, List, [], ◌∷◌, ◌++◌, refl, sym, subst, ap, ◌∙◌, Option, Some, None, is_some, IsTrue, Result, Ok, Err, Bool, true, false, if◌then◌else◌, inl, inr}
+use Rattle.std.proofs.Common.{◌≡◌, ℕ, ◌&&◌, not, List, [], ◌∷◌, refl, sym, subst, ap, ◌∙◌, Option, Some, None, IsTrue, Result, Ok, Err, Bool, true, false, if◌then◌else◌}
 use Rattle.std.specs.Option.{option_map, IfSome}
-use Rattle.std.proofs.lemmas.Bool.{and_parts, and_from, both_ways, cases_Bool, false_from_ne_true, not-false, or_parts}
+use Rattle.std.proofs.lemmas.Bool.{both_ways, false_from_ne_true, not-false, or_parts}
 use Rattle.std.proofs.lemmas.List.{append-nil}
 use Rattle.std.specs.Cmp.Lexicographic.{pointwise_decides, bytes_decides}
 use Rattle.std.specs.Ordering.{nat_cmp}
@@ -10,7 +10,7 @@ use Rattle.sftp_wire.specs.declared.attributes.Attrs.{Attrs}
 use Rattle.sftp_wire.specs.declared.packets.Ask.{Ask}
 use Rattle.sftp_wire.specs.declared.packets.Ask.TheVariants.{Lstat, Setstat, Remove, Mkdir, Rmdir, Realpath, Stat, Rename, Readlink, Symlink, PosixRename, Hardlink}
 use Rattle.sftp_wire.specs.Spelling.{FitsAttrs, FitsAsk}
-use Rattle.sftp_path.specs.Place.{Place, place_cmp, parent, begins, are_names}
+use Rattle.sftp_path.specs.Place.{Place, place_cmp, parent, are_names}
 use Rattle.sftp_path.specs.Rekeying.{NothingFrom}
 use Rattle.sftp_path.proofs.Order.{place_cmp-same}
 use Rattle.sftp_treefile.specs.TreeFile.{are_bytes, is_root, same_place}
@@ -22,12 +22,12 @@ use Rattle.sftp_tree.specs.declared.causes.Cause.TheVariants.{NoEntry, NotDir, E
 use Rattle.sftp_tree.specs.Tree.{Names, Tree, WellFormed, IsKept, IsNode, IsContent, fits, node_at, with_node, without_node, content_at, is_taken, is_directory, has_entries, trim}
 use Rattle.sftp_tree.specs.Walk.{reached}
 use Rattle.sftp_tree.specs.Attributes.{directory_owner, changed_owner, changed_content}
-use Rattle.sftp_tree.specs.Steps.{path_of, new_path_of, follows, led, new_led, causes_at, new_causes_at, causes_between, making_causes, goes_inside, are_one, are_one_file, replacing_causes, with_changed_file, with_attributes, target_at, moved, put_in_its_stead, with_further_name, target_between, target_on, led_to, target, after}
+use Rattle.sftp_tree.specs.Steps.{path_of, new_path_of, follows, led, new_led, causes_at, new_causes_at, causes_between, goes_inside, are_one, are_one_file, replacing_causes, with_changed_file, with_attributes, target_at, moved, put_in_its_stead, with_further_name, target_between, target_on, led_to, target, after}
 use Rattle.sftp_tree.specs.Sets.{IsFree}
 use Rattle.sftp_tree.proofs.KeepTables.{each-get}
 use Rattle.sftp_tree.proofs.KeepFields.{bytes-fit, owner-fits, changed-owner-fits, changed-content-fits}
-use Rattle.sftp_tree.proofs.KeepCauses.{FreeAt, FreeBetween, free-at, free-between}
-use Rattle.sftp_tree.proofs.KeepPlaces.{none-from, taken-some, apart-from, nothing-below, alone-there}
+use Rattle.sftp_tree.proofs.KeepCauses.{free-at, free-between}
+use Rattle.sftp_tree.proofs.KeepPlaces.{none-from, apart-from, nothing-below, alone-there}
 use Rattle.sftp_tree.proofs.KeepNames.{names-of, names-put, names-owner, names-without, well-formed-names}
 use Rattle.sftp_tree.proofs.KeepValues.{well-formed-content}
 use Rattle.sftp_tree.proofs.KeepMoves.{well-formed-moved, well-formed-in-stead}

@@ -1,15 +1,11 @@
 -- A tree with an entry more or less: that it fits the limits, and that it stays a tree.
-use Rattle.std.proofs.Common.{◌≡◌, ◌<◌, ℕ, ◌+◌, ◌-◌, ◌≤◌, Bool, true, false, ◌&&◌, if◌then◌else◌, length, refl, sym, ◌∙◌, ap, arith, None, nat_le, IsTrue}
+use Rattle.std.proofs.Common.{◌≡◌, ◌<◌, ℕ, ◌+◌, ◌-◌, true, false, if◌then◌else◌, arith, None, IsTrue}
 use Rattle.std.proofs.lemmas.Bool.{lt-ltb, ltb-true}
-use Rattle.std.proofs.lemmas.Bool.Decides.{nat_tests}
 use Rattle.sftp_path.specs.Place.{Place, place_cmp, parent, are_names}
-use Rattle.sftp_path.proofs.TableLaws.{size-put}
-use Rattle.sftp_path.proofs.TestLaws.{all-put_new, all-without}
 use Rattle.sftp_path.proofs.CountLaws.{count-put_new}
 use Rattle.sftp_treefile.specs.TreeFile.{is_root}
 use Rattle.sftp_tree.specs.declared.nodes.Node.{Node}
-use Rattle.sftp_tree.specs.Tree.{Names, Tree, IsKept, IsNode, limits, fits, depth_fits, link_fits, node_at, with_node, without_node, is_directory, has_entries, names_file, times_named, is_named, trim}
-use Rattle.sftp_tree.specs.Judged.{has_room}
+use Rattle.sftp_tree.specs.Tree.{Names, Tree, IsKept, IsNode, fits, node_at, with_node, without_node, is_directory, has_entries, names_file, times_named, is_named, trim}
 use Rattle.sftp_tree.proofs.KeepTables.{each-weaker}
 use Rattle.sftp_tree.proofs.KeepFits.{fits-parts, fits-from}
 use Rattle.sftp_tree.proofs.KeepTrim.{kept-trim}

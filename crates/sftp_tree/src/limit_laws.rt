@@ -1,6 +1,6 @@
 //! How each change of a tree bears on each of its limits, as theorems on the definitions that the contracts name. The
-//! functions do nothing; each promise is in the contract. A limit that a law does not name is one that the change says
-//! nothing of: it holds after it just where it held before.
+//! functions do nothing; each promise is in the contract. A limit that a law does not name holds after the change just where
+//! it held before.
 ghost use Rattle.std.specs.Prelude.{◌≡◌, ◌&&◌, nat_le, ℕ, Some, None, length, IsTrue};
 ghost use Rattle.std.specs.List.{list_all};
 ghost use Rattle.sftp_path.specs.Place.{Place, place_cmp};
