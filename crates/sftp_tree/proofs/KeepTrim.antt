@@ -57,8 +57,8 @@ well-formed-trimmed is_held t well = record {
   ordered = well.ordered;
   named = well.named;
   nodes =
-    get-each place_cmp place_cmp-same place_cmp-total (λ e. IsNode (trimmed is_held t).files e.1) t.names well.ordered
-    (λ place it there. node-trimmed is_held t place it well there (each-get place_cmp place_cmp-same (λ e. IsNode t.files e.1) t.names place it well.nodes there));
+      get-each place_cmp place_cmp-same place_cmp-total (λ e. IsNode (trimmed is_held t).files e.1) t.names well.ordered
+      (λ place it there. node-trimmed is_held t place it well there (each-get place_cmp place_cmp-same (λ e. IsNode t.files e.1) t.names place it well.nodes there));
   root = well.root;
   parents = well.parents;
   numbered = InOrder-retain nat_cmp t.files (stays is_held t.names) well.numbered;

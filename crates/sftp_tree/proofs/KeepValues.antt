@@ -45,12 +45,12 @@ times_named-owner names place before owner number order there =
 pub kept-owner : (t : Tree) (place : Place) (before owner : Owner) → IsKept t → node_at t.names place ≡ Some (Dir before) → IsOwner owner → IsKept (record t { names = with_node t.names place (Dir owner) })
 kept-owner t place before owner kept there is_owner = record {
   well_formed =
-    well-formed-names t (with_node t.names place (Dir owner)) kept.well_formed
-    (names-owner t.files t.names place before owner (names-of t kept.well_formed) there is_owner);
+      well-formed-names t (with_node t.names place (Dir owner)) kept.well_formed
+      (names-owner t.files t.names place before owner (names-of t kept.well_formed) there is_owner);
   within_limits = fits-owner t place before owner kept.well_formed kept.within_limits there;
   trimmed =
-    each-weaker (λ e. IsTrue (is_named t.names e.0)) (λ e. IsTrue (is_named (with_node t.names place (Dir owner)) e.0))
-    (λ e h. ap (nat_lt 0) (times_named-owner t.names place before owner e.0 kept.well_formed.ordered there) ∙ h) t.files kept.trimmed;
+      each-weaker (λ e. IsTrue (is_named t.names e.0)) (λ e. IsTrue (is_named (with_node t.names place (Dir owner)) e.0))
+      (λ e h. ap (nat_lt 0) (times_named-owner t.names place before owner e.0 kept.well_formed.ordered there) ∙ h) t.files kept.trimmed;
 }
 
 -- ---- another content of a file
@@ -79,8 +79,8 @@ well-formed-content t number before content well there is_content = record {
   numbered = InOrder-put nat_cmp nat_cmp_total t.files number content well.numbered;
   contents = each-put nat_cmp nat_cmp-IsAntisymmetric nat_cmp_total (λ e. IsContent e.1) t.files number content well.numbered is_content well.contents;
   given =
-    each-put nat_cmp nat_cmp-IsAntisymmetric nat_cmp_total (λ e. e.0 < t.made) t.files number content well.numbered
-    (each-get nat_cmp nat_cmp-IsAntisymmetric (λ e. e.0 < t.made) t.files number before well.given there) well.given;
+      each-put nat_cmp nat_cmp-IsAntisymmetric nat_cmp_total (λ e. e.0 < t.made) t.files number content well.numbered
+      (each-get nat_cmp nat_cmp-IsAntisymmetric (λ e. e.0 < t.made) t.files number before well.given there) well.given;
   home = well.home;
   uid = well.uid;
   gid = well.gid;
@@ -103,6 +103,6 @@ kept-content t number before content kept there is_content small = record {
   well_formed = well-formed-content t number before content kept.well_formed there is_content;
   within_limits = fits-content t number content kept.within_limits small;
   trimmed =
-    each-put nat_cmp nat_cmp-IsAntisymmetric nat_cmp_total (λ e. IsTrue (is_named t.names e.0)) t.files number content kept.well_formed.numbered
-    (each-get nat_cmp nat_cmp-IsAntisymmetric (λ e. IsTrue (is_named t.names e.0)) t.files number before kept.trimmed there) kept.trimmed;
+      each-put nat_cmp nat_cmp-IsAntisymmetric nat_cmp_total (λ e. IsTrue (is_named t.names e.0)) t.files number content kept.well_formed.numbered
+      (each-get nat_cmp nat_cmp-IsAntisymmetric (λ e. IsTrue (is_named t.names e.0)) t.files number before kept.trimmed there) kept.trimmed;
 }

@@ -214,8 +214,8 @@ target-stands-by t ask (Some (Ok old)) (Some (Ok new)) e f leads stands fit free
     let none = free-between t ask old new free e f in
     record {
       well_formed =
-        subst WellFormed (sym (target-is t ask (Some (Ok old)) (Some (Ok new)) e f))
-        (well-between t ask old new stands.well_formed (new-place-led t ask new leads fit f) none.at_old none.at_new none.between);
+          subst WellFormed (sym (target-is t ask (Some (Ok old)) (Some (Ok new)) e f))
+          (well-between t ask old new stands.well_formed (new-place-led t ask new leads fit f) none.at_old none.at_new none.between);
       within_limits = none.room;
     }
 

@@ -28,8 +28,8 @@ named-put names place it number absent named =
 pub kept-put : (t : Tree) (place : Place) (it : Node) → IsKept t → IsTrue (are_names place) → node_at t.names place ≡ None → IsTrue (is_directory (node_at t.names (parent place))) → IsNode t.files it → IsTrue (fits (record t { names = with_node t.names place it })) → IsKept (record t { names = with_node t.names place it })
 kept-put t place it kept named absent above is_node within = record {
   well_formed =
-    well-formed-names t (with_node t.names place it) kept.well_formed
-    (names-put t.files t.names place it (names-of t kept.well_formed) named absent above is_node);
+      well-formed-names t (with_node t.names place it) kept.well_formed
+      (names-put t.files t.names place it (names-of t kept.well_formed) named absent above is_node);
   within_limits = within;
   trimmed = each-weaker (λ e. IsTrue (is_named t.names e.0)) (λ e. IsTrue (is_named (with_node t.names place it) e.0)) (λ e h. named-put t.names place it e.0 absent h) t.files kept.trimmed;
 }
