@@ -1,5 +1,5 @@
 -- A tree with another owner of a directory, or another content of a file: it stays a tree within the limits.
-use Rattle.std.proofs.Common.{◌≡◌, ◌+◌, ◌<◌, ℕ, Bool, true, false, cond, refl, ap, ◌∙◌, arith, Some, is_some, nat_lt, ◌-◌, IsTrue}
+use Rattle.std.proofs.Common.{◌≡◌, ◌+◌, ◌<◌, ℕ, Bool, true, false, cond, refl, ap, ◌∙◌, arith, Some, is_some, nat_lt, IsTrue}
 use Rattle.std.specs.Ordering.{nat_cmp, is_eq}
 use Rattle.std.specs.FinMap.{nat_cmp-IsAntisymmetric}
 use Rattle.std.proofs.lemmas.Cmp.{nat_cmp_total}
