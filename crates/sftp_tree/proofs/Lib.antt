@@ -14,3 +14,14 @@ pub mod PictureRows
 pub mod WalkRules
 pub mod WalkCounts
 pub mod StepKeeps
+pub mod KeepTables
+pub mod KeepFits
+pub mod KeepTrim
+pub mod KeepPlaces
+pub mod KeepNames
+pub mod KeepLimits
+pub mod KeepValues
+pub mod KeepMoves
+pub mod KeepFields
+pub mod KeepCauses
+pub mod KeepFiles

@@ -132,6 +132,20 @@ has-below p q [] below taken = cc
 has-below p q (e ∷ es) below taken =
     has-turn p q e es below (has-below p q es below) (is_eq (place_cmp q e.0)) refl taken
 
+-- what is taken below a place is an entry of it
+pub has_entries-below : (p q : Place) (es : Names) → is_below p q ≡ true → is_taken (node_at es q) ≡ true → has_entries es p ≡ true
+unfolding has_entries get
+has_entries-below p q es below taken = has-below p q es below taken
+
+-- where no entry stands below a place, it has none
+pub has_entries-none : (p : Place) (es : Names) → AllByRecursion (λ e. is_below p e.0 ≡ false) es → has_entries es p ≡ false
+unfolding has_entries
+has_entries-none p es h = none p es h
+  where
+    none : (p : Place) (es : Names) → AllByRecursion (λ e. is_below p e.0 ≡ false) es → list_any (λ e. is_below p e.0) es ≡ false
+    none p [] h = refl
+    none p (e ∷ es) h = ap (λ b. b || list_any (λ e. is_below p e.0) es) h.0 ∙ none p es h.1
+
 -- a place whose parent it is stands below a place
 pub has_entries-child : (q : Place) (es : Names) → 0 < length q → is_taken (node_at es q) ≡ true → has_entries es (parent q) ≡ true
 unfolding has_entries get

@@ -1,97 +1,244 @@
 -- What stands after a request that no cause refuses is a tree within the limits.
-use Rattle.std.proofs.Common.{◌≡◌, ℕ, ◌<◌, ◌^◌, ◌%◌, Bool, true, false, ◌&&◌, ◌||◌, not, List, [], ◌∷◌, refl, sym, subst, ◌∙◌, ap, arith, Option, Some, None, unwrap_or, IsTrue, Result, Ok, Err, lit<}
+use Rattle.std.proofs.Common.{◌≡◌, ℕ, ◌&&◌, not, List, [], ◌∷◌, refl, sym, subst, ap, ◌∙◌, Option, Some, None, IsTrue, Result, Ok, Err, Bool, true, false, if◌then◌else◌}
 use Rattle.std.specs.Option.{option_map, IfSome}
-use Rattle.std.proofs.lemmas.Bool.{lt-ltb}
+use Rattle.std.proofs.lemmas.Bool.{both_ways, false_from_ne_true, not-false, or_parts}
+use Rattle.std.proofs.lemmas.List.{append-nil}
+use Rattle.std.specs.Cmp.Lexicographic.{pointwise_decides, bytes_decides}
+use Rattle.std.specs.Ordering.{nat_cmp}
+use Rattle.std.specs.FinMap.{nat_cmp-IsAntisymmetric}
 use Rattle.sftp_wire.specs.declared.attributes.Attrs.{Attrs}
 use Rattle.sftp_wire.specs.declared.packets.Ask.{Ask}
-use Rattle.sftp_wire.specs.declared.packets.Ask.TheVariants.{Mkdir, Rmdir, Symlink}
-use Rattle.sftp_wire.specs.Spelling.{AreBytes, FitsString, FitsTwo, FitsAttrs, FitsAsk}
-use Rattle.sftp_path.specs.Place.{Place, parent, are_names}
-use Rattle.sftp_treefile.specs.TreeFile.{IsOwner, is_target, are_bytes}
+use Rattle.sftp_wire.specs.declared.packets.Ask.TheVariants.{Lstat, Setstat, Remove, Mkdir, Rmdir, Realpath, Stat, Rename, Readlink, Symlink, PosixRename, Hardlink}
+use Rattle.sftp_wire.specs.Spelling.{FitsAttrs, FitsAsk}
+use Rattle.sftp_path.specs.Place.{Place, place_cmp, parent, are_names}
+use Rattle.sftp_path.specs.Rekeying.{NothingFrom}
+use Rattle.sftp_path.proofs.Order.{place_cmp-same}
+use Rattle.sftp_treefile.specs.TreeFile.{are_bytes, is_root, same_place}
+use Rattle.sftp_tree.specs.declared.contents.Content.{Content}
+use Rattle.sftp_tree.specs.declared.nodes.Node.{Node}
+use Rattle.sftp_tree.specs.declared.nodes.Node.TheVariants.{Dir, File, Link}
 use Rattle.sftp_tree.specs.declared.causes.Cause.{Cause}
-use Rattle.sftp_tree.specs.declared.causes.Causes.{Causes}
-use Rattle.sftp_tree.specs.Tree.{Tree, IsKept, node_at, is_directory}
+use Rattle.sftp_tree.specs.declared.causes.Cause.TheVariants.{NoEntry, NotDir, Exists, IsDir, NotEmpty, Root, Inside}
+use Rattle.sftp_tree.specs.Tree.{Names, Tree, WellFormed, IsKept, IsNode, IsContent, fits, node_at, with_node, without_node, content_at, is_taken, is_directory, has_entries, trim}
 use Rattle.sftp_tree.specs.Walk.{reached}
-use Rattle.sftp_tree.specs.Attributes.{directory_owner}
-use Rattle.sftp_tree.specs.Steps.{led, is_none, target, causes, led_to}
-use Rattle.sftp_tree.specs.Sets.{in_set, IsFree}
-use Rattle.sftp_tree.specs.Judged.{making, removing, with_target}
-use Rattle.sftp_tree.proofs.StepCauses.{led-mkdir, led-rmdir, led-symlink, target-led, causes-mkdir, causes-rmdir, causes-symlink}
-use Rattle.sftp_tree.proofs.StepAnswers.{mkdir-keeps, rmdir-keeps, symlink-keeps, symlink-set}
+use Rattle.sftp_tree.specs.Attributes.{directory_owner, changed_owner, changed_content}
+use Rattle.sftp_tree.specs.Steps.{path_of, new_path_of, follows, led, new_led, causes_at, new_causes_at, causes_between, goes_inside, are_one, are_one_file, replacing_causes, with_changed_file, with_attributes, target_at, moved, put_in_its_stead, with_further_name, target_between, target_on, led_to, target, after}
+use Rattle.sftp_tree.specs.Sets.{IsFree}
+use Rattle.sftp_tree.proofs.KeepTables.{each-get}
+use Rattle.sftp_tree.proofs.KeepFields.{bytes-fit, owner-fits, changed-owner-fits, changed-content-fits}
+use Rattle.sftp_tree.proofs.KeepCauses.{free-at, free-between}
+use Rattle.sftp_tree.proofs.KeepPlaces.{none-from, apart-from, nothing-below, alone-there}
+use Rattle.sftp_tree.proofs.KeepNames.{names-of, names-put, names-owner, names-without, well-formed-names}
+use Rattle.sftp_tree.proofs.KeepValues.{well-formed-content}
+use Rattle.sftp_tree.proofs.KeepMoves.{well-formed-moved, well-formed-in-stead}
+use Rattle.sftp_tree.proofs.KeepTrim.{kept-trim}
 
--- ---- fields that fit their places on the wire
+-- ---- where the paths of a request lead
 
-bytes-fit : (bytes : List ℕ) → AreBytes bytes → IsTrue (are_bytes bytes)
-bytes-fit [] fits = refl
-bytes-fit (b ∷ bytes) fits = λ i. lt-ltb b 256 fits.0 i && bytes-fit bytes fits.1 i
+-- a place to which a path leads is a list of names, and has a directory for its parent
+pub record Led (t : Tree) (place : Place) : Type 0 where
+  pub named : IsTrue (are_names place)
+  pub above : IsTrue (is_directory (node_at t.names (parent place)))
 
-first-fits : (given : Option (ℕ × ℕ)) (otherwise : ℕ) → IfSome given FitsTwo → otherwise < 2 ^ 32 → unwrap_or (option_map (λ o. o.0) given) otherwise < 2 ^ 32
-first-fits None otherwise fits small = small
-first-fits (Some o) otherwise fits small = fits.0
-
-second-fits : (given : Option (ℕ × ℕ)) (otherwise : ℕ) → IfSome given FitsTwo → otherwise < 2 ^ 32 → unwrap_or (option_map (λ o. o.1) given) otherwise < 2 ^ 32
-second-fits None otherwise fits small = small
-second-fits (Some o) otherwise fits small = fits.1
-
-permissions-fit : (given : Option ℕ) → unwrap_or (option_map (λ p. p % 2 ^ 12) given) 0o755 < 2 ^ 12
-permissions-fit None = lit< tt
-permissions-fit (Some p) = omega arith
-
-owner-fits : (t : Tree) (attrs : Attrs) → IsKept t → FitsAttrs attrs → IsOwner (directory_owner t attrs)
-owner-fits t attrs kept fits =
-    (first-fits attrs.owner t.uid fits.owner kept.well_formed.uid, second-fits attrs.owner t.gid fits.owner kept.well_formed.gid, permissions-fit attrs.permissions)
-
--- ---- each request
-
--- where paths lead, their places are lists of names, and have a directory for their parent
 abbrev pub LeadsWell : Tree → Type 0
-LeadsWell t = (follow : Bool) (path : List ℕ) (place : Place) → IsTrue (are_bytes path) → reached t follow path ≡ Ok place → IsTrue (are_names place) × IsTrue (is_directory (node_at t.names (parent place)))
+LeadsWell t = (follow : Bool) (path : List ℕ) (place : Place) → IsTrue (are_bytes path) → reached t follow path ≡ Ok place → Led t place
 
-none-of : (t : Tree) (ask : Ask) (s : Causes) → ((c : Cause) → causes t ask c ≡ in_set s c) → IsFree t ask → IsTrue (is_none (in_set s))
-none-of t ask s same free = sym (ap is_none (λ i c. same c i)) ∙ free
+led-well : (t : Tree) (follow : Bool) (path : Option (List ℕ)) (place : Place) → LeadsWell t → IfSome path (λ bytes. IsTrue (are_bytes bytes)) → option_map (reached t follow) path ≡ Some (Ok place) → Led t place
+led-well t follow None place well bytes is = absurd cc
+led-well t follow (Some path) place well bytes is =
+    let one : reached t follow path ≡ Ok place = cc in
+    well follow path place bytes one
 
-keeps-mkdir : (t : Tree) (path : List ℕ) (attrs : Attrs) (r : Result Place Cause) → reached t false path ≡ r → LeadsWell t → IsKept t → FitsString path → FitsAttrs attrs → IsFree t (Mkdir path attrs) → IsKept (target t (Mkdir path attrs))
-keeps-mkdir t path attrs (Err failed) e well kept bytes fits free =
-    subst IsKept (sym (target-led t (Mkdir path attrs) (Err failed) (led-mkdir t path attrs (Err failed) (sym e)))) kept
-keeps-mkdir t path attrs (Ok place) e well kept bytes fits free =
-    let leads = led-mkdir t path attrs (Ok place) (sym e) in
-    let found = well false path place (bytes-fit path bytes.bytes_fit) e in
-    let none = none-of t (Mkdir path attrs) (making t place) (causes-mkdir t path attrs kept (Ok place) leads) free in
-    subst IsKept (sym (target-led t (Mkdir path attrs) (Ok place) leads)) (mkdir-keeps t place (directory_owner t attrs) (making t place) kept found.0 found.1 (owner-fits t attrs kept fits) refl none)
+path-bytes : (ask : Ask) → FitsAsk ask → IfSome (path_of ask) (λ path. IsTrue (are_bytes path))
+path-bytes (Mkdir path attrs) fits = bytes-fit path fits.0.bytes_fit
+path-bytes (Rmdir path) fits = bytes-fit path fits.bytes_fit
+path-bytes (Remove path) fits = bytes-fit path fits.bytes_fit
+path-bytes (Setstat path attrs) fits = bytes-fit path fits.0.bytes_fit
+path-bytes (Stat path) fits = bytes-fit path fits.bytes_fit
+path-bytes (Lstat path) fits = bytes-fit path fits.bytes_fit
+path-bytes (Realpath path) fits = bytes-fit path fits.bytes_fit
+path-bytes (Readlink path) fits = bytes-fit path fits.bytes_fit
+path-bytes (Symlink target link) fits = bytes-fit link fits.1.bytes_fit
+path-bytes (Rename oldpath newpath) fits = bytes-fit oldpath fits.0.bytes_fit
+path-bytes (PosixRename oldpath newpath) fits = bytes-fit oldpath fits.0.bytes_fit
+path-bytes (Hardlink oldpath newpath) fits = bytes-fit oldpath fits.0.bytes_fit
+path-bytes other fits = tt
 
-keeps-rmdir : (t : Tree) (path : List ℕ) (r : Result Place Cause) → reached t false path ≡ r → IsKept t → IsFree t (Rmdir path) → IsKept (target t (Rmdir path))
-keeps-rmdir t path (Err failed) e kept free =
-    subst IsKept (sym (target-led t (Rmdir path) (Err failed) (led-rmdir t path (Err failed) (sym e)))) kept
-keeps-rmdir t path (Ok place) e kept free =
-    let leads = led-rmdir t path (Ok place) (sym e) in
-    let none = none-of t (Rmdir path) (removing t.names place) (causes-rmdir t path kept (Ok place) leads) free in
-    subst IsKept (sym (target-led t (Rmdir path) (Ok place) leads)) (rmdir-keeps t place (removing t.names place) kept refl none)
+new-path-bytes : (ask : Ask) → FitsAsk ask → IfSome (new_path_of ask) (λ path. IsTrue (are_bytes path))
+new-path-bytes (Rename oldpath newpath) fits = bytes-fit newpath fits.1.bytes_fit
+new-path-bytes (PosixRename oldpath newpath) fits = bytes-fit newpath fits.1.bytes_fit
+new-path-bytes (Hardlink oldpath newpath) fits = bytes-fit newpath fits.1.bytes_fit
+new-path-bytes other fits = tt
 
--- with no cause the target is a good one
-good-of : (good bad : Bool) (s : Causes) → IsTrue (is_none (in_set (record s { bad_path = bad || not good }))) → good ≡ true
-good-of true bad s none = refl
-good-of false true s none = cc
-good-of false false s none = cc
+place-led : (t : Tree) (ask : Ask) (place : Place) → LeadsWell t → FitsAsk ask → led t ask ≡ Some (Ok place) → Led t place
+unfolding led
+place-led t ask place well fits is = led-well t (follows ask) (path_of ask) place well (path-bytes ask fits) is
 
-keeps-symlink : (t : Tree) (goal link : List ℕ) (r : Result Place Cause) → reached t false link ≡ r → LeadsWell t → IsKept t → FitsString goal → FitsString link → IsFree t (Symlink goal link) → IsKept (target t (Symlink goal link))
-keeps-symlink t goal link (Err failed) e well kept goal_fits link_fits free =
-    subst IsKept (sym (target-led t (Symlink goal link) (Err failed) (led-symlink t goal link (Err failed) (sym e)))) kept
-keeps-symlink t goal link (Ok place) e well kept goal_fits link_fits free =
-    let leads = led-symlink t goal link (Ok place) (sym e) in
-    let found = well false link place (bytes-fit link link_fits.bytes_fit) e in
-    let joined = none-of t (Symlink goal link) (with_target goal (making t place)) (causes-symlink t goal link kept (Ok place) leads) free in
-    let good = good-of (is_target goal) false (record (making t place) { no_room = (making t place).no_room && is_target goal }) joined in
-    let none = none-of t (Symlink goal link) (making t place) (symlink-set t goal link place (making t place) kept good e refl) free in
-    subst IsKept (sym (target-led t (Symlink goal link) (Ok place) leads)) (symlink-keeps t place goal goal (making t place) kept found.0 found.1 (bytes-fit goal goal_fits.bytes_fit) good refl refl none)
+new-place-led : (t : Tree) (ask : Ask) (place : Place) → LeadsWell t → FitsAsk ask → new_led t ask ≡ Some (Ok place) → Led t place
+new-place-led t ask place well fits is = led-well t false (new_path_of ask) place well (new-path-bytes ask fits) is
 
-stays : (t : Tree) (o : Option (Result Place Cause)) → led_to t o (λ place. t) ≡ t
-stays t None = refl
-stays t (Some (Ok place)) = refl
-stays t (Some (Err failed)) = refl
+-- ---- what stands at a place
 
-pub target-keeps : (t : Tree) (ask : Ask) → LeadsWell t → IsKept t → FitsAsk ask → IsFree t ask → IsKept (target t ask)
+-- where a test and what it is tested with do not both hold
+second-false : (a b : Bool) → a ≡ true → (a && b) ≡ false → b ≡ false
+second-false true b first h = h
+second-false false b first h = absurd cc
+
+absent-nothing : (names : Names) (place : Place) → node_at names place ≡ None → is_directory (node_at names place) ≡ false
+absent-nothing names place absent = ap is_directory absent
+
+-- what is no directory is not the root
+not-root : (t : Tree) (place : Place) → WellFormed t → is_directory (node_at t.names place) ≡ false → is_root place ≡ false
+not-root t [] well none = absurd (both_ways (is_directory (node_at t.names [])) none well.root)
+not-root t (n ∷ ns) well none = refl
+
+empty-there : (t : Tree) (place : Place) → WellFormed t → is_directory (node_at t.names place) ≡ false → has_entries t.names place ≡ false
+empty-there t place well = nothing-below t.names place well.ordered well.parents
+
+-- where nothing stands at a place, nothing stands below it
+free-from : (t : Tree) (place : Place) → WellFormed t → node_at t.names place ≡ None → NothingFrom t.names place
+free-from t place well absent [] = ap (node_at t.names) (append-nil place) ∙ absent
+free-from t place well absent (n ∷ ns) = alone-there t.names place (empty-there t place well (absent-nothing t.names place absent)) n ns
+
+-- ---- requests with one path
+
+well-with : (t : Tree) (place : Place) (it : Node) → WellFormed t → Led t place → is_taken (node_at t.names place) ≡ false → IsNode t.files it → WellFormed (record t { names = with_node t.names place it })
+well-with t place it well leads free is_node =
+    well-formed-names t (with_node t.names place it) well
+    (names-put t.files t.names place it (names-of t well) leads.named (none-from (node_at t.names place) free) leads.above is_node)
+
+well-without : (t : Tree) (place : Place) → WellFormed t → is_root place ≡ false → has_entries t.names place ≡ false → WellFormed (record t { names = without_node t.names place })
+well-without t place well apart empty =
+    well-formed-names t (without_node t.names place) well (names-without t.files t.names place (names-of t well) apart empty)
+
+-- a directory that may be removed has no entries
+removed-empty : (found : Option Node) (has : Bool) → not (is_taken found) ≡ false → (is_taken found && not (is_directory found)) ≡ false → (is_directory found && has) ≡ false → has ≡ false
+removed-empty None has there directory empty = absurd cc
+removed-empty (Some (Dir owner)) has there directory empty = empty
+removed-empty (Some (File number)) has there directory empty = absurd cc
+removed-empty (Some (Link target)) has there directory empty = absurd cc
+
+well-file : (t : Tree) (attrs : Attrs) (number : ℕ) (o : Option Content) → content_at t.files number ≡ o → WellFormed t → FitsAttrs attrs → WellFormed (with_changed_file t attrs number o)
+well-file t attrs number None is well fits = well
+well-file t attrs number (Some content) is well fits =
+    let before = each-get nat_cmp nat_cmp-IsAntisymmetric (λ e. IsContent e.1) t.files number content well.contents is in
+    well-formed-content t number content (changed_content attrs content) well is (changed-content-fits attrs content fits before)
+
+well-attributes : (t : Tree) (attrs : Attrs) (place : Place) (o : Option Node) → node_at t.names place ≡ o → WellFormed t → FitsAttrs attrs → WellFormed (with_attributes t attrs place o)
+well-attributes t attrs place None is well fits = well
+well-attributes t attrs place (Some (Dir owner)) is well fits =
+    let before = each-get place_cmp place_cmp-same (λ e. IsNode t.files e.1) t.names place (Dir owner) well.nodes is in
+    well-formed-names t (with_node t.names place (Dir (changed_owner attrs owner))) well
+    (names-owner t.files t.names place owner (changed_owner attrs owner) (names-of t well) is (changed-owner-fits attrs owner fits before))
+well-attributes t attrs place (Some (File number)) is well fits = well-file t attrs number (content_at t.files number) refl well fits
+well-attributes t attrs place (Some (Link target)) is well fits = well
+
+well-at : (t : Tree) (ask : Ask) (place : Place) → WellFormed t → FitsAsk ask → Led t place → ((c : Cause) → causes_at t ask place c ≡ false) → WellFormed (target_at t ask place)
+well-at t (Mkdir path attrs) place well fits leads none = well-with t place (Dir (directory_owner t attrs)) well leads (none Exists) (owner-fits t attrs well fits.1)
+well-at t (Rmdir path) place well fits leads none =
+    well-without t place well (none Root) (removed-empty (node_at t.names place) (has_entries t.names place) (none NoEntry) (none NotDir) (none NotEmpty))
+well-at t (Remove path) place well fits leads none = well-without t place well (not-root t place well (none IsDir)) (empty-there t place well (none IsDir))
+well-at t (Setstat path attrs) place well fits leads none = well-attributes t attrs place (node_at t.names place) refl well fits.1
+well-at t (Symlink target link) place well fits leads none = well-with t place (Link target) well leads (none Exists) (bytes-fit target fits.0.bytes_fit)
+well-at t other place well fits leads none = well
+
+-- ---- requests with two paths
+
+same_place-is : (p q : Place) → same_place p q ≡ true → p ≡ q
+same_place-is p q same = (pointwise_decides bytes_decides p q).0 same
+
+-- what is taken is at no place that is free
+taken-differs : (names : Names) (old new : Place) → not (is_taken (node_at names old)) ≡ false → is_taken (node_at names new) ≡ false → same_place old new ≡ false
+taken-differs names old new there free =
+    false_from_ne_true (same_place old new) (λ same.
+    both_ways (is_taken (node_at names new)) free (ap (λ q. is_taken (node_at names q)) (sym (same_place-is old new same)) ∙ not-false (is_taken (node_at names old)) there))
+
+well-renamed : (t : Tree) (old new : Place) → WellFormed t → Led t new → not (is_taken (node_at t.names old)) ≡ false → is_root old ≡ false → is_taken (node_at t.names new) ≡ false → goes_inside t.names old new ≡ false → WellFormed (moved t old new)
+well-renamed t old new well leads there not_root free outside =
+    let apart = apart-from t.names old new well.parents outside (taken-differs t.names old new there free) leads.above in
+    well-formed-moved t old new well (free-from t new well (none-from (node_at t.names new) free)) leads.named not_root apart leads.above
+
+-- what is replaced has no entries
+replaced-empty : (t : Tree) (old new : Place) (b : Bool) → is_directory (node_at t.names new) ≡ b → WellFormed t → not (is_taken (node_at t.names old)) ≡ false → ((is_taken (node_at t.names old) && not (is_directory (node_at t.names old))) && is_directory (node_at t.names new)) ≡ false → (is_directory (node_at t.names old) && (is_directory (node_at t.names new) && has_entries t.names new)) ≡ false → has_entries t.names new ≡ false
+replaced-empty t old new false none well there is_dir empty = empty-there t new well none
+replaced-empty t old new true directory well there is_dir empty =
+    by (node_at t.names old) (is_directory (node_at t.names new)) (has_entries t.names new) directory there is_dir empty
+  where
+    by : (found : Option Node) (directory has : Bool) → directory ≡ true → not (is_taken found) ≡ false → ((is_taken found && not (is_directory found)) && directory) ≡ false → (is_directory found && (directory && has)) ≡ false → has ≡ false
+    by None directory has is there alike none = absurd cc
+    by (Some (Dir owner)) directory has is there alike none = second-false directory has is none
+    by (Some (File number)) directory has is there alike none = absurd (both_ways directory alike is)
+    by (Some (Link target)) directory has is there alike none = absurd (both_ways directory alike is)
+
+well-replaced : (t : Tree) (old new : Place) (one : Bool) → are_one t.names old new ≡ one → WellFormed t → Led t new → not (is_taken (node_at t.names old)) ≡ false → is_root old ≡ false → is_root new ≡ false → ((c : Cause) → (not one && replacing_causes t.names old new c) ≡ false) → WellFormed (if one then t else put_in_its_stead t old new)
+well-replaced t old new true is well leads there old_not_root new_not_root none = well
+well-replaced t old new false is well leads there old_not_root new_not_root none =
+    let apart = apart-from t.names old new well.parents (none Inside) (or_parts (same_place old new) (are_one_file (node_at t.names old) (node_at t.names new)) is).0 leads.above in
+    well-formed-in-stead t old new well leads.named old_not_root new_not_root apart leads.above
+    (replaced-empty t old new (is_directory (node_at t.names new)) refl well there (none IsDir) (none NotEmpty))
+
+well-further : (t : Tree) (old new : Place) (o : Option Node) → node_at t.names old ≡ o → WellFormed t → Led t new → is_taken (node_at t.names new) ≡ false → WellFormed (with_further_name t o new)
+well-further t old new None is well leads free = well
+well-further t old new (Some it) is well leads free =
+    well-with t new it well leads free (each-get place_cmp place_cmp-same (λ e. IsNode t.files e.1) t.names old it well.nodes is)
+
+well-between : (t : Tree) (ask : Ask) (old new : Place) → WellFormed t → Led t new → ((c : Cause) → causes_at t ask old c ≡ false) → ((c : Cause) → new_causes_at t ask new c ≡ false) → ((c : Cause) → causes_between t ask old new c ≡ false) → WellFormed (target_between t ask old new)
+well-between t (Rename oldpath newpath) old new well leads at_old at_new between = well-renamed t old new well leads (at_old NoEntry) (at_old Root) (at_new Exists) (between Inside)
+well-between t (PosixRename oldpath newpath) old new well leads at_old at_new between = well-replaced t old new (are_one t.names old new) refl well leads (at_old NoEntry) (at_old Root) (at_new Root) between
+well-between t (Hardlink oldpath newpath) old new well leads at_old at_new between = well-further t old new (node_at t.names old) refl well leads (at_new Exists)
+well-between t other old new well leads at_old at_new between = well
+
+-- ---- every request
+
+target-is : (t : Tree) (ask : Ask) (l n : Option (Result Place Cause)) → led t ask ≡ l → new_led t ask ≡ n → target t ask ≡ led_to t l (λ place. target_on t ask place n)
 unfolding target
-target-keeps t (Mkdir path attrs) well kept fits free = keeps-mkdir t path attrs (reached t false path) refl well kept fits.0 fits.1 free
-target-keeps t (Rmdir path) well kept fits free = keeps-rmdir t path (reached t false path) refl kept free
-target-keeps t (Symlink goal link) well kept fits free = keeps-symlink t goal link (reached t false link) refl well kept fits.0 fits.1 free
-target-keeps t other well kept fits free = subst IsKept (sym (stays t (led t other))) kept
+target-is t ask l n e f = λ i. led_to t (e i) (λ place. target_on t ask place (f i))
+
+-- a tree within the limits, which may have files with no name
+pub record Stands (t : Tree) : Type 0 where
+  pub well_formed : WellFormed t
+  pub within_limits : IsTrue (fits t)
+
+target-stands-by : (t : Tree) (ask : Ask) (l n : Option (Result Place Cause)) → led t ask ≡ l → new_led t ask ≡ n → LeadsWell t → Stands t → FitsAsk ask → IsFree t ask → Stands (target t ask)
+target-stands-by t ask None n e f leads stands fit free = subst Stands (sym (target-is t ask None n e f)) stands
+target-stands-by t ask (Some (Err failed)) n e f leads stands fit free = subst Stands (sym (target-is t ask (Some (Err failed)) n e f)) stands
+target-stands-by t ask (Some (Ok place)) None e f leads stands fit free =
+    let none = free-at t ask place free e f in
+    record {
+      well_formed = subst WellFormed (sym (target-is t ask (Some (Ok place)) None e f)) (well-at t ask place stands.well_formed fit (place-led t ask place leads fit e) none.none);
+      within_limits = none.room;
+    }
+target-stands-by t ask (Some (Ok place)) (Some (Err failed)) e f leads stands fit free =
+    subst Stands (sym (target-is t ask (Some (Ok place)) (Some (Err failed)) e f)) stands
+target-stands-by t ask (Some (Ok old)) (Some (Ok new)) e f leads stands fit free =
+    let none = free-between t ask old new free e f in
+    record {
+      well_formed =
+          subst WellFormed (sym (target-is t ask (Some (Ok old)) (Some (Ok new)) e f))
+          (well-between t ask old new stands.well_formed (new-place-led t ask new leads fit f) none.at_old none.at_new none.between);
+      within_limits = none.room;
+    }
+
+-- where paths of all trees within the limits lead well, the trees that requests ask for are trees
+abbrev pub PathsLeadWell : Type 0
+PathsLeadWell = (t : Tree) → IsKept t → LeadsWell t
+
+-- walks go by names and the home alone
+same-walk : (t : Tree) (follow : Bool) (path : List ℕ) → reached (trim t) follow path ≡ reached t follow path
+unfolding reached
+same-walk t follow path = refl
+
+leads-untrimmed : PathsLeadWell → (t : Tree) → Stands t → LeadsWell t
+leads-untrimmed paths t stands follow path place bytes is =
+    let leads = paths (trim t) (kept-trim t stands.well_formed stands.within_limits) follow path place bytes (same-walk t follow path ∙ is) in
+    record { named = leads.named; above = leads.above }
+
+pub target-stands : PathsLeadWell → (t : Tree) (ask : Ask) → WellFormed t → IsTrue (fits t) → FitsAsk ask → IsFree t ask → Stands (target t ask)
+target-stands paths t ask well within =
+    let stands : Stands t = record { well_formed = well; within_limits = within } in
+    target-stands-by t ask (led t ask) (new_led t ask) refl refl (leads-untrimmed paths t stands) stands
+
+pub after-kept : PathsLeadWell → (t : Tree) (ask : Ask) → IsKept t → FitsAsk ask → IsFree t ask → IsKept (after t ask)
+after-kept paths t ask kept fit free =
+    let stands = target-stands paths t ask kept.well_formed kept.within_limits fit free in
+    kept-trim (target t ask) stands.well_formed stands.within_limits

@@ -1,25 +1,65 @@
 //! Laws of trees, as theorems on the definitions that the contracts name. The functions do nothing; each promise is in
 //! the contract.
-ghost use Rattle.std.specs.Prelude.{◌≡◌, ◌↔◌, ◌≤◌, ℕ, Bool, List, Result, Ok, [], IsTrue};
+ghost use Rattle.std.specs.Prelude.{◌≡◌, ◌↔◌, ◌⊎◌, ◌<◌, ◌≤◌, ◌||◌, ℕ, Bool, if◌then◌else◌, List, Some, None, Result, Ok, [], IsTrue};
 ghost use Rattle.sftp_wire.specs.declared.packets.Ask.{Ask};
 ghost use Rattle.sftp_wire.specs.Spelling.{FitsAsk};
 ghost use Rattle.sftp_path.specs.Place.{Name, Place, parent, are_names, is_good_path};
 ghost use Rattle.sftp_treefile.specs.TreeFile.{are_bytes};
 ghost use Rattle.sftp_tree.specs.declared.causes.Cause.{Cause};
-ghost use Rattle.sftp_tree.specs.Tree.{Names, Tree, IsKept, limits, is_directory, node_at};
+ghost use Rattle.sftp_tree.specs.declared.nodes.Node.TheVariants.{File};
+ghost use Rattle.sftp_tree.specs.Tree.{Names, Tree, WellFormed, IsKept, limits, fits, is_directory, node_at, content_at, times_named, is_named, trimmed, trim};
 ghost use Rattle.sftp_tree.specs.Walk.{walk, reached, looked, steps_of, looked_limit, link_limit};
 ghost use Rattle.sftp_tree.specs.WalkRules.{Leads};
-ghost use Rattle.sftp_tree.specs.Steps.{target};
+ghost use Rattle.sftp_tree.specs.Steps.{target, after};
 ghost use Rattle.sftp_tree.specs.Sets.{IsFree};
 
 /// No request changes the limits of a tree.
 pub fn limits_stay()
-    ensures { (t : Tree) (ask : Ask) → limits (target t ask) ≡ limits t }
+    ensures target { (t : Tree) (ask : Ask) → limits (target t ask) ≡ limits t }
+    ensures after { (t : Tree) (ask : Ask) → limits (after t ask) ≡ limits t }
 {}
 
 /// A request that no cause refuses, and whose fields fit their places on the wire, leaves a tree within the limits.
 pub fn steps_keep()
-    ensures { (t : Tree) (ask : Ask) → IsKept t → FitsAsk ask → IsFree t ask → IsKept (target t ask) }
+    ensures { (t : Tree) (ask : Ask) → IsKept t → FitsAsk ask → IsFree t ask → IsKept (after t ask) }
+{
+    walks_give_places();
+}
+
+/// The same where the tree has files with no name, as files that something holds: what it asks for is a tree, and within
+/// the limits.
+pub fn targets_are_trees()
+    ensures tree { (t : Tree) (ask : Ask) → WellFormed t → IsTrue (fits t) → FitsAsk ask → IsFree t ask → WellFormed (target t ask) }
+    ensures limits { (t : Tree) (ask : Ask) → WellFormed t → IsTrue (fits t) → FitsAsk ask → IsFree t ask → IsTrue (fits (target t ask)) }
+{
+    walks_give_places();
+}
+
+/// Without the files that have no name and that nothing holds, a tree within the limits is one. A file stays where it has
+/// a name or is held.
+pub fn trees_are_trimmed()
+    ensures tree { (t : Tree) (is_held : ℕ → Bool) → WellFormed t → WellFormed (trimmed is_held t) }
+    ensures limits { (t : Tree) (is_held : ℕ → Bool) → IsTrue (fits t) → IsTrue (fits (trimmed is_held t)) }
+    ensures kept { (t : Tree) → WellFormed t → IsTrue (fits t) → IsKept (trim t) }
+    ensures files { (t : Tree) (is_held : ℕ → Bool) (number : ℕ) → WellFormed t →
+        content_at (trimmed is_held t).files number ≡ (if is_named t.names number || is_held number then content_at t.files number else None) }
+{}
+
+/// How many numbers were given never falls, and each number of a file or of a name was given: so none is given twice.
+pub fn numbers_are_never_given_again()
+    ensures target { (t : Tree) (ask : Ask) → t.made ≤ (target t ask).made }
+    ensures after { (t : Tree) (ask : Ask) → t.made ≤ (after t ask).made }
+    ensures files { (t : Tree) (number : ℕ) → WellFormed t → t.made ≤ number → content_at t.files number ≡ None }
+    ensures names { (t : Tree) (place : Place) (number : ℕ) → WellFormed t → node_at t.names place ≡ Some (File number) → number < t.made }
+{}
+
+/// After a request a file is gone just where there was none, or no name of it is left; any other is as the request
+/// asks for.
+pub fn files_live_while_named()
+    ensures gone { (t : Tree) (ask : Ask) (number : ℕ) → IsKept t →
+        (content_at (after t ask).files number ≡ None) ↔ ((content_at (target t ask).files number ≡ None) ⊎ (times_named (target t ask).names number ≡ 0)) }
+    ensures left { (t : Tree) (ask : Ask) (number : ℕ) → IsKept t →
+        content_at (after t ask).files number ≡ (if is_named (target t ask).names number then content_at (target t ask).files number else None) }
 {}
 
 /// The function of walks is by the rules of walks, and no rule leads elsewhere.

@@ -9,6 +9,7 @@ mod judging;
 mod keeping;
 pub mod laws;
 mod led;
+pub mod limit_laws;
 mod nodes;
 pub mod picture_laws;
 mod pictures;

@@ -1,8 +1,10 @@
--- A path leads to a list of names, whose parent is a directory: what is made there keeps the tree one.
-use Rattle.sftp_tree.proofs.WalkPlaces.{path-found}
-use Rattle.sftp_tree.proofs.StepKeeps.{target-keeps}
+-- A path leads to a list of names, whose parent is a directory: what comes there keeps the tree one.
+use Rattle.sftp_tree.proofs.StepKeeps.{after-kept}
 use Rattle.sftp_tree.proofs.laws.steps_keep.Goals as goal
 
 pub returns : goal.returns
-returns c t ask kept fits free =
-    target-keeps t ask (λ follow path place bytes is. let found = path-found t follow path place kept bytes is in (found.names, found.parent_stands)) kept fits free
+returns c =
+    after-kept (λ t kept follow path place bytes is. record {
+      named = c.walks_give_places.ensures.names t follow path place kept bytes is;
+      above = c.walks_give_places.ensures.parent t follow path place kept bytes is;
+    })

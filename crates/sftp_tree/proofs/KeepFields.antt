@@ -1,0 +1,67 @@
+-- Fields that fit their places on the wire, as parts of a tree: paths, owners and contents.
+use Rattle.std.proofs.Common.{ℕ, zero, suc, ◌<◌, ◌^◌, ◌%◌, ◌-◌, ◌&&◌, List, [], ◌∷◌, length, take, replicate, refl, ◌∙◌, arith, Option, Some, None, unwrap_or, IsTrue, lit<, nat_lt}
+use Rattle.std.specs.Option.{option_map, IfSome}
+use Rattle.std.proofs.lemmas.Bool.{lt-ltb, and_parts, and_from}
+use Rattle.std.proofs.lemmas.List.Folds.{list_all-append}
+use Rattle.sftp_wire.specs.declared.attributes.Attrs.{Attrs}
+use Rattle.sftp_wire.specs.Spelling.{AreBytes, FitsTwo, FitsAttrs}
+use Rattle.sftp_treefile.specs.declared.files.Owner.{Owner}
+use Rattle.sftp_treefile.specs.TreeFile.{IsOwner, are_bytes}
+use Rattle.sftp_tree.specs.declared.contents.Content.{Content}
+use Rattle.sftp_tree.specs.Tree.{Tree, WellFormed, IsContent}
+use Rattle.sftp_tree.specs.Attributes.{directory_owner, changed_owner, resized, changed_content}
+
+pub bytes-fit : (bytes : List ℕ) → AreBytes bytes → IsTrue (are_bytes bytes)
+bytes-fit [] fits = refl
+bytes-fit (b ∷ bytes) fits = λ i. lt-ltb b 256 fits.0 i && bytes-fit bytes fits.1 i
+
+-- ---- owners
+
+first-fits : (given : Option (ℕ × ℕ)) (otherwise : ℕ) → IfSome given FitsTwo → otherwise < 2 ^ 32 → unwrap_or (option_map (λ o. o.0) given) otherwise < 2 ^ 32
+first-fits None otherwise fits small = small
+first-fits (Some o) otherwise fits small = fits.0
+
+second-fits : (given : Option (ℕ × ℕ)) (otherwise : ℕ) → IfSome given FitsTwo → otherwise < 2 ^ 32 → unwrap_or (option_map (λ o. o.1) given) otherwise < 2 ^ 32
+second-fits None otherwise fits small = small
+second-fits (Some o) otherwise fits small = fits.1
+
+permissions-fit : (given : Option ℕ) (otherwise : ℕ) → otherwise < 2 ^ 12 → unwrap_or (option_map (λ p. p % 2 ^ 12) given) otherwise < 2 ^ 12
+permissions-fit None otherwise small = small
+permissions-fit (Some p) otherwise small = omega arith
+
+-- of a new directory
+pub owner-fits : (t : Tree) (attrs : Attrs) → WellFormed t → FitsAttrs attrs → IsOwner (directory_owner t attrs)
+owner-fits t attrs well fits =
+    (first-fits attrs.owner t.uid fits.owner well.uid, second-fits attrs.owner t.gid fits.owner well.gid, permissions-fit attrs.permissions 0o755 (lit< tt))
+
+-- of what is there already
+pub changed-owner-fits : (attrs : Attrs) (owner : Owner) → FitsAttrs attrs → IsOwner owner → IsOwner (changed_owner attrs owner)
+changed-owner-fits attrs owner fits before =
+    (first-fits attrs.owner owner.uid fits.owner before.0, second-fits attrs.owner owner.gid fits.owner before.1, permissions-fit attrs.permissions owner.permissions before.2)
+
+-- ---- contents
+
+bytes-taken : (n : ℕ) (bytes : List ℕ) → IsTrue (are_bytes bytes) → IsTrue (are_bytes (take n bytes))
+bytes-taken zero [] h = refl
+bytes-taken zero (b ∷ bytes) h = refl
+bytes-taken (suc n) [] h = refl
+bytes-taken (suc n) (b ∷ bytes) h =
+    let parts = and_parts (nat_lt b 256) (are_bytes bytes) h in
+    and_from (nat_lt b 256) (are_bytes (take n bytes)) parts.0 (bytes-taken n bytes parts.1)
+
+zeros : (n : ℕ) → IsTrue (are_bytes (replicate n 0))
+zeros zero = refl
+zeros (suc n) = zeros n
+
+resized-bytes : (size : ℕ) (bytes : List ℕ) → IsTrue (are_bytes bytes) → IsTrue (are_bytes (resized size bytes))
+resized-bytes size bytes h =
+    list_all-append (λ b. nat_lt b 256) (take size bytes) (replicate (size - length bytes) 0)
+    ∙ and_from (are_bytes (take size bytes)) (are_bytes (replicate (size - length bytes) 0)) (bytes-taken size bytes h) (zeros (size - length bytes))
+
+sized-bytes : (given : Option ℕ) (bytes : List ℕ) → IsTrue (are_bytes bytes) → IsTrue (are_bytes (unwrap_or (option_map (λ size. resized size bytes) given) bytes))
+sized-bytes None bytes h = h
+sized-bytes (Some size) bytes h = resized-bytes size bytes h
+
+pub changed-content-fits : (attrs : Attrs) (content : Content) → FitsAttrs attrs → IsContent content → IsContent (changed_content attrs content)
+changed-content-fits attrs content fits before =
+    (changed-owner-fits attrs content.owner fits before.0, sized-bytes attrs.size content.bytes before.1)

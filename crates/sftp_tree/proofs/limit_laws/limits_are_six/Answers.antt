@@ -1,0 +1,13 @@
+use Rattle.sftp_tree.proofs.KeepFits.{fits-parts, fits-from}
+use Rattle.sftp_tree.proofs.limit_laws.limits_are_six.Goals as goal
+
+pub returns : goal.returns
+returns c = record {
+  entries = λ t h. (fits-parts t h).entries;
+  depths = λ t h. (fits-parts t h).depths;
+  home = λ t h. (fits-parts t h).home;
+  links = λ t h. (fits-parts t h).links;
+  files = λ t h. (fits-parts t h).files;
+  numbers = λ t h. (fits-parts t h).numbers;
+  all = λ t a b d e f g. fits-from t (record { entries = a; depths = b; home = d; links = e; files = f; numbers = g });
+}
