@@ -8,6 +8,8 @@ pub mod WalkPlaces
 pub mod StepBelow
 pub mod StepTables
 pub mod StepKept
+pub mod CauseWalks
+pub mod CauseLed
 pub mod StepCauses
 pub mod StepAnswers
 pub mod PictureRows
