@@ -10,6 +10,7 @@ pub mod StepTables
 pub mod StepKept
 pub mod CauseWalks
 pub mod CauseLed
+pub mod CauseRoom
 pub mod StepCauses
 pub mod StepAnswers
 pub mod PictureRows
