@@ -11,6 +11,8 @@ pub mod StepKept
 pub mod CauseWalks
 pub mod CauseLed
 pub mod CauseRoom
+pub mod CauseSets
+pub mod CausePlaces
 pub mod StepCauses
 pub mod StepAnswers
 pub mod PictureRows
