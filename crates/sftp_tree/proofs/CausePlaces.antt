@@ -35,7 +35,7 @@ making-set None room asked fit _ = refl
 making-set (Some node) room asked fit BadPath = refl
 making-set (Some node) room asked fit _ = refl
 
-absent-of : (found : Option Node) → is_taken found ≡ false → found ≡ None
+pub absent-of : (found : Option Node) → is_taken found ≡ false → found ≡ None
 absent-of None free = refl
 absent-of (Some node) free = cc
 
