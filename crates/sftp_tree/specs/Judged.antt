@@ -1,7 +1,8 @@
 -- The causes of requests as the code has them: at the place that a path leads to, and of a walk that fails.
-use Rattle.std.specs.Prelude.{◌≡◌, ◌&&◌, ◌||◌, not, nat_le, Bool, true, false, List, length, ℕ, Option, Result, Ok, Err}
+use Rattle.std.specs.Prelude.{◌≡◌, ◌&&◌, ◌||◌, not, nat_le, Bool, true, false, List, length, ℕ, Option, Some, None, Result, Ok, Err}
 use Rattle.sftp_path.specs.Place.{Place}
 use Rattle.sftp_treefile.specs.TreeFile.{is_root, is_target}
+use Rattle.sftp_treefile.specs.declared.limits.TreeLimits.{TreeLimits}
 use Rattle.sftp_wire.specs.declared.packets.Ask.{Ask}
 use Rattle.sftp_tree.specs.declared.nodes.Node.{Node}
 use Rattle.sftp_tree.specs.declared.causes.Cause.{Cause}
@@ -57,6 +58,11 @@ IsSet s set = (cause : Cause) → in_set s cause ≡ set cause
 -- whether one entry more, at a new place, keeps to the limits: the root is one of the places and no entry
 abbrev pub has_room : Tree → Place → Bool
 has_room t place = nat_le (length t.names) (limits t).entries && depth_fits place
+
+-- whether a file may have the size that is given, where one is
+abbrev pub size_fits : TreeLimits → Option ℕ → Bool
+size_fits bounds None = true
+size_fits bounds (Some size) = nat_le size bounds.file_bytes
 
 -- of what is to be made at a place: that it is taken, and else that there is no room
 abbrev pub making : Tree → Place → Causes

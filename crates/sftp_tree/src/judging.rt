@@ -1,5 +1,5 @@
 //! Which causes hold of a request.
-ghost use Rattle.std.specs.Prelude.{◌≡◌, ℕ, List, IfOk, true, false};
+ghost use Rattle.std.specs.Prelude.{◌≡◌, ℕ, List, IfOk, true, false, option_copied};
 ghost use Rattle.sftp_wire.specs.declared.packets.Ask.TheVariants.{Setstat, Remove, Rename, PosixRename, Hardlink};
 ghost use Rattle.sftp_path.specs.Place as places;
 ghost use Rattle.sftp_treefile.specs.TreeFile.{is_target};
@@ -212,14 +212,27 @@ impl Tree {
     pub(crate) fn unlinking(&self, place: &Place) -> Causes
         ensures { (path : List ℕ) → judged.IsSet result (judged.causes_at_place self.now (Remove path) place.now) }
     {
-        Causes::none()
+        let found = self.standing(place);
+        let mut causes = Causes::none();
+        causes.no_entry = !is_taken(found);
+        causes.is_dir = is_directory(found);
+        causes
     }
 
-    /// The causes of what stands at a place and is to get attributes.
+    /// The causes of what stands at a place and is to get attributes: only a file has a size that can be set.
     pub(crate) fn setting(&self, place: &Place, attrs: &Attrs) -> Causes
         ensures { (path : List ℕ) → judged.IsSet result (judged.causes_at_place self.now (Setstat path attrs.now) place.now) }
     {
-        Causes::none()
+        let found = self.standing(place);
+        let mut causes = Causes::none();
+        let taken = is_taken(found);
+        causes.no_entry = !taken;
+        if is_file(found) {
+            causes.no_room = !self.size_fits(attrs);
+        } else {
+            causes.not_file = attrs.size.is_some() & taken;
+        }
+        causes
     }
 
     /// The causes of what is to go from one place to another that is free.
@@ -243,11 +256,30 @@ impl Tree {
         Causes::none()
     }
 
+    /// What stands at a place.
+    #[tactic(auto, unfolding(sftp_path::specs::Table::get))]
+    fn standing(&self, place: &Place) -> Option<&Node>
+        ensures there { option_copied result ≡ tree.node_at self.now.names place.now }
+        ensures kept { tree.IsKept self.now }
+    {
+        self.names().get(place)
+    }
+
     /// Whether one entry more, at a new place, keeps to the limits. The root is one of the places, and no entry.
     fn has_room(&self, place: &Place) -> bool
         ensures { result ≡ judged.has_room self.now place.now }
     {
         self.names().len() <= self.limits().entries as usize && place.depth() <= DEPTH_LIMIT
+    }
+
+    /// Whether a file may have the size that is given, where one is.
+    fn size_fits(&self, attrs: &Attrs) -> bool
+        ensures { result ≡ judged.size_fits (tree.limits self.now) attrs.now.size }
+    {
+        match attrs.size {
+            Some(size) => size <= u64::from(self.limits().file_bytes),
+            None => true,
+        }
     }
 }
 
@@ -270,6 +302,27 @@ pub(crate) fn is_target(target: &[u8]) -> bool
     ensures { result ≡ is_target target.now }
 {
     !target.is_empty() && good_path(target)
+}
+
+/// Whether anything stands there.
+fn is_taken(found: Option<&Node>) -> bool
+    ensures { result ≡ tree.is_taken (option_copied found.entry) }
+{
+    found.is_some()
+}
+
+/// Whether a directory stands there.
+fn is_directory(found: Option<&Node>) -> bool
+    ensures { result ≡ tree.is_directory (option_copied found.entry) }
+{
+    matches!(found, Some(Node::Dir(_)))
+}
+
+/// Whether a name of a file stands there.
+fn is_file(found: Option<&Node>) -> bool
+    ensures { result ≡ tree.is_file (option_copied found.entry) }
+{
+    matches!(found, Some(Node::File(_)))
 }
 
 /// Whether the second place stands below the first.
