@@ -13,6 +13,7 @@ pub mod CauseLed
 pub mod CauseRoom
 pub mod CauseSets
 pub mod CausePlaces
+pub mod CauseMoves
 pub mod StepCauses
 pub mod StepAnswers
 pub mod PictureRows

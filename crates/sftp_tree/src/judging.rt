@@ -272,6 +272,14 @@ impl Tree {
         self.names().len() <= self.limits().entries as usize && place.depth() <= DEPTH_LIMIT
     }
 
+    /// Whether what stands at the old place, with all below it, keeps to the most names of a place at the new one.
+    fn move_fits(&self, old: &Place, new: &Place) -> bool
+        ensures { result ≡ judged.move_fits self.now.names old.now new.now }
+    {
+        new.depth() <= DEPTH_LIMIT
+            && reaches_at_most(self.names(), old, DEPTH_LIMIT - new.depth())
+    }
+
     /// Whether a file may have the size that is given, where one is.
     fn size_fits(&self, attrs: &Attrs) -> bool
         ensures { result ≡ judged.size_fits (tree.limits self.now) attrs.now.size }
@@ -343,4 +351,19 @@ fn has_entries(names: &BTreeMap<Place, Node>, place: &Place) -> bool
         Some((next, _)) => is_below(place, next),
         None => false,
     }
+}
+
+/// Whether no place that begins with one has more names than so many behind it. They stand in a row.
+fn reaches_at_most(names: &BTreeMap<Place, Node>, top: &Place, room: usize) -> bool
+    ensures { result ≡ judged.reaches_at_most names.now.entries top.now room }
+{
+    for (place, _) in names.range((Bound::Included(top), Bound::Unbounded)) {
+        if !place.starts_with(top) {
+            return true;
+        }
+        if place.depth().saturating_sub(top.depth()) > room {
+            return false;
+        }
+    }
+    true
 }
