@@ -14,6 +14,7 @@ pub mod CauseRoom
 pub mod CauseSets
 pub mod CausePlaces
 pub mod CauseMoves
+pub mod CauseMoved
 pub mod StepCauses
 pub mod StepAnswers
 pub mod PictureRows
