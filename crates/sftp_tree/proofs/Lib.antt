@@ -8,6 +8,13 @@ pub mod WalkPlaces
 pub mod StepBelow
 pub mod StepTables
 pub mod StepKept
+pub mod CauseWalks
+pub mod CauseLed
+pub mod CauseRoom
+pub mod CauseSets
+pub mod CausePlaces
+pub mod CauseMoves
+pub mod CauseMoved
 pub mod StepCauses
 pub mod StepAnswers
 pub mod PictureRows

@@ -1,7 +1,9 @@
 -- The causes of requests as the code has them: at the place that a path leads to, and of a walk that fails.
-use Rattle.std.specs.Prelude.{◌≡◌, ◌&&◌, ◌||◌, not, nat_le, Bool, true, false, List, length, ℕ, Option, Result, Ok, Err}
-use Rattle.sftp_path.specs.Place.{Place}
+use Rattle.std.specs.Prelude.{◌≡◌, ◌-◌, ◌&&◌, ◌||◌, not, nat_le, Bool, true, false, List, length, ℕ, Option, Some, None, Result, Ok, Err}
+use Rattle.std.specs.List.{list_all}
+use Rattle.sftp_path.specs.Place.{Place, begins, depth_limit}
 use Rattle.sftp_treefile.specs.TreeFile.{is_root, is_target}
+use Rattle.sftp_treefile.specs.declared.limits.TreeLimits.{TreeLimits}
 use Rattle.sftp_wire.specs.declared.packets.Ask.{Ask}
 use Rattle.sftp_tree.specs.declared.nodes.Node.{Node}
 use Rattle.sftp_tree.specs.declared.causes.Cause.{Cause}
@@ -57,6 +59,19 @@ IsSet s set = (cause : Cause) → in_set s cause ≡ set cause
 -- whether one entry more, at a new place, keeps to the limits: the root is one of the places and no entry
 abbrev pub has_room : Tree → Place → Bool
 has_room t place = nat_le (length t.names) (limits t).entries && depth_fits place
+
+-- whether a file may have the size that is given, where one is
+abbrev pub size_fits : TreeLimits → Option ℕ → Bool
+size_fits bounds None = true
+size_fits bounds (Some size) = nat_le size bounds.file_bytes
+
+-- whether no place that the first begins has more names than so many behind it
+abbrev pub reaches_at_most : Names → Place → ℕ → Bool
+reaches_at_most names top room = list_all (λ e. not (begins top e.0) || nat_le (length e.0 - length top) room) names
+
+-- whether what stands at the old place, with all below it, keeps to the most names of a place at the new one
+abbrev pub move_fits : Names → Place → Place → Bool
+move_fits names old new = nat_le (length new) depth_limit && reaches_at_most names old (depth_limit - length new)
 
 -- of what is to be made at a place: that it is taken, and else that there is no room
 abbrev pub making : Tree → Place → Causes

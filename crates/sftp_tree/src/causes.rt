@@ -181,18 +181,18 @@ impl Causes {
         ensures { (cause : declared.Cause) → in_set result cause ≡ (in_set self cause || in_set other cause) }
     {
         Causes {
-            bad_path: self.bad_path || other.bad_path,
-            no_entry: self.no_entry || other.no_entry,
-            not_dir: self.not_dir || other.not_dir,
-            too_many_links: self.too_many_links || other.too_many_links,
-            exists: self.exists || other.exists,
-            is_dir: self.is_dir || other.is_dir,
-            not_link: self.not_link || other.not_link,
-            not_file: self.not_file || other.not_file,
-            not_empty: self.not_empty || other.not_empty,
-            root: self.root || other.root,
-            inside: self.inside || other.inside,
-            no_room: self.no_room || other.no_room,
+            bad_path: self.bad_path | other.bad_path,
+            no_entry: self.no_entry | other.no_entry,
+            not_dir: self.not_dir | other.not_dir,
+            too_many_links: self.too_many_links | other.too_many_links,
+            exists: self.exists | other.exists,
+            is_dir: self.is_dir | other.is_dir,
+            not_link: self.not_link | other.not_link,
+            not_file: self.not_file | other.not_file,
+            not_empty: self.not_empty | other.not_empty,
+            root: self.root | other.root,
+            inside: self.inside | other.inside,
+            no_room: self.no_room | other.no_room,
         }
     }
 

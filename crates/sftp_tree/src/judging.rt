@@ -1,5 +1,5 @@
 //! Which causes hold of a request.
-ghost use Rattle.std.specs.Prelude.{◌≡◌, ℕ, List, IfOk, true, false};
+ghost use Rattle.std.specs.Prelude.{◌≡◌, ℕ, List, IfOk, true, false, option_copied};
 ghost use Rattle.sftp_wire.specs.declared.packets.Ask.TheVariants.{Setstat, Remove, Rename, PosixRename, Hardlink};
 ghost use Rattle.sftp_path.specs.Place as places;
 ghost use Rattle.sftp_treefile.specs.TreeFile.{is_target};
@@ -11,6 +11,7 @@ ghost use Rattle.sftp_tree.specs.Walk.{reached};
 ghost use Rattle.sftp_tree.specs.Judged as judged;
 
 use crate::causes::{Cause, Causes};
+use crate::keeping::{alone_there, nothing_below, places_apart};
 use crate::nodes::Node;
 use crate::trees::Tree;
 use sftp_path::{DEPTH_LIMIT, NoMemory, Place, good_path};
@@ -212,35 +213,137 @@ impl Tree {
     pub(crate) fn unlinking(&self, place: &Place) -> Causes
         ensures { (path : List ℕ) → judged.IsSet result (judged.causes_at_place self.now (Remove path) place.now) }
     {
-        Causes::none()
+        let found = self.standing(place);
+        let mut causes = Causes::none();
+        causes.no_entry = !is_taken(found);
+        causes.is_dir = is_directory(found);
+        causes
     }
 
-    /// The causes of what stands at a place and is to get attributes.
+    /// The causes of what stands at a place and is to get attributes: only a file has a size that can be set.
     pub(crate) fn setting(&self, place: &Place, attrs: &Attrs) -> Causes
         ensures { (path : List ℕ) → judged.IsSet result (judged.causes_at_place self.now (Setstat path attrs.now) place.now) }
     {
-        Causes::none()
+        let found = self.standing(place);
+        let mut causes = Causes::none();
+        let taken = is_taken(found);
+        causes.no_entry = !taken;
+        if is_file(found) {
+            causes.no_room = !self.size_fits(attrs);
+        } else {
+            causes.not_file = attrs.size.is_some() & taken;
+        }
+        causes
     }
 
     /// The causes of what is to go from one place to another that is free.
     pub(crate) fn renaming(&self, old: &Place, new: &Place) -> Causes
         ensures { (oldpath newpath : List ℕ) → judged.IsSet result (judged.causes_at_places self.now (Rename oldpath newpath) old.now new.now) }
     {
-        Causes::none()
+        nothing_below();
+        alone_there();
+        let arriving = self.arriving(new).union(self.moving(old, new));
+        let mut causes = self.leaving(old).union(arriving);
+        causes.no_room = !causes.has_any() && !self.move_fits(old, new);
+        causes
     }
 
     /// The causes of what is to go from one place to another, in the stead of what stands there.
     pub(crate) fn replacing(&self, old: &Place, new: &Place) -> Causes
         ensures { (oldpath newpath : List ℕ) → judged.IsSet result (judged.causes_at_places self.now (PosixRename oldpath newpath) old.now new.now) }
     {
-        Causes::none()
+        nothing_below();
+        alone_there();
+        places_apart();
+        if self.are_one(old, new) {
+            return self.leaving(old).union(giving(new));
+        }
+        let giving = giving(new).union(self.standing_in(old, new));
+        let mut causes = self.leaving(old).union(giving);
+        causes.no_room = !causes.has_any() && !self.move_fits(old, new);
+        causes
     }
 
     /// The causes of a file that is to get a further name.
     pub(crate) fn linking(&self, old: &Place, new: &Place) -> Causes
         ensures { (oldpath newpath : List ℕ) → judged.IsSet result (judged.causes_at_places self.now (Hardlink oldpath newpath) old.now new.now) }
     {
-        Causes::none()
+        let mut causes = self.naming(old).union(self.arriving(new));
+        causes.no_room = !causes.has_any() && !self.has_room(new);
+        causes
+    }
+
+    /// The causes of what is to come to a place that is free, but for the want of room.
+    fn arriving(&self, place: &Place) -> Causes
+        ensures { judged.IsSet result (steps.making_causes (tree.node_at self.now.names place.now)) }
+    {
+        let mut causes = Causes::none();
+        causes.exists = is_taken(self.standing(place));
+        causes
+    }
+
+    /// The causes of what is to go from a place to another.
+    fn leaving(&self, place: &Place) -> Causes
+        ensures { judged.IsSet result (steps.leaving_causes self.now.names place.now) }
+    {
+        let mut causes = Causes::none();
+        causes.no_entry = !is_taken(self.standing(place));
+        causes.root = place.depth() == 0;
+        causes
+    }
+
+    /// The causes of a file that is to be at a place.
+    fn naming(&self, place: &Place) -> Causes
+        ensures { judged.IsSet result (steps.file_causes (tree.node_at self.now.names place.now)) }
+    {
+        let found = self.standing(place);
+        let taken = is_taken(found);
+        let mut causes = Causes::none();
+        causes.no_entry = !taken;
+        causes.not_file = taken & !is_file(found);
+        causes
+    }
+
+    /// The causes of two places, of what is to go from the one to the other, which is free.
+    fn moving(&self, old: &Place, new: &Place) -> Causes
+        ensures { judged.IsSet result (steps.moving_causes self.now.names old.now new.now) }
+    {
+        let mut causes = Causes::none();
+        causes.inside = is_directory(self.standing(old)) & is_below(old, new);
+        causes
+    }
+
+    /// The causes of two places, of what is to go from the one to the other, in the stead of what stands there.
+    fn standing_in(&self, old: &Place, new: &Place) -> Causes
+        ensures { judged.IsSet result (steps.replacing_causes self.now.names old.now new.now) }
+    {
+        let goes = self.standing(old);
+        let stays = self.standing(new);
+        let mut causes = Causes::none();
+        if is_directory(goes) {
+            causes.inside = is_below(old, new);
+            causes.not_dir = is_taken(stays) & !is_directory(stays);
+            causes.not_empty = is_directory(stays) & has_entries(self.names(), new);
+        } else {
+            causes.is_dir = is_taken(goes) & is_directory(stays);
+        }
+        causes
+    }
+
+    /// Whether both are one place, or names of one file.
+    fn are_one(&self, old: &Place, new: &Place) -> bool
+        ensures { result ≡ steps.are_one self.now.names old.now new.now }
+    {
+        old == new || are_one_file(self.standing(old), self.standing(new))
+    }
+
+    /// What stands at a place.
+    #[tactic(auto, unfolding(sftp_path::specs::Table::get))]
+    fn standing(&self, place: &Place) -> Option<&Node>
+        ensures there { option_copied result ≡ tree.node_at self.now.names place.now }
+        ensures kept { tree.IsKept self.now }
+    {
+        self.names().get(place)
     }
 
     /// Whether one entry more, at a new place, keeps to the limits. The root is one of the places, and no entry.
@@ -248,6 +351,24 @@ impl Tree {
         ensures { result ≡ judged.has_room self.now place.now }
     {
         self.names().len() <= self.limits().entries as usize && place.depth() <= DEPTH_LIMIT
+    }
+
+    /// Whether what stands at the old place, with all below it, keeps to the most names of a place at the new one.
+    fn move_fits(&self, old: &Place, new: &Place) -> bool
+        ensures { result ≡ judged.move_fits self.now.names old.now new.now }
+    {
+        new.depth() <= DEPTH_LIMIT
+            && reaches_at_most(self.names(), old, DEPTH_LIMIT - new.depth())
+    }
+
+    /// Whether a file may have the size that is given, where one is.
+    fn size_fits(&self, attrs: &Attrs) -> bool
+        ensures { result ≡ judged.size_fits (tree.limits self.now) attrs.now.size }
+    {
+        match attrs.size {
+            Some(size) => size <= u64::from(self.limits().file_bytes),
+            None => true,
+        }
     }
 }
 
@@ -272,6 +393,46 @@ pub(crate) fn is_target(target: &[u8]) -> bool
     !target.is_empty() && good_path(target)
 }
 
+/// Whether anything stands there.
+fn is_taken(found: Option<&Node>) -> bool
+    ensures { result ≡ tree.is_taken (option_copied found.entry) }
+{
+    found.is_some()
+}
+
+/// Whether a directory stands there.
+fn is_directory(found: Option<&Node>) -> bool
+    ensures { result ≡ tree.is_directory (option_copied found.entry) }
+{
+    matches!(found, Some(Node::Dir(_)))
+}
+
+/// Whether a name of a file stands there.
+fn is_file(found: Option<&Node>) -> bool
+    ensures { result ≡ tree.is_file (option_copied found.entry) }
+{
+    matches!(found, Some(Node::File(_)))
+}
+
+/// Whether both are names of one file.
+fn are_one_file(one: Option<&Node>, other: Option<&Node>) -> bool
+    ensures { result ≡ steps.are_one_file (option_copied one.entry) (option_copied other.entry) }
+{
+    match (one, other) {
+        (Some(Node::File(one)), Some(Node::File(other))) => one == other,
+        _ => false,
+    }
+}
+
+/// The causes of a place that is to be given to something else.
+fn giving(place: &Place) -> Causes
+    ensures { judged.IsSet result (steps.giving_causes place.now) }
+{
+    let mut causes = Causes::none();
+    causes.root = place.depth() == 0;
+    causes
+}
+
 /// Whether the second place stands below the first.
 fn is_below(place: &Place, other: &Place) -> bool
     ensures { result ≡ places.is_below place.now other.now }
@@ -290,4 +451,19 @@ fn has_entries(names: &BTreeMap<Place, Node>, place: &Place) -> bool
         Some((next, _)) => is_below(place, next),
         None => false,
     }
+}
+
+/// Whether no place that begins with one has more names than so many behind it. They stand in a row.
+fn reaches_at_most(names: &BTreeMap<Place, Node>, top: &Place, room: usize) -> bool
+    ensures { result ≡ judged.reaches_at_most names.now.entries top.now room }
+{
+    for (place, _) in names.range((Bound::Included(top), Bound::Unbounded)) {
+        if !place.starts_with(top) {
+            return true;
+        }
+        if place.depth().saturating_sub(top.depth()) > room {
+            return false;
+        }
+    }
+    true
 }
