@@ -14,3 +14,5 @@ pub mod PictureRows
 pub mod WalkRules
 pub mod WalkCounts
 pub mod StepKeeps
+pub mod StoredFiles
+pub mod StoredNames

@@ -1,0 +1,64 @@
+-- Files that are changed one at a time: what a call on the map makes of them.
+use Rattle.std.proofs.Common.{◌≡◌, ◌≢◌, ℕ, ◌-◌, ◌≤◌, Bool, true, false, refl, sym, ap, ◌∙◌, arith, Option, Some, None, is_some, option_and_then, nat_le, if◌then◌else◌}
+use Rattle.std.proofs.lemmas.Bool.Decides.{nat_tests}
+use Rattle.std.specs.Ordering.{nat_cmp, is_eq}
+use Rattle.std.specs.Cmp.{Equal-is}
+use Rattle.std.specs.FinMap.{nat_cmp-IsAntisymmetric}
+use Rattle.std.specs.BTreeMap.{BTreeMap, IsOrdered, UpdatesBy, WritesThrough, get_by}
+use Rattle.sftp_path.specs.Table.{Table, InOrder, get}
+use Rattle.sftp_tree.specs.declared.contents.Stored.{Stored}
+use Rattle.sftp_tree.specs.Stored.{IsChanged, without_a_name}
+
+-- numbers that differ do not tie
+pub numbers-apart : (number other : ℕ) → other ≢ number → is_eq (nat_cmp number other) ≡ false
+numbers-apart number other differ = by (is_eq (nat_cmp number other)) refl
+  where
+    by : (b : Bool) → is_eq (nat_cmp number other) ≡ b → is_eq (nat_cmp number other) ≡ false
+    by true same = absurd (differ (sym (nat_cmp-IsAntisymmetric number other ((Equal-is (nat_cmp number other)).0 same))))
+    by false apart = apart
+
+module _ (change : Stored → Option Stored) (number : ℕ) where
+  -- nothing is changed where there is no file
+  pub changed-nowhere : (m n : BTreeMap ℕ Stored) → IsOrdered nat_cmp m → get_by (nat_cmp number) m ≡ None → n ≡ m → IsChanged change number m.entries n.entries
+  unfolding get
+  changed-nowhere m n order none same = record {
+    here = ap (get_by (nat_cmp number)) same ∙ none ∙ sym (ap (option_and_then change) none);
+    others = λ other differ. ap (get_by (nat_cmp other)) same;
+    ordered = rw same order;
+  }
+
+  -- what is written through a reference into the map is the change
+  pub changed-written : (m n : BTreeMap ℕ Stored) (s w : Stored) → get_by (nat_cmp number) m ≡ Some s → change s ≡ Some w → WritesThrough nat_cmp (nat_cmp number) m w n → IsChanged change number m.entries n.entries
+  unfolding get
+  changed-written m n s w there is through =
+      let updates = through.3 (ap is_some there) in
+      record {
+        here = updates.1 ∙ sym is ∙ sym (ap (option_and_then change) there);
+        others = λ other differ. updates.2 other (numbers-apart number other differ);
+        ordered = through.4;
+      }
+
+  -- a file that is taken out after that is gone
+  pub changed-removed : (m n o : BTreeMap ℕ Stored) (s w : Stored) → get_by (nat_cmp number) m ≡ Some s → change s ≡ None → WritesThrough nat_cmp (nat_cmp number) m w n → UpdatesBy nat_cmp (nat_cmp number) n o None → IsOrdered nat_cmp o → IsChanged change number m.entries o.entries
+  unfolding get
+  changed-removed m n o s w there is through removed order =
+      let updates = through.3 (ap is_some there) in
+      record {
+        here = removed.1 ∙ sym is ∙ sym (ap (option_and_then change) there);
+        others = λ other differ. removed.2 other (numbers-apart number other differ) ∙ updates.2 other (numbers-apart number other differ);
+        ordered = order;
+      }
+
+-- ---- a name less
+
+le-one : (n : ℕ) → n - 1 ≡ 0 → nat_le n 1 ≡ true
+le-one n last = grind (arith, nat_tests)
+
+not-le-one : (n : ℕ) → (n - 1 ≡ 0 → ⊥) → nat_le n 1 ≡ false
+not-le-one n other = grind (arith, nat_tests)
+
+pub without_a_name-last : (s : Stored) → s.names - 1 ≡ 0 → without_a_name s ≡ None
+without_a_name-last s last = ap (λ b. if b then None else Some (record s { names = s.names - 1 })) (le-one s.names last)
+
+pub without_a_name-other : (s : Stored) → (s.names - 1 ≡ 0 → ⊥) → without_a_name s ≡ Some (record s { names = s.names - 1 })
+without_a_name-other s other = ap (λ b. if b then None else Some (record s { names = s.names - 1 })) (not-le-one s.names other)
