@@ -16,3 +16,4 @@ pub mod WalkCounts
 pub mod StepKeeps
 pub mod StoredFiles
 pub mod StoredNames
+pub mod StoredTrees
