@@ -1,5 +1,5 @@
 -- Trees as the code has them: what a change of the names and of the counts makes of them.
-use Rattle.std.proofs.Common.{◌≡◌, ℕ, ◌+◌, ◌-◌, ◌<◌, ◌≤◌, ◌^◌, Bool, true, false, ◌&&◌, not, nat_le, List, length, refl, sym, ap, subst, ◌∙◌, arith, Option, Some, None, IfSome, IsTrue}
+use Rattle.std.proofs.Common.{◌≡◌, ℕ, ◌+◌, ◌-◌, ◌<◌, ◌≤◌, ◌^◌, Bool, true, false, ◌&&◌, not, nat_lt, nat_le, option_map, List, length, refl, sym, ap, subst, ◌∙◌, arith, Option, Some, None, IfSome, IsTrue}
 use Rattle.std.specs.Ordering.{nat_cmp}
 use Rattle.std.specs.Cmp.{first_so}
 use Rattle.std.specs.List.{AllByRecursion}
@@ -13,7 +13,7 @@ use Rattle.sftp_path.proofs.ValueLaws.{get-with_values}
 use Rattle.sftp_tree.specs.declared.contents.Content.{Content}
 use Rattle.sftp_tree.specs.declared.contents.Stored.{Stored}
 use Rattle.sftp_tree.specs.declared.nodes.Node.{Node}
-use Rattle.sftp_tree.specs.Tree.{Names, Files, Tree, IsKept, fits, entries_fit, depths_fit, home_fits, links_fit, files_fit, numbers_fit, node_at, with_node, without_node, names_file, times_named, trim}
+use Rattle.sftp_tree.specs.Tree.{Names, Files, Tree, IsKept, IsTrimmed, is_named, fits, entries_fit, depths_fit, home_fits, links_fit, files_fit, numbers_fit, node_at, with_node, without_node, names_file, times_named, trim}
 use Rattle.sftp_tree.specs.Stored.{contents, AreCounted, file_named, IsChangedWhereNamed, with_a_name, without_a_name}
 use Rattle.sftp_tree.proofs.StoredNames.{at-number, one_name, named-put, named-without, raised, lowered}
 
@@ -55,6 +55,19 @@ room-to-count t files kept counted named =
     let most = named-at_most t.names number in
     let few = few-entries t kept in
     omega arith))
+
+-- each file has a name to lose
+pub name-to-lose : (t : Tree) (files : Table ℕ Stored) → IsTrimmed t → t.files ≡ contents files → AreCounted t.names files → (named : Option ℕ) → IfSome named (λ number. IfSome (get nat_cmp files number) (λ s. 0 < s.names))
+name-to-lose t files trimmed same counted named =
+    each-some (λ number. IfSome (get nat_cmp files number) (λ s. 0 < s.names)) named (λ number is.
+    each-some (λ (s : Stored). 0 < s.names) (get nat_cmp files number) (λ s there.
+    let n : s.names ≡ times_named t.names number = at-number (λ number (s : Stored). s.names ≡ times_named t.names number) files counted number s there in
+    let found : get nat_cmp t.files number ≡ Some s.content = ap (λ fs. get nat_cmp fs number) same ∙ get-with_values nat_cmp (λ (s : Stored). s.content) files number ∙ ap (option_map (λ (s : Stored). s.content)) there in
+    let named : is_named t.names number ≡ true = at-number (λ number (content : Content). is_named t.names number ≡ true) t.files trimmed number s.content found in
+    some-names s.names (times_named t.names number) n named))
+  where
+    some-names : (n m : ℕ) → n ≡ m → nat_lt 0 m ≡ true → 0 < n
+    some-names n m is some = grind (arith, nat_tests)
 
 -- ---- a change of a tree's parts
 

@@ -74,7 +74,8 @@ impl Tree {
     pub(crate) fn content(&self, number: u32) -> Option<&Content>
         ensures { option_copied result ≡ tree.content_at self.now.files number }
     {
-        self.files.get(&number).map(|stored| &stored.content)
+        let stored = self.files.get(&number)?;
+        Some(&stored.content)
     }
 
     /// Where relative paths start.
