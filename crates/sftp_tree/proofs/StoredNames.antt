@@ -12,7 +12,7 @@ use Rattle.std.proofs.lemmas.Option.{same_Some}
 use Rattle.std.proofs.lemmas.Map.Keys.{sorted_head, sorted_tail}
 use Rattle.sftp_path.specs.Place.{Place, place_cmp}
 use Rattle.sftp_path.specs.Table.{Table, InOrder, get, retain, kept}
-use Rattle.sftp_path.proofs.TableLaws.{get-cons, get-below, get-empty, get-retain, InOrder-retain, same_table}
+use Rattle.sftp_path.proofs.TableLaws.{get-cons, get-below, get-empty, get-put_here, get-put_elsewhere, get-retain, InOrder-put, InOrder-retain, same_table}
 use Rattle.sftp_path.proofs.CountLaws.{count-put_new, count-without}
 use Rattle.sftp_path.proofs.EntryLaws.{without-absent}
 use Rattle.sftp_path.proofs.ValueLaws.{get-with_values, InOrder-with_values}
@@ -20,8 +20,10 @@ use Rattle.sftp_tree.specs.declared.contents.Content.{Content}
 use Rattle.sftp_tree.specs.declared.contents.Stored.{Stored}
 use Rattle.sftp_tree.specs.declared.nodes.Node.{Node}
 use Rattle.sftp_tree.specs.declared.nodes.Node.TheVariants.{Dir, File, Link}
-use Rattle.sftp_tree.specs.Tree.{Names, node_at, with_node, without_node, names_file, times_named, is_named, held_by_names_alone}
-use Rattle.sftp_tree.specs.Stored.{contents, AreCounted, file_named, IsChanged, IsChangedWhereNamed, with_a_name, without_a_name}
+use Rattle.sftp_tree.specs.Tree.{Names, node_at, with_node, without_node, with_content, names_file, times_named, is_named, held_by_names_alone}
+use Rattle.sftp_tree.specs.Stored.{contents, AreCounted, file_named, IsChanged, IsChangedWhereNamed, with_a_name, without_a_name, with_attributes_set}
+use Rattle.sftp_tree.specs.Attributes.{changed_content}
+use Rattle.sftp_wire.specs.declared.attributes.Attrs.{Attrs}
 
 -- ---- entries by their numbers
 
@@ -268,3 +270,52 @@ module _ (names others : Names) (files : Table ℕ Stored) where
     lowered (Some (Dir owner)) less after same = lost-none after (λ other. let l = less other in omega arith) same
     lowered (Some (File number)) less after changed = lowered-file number less after changed
     lowered (Some (Link target)) less after same = lost-none after (λ other. let l = less other in omega arith) same
+
+-- ---- the attributes of a file
+
+-- where each file is as it was, or another in its stead has as many names, the counts are right
+changed-names : (attrs : Attrs) (o : Option Stored) (s : Stored) (n : ℕ) → option_and_then (with_attributes_set attrs) o ≡ Some s → ((before : Stored) → o ≡ Some before → before.names ≡ n) → s.names ≡ n
+changed-names attrs None s n is counted = cc
+changed-names attrs (Some before) s n is counted = sym (ap (λ (s : Stored). s.names) (same_Some _ s is)) ∙ counted before refl
+
+module _ (names : Names) (files : Table ℕ Stored) (attrs : Attrs) (number : ℕ) (after : Table ℕ Stored) where
+  -- the counts stay
+  pub counted-changed : AreCounted names files → IsChanged (with_attributes_set attrs) number files after → AreCounted names after
+  counted-changed counted changed =
+      at-entries (λ other (s : Stored). s.names ≡ times_named names other) after changed.ordered (λ other s there.
+      by-number number other
+      (λ is.
+      changed-names attrs (get nat_cmp files number) s (times_named names number) (sym changed.here ∙ ap (get nat_cmp after) (sym is) ∙ there) (was number)
+      ∙ ap (times_named names) (sym is))
+      (λ differ. was other s (sym (changed.others other differ) ∙ there)))
+    where
+      was : (other : ℕ) (s : Stored) → get nat_cmp files other ≡ Some s → s.names ≡ times_named names other
+      was = at-number (λ other (s : Stored). s.names ≡ times_named names other) files counted
+
+  -- the file has its new content
+  pub contents-changed : InOrder nat_cmp files → IsChanged (with_attributes_set attrs) number files after → (s : Stored) → get nat_cmp files number ≡ Some s → contents after ≡ with_content (contents files) number (changed_content attrs s.content)
+  contents-changed order changed s there =
+      let content : Stored → Content = λ s. s.content in
+      let new : Content = changed_content attrs s.content in
+      same_table nat_cmp nat_cmp_total nat_cmp-IsAntisymmetric (contents after) (with_content (contents files) number new) (InOrder-with_values nat_cmp content after changed.ordered)
+      (InOrder-put nat_cmp nat_cmp_total (contents files) number new (InOrder-with_values nat_cmp content files order))
+      (λ other.
+      get-with_values nat_cmp content after other
+      ∙ by-number number other
+      (λ is.
+      ap (λ k. option_map content (get nat_cmp after k)) is ∙ ap (option_map content) (changed.here ∙ ap (option_and_then (with_attributes_set attrs)) there)
+      ∙ sym (get-put_here nat_cmp nat_cmp_total (contents files) number new) ∙ ap (get nat_cmp (with_content (contents files) number new)) (sym is))
+      (λ differ.
+      ap (option_map content) (changed.others other differ) ∙ sym (get-with_values nat_cmp content files other)
+      ∙ sym (get-put_elsewhere nat_cmp nat_cmp_total (contents files) number other new (λ tie. differ (nat_cmp-IsAntisymmetric other number tie)))))
+
+  -- where there is no such file, all are as before
+  pub contents-unchanged : InOrder nat_cmp files → IsChanged (with_attributes_set attrs) number files after → get nat_cmp files number ≡ None → contents after ≡ contents files
+  contents-unchanged order changed none =
+      let content : Stored → Content = λ s. s.content in
+      same-contents files after order changed.ordered (λ other.
+      by-number number other
+      (λ is.
+      ap (λ k. option_map content (get nat_cmp after k)) is ∙ ap (option_map content) (changed.here ∙ ap (option_and_then (with_attributes_set attrs)) none ∙ sym none)
+      ∙ ap (λ k. option_map content (get nat_cmp files k)) (sym is))
+      (λ differ. ap (option_map content) (changed.others other differ)))

@@ -13,9 +13,16 @@ use Rattle.sftp_path.proofs.ValueLaws.{get-with_values}
 use Rattle.sftp_tree.specs.declared.contents.Content.{Content}
 use Rattle.sftp_tree.specs.declared.contents.Stored.{Stored}
 use Rattle.sftp_tree.specs.declared.nodes.Node.{Node}
-use Rattle.sftp_tree.specs.Tree.{Names, Files, Tree, IsKept, IsTrimmed, is_named, fits, entries_fit, depths_fit, home_fits, links_fit, files_fit, numbers_fit, node_at, with_node, without_node, names_file, times_named, trim}
-use Rattle.sftp_tree.specs.Stored.{contents, AreCounted, file_named, IsChangedWhereNamed, with_a_name, without_a_name}
-use Rattle.sftp_tree.proofs.StoredNames.{at-number, one_name, named-put, named-without, raised, lowered}
+use Rattle.sftp_tree.specs.Tree.{Names, Files, Tree, IsKept, IsTrimmed, IsContent, is_directory, content_at, is_named, fits, entries_fit, depths_fit, home_fits, links_fit, files_fit, numbers_fit, node_at, with_node, without_node, names_file, times_named, trim}
+use Rattle.sftp_tree.specs.declared.nodes.Node.TheVariants.{Dir, File, Link}
+use Rattle.sftp_wire.specs.declared.attributes.Attrs.{Attrs}
+use Rattle.sftp_treefile.specs.declared.files.Owner.{Owner}
+use Rattle.sftp_treefile.specs.TreeFile.{IsOwner}
+use Rattle.sftp_path.proofs.Order.{place_cmp-total}
+use Rattle.sftp_path.proofs.CountLaws.{count-put_again}
+use Rattle.sftp_tree.specs.Steps.{with_changed_file}
+use Rattle.sftp_tree.specs.Stored.{contents, AreCounted, file_named, IsChanged, IsChangedWhereNamed, with_a_name, without_a_name, with_attributes_set}
+use Rattle.sftp_tree.proofs.StoredNames.{at-number, one_name, named-put, named-without, raised, lowered, counted-again, counted-changed, contents-changed, contents-unchanged}
 
 -- the tree of these parts
 abbrev pub seen : Names → Table ℕ Stored → ℕ → Place → ℕ → ℕ → Tree
@@ -91,3 +98,39 @@ module _ (names : Names) (files : Table ℕ Stored) (made : ℕ) (home : Place) 
       let order = files-in_order files kept.well_formed.numbered in
       let both = lowered names others files order counted kept.trimmed gone less after changed in
       ((λ i. record { names = others; files = both.0 i; made = made; home = home; uid = uid; gid = gid }), both.1)
+
+  -- another owner of a directory
+  pub owner-parts : IsKept the_tree → AreCounted names files → (place : Place) (owner : Owner) → IsTrue (is_directory (node_at names place)) → (others : Names) → others ≡ with_node names place (Dir owner) → AreCounted others files
+  owner-parts kept counted place owner directory others is =
+      counted-again names others files (files-in_order files kept.well_formed.numbered) (λ number. ap (λ ns. times_named ns number) is ∙ by (node_at names place) refl directory number) counted
+    where
+      by : (standing : Option Node) → node_at names place ≡ standing → is_directory standing ≡ true → (number : ℕ) → times_named (with_node names place (Dir owner)) number ≡ times_named names number
+      by None there directory number = cc
+      by (Some (Dir before)) there directory number =
+          let n = count-put_again place_cmp place_cmp-total names place (Dir owner) (Dir before) (names_file number) kept.well_formed.ordered there in
+          omega arith
+      by (Some (File other)) there directory number = cc
+      by (Some (Link target)) there directory number = cc
+
+  -- other attributes of a file
+  pub changed-parts : IsKept the_tree → AreCounted names files → (attrs : Attrs) (number : ℕ) (after : Table ℕ Stored) → IsChanged (with_attributes_set attrs) number files after → (seen names after made home uid gid ≡ with_changed_file the_tree attrs number (content_at (contents files) number)) × AreCounted names after
+  changed-parts kept counted attrs number after changed =
+      (
+        by (get nat_cmp files number) refl
+        ∙ ap (with_changed_file the_tree attrs number) (sym (get-with_values nat_cmp (λ (s : Stored). s.content) files number)),
+        counted-changed names files attrs number after counted changed
+      )
+    where
+      by : (o : Option Stored) → get nat_cmp files number ≡ o → seen names after made home uid gid ≡ with_changed_file the_tree attrs number (option_map (λ (s : Stored). s.content) o)
+      by None none =
+          let same = contents-unchanged names files attrs number after (files-in_order files kept.well_formed.numbered) changed none in
+          λ i. record { names = names; files = same i; made = made; home = home; uid = uid; gid = gid }
+      by (Some s) there =
+          let same = contents-changed names files attrs number after (files-in_order files kept.well_formed.numbered) changed s there in
+          λ i. record { names = names; files = same i; made = made; home = home; uid = uid; gid = gid }
+
+  -- the file that is there has an owner
+  pub owner-there : IsKept the_tree → (number : ℕ) → IfSome (get nat_cmp files number) (λ s. IsOwner s.content.owner)
+  owner-there kept number =
+      each-some (λ (s : Stored). IsOwner s.content.owner) (get nat_cmp files number) (λ s there.
+      (at-number (λ number (content : Content). IsContent content) (contents files) kept.well_formed.contents number s.content (get-with_values nat_cmp (λ (s : Stored). s.content) files number ∙ ap (option_map (λ (s : Stored). s.content)) there)).0)

@@ -9,6 +9,7 @@ mod judging;
 mod keeping;
 pub mod laws;
 mod led;
+mod moving;
 mod nodes;
 pub mod picture_laws;
 mod pictures;

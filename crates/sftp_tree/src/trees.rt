@@ -3,6 +3,7 @@ ghost use Rattle.std.specs.Prelude.{◌≡◌, List, ◌∷◌, ◌++◌, false,
 ghost use Rattle.sftp_path.specs.Place.{Name, begins};
 
 use crate::contents::{Content, Stored, change_at, count_name, file_named, forget_name};
+use crate::moving::replace;
 use crate::nodes::Node;
 use sftp_path::{NoMemory, Place};
 use sftp_treefile::{Owner, TreeLimits, usual_limits};
@@ -156,9 +157,7 @@ impl Tree {
         requires kept { tree.IsKept (record self.old { names = tree.with_node self.old.names place.now (Dir owner) }) }
         ensures { self.new ≡ record self.old { names = tree.with_node self.old.names place.now (Dir owner) } }
     {
-        if let Some(node) = self.names.get_mut(place) {
-            *node = Node::Dir(owner);
-        }
+        replace(&mut self.names, place, Node::Dir(owner));
     }
 
     /// Sets the attributes of a file: its size, which cuts the bytes or fills them with zeros, its owner and the low twelve bits of
