@@ -17,3 +17,4 @@ pub mod StepKeeps
 pub mod StoredFiles
 pub mod StoredNames
 pub mod StoredTrees
+pub mod MovedNames
