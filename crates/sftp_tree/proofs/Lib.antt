@@ -32,3 +32,7 @@ pub mod KeepMoves
 pub mod KeepFields
 pub mod KeepCauses
 pub mod KeepFiles
+pub mod StoredFiles
+pub mod StoredNames
+pub mod StoredTrees
+pub mod MovedNames

@@ -1,10 +1,14 @@
 -- Files as the code keeps them: each with the count of its names.
-use Rattle.std.specs.Prelude.{◌≡◌, ℕ, List, ◌++◌, Some}
+use Rattle.std.specs.Prelude.{◌≡◌, ◌≢◌, ℕ, ◌+◌, ◌-◌, nat_le, Option, Some, None, if◌then◌else◌, option_and_then}
+use Rattle.std.specs.Ordering.{nat_cmp}
 use Rattle.std.specs.List.{AllByRecursion}
-use Rattle.sftp_path.specs.Place.{Place}
-use Rattle.sftp_path.specs.Table.{Table, with_values}
+use Rattle.sftp_wire.specs.declared.attributes.Attrs.{Attrs}
+use Rattle.sftp_path.specs.Table.{Table, InOrder, get, with_values}
 use Rattle.sftp_tree.specs.declared.contents.Stored.{Stored}
+use Rattle.sftp_tree.specs.declared.nodes.Node.{Node}
+use Rattle.sftp_tree.specs.declared.nodes.Node.TheVariants.{Dir, File, Link}
 use Rattle.sftp_tree.specs.Tree.{Names, Files, times_named}
+use Rattle.sftp_tree.specs.Attributes.{changed_content}
 
 -- the files
 abbrev pub contents : Table ℕ Stored → Files
@@ -13,3 +17,35 @@ contents stored = with_values (λ (s : Stored). s.content) stored
 -- each count is that of the entries that are names of the file
 abbrev pub AreCounted : Names → Table ℕ Stored → Type 0
 AreCounted names stored = AllByRecursion (λ e. e.1.names ≡ times_named names e.0) stored
+
+-- the file that what stands at a place is a name of
+abbrev pub file_named : Option Node → Option ℕ
+file_named None = None
+file_named (Some (Dir owner)) = None
+file_named (Some (File number)) = Some number
+file_named (Some (Link target)) = None
+
+-- ---- what becomes of a file
+
+-- it gets a further name
+abbrev pub with_a_name : Stored → Option Stored
+with_a_name s = Some (record s { names = s.names + 1 })
+
+-- it loses a name, and goes with the last one
+abbrev pub without_a_name : Stored → Option Stored
+without_a_name s = if nat_le s.names 1 then None else Some (record s { names = s.names - 1 })
+
+-- its attributes are set
+abbrev pub with_attributes_set : Attrs → Stored → Option Stored
+with_attributes_set attrs s = Some (record s { content = changed_content attrs s.content })
+
+-- the file of a number is changed, where there is one; the others stay
+pub record IsChanged (change : Stored → Option Stored) (number : ℕ) (before after : Table ℕ Stored) : Type 0 where
+  pub here : get nat_cmp after number ≡ option_and_then change (get nat_cmp before number)
+  pub others : (other : ℕ) → other ≢ number → get nat_cmp after other ≡ get nat_cmp before other
+  pub ordered : InOrder nat_cmp after
+
+-- the file that is named is changed, where one is
+abbrev pub IsChangedWhereNamed : (Stored → Option Stored) → Option ℕ → Table ℕ Stored → Table ℕ Stored → Type 0
+IsChangedWhereNamed change None before after = after ≡ before
+IsChangedWhereNamed change (Some number) before after = IsChanged change number before after

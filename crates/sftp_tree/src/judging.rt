@@ -441,7 +441,7 @@ fn is_below(place: &Place, other: &Place) -> bool
 }
 
 /// Whether anything stands below a place: the next place in order would.
-fn has_entries(names: &BTreeMap<Place, Node>, place: &Place) -> bool
+pub(crate) fn has_entries(names: &BTreeMap<Place, Node>, place: &Place) -> bool
     ensures { result ≡ tree.has_entries names.now.entries place.now }
 {
     match names

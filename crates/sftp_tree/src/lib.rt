@@ -10,6 +10,7 @@ mod keeping;
 pub mod laws;
 mod led;
 pub mod limit_laws;
+mod moving;
 mod nodes;
 pub mod picture_laws;
 mod pictures;

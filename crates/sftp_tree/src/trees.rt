@@ -2,7 +2,8 @@
 ghost use Rattle.std.specs.Prelude.{◌≡◌, List, ◌∷◌, ◌++◌, false, Some, None, option_copied, OnOk, OnErr, IsTrue};
 ghost use Rattle.sftp_path.specs.Place.{Name, begins};
 
-use crate::contents::{Content, Stored};
+use crate::contents::{Content, Stored, change_at, count_name, file_named, forget_name};
+use crate::moving::replace;
 use crate::nodes::Node;
 use sftp_path::{NoMemory, Place};
 use sftp_treefile::{Owner, TreeLimits, usual_limits};
@@ -74,7 +75,8 @@ impl Tree {
     pub(crate) fn content(&self, number: u32) -> Option<&Content>
         ensures { option_copied result ≡ tree.content_at self.now.files number }
     {
-        self.files.get(&number).map(|stored| &stored.content)
+        let stored = self.files.get(&number)?;
+        Some(&stored.content)
     }
 
     /// Where relative paths start.
@@ -117,14 +119,20 @@ impl Tree {
             (self.new ≡ record self.old { names = tree.with_node self.old.names place node }) }
         ensures err { OnErr result (self.new ≡ self.old) }
     {
-        Err(NoMemory)
+        let named = file_named(Some(&node));
+        self.names.insert(place, node)?;
+        count_name(&mut self.files, named);
+        Ok(())
     }
 
     /// Removes what stands at a place; a file goes with its last name.
     pub(crate) fn remove_at(&mut self, place: &Place)
         requires { tree.IsKept (tree.trim (record self.old { names = tree.without_node self.old.names place.now })) }
         ensures { self.new ≡ tree.trim (record self.old { names = tree.without_node self.old.names place.now }) }
-    {}
+    {
+        let gone = self.names.remove(place);
+        forget_name(&mut self.files, file_named(gone.as_ref()));
+    }
 
     /// Moves what stands at the old place, with all below it, to the new one, in the stead of what stands there; a file goes with
     /// its last name.
@@ -148,7 +156,9 @@ impl Tree {
         requires directory { IsTrue (tree.is_directory (tree.node_at self.old.names place.now)) }
         requires kept { tree.IsKept (record self.old { names = tree.with_node self.old.names place.now (Dir owner) }) }
         ensures { self.new ≡ record self.old { names = tree.with_node self.old.names place.now (Dir owner) } }
-    {}
+    {
+        replace(&mut self.names, place, Node::Dir(owner));
+    }
 
     /// Sets the attributes of a file: its size, which cuts the bytes or fills them with zeros, its owner and the low twelve bits of
     /// its permissions, each where it is given.
@@ -162,6 +172,7 @@ impl Tree {
             (self.new ≡ steps.with_changed_file self.old attrs.now number (tree.content_at self.old.files number)) }
         ensures err { OnErr result (self.new ≡ self.old) }
     {
-        Err(NoMemory)
+        change_at(&mut self.files, number, attrs)?;
+        Ok(())
     }
 }

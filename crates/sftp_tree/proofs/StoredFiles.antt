@@ -1,0 +1,84 @@
+-- Files that are changed one at a time: what a call on the map makes of them.
+use Rattle.std.proofs.Common.{◌≡◌, ◌≢◌, ℕ, ◌-◌, ◌≤◌, Bool, true, false, refl, sym, ap, ◌∙◌, arith, Option, Some, None, is_some, IsSome, cond, option_and_then, nat_le, if◌then◌else◌}
+use Rattle.std.proofs.lemmas.Bool.Decides.{nat_tests}
+use Rattle.std.specs.Ordering.{nat_cmp, is_eq, ordering_reverse}
+use Rattle.std.specs.declared.cmp.Ordering.{Ordering}
+use Rattle.std.specs.declared.cmp.Ordering.TheVariants.{Less, Equal, Greater}
+use Rattle.std.specs.Cmp.{IsTotalOrder, Equal-is}
+use Rattle.std.specs.FinMap.{IsAntisymmetric, nat_cmp-IsAntisymmetric}
+use Rattle.std.specs.BTreeMap.{BTreeMap, IsOrdered, UpdatesBy, WritesThrough, get_by}
+use Rattle.sftp_path.specs.Table.{Table, InOrder, get, put}
+use Rattle.sftp_path.proofs.TableLaws.{get-put, InOrder-put, same_table}
+use Rattle.sftp_tree.specs.declared.contents.Stored.{Stored}
+use Rattle.sftp_tree.specs.Stored.{IsChanged, without_a_name}
+
+-- numbers that differ do not tie
+pub numbers-apart : (number other : ℕ) → other ≢ number → is_eq (nat_cmp number other) ≡ false
+numbers-apart number other differ = by (is_eq (nat_cmp number other)) refl
+  where
+    by : (b : Bool) → is_eq (nat_cmp number other) ≡ b → is_eq (nat_cmp number other) ≡ false
+    by true same = absurd (differ (sym (nat_cmp-IsAntisymmetric number other ((Equal-is (nat_cmp number other)).0 same))))
+    by false apart = apart
+
+module _ (change : Stored → Option Stored) (number : ℕ) where
+  -- nothing is changed where there is no file
+  pub changed-nowhere : (m n : BTreeMap ℕ Stored) → IsOrdered nat_cmp m → get_by (nat_cmp number) m ≡ None → n ≡ m → IsChanged change number m.entries n.entries
+  unfolding get
+  changed-nowhere m n order none same = record {
+    here = ap (get_by (nat_cmp number)) same ∙ none ∙ sym (ap (option_and_then change) none);
+    others = λ other differ. ap (get_by (nat_cmp other)) same;
+    ordered = rw same order;
+  }
+
+  -- what is written through a reference into the map is the change
+  pub changed-written : (m n : BTreeMap ℕ Stored) (s w : Stored) → get_by (nat_cmp number) m ≡ Some s → change s ≡ Some w → WritesThrough nat_cmp (nat_cmp number) m w n → IsChanged change number m.entries n.entries
+  unfolding get
+  changed-written m n s w there is through =
+      let updates = through.3 (ap is_some there) in
+      record {
+        here = updates.1 ∙ sym is ∙ sym (ap (option_and_then change) there);
+        others = λ other differ. updates.2 other (numbers-apart number other differ);
+        ordered = through.4;
+      }
+
+  -- a file that is taken out after that is gone
+  pub changed-removed : (m n o : BTreeMap ℕ Stored) (s w : Stored) → get_by (nat_cmp number) m ≡ Some s → change s ≡ None → WritesThrough nat_cmp (nat_cmp number) m w n → UpdatesBy nat_cmp (nat_cmp number) n o None → IsOrdered nat_cmp o → IsChanged change number m.entries o.entries
+  unfolding get
+  changed-removed m n o s w there is through removed order =
+      let updates = through.3 (ap is_some there) in
+      record {
+        here = removed.1 ∙ sym is ∙ sym (ap (option_and_then change) there);
+        others = λ other differ. removed.2 other (numbers-apart number other differ) ∙ updates.2 other (numbers-apart number other differ);
+        ordered = order;
+      }
+
+-- ---- a name less
+
+le-one : (n : ℕ) → n - 1 ≡ 0 → nat_le n 1 ≡ true
+le-one n last = grind (arith, nat_tests)
+
+not-le-one : (n : ℕ) → (n - 1 ≡ 0 → ⊥) → nat_le n 1 ≡ false
+not-le-one n other = grind (arith, nat_tests)
+
+pub without_a_name-last : (s : Stored) → s.names - 1 ≡ 0 → without_a_name s ≡ None
+without_a_name-last s last = ap (λ b. if b then None else Some (record s { names = s.names - 1 })) (le-one s.names last)
+
+pub without_a_name-other : (s : Stored) → (s.names - 1 ≡ 0 → ⊥) → without_a_name s ≡ Some (record s { names = s.names - 1 })
+without_a_name-other s other = ap (λ b. if b then None else Some (record s { names = s.names - 1 })) (not-le-one s.names other)
+
+-- ---- another value at a key that is there
+
+reversed : (o : Ordering) → is_eq (ordering_reverse o) ≡ is_eq o
+reversed Less = refl
+reversed Equal = refl
+reversed Greater = refl
+
+-- what is written through a reference into the map is put there
+pub written-put : {K X : Type 0} (cmp : K → K → Ordering) → IsTotalOrder cmp → IsAntisymmetric cmp → (m n : BTreeMap K X) (key : K) (value : X) → IsOrdered cmp m → IsSome (get_by (cmp key) m) → WritesThrough cmp (cmp key) m value n → n.entries ≡ put cmp m.entries key value
+unfolding get
+written-put cmp total same m n key value order there through =
+    let updates = through.3 there in
+    same_table cmp total same n.entries (put cmp m.entries key value) through.4 (InOrder-put cmp total m.entries key value order)
+    (λ at.
+    updates.0 at ∙ (λ i. cond ((ap is_eq (total.antisymm key at) ∙ reversed (cmp at key)) i) (Some value) (get_by (cmp at) m))
+    ∙ sym (get-put cmp total m.entries key value at))

@@ -1,0 +1,136 @@
+-- Trees as the code has them: what a change of the names and of the counts makes of them.
+use Rattle.std.proofs.Common.{◌≡◌, ℕ, ◌+◌, ◌-◌, ◌<◌, ◌≤◌, ◌^◌, Bool, true, false, ◌&&◌, not, nat_lt, nat_le, option_map, List, length, refl, sym, ap, subst, ◌∙◌, arith, Option, Some, None, IfSome, IsTrue}
+use Rattle.std.specs.Ordering.{nat_cmp}
+use Rattle.std.specs.Cmp.{first_so}
+use Rattle.std.specs.List.{AllByRecursion}
+use Rattle.std.specs.List.Sorted.{IsStrictlySortedBy}
+use Rattle.std.proofs.lemmas.Bool.Decides.{nat_tests}
+use Rattle.std.proofs.lemmas.List.Filters.{length-filter_both}
+use Rattle.std.proofs.lemmas.Map.Made.{keys_of-map_values}
+use Rattle.sftp_path.specs.Place.{Place, place_cmp}
+use Rattle.sftp_path.specs.Table.{Table, InOrder, get, put, without, retain}
+use Rattle.sftp_path.proofs.ValueLaws.{get-with_values}
+use Rattle.sftp_tree.specs.declared.contents.Content.{Content}
+use Rattle.sftp_tree.specs.declared.contents.Stored.{Stored}
+use Rattle.sftp_tree.specs.declared.nodes.Node.{Node}
+use Rattle.sftp_tree.specs.Tree.{Names, Files, Tree, IsKept, IsTrimmed, IsContent, is_directory, content_at, is_named, fits, entries_fit, depths_fit, home_fits, links_fit, files_fit, numbers_fit, node_at, with_node, without_node, names_file, times_named, trim}
+use Rattle.sftp_tree.specs.declared.nodes.Node.TheVariants.{Dir, File, Link}
+use Rattle.sftp_wire.specs.declared.attributes.Attrs.{Attrs}
+use Rattle.sftp_treefile.specs.declared.files.Owner.{Owner}
+use Rattle.sftp_treefile.specs.TreeFile.{IsOwner}
+use Rattle.sftp_path.proofs.Order.{place_cmp-total}
+use Rattle.sftp_path.proofs.CountLaws.{count-put_again}
+use Rattle.sftp_tree.specs.Steps.{with_changed_file}
+use Rattle.sftp_tree.specs.Stored.{contents, AreCounted, file_named, IsChanged, IsChangedWhereNamed, with_a_name, without_a_name, with_attributes_set}
+use Rattle.sftp_tree.proofs.StoredNames.{at-number, one_name, named-put, named-without, raised, lowered, counted-again, counted-changed, contents-changed, contents-unchanged}
+
+-- the tree of these parts
+abbrev pub seen : Names → Table ℕ Stored → ℕ → Place → ℕ → ℕ → Tree
+seen names files made home uid gid = record { names = names; files = contents files; made = made; home = home; uid = uid; gid = gid }
+
+-- the files are in order where their contents are
+pub files-in_order : (files : Table ℕ Stored) → InOrder nat_cmp (contents files) → InOrder nat_cmp files
+files-in_order files = subst (IsStrictlySortedBy nat_cmp) (keys_of-map_values (λ (s : Stored). s.content) files)
+
+-- ---- counts fit their fields
+
+each-some : {X : Type 0} (P : X → Type 0) (o : Option X) → ((x : X) → o ≡ Some x → P x) → IfSome o P
+each-some P None each = tt
+each-some P (Some x) each = each x refl
+
+named-at_most : (names : Names) (number : ℕ) → times_named names number ≤ length names
+unfolding retain
+named-at_most names number =
+    let both = length-filter_both (λ (e : Place × Node). names_file number e.1) (λ e. not (names_file number e.1)) (λ e. refl) names in
+    omega arith
+
+few-entries : (t : Tree) → IsKept t → length t.names ≤ 65537
+unfolding fits
+few-entries t kept =
+    let few : entries_fit t ≡ true = first_so (entries_fit t) (depths_fit t && (home_fits t && (links_fit t && (files_fit t && numbers_fit t)))) kept.within_limits in
+    at_most (length t.names) few
+  where
+    at_most : (n : ℕ) → nat_le (n - 1) 65536 ≡ true → n ≤ 65537
+    at_most n few = grind (arith, nat_tests)
+
+-- there is room for a further name in each count
+pub room-to-count : (t : Tree) (files : Table ℕ Stored) → IsKept t → AreCounted t.names files → (named : Option ℕ) → IfSome named (λ number. IfSome (get nat_cmp files number) (λ s. s.names + 1 < 2 ^ 32))
+room-to-count t files kept counted named =
+    each-some (λ number. IfSome (get nat_cmp files number) (λ s. s.names + 1 < 2 ^ 32)) named (λ number is.
+    each-some (λ (s : Stored). s.names + 1 < 2 ^ 32) (get nat_cmp files number) (λ s there.
+    let n : s.names ≡ times_named t.names number = at-number (λ number (s : Stored). s.names ≡ times_named t.names number) files counted number s there in
+    let most = named-at_most t.names number in
+    let few = few-entries t kept in
+    omega arith))
+
+-- each file has a name to lose
+pub name-to-lose : (t : Tree) (files : Table ℕ Stored) → IsTrimmed t → t.files ≡ contents files → AreCounted t.names files → (named : Option ℕ) → IfSome named (λ number. IfSome (get nat_cmp files number) (λ s. 0 < s.names))
+name-to-lose t files trimmed same counted named =
+    each-some (λ number. IfSome (get nat_cmp files number) (λ s. 0 < s.names)) named (λ number is.
+    each-some (λ (s : Stored). 0 < s.names) (get nat_cmp files number) (λ s there.
+    let n : s.names ≡ times_named t.names number = at-number (λ number (s : Stored). s.names ≡ times_named t.names number) files counted number s there in
+    let found : get nat_cmp t.files number ≡ Some s.content = ap (λ fs. get nat_cmp fs number) same ∙ get-with_values nat_cmp (λ (s : Stored). s.content) files number ∙ ap (option_map (λ (s : Stored). s.content)) there in
+    let named : is_named t.names number ≡ true = at-number (λ number (content : Content). is_named t.names number ≡ true) t.files trimmed number s.content found in
+    some-names s.names (times_named t.names number) n named))
+  where
+    some-names : (n m : ℕ) → n ≡ m → nat_lt 0 m ≡ true → 0 < n
+    some-names n m is some = grind (arith, nat_tests)
+
+-- ---- a change of a tree's parts
+
+module _ (names : Names) (files : Table ℕ Stored) (made : ℕ) (home : Place) (uid gid : ℕ) where
+  abbrev the_tree : Tree
+  the_tree = seen names files made home uid gid
+
+  -- something more at a place
+  pub put-parts : (place : Place) (it : Node) → IsKept the_tree → AreCounted names files → node_at names place ≡ None → (others : Names) (after : Table ℕ Stored) → others ≡ with_node names place it → IsChangedWhereNamed with_a_name (file_named (Some it)) files after → (seen others after made home uid gid ≡ record the_tree { names = with_node names place it }) × AreCounted others after
+  put-parts place it kept counted absent others after is changed =
+      let order = files-in_order files kept.well_formed.numbered in
+      let both = raised names (with_node names place it) files it (named-put names place it absent) after order counted changed in
+      (
+        (λ i. record { names = is i; files = both.0 i; made = made; home = home; uid = uid; gid = gid }),
+        subst (λ ns. AreCounted ns after) (sym is) both.1
+      )
+
+  -- something less
+  pub left-parts : IsKept the_tree → AreCounted names files → (gone : Option Node) (others : Names) (after : Table ℕ Stored) → ((number : ℕ) → times_named others number + one_name gone number ≡ times_named names number) → IsChangedWhereNamed without_a_name (file_named gone) files after → (seen others after made home uid gid ≡ trim (record the_tree { names = others })) × AreCounted others after
+  left-parts kept counted gone others after less changed =
+      let order = files-in_order files kept.well_formed.numbered in
+      let both = lowered names others files order counted kept.trimmed gone less after changed in
+      ((λ i. record { names = others; files = both.0 i; made = made; home = home; uid = uid; gid = gid }), both.1)
+
+  -- another owner of a directory
+  pub owner-parts : IsKept the_tree → AreCounted names files → (place : Place) (owner : Owner) → IsTrue (is_directory (node_at names place)) → (others : Names) → others ≡ with_node names place (Dir owner) → AreCounted others files
+  owner-parts kept counted place owner directory others is =
+      counted-again names others files (files-in_order files kept.well_formed.numbered) (λ number. ap (λ ns. times_named ns number) is ∙ by (node_at names place) refl directory number) counted
+    where
+      by : (standing : Option Node) → node_at names place ≡ standing → is_directory standing ≡ true → (number : ℕ) → times_named (with_node names place (Dir owner)) number ≡ times_named names number
+      by None there directory number = cc
+      by (Some (Dir before)) there directory number =
+          let n = count-put_again place_cmp place_cmp-total names place (Dir owner) (Dir before) (names_file number) kept.well_formed.ordered there in
+          omega arith
+      by (Some (File other)) there directory number = cc
+      by (Some (Link target)) there directory number = cc
+
+  -- other attributes of a file
+  pub changed-parts : IsKept the_tree → AreCounted names files → (attrs : Attrs) (number : ℕ) (after : Table ℕ Stored) → IsChanged (with_attributes_set attrs) number files after → (seen names after made home uid gid ≡ with_changed_file the_tree attrs number (content_at (contents files) number)) × AreCounted names after
+  changed-parts kept counted attrs number after changed =
+      (
+        by (get nat_cmp files number) refl
+        ∙ ap (with_changed_file the_tree attrs number) (sym (get-with_values nat_cmp (λ (s : Stored). s.content) files number)),
+        counted-changed names files attrs number after counted changed
+      )
+    where
+      by : (o : Option Stored) → get nat_cmp files number ≡ o → seen names after made home uid gid ≡ with_changed_file the_tree attrs number (option_map (λ (s : Stored). s.content) o)
+      by None none =
+          let same = contents-unchanged names files attrs number after (files-in_order files kept.well_formed.numbered) changed none in
+          λ i. record { names = names; files = same i; made = made; home = home; uid = uid; gid = gid }
+      by (Some s) there =
+          let same = contents-changed names files attrs number after (files-in_order files kept.well_formed.numbered) changed s there in
+          λ i. record { names = names; files = same i; made = made; home = home; uid = uid; gid = gid }
+
+  -- the file that is there has an owner
+  pub owner-there : IsKept the_tree → (number : ℕ) → IfSome (get nat_cmp files number) (λ s. IsOwner s.content.owner)
+  owner-there kept number =
+      each-some (λ (s : Stored). IsOwner s.content.owner) (get nat_cmp files number) (λ s there.
+      (at-number (λ number (content : Content). IsContent content) (contents files) kept.well_formed.contents number s.content (get-with_values nat_cmp (λ (s : Stored). s.content) files number ∙ ap (option_map (λ (s : Stored). s.content)) there)).0)

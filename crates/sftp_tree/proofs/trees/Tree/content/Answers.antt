@@ -1,0 +1,22 @@
+use Rattle.std.proofs.Common.{◌≡◌, ◌∙◌, sym, ap, Option, Some, None, option_map, option_copied}
+use Rattle.std.specs.Ordering.{nat_cmp}
+use Rattle.sftp_path.specs.Table.{get}
+use Rattle.sftp_path.proofs.ValueLaws.{get-with_values}
+use Rattle.sftp_tree.specs.declared.contents.Stored.{Stored}
+use Rattle.sftp_tree.specs.Tree.{Tree, content_at}
+use Rattle.sftp_tree.proofs.trees.Tree.content.Goals as goal
+
+pub returns-in_err-stored : goal.returns-in_err-stored
+unfolding get
+returns-in_err-stored c =
+    let content = λ (s : Stored). s.content in
+    let none : None ≡ get nat_cmp c.self.inside.files.entries c.args.number = c.in_err-stored.ensures.value in
+    let at : content_at c.args.self.now.files c.args.number ≡ None = ap (λ (t : Tree). content_at t.files c.args.number) (sym c.self.view_is) ∙ get-with_values nat_cmp content c.self.inside.files.entries c.args.number ∙ ap (option_map content) (sym none) in
+    rw c.from_residual.ensures (sym at)
+
+pub returns : goal.returns
+unfolding get
+returns c =
+    let content = λ (s : Stored). s.content in
+    let there : Some c.in_ok-stored.stored.now ≡ get nat_cmp c.self.inside.files.entries c.args.number = c.in_ok-stored.ensures.value in
+    ap (option_map content) there ∙ sym (get-with_values nat_cmp content c.self.inside.files.entries c.args.number) ∙ ap (λ (t : Tree). content_at t.files c.args.number) c.self.view_is
