@@ -10,6 +10,7 @@ pub mod StepTables
 pub mod StepKept
 pub mod StepCauses
 pub mod StepAnswers
+pub mod CallSets
 pub mod PictureRows
 pub mod WalkRules
 pub mod WalkCounts
