@@ -1,7 +1,7 @@
 //! What requests do to a tree, and what they are told (draft, sections 6.6 to 6.11). A path that leads nowhere has one
 //! cause, the walk's: `NoEntry`, `NotDir` or `Loop`.
-ghost use Rattle.std.specs.Prelude.{◌≡◌, false, Some, None, Ok, IfOk, IfErr, IsTrue, OnOk, OnErr};
-ghost use Rattle.sftp_path.specs.Place.{Place as place, are_names, parent};
+ghost use Rattle.std.specs.Prelude.{◌≡◌, false, Some, None, Ok, IfOk, IfErr, IsTrue, OnOk, OnErr, option_copied};
+ghost use Rattle.sftp_path.specs.Place.{are_names, parent};
 ghost use Rattle.sftp_treefile.specs.TreeFile.{is_root, same_place};
 ghost use Rattle.sftp_wire.specs.declared.packets.Ask.TheVariants.{Setstat, Remove, Mkdir, Rmdir, Realpath, Rename, Readlink, Symlink, PosixRename, Hardlink};
 ghost use Rattle.sftp_wire.specs.declared.packets.Ask.{Ask};
@@ -308,6 +308,7 @@ impl Tree {
         ensures lost { IfErr result (λ refused. (ask : Ask) → steps.path_of ask ≡ Some old.now → steps.new_path_of ask ≡ Some new.now →
             steps.follows ask ≡ false → IsRefusal self.now ask refused) }
     {
+        self.see();
         causes_where_led();
         causes_where_lost();
         if !good_path(old) || !good_path(new) {
@@ -319,27 +320,23 @@ impl Tree {
     }
 
     /// The number of the file that a place is a name of.
+    #[tactic(auto, unfolding(sftp_path::specs::Table::get))]
     fn file_at(&self, place: &Place) -> u32
         requires { IsTrue (tree.is_file (tree.node_at self.now.names place.now)) }
         ensures { tree.node_at self.now.names place.now ≡ Some (File result) }
     {
         match self.names().get(place) {
             Some(Node::File(number)) => *number,
-            _ => unreachable!(),
+            Some(Node::Dir(_) | Node::Link(_)) | None => unreachable!(),
         }
     }
 
     /// Whether both are one place, or names of one file.
+    #[tactic(auto, unfolding(sftp_path::specs::Table::get))]
     fn are_one(&self, old: &Place, new: &Place) -> bool
         ensures { result ≡ steps.are_one self.now.names old.now new.now }
     {
-        if old == new {
-            return true;
-        }
-        match (self.names().get(old), self.names().get(new)) {
-            (Some(Node::File(first)), Some(Node::File(second))) => first == second,
-            _ => false,
-        }
+        old == new || are_one_file(self.names().get(old), self.names().get(new))
     }
 
     /// Moves what stands at the old place, with all below it, to the new one, in the stead of what stands there.
@@ -373,6 +370,16 @@ fn see_place(place: &Place)
     ensures { IsTrue (are_names place.now) }
 {
     let _ = place.names();
+}
+
+/// Whether both are names of one file.
+fn are_one_file(first: Option<&Node>, second: Option<&Node>) -> bool
+    ensures { result ≡ steps.are_one_file (option_copied first.entry) (option_copied second.entry) }
+{
+    match (first, second) {
+        (Some(Node::File(first)), Some(Node::File(second))) => first == second,
+        _ => false,
+    }
 }
 
 #[cfg(test)]
