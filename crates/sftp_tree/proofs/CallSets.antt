@@ -138,3 +138,7 @@ free-by t ask set same none = (λ i. is_none (λ c. same c i)) ∙ none
 pub refused-by : {X : Type 0} (t : Tree) (ask : Ask) (set : CauseSet) (s : Causes) (r : Result X Refused) (cause : Cause) → ((c : Cause) → causes t ask c ≡ set c) → IsSet s set → IsErrAnd r (λ e. e ≡ refusals.Cause cause) → IsTrue (in_set s cause) → IfErr r (λ refused. IsRefusal t ask refused)
 refused-by t ask set s r cause same is gives holds =
     exit r (λ refused. IsRefusal t ask refused) (refusals.Cause cause) gives (same cause ∙ sym (is cause) ∙ holds)
+
+-- a refusal that is handed on
+pub lost-by : {X : Type 0} (t : Tree) (ask : Ask) (r : Result X Refused) (refused : Refused) → IsErrAnd r (λ e. e ≡ refused) → IsRefusal t ask refused → IfErr r (λ refused. IsRefusal t ask refused)
+lost-by t ask r refused gives holds = exit r (λ refused. IsRefusal t ask refused) refused gives holds

@@ -11,6 +11,10 @@ pub mod StepKept
 pub mod StepCauses
 pub mod StepAnswers
 pub mod CallSets
+pub mod CallPlaces
+pub mod CallRooms
+pub mod CallMoves
+pub mod CallFiles
 pub mod PictureRows
 pub mod WalkRules
 pub mod WalkCounts

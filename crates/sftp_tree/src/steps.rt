@@ -2,13 +2,15 @@
 //! cause, the walk's: `NoEntry`, `NotDir` or `Loop`.
 ghost use Rattle.std.specs.Prelude.{◌≡◌, false, Some, None, Ok, IfOk, IfErr, IsTrue, OnOk, OnErr, option_copied};
 ghost use Rattle.sftp_path.specs.Place.{are_names, parent};
-ghost use Rattle.sftp_treefile.specs.TreeFile.{is_root, same_place};
+ghost use Rattle.sftp_treefile.specs.declared.files.Owner.{Owner};
+ghost use Rattle.sftp_treefile.specs.TreeFile.{IsOwner, is_root, same_place};
 ghost use Rattle.sftp_wire.specs.declared.packets.Ask.TheVariants.{Setstat, Remove, Mkdir, Rmdir, Realpath, Rename, Readlink, Symlink, PosixRename, Hardlink};
 ghost use Rattle.sftp_wire.specs.declared.packets.Ask.{Ask};
 ghost use Rattle.sftp_tree.specs.declared.causes.Cause as declared;
 ghost use Rattle.sftp_tree.specs.declared.nodes.Node.TheVariants.{File};
 ghost use Rattle.sftp_tree.specs.Tree as tree;
 ghost use Rattle.sftp_tree.specs.Walk.{reached};
+ghost use Rattle.sftp_tree.specs.Attributes.{changed_owner};
 ghost use Rattle.sftp_tree.specs.Steps as steps;
 ghost use Rattle.sftp_tree.specs.Sets.{IsFree, IsRefusal, stat_ask};
 ghost use Rattle.sftp_tree.specs.Judged as judged;
@@ -103,20 +105,11 @@ impl Tree {
     {
         let place = self.lead(true, path)?;
         self.setting(&place, attrs).refuse()?;
+        kept_with_owner();
+        kept_with_content();
+        see_attributes(attrs);
         trimmed_already();
-        match self.names().get(&place) {
-            Some(Node::Dir(owner)) => {
-                let owner = changed_owner(attrs, *owner);
-                kept_with_owner();
-                self.set_owner(&place, owner);
-            }
-            Some(Node::File(number)) => {
-                let number = *number;
-                kept_with_content();
-                self.change_file(number, attrs)?;
-            }
-            Some(Node::Link(_)) | None => {}
-        }
+        self.change_at(&place, attrs)?;
         Ok(())
     }
 
@@ -339,6 +332,31 @@ impl Tree {
         old == new || are_one_file(self.names().get(old), self.names().get(new))
     }
 
+    /// Sets the attributes of what stands at a place.
+    ///
+    /// # Errors
+    ///
+    /// `NoMemory` where memory runs out; the tree is then as before.
+    #[tactic(auto, unfolding(sftp_path::specs::Table::get))]
+    fn change_at(&mut self, place: &Place, attrs: &Attrs) -> Result<(), NoMemory>
+        requires { tree.IsKept (steps.with_attributes self.old attrs.now place.now (tree.node_at self.old.names place.now)) }
+        ensures ok { OnOk result (self.new ≡ steps.with_attributes self.old attrs.now place.now (tree.node_at self.old.names place.now)) }
+        ensures err { OnErr result (self.new ≡ self.old) }
+    {
+        match self.names().get(place) {
+            Some(Node::Dir(owner)) => {
+                let owner = changed_owner(attrs, *owner);
+                self.set_owner(place, owner);
+                Ok(())
+            }
+            Some(Node::File(number)) => {
+                let number = *number;
+                self.change_file(number, attrs)
+            }
+            Some(Node::Link(_)) | None => Ok(()),
+        }
+    }
+
     /// Moves what stands at the old place, with all below it, to the new one, in the stead of what stands there.
     ///
     /// # Errors
@@ -370,6 +388,14 @@ fn see_place(place: &Place)
     ensures { IsTrue (are_names place.now) }
 {
     let _ = place.names();
+}
+
+/// Does nothing. Its contract says that attributes leave an owner one.
+fn see_attributes(attrs: &Attrs)
+    ensures { (owner : Owner) → IsOwner owner → IsOwner (changed_owner attrs.now owner) }
+{
+    let _ = attrs.owner;
+    let _ = attrs.permissions;
 }
 
 /// Whether both are names of one file.
