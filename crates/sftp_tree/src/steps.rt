@@ -26,6 +26,7 @@ use crate::led::{causes_where_led, causes_where_lost};
 use crate::nodes::Node;
 use crate::trees::Tree;
 use sftp_path::{NoMemory, Place, absolute, good_path};
+use sftp_treefile::Owner;
 use sftp_wire::{Attrs, ByteString};
 
 impl Tree {
@@ -394,8 +395,14 @@ fn see_place(place: &Place)
 fn see_attributes(attrs: &Attrs)
     ensures { (owner : Owner) → IsOwner owner → IsOwner (changed_owner attrs.now owner) }
 {
-    let _ = attrs.owner;
-    let _ = attrs.permissions;
+    let _ = changed_owner(
+        attrs,
+        Owner {
+            uid: 0,
+            gid: 0,
+            permissions: 0,
+        },
+    );
 }
 
 /// Whether both are names of one file.
