@@ -1,7 +1,7 @@
 -- What it says of the places of a request that none of its causes holds.
 use Rattle.std.proofs.Common.{◌≡◌, ℕ, Bool, true, false, ◌&&◌, ◌||◌, not, if◌then◌else◌, List, refl, sym, ◌∙◌, ap, Option, Some, None, IsTrue}
 use Rattle.sftp_wire.specs.declared.packets.Ask.{Ask}
-use Rattle.sftp_wire.specs.declared.packets.Ask.TheVariants.{Rename, PosixRename, Hardlink}
+use Rattle.sftp_wire.specs.declared.packets.Ask.TheVariants.{Rmdir, Rename, PosixRename, Hardlink}
 use Rattle.sftp_path.specs.Place.{Place}
 use Rattle.sftp_treefile.specs.TreeFile.{is_root, same_place}
 use Rattle.sftp_tree.specs.declared.nodes.Node.{Node}
@@ -12,7 +12,7 @@ use Rattle.sftp_tree.specs.declared.causes.Causes.{Causes}
 use Rattle.sftp_tree.specs.Tree.{Names, Tree, IsKept, fits, trim, node_at, with_node, is_taken, is_directory, is_file, has_entries}
 use Rattle.sftp_tree.specs.Steps.{CauseSet, is_none, making_causes, causes_at, new_causes_at, causes_between, target_between, target, led, new_led, are_one, are_one_file, goes_inside, moved, put_in_its_stead, with_further_name}
 use Rattle.sftp_tree.specs.Sets.{in_set}
-use Rattle.sftp_tree.specs.Judged.{IsSet, with_room, causes_at_places}
+use Rattle.sftp_tree.specs.Judged.{with_room, causes_at_place, causes_at_places}
 use Rattle.sftp_tree.proofs.CallSets.{none-in, room-in}
 use Rattle.sftp_tree.proofs.CallPlaces.{absent-of, true-of, file-of, below-root, apart-of, moved-is}
 
@@ -113,3 +113,17 @@ further-absent t old new oldpath newpath none =
 pub further-fits : (t : Tree) (old new : Place) (oldpath newpath : List ℕ) (number : ℕ) → IsTrue (is_none (causes_at_places t (Hardlink oldpath newpath) old new)) → node_at t.names old ≡ Some (File number) → IsTrue (fits (record t { names = with_node t.names new (File number) }))
 further-fits t old new oldpath newpath number none there =
     ap (λ found. fits (with_further_name t found new)) (sym there) ∙ room-in (λ c. causes_at t (Hardlink oldpath newpath) old c || (new_causes_at t (Hardlink oldpath newpath) new c || causes_between t (Hardlink oldpath newpath) old new c)) (with_further_name t (node_at t.names old) new) refl none
+
+-- ---- a directory that is to be removed
+
+pub removing-parts : (t : Tree) (place : Place) (path : List ℕ) → IsTrue (is_none (causes_at_place t (Rmdir path) place)) → IsTrue (is_taken (node_at t.names place)) × (is_root place ≡ false) × (has_entries t.names place ≡ false)
+removing-parts t place path none =
+    let each = none-in (causes_at_place t (Rmdir path) place) none in
+    let there = true-of (is_taken (node_at t.names place)) (each NoEntry) in
+    let directory = directory-of (is_taken (node_at t.names place)) (is_directory (node_at t.names place)) there (each NotDir) in
+    (there, each Root, ap (λ b. b && has_entries t.names place) (sym directory) ∙ each NotEmpty)
+  where
+    directory-of : (a b : Bool) → a ≡ true → (a && not b) ≡ false → b ≡ true
+    directory-of a true is e = refl
+    directory-of true false is e = cc
+    directory-of false false is e = cc

@@ -11,6 +11,7 @@ use Rattle.sftp_path.proofs.TestLaws.{all-put_new, all-without}
 use Rattle.sftp_tree.specs.declared.nodes.Node.{Node}
 use Rattle.sftp_tree.specs.declared.causes.Cause.{Cause}
 use Rattle.sftp_tree.specs.declared.causes.Cause.TheVariants.{NoRoom}
+use Rattle.sftp_tree.specs.declared.causes.Causes.{Causes}
 use Rattle.sftp_tree.specs.Tree.{Names, Tree, IsKept, limits, fits, entries_fit, depths_fit, home_fits, links_fit, files_fit, numbers_fit, depth_fits, link_fits, node_at, with_node, without_node, is_taken}
 use Rattle.sftp_tree.specs.Steps.{CauseSet, is_none, making_causes, removing_causes, needing_causes, link_causes}
 use Rattle.sftp_tree.specs.Sets.{in_set, stat_ask}
@@ -122,3 +123,10 @@ reading-is t place path kept _ = refl
 -- of a path that is to lead to a place
 pub leading-none : (t : Tree) (place : Place) (path : List ℕ) → IsKept t → is_none (causes_at_place t (Realpath path) place) ≡ true
 leading-none t place path kept = ap (λ b. not (not b || false)) kept.within_limits
+
+-- the same of a set that is the code's
+pub making-set : (t : Tree) (place : Place) (it : Node) (s : Causes) → IsKept t → link_fits it ≡ true → s ≡ making t place → IsSet s (with_room (making_causes (node_at t.names place)) (record t { names = with_node t.names place it }))
+making-set t place it s kept link is c = ap (λ u. in_set u c) is ∙ making-is t place it kept link c
+
+pub removing-set : (t : Tree) (place : Place) (s : Causes) → IsKept t → s ≡ removing t.names place → IsSet s (with_room (removing_causes t.names place) (record t { names = without_node t.names place }))
+removing-set t place s kept is c = ap (λ u. in_set u c) is ∙ removing-is t place kept c

@@ -15,6 +15,7 @@ pub mod CallPlaces
 pub mod CallRooms
 pub mod CallMoves
 pub mod CallFiles
+pub mod CallReads
 pub mod PictureRows
 pub mod WalkRules
 pub mod WalkCounts

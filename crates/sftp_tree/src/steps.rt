@@ -251,7 +251,8 @@ impl Tree {
             Some(Node::Link(target)) => {
                 Ok(Vec::from_slice(self.home().allocator(), target.as_slice())?)
             }
-            Some(Node::Dir(_) | Node::File(_)) => Err(Refused::Cause(Cause::NotLink)),
+            Some(Node::Dir(_)) => Err(Refused::Cause(Cause::NotLink)),
+            Some(Node::File(_)) => Err(Refused::Cause(Cause::NotLink)),
             None => Err(Refused::Cause(Cause::NoEntry)),
         }
     }
