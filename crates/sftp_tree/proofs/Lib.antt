@@ -17,6 +17,12 @@ pub mod CauseMoves
 pub mod CauseMoved
 pub mod StepCauses
 pub mod StepAnswers
+pub mod CallSets
+pub mod CallPlaces
+pub mod CallRooms
+pub mod CallMoves
+pub mod CallFiles
+pub mod CallReads
 pub mod PictureRows
 pub mod WalkRules
 pub mod WalkCounts

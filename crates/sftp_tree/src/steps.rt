@@ -1,19 +1,32 @@
 //! What requests do to a tree, and what they are told (draft, sections 6.6 to 6.11). A path that leads nowhere has one
 //! cause, the walk's: `NoEntry`, `NotDir` or `Loop`.
-ghost use Rattle.std.specs.Prelude.{◌≡◌, Some, Ok, IfOk, IfErr, IsTrue, OnOk, OnErr};
+ghost use Rattle.std.specs.Prelude.{◌≡◌, false, Some, None, Ok, IfOk, IfErr, IsTrue, OnOk, OnErr, option_copied};
 ghost use Rattle.sftp_path.specs.Place.{are_names, parent};
+ghost use Rattle.sftp_treefile.specs.declared.files.Owner.{Owner};
+ghost use Rattle.sftp_treefile.specs.TreeFile.{IsOwner, is_root, same_place};
 ghost use Rattle.sftp_wire.specs.declared.packets.Ask.TheVariants.{Setstat, Remove, Mkdir, Rmdir, Realpath, Rename, Readlink, Symlink, PosixRename, Hardlink};
+ghost use Rattle.sftp_wire.specs.declared.packets.Ask.{Ask};
+ghost use Rattle.sftp_tree.specs.declared.causes.Cause as declared;
+ghost use Rattle.sftp_tree.specs.declared.nodes.Node.TheVariants.{File};
 ghost use Rattle.sftp_tree.specs.Tree as tree;
 ghost use Rattle.sftp_tree.specs.Walk.{reached};
+ghost use Rattle.sftp_tree.specs.Attributes.{changed_owner};
 ghost use Rattle.sftp_tree.specs.Steps as steps;
 ghost use Rattle.sftp_tree.specs.Sets.{IsFree, IsRefusal, stat_ask};
-ghost use Rattle.sftp_tree.specs.Judged.{IsLost};
+ghost use Rattle.sftp_tree.specs.Judged as judged;
 
+use crate::attributes::changed_owner;
 use crate::causes::{Cause, Refused};
 use crate::judging::is_target;
+use crate::keeping::{
+    alone_there, kept_after_move, kept_with_content, kept_with_entry, kept_with_owner,
+    kept_without_entry, nothing_below, places_apart, trimmed_already,
+};
+use crate::led::{causes_where_led, causes_where_lost};
 use crate::nodes::Node;
 use crate::trees::Tree;
-use sftp_path::{Place, absolute};
+use sftp_path::{NoMemory, Place, absolute, good_path};
+use sftp_treefile::Owner;
 use sftp_wire::{Attrs, ByteString};
 
 impl Tree {
@@ -33,6 +46,8 @@ impl Tree {
         let place = self.lead(false, path)?;
         self.making(&place).refuse()?;
         let owner = self.directory_owner(attrs);
+        kept_with_entry();
+        trimmed_already();
         self.put(place, Node::Dir(owner))?;
         Ok(())
     }
@@ -51,6 +66,7 @@ impl Tree {
     {
         let place = self.lead(false, path)?;
         self.removing(&place).refuse()?;
+        kept_without_entry();
         self.remove_at(&place);
         Ok(())
     }
@@ -67,7 +83,12 @@ impl Tree {
         ensures refused { IfErr result (λ refused. IsRefusal self.old (Remove path.now) refused) }
         ensures kept { OnErr result (self.new ≡ self.old) }
     {
-        Err(Refused::NoMemory)
+        let place = self.lead(false, path)?;
+        self.unlinking(&place).refuse()?;
+        nothing_below();
+        kept_without_entry();
+        self.remove_at(&place);
+        Ok(())
     }
 
     /// SETSTAT: sets the size of a file, which cuts its bytes or fills them with zeros, and the owner and the low twelve bits of the
@@ -83,7 +104,14 @@ impl Tree {
         ensures refused { IfErr result (λ refused. IsRefusal self.old (Setstat path.now attrs.now) refused) }
         ensures kept { OnErr result (self.new ≡ self.old) }
     {
-        Err(Refused::NoMemory)
+        let place = self.lead(true, path)?;
+        self.setting(&place, attrs).refuse()?;
+        kept_with_owner();
+        kept_with_content();
+        see_attributes(attrs);
+        trimmed_already();
+        self.change_at(&place, attrs)?;
+        Ok(())
     }
 
     /// RENAME: gives what stands at the old path, with all below it, a new place that is free.
@@ -98,7 +126,11 @@ impl Tree {
         ensures refused { IfErr result (λ refused. IsRefusal self.old (Rename old.now new.now) refused) }
         ensures kept { OnErr result (self.new ≡ self.old) }
     {
-        Err(Refused::NoMemory)
+        let (from, to) = self.lead_both(old, new)?;
+        self.renaming(&from, &to).refuse()?;
+        nothing_below();
+        self.go(&from, to)?;
+        Ok(())
     }
 
     /// posix-rename (OpenSSH's PROTOCOL, section 4.3): gives what stands at the old path, with all below it, the new place, where a
@@ -116,7 +148,15 @@ impl Tree {
         ensures refused { IfErr result (λ refused. IsRefusal self.old (PosixRename old.now new.now) refused) }
         ensures kept { OnErr result (self.new ≡ self.old) }
     {
-        Err(Refused::NoMemory)
+        let (from, to) = self.lead_both(old, new)?;
+        self.replacing(&from, &to).refuse()?;
+        trimmed_already();
+        if self.are_one(&from, &to) {
+            return Ok(());
+        }
+        nothing_below();
+        self.go(&from, to)?;
+        Ok(())
     }
 
     /// hardlink (OpenSSH's PROTOCOL, section 4.5): gives a file a further name.
@@ -131,7 +171,13 @@ impl Tree {
         ensures refused { IfErr result (λ refused. IsRefusal self.old (Hardlink old.now new.now) refused) }
         ensures kept { OnErr result (self.new ≡ self.old) }
     {
-        Err(Refused::NoMemory)
+        let (from, to) = self.lead_both(old, new)?;
+        self.linking(&from, &to).refuse()?;
+        let number = self.file_at(&from);
+        kept_with_entry();
+        trimmed_already();
+        self.put(to, Node::File(number))?;
+        Ok(())
     }
 
     /// SYMLINK: makes a link with these bytes for its target, as they came.
@@ -152,6 +198,8 @@ impl Tree {
         let place = self.lead(false, link)?;
         self.making(&place).refuse()?;
         let target = ByteString::from_slice(self.home().allocator(), target)?;
+        kept_with_entry();
+        trimmed_already();
         self.put(place, Node::Link(target))?;
         Ok(())
     }
@@ -203,7 +251,8 @@ impl Tree {
             Some(Node::Link(target)) => {
                 Ok(Vec::from_slice(self.home().allocator(), target.as_slice())?)
             }
-            Some(Node::Dir(_) | Node::File(_)) => Err(Refused::Cause(Cause::NotLink)),
+            Some(Node::Dir(_)) => Err(Refused::Cause(Cause::NotLink)),
+            Some(Node::File(_)) => Err(Refused::Cause(Cause::NotLink)),
             None => Err(Refused::Cause(Cause::NoEntry)),
         }
     }
@@ -214,17 +263,125 @@ impl Tree {
     ///
     /// The cause for which it leads nowhere. `NoMemory` where memory runs out.
     fn lead(&self, follow: bool, path: &[u8]) -> Result<Place, Refused>
-        ensures reached { IfOk result (λ place. reached self.now follow path.now ≡ Ok place) }
-        ensures named { IfOk result (λ place. IsTrue (are_names place)) }
+        ensures reached { IfOk result (λ found. reached self.now follow path.now ≡ Ok found) }
+        ensures named { IfOk result (λ found. IsTrue (are_names found)) }
         ensures parent { IfOk result
-            (λ place. IsTrue (tree.is_directory (tree.node_at self.now.names (parent place)))) }
+            (λ found. IsTrue (tree.is_directory (tree.node_at self.now.names (parent found)))) }
         ensures kept { tree.IsKept self.now }
-        ensures lost { IfErr result (λ refused. IsLost self.now follow path.now refused) }
+        ensures led { IfOk result (λ found. (ask : Ask) → steps.path_of ask ≡ Some path.now → steps.new_path_of ask ≡ None →
+            steps.follows ask ≡ follow → ((cause : declared.Cause) → steps.target_causes ask cause ≡ false) →
+            (cause : declared.Cause) → steps.causes self.now ask cause ≡ judged.causes_at_place self.now ask found cause) }
+        ensures lost { IfErr result (λ refused. (ask : Ask) → steps.path_of ask ≡ Some path.now →
+            steps.follows ask ≡ follow → IsRefusal self.now ask refused) }
+        ensures lost_new { IfErr result (λ refused. (ask : Ask) → steps.new_path_of ask ≡ Some path.now →
+            follow ≡ false → IsRefusal self.now ask refused) }
     {
         self.see();
+        causes_where_led();
+        causes_where_lost();
         let place = self.reach(follow, path)??;
         see_place(&place);
         Ok(place)
+    }
+
+    /// The places that the two paths of a request lead to; a link that is last is not followed. A bad path is told before a
+    /// walk that fails, and the first walk before the second.
+    ///
+    /// # Errors
+    ///
+    /// The cause for which one of them leads nowhere. `NoMemory` where memory runs out.
+    fn lead_both(&self, old: &[u8], new: &[u8]) -> Result<(Place, Place), Refused>
+        ensures reached { IfOk result (λ found. reached self.now false old.now ≡ Ok found.0) }
+        ensures reached_new { IfOk result (λ found. reached self.now false new.now ≡ Ok found.1) }
+        ensures named { IfOk result (λ found. IsTrue (are_names found.1)) }
+        ensures parent { IfOk result
+            (λ found. IsTrue (tree.is_directory (tree.node_at self.now.names (parent found.1)))) }
+        ensures kept { tree.IsKept self.now }
+        ensures led { IfOk result (λ found. (ask : Ask) → steps.path_of ask ≡ Some old.now → steps.new_path_of ask ≡ Some new.now →
+            steps.follows ask ≡ false → ((cause : declared.Cause) → steps.target_causes ask cause ≡ false) →
+            (cause : declared.Cause) → steps.causes self.now ask cause ≡ judged.causes_at_places self.now ask found.0 found.1 cause) }
+        ensures lost { IfErr result (λ refused. (ask : Ask) → steps.path_of ask ≡ Some old.now → steps.new_path_of ask ≡ Some new.now →
+            steps.follows ask ≡ false → IsRefusal self.now ask refused) }
+    {
+        self.see();
+        causes_where_led();
+        causes_where_lost();
+        if !good_path(old) || !good_path(new) {
+            return Err(Refused::Cause(Cause::BadPath));
+        }
+        let old = self.lead(false, old)?;
+        let new = self.lead(false, new)?;
+        Ok((old, new))
+    }
+
+    /// The number of the file that a place is a name of.
+    #[tactic(auto, unfolding(sftp_path::specs::Table::get))]
+    fn file_at(&self, place: &Place) -> u32
+        requires { IsTrue (tree.is_file (tree.node_at self.now.names place.now)) }
+        ensures { tree.node_at self.now.names place.now ≡ Some (File result) }
+    {
+        match self.names().get(place) {
+            Some(Node::File(number)) => *number,
+            Some(Node::Dir(_) | Node::Link(_)) | None => unreachable!(),
+        }
+    }
+
+    /// Whether both are one place, or names of one file.
+    #[tactic(auto, unfolding(sftp_path::specs::Table::get))]
+    fn are_one(&self, old: &Place, new: &Place) -> bool
+        ensures { result ≡ steps.are_one self.now.names old.now new.now }
+    {
+        old == new || are_one_file(self.names().get(old), self.names().get(new))
+    }
+
+    /// Sets the attributes of what stands at a place.
+    ///
+    /// # Errors
+    ///
+    /// `NoMemory` where memory runs out; the tree is then as before.
+    #[tactic(auto, unfolding(sftp_path::specs::Table::get))]
+    fn change_at(&mut self, place: &Place, attrs: &Attrs) -> Result<(), NoMemory>
+        requires { tree.IsKept (steps.with_attributes self.old attrs.now place.now (tree.node_at self.old.names place.now)) }
+        ensures ok { OnOk result (self.new ≡ steps.with_attributes self.old attrs.now place.now (tree.node_at self.old.names place.now)) }
+        ensures err { OnErr result (self.new ≡ self.old) }
+    {
+        match self.names().get(place) {
+            Some(Node::Dir(owner)) => {
+                let owner = changed_owner(attrs, *owner);
+                self.set_owner(place, owner);
+                Ok(())
+            }
+            Some(Node::File(number)) => {
+                let number = *number;
+                self.change_file(number, attrs)
+            }
+            Some(Node::Link(_)) | None => Ok(()),
+        }
+    }
+
+    /// Moves what stands at the old place, with all below it, to the new one, in the stead of what stands there.
+    ///
+    /// # Errors
+    ///
+    /// `NoMemory` where memory runs out; the tree is then as before.
+    fn go(&mut self, old: &Place, new: Place) -> Result<(), NoMemory>
+        requires taken { IsTrue (tree.is_taken (tree.node_at self.old.names old.now)) }
+        requires old_below_root { is_root old.now ≡ false }
+        requires new_below_root { is_root new ≡ false }
+        requires outside { steps.goes_inside self.old.names old.now new ≡ false }
+        requires elsewhere { same_place old.now new ≡ false }
+        requires named { IsTrue (are_names new) }
+        requires parent { IsTrue (tree.is_directory (tree.node_at self.old.names (parent new))) }
+        requires alone { tree.has_entries self.old.names new ≡ false }
+        requires fits { IsTrue (tree.fits (steps.put_in_its_stead self.old old.now new)) }
+        ensures ok { OnOk result (self.new ≡ tree.trim (steps.put_in_its_stead self.old old.now new)) }
+        ensures err { OnErr result (self.new ≡ self.old) }
+    {
+        self.see();
+        places_apart();
+        alone_there();
+        kept_after_move();
+        self.move_to(old, new)
     }
 }
 
@@ -233,6 +390,30 @@ fn see_place(place: &Place)
     ensures { IsTrue (are_names place.now) }
 {
     let _ = place.names();
+}
+
+/// Does nothing. Its contract says that attributes leave an owner one.
+fn see_attributes(attrs: &Attrs)
+    ensures { (owner : Owner) → IsOwner owner → IsOwner (changed_owner attrs.now owner) }
+{
+    let _ = changed_owner(
+        attrs,
+        Owner {
+            uid: 0,
+            gid: 0,
+            permissions: 0,
+        },
+    );
+}
+
+/// Whether both are names of one file.
+fn are_one_file(first: Option<&Node>, second: Option<&Node>) -> bool
+    ensures { result ≡ steps.are_one_file (option_copied first.entry) (option_copied second.entry) }
+{
+    match (first, second) {
+        (Some(Node::File(first)), Some(Node::File(second))) => first == second,
+        _ => false,
+    }
 }
 
 #[cfg(test)]

@@ -1,22 +1,21 @@
-use Rattle.std.proofs.Common.{◌≡◌, Some, None, sym, ◌∙◌, ap}
+use Rattle.std.proofs.Common.{◌≡◌, Some, None, sym, ◌∙◌, ap, refl}
 use Rattle.sftp_wire.specs.declared.packets.Ask.TheVariants.{Readlink}
 use Rattle.sftp_path.specs.Table.{get}
-use Rattle.sftp_tree.specs.declared.nodes.Node.TheVariants.{Dir}
-use Rattle.sftp_tree.specs.declared.causes.Cause.TheVariants.{NoEntry, NotLink}
+use Rattle.sftp_tree.specs.declared.nodes.Node.TheVariants.{Dir, File}
 use Rattle.sftp_tree.specs.Tree.{node_at}
-use Rattle.sftp_tree.proofs.StepCauses.{led-readlink}
-use Rattle.sftp_tree.proofs.StepAnswers.{exit-lost, readlink-set, readlink-free, readlink-target}
+use Rattle.sftp_tree.proofs.CallSets.{lost-by}
+use Rattle.sftp_tree.proofs.CallReads.{readlink-free, readlink-absent, readlink-other, readlink-target}
 use Rattle.sftp_tree.proofs.trees.Tree.read_link.Goals as goal
 
 pub returns-in_err-place-clause-refused : goal.returns-in_err-place-clause-refused
 returns-in_err-place-clause-refused c =
-    exit-lost c.args.self.now (Readlink c.args.path.now) _ c.args.path.now _ _ (led-readlink c.args.self.now c.args.path.now) c.from_residual.ensures.1 c.in_err-place.ensures.lost
+    lost-by c.args.self.now (Readlink c.args.path.now) _ _ c.from_residual.ensures.1 (c.in_err-place.ensures.lost (Readlink c.args.path.now) refl refl)
 
 pub returns-in-Some-Link-clause-free : goal.returns-in-Some-Link-clause-free
 unfolding get
 returns-in-Some-Link-clause-free c =
     let there : Some c.in-Some-Link.field-0.now ≡ node_at c.names.result.now.entries c.in_ok-place.place = c.in-Some-Link.ensures.value in
-    readlink-free c.args.self.now c.args.path.now c.in_ok-place.place _ c.lead.ensures.kept c.in_ok-place.ensures.reached (ap (λ ns. node_at ns c.in_ok-place.place) (sym c.names.ensures.names) ∙ sym there ∙ ap Some c.in-Some-Link.field-0-is)
+    readlink-free c.args.self.now c.args.path.now c.in_ok-place.place _ c.lead.ensures.kept (c.in_ok-place.ensures.led (Readlink c.args.path.now) refl refl refl (λ cause. refl)) (ap (λ ns. node_at ns c.in_ok-place.place) (sym c.names.ensures.names) ∙ sym there ∙ ap Some c.in-Some-Link.field-0-is)
 
 pub returns-in-Some-Link-clause-target : goal.returns-in-Some-Link-clause-target
 unfolding get
@@ -28,10 +27,16 @@ pub returns-in-Some-Dir-clause-refused : goal.returns-in-Some-Dir-clause-refused
 unfolding get
 returns-in-Some-Dir-clause-refused c =
     let there : Some c.in-Some-Dir.field-0.now ≡ node_at c.names.result.now.entries c.in_ok-place.place = c.in-Some-Dir.ensures.value in
-    readlink-set c.args.self.now c.args.path.now c.in_ok-place.place (Some (Dir c.in-Some-Dir.field-0-0)) c.lead.ensures.kept c.in_ok-place.ensures.reached (ap (λ ns. node_at ns c.in_ok-place.place) (sym c.names.ensures.names) ∙ sym there ∙ ap Some c.in-Some-Dir.field-0-is) NotLink
+    readlink-other c.args.self.now c.args.path.now c.in_ok-place.place (Dir c.in-Some-Dir.field-0-0) c.lead.ensures.kept (c.in_ok-place.ensures.led (Readlink c.args.path.now) refl refl refl (λ cause. refl)) (ap (λ ns. node_at ns c.in_ok-place.place) (sym c.names.ensures.names) ∙ sym there ∙ ap Some c.in-Some-Dir.field-0-is) refl
+
+pub returns-in-Some-File-clause-refused : goal.returns-in-Some-File-clause-refused
+unfolding get
+returns-in-Some-File-clause-refused c =
+    let there : Some c.in-Some-File.field-0.now ≡ node_at c.names.result.now.entries c.in_ok-place.place = c.in-Some-File.ensures.value in
+    readlink-other c.args.self.now c.args.path.now c.in_ok-place.place (File c.in-Some-File.field-0-0) c.lead.ensures.kept (c.in_ok-place.ensures.led (Readlink c.args.path.now) refl refl refl (λ cause. refl)) (ap (λ ns. node_at ns c.in_ok-place.place) (sym c.names.ensures.names) ∙ sym there ∙ ap Some c.in-Some-File.field-0-is) refl
 
 pub returns-clause-refused : goal.returns-clause-refused
 unfolding get
 returns-clause-refused c =
     let absent : None ≡ node_at c.names.result.now.entries c.in_ok-place.place = c.in-None.ensures.value in
-    readlink-set c.args.self.now c.args.path.now c.in_ok-place.place None c.lead.ensures.kept c.in_ok-place.ensures.reached (ap (λ ns. node_at ns c.in_ok-place.place) (sym c.names.ensures.names) ∙ sym absent) NoEntry
+    readlink-absent c.args.self.now c.args.path.now c.in_ok-place.place c.lead.ensures.kept (c.in_ok-place.ensures.led (Readlink c.args.path.now) refl refl refl (λ cause. refl)) (ap (λ ns. node_at ns c.in_ok-place.place) (sym c.names.ensures.names) ∙ sym absent)

@@ -2,13 +2,14 @@ use Rattle.std.proofs.Common.{◌≡◌, Some, None, sym, ◌∙◌, ap}
 use Rattle.sftp_path.specs.Table.{get}
 use Rattle.sftp_tree.specs.Tree.{node_at}
 use Rattle.sftp_tree.specs.Sets.{stat_ask}
-use Rattle.sftp_tree.proofs.StepCauses.{led-stat}
-use Rattle.sftp_tree.proofs.StepAnswers.{exit-lost, node-kept, stat-free, stat-absent, stat-shown}
+use Rattle.sftp_tree.proofs.CallSets.{lost-by}
+use Rattle.sftp_tree.proofs.CallPlaces.{node-kept}
+use Rattle.sftp_tree.proofs.CallReads.{stat-path, stat-one, stat-follows, stat-plain, stat-free, stat-absent, stat-shown}
 use Rattle.sftp_tree.proofs.trees.Tree.stat.Goals as goal
 
 pub returns-in_err-place-clause-refused : goal.returns-in_err-place-clause-refused
 returns-in_err-place-clause-refused c =
-    exit-lost c.args.self.now (stat_ask c.args.follow c.args.path.now) _ c.args.path.now _ _ (led-stat c.args.self.now c.args.follow c.args.path.now) c.from_residual.ensures.1 c.in_err-place.ensures.lost
+    lost-by c.args.self.now (stat_ask c.args.follow c.args.path.now) _ _ c.from_residual.ensures.1 (c.in_err-place.ensures.lost (stat_ask c.args.follow c.args.path.now) (stat-path c.args.follow c.args.path.now) (stat-follows c.args.follow c.args.path.now))
 
 pub shown-requires : goal.shown-requires
 unfolding get
@@ -20,7 +21,7 @@ pub returns-in-Some-clause-free : goal.returns-in-Some-clause-free
 unfolding get
 returns-in-Some-clause-free c =
     let there : Some c.in-Some.node.now ≡ node_at c.names.result.now.entries c.in_ok-place.place = c.in-Some.ensures.value in
-    stat-free c.args.self.now c.args.follow c.args.path.now c.in_ok-place.place c.in-Some.node.now c.lead.ensures.kept c.in_ok-place.ensures.reached (ap (λ ns. node_at ns c.in_ok-place.place) (sym c.names.ensures.names) ∙ sym there)
+    stat-free c.args.self.now c.args.follow c.args.path.now c.in_ok-place.place c.in-Some.node.now c.lead.ensures.kept (c.in_ok-place.ensures.led (stat_ask c.args.follow c.args.path.now) (stat-path c.args.follow c.args.path.now) (stat-one c.args.follow c.args.path.now) (stat-follows c.args.follow c.args.path.now) (stat-plain c.args.follow c.args.path.now)) (ap (λ ns. node_at ns c.in_ok-place.place) (sym c.names.ensures.names) ∙ sym there)
 
 pub returns-in-Some-clause-shown : goal.returns-in-Some-clause-shown
 unfolding get
@@ -32,4 +33,4 @@ pub returns-clause-refused : goal.returns-clause-refused
 unfolding get
 returns-clause-refused c =
     let absent : None ≡ node_at c.names.result.now.entries c.in_ok-place.place = c.in-None.ensures.value in
-    stat-absent c.args.self.now c.args.follow c.args.path.now c.in_ok-place.place c.lead.ensures.kept c.in_ok-place.ensures.reached (ap (λ ns. node_at ns c.in_ok-place.place) (sym c.names.ensures.names) ∙ sym absent)
+    stat-absent c.args.self.now c.args.follow c.args.path.now c.in_ok-place.place c.lead.ensures.kept (c.in_ok-place.ensures.led (stat_ask c.args.follow c.args.path.now) (stat-path c.args.follow c.args.path.now) (stat-one c.args.follow c.args.path.now) (stat-follows c.args.follow c.args.path.now) (stat-plain c.args.follow c.args.path.now)) (ap (λ ns. node_at ns c.in_ok-place.place) (sym c.names.ensures.names) ∙ sym absent)

@@ -1,29 +1,49 @@
-use Rattle.std.proofs.Common.{sym, ◌∙◌, arith}
+use Rattle.std.proofs.Common.{◌≡◌, sym, ◌∙◌, ap, refl, false, arith}
 use Rattle.sftp_wire.specs.declared.packets.Ask.TheVariants.{Symlink}
-use Rattle.sftp_tree.proofs.StepCauses.{free-by, led-symlink}
-use Rattle.sftp_tree.proofs.StepAnswers.{exit-lost, exit-cause, symlink-bad, symlink-set, symlink-keeps, symlink-target, bytes-are}
+use Rattle.sftp_treefile.specs.TreeFile.{are_bytes}
+use Rattle.sftp_tree.specs.declared.nodes.Node.TheVariants.{Link}
+use Rattle.sftp_tree.specs.Tree.{Tree, fits, trim, with_node}
+use Rattle.sftp_tree.specs.Steps.{target_at}
+use Rattle.sftp_tree.specs.Judged.{causes_at_place}
+use Rattle.sftp_tree.proofs.CallSets.{led-is, target-one, none-of-set, free-by, refused-by, lost-by}
+use Rattle.sftp_tree.proofs.CallRooms.{making-set}
+use Rattle.sftp_tree.proofs.CallMoves.{making-absent, making-fits}
+use Rattle.sftp_tree.proofs.CallReads.{bad-target, good-target, bytes-are}
 use Rattle.sftp_tree.proofs.trees.Tree.symlink.Goals as goal
 
 pub returns-then-not-is_target-clause-refused : goal.returns-then-not-is_target-clause-refused
 returns-then-not-is_target-clause-refused c =
-    symlink-bad c.args.self.now c.args.target.now c.args.link.now (sym c.is_target.ensures ∙ c.if-not-is_target.true)
+    bad-target c.args.self.now c.args.target.now c.args.link.now (sym c.is_target.ensures ∙ c.if-not-is_target.true)
 
 pub returns-in_err-place-clause-refused : goal.returns-in_err-place-clause-refused
 returns-in_err-place-clause-refused c =
-    exit-lost c.args.self.now (Symlink c.args.target.now c.args.link.now) _ c.args.link.now _ _ (led-symlink c.args.self.now c.args.target.now c.args.link.now) c.from_residual.ensures.1 c.in_err-place.ensures.lost
+    lost-by c.args.self.now (Symlink c.args.target.now c.args.link.now) _ _ c.from_residual.ensures.1 (c.in_err-place.ensures.lost (Symlink c.args.target.now c.args.link.now) refl refl)
 
 pub returns-in_err-refuse-clause-refused : goal.returns-in_err-refuse-clause-refused
 returns-in_err-refuse-clause-refused c =
-    exit-cause c.args.self.now (Symlink c.args.target.now c.args.link.now) c.making.result _ _ (symlink-set c.args.self.now c.args.target.now c.args.link.now c.in_ok-place.place c.making.result c.lead.ensures.kept (sym c.is_target.ensures ∙ c.if-not-is_target.false) c.in_ok-place.ensures.reached c.making.ensures) c.from_residual-in_err-refuse.ensures.1 c.in_err-refuse.ensures.cause
+    refused-by c.args.self.now (Symlink c.args.target.now c.args.link.now) (causes_at_place c.args.self.now (Symlink c.args.target.now c.args.link.now) c.in_ok-place.place) c.making.result _ _ (c.in_ok-place.ensures.led (Symlink c.args.target.now c.args.link.now) refl refl refl (good-target c.args.target.now c.args.link.now (sym c.is_target.ensures ∙ c.if-not-is_target.false))) (making-set c.args.self.now c.in_ok-place.place (Link c.args.target.now) c.making.result c.lead.ensures.kept (sym c.is_target.ensures ∙ c.if-not-is_target.false) c.making.ensures) c.from_residual-in_err-refuse.ensures.1 c.in_err-refuse.ensures.cause
 
-pub put-requires : goal.put-requires
-put-requires c =
-    symlink-keeps c.args.self.now c.in_ok-place.place c.in_ok-target.target c.args.target.now c.making.result c.lead.ensures.kept c.in_ok-place.ensures.named c.in_ok-place.ensures.parent (bytes-are c.args.target.now (λ i. omega (arith, c.type_inv.target i))) (sym c.is_target.ensures ∙ c.if-not-is_target.false) c.in_ok-target.ensures c.making.ensures c.in_ok-refuse.ensures.free
+pub put-requires-clause-absent : goal.put-requires-clause-absent
+put-requires-clause-absent c =
+    making-absent c.args.self.now c.in_ok-place.place (target_at c.args.self.now (Symlink c.args.target.now c.args.link.now) c.in_ok-place.place) (none-of-set c.making.result (causes_at_place c.args.self.now (Symlink c.args.target.now c.args.link.now) c.in_ok-place.place) (making-set c.args.self.now c.in_ok-place.place (Link c.args.target.now) c.making.result c.lead.ensures.kept (sym c.is_target.ensures ∙ c.if-not-is_target.false) c.making.ensures) c.in_ok-refuse.ensures.free)
+
+pub put-requires-clause-kept : goal.put-requires-clause-kept
+put-requires-clause-kept c =
+    let none = none-of-set c.making.result (causes_at_place c.args.self.now (Symlink c.args.target.now c.args.link.now) c.in_ok-place.place) (making-set c.args.self.now c.in_ok-place.place (Link c.args.target.now) c.making.result c.lead.ensures.kept (sym c.is_target.ensures ∙ c.if-not-is_target.false) c.making.ensures) c.in_ok-refuse.ensures.free in
+    let fit = ap (λ goal. fits (record c.args.self.now { names = with_node c.args.self.now.names c.in_ok-place.place (Link goal) })) c.in_ok-target.ensures ∙ making-fits c.args.self.now c.in_ok-place.place (target_at c.args.self.now (Symlink c.args.target.now c.args.link.now) c.in_ok-place.place) none in
+    let bytes = ap are_bytes c.in_ok-target.ensures ∙ bytes-are c.args.target.now (λ i. omega (arith, c.type_inv.target i)) in
+    let kept = c.kept_with_entry.ensures c.args.self.now c.in_ok-place.place (Link c.in_ok-target.target) c.lead.ensures.kept c.in_ok-place.ensures.named (making-absent c.args.self.now c.in_ok-place.place (target_at c.args.self.now (Symlink c.args.target.now c.args.link.now) c.in_ok-place.place) none) c.in_ok-place.ensures.parent bytes fit in
+    kept
 
 pub returns-clause-free : goal.returns-clause-free
 returns-clause-free c =
-    free-by c.args.self.now (Symlink c.args.target.now c.args.link.now) c.making.result (symlink-set c.args.self.now c.args.target.now c.args.link.now c.in_ok-place.place c.making.result c.lead.ensures.kept (sym c.is_target.ensures ∙ c.if-not-is_target.false) c.in_ok-place.ensures.reached c.making.ensures) c.in_ok-refuse.ensures.free
+    free-by c.args.self.now (Symlink c.args.target.now c.args.link.now) (causes_at_place c.args.self.now (Symlink c.args.target.now c.args.link.now) c.in_ok-place.place) (c.in_ok-place.ensures.led (Symlink c.args.target.now c.args.link.now) refl refl refl (good-target c.args.target.now c.args.link.now (sym c.is_target.ensures ∙ c.if-not-is_target.false))) (none-of-set c.making.result (causes_at_place c.args.self.now (Symlink c.args.target.now c.args.link.now) c.in_ok-place.place) (making-set c.args.self.now c.in_ok-place.place (Link c.args.target.now) c.making.result c.lead.ensures.kept (sym c.is_target.ensures ∙ c.if-not-is_target.false) c.making.ensures) c.in_ok-refuse.ensures.free)
 
 pub returns-clause-done : goal.returns-clause-done
 returns-clause-done c =
-    symlink-target c.args.self.now c.put.new.self c.in_ok-target.target c.args.target.now c.args.link.now c.in_ok-place.place c.in_ok-place.ensures.reached c.in_ok-put.ensures.ok c.in_ok-target.ensures
+    let none = none-of-set c.making.result (causes_at_place c.args.self.now (Symlink c.args.target.now c.args.link.now) c.in_ok-place.place) (making-set c.args.self.now c.in_ok-place.place (Link c.args.target.now) c.making.result c.lead.ensures.kept (sym c.is_target.ensures ∙ c.if-not-is_target.false) c.making.ensures) c.in_ok-refuse.ensures.free in
+    let fit = ap (λ goal. fits (record c.args.self.now { names = with_node c.args.self.now.names c.in_ok-place.place (Link goal) })) c.in_ok-target.ensures ∙ making-fits c.args.self.now c.in_ok-place.place (target_at c.args.self.now (Symlink c.args.target.now c.args.link.now) c.in_ok-place.place) none in
+    let bytes = ap are_bytes c.in_ok-target.ensures ∙ bytes-are c.args.target.now (λ i. omega (arith, c.type_inv.target i)) in
+    let kept = c.kept_with_entry.ensures c.args.self.now c.in_ok-place.place (Link c.in_ok-target.target) c.lead.ensures.kept c.in_ok-place.ensures.named (making-absent c.args.self.now c.in_ok-place.place (target_at c.args.self.now (Symlink c.args.target.now c.args.link.now) c.in_ok-place.place) none) c.in_ok-place.ensures.parent bytes fit in
+    let asked = target-one c.args.self.now (Symlink c.args.target.now c.args.link.now) c.in_ok-place.place (led-is c.args.self.now (Symlink c.args.target.now c.args.link.now) false c.args.link.now _ refl refl c.in_ok-place.ensures.reached) refl ∙ ap (λ goal. (record c.args.self.now { names = with_node c.args.self.now.names c.in_ok-place.place (Link goal) })) (sym c.in_ok-target.ensures) in
+    c.in_ok-put.ensures.ok ∙ sym (ap trim asked ∙ c.trimmed_already.ensures _ kept.trimmed)

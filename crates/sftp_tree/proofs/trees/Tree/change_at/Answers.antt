@@ -1,0 +1,12 @@
+use Rattle.std.proofs.Common.{◌≡◌, Some, sym, ◌∙◌, ap}
+use Rattle.sftp_path.specs.Table.{get}
+use Rattle.sftp_tree.specs.declared.nodes.Node.TheVariants.{Dir}
+use Rattle.sftp_tree.specs.Tree.{node_at}
+use Rattle.sftp_tree.proofs.CallPlaces.{node-kept}
+use Rattle.sftp_tree.proofs.trees.Tree.change_at.Goals as goal
+
+pub changed_owner-owner-requires : goal.changed_owner-owner-requires
+unfolding get
+changed_owner-owner-requires c =
+    let there : Some c.in-Some-Dir.field-0.now ≡ node_at c.names.result.now.entries c.args.place.now = c.in-Some-Dir.ensures.value in
+    node-kept c.args.self.now c.args.place.now (Dir c.in-Some-Dir.owner) c.names.ensures.kept (ap (λ ns. node_at ns c.args.place.now) (sym c.names.ensures.names) ∙ sym there ∙ ap Some c.in-Some-Dir.field-0-is)
