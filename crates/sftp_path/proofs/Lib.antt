@@ -3,4 +3,9 @@ pub mod GoodPaths
 pub mod AbsoluteTexts
 pub mod Order
 pub mod TableLaws
+pub mod EntryLaws
 pub mod RekeyingLaws
+pub mod CountLaws
+pub mod MoveLaws
+pub mod ValueLaws
+pub mod TestLaws

@@ -1,5 +1,5 @@
 -- Laws of a directory that moves in a table of places.
-use Rattle.std.proofs.Common.{◌≡◌, ◌+◌, Bool, true, false, cond, if◌then◌else◌, ◌&&◌, [], ◌∷◌, ◌++◌, length, drop, map, refl, sym, ap, ◌∙◌, arith, Option, Some, None, inl, inr, true≢false}
+use Rattle.std.proofs.Common.{◌≡◌, ◌+◌, Bool, true, false, cond, if◌then◌else◌, ◌&&◌, [], ◌∷◌, ◌++◌, length, drop, map, refl, sym, ap, ◌∙◌, arith, Some, None, inl, inr, true≢false}
 use Rattle.std.specs.Ordering.{is_eq, ordering_then}
 use Rattle.std.specs.Cmp.{Equal-is}
 use Rattle.std.specs.Cmp.Lexicographic.{nat_list_cmp_total, nat_list_eq_equiv}
@@ -12,6 +12,7 @@ use Rattle.sftp_path.specs.Place.{Place, place_cmp, same_bytes, begins}
 use Rattle.sftp_path.specs.Table.{Table, InOrder, get, from_entries, size}
 use Rattle.sftp_path.specs.Rekeying.{renamed, renamed_entry, rekeyed, NothingFrom}
 use Rattle.sftp_path.proofs.Order.{begins-front, begins-append, place_cmp-total, place_cmp-same}
+use Rattle.sftp_path.proofs.EntryLaws.{get-none}
 use Rattle.sftp_path.proofs.TableLaws.{get-empty, get-cons, get-below, get-from_entries, InOrder-from_entries, size-put, same_table}
 
 -- ---- places
@@ -37,10 +38,10 @@ begins-either (m ∷ ms) (n ∷ ns) rest g h =
 
 -- ---- a renamed place
 
-renamed-inside : (old new place : Place) → begins old place ≡ true → renamed old new place ≡ new ++ drop (length old) place
+pub renamed-inside : (old new place : Place) → begins old place ≡ true → renamed old new place ≡ new ++ drop (length old) place
 renamed-inside old new place h = ap (λ b. if b then new ++ drop (length old) place else place) h
 
-renamed-outside : (old new place : Place) → begins old place ≡ false → renamed old new place ≡ place
+pub renamed-outside : (old new place : Place) → begins old place ≡ false → renamed old new place ≡ place
 renamed-outside old new place h = ap (λ b. if b then new ++ drop (length old) place else place) h
 
 renamed-begins : (old new place : Place) → begins old place ≡ true → begins new (renamed old new place) ≡ true
@@ -103,21 +104,13 @@ module _ {X : Type 0} (old new : Place) where
       ∙ (λ i. cond (alike i) (Some e.1) (others i))
       ∙ sym (get-cons place_cmp e es q)
 
-  none-parts : (b : Bool) (value : X) (o : Option X) → cond b (Some value) o ≡ None → (b ≡ false) × (o ≡ None)
-  none-parts true value o h = cc
-  none-parts false value o h = (refl, h)
-
-  -- where nothing is found, the first entry stands elsewhere, and nothing is found among the others
-  absent : (e : Place × X) (es : Table Place X) (p : Place) → get place_cmp (e ∷ es) p ≡ None → (is_eq (place_cmp p e.0) ≡ false) × (get place_cmp es p ≡ None)
-  absent e es p h = none-parts (is_eq (place_cmp p e.0)) e.1 (get place_cmp es p) (sym (get-cons place_cmp e es p) ∙ h)
-
-  get-moved : (es : Table Place X) (rest : Place) → get place_cmp es (new ++ rest) ≡ None → get place_cmp (map (renamed_entry old new) es) (new ++ rest) ≡ get place_cmp es (old ++ rest)
+  pub get-moved : (es : Table Place X) (rest : Place) → get place_cmp es (new ++ rest) ≡ None → get place_cmp (map (renamed_entry old new) es) (new ++ rest) ≡ get place_cmp es (old ++ rest)
   get-moved [] rest h = get-empty place_cmp (new ++ rest) ∙ sym (get-empty place_cmp (old ++ rest))
   get-moved (e ∷ es) rest h =
-      let free = absent e es (new ++ rest) h in
+      let free = get-none place_cmp e es (new ++ rest) h in
       get-step e es (new ++ rest) (old ++ rest) (same-moved old new rest e.0 free.0) (get-moved es rest free.1)
 
-  get-elsewhere : (es : Table Place X) (at : Place) → begins old at ≡ false → begins new at ≡ false → get place_cmp (map (renamed_entry old new) es) at ≡ get place_cmp es at
+  pub get-elsewhere : (es : Table Place X) (at : Place) → begins old at ≡ false → begins new at ≡ false → get place_cmp (map (renamed_entry old new) es) at ≡ get place_cmp es at
   get-elsewhere [] at not_old not_new = refl
   get-elsewhere (e ∷ es) at not_old not_new =
       get-step e es at at (same-elsewhere old new at e.0 not_old not_new) (get-elsewhere es at not_old not_new)
@@ -130,20 +123,20 @@ module _ {X : Type 0} (old new : Place) where
 
   -- ---- how many entries
 
-  nothing-behind : (e : Place × X) (es : Table Place X) → NothingFrom (e ∷ es) new → NothingFrom es new
-  nothing-behind e es nothing rest = (absent e es (new ++ rest) (nothing rest)).1
+  pub nothing-behind : (e : Place × X) (es : Table Place X) → NothingFrom (e ∷ es) new → NothingFrom es new
+  nothing-behind e es nothing rest = (get-none place_cmp e es (new ++ rest) (nothing rest)).1
 
   -- the first entry does not stand at the new place, nor below it
-  first-outside : (e : Place × X) (es : Table Place X) → NothingFrom (e ∷ es) new → begins new e.0 ≡ false
+  pub first-outside : (e : Place × X) (es : Table Place X) → NothingFrom (e ∷ es) new → begins new e.0 ≡ false
   first-outside e es nothing =
       false_from_ne_true (begins new e.0) (λ inside.
       let rest = drop (length new) e.0 in
       let is : new ++ rest ≡ e.0 = sym (begins-front new e.0 inside) in
       let tie : is_eq (place_cmp (new ++ rest) e.0) ≡ true = ap (λ p. is_eq (place_cmp p e.0)) is ∙ ap is_eq (tied_itself place_cmp-total e.0) in
-      true≢false (sym tie ∙ (absent e es (new ++ rest) (nothing rest)).0))
+      true≢false (sym tie ∙ (get-none place_cmp e es (new ++ rest) (nothing rest)).0))
 
   -- no other entry comes to the place of the first
-  first-alone : (e : Place × X) (es : Table Place X) → InOrder place_cmp (e ∷ es) → NothingFrom (e ∷ es) new → get place_cmp (map (renamed_entry old new) es) (renamed old new e.0) ≡ None
+  pub first-alone : (e : Place × X) (es : Table Place X) → InOrder place_cmp (e ∷ es) → NothingFrom (e ∷ es) new → get place_cmp (map (renamed_entry old new) es) (renamed old new e.0) ≡ None
   first-alone e es order nothing =
       let once : get place_cmp es e.0 ≡ None = get-below place_cmp e.0 es (sorted_head place_cmp e.0 (keys_of es) order) in
       elim (cases_Bool (begins old e.0)) [
@@ -175,7 +168,7 @@ module _ {X : Type 0} (old new : Place) where
 
   -- ---- what stands at a place
 
-  get-rekeyed : (table : Table Place X) (at : Place) → get place_cmp (rekeyed old new table) at ≡ get place_cmp (map (renamed_entry old new) table) at
+  pub get-rekeyed : (table : Table Place X) (at : Place) → get place_cmp (rekeyed old new table) at ≡ get place_cmp (map (renamed_entry old new) table) at
   unfolding rekeyed
   get-rekeyed table at = get-from_entries place_cmp place_cmp-total (map (renamed_entry old new) table) at
 

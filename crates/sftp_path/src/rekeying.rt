@@ -1,10 +1,11 @@
 //! Laws of a directory that moves in a table of places, as theorems on the definitions. The functions do
 //! nothing; each promise is in the contract. A clause without a premise on the table holds for each list of
 //! entries, in order or not.
-ghost use Rattle.std.specs.Prelude.{◌≡◌, ◌+◌, ◌++◌, true, false, None, length};
-ghost use Rattle.sftp_path.specs.Place.{Place, place_cmp, begins};
-ghost use Rattle.sftp_path.specs.Table.{Table, InOrder, get, size};
-ghost use Rattle.sftp_path.specs.Rekeying.{renamed, rekeyed, NothingFrom};
+ghost use Rattle.std.specs.Prelude.{◌≡◌, ◌+◌, ◌++◌, [], ◌∷◌, Bool, true, false, Some, None, length};
+ghost use Rattle.std.specs.List.{list_all};
+ghost use Rattle.sftp_path.specs.Place.{Name, Place, place_cmp, begins};
+ghost use Rattle.sftp_path.specs.Table.{Table, InOrder, get, put, without, size, count};
+ghost use Rattle.sftp_path.specs.Rekeying.{renamed, renamed_entry, rekeyed, NothingFrom};
 
 /// What stood at or below the old place stands at or below the new one, where nothing stood; at and below the
 /// old place nothing is left; and elsewhere stands what stood there. That nothing is left needs no premise on
@@ -47,4 +48,50 @@ pub fn rekeyed_is_one<X>()
         ((place : Place) → begins old place ≡ true → begins new place ≡ false → get place_cmp other place ≡ None) →
         ((place : Place) → begins old place ≡ false → begins new place ≡ false → get place_cmp other place ≡ get place_cmp table place) →
         other ≡ rekeyed old new table }
+{}
+
+/// As many values pass a test after the move as before it.
+pub fn counts_after_rekeying<X>()
+    ensures { (old new : Place) (table : Table Place X) (passes : X → Bool) → InOrder place_cmp table → NothingFrom table new →
+        count (rekeyed old new table) passes ≡ count table passes }
+{}
+
+/// All entries pass a test after the move just where each one before it passes the test with its place renamed.
+pub fn tests_after_rekeying<X>()
+    ensures { (old new : Place) (table : Table Place X) (keeps : Place × X → Bool) → InOrder place_cmp table → NothingFrom table new →
+        list_all keeps (rekeyed old new table) ≡ list_all (λ entry. keeps (renamed_entry old new entry)) table }
+{}
+
+/// Where nothing stands below the old place, the move is to take the one entry away and put it at the new place,
+/// in one order or the other.
+pub fn moving_what_stands_alone<X>()
+    ensures away_first { (old new : Place) (table : Table Place X) (value : X) → InOrder place_cmp table →
+        get place_cmp table old ≡ Some value →
+        ((name : Name) (names : Place) → get place_cmp table (old ++ name ∷ names) ≡ None) →
+        NothingFrom table new →
+        rekeyed old new table ≡ put place_cmp (without place_cmp table old) new value }
+    ensures other_way { (old new : Place) (table : Table Place X) (value : X) → InOrder place_cmp table →
+        get place_cmp table old ≡ Some value →
+        ((name : Name) (names : Place) → get place_cmp table (old ++ name ∷ names) ≡ None) →
+        NothingFrom table new →
+        rekeyed old new table ≡ without place_cmp (put place_cmp table new value) old }
+{}
+
+/// The move entry by entry: from the first to the last, each one is put at its renamed place, where none of
+/// those before it has come. The clauses that end in `_of` say the same of a table that is seen as the entries
+/// before, the entry and the rest.
+pub fn moving_entry_by_entry<X>()
+    ensures none { (old new : Place) → rekeyed {X = X} old new [] ≡ [] }
+    ensures one_more { (old new : Place) (before rest : Table Place X) (entry : Place × X) →
+        InOrder place_cmp (before ++ entry ∷ rest) → NothingFrom (before ++ entry ∷ rest) new →
+        rekeyed old new (before ++ entry ∷ []) ≡ put place_cmp (rekeyed old new before) (renamed old new entry.0) entry.1 }
+    ensures free { (old new : Place) (before rest : Table Place X) (entry : Place × X) →
+        InOrder place_cmp (before ++ entry ∷ rest) → NothingFrom (before ++ entry ∷ rest) new →
+        get place_cmp (rekeyed old new before) (renamed old new entry.0) ≡ None }
+    ensures one_more_of { (old new : Place) (table before rest : Table Place X) (entry : Place × X) →
+        InOrder place_cmp table → NothingFrom table new → before ++ entry ∷ rest ≡ table →
+        rekeyed old new (before ++ entry ∷ []) ≡ put place_cmp (rekeyed old new before) (renamed old new entry.0) entry.1 }
+    ensures free_of { (old new : Place) (table before rest : Table Place X) (entry : Place × X) →
+        InOrder place_cmp table → NothingFrom table new → before ++ entry ∷ rest ≡ table →
+        get place_cmp (rekeyed old new before) (renamed old new entry.0) ≡ None }
 {}

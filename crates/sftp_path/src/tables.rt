@@ -1,10 +1,11 @@
 //! Laws of tables, the finite maps that the definitions of trees and sessions are made of, as theorems on
 //! those definitions. The functions do nothing; each promise is in the contract.
-ghost use Rattle.std.specs.Prelude.{◌≡◌, ◌≢◌, ◌+◌, ℕ, Bool, List, [], Some, None};
+ghost use Rattle.std.specs.Prelude.{◌≡◌, ◌≢◌, ◌+◌, ◌<◌, ◌&&◌, ℕ, Bool, List, [], Some, None, if◌then◌else◌, IsTrue, option_map};
+ghost use Rattle.std.specs.List.{list_all};
 ghost use Rattle.std.specs.Ordering.{nat_cmp};
 ghost use Rattle.std.specs.declared.cmp.Ordering.TheVariants.{Equal};
 ghost use Rattle.sftp_path.specs.Place.{Place, bytes_cmp, place_cmp};
-ghost use Rattle.sftp_path.specs.Table.{Table, InOrder, get, put, without, retain, from_entries, size, kept};
+ghost use Rattle.sftp_path.specs.Table.{Table, InOrder, get, put, without, retain, from_entries, size, count, kept, with_values};
 
 /// What stands at a key after each operation, for keys of any order and any values.
 pub fn answers<K: Ord, X>()
@@ -38,6 +39,64 @@ pub fn sizes<K: Ord, X>()
         size (put K.cmp table key value) ≡ size table }
     ensures without { (table : Table K X) (key : K) (value : X) → get K.cmp table key ≡ Some value →
         size (without K.cmp table key) + 1 ≡ size table }
+{}
+
+/// How many values pass a test: a new key counts its value, another value at a key stops the count of the old
+/// one, a key taken away stops the count of its value, and where a value that passes stands, at least one is
+/// counted.
+pub fn counts<K: Ord, X>()
+    ensures put_new { (table : Table K X) (key : K) (value : X) (passes : X → Bool) → get K.cmp table key ≡ None →
+        count (put K.cmp table key value) passes ≡ count table passes + (if passes value then 1 else 0) }
+    ensures put_again { (table : Table K X) (key : K) (value old : X) (passes : X → Bool) →
+        InOrder K.cmp table → get K.cmp table key ≡ Some old →
+        count (put K.cmp table key value) passes + (if passes old then 1 else 0) ≡ count table passes + (if passes value then 1 else 0) }
+    ensures without { (table : Table K X) (key : K) (value : X) (passes : X → Bool) → get K.cmp table key ≡ Some value →
+        count (without K.cmp table key) passes + (if passes value then 1 else 0) ≡ count table passes }
+    ensures found { (table : Table K X) (key : K) (value : X) (passes : X → Bool) → get K.cmp table key ≡ Some value →
+        IsTrue (passes value) → 0 < count table passes }
+{}
+
+/// To take away what is not there changes nothing.
+pub fn absent_keys<K: Ord, X>()
+    ensures without { (table : Table K X) (key : K) → get K.cmp table key ≡ None → without K.cmp table key ≡ table }
+{}
+
+/// Where each value is replaced by one made of it, each operation does the same as before, on the new values.
+pub fn other_values<K: Ord, X, Y>()
+    ensures get { (f : X → Y) (table : Table K X) (key : K) →
+        get K.cmp (with_values f table) key ≡ option_map f (get K.cmp table key) }
+    ensures put { (f : X → Y) (table : Table K X) (key : K) (value : X) →
+        with_values f (put K.cmp table key value) ≡ put K.cmp (with_values f table) key (f value) }
+    ensures without { (f : X → Y) (table : Table K X) (key : K) →
+        with_values f (without K.cmp table key) ≡ without K.cmp (with_values f table) key }
+    ensures order { (f : X → Y) (table : Table K X) → InOrder K.cmp table → InOrder K.cmp (with_values f table) }
+    ensures size { (f : X → Y) (table : Table K X) → size (with_values f table) ≡ size table }
+{}
+
+/// A test that all entries pass: a new key asks it of its entry too, a key taken away leaves it passed, as does
+/// another value at a key where the test is on values alone and the value passes it; where it is on keys alone,
+/// another value changes nothing.
+pub fn passing_tests<K: Ord, X>()
+    ensures put_new { (table : Table K X) (key : K) (value : X) (keeps : K × X → Bool) → get K.cmp table key ≡ None →
+        list_all keeps (put K.cmp table key value) ≡ (keeps (key, value) && list_all keeps table) }
+    ensures without { (table : Table K X) (key : K) (keeps : K × X → Bool) →
+        IsTrue (list_all keeps table) → IsTrue (list_all keeps (without K.cmp table key)) }
+    ensures put_again { (table : Table K X) (key : K) (value : X) (passes : X → Bool) →
+        IsTrue (list_all (λ entry. passes entry.1) table) → IsTrue (passes value) →
+        IsTrue (list_all (λ entry. passes entry.1) (put K.cmp table key value)) }
+    ensures put_again_keys { (table : Table K X) (key : K) (value old : X) (test : K → Bool) →
+        InOrder K.cmp table → get K.cmp table key ≡ Some old →
+        list_all (λ entry. test entry.0) (put K.cmp table key value) ≡ list_all (λ entry. test entry.0) table }
+{}
+
+/// Another value at a key changes no test on keys alone, also in a table that is in no order.
+pub fn passing_keys<X>()
+    ensures places { (table : Table Place X) (place : Place) (value old : X) (test : Place → Bool) → get place_cmp table place ≡ Some old →
+        list_all (λ entry. test entry.0) (put place_cmp table place value) ≡ list_all (λ entry. test entry.0) table }
+    ensures byte_strings { (table : Table (List ℕ) X) (name : List ℕ) (value old : X) (test : List ℕ → Bool) → get bytes_cmp table name ≡ Some old →
+        list_all (λ entry. test entry.0) (put bytes_cmp table name value) ≡ list_all (λ entry. test entry.0) table }
+    ensures numbers { (table : Table ℕ X) (number : ℕ) (value old : X) (test : ℕ → Bool) → get nat_cmp table number ≡ Some old →
+        list_all (λ entry. test entry.0) (put nat_cmp table number value) ≡ list_all (λ entry. test entry.0) table }
 {}
 
 /// What is left at a key is what stood there, where it passes the test.

@@ -1,0 +1,5 @@
+use Rattle.sftp_path.proofs.MoveLaws.{count-rekeyed}
+use Rattle.sftp_path.proofs.rekeying.counts_after_rekeying.Goals as goal
+
+pub returns : goal.returns
+returns g c = count-rekeyed
