@@ -1,5 +1,7 @@
 pub mod PictureLists
 pub mod PictureTables
+pub mod PictureShapes
+pub mod PictureNumbers
 pub mod PictureFiles
 pub mod WalkRoutes
 pub mod WalkSteps
