@@ -2,6 +2,8 @@ pub mod PictureLists
 pub mod PictureTables
 pub mod PictureShapes
 pub mod PictureNumbers
+pub mod PictureContents
+pub mod PictureNamed
 pub mod PictureFiles
 pub mod WalkRoutes
 pub mod WalkSteps

@@ -1,5 +1,4 @@
-use Rattle.sftp_tree.proofs.PictureShapes.{table_bare}
-use Rattle.sftp_tree.proofs.PictureNumbers.{first_is_named}
+use Rattle.sftp_tree.proofs.PictureNamed.{kinds_fit}
 use Rattle.sftp_tree.proofs.picture_laws.starts_are_one.Goals as goal
 
 pub returns : goal.returns
