@@ -4,6 +4,7 @@ pub mod PictureShapes
 pub mod PictureNumbers
 pub mod PictureContents
 pub mod PictureNamed
+pub mod PictureAgain
 pub mod PictureFiles
 pub mod WalkRoutes
 pub mod WalkSteps

@@ -40,7 +40,7 @@ one_row files front (n ∷ ns, standing) below = refl
 abbrev pub IsBelowRoot : Place × Node → Type 0
 IsBelowRoot e = IsPlace e.0 × (0 < length e.0)
 
-rows_cons : (files : Files) (front : Names) (e : Place × Node) (es : Names) → 0 < length e.0 → rows_behind files front (e ∷ es) ≡ row_of files front e ∷ rows_behind files (front ++ e ∷ []) es
+pub rows_cons : (files : Files) (front : Names) (e : Place × Node) (es : Names) → 0 < length e.0 → rows_behind files front (e ∷ es) ≡ row_of files front e ∷ rows_behind files (front ++ e ∷ []) es
 rows_cons files front e es below = ap (λ (rs : List Row). rs ++ rows_behind files (front ++ e ∷ []) es) (one_row files front e below)
 
 pub length-rows : (files : Files) (front es : Names) → AllByRecursion IsBelowRoot es → length (rows_behind files front es) ≡ length es

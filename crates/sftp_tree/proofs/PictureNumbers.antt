@@ -76,7 +76,7 @@ front_taken rows entry f =
     let same : entry - 1 ≡ length f.front = omega (arith, f.entry_is) in
     (λ i. take (same i) (f.rows_are i)) ∙ take-append_seam f.front (f.row ∷ f.rest)
 
-made_front : (rows : List Row) (entry : ℕ) (f : FirstAt rows entry) → made_by f.front < made_by rows
+pub made_front : (rows : List Row) (entry : ℕ) (f : FirstAt rows entry) → made_by f.front < made_by rows
 made_front rows entry f =
     omega (arith, ap made_by f.rows_are, made_split f.front (f.row ∷ f.rest), made_behind f.row f.rest, first_made f.row.kind f.first)
 

@@ -1,4 +1,4 @@
-use Rattle.sftp_tree.proofs.PictureNamed.{kinds_fit}
+use Rattle.sftp_tree.proofs.PictureAgain.{entries_again}
 use Rattle.sftp_tree.proofs.picture_laws.starts_are_one.Goals as goal
 
 pub returns : goal.returns
