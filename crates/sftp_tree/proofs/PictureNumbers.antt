@@ -207,7 +207,7 @@ named_at number [] e ys none is = named_here (names_file number e.1) (entry_nami
 named_at number (x ∷ xs) e ys none is =
     named_behind (names_file number x.1) (entry_naming number xs) (entry_naming number (xs ++ e ∷ ys)) (length xs) none (λ rest. named_at number xs e ys rest is)
 
-first_names : (earlier : List Row) (kind : Kind) → IsTrue (is_first kind) → names_file (made_by earlier) (node_of earlier kind) ≡ true
+pub first_names : (earlier : List Row) (kind : Kind) → IsTrue (is_first kind) → names_file (made_by earlier) (node_of earlier kind) ≡ true
 first_names earlier (kinds.Dir owner) first = absurd cc
 first_names earlier (kinds.First owner bytes) first = eq-eqb (made_by earlier) (made_by earlier) refl
 first_names earlier (kinds.Further entry) first = absurd cc
