@@ -5,6 +5,7 @@ pub mod PictureNumbers
 pub mod PictureContents
 pub mod PictureNamed
 pub mod PictureAgain
+pub mod PictureStores
 pub mod PictureFiles
 pub mod WalkRoutes
 pub mod WalkSteps
