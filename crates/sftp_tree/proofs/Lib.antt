@@ -1,5 +1,11 @@
 pub mod PictureLists
 pub mod PictureTables
+pub mod PictureShapes
+pub mod PictureNumbers
+pub mod PictureContents
+pub mod PictureNamed
+pub mod PictureAgain
+pub mod PictureStores
 pub mod PictureFiles
 pub mod WalkRoutes
 pub mod WalkSteps

@@ -1,10 +1,13 @@
--- What a tree's file says is a tree file, whose tree is that tree; and what a tree file says is what its tree's says.
-use Rattle.std.proofs.Common.{◌≡◌, ℕ, ◌+◌, ◌-◌, ◌<◌, ◌≤◌, ◌&&◌, List, [], ◌∷◌, ◌++◌, length, map, Some, refl, sym, ap, subst, ◌∙◌, arith}
-use Rattle.std.specs.Prelude.{IsTrue}
-use Rattle.std.specs.List.{flat_map, AllByRecursion}
-use Rattle.std.proofs.lemmas.Bool.{leb-true, le-leb, and_parts, and_from}
-use Rattle.std.proofs.lemmas.List.{length-map}
+-- What a tree's file says is a tree file, whose tree is that tree with its files numbered anew; and what a tree file says is what
+-- its tree's says.
+use Rattle.std.proofs.Common.{◌≡◌, ℕ, suc, ◌+◌, ◌-◌, ◌<◌, ◌≤◌, ◌^◌, ◌&&◌, cond, List, [], ◌∷◌, ◌++◌, length, map, Some, refl, sym, ap, subst, ◌∙◌, arith}
+use Rattle.std.specs.Prelude.{IsTrue, is_some}
+use Rattle.std.specs.List.{AllByRecursion, filter}
+use Rattle.std.proofs.lemmas.Bool.{leb-true, ltb-true, le-leb, lt-ltb, eqb-true, eq-eqb, and_parts, and_from}
+use Rattle.std.proofs.lemmas.List.{length-append}
+use Rattle.std.proofs.lemmas.List.Elements.{filter-append}
 use Rattle.sftp_path.specs.Place.{Place, are_names, absolute, components}
+use Rattle.sftp_path.specs.Table.{retain}
 use Rattle.sftp_path.specs.Text.{IsTextOf}
 use Rattle.sftp_path.proofs.AbsoluteTexts.{components-absolute}
 use Rattle.sftp_treefile.specs.declared.files.Owner.{Owner}
@@ -12,15 +15,20 @@ use Rattle.sftp_treefile.specs.declared.files.Kind.{Kind}
 use Rattle.sftp_treefile.specs.declared.files.Kind.TheVariants as kinds
 use Rattle.sftp_treefile.specs.declared.files.Row.{Row}
 use Rattle.sftp_treefile.specs.declared.files.TreeFile.{TreeFile}
-use Rattle.sftp_treefile.specs.TreeFile.{place_of, IsPlaceText, IsOwner, AreRows, IsTreeFile, spelled, IsSpelled}
-use Rattle.sftp_treefile.proofs.FileTexts.{one_file}
+use Rattle.sftp_treefile.specs.TreeFile.{place_of, is_first, IsPlaceText, IsOwner, IsKind, AreRows, IsTreeFile, spelled, IsSpelled}
+use Rattle.sftp_tree.specs.declared.contents.Content.{Content}
 use Rattle.sftp_tree.specs.declared.nodes.Node.{Node}
-use Rattle.sftp_tree.specs.declared.nodes.Node.TheVariants.{Dir, Link}
-use Rattle.sftp_tree.specs.Tree.{Names, Tree, IsKept, IsNode, node_at, fits, entries_fit, depths_fit, depth_fits, home_fits, links_fit, link_fits}
-use Rattle.sftp_tree.specs.Picture.{kind_of, rows_of, root_owner, file_of, picture, IsStart, blank}
-use Rattle.sftp_tree.specs.PictureParts.{node_of, entry_of, only_root, names_of, tree_of}
-use Rattle.sftp_tree.proofs.PictureLists.{all_weaker, all_pass, each_passes, all_together, all_right}
-use Rattle.sftp_tree.proofs.PictureTables.{IsPlace, IsFitNode, IsTable, text_place, root_table, table_of_rows, rows_of_table, root_first, root_at, entries_below}
+use Rattle.sftp_tree.specs.declared.nodes.Node.TheVariants.{Dir, File, Link}
+use Rattle.sftp_tree.specs.Tree.{Names, Files, Tree, IsKept, IsNode, IsContent, limits, node_at, content_at, names_file, times_named, is_named, fits, entries_fit, depths_fit, depth_fits, home_fits, links_fit, link_fits, files_fit, content_fits, numbers_fit}
+use Rattle.sftp_tree.specs.Picture.{rows_behind, root_owner, is_numbered, file_of, picture, IsStart, blank}
+use Rattle.sftp_tree.specs.PictureParts.{content_of, contents_of, node_of, entry_of, entries_behind, only_root, names_of, numbered_from, tree_of}
+use Rattle.sftp_tree.proofs.PictureLists.{all_both, all_weaker, all_pass, each_passes, all_together, all_right}
+use Rattle.sftp_tree.proofs.PictureTables.{IsPlace, IsFitNode, IsTable, bare_names, text_place, root_table, table_of_rows, rows_of_table, root_first, root_at, entries_below}
+use Rattle.sftp_tree.proofs.PictureShapes.{bared, table_bare, table_from_bare, names_bare}
+use Rattle.sftp_tree.proofs.PictureNumbers.{made_by, FirstAt, first_of_number, names_split, length-entries, IsBelow, AreBelow, all_below, first_names}
+use Rattle.sftp_tree.proofs.PictureContents.{numbered_contents, numbered_there, each_number, each_content, numbered_order, numbered_again}
+use Rattle.sftp_tree.proofs.PictureNamed.{IsBelowRoot, IsFitContent, length-rows, place_text, entry_texts, rows_bare, kinds_fit}
+use Rattle.sftp_tree.proofs.PictureAgain.{Again, rows_again, rows_numbered, entries_again}
 
 -- ---- the limits, entry by entry
 
@@ -29,110 +37,130 @@ pub record Limits (t : Tree) : Type 0 where
   pub depths : IsTrue (depths_fit t)
   pub home : IsTrue (home_fits t)
   pub links : IsTrue (links_fit t)
+  pub files : IsTrue (files_fit t)
+  pub numbers : t.made < 2 ^ 32
 
 pub limits_from : (t : Tree) → IsTrue (fits t) → Limits t
 unfolding fits
 limits_from t h =
-    let a = and_parts (entries_fit t) (depths_fit t && (home_fits t && links_fit t)) h in
-    let b = and_parts (depths_fit t) (home_fits t && links_fit t) a.1 in
-    let c = and_parts (home_fits t) (links_fit t) b.1 in
-    record { entries = omega (arith, leb-true (length t.names - 1) 65536 a.0); depths = b.0; home = c.0; links = c.1 }
+    let a = and_parts (entries_fit t) (depths_fit t && (home_fits t && (links_fit t && (files_fit t && numbers_fit t)))) h in
+    let b = and_parts (depths_fit t) (home_fits t && (links_fit t && (files_fit t && numbers_fit t))) a.1 in
+    let c = and_parts (home_fits t) (links_fit t && (files_fit t && numbers_fit t)) b.1 in
+    let d = and_parts (links_fit t) (files_fit t && numbers_fit t) c.1 in
+    let e = and_parts (files_fit t) (numbers_fit t) d.1 in
+    record { entries = omega (arith, leb-true (length t.names - 1) 65536 a.0); depths = b.0; home = c.0; links = d.0; files = e.0; numbers = ltb-true t.made (2 ^ 32) e.1 }
 
 pub limits_fit : (t : Tree) → Limits t → IsTrue (fits t)
 unfolding fits
 limits_fit t l =
-    and_from (entries_fit t) (depths_fit t && (home_fits t && links_fit t)) (le-leb (length t.names - 1) 65536 (omega (arith, l.entries)))
-    (and_from (depths_fit t) (home_fits t && links_fit t) l.depths (and_from (home_fits t) (links_fit t) l.home l.links))
+    and_from (entries_fit t) (depths_fit t && (home_fits t && (links_fit t && (files_fit t && numbers_fit t)))) (le-leb (length t.names - 1) 65536 (omega (arith, l.entries)))
+    (and_from (depths_fit t) (home_fits t && (links_fit t && (files_fit t && numbers_fit t))) l.depths
+    (and_from (home_fits t) (links_fit t && (files_fit t && numbers_fit t)) l.home
+    (and_from (links_fit t) (files_fit t && numbers_fit t) l.links
+    (and_from (files_fit t) (numbers_fit t) l.files (lt-ltb t.made (2 ^ 32) l.numbers)))))
 
--- ---- rows and entries, there and back
+-- ---- what the files of rows keep
 
-kind_again : (kind : Kind) → kind_of (node_of kind) ≡ kind
-kind_again (kinds.Dir owner) = refl
-kind_again (kinds.Link target) = refl
+fit_contents : (earlier : List Row) (kind : Kind) → IsKind earlier kind → AllByRecursion IsFitContent (content_of kind)
+fit_contents earlier (kinds.Dir owner) fits = tt
+fit_contents earlier (kinds.First owner bytes) fits = (fits, tt)
+fit_contents earlier (kinds.Further entry) fits = tt
+fit_contents earlier (kinds.Link target) fits = tt
 
-node_again : (node : Node) → node_of (kind_of node) ≡ node
-node_again (Dir owner) = refl
-node_again (Link target) = refl
+rows_contents : (earlier rows : List Row) → AreRows earlier rows → AllByRecursion IsFitContent (contents_of rows)
+rows_contents earlier [] fit = tt
+rows_contents earlier (row ∷ rows) fit =
+    all_both IsFitContent (content_of row.kind) (contents_of rows) (fit_contents earlier row.kind fit.0.kind) (rows_contents (earlier ++ row ∷ []) rows fit.1)
 
--- the row of an entry below the root
-row_of : Place × Node → Row
-row_of e = record { path = absolute e.0; kind = kind_of e.1 }
+few_contents : (kind : Kind) → length (content_of kind) ≤ 1
+few_contents (kinds.Dir owner) = omega arith
+few_contents (kinds.First owner bytes) = omega arith
+few_contents (kinds.Further entry) = omega arith
+few_contents (kinds.Link target) = omega arith
 
-one_row : (e : Place × Node) → 0 < length e.0 → rows_of e ≡ row_of e ∷ []
-unfolding row_of
-one_row ([], node) below = absurd (omega arith)
-one_row (n ∷ ns, node) below = refl
+pub made_few : (rows : List Row) → made_by rows ≤ length rows
+made_few [] = omega arith
+made_few (row ∷ rows) = omega (arith, length-append (content_of row.kind) (contents_of rows), few_contents row.kind, made_few rows)
 
-row_again : (row : Row) → IsPlaceText row.path → row_of (entry_of row) ≡ row
-unfolding row_of
-row_again row text = λ i. record { path = sym text.one i; kind = kind_again row.kind i }
+node_kept : (files : Files) (made : ℕ) → ((n : ℕ) → n < made → IsTrue (is_some (content_at files n))) → (standing : Node) → IsFitNode standing → IsBelow made standing → IsNode files standing
+node_kept files made there (Dir owner) fits below = fits
+node_kept files made there (File number) fits below = there number below
+node_kept files made there (Link target) fits below = fits.0
 
-entry_again : (e : Place × Node) → IsTrue (are_names e.0) → entry_of (row_of e) ≡ e
-unfolding row_of
-entry_again e names = λ i. (components-absolute e.0 names i, node_again e.1 i)
+nodes_kept : (files : Files) (made : ℕ) → ((n : ℕ) → n < made → IsTrue (is_some (content_at files n))) → (names : Names) → AllByRecursion (λ e. IsFitNode e.1) names → AreBelow made names → AllByRecursion (λ e. IsNode files e.1) names
+nodes_kept files made there [] fits below = tt
+nodes_kept files made there (e ∷ es) fits below = (node_kept files made there e.1 fits.0 below.0, nodes_kept files made there es fits.1 below.1)
 
--- what rows of a tree file keep each by itself
-below_texts : (earlier rows : List Row) → AreRows earlier rows → AllByRecursion (λ (r : Row). IsPlaceText r.path × (0 < length (place_of r.path))) rows
-below_texts earlier [] grown = tt
-below_texts earlier (row ∷ rows) grown = ((grown.0.path, grown.0.below_root), below_texts (earlier ++ row ∷ []) rows grown.1)
+fit_link : (standing : Node) → IsFitNode standing → IsTrue (link_fits standing)
+fit_link (Dir owner) fits = refl
+fit_link (File number) fits = refl
+fit_link (Link target) fits = fits.1
 
-rows_again : (rows : List Row) → AllByRecursion (λ (r : Row). IsPlaceText r.path × (0 < length (place_of r.path))) rows → flat_map rows_of (map entry_of rows) ≡ rows
-rows_again [] texts = refl
-rows_again (row ∷ rows) texts =
-    let first : rows_of (entry_of row) ≡ row ∷ [] = one_row (entry_of row) texts.0.1 ∙ ap (λ (r : Row). r ∷ []) (row_again row texts.0.0) in
-    λ i. first i ++ rows_again rows texts.1 i
+-- each file that rows come with has a name
 
-entries_again : (entries : Names) → AllByRecursion (λ e. IsPlace e.0 × (0 < length e.0)) entries → map entry_of (flat_map rows_of entries) ≡ entries
-entries_again [] below = refl
-entries_again (e ∷ entries) below =
-    ap (λ (rs : List Row). map entry_of (rs ++ flat_map rows_of entries)) (one_row e below.0.1) ∙ (λ i. entry_again e below.0.0.0 i ∷ entries_again entries below.1 i)
+named_between : (number : ℕ) (xs : Names) (e : Place × Node) (ys : Names) → IsTrue (names_file number e.1) → 0 < times_named (xs ++ e ∷ ys) number
+unfolding retain
+named_between number xs e ys is =
+    let test = λ (q : Place × Node). names_file number q.1 in
+    let here : filter test (e ∷ ys) ≡ e ∷ filter test ys = ap (λ b. cond b (e ∷ filter test ys) (filter test ys)) is in
+    omega (arith, ap length (filter-append test xs (e ∷ ys)), length-append (filter test xs) (filter test (e ∷ ys)), ap length here)
 
-pub place_text : (place : Place) → IsPlace place → IsPlaceText (absolute place)
-place_text place is =
-    let same : components (absolute place) ≡ place = components-absolute place is.0 in
-    record {
-      names = subst (λ (p : Place). IsTrue (are_names p)) (sym same) is.0;
-      depth = omega (arith, ap length same, leb-true (length place) 64 is.1);
-      one = ap absolute (sym same);
-    }
-
-entry_texts : (entries : Names) → AllByRecursion (λ e. IsPlace e.0 × (0 < length e.0)) entries → AllByRecursion (λ (r : Row). IsPlaceText r.path) (flat_map rows_of entries)
-unfolding row_of
-entry_texts [] below = tt
-entry_texts (e ∷ entries) below =
-    subst (λ (rs : List Row). AllByRecursion (λ (r : Row). IsPlaceText r.path) (rs ++ flat_map rows_of entries)) (sym (one_row e below.0.1)) (place_text e.0 below.0.0, entry_texts entries below.1)
+names_each : (root : Owner) (rows : List Row) (number : ℕ) → number < made_by rows → IsTrue (is_named (names_of root rows) number)
+names_each root rows number below =
+    let f = first_of_number rows number below in
+    let here : IsTrue (names_file number (node_of f.at.front f.at.row.kind)) = subst (λ n. IsTrue (names_file n (node_of f.at.front f.at.row.kind))) f.number_is (first_names f.at.front f.at.row.kind f.at.first) in
+    let many = named_between number (names_of root f.at.front) (entry_of f.at.front f.at.row) (entries_behind (f.at.front ++ f.at.row ∷ []) f.at.rest) here in
+    subst (λ (names : Names). IsTrue (is_named names number)) (sym (ap (names_of root) f.at.rows_are ∙ names_split root f.at.front (f.at.row ∷ f.at.rest))) (lt-ltb 0 (times_named (names_of root f.at.front ++ entries_behind f.at.front (f.at.row ∷ f.at.rest)) number) many)
 
 -- ---- from a tree file to its tree
+
+pub table_of_file : (root : Owner) (rows : List Row) → IsOwner root → AreRows [] rows → IsTable root (names_of root rows)
+table_of_file root rows fits fit = table_from_bare root (names_of root rows) (subst (IsTable root) (sym (names_bare root rows)) (table_of_rows root rows fits fit))
 
 pub kept_of_file : (file : TreeFile) → IsTreeFile file → IsKept (tree_of file)
 kept_of_file file is =
     let names = names_of file.root file.rows in
-    let t = table_of_rows file.root file.rows is.root is.rows in
+    let contents = contents_of file.rows in
+    let files = numbered_from 0 contents in
+    let made = length contents in
+    let t = table_of_file file.root file.rows is.root is.rows in
+    let fit = rows_contents [] file.rows is.rows in
     let home = text_place file.home is.home in
-    let many : length names ≡ length (map entry_of file.rows) + 1 = omega arith in
+    let many : length names ≡ length file.rows + 1 = omega (arith, length-entries [] file.rows) in
+    let there = λ (n : ℕ) (below : n < made). numbered_there 0 contents n (omega arith) (omega arith) in
     record {
       well_formed = record {
         ordered = t.ordered;
         named = all_weaker (λ (e : Place × Node). IsPlace e.0) (λ (e : Place × Node). IsTrue (are_names e.0)) names (λ e p. p.0) t.places;
-        nodes = all_weaker (λ (e : Place × Node). IsFitNode e.1) (λ (e : Place × Node). IsNode e.1) names (λ e p. p.0) t.nodes;
+        nodes = nodes_kept files made there names t.nodes (all_below file.root file.rows is.rows);
         root = rw t.root_is refl;
         parents = t.parents;
+        numbered = numbered_order 0 contents;
+        contents = each_content IsContent 0 contents (all_weaker IsFitContent IsContent contents (λ c f. (f.0, f.2)) fit);
+        given = each_number (λ n. n < made) 0 contents (λ n above below. omega arith);
         home = home.0;
         uid = is.uid;
         gid = is.gid;
       };
       within_limits = limits_fit (tree_of file) (record {
-        entries = omega (arith, many, length-map file.rows entry_of, is.count);
+        entries = omega (arith, many, is.count);
         depths = all_pass (λ (e : Place × Node). depth_fits e.0) names (all_weaker (λ (e : Place × Node). IsPlace e.0) (λ (e : Place × Node). IsTrue (depth_fits e.0)) names (λ e p. p.1) t.places);
         home = home.1;
-        links = all_pass (λ (e : Place × Node). link_fits e.1) names (all_weaker (λ (e : Place × Node). IsFitNode e.1) (λ (e : Place × Node). IsTrue (link_fits e.1)) names (λ e p. p.1) t.nodes);
+        links = all_pass (λ (e : Place × Node). link_fits e.1) names (all_weaker (λ (e : Place × Node). IsFitNode e.1) (λ (e : Place × Node). IsTrue (link_fits e.1)) names (λ e p. fit_link e.1 p) t.nodes);
+        files = all_pass (λ (e : ℕ × Content). content_fits (limits (tree_of file)) e.1) files (each_content (λ c. IsTrue (content_fits (limits (tree_of file)) c)) 0 contents (all_weaker IsFitContent (λ c. IsTrue (content_fits (limits (tree_of file)) c)) contents (λ c f. le-leb (length c.bytes) 16777216 f.1) fit));
+        numbers = omega (arith, made_few file.rows, is.count);
       });
+      trimmed = each_number (λ n. IsTrue (is_named names n)) 0 contents (λ n above below. names_each file.root file.rows n (omega arith));
     }
+
+pub numbered_of_file : (file : TreeFile) → IsTreeFile file → IsTrue (is_numbered 0 (tree_of file).names (tree_of file).made)
+numbered_of_file file is = rows_numbered [] file.rows is.rows
 
 pub file_again : (file : TreeFile) → IsTreeFile file → file_of (tree_of file) ≡ file
 file_again file is =
-    let root : root_owner (node_at (names_of file.root file.rows) []) ≡ file.root = ap root_owner (table_of_rows file.root file.rows is.root is.rows).root_is in
-    let rows : flat_map rows_of (map entry_of file.rows) ≡ file.rows = rows_again file.rows (below_texts [] file.rows is.rows) in
+    let root : root_owner (node_at (names_of file.root file.rows) []) ≡ file.root = ap root_owner (root_at file.root (entries_behind [] file.rows)) in
+    let rows : rows_behind (numbered_from 0 (contents_of file.rows)) (only_root file.root) (entries_behind [] file.rows) ≡ file.rows =
+        rows_again file.root (numbered_from 0 (contents_of file.rows)) [] file.rows tt is.rows (numbered_contents (contents_of file.rows)) in
     λ i. record { home = sym is.home.one i; uid = file.uid; gid = file.gid; root = root i; rows = rows i }
 
 -- ---- from a tree to its file
@@ -143,7 +171,9 @@ pub record Split (t : Tree) : Type 0 where
   pub entries : Names
   pub names_are : t.names ≡ only_root root ++ entries
   pub table : IsTable root (only_root root ++ entries)
-  pub below : AllByRecursion (λ e. IsPlace e.0 × (0 < length e.0)) entries
+  pub below : AllByRecursion IsBelowRoot entries
+  pub nodes : AllByRecursion (λ e. IsNode t.files e.1) entries
+  pub few : length entries ≤ 65536
 
 split_by : (t : Tree) → IsKept t → (root : Owner) (entries : Names) → t.names ≡ only_root root ++ entries → IsTable root (only_root root ++ entries) → Split t
 split_by t kept root entries names_are table = record {
@@ -152,7 +182,18 @@ split_by t kept root entries names_are table = record {
   names_are = names_are;
   table = table;
   below = all_together (λ (e : Place × Node). IsPlace e.0) (λ (e : Place × Node). 0 < length e.0) entries (all_right (λ (e : Place × Node). IsPlace e.0) (only_root root) entries table.places) (entries_below root entries table.ordered);
+  nodes = all_right (λ (e : Place × Node). IsNode t.files e.1) (only_root root) entries (subst (λ (names : Names). AllByRecursion (λ e. IsNode t.files e.1) names) names_are kept.well_formed.nodes);
+  few = omega (arith, ap length names_are, (limits_from t kept.within_limits).entries);
 }
+
+node_fits : (files : Files) (standing : Node) → IsNode files standing → IsTrue (link_fits standing) → IsFitNode standing
+node_fits files (Dir owner) is fits = is
+node_fits files (File number) is fits = tt
+node_fits files (Link target) is fits = (is, fits)
+
+nodes_fit : (files : Files) (names : Names) → AllByRecursion (λ e. IsNode files e.1) names → AllByRecursion (λ e. IsTrue (link_fits e.1)) names → AllByRecursion (λ e. IsFitNode e.1) names
+nodes_fit files [] are fit = tt
+nodes_fit files (e ∷ es) are fit = (node_fits files e.1 are.0 fit.0, nodes_fit files es are.1 fit.1)
 
 table_of_kept : (t : Tree) → IsKept t → (root : Owner) → node_at t.names [] ≡ Some (Dir root) → IsTable root t.names
 table_of_kept t kept root root_is =
@@ -161,7 +202,7 @@ table_of_kept t kept root root_is =
     record {
       ordered = w.ordered;
       places = all_together (λ (e : Place × Node). IsTrue (are_names e.0)) (λ (e : Place × Node). IsTrue (depth_fits e.0)) t.names w.named (each_passes (λ (e : Place × Node). depth_fits e.0) t.names l.depths);
-      nodes = all_together (λ (e : Place × Node). IsNode e.1) (λ (e : Place × Node). IsTrue (link_fits e.1)) t.names w.nodes (each_passes (λ (e : Place × Node). link_fits e.1) t.names l.links);
+      nodes = nodes_fit t.files t.names w.nodes (each_passes (λ (e : Place × Node). link_fits e.1) t.names l.links);
       root_is = root_is;
       parents = w.parents;
     }
@@ -172,34 +213,52 @@ split_kept t kept =
     let table = table_of_kept t kept f.0 (ap (λ (n : Names). node_at n []) f.2 ∙ root_at f.0 f.1) in
     split_by t kept f.0 f.1 f.2 (subst (IsTable f.0) f.2 table)
 
-pub names_again : (t : Tree) → IsKept t → names_of (root_owner (node_at t.names [])) (flat_map rows_of t.names) ≡ t.names
-names_again t kept =
-    let s = split_kept t kept in
-    ap (λ (n : Names). names_of (root_owner (node_at n [])) (flat_map rows_of n)) s.names_are
-    ∙ ap (λ (owner : Owner). names_of owner (flat_map rows_of s.entries)) (ap root_owner s.table.root_is)
-    ∙ ap (λ (es : Names). only_root s.root ++ es) (entries_again s.entries s.below)
-    ∙ sym s.names_are
+pub root_of_split : (t : Tree) (s : Split t) → root_owner (node_at t.names []) ≡ s.root
+root_of_split t s = ap (λ (n : Names). root_owner (node_at n [])) s.names_are ∙ ap root_owner s.table.root_is
 
-pub tree_again : (t : Tree) → IsKept t → tree_of (file_of t) ≡ t
-tree_again t kept = λ i. record { names = names_again t kept i; home = components-absolute t.home kept.well_formed.home i; uid = t.uid; gid = t.gid }
+content_fit : (files : Files) → AllByRecursion (λ e. IsContent e.1) files → AllByRecursion (λ e. IsTrue (content_fits (limits blank) e.1)) files → AllByRecursion (λ e. IsFitContent e.1) files
+content_fit [] are fit = tt
+content_fit (e ∷ files) are fit = ((are.0.0, leb-true (length e.1.bytes) 16777216 fit.0, are.0.1), content_fit files are.1 fit.1)
+
+pub fit_files : (t : Tree) → IsKept t → AllByRecursion (λ e. IsFitContent e.1) t.files
+fit_files t kept = content_fit t.files kept.well_formed.contents (each_passes (λ (e : ℕ × Content). content_fits (limits t) e.1) t.files (limits_from t kept.within_limits).files)
+
+rows_of_split : (t : Tree) → IsKept t → (s : Split t) → AreRows [] (rows_behind t.files (only_root s.root) s.entries)
+rows_of_split t kept s =
+    let rows = rows_behind t.files (only_root s.root) s.entries in
+    let table : IsTable s.root (bare_names s.root rows) =
+        subst (IsTable s.root) (ap (λ (es : Names). only_root s.root ++ es) (sym (rows_bare t.files (only_root s.root) s.entries s.below))) (table_bare s.root (only_root s.root ++ s.entries) s.table) in
+    let fit = all_right (λ (e : Place × Node). IsFitNode e.1) (only_root s.root) s.entries s.table.nodes in
+    rows_of_table s.root [] rows table (entry_texts t.files (only_root s.root) s.entries s.below)
+    (kinds_fit t.files s.root [] s.entries fit s.nodes (fit_files t kept) tt s.below (omega (arith, s.few)))
 
 pub file_of_kept : (t : Tree) → IsKept t → IsTreeFile (file_of t)
 file_of_kept t kept =
     let s = split_kept t kept in
     let l = limits_from t kept.within_limits in
-    let rows : List Row = flat_map rows_of t.names in
-    let root : root_owner (node_at t.names []) ≡ s.root = ap (λ (n : Names). root_owner (node_at n [])) s.names_are ∙ ap root_owner s.table.root_is in
-    let table : IsTable s.root (names_of s.root rows) = subst (IsTable s.root) (sym s.names_are ∙ sym (names_again t kept) ∙ ap (λ (owner : Owner). names_of owner rows) root) s.table in
-    let texts : AllByRecursion (λ (r : Row). IsPlaceText r.path) rows = subst (λ (n : Names). AllByRecursion (λ (r : Row). IsPlaceText r.path) (flat_map rows_of n)) (sym s.names_are) (entry_texts s.entries s.below) in
-    let many : length t.names ≡ length (map entry_of rows) + 1 = omega (arith, ap length (names_again t kept)) in
+    let rows : rows_behind t.files [] t.names ≡ rows_behind t.files (only_root s.root) s.entries = ap (rows_behind t.files []) s.names_are in
     record {
       home = place_text t.home (kept.well_formed.home, l.home);
       uid = kept.well_formed.uid;
       gid = kept.well_formed.gid;
-      count = omega (arith, many, length-map rows entry_of, l.entries);
-      root = subst IsOwner (sym root) s.table.nodes.0.0;
-      rows = rows_of_table s.root [] rows table texts;
+      count = omega (arith, ap length rows, length-rows t.files (only_root s.root) s.entries s.below, s.few);
+      root = subst IsOwner (sym (root_of_split t s)) s.table.nodes.0;
+      rows = subst (AreRows []) (sym rows) (rows_of_split t kept s);
     }
+
+pub tree_again : (t : Tree) → IsKept t → IsTrue (is_numbered 0 t.names t.made) → tree_of (file_of t) ≡ t
+tree_again t kept numbered =
+    let s = split_kept t kept in
+    let fit = rows_of_split t kept s in
+    let rows : rows_behind t.files [] t.names ≡ rows_behind t.files (only_root s.root) s.entries = ap (rows_behind t.files []) s.names_are in
+    let a = entries_again s.root t.files [] (only_root s.root) s.entries t.made refl tt fit s.below s.nodes (subst (λ (names : Names). IsTrue (is_numbered 0 names t.made)) s.names_are numbered) in
+    let names : names_of (root_owner (node_at t.names [])) (rows_behind t.files [] t.names) ≡ t.names =
+        (λ i. names_of (root_of_split t s i) (rows i)) ∙ ap (λ (es : Names). only_root s.root ++ es) a.entries_are ∙ sym s.names_are in
+    let made : made_by (rows_behind t.files [] t.names) ≡ t.made = ap made_by rows ∙ a.made_is in
+    let files : numbered_from 0 (contents_of (rows_behind t.files [] t.names)) ≡ t.files =
+        ap (λ (rs : List Row). numbered_from 0 (contents_of rs)) rows
+        ∙ numbered_again t.files (contents_of (rows_behind t.files (only_root s.root) s.entries)) kept.well_formed.numbered (subst (λ n. AllByRecursion (λ e. e.0 < n) t.files) (sym a.made_is) kept.well_formed.given) a.contents in
+    λ i. record { names = names i; files = files i; made = made i; home = components-absolute t.home kept.well_formed.home i; uid = t.uid; gid = t.gid }
 
 -- the place that a text was found to be of
 pub place_found : (text : List ℕ) (place : Place) → IsTextOf text place → place ≡ place_of text
@@ -214,20 +273,24 @@ blank_kept =
       well_formed = record {
         ordered = t.ordered;
         named = (refl, tt);
-        nodes = (t.nodes.0.0, tt);
+        nodes = (t.nodes.0, tt);
         root = rw t.root_is refl;
         parents = t.parents;
+        numbered = numbered_order 0 [];
+        contents = tt;
+        given = tt;
         home = refl;
         uid = omega arith;
         gid = omega arith;
       };
-      within_limits = limits_fit blank (record { entries = omega arith; depths = refl; home = refl; links = refl });
+      within_limits = limits_fit blank (record { entries = omega arith; depths = refl; home = refl; links = refl; files = refl; numbers = omega arith });
+      trimmed = tt;
     }
 
 -- ---- starts
 
 pub kept_of_start : (t : Tree) (bytes : List ℕ) → IsStart t bytes → IsKept t
-kept_of_start t bytes start = record { well_formed = start.well_formed; within_limits = start.within_limits }
+kept_of_start t bytes start = record { well_formed = start.well_formed; within_limits = start.within_limits; trimmed = start.trimmed }
 
 pub spelled_of_start : (t : Tree) (bytes : List ℕ) → IsStart t bytes → IsSpelled (file_of t) bytes
 unfolding picture
@@ -237,11 +300,15 @@ pub start_of_spelled : (file : TreeFile) (bytes : List ℕ) → IsSpelled file b
 unfolding picture
 start_of_spelled file bytes is =
     let kept = kept_of_file file is.may_be in
-    record { well_formed = kept.well_formed; within_limits = kept.within_limits; picture_is = is.bytes_are ∙ ap spelled (sym (file_again file is.may_be)) }
+    record {
+      well_formed = kept.well_formed;
+      within_limits = kept.within_limits;
+      trimmed = kept.trimmed;
+      numbered = numbered_of_file file is.may_be;
+      picture_is = is.bytes_are ∙ ap spelled (sym (file_again file is.may_be));
+    }
 
--- bytes are the tree file of one tree
-pub one_start : (t u : Tree) (bytes : List ℕ) → IsStart t bytes → IsStart u bytes → t ≡ u
-one_start t u bytes t-start u-start =
-    sym (tree_again t (kept_of_start t bytes t-start))
-    ∙ ap tree_of (one_file (file_of t) (file_of u) bytes (spelled_of_start t bytes t-start) (spelled_of_start u bytes u-start))
-    ∙ tree_again u (kept_of_start u bytes u-start)
+-- the tree file of a tree is that of the tree whose files are numbered anew
+pub start_of_picture : (t : Tree) → IsKept t → IsStart (tree_of (file_of t)) (picture t)
+unfolding picture
+start_of_picture t kept = start_of_spelled (file_of t) (picture t) (record { may_be = file_of_kept t kept; bytes_are = refl })

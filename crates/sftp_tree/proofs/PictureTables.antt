@@ -1,5 +1,6 @@
 -- The table of a root and of rows, each of which may stand behind those before it, is the table of a tree, and the
--- rows of each tree's table are such.
+-- rows of each tree's table are such. Here all names of files are of the file 0: what stands where does not hang on which file
+-- it is.
 use Rattle.std.proofs.Common.{◌≡◌, ℕ, ◌<◌, Bool, true, false, ◌&&◌, ◌||◌, cond, List, [], ◌∷◌, ◌++◌, length, map, Option, Some, None, refl, sym, ap, subst, ◌∙◌, append_assoc, arith}
 use Rattle.std.specs.Prelude.{IsTrue}
 use Rattle.std.specs.BTreeMap.{insert_entry, is_at}
@@ -23,11 +24,11 @@ use Rattle.sftp_treefile.specs.declared.files.Owner.{Owner}
 use Rattle.sftp_treefile.specs.declared.files.Kind.{Kind}
 use Rattle.sftp_treefile.specs.declared.files.Kind.TheVariants as kinds
 use Rattle.sftp_treefile.specs.declared.files.Row.{Row}
-use Rattle.sftp_treefile.specs.TreeFile.{place_of, same_place, is_dir, is_dir_at, has_dir, IsOwner, IsKind, IsPlaceText, IsNext, AreRows}
+use Rattle.sftp_treefile.specs.TreeFile.{place_of, same_place, is_dir, is_dir_at, has_dir, is_target, are_bytes, IsOwner, IsKind, IsPlaceText, IsNext, AreRows}
 use Rattle.sftp_tree.specs.declared.nodes.Node.{Node}
-use Rattle.sftp_tree.specs.declared.nodes.Node.TheVariants.{Dir, Link}
-use Rattle.sftp_tree.specs.Tree.{Names, IsNode, node_at, is_directory, is_taken, depth_fits, link_fits}
-use Rattle.sftp_tree.specs.PictureParts.{node_of, entry_of, only_root, names_of}
+use Rattle.sftp_tree.specs.declared.nodes.Node.TheVariants.{Dir, File, Link}
+use Rattle.sftp_tree.specs.Tree.{Names, node_at, is_directory, is_taken, depth_fits}
+use Rattle.sftp_tree.specs.PictureParts.{only_root}
 use Rattle.sftp_tree.proofs.PictureLists.{all_both, all_right, all_weaker, all_from_map, all_to_map, sorted_push, sorted_before, sorted_right, sorted_left, keys_append, lookup_left, lookup_right, lookup_found, insert_last, places_tie, parent_less, root_before}
 
 -- ---- tables
@@ -38,7 +39,27 @@ IsPlace place = IsTrue (are_names place) × IsTrue (depth_fits place)
 
 -- what may stand there
 abbrev pub IsFitNode : Node → Type 0
-IsFitNode node = IsNode node × IsTrue (link_fits node)
+IsFitNode (Dir owner) = IsOwner owner
+IsFitNode (File number) = Unit {0}
+IsFitNode (Link target) = IsTrue (are_bytes target) × IsTrue (is_target target)
+
+-- an entry's node, where all names are of the file 0
+abbrev pub bare_kind : Kind → Node
+bare_kind (kinds.Dir owner) = Dir owner
+bare_kind (kinds.First owner bytes) = File 0
+bare_kind (kinds.Further number) = File 0
+bare_kind (kinds.Link target) = Link target
+
+abbrev pub bare_entry : Row → Place × Node
+bare_entry row = (place_of row.path, bare_kind row.kind)
+
+abbrev pub bare_names : Owner → List Row → Names
+bare_names root rows = only_root root ++ map bare_entry rows
+
+-- each kind may stand behind the rows before it
+abbrev pub AreKinds : List Row → List Row → Type 0
+AreKinds earlier [] = Unit {0}
+AreKinds earlier (row ∷ rows) = IsKind earlier row.kind × AreKinds (earlier ++ row ∷ []) rows
 
 -- what holds of the table of a tree within the limits, but for their number
 pub record IsTable (root : Owner) (names : Names) : Type 0 where
@@ -65,6 +86,7 @@ at_found xs e ys = lookup_found (is_at (place_cmp e.0)) xs e ys (ap is_eq (tied_
 directory_is_some : (o : Option Node) → IsTrue (is_directory o) → (owner : Owner) × (o ≡ Some (Dir owner))
 directory_is_some None h = absurd cc
 directory_is_some (Some (Dir owner)) h = (owner, refl)
+directory_is_some (Some (File number)) h = absurd cc
 directory_is_some (Some (Link target)) h = absurd cc
 
 directory_left : (xs ys : Names) (p : Place) → IsTrue (is_directory (node_at xs p)) → IsTrue (is_directory (node_at (xs ++ ys) p))
@@ -88,17 +110,17 @@ only_equal p e h = by (place_cmp p e.0) h
 
 -- ---- a row at a place is what stands there
 
-kind_is : (kind : Kind) → is_dir kind ≡ is_directory (Some (node_of kind))
+kind_is : (kind : Kind) → is_dir kind ≡ is_directory (Some (bare_kind kind))
 kind_is (kinds.Dir owner) = refl
+kind_is (kinds.First owner bytes) = refl
+kind_is (kinds.Further number) = refl
 kind_is (kinds.Link target) = refl
 
-kind_fits : (kind : Kind) → IsKind kind → IsFitNode (node_of kind)
-kind_fits (kinds.Dir owner) fits = (fits, refl)
-kind_fits (kinds.Link target) fits = (fits.1, fits.0)
-
-fit_kind : (kind : Kind) → IsFitNode (node_of kind) → IsKind kind
-fit_kind (kinds.Dir owner) fits = fits.0
-fit_kind (kinds.Link target) fits = (fits.1, fits.0)
+kind_fits : (earlier : List Row) (kind : Kind) → IsKind earlier kind → IsFitNode (bare_kind kind)
+kind_fits earlier (kinds.Dir owner) fits = fits
+kind_fits earlier (kinds.First owner bytes) fits = tt
+kind_fits earlier (kinds.Further number) fits = tt
+kind_fits earlier (kinds.Link target) fits = (fits.1, fits.0)
 
 here_or_behind : (dir same : Bool) (node : Node) (more : Bool) (o : Option Node) → dir ≡ is_directory (Some node) → more ≡ is_directory o → (same ≡ true → o ≡ None) → ((dir && same) || more) ≡ is_directory (cond same (Some node) o)
 here_or_behind true true node more o dir-is more-is none = dir-is
@@ -106,25 +128,25 @@ here_or_behind false true node more o dir-is more-is none = more-is ∙ ap is_di
 here_or_behind true false node more o dir-is more-is none = more-is
 here_or_behind false false node more o dir-is more-is none = more-is
 
-row_stands : (rows : List Row) (p : Place) → InOrder place_cmp (map entry_of rows) → list_any (is_dir_at p) rows ≡ is_directory (node_at (map entry_of rows) p)
+row_stands : (rows : List Row) (p : Place) → InOrder place_cmp (map bare_entry rows) → list_any (is_dir_at p) rows ≡ is_directory (node_at (map bare_entry rows) p)
 unfolding get
 row_stands [] p sorted = refl
 row_stands (row ∷ rows) p sorted =
     let place = place_of row.path in
-    let behind : node_at (map entry_of rows) place ≡ None = get-below place_cmp place (map entry_of rows) (sorted_head place_cmp place (keys_of (map entry_of rows)) sorted) in
-    let none : same_place place p ≡ true → node_at (map entry_of rows) p ≡ None = (λ same. ap (node_at (map entry_of rows)) (place_cmp-same p place (tied (place_cmp p place) (places_tie p place ∙ same))) ∙ behind) in
-    here_or_behind (is_dir row.kind) (same_place place p) (node_of row.kind) (list_any (is_dir_at p) rows) (node_at (map entry_of rows) p) (kind_is row.kind) (row_stands rows p (sorted_tail place_cmp place (keys_of (map entry_of rows)) sorted)) none
-    ∙ ap (λ b. is_directory (cond b (Some (node_of row.kind)) (node_at (map entry_of rows) p))) (sym (places_tie p place))
+    let behind : node_at (map bare_entry rows) place ≡ None = get-below place_cmp place (map bare_entry rows) (sorted_head place_cmp place (keys_of (map bare_entry rows)) sorted) in
+    let none : same_place place p ≡ true → node_at (map bare_entry rows) p ≡ None = (λ same. ap (node_at (map bare_entry rows)) (place_cmp-same p place (tied (place_cmp p place) (places_tie p place ∙ same))) ∙ behind) in
+    here_or_behind (is_dir row.kind) (same_place place p) (bare_kind row.kind) (list_any (is_dir_at p) rows) (node_at (map bare_entry rows) p) (kind_is row.kind) (row_stands rows p (sorted_tail place_cmp place (keys_of (map bare_entry rows)) sorted)) none
+    ∙ ap (λ b. is_directory (cond b (Some (bare_kind row.kind)) (node_at (map bare_entry rows) p))) (sym (places_tie p place))
   where
     tied : (o : Ordering) → is_eq o ≡ true → o ≡ Equal
     tied Less e = absurd cc
     tied Equal e = refl
     tied Greater e = absurd cc
 
-pub has_dir_is : (root : Owner) (rows : List Row) (p : Place) → InOrder place_cmp (names_of root rows) → has_dir rows p ≡ is_directory (node_at (names_of root rows) p)
+pub has_dir_is : (root : Owner) (rows : List Row) (p : Place) → InOrder place_cmp (bare_names root rows) → has_dir rows p ≡ is_directory (node_at (bare_names root rows) p)
 unfolding get has_dir
 has_dir_is root rows [] sorted = refl
-has_dir_is root rows (n ∷ ns) sorted = row_stands rows (n ∷ ns) (sorted_tail place_cmp [] (keys_of (map entry_of rows)) sorted)
+has_dir_is root rows (n ∷ ns) sorted = row_stands rows (n ∷ ns) (sorted_tail place_cmp [] (keys_of (map bare_entry rows)) sorted)
 
 -- ---- from the root, row by row
 
@@ -138,7 +160,7 @@ unfolding get IsStrictlySortedBy
 root_table root fits = record {
   ordered = (tt, tt);
   places = ((refl, refl), tt);
-  nodes = ((fits, refl), tt);
+  nodes = (fits, tt);
   root_is = refl;
   parents = root_parents root;
 }
@@ -161,35 +183,35 @@ table_push root names e t place node later there = record {
   parents = λ place. parents_push root names e t there place (node_at names place) refl;
 }
 
-later_places : (earlier : List Row) (place : Place) → AllByRecursion (λ (r : Row). place_cmp (place_of r.path) place ≡ Less) earlier → AllByRecursion (λ q. place_cmp q place ≡ Less) (keys_of (map entry_of earlier))
+later_places : (earlier : List Row) (place : Place) → AllByRecursion (λ (r : Row). place_cmp (place_of r.path) place ≡ Less) earlier → AllByRecursion (λ q. place_cmp q place ≡ Less) (keys_of (map bare_entry earlier))
 later_places earlier place later =
-    all_to_map (λ (e : Place × Node). e.0) (λ q. place_cmp q place ≡ Less) (map entry_of earlier) (all_to_map entry_of (λ (e : Place × Node). place_cmp e.0 place ≡ Less) earlier later)
+    all_to_map (λ (e : Place × Node). e.0) (λ q. place_cmp q place ≡ Less) (map bare_entry earlier) (all_to_map bare_entry (λ (e : Place × Node). place_cmp e.0 place ≡ Less) earlier later)
 
 -- the place of a row comes after all places before it
-pub later_than_all : (root : Owner) (earlier : List Row) (row : Row) → IsNext earlier row → AllByRecursion (λ q. place_cmp q (place_of row.path) ≡ Less) (keys_of (names_of root earlier))
+pub later_than_all : (root : Owner) (earlier : List Row) (row : Row) → IsNext earlier row → AllByRecursion (λ q. place_cmp q (place_of row.path) ≡ Less) (keys_of (bare_names root earlier))
 later_than_all root earlier row next = (root_before (place_of row.path) next.below_root, later_places earlier (place_of row.path) next.later)
 
 pub text_place : (text : List ℕ) → IsPlaceText text → IsPlace (place_of text)
 text_place text is = (is.names, le-leb (length (place_of text)) 64 is.depth)
 
-names_split : (root : Owner) (earlier rows : List Row) → names_of root (earlier ++ rows) ≡ names_of root earlier ++ map entry_of rows
-names_split root earlier rows = ap (λ (es : Names). ([], Dir root) ∷ es) (map-append entry_of earlier rows)
+names_split : (root : Owner) (earlier rows : List Row) → bare_names root (earlier ++ rows) ≡ bare_names root earlier ++ map bare_entry rows
+names_split root earlier rows = ap (λ (es : Names). ([], Dir root) ∷ es) (map-append bare_entry earlier rows)
 
 -- one row more
-pub names_push : (root : Owner) (earlier : List Row) (row : Row) → names_of root (earlier ++ row ∷ []) ≡ names_of root earlier ++ entry_of row ∷ []
+pub names_push : (root : Owner) (earlier : List Row) (row : Row) → bare_names root (earlier ++ row ∷ []) ≡ bare_names root earlier ++ bare_entry row ∷ []
 names_push root earlier row = names_split root earlier (row ∷ [])
 
-row_push : (root : Owner) (earlier : List Row) (row : Row) → IsTable root (names_of root earlier) → IsNext earlier row → IsTable root (names_of root (earlier ++ row ∷ []))
+row_push : (root : Owner) (earlier : List Row) (row : Row) → IsTable root (bare_names root earlier) → IsNext earlier row → IsTable root (bare_names root (earlier ++ row ∷ []))
 row_push root earlier row t next =
     subst (IsTable root) (sym (names_push root earlier row))
-    (table_push root (names_of root earlier) (entry_of row) t (text_place row.path next.path) (kind_fits row.kind next.kind) (later_than_all root earlier row next) (sym (has_dir_is root earlier (parent (place_of row.path)) t.ordered) ∙ next.parent))
+    (table_push root (bare_names root earlier) (bare_entry row) t (text_place row.path next.path) (kind_fits earlier row.kind next.kind) (later_than_all root earlier row next) (sym (has_dir_is root earlier (parent (place_of row.path)) t.ordered) ∙ next.parent))
 
-rows_table : (root : Owner) (earlier rows : List Row) → IsTable root (names_of root earlier) → AreRows earlier rows → IsTable root (names_of root (earlier ++ rows))
+rows_table : (root : Owner) (earlier rows : List Row) → IsTable root (bare_names root earlier) → AreRows earlier rows → IsTable root (bare_names root (earlier ++ rows))
 rows_table root earlier [] t grown = rw append-nil t
 rows_table root earlier (row ∷ rows) t grown =
-    subst (λ (rs : List Row). IsTable root (names_of root rs)) (append_assoc earlier (row ∷ []) rows) (rows_table root (earlier ++ row ∷ []) rows (row_push root earlier row t grown.0) grown.1)
+    subst (λ (rs : List Row). IsTable root (bare_names root rs)) (append_assoc earlier (row ∷ []) rows) (rows_table root (earlier ++ row ∷ []) rows (row_push root earlier row t grown.0) grown.1)
 
-pub table_of_rows : (root : Owner) (rows : List Row) → IsOwner root → AreRows [] rows → IsTable root (names_of root rows)
+pub table_of_rows : (root : Owner) (rows : List Row) → IsOwner root → AreRows [] rows → IsTable root (bare_names root rows)
 table_of_rows root rows fits grown = rows_table root [] rows (root_table root fits) grown
 
 -- ---- and back
@@ -202,38 +224,39 @@ none_behind : (e : Place × Node) (entries : Names) (p : Place) → IsStrictlySo
 unfolding get
 none_behind e entries p sorted less = lookup-none (is_at (place_cmp p)) (e ∷ entries) (none_below_head place_cmp-total p e entries sorted less)
 
-next_of_table : (root : Owner) (earlier : List Row) (row : Row) (rows : List Row) → IsTable root (names_of root (earlier ++ row ∷ rows)) → IsPlaceText row.path → IsNext earlier row
-next_of_table root earlier row rows whole text =
+next_of_table : (root : Owner) (earlier : List Row) (row : Row) (rows : List Row) → IsTable root (bare_names root (earlier ++ row ∷ rows)) → IsPlaceText row.path → IsKind earlier row.kind → IsNext earlier row
+next_of_table root earlier row rows whole text kind =
     let place = place_of row.path in
-    let front = names_of root earlier in
-    let back : Names = entry_of row ∷ map entry_of rows in
+    let front = bare_names root earlier in
+    let back : Names = bare_entry row ∷ map bare_entry rows in
     let t : IsTable root (front ++ back) = subst (IsTable root) (names_split root earlier (row ∷ rows)) whole in
     let sorted : IsStrictlySortedBy place_cmp (keys_of front ++ keys_of back) = subst (IsStrictlySortedBy place_cmp) (keys_append front back) t.ordered in
-    let later = sorted_before place_cmp (keys_of front) place (keys_of (map entry_of rows)) sorted in
+    let later = sorted_before place_cmp (keys_of front) place (keys_of (map bare_entry rows)) sorted in
     let below = below_root place later.0 in
-    let found = at_found front (entry_of row) (map entry_of rows) in
+    let found = at_found front (bare_entry row) (map bare_entry rows) in
     let there_in_all : IsTrue (is_directory (node_at (front ++ back) (parent place))) = t.parents place (rw found.1 refl) in
-    let behind = none_behind (entry_of row) (map entry_of rows) (parent place) (sorted_right place_cmp (keys_of front) (keys_of back) sorted) (parent_less place below) in
+    let behind = none_behind (bare_entry row) (map bare_entry rows) (parent place) (sorted_right place_cmp (keys_of front) (keys_of back) sorted) (parent_less place below) in
     let there = directory_in_front front back (parent place) (node_at front (parent place)) refl behind there_in_all in
     record {
       path = text;
       below_root = below;
-      later = all_from_map entry_of (λ (e : Place × Node). place_cmp e.0 place ≡ Less) earlier (all_from_map (λ (e : Place × Node). e.0) (λ q. place_cmp q place ≡ Less) (map entry_of earlier) later.1);
+      later = all_from_map bare_entry (λ (e : Place × Node). place_cmp e.0 place ≡ Less) earlier (all_from_map (λ (e : Place × Node). e.0) (λ q. place_cmp q place ≡ Less) (map bare_entry earlier) later.1);
       parent = has_dir_is root earlier (parent place) (sorted_left place_cmp (keys_of front) (keys_of back) sorted) ∙ there;
-      kind = fit_kind row.kind (all_right (λ (e : Place × Node). IsFitNode e.1) front back t.nodes).0;
+      kind = kind;
     }
 
-pub rows_of_table : (root : Owner) (earlier rows : List Row) → IsTable root (names_of root (earlier ++ rows)) → AllByRecursion (λ (r : Row). IsPlaceText r.path) rows → AreRows earlier rows
-rows_of_table root earlier [] t texts = tt
-rows_of_table root earlier (row ∷ rows) t texts =
-    let split : IsTable root (names_of root ((earlier ++ row ∷ []) ++ rows)) = subst (λ (rs : List Row). IsTable root (names_of root rs)) (sym (append_assoc earlier (row ∷ []) rows)) t in
-    (next_of_table root earlier row rows t texts.0, rows_of_table root (earlier ++ row ∷ []) rows split texts.1)
+pub rows_of_table : (root : Owner) (earlier rows : List Row) → IsTable root (bare_names root (earlier ++ rows)) → AllByRecursion (λ (r : Row). IsPlaceText r.path) rows → AreKinds earlier rows → AreRows earlier rows
+rows_of_table root earlier [] t texts fit = tt
+rows_of_table root earlier (row ∷ rows) t texts fit =
+    let split : IsTable root (bare_names root ((earlier ++ row ∷ []) ++ rows)) = subst (λ (rs : List Row). IsTable root (bare_names root rs)) (sym (append_assoc earlier (row ∷ []) rows)) t in
+    (next_of_table root earlier row rows t texts.0 fit.0, rows_of_table root (earlier ++ row ∷ []) rows split texts.1 fit.1)
 
 -- the root stands first
 pub root_first : (names : Names) → InOrder place_cmp names → IsTrue (is_directory (node_at names [])) → (root : Owner) × (entries : Names) × (names ≡ only_root root ++ entries)
 unfolding get
 root_first [] sorted there = absurd cc
 root_first (([], Dir root) ∷ entries) sorted there = (root, entries, refl)
+root_first (([], File number) ∷ entries) sorted there = absurd cc
 root_first (([], Link target) ∷ entries) sorted there = absurd cc
 root_first ((n ∷ ns, node) ∷ entries) sorted there =
     let none = none_behind (n ∷ ns, node) entries [] sorted refl in
@@ -248,15 +271,3 @@ entries_below root entries sorted =
 pub root_at : (root : Owner) (entries : Names) → node_at (only_root root ++ entries) [] ≡ Some (Dir root)
 unfolding get
 root_at root entries = refl
-
--- ---- the table, entry by entry
-
-pub first_entry : (root : Owner) (names new : Names) (place : Place) → names ≡ [] → place ≡ [] → new ≡ insert_entry place_cmp names place (Dir root) → new ≡ only_root root
-first_entry root names new place empty at put = put ∙ (λ i. insert_entry place_cmp (empty i) (at i) (Dir root))
-
-pub entry_put : (root : Owner) (earlier : List Row) (row : Row) (names new : Names) (place : Place) (node : Node) → IsNext earlier row → names ≡ names_of root earlier
-    → place ≡ place_of row.path → node ≡ node_of row.kind → new ≡ insert_entry place_cmp names place node → new ≡ names_of root (earlier ++ row ∷ [])
-entry_put root earlier row names new place node next names-are place-is node-is put =
-    put ∙ (λ i. insert_entry place_cmp (names-are i) (place-is i) (node-is i))
-    ∙ insert_last place_cmp-total (names_of root earlier) (place_of row.path) (node_of row.kind) (later_than_all root earlier row next)
-    ∙ sym (names_push root earlier row)

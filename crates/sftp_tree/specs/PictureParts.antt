@@ -1,7 +1,11 @@
--- The tree that a tree file speaks of.
-use Rattle.std.specs.Prelude.{ℕ, suc, ◌+◌, ◌-◌, List, [], ◌∷◌, ◌++◌, length, take}
-use Rattle.std.specs.List.{flat_map}
+-- The tree that a tree file speaks of, and what the code keeps on its way from the one to the other.
+use Rattle.std.specs.Prelude.{◌≡◌, ℕ, suc, ◌+◌, ◌-◌, ◌≤◌, List, [], ◌∷◌, ◌++◌, length, take, slice_index, Option, Some, None}
+use Rattle.std.specs.BTreeMap.{is_at}
+use Rattle.std.specs.List.{flat_map, AllByRecursion}
+use Rattle.std.specs.Map.{set_value}
+use Rattle.std.specs.Ordering.{nat_cmp}
 use Rattle.sftp_path.specs.Place.{Place}
+use Rattle.sftp_path.specs.Table.{Table, get, put}
 use Rattle.sftp_treefile.specs.declared.files.Owner.{Owner}
 use Rattle.sftp_treefile.specs.declared.files.Kind.{Kind}
 use Rattle.sftp_treefile.specs.declared.files.Kind.TheVariants as kinds
@@ -9,9 +13,11 @@ use Rattle.sftp_treefile.specs.declared.files.Row.{Row}
 use Rattle.sftp_treefile.specs.declared.files.TreeFile.{TreeFile}
 use Rattle.sftp_treefile.specs.TreeFile.{place_of}
 use Rattle.sftp_tree.specs.declared.contents.Content.{Content}
+use Rattle.sftp_tree.specs.declared.contents.Stored.{Stored}
 use Rattle.sftp_tree.specs.declared.nodes.Node.{Node}
 use Rattle.sftp_tree.specs.declared.nodes.Node.TheVariants.{Dir, File, Link}
 use Rattle.sftp_tree.specs.Tree.{Names, Files, Tree}
+use Rattle.sftp_tree.specs.Stored.{contents, AreCounted}
 
 -- the file that an entry comes with
 abbrev pub content_of : Kind → List Content
@@ -60,3 +66,54 @@ tree_of file = record {
   uid = file.uid;
   gid = file.gid;
 }
+
+-- ---- on the way to the tree
+
+-- for each entry how many files those before it come with, which is the number of its own file where it comes with one
+abbrev pub numbers_from : ℕ → List Row → List ℕ
+numbers_from number [] = []
+numbers_from number (row ∷ rows) = number ∷ numbers_from (number + length (content_of row.kind)) rows
+
+-- the number of the file that a further name of the entry of this number is of
+abbrev pub known_number : List ℕ → ℕ → ℕ
+known_number numbers entry = slice_index numbers (entry - 1)
+
+-- what stands there, by the numbers of the entries before it and the number of the next file
+abbrev pub known_node : List ℕ → ℕ → Kind → Node
+known_node numbers next (kinds.Dir owner) = Dir owner
+known_node numbers next (kinds.First owner bytes) = File next
+known_node numbers next (kinds.Further entry) = File (known_number numbers entry)
+known_node numbers next (kinds.Link target) = Link target
+
+-- a further name is of an entry before it
+abbrev pub IsKnown : List ℕ → Kind → Type 0
+IsKnown numbers (kinds.Dir owner) = Unit {0}
+IsKnown numbers (kinds.First owner bytes) = Unit {0}
+IsKnown numbers (kinds.Further entry) = (1 ≤ entry) × (entry ≤ length numbers)
+IsKnown numbers (kinds.Link target) = Unit {0}
+
+-- files that have a name each
+abbrev pub Stores : Type 0
+Stores = Table ℕ Stored
+
+-- so many names that there is room for one more
+abbrev pub HaveRoom : Stores → Type 0
+HaveRoom stores = AllByRecursion (λ e. e.1.names ≤ 65537) stores
+
+-- where the file of the number is, it has a name more
+abbrev pub with_name : Stores → ℕ → Option Stored → Stores
+with_name stores number None = stores
+with_name stores number (Some s) = set_value (is_at (nat_cmp number)) stores (record s { names = s.names + 1 })
+
+-- the files with what an entry says of them
+abbrev pub stores_with : Stores → List ℕ → ℕ → Kind → Stores
+stores_with stores numbers next (kinds.Dir owner) = stores
+stores_with stores numbers next (kinds.First owner bytes) = put nat_cmp stores next (record { content = record { owner = owner; bytes = bytes }; names = 1 })
+stores_with stores numbers next (kinds.Further entry) = with_name stores (known_number numbers entry) (get nat_cmp stores (known_number numbers entry))
+stores_with stores numbers next (kinds.Link target) = stores
+
+-- these stand at their places, and these are the files, where a tree file has these rows
+pub record IsGrown (root : Owner) (rows : List Row) (names : Names) (stores : Stores) : Type 0 where
+  pub names_are : names ≡ names_of root rows
+  pub contents_are : contents stores ≡ numbered_from 0 (contents_of rows)
+  pub counted : AreCounted names stores
