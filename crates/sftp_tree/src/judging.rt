@@ -59,7 +59,7 @@ impl Tree {
     }
 
     /// Does nothing. Its contract says what every tree keeps.
-    pub(crate) fn see(&self)
+    pub fn see(&self)
         ensures { tree.IsKept self.now }
     {
         let _ = self.names();
@@ -331,7 +331,7 @@ impl Tree {
     }
 
     /// Whether both are one place, or names of one file.
-    fn are_one(&self, old: &Place, new: &Place) -> bool
+    pub(crate) fn are_one(&self, old: &Place, new: &Place) -> bool
         ensures { result ≡ steps.are_one self.now.names old.now new.now }
     {
         old == new || are_one_file(self.standing(old), self.standing(new))

@@ -11,12 +11,12 @@ ghost use Rattle.sftp_tree.specs.Tree.{Tree, IsKept, IsTrimmed, IsNode, IsConten
 ghost use Rattle.sftp_tree.specs.Steps.{goes_inside, put_in_its_stead};
 
 /// A tree whose files all have names is trimmed already.
-pub(crate) fn trimmed_already()
+pub fn trimmed_already()
     ensures { (t : Tree) → IsTrimmed t → trim t ≡ t }
 {}
 
 /// With an entry more, where nothing stood and the parent is a directory.
-pub(crate) fn kept_with_entry()
+pub fn kept_with_entry()
     ensures { (t : Tree) (place : Place) (it : Node) → IsKept t → IsTrue (are_names place) → node_at t.names place ≡ None →
         IsTrue (is_directory (node_at t.names (parent place))) → IsNode t.files it →
         IsTrue (fits (record t { names = with_node t.names place it })) →
@@ -24,44 +24,44 @@ pub(crate) fn kept_with_entry()
 {}
 
 /// Nothing stands below what is no directory.
-pub(crate) fn nothing_below()
+pub fn nothing_below()
     ensures { (t : Tree) (place : Place) → IsKept t → is_directory (node_at t.names place) ≡ false → has_entries t.names place ≡ false }
 {}
 
 /// Where nothing stands below a place, no place that it begins but itself is taken.
-pub(crate) fn alone_there()
+pub fn alone_there()
     ensures { (t : Tree) (place : Place) → IsKept t → has_entries t.names place ≡ false →
         (n : Name) (ns : List Name) → node_at t.names (place ++ n ∷ ns) ≡ None }
 {}
 
 /// With an entry less, which is not the root and has nothing below it. A file goes with its last name.
-pub(crate) fn kept_without_entry()
+pub fn kept_without_entry()
     ensures { (t : Tree) (place : Place) → IsKept t → IsTrue (is_taken (node_at t.names place)) → is_root place ≡ false →
         has_entries t.names place ≡ false → IsKept (trim (record t { names = without_node t.names place })) }
 {}
 
 /// A new place whose parent is a directory is not the old one, nor below it, where no directory would go inside itself.
-pub(crate) fn places_apart()
+pub fn places_apart()
     ensures { (t : Tree) (old new : Place) → IsKept t → IsTrue (is_taken (node_at t.names old)) → goes_inside t.names old new ≡ false →
         same_place old new ≡ false → IsTrue (is_directory (node_at t.names (parent new))) → begins old new ≡ false }
 {}
 
 /// With what stands at the old place, and all below it, at the new one, in the stead of what stands there alone. A file goes with
 /// its last name.
-pub(crate) fn kept_after_move()
+pub fn kept_after_move()
     ensures { (t : Tree) (old new : Place) → IsKept t → IsTrue (are_names new) → IsTrue (is_taken (node_at t.names old)) →
         is_root old ≡ false → is_root new ≡ false → begins old new ≡ false → IsTrue (is_directory (node_at t.names (parent new))) →
         has_entries t.names new ≡ false → IsTrue (fits (put_in_its_stead t old new)) → IsKept (trim (put_in_its_stead t old new)) }
 {}
 
 /// With another owner of a directory.
-pub(crate) fn kept_with_owner()
+pub fn kept_with_owner()
     ensures { (t : Tree) (place : Place) (before owner : Owner) → IsKept t → node_at t.names place ≡ Some (Dir before) → IsOwner owner →
         IsKept (record t { names = with_node t.names place (Dir owner) }) }
 {}
 
 /// With another content of a file.
-pub(crate) fn kept_with_content()
+pub fn kept_with_content()
     ensures { (t : Tree) (number : ℕ) (before content : Content) → IsKept t → content_at t.files number ≡ Some before → IsContent content →
         IsTrue (content_fits (limits t) content) → IsKept (record t { files = with_content t.files number content }) }
 {}

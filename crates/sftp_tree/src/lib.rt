@@ -6,7 +6,7 @@ mod attributes;
 mod causes;
 mod contents;
 mod judging;
-mod keeping;
+pub mod keeping;
 pub mod laws;
 mod led;
 pub mod limit_laws;

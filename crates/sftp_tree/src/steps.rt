@@ -326,14 +326,6 @@ impl Tree {
         }
     }
 
-    /// Whether both are one place, or names of one file.
-    #[tactic(auto, unfolding(sftp_path::specs::Table::get))]
-    fn are_one(&self, old: &Place, new: &Place) -> bool
-        ensures { result ≡ steps.are_one self.now.names old.now new.now }
-    {
-        old == new || are_one_file(self.names().get(old), self.names().get(new))
-    }
-
     /// Sets the attributes of what stands at a place.
     ///
     /// # Errors
@@ -404,16 +396,6 @@ fn see_attributes(attrs: &Attrs)
             permissions: 0,
         },
     );
-}
-
-/// Whether both are names of one file.
-fn are_one_file(first: Option<&Node>, second: Option<&Node>) -> bool
-    ensures { result ≡ steps.are_one_file (option_copied first.entry) (option_copied second.entry) }
-{
-    match (first, second) {
-        (Some(Node::File(first)), Some(Node::File(second))) => first == second,
-        _ => false,
-    }
 }
 
 #[cfg(test)]
