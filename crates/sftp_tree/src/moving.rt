@@ -64,6 +64,7 @@ fn move_alone(names: &mut BTreeMap<Place, Node>, old: &Place, new: Place) -> Res
 }
 
 /// Moves what stands at the old place, with all below it, by a table of its own.
+#[tactic(auto, unfolding(sftp_path::specs::Table::get))]
 fn move_all(names: &mut BTreeMap<Place, Node>, old: &Place, new: &Place) -> Result<Option<Node>, NoMemory>
     requires alone { (n : Name) (ns : List Name) → node_at names.old.entries (new.now ++ n ∷ ns) ≡ None }
     ensures gone { IfOk result (λ gone. gone ≡ node_at names.old.entries new.now) }
