@@ -1,5 +1,5 @@
 -- What stands where, after what stood at one place went to another in the stead of what stood there.
-use Rattle.std.proofs.Common.{◌≡◌, ◌≢◌, ℕ, ◌+◌, Bool, true, false, ◌&&◌, ◌||◌, cond, List, [], ◌∷◌, ◌++◌, refl, sym, ap, subst, ◌∙◌, arith, Option, Some, None, IsTrue, if◌then◌else◌}
+use Rattle.std.proofs.Common.{◌≡◌, ◌≢◌, ℕ, ◌+◌, Bool, true, false, ◌&&◌, ◌||◌, cond, [], ◌∷◌, ◌++◌, refl, sym, ap, subst, ◌∙◌, Option, Some, None, if◌then◌else◌}
 use Rattle.std.specs.Ordering.{is_eq, ordering_reverse}
 use Rattle.std.specs.declared.cmp.Ordering.{Ordering}
 use Rattle.std.specs.declared.cmp.Ordering.TheVariants.{Less, Equal, Greater}
@@ -13,7 +13,7 @@ use Rattle.std.specs.Map.{lookup, remove_entry}
 use Rattle.std.specs.BTreeMap.{is_at}
 use Rattle.std.proofs.lemmas.List.{append-nil}
 use Rattle.sftp_path.specs.Place.{Name, Place, place_cmp, is_below, begins}
-use Rattle.sftp_path.specs.Table.{Table, InOrder, get, put, without, from_entries}
+use Rattle.sftp_path.specs.Table.{InOrder, get, put, without, from_entries}
 use Rattle.sftp_path.specs.Rekeying.{rekeyed, renamed, NothingFrom}
 use Rattle.sftp_path.proofs.Order.{place_cmp-total, place_cmp-same, begins-append}
 use Rattle.sftp_path.proofs.TableLaws.{get-put, get-without, get-without_here, get-without_elsewhere, InOrder-put, InOrder-without, same_table}

@@ -23,14 +23,13 @@ parts c =
     let alone : (n : Name) (ns : Place) → node_at names (new ++ n ∷ ns) ≡ None = λ n ns. ap (λ (t : Tree). node_at t.names (new ++ n ∷ ns)) c.self.view_is ∙ c.requires.alone n ns in
     let is : c.move_node.new.names.entries ≡ rekeyed old new (without_node names new) = c.in_ok-gone.ensures.moved in
     let less : (number : ℕ) → times_named c.move_node.new.names.entries number + one_name gone number ≡ times_named names number =
-        λ number. ap (λ ns. times_named ns number + one_name gone number) is ∙ named-moved names old new c.self.invariant.0.well_formed.ordered alone gone refl number in
+    λ number. ap (λ ns. times_named ns number + one_name gone number) is ∙ named-moved names old new c.self.invariant.0.well_formed.ordered alone gone refl number in
     let named : c.file_named.result ≡ file_named gone = c.file_named.ensures ∙ ap file_named (c.as_ref.ensures.value ∙ c.in_ok-gone.ensures.gone) in
     let changed = subst (λ named. IsChangedWhereNamed without_a_name named c.self.inside.files.entries c.forget_name.new.files.entries) named c.forget_name.ensures in
-    let both = left-parts names c.self.inside.files.entries c.self.inside.made c.self.inside.home c.self.inside.uid c.self.inside.gid c.self.invariant.0 c.self.invariant.1 gone c.move_node.new.names.entries c.forget_name.new.files.entries less changed in
-    (
+    let both = left-parts names c.self.inside.files.entries c.self.inside.made c.self.inside.home c.self.inside.uid c.self.inside.gid c.self.invariant.0 c.self.invariant.1 gone c.move_node.new.names.entries c.forget_name.new.files.entries less changed in (
       both.0 ∙ ap (λ ns. trim (record { names = ns; files = contents c.self.inside.files.entries; made = c.self.inside.made; home = c.self.inside.home; uid = c.self.inside.uid; gid = c.self.inside.gid })) is
-      ∙ ap (λ (t : Tree). trim (put_in_its_stead t old new)) c.self.view_is,
-      both.1
+          ∙ ap (λ (t : Tree). trim (put_in_its_stead t old new)) c.self.view_is,
+      both.1,
     )
 
 pub invariant_of-self-2 : goal.invariant_of-self-2
