@@ -1,5 +1,5 @@
 -- Counts of names: that they stay right where a name of a file comes or goes, and that a file goes with its last name.
-use Rattle.std.proofs.Common.{◌≡◌, ◌≢◌, ℕ, ◌+◌, ◌-◌, ◌<◌, ◌≤◌, Bool, true, false, ◌||◌, cond, not, nat_lt, nat_le, List, [], ◌∷◌, length, refl, sym, ap, subst, ◌∙◌, arith, inl, inr, Option, Some, None, IsTrue, if◌then◌else◌, option_map, option_and_then}
+use Rattle.std.proofs.Common.{◌≡◌, ◌≢◌, ℕ, ◌+◌, ◌-◌, ◌<◌, Bool, true, false, ◌||◌, cond, not, nat_lt, nat_le, [], ◌∷◌, refl, sym, ap, subst, ◌∙◌, arith, inl, inr, Option, Some, None, IsTrue, if◌then◌else◌, option_map, option_and_then}
 use Rattle.std.specs.Ordering.{nat_cmp, is_eq}
 use Rattle.std.specs.Cmp.{Equal-is, nat_cmp_total}
 use Rattle.std.specs.FinMap.{nat_cmp-IsAntisymmetric}
@@ -44,11 +44,10 @@ module _ {X : Type 0} (P : ℕ → X → Type 0) where
   -- what holds at each number holds of each entry
   pub at-entries : (es : Table ℕ X) → InOrder nat_cmp es → ((number : ℕ) (x : X) → get nat_cmp es number ≡ Some x → P number x) → AllByRecursion (λ e. P e.0 e.1) es
   at-entries [] order each = tt
-  at-entries (e ∷ es) order each =
-      (
-        each e.0 e.1 (get-cons nat_cmp e es e.0 ∙ ap (λ o. cond (is_eq o) (Some e.1) (get nat_cmp es e.0)) (tied_itself nat_cmp_total e.0)),
-        at-entries es (sorted_tail nat_cmp e.0 (keys_of es) order) (λ number x there. each number x (get-cons nat_cmp e es number ∙ ap (λ b. cond b (Some e.1) (get nat_cmp es number)) (miss number x there) ∙ there))
-      )
+  at-entries (e ∷ es) order each = (
+    each e.0 e.1 (get-cons nat_cmp e es e.0 ∙ ap (λ o. cond (is_eq o) (Some e.1) (get nat_cmp es e.0)) (tied_itself nat_cmp_total e.0)),
+    at-entries es (sorted_tail nat_cmp e.0 (keys_of es) order) (λ number x there. each number x (get-cons nat_cmp e es number ∙ ap (λ b. cond b (Some e.1) (get nat_cmp es number)) (miss number x there) ∙ there)),
+  )
     where
       miss : (number : ℕ) (x : X) → get nat_cmp es number ≡ Some x → is_eq (nat_cmp number e.0) ≡ false
       miss number x there = by (is_eq (nat_cmp number e.0)) refl
@@ -258,11 +257,10 @@ module _ (names others : Names) (files : Table ℕ Stored) where
             (λ differ. count-was other s (sym (changed.others other differ) ∙ there) ∙ sym (alike other differ))
 
     lost-none : (after : Table ℕ Stored) → ((other : ℕ) → times_named others other ≡ times_named names other) → after ≡ files → (contents after ≡ retain (contents files) (keeps_a_name others)) × AreCounted others after
-    lost-none after alike same =
-        (
-          ap contents same ∙ left-contents files order order (λ number. stayed-content number (keeps_a_name others) (get nat_cmp files number) (stays number (alike number))),
-          subst (AreCounted others) (sym same) (counted-again names others files order alike counted)
-        )
+    lost-none after alike same = (
+      ap contents same ∙ left-contents files order order (λ number. stayed-content number (keeps_a_name others) (get nat_cmp files number) (stays number (alike number))),
+      subst (AreCounted others) (sym same) (counted-again names others files order alike counted),
+    )
 
     -- with a name less of the file that it named, or without that file, the counts are right again and each file left has a name
     pub lowered : (gone : Option Node) → ((other : ℕ) → times_named others other + one_name gone other ≡ times_named names other) → (after : Table ℕ Stored) → IsChangedWhereNamed without_a_name (file_named gone) files after → (contents after ≡ retain (contents files) (keeps_a_name others)) × AreCounted others after

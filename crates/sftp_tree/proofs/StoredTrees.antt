@@ -1,19 +1,18 @@
 -- Trees as the code has them: what a change of the names and of the counts makes of them.
-use Rattle.std.proofs.Common.{◌≡◌, ℕ, ◌+◌, ◌-◌, ◌<◌, ◌≤◌, ◌^◌, Bool, true, false, ◌&&◌, not, nat_lt, nat_le, option_map, List, length, refl, sym, ap, subst, ◌∙◌, arith, Option, Some, None, IfSome, IsTrue}
+use Rattle.std.proofs.Common.{◌≡◌, ℕ, ◌+◌, ◌-◌, ◌<◌, ◌≤◌, ◌^◌, true, ◌&&◌, not, nat_lt, nat_le, option_map, length, refl, sym, ap, subst, ◌∙◌, arith, Option, Some, None, IfSome, IsTrue}
 use Rattle.std.specs.Ordering.{nat_cmp}
 use Rattle.std.specs.Cmp.{first_so}
-use Rattle.std.specs.List.{AllByRecursion}
 use Rattle.std.specs.List.Sorted.{IsStrictlySortedBy}
 use Rattle.std.proofs.lemmas.Bool.Decides.{nat_tests}
 use Rattle.std.proofs.lemmas.List.Filters.{length-filter_both}
 use Rattle.std.proofs.lemmas.Map.Made.{keys_of-map_values}
 use Rattle.sftp_path.specs.Place.{Place, place_cmp}
-use Rattle.sftp_path.specs.Table.{Table, InOrder, get, put, without, retain}
+use Rattle.sftp_path.specs.Table.{Table, InOrder, get, retain}
 use Rattle.sftp_path.proofs.ValueLaws.{get-with_values}
 use Rattle.sftp_tree.specs.declared.contents.Content.{Content}
 use Rattle.sftp_tree.specs.declared.contents.Stored.{Stored}
 use Rattle.sftp_tree.specs.declared.nodes.Node.{Node}
-use Rattle.sftp_tree.specs.Tree.{Names, Files, Tree, IsKept, IsTrimmed, IsContent, is_directory, content_at, is_named, fits, entries_fit, depths_fit, home_fits, links_fit, files_fit, numbers_fit, node_at, with_node, without_node, names_file, times_named, trim}
+use Rattle.sftp_tree.specs.Tree.{Names, Tree, IsKept, IsTrimmed, IsContent, is_directory, content_at, is_named, fits, entries_fit, depths_fit, home_fits, links_fit, files_fit, numbers_fit, node_at, with_node, names_file, times_named, trim}
 use Rattle.sftp_tree.specs.declared.nodes.Node.TheVariants.{Dir, File, Link}
 use Rattle.sftp_wire.specs.declared.attributes.Attrs.{Attrs}
 use Rattle.sftp_treefile.specs.declared.files.Owner.{Owner}
@@ -22,7 +21,7 @@ use Rattle.sftp_path.proofs.Order.{place_cmp-total}
 use Rattle.sftp_path.proofs.CountLaws.{count-put_again}
 use Rattle.sftp_tree.specs.Steps.{with_changed_file}
 use Rattle.sftp_tree.specs.Stored.{contents, AreCounted, file_named, IsChanged, IsChangedWhereNamed, with_a_name, without_a_name, with_attributes_set}
-use Rattle.sftp_tree.proofs.StoredNames.{at-number, one_name, named-put, named-without, raised, lowered, counted-again, counted-changed, contents-changed, contents-unchanged}
+use Rattle.sftp_tree.proofs.StoredNames.{at-number, one_name, named-put, raised, lowered, counted-again, counted-changed, contents-changed, contents-unchanged}
 
 -- the tree of these parts
 abbrev pub seen : Names → Table ℕ Stored → ℕ → Place → ℕ → ℕ → Tree
@@ -86,10 +85,9 @@ module _ (names : Names) (files : Table ℕ Stored) (made : ℕ) (home : Place) 
   pub put-parts : (place : Place) (it : Node) → IsKept the_tree → AreCounted names files → node_at names place ≡ None → (others : Names) (after : Table ℕ Stored) → others ≡ with_node names place it → IsChangedWhereNamed with_a_name (file_named (Some it)) files after → (seen others after made home uid gid ≡ record the_tree { names = with_node names place it }) × AreCounted others after
   put-parts place it kept counted absent others after is changed =
       let order = files-in_order files kept.well_formed.numbered in
-      let both = raised names (with_node names place it) files it (named-put names place it absent) after order counted changed in
-      (
+      let both = raised names (with_node names place it) files it (named-put names place it absent) after order counted changed in (
         (λ i. record { names = is i; files = both.0 i; made = made; home = home; uid = uid; gid = gid }),
-        subst (λ ns. AreCounted ns after) (sym is) both.1
+        subst (λ ns. AreCounted ns after) (sym is) both.1,
       )
 
   -- something less
@@ -114,12 +112,11 @@ module _ (names : Names) (files : Table ℕ Stored) (made : ℕ) (home : Place) 
 
   -- other attributes of a file
   pub changed-parts : IsKept the_tree → AreCounted names files → (attrs : Attrs) (number : ℕ) (after : Table ℕ Stored) → IsChanged (with_attributes_set attrs) number files after → (seen names after made home uid gid ≡ with_changed_file the_tree attrs number (content_at (contents files) number)) × AreCounted names after
-  changed-parts kept counted attrs number after changed =
-      (
-        by (get nat_cmp files number) refl
+  changed-parts kept counted attrs number after changed = (
+    by (get nat_cmp files number) refl
         ∙ ap (with_changed_file the_tree attrs number) (sym (get-with_values nat_cmp (λ (s : Stored). s.content) files number)),
-        counted-changed names files attrs number after counted changed
-      )
+    counted-changed names files attrs number after counted changed,
+  )
     where
       by : (o : Option Stored) → get nat_cmp files number ≡ o → seen names after made home uid gid ≡ with_changed_file the_tree attrs number (option_map (λ (s : Stored). s.content) o)
       by None none =

@@ -1,5 +1,5 @@
 //! What files hold, and the files of a tree by their numbers.
-ghost use Rattle.std.specs.Prelude.{◌≡◌, ◌+◌, ◌≤◌, ◌<◌, ◌^◌, OnOk, OnErr, IfSome, option_copied, length};
+ghost use Rattle.std.specs.Prelude.{◌≡◌, ◌+◌, ◌<◌, ◌^◌, OnOk, OnErr, IfSome, option_copied};
 ghost use Rattle.std.specs.Ordering.{nat_cmp};
 ghost use Rattle.sftp_path.specs.Table.{get};
 ghost use Rattle.sftp_treefile.specs.TreeFile.{IsOwner};
@@ -150,7 +150,11 @@ fn change(content: &mut Content, attrs: &Attrs) -> Result<(), NoMemory>
 /// # Errors
 ///
 /// `NoMemory` where memory runs out; the files are then as before.
-pub(crate) fn change_at(files: &mut BTreeMap<u32, Stored>, number: u32, attrs: &Attrs) -> Result<(), NoMemory>
+pub(crate) fn change_at(
+    files: &mut BTreeMap<u32, Stored>,
+    number: u32,
+    attrs: &Attrs,
+) -> Result<(), NoMemory>
     requires { IfSome (get nat_cmp files.old.entries number) (λ s. IsOwner s.content.owner) }
     ensures ok { OnOk result
         (IsChanged (with_attributes_set attrs.now) number files.old.entries files.new.entries) }

@@ -27,7 +27,11 @@ pub(crate) fn replace(names: &mut BTreeMap<Place, Node>, place: &Place, node: No
 /// # Errors
 ///
 /// `NoMemory` where memory runs out; everything then stands as before.
-pub(crate) fn move_node(names: &mut BTreeMap<Place, Node>, old: &Place, new: Place) -> Result<Option<Node>, NoMemory>
+pub(crate) fn move_node(
+    names: &mut BTreeMap<Place, Node>,
+    old: &Place,
+    new: Place,
+) -> Result<Option<Node>, NoMemory>
     requires taken { IsTrue (is_taken (node_at names.old.entries old.now)) }
     requires apart { begins old.now new ≡ false }
     requires alone { (n : Name) (ns : List Name) → node_at names.old.entries (new ++ n ∷ ns) ≡ None }
@@ -44,7 +48,11 @@ pub(crate) fn move_node(names: &mut BTreeMap<Place, Node>, old: &Place, new: Pla
 }
 
 /// Moves what stands at the old place, where nothing stands below it.
-fn move_alone(names: &mut BTreeMap<Place, Node>, old: &Place, new: Place) -> Result<Option<Node>, NoMemory>
+fn move_alone(
+    names: &mut BTreeMap<Place, Node>,
+    old: &Place,
+    new: Place,
+) -> Result<Option<Node>, NoMemory>
     requires taken { IsTrue (is_taken (node_at names.old.entries old.now)) }
     requires empty { has_entries names.old.entries old.now ≡ false }
     requires apart { begins old.now new ≡ false }
@@ -64,7 +72,12 @@ fn move_alone(names: &mut BTreeMap<Place, Node>, old: &Place, new: Place) -> Res
 }
 
 /// Moves what stands at the old place, with all below it, by a table of its own.
-fn move_all(names: &mut BTreeMap<Place, Node>, old: &Place, new: &Place) -> Result<Option<Node>, NoMemory>
+#[tactic(auto, unfolding(sftp_path::specs::Table::get))]
+fn move_all(
+    names: &mut BTreeMap<Place, Node>,
+    old: &Place,
+    new: &Place,
+) -> Result<Option<Node>, NoMemory>
     requires alone { (n : Name) (ns : List Name) → node_at names.old.entries (new.now ++ n ∷ ns) ≡ None }
     ensures gone { IfOk result (λ gone. gone ≡ node_at names.old.entries new.now) }
     ensures moved { OnOk result
@@ -106,7 +119,7 @@ fn put_moved(
 ) -> Result<(), NoMemory>
     ensures { OnOk result
         (moved.new.entries
-            ≡ (if same_place place.now new.now then moved.old.entries else with_node moved.old.entries (renamed old.now new.now place.now) node.now)) }
+        ≡ (if same_place place.now new.now then moved.old.entries else with_node moved.old.entries (renamed old.now new.now place.now) node.now)) }
 {
     if place == new {
         return Ok(());
@@ -122,7 +135,7 @@ fn renamed(alloc: Global, old: &Place, new: &Place, place: &Place) -> Result<Pla
     ensures { IfOk result (λ to. to ≡ renamed old.now new.now place.now) }
 {
     if !place.starts_with(old) {
-        return Ok(place.try_clone(alloc)?);
+        return place.try_clone(alloc);
     }
     let mut to = new.try_clone(alloc)?;
     let (_, behind) = place.names().split_at(old.depth());

@@ -3,7 +3,7 @@ ghost use Rattle.std.specs.Prelude.{◌≡◌, List, ◌∷◌, ◌++◌, false,
 ghost use Rattle.sftp_path.specs.Place.{Name, begins};
 
 use crate::contents::{Content, Stored, change_at, count_name, file_named, forget_name};
-use crate::moving::replace;
+use crate::moving::{move_node, replace};
 use crate::nodes::Node;
 use sftp_path::{NoMemory, Place};
 use sftp_treefile::{Owner, TreeLimits, usual_limits};
@@ -148,7 +148,9 @@ impl Tree {
         ensures ok { OnOk result (self.new ≡ tree.trim (steps.put_in_its_stead self.old old.now new)) }
         ensures err { OnErr result (self.new ≡ self.old) }
     {
-        Err(NoMemory)
+        let gone = move_node(&mut self.names, old, new)?;
+        forget_name(&mut self.files, file_named(gone.as_ref()));
+        Ok(())
     }
 
     /// Gives a directory an owner.

@@ -1,6 +1,5 @@
-use Rattle.std.proofs.Common.{◌≡◌, ◌+◌, true, [], length, sym, ap, ◌∙◌, arith}
+use Rattle.std.proofs.Common.{◌≡◌, true, [], length, ap, arith}
 use Rattle.sftp_path.specs.Place.{begins}
-use Rattle.sftp_path.specs.Rekeying.{renamed}
 use Rattle.sftp_path.proofs.RekeyingLaws.{length-renamed}
 use Rattle.sftp_tree.proofs.moving.renamed.Goals as goal
 

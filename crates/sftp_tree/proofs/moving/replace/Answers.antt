@@ -1,4 +1,4 @@
-use Rattle.std.proofs.Common.{◌≡◌, false, sym, ap, ◌∙◌, Some, None, is_some}
+use Rattle.std.proofs.Common.{◌≡◌, false, sym, ap, ◌∙◌, None, is_some}
 use Rattle.std.specs.Option.{option_copied_mut}
 use Rattle.sftp_path.specs.Place.{place_cmp}
 use Rattle.sftp_path.specs.Table.{get}

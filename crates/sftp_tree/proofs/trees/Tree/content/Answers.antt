@@ -1,4 +1,4 @@
-use Rattle.std.proofs.Common.{◌≡◌, ◌∙◌, sym, ap, Option, Some, None, option_map, option_copied}
+use Rattle.std.proofs.Common.{◌≡◌, ◌∙◌, sym, ap, Some, None, option_map}
 use Rattle.std.specs.Ordering.{nat_cmp}
 use Rattle.sftp_path.specs.Table.{get}
 use Rattle.sftp_path.proofs.ValueLaws.{get-with_values}

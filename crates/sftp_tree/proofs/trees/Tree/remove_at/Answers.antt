@@ -18,14 +18,13 @@ parts c =
     let gone = node_at names c.args.place.now in
     let is : c.remove-gone.new.self.entries ≡ without_node names c.args.place.now = c.remove-gone.ensures.entries in
     let less : (number : ℕ) → times_named c.remove-gone.new.self.entries number + one_name gone number ≡ times_named names number =
-        λ number. ap (λ ns. times_named ns number + one_name gone number) is ∙ named-without names c.args.place.now gone refl number in
+    λ number. ap (λ ns. times_named ns number + one_name gone number) is ∙ named-without names c.args.place.now gone refl number in
     let named : c.file_named.result ≡ file_named gone = c.file_named.ensures ∙ ap file_named (c.as_ref.ensures.value ∙ c.remove-gone.ensures.value) in
     let changed = subst (λ named. IsChangedWhereNamed without_a_name named c.self.inside.files.entries c.forget_name.new.files.entries) named c.forget_name.ensures in
-    let both = left-parts names c.self.inside.files.entries c.self.inside.made c.self.inside.home c.self.inside.uid c.self.inside.gid c.self.invariant.0 c.self.invariant.1 gone c.remove-gone.new.self.entries c.forget_name.new.files.entries less changed in
-    (
+    let both = left-parts names c.self.inside.files.entries c.self.inside.made c.self.inside.home c.self.inside.uid c.self.inside.gid c.self.invariant.0 c.self.invariant.1 gone c.remove-gone.new.self.entries c.forget_name.new.files.entries less changed in (
       both.0 ∙ ap (λ ns. trim (record { names = ns; files = contents c.self.inside.files.entries; made = c.self.inside.made; home = c.self.inside.home; uid = c.self.inside.uid; gid = c.self.inside.gid })) is
-      ∙ ap (λ (t : Tree). trim (record t { names = without_node t.names c.args.place.now })) c.self.view_is,
-      both.1
+          ∙ ap (λ (t : Tree). trim (record t { names = without_node t.names c.args.place.now })) c.self.view_is,
+      both.1,
     )
 
 pub invariant_of-self : goal.invariant_of-self
