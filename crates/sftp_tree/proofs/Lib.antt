@@ -21,6 +21,7 @@ pub mod CauseSets
 pub mod CausePlaces
 pub mod CauseMoves
 pub mod CauseMoved
+pub mod CausePairs
 pub mod StepCauses
 pub mod StepAnswers
 pub mod CallSets

@@ -240,6 +240,7 @@ impl Tree {
     pub(crate) fn renaming(&self, old: &Place, new: &Place) -> Causes
         ensures { (oldpath newpath : List ℕ) → judged.IsSet result (judged.causes_at_places self.now (Rename oldpath newpath) old.now new.now) }
     {
+        self.see();
         nothing_below();
         alone_there();
         let arriving = self.arriving(new).union(self.moving(old, new));
@@ -252,6 +253,7 @@ impl Tree {
     pub(crate) fn replacing(&self, old: &Place, new: &Place) -> Causes
         ensures { (oldpath newpath : List ℕ) → judged.IsSet result (judged.causes_at_places self.now (PosixRename oldpath newpath) old.now new.now) }
     {
+        self.see();
         nothing_below();
         alone_there();
         places_apart();
@@ -268,6 +270,7 @@ impl Tree {
     pub(crate) fn linking(&self, old: &Place, new: &Place) -> Causes
         ensures { (oldpath newpath : List ℕ) → judged.IsSet result (judged.causes_at_places self.now (Hardlink oldpath newpath) old.now new.now) }
     {
+        self.see();
         let mut causes = self.naming(old).union(self.arriving(new));
         causes.no_room = !causes.has_any() && !self.has_room(new);
         causes
