@@ -65,6 +65,7 @@ set-keeps t attrs place path kept with_owner with_bytes owners none =
     by_content number (Some content) there within =
         let before = content-kept t number content kept there in
         with_bytes number content (changed_content attrs content) there (owners content.owner before.0, changed-bytes attrs.size content.bytes before.1) (content-fits t number (changed_content attrs content) within)
+
     by : (found : Option Node) → node_at t.names place ≡ found → IsTrue (fits (with_attributes t attrs place found)) → IsKept (with_attributes t attrs place found)
     by None there within = kept
     by (Some (Dir owner)) there within =

@@ -84,6 +84,7 @@ none-in f none c =
     not-true : (b : Bool) → not b ≡ true → b ≡ false
     not-true false e = refl
     not-true true e = cc
+
     at : f BadPath ≡ false → f NoEntry ≡ false → f NotDir ≡ false → f Loop ≡ false → f Exists ≡ false → f IsDir ≡ false → f NotLink ≡ false → f NotFile ≡ false → f NotEmpty ≡ false → f Root ≡ false → f Inside ≡ false → f NoRoom ≡ false → (c : Cause) → f c ≡ false
     at a b c d e f g h i j k l BadPath = a
     at a b c d e f g h i j k l NoEntry = b
@@ -112,6 +113,7 @@ room-in plain asked room none =
     last a true all e = refl
     last true false all e = cc
     last false false all e = cc
+
     others : ((c : Cause) → with_room plain asked c ≡ false) → (c : Cause) → plain c ≡ false
     others each NoRoom = room
     others each BadPath = each BadPath

@@ -35,8 +35,8 @@ impl Tree {
     ///
     /// # Errors
     ///
-    /// The first cause that holds: `BadPath`, the walk's, `Exists` or `NoRoom`. `NoMemory` where memory runs out. The tree is
-    /// then as before.
+    /// The first cause that holds: `BadPath`, the walk's, `Exists` or `NoRoom`. `NoMemory` where memory runs out. The tree
+    /// is then as before.
     pub fn mkdir(&mut self, path: &[u8], attrs: &Attrs) -> Result<(), Refused>
         ensures free { OnOk result (IsFree self.old (Mkdir path.now attrs.now)) }
         ensures done { OnOk result (self.new ≡ steps.after self.old (Mkdir path.now attrs.now)) }
@@ -56,8 +56,8 @@ impl Tree {
     ///
     /// # Errors
     ///
-    /// The first cause that holds: `BadPath`, the walk's, `NoEntry`, `NotDir`, `NotEmpty` or `Root`. `NoMemory` where memory
-    /// runs out. The tree is then as before.
+    /// The first cause that holds: `BadPath`, the walk's, `NoEntry`, `NotDir`, `NotEmpty` or `Root`. `NoMemory` where
+    /// memory runs out. The tree is then as before.
     pub fn rmdir(&mut self, path: &[u8]) -> Result<(), Refused>
         ensures free { OnOk result (IsFree self.old (Rmdir path.now)) }
         ensures done { OnOk result (self.new ≡ steps.after self.old (Rmdir path.now)) }
@@ -75,8 +75,8 @@ impl Tree {
     ///
     /// # Errors
     ///
-    /// The first cause that holds: `BadPath`, the walk's, `NoEntry` or `IsDir`. `NoMemory` where memory
-    /// runs out. The tree is then as before.
+    /// The first cause that holds: `BadPath`, the walk's, `NoEntry` or `IsDir`. `NoMemory` where memory runs out. The tree
+    /// is then as before.
     pub fn remove(&mut self, path: &[u8]) -> Result<(), Refused>
         ensures free { OnOk result (IsFree self.old (Remove path.now)) }
         ensures done { OnOk result (self.new ≡ steps.after self.old (Remove path.now)) }
@@ -91,13 +91,13 @@ impl Tree {
         Ok(())
     }
 
-    /// SETSTAT: sets the size of a file, which cuts its bytes or fills them with zeros, and the owner and the low twelve bits of the
-    /// permissions of a file or a directory, each where it is given. Times are passed over.
+    /// SETSTAT: sets the size of a file, which cuts its bytes or fills them with zeros, and the owner and the low twelve
+    /// bits of the permissions of a file or a directory, each where it is given. Times are passed over.
     ///
     /// # Errors
     ///
-    /// The first cause that holds: `BadPath`, the walk's, `NoEntry`, `NotFile` where a directory is given a size, or `NoRoom`. `NoMemory` where memory
-    /// runs out. The tree is then as before.
+    /// The first cause that holds: `BadPath`, the walk's, `NoEntry`, `NotFile` where a directory is given a size, or
+    /// `NoRoom`. `NoMemory` where memory runs out. The tree is then as before.
     pub fn set_stat(&mut self, path: &[u8], attrs: &Attrs) -> Result<(), Refused>
         ensures free { OnOk result (IsFree self.old (Setstat path.now attrs.now)) }
         ensures done { OnOk result (self.new ≡ steps.after self.old (Setstat path.now attrs.now)) }
@@ -118,8 +118,8 @@ impl Tree {
     ///
     /// # Errors
     ///
-    /// The first cause that holds: `BadPath`, the walk's of the old path and then of the new one, `NoEntry`, `Exists`, `Root`, `Inside` or `NoRoom`. `NoMemory` where memory
-    /// runs out. The tree is then as before.
+    /// The first cause that holds: `BadPath`, the walk's of the old path and then of the new one, `NoEntry`, `Exists`,
+    /// `Root`, `Inside` or `NoRoom`. `NoMemory` where memory runs out. The tree is then as before.
     pub fn rename(&mut self, old: &[u8], new: &[u8]) -> Result<(), Refused>
         ensures free { OnOk result (IsFree self.old (Rename old.now new.now)) }
         ensures done { OnOk result (self.new ≡ steps.after self.old (Rename old.now new.now)) }
@@ -129,19 +129,18 @@ impl Tree {
         let (from, to) = self.lead_both(old, new)?;
         self.renaming(&from, &to).refuse()?;
         nothing_below();
-        self.go(&from, to)?;
+        self.move_node(&from, to)?;
         Ok(())
     }
 
-    /// posix-rename (OpenSSH's PROTOCOL, section 4.3): gives what stands at the old path, with all below it, the new place, where a
-    /// directory replaces an empty directory, and what is no directory replaces what is none. Nothing is done where both are one
-    /// place, or names of one file. A file goes with its last name.
+    /// posix-rename (OpenSSH's PROTOCOL, section 4.3): gives what stands at the old path, with all below it, the new place,
+    /// where a directory replaces an empty directory, and what is no directory replaces what is none. Nothing is done where
+    /// both are one place, or names of one file. A file goes with its last name.
     ///
     /// # Errors
     ///
-    /// The first cause that holds: `BadPath`, the walk's of the old path and then of the new one, `NoEntry`, `NotDir`, `IsDir`, `NotEmpty`, `Root`, `Inside`
-    /// or `NoRoom`. `NoMemory` where memory
-    /// runs out. The tree is then as before.
+    /// The first cause that holds: `BadPath`, the walk's of the old path and then of the new one, `NoEntry`, `NotDir`,
+    /// `IsDir`, `NotEmpty`, `Root`, `Inside` or `NoRoom`. `NoMemory` where memory runs out. The tree is then as before.
     pub fn posix_rename(&mut self, old: &[u8], new: &[u8]) -> Result<(), Refused>
         ensures free { OnOk result (IsFree self.old (PosixRename old.now new.now)) }
         ensures done { OnOk result (self.new ≡ steps.after self.old (PosixRename old.now new.now)) }
@@ -151,11 +150,11 @@ impl Tree {
         let (from, to) = self.lead_both(old, new)?;
         self.replacing(&from, &to).refuse()?;
         trimmed_already();
-        if self.are_one(&from, &to) {
+        if self.is_one(&from, &to) {
             return Ok(());
         }
         nothing_below();
-        self.go(&from, to)?;
+        self.move_node(&from, to)?;
         Ok(())
     }
 
@@ -163,8 +162,8 @@ impl Tree {
     ///
     /// # Errors
     ///
-    /// The first cause that holds: `BadPath`, the walk's of the old path and then of the new one, `NoEntry`, `Exists`, `NotFile` or `NoRoom`. `NoMemory` where memory
-    /// runs out. The tree is then as before.
+    /// The first cause that holds: `BadPath`, the walk's of the old path and then of the new one, `NoEntry`, `Exists`,
+    /// `NotFile` or `NoRoom`. `NoMemory` where memory runs out. The tree is then as before.
     pub fn hardlink(&mut self, old: &[u8], new: &[u8]) -> Result<(), Refused>
         ensures free { OnOk result (IsFree self.old (Hardlink old.now new.now)) }
         ensures done { OnOk result (self.new ≡ steps.after self.old (Hardlink old.now new.now)) }
@@ -184,8 +183,8 @@ impl Tree {
     ///
     /// # Errors
     ///
-    /// The first cause that holds: `BadPath`, of the target or of the link's path, the walk's, `Exists` or `NoRoom`. `NoMemory`
-    /// where memory runs out. The tree is then as before.
+    /// The first cause that holds: `BadPath`, of the target or of the link's path, the walk's, `Exists` or `NoRoom`.
+    /// `NoMemory` where memory runs out. The tree is then as before.
     pub fn symlink(&mut self, target: &[u8], link: &[u8]) -> Result<(), Refused>
         ensures free { OnOk result (IsFree self.old (Symlink target.now link.now)) }
         ensures done { OnOk result (self.new ≡ steps.after self.old (Symlink target.now link.now)) }
@@ -204,8 +203,8 @@ impl Tree {
         Ok(())
     }
 
-    /// STAT where a link that is last is followed, LSTAT where it is not: the size, the owner and the permissions, with the bits
-    /// of the type, of what stands there.
+    /// STAT where a link that is last is followed, LSTAT where it is not: the size, the owner and the permissions, with the
+    /// bits of the type, of what stands there.
     ///
     /// # Errors
     ///
@@ -326,6 +325,14 @@ impl Tree {
         }
     }
 
+    /// Whether both are one place, or names of one file.
+    #[tactic(auto, unfolding(sftp_path::specs::Table::get))]
+    fn is_one(&self, old: &Place, new: &Place) -> bool
+        ensures { result ≡ steps.are_one self.now.names old.now new.now }
+    {
+        old == new || are_one_file(self.names().get(old), self.names().get(new))
+    }
+
     /// Sets the attributes of what stands at a place.
     ///
     /// # Errors
@@ -356,7 +363,7 @@ impl Tree {
     /// # Errors
     ///
     /// `NoMemory` where memory runs out; the tree is then as before.
-    fn go(&mut self, old: &Place, new: Place) -> Result<(), NoMemory>
+    fn move_node(&mut self, old: &Place, new: Place) -> Result<(), NoMemory>
         requires taken { IsTrue (tree.is_taken (tree.node_at self.old.names old.now)) }
         requires old_below_root { is_root old.now ≡ false }
         requires new_below_root { is_root new ≡ false }

@@ -6,17 +6,32 @@ use std::alloc::Global;
 use std::test::Fail;
 
 /// The causes in the order of the status table.
-const CAUSES: [Cause; 9] = [
+const CAUSES: [Cause; 12] = [
     Cause::BadPath,
     Cause::NoEntry,
     Cause::NotDir,
     Cause::Loop,
     Cause::Exists,
+    Cause::IsDir,
     Cause::NotLink,
+    Cause::NotFile,
     Cause::NotEmpty,
     Cause::Root,
+    Cause::Inside,
     Cause::NoRoom,
 ];
+
+/// The entries of a tree file: directories `/d` and `/d/e`, and a file `/d/e/f` with 0o644 and the bytes `abc`.
+const NESTED_FILE: &[u8] = b"\0\0\0\x02/dD\0\0\0\0\0\0\0\0\0\0\x01\xed\
+\0\0\0\x04/d/eD\0\0\0\0\0\0\0\0\0\0\x01\xed\
+\0\0\0\x06/d/e/fF\0\0\0\0\0\0\0\0\0\0\x01\xa4\0\0\0\x03abc";
+
+/// A file `/f` with 0o644 and the bytes `abc`.
+const ONE_FILE: &[u8] = b"\0\0\0\x02/fF\0\0\0\0\0\0\0\0\0\0\x01\xa4\0\0\0\x03abc";
+
+/// The same with a further name, `/g`.
+const TWO_NAMES: &[u8] = b"\0\0\0\x02/fF\0\0\0\0\0\0\0\0\0\0\x01\xa4\0\0\0\x03abc\
+\0\0\0\x02/gH\0\0\0\x01";
 
 /// Nothing is said.
 fn no_attributes() -> Attrs {
@@ -35,6 +50,39 @@ fn owned(uid: u32, gid: u32, permissions: u32) -> Attrs {
         size: Some(7),
         owner: Some((uid, gid)),
         permissions: Some(permissions),
+        times: None,
+        extended: None,
+    }
+}
+
+/// Permissions are said, and nothing else.
+fn permitted(permissions: u32) -> Attrs {
+    Attrs {
+        size: None,
+        owner: None,
+        permissions: Some(permissions),
+        times: None,
+        extended: None,
+    }
+}
+
+/// A size is said, and nothing else.
+fn sized(size: u64) -> Attrs {
+    Attrs {
+        size: Some(size),
+        owner: None,
+        permissions: None,
+        times: None,
+        extended: None,
+    }
+}
+
+/// A size and an owner are said.
+fn sized_for(size: u64, uid: u32, gid: u32) -> Attrs {
+    Attrs {
+        size: Some(size),
+        owner: Some((uid, gid)),
+        permissions: None,
         times: None,
         extended: None,
     }
@@ -68,6 +116,64 @@ fn links(tree: &mut Tree, target: &[u8], link: &[u8]) -> bool {
 /// Whether SYMLINK is refused with the cause.
 fn cannot_link(tree: &mut Tree, target: &[u8], link: &[u8], cause: Cause) -> bool {
     tree.symlink(target, link) == Err(Refused::Cause(cause))
+}
+
+/// Whether REMOVE is done.
+fn unlinks(tree: &mut Tree, path: &[u8]) -> bool {
+    tree.remove(path) == Ok(())
+}
+
+/// Whether REMOVE is refused with the cause.
+fn cannot_unlink(tree: &mut Tree, path: &[u8], cause: Cause) -> bool {
+    tree.remove(path) == Err(Refused::Cause(cause))
+}
+
+/// Whether SETSTAT is done.
+fn sets(tree: &mut Tree, path: &[u8], attrs: &Attrs) -> bool {
+    tree.set_stat(path, attrs) == Ok(())
+}
+
+/// Whether SETSTAT is refused with the cause.
+fn cannot_set(tree: &mut Tree, path: &[u8], attrs: &Attrs, cause: Cause) -> bool {
+    tree.set_stat(path, attrs) == Err(Refused::Cause(cause))
+}
+
+/// Whether RENAME is done.
+fn moves(tree: &mut Tree, old: &[u8], new: &[u8]) -> bool {
+    tree.rename(old, new) == Ok(())
+}
+
+/// Whether RENAME is refused with the cause.
+fn cannot_move(tree: &mut Tree, old: &[u8], new: &[u8], cause: Cause) -> bool {
+    tree.rename(old, new) == Err(Refused::Cause(cause))
+}
+
+/// Whether posix-rename is done.
+fn replaces(tree: &mut Tree, old: &[u8], new: &[u8]) -> bool {
+    tree.posix_rename(old, new) == Ok(())
+}
+
+/// Whether posix-rename is refused with the cause.
+fn cannot_replace(tree: &mut Tree, old: &[u8], new: &[u8], cause: Cause) -> bool {
+    tree.posix_rename(old, new) == Err(Refused::Cause(cause))
+}
+
+/// Whether hardlink is done.
+fn names(tree: &mut Tree, old: &[u8], new: &[u8]) -> bool {
+    tree.hardlink(old, new) == Ok(())
+}
+
+/// Whether hardlink is refused with the cause.
+fn cannot_name(tree: &mut Tree, old: &[u8], new: &[u8], cause: Cause) -> bool {
+    tree.hardlink(old, new) == Err(Refused::Cause(cause))
+}
+
+/// Whether these bytes are the tree's file.
+fn writes(tree: &Tree, bytes: &[u8]) -> bool {
+    match tree.write() {
+        Ok(written) => written.as_slice() == bytes,
+        Err(_) => false,
+    }
 }
 
 /// Whether STAT, or LSTAT where links are not followed, shows the size, the owner and the permissions, and nothing else.
@@ -174,6 +280,30 @@ fn readlink(alloc: Global, path: &[u8]) -> Result<Ask, Fail> {
     })
 }
 
+/// To give what stands somewhere a new place that is free.
+fn rename(alloc: Global, old: &[u8], new: &[u8]) -> Result<Ask, Fail> {
+    Ok(Ask::Rename {
+        oldpath: ByteString::from_slice(alloc, old)?,
+        newpath: ByteString::from_slice(alloc, new)?,
+    })
+}
+
+/// To give what stands somewhere a new place.
+fn posix_rename(alloc: Global, old: &[u8], new: &[u8]) -> Result<Ask, Fail> {
+    Ok(Ask::PosixRename {
+        oldpath: ByteString::from_slice(alloc, old)?,
+        newpath: ByteString::from_slice(alloc, new)?,
+    })
+}
+
+/// To give a file a further name.
+fn hardlink(alloc: Global, old: &[u8], new: &[u8]) -> Result<Ask, Fail> {
+    Ok(Ask::Hardlink {
+        oldpath: ByteString::from_slice(alloc, old)?,
+        newpath: ByteString::from_slice(alloc, new)?,
+    })
+}
+
 /// `./` so many times, and then a name.
 fn padded(alloc: Global, times: u32, name: &[u8]) -> Result<Vec<u8>, Fail> {
     let mut path = Vec::new(alloc);
@@ -194,6 +324,30 @@ fn homed(alloc: Global, length: u8, home: &[u8]) -> Result<Tree, Fail> {
     }
     bytes.extend_from_slice([1, 0o355].as_slice())?;
     Ok(Tree::read(alloc, bytes.as_slice())?)
+}
+
+/// The bytes of a tree file with so many entries: the root, home and owner are the blank tree's.
+fn file_of(alloc: Global, count: u8, entries: &[u8]) -> Result<Vec<u8>, Fail> {
+    let mut bytes = Vec::from_slice(alloc, b"SFTREE01\0\0\0\x01/".as_slice())?;
+    bytes.extend_from_slice(b"\0\0\0\0\0\0\0\0\0\0\0".as_slice())?;
+    bytes.push(count)?;
+    bytes.extend_from_slice(b"\0\0\0\0\0\0\0\0\0\0\x01\xed".as_slice())?;
+    bytes.extend_from_slice(entries)?;
+    Ok(bytes)
+}
+
+/// A tree with these entries.
+fn tree_of(alloc: Global, count: u8, entries: &[u8]) -> Result<Tree, Fail> {
+    let bytes = file_of(alloc, count, entries)?;
+    Ok(Tree::read(alloc, bytes.as_slice())?)
+}
+
+/// A tree with directories `/x` and `/x/e`, a file `/x/e/f` and an empty directory `/w`.
+fn moved(alloc: Global) -> Result<Tree, Fail> {
+    let mut tree = tree_of(alloc, 3, NESTED_FILE)?;
+    tree.rename(b"/d".as_slice(), b"/x".as_slice())?;
+    tree.mkdir(b"/w".as_slice(), &no_attributes())?;
+    Ok(tree)
 }
 
 /// A tree with directories `/d` and `/d/e`.
@@ -399,6 +553,316 @@ fn starts_at_homes_that_are_absent(rt: HostRuntime) -> Result<(), Fail> {
     assert!(rt; leads(&near, b"/x".as_slice(), b"/x".as_slice()));
     let far = homed(alloc, 7, b"/home/u".as_slice())?;
     assert!(rt; cannot_lead(&far, b"".as_slice(), Cause::NoEntry));
+    Ok(())
+}
+
+#[test]
+fn moves_what_stands_below(rt: HostRuntime) -> Result<(), Fail> {
+    let mut tree = tree_of(rt.alloc(), 3, NESTED_FILE)?;
+    assert!(rt; moves(&mut tree, b"/d".as_slice(), b"/x".as_slice()));
+    assert!(rt; shows(&tree, b"/x/e/f".as_slice(), true, 3, (0, 0), 0o100644));
+    assert!(rt; cannot_show(&tree, b"/d".as_slice(), true, Cause::NoEntry));
+    assert!(rt;
+        cannot_move(
+            &mut tree,
+            b"/x".as_slice(),
+            b"/x/e/y".as_slice(),
+            Cause::Inside
+        )
+    );
+    assert!(rt; cannot_move(&mut tree, b"/".as_slice(), b"/z".as_slice(), Cause::Root));
+    assert!(rt; cannot_move(&mut tree, b"/x".as_slice(), b"/x".as_slice(), Cause::Exists));
+    Ok(())
+}
+
+#[test]
+fn replaces_what_may_be_replaced(rt: HostRuntime) -> Result<(), Fail> {
+    let mut tree = moved(rt.alloc())?;
+    let before = tree.write()?;
+    assert!(rt; replaces(&mut tree, b"/x".as_slice(), b"/x".as_slice()));
+    assert!(rt;
+        cannot_replace(
+            &mut tree,
+            b"/x/e".as_slice(),
+            b"/x".as_slice(),
+            Cause::NotEmpty
+        )
+    );
+    assert!(rt;
+        cannot_replace(
+            &mut tree,
+            b"/x/e/f".as_slice(),
+            b"/w".as_slice(),
+            Cause::IsDir
+        )
+    );
+    assert!(rt;
+        cannot_replace(
+            &mut tree,
+            b"/w".as_slice(),
+            b"/x/e/f".as_slice(),
+            Cause::NotDir
+        )
+    );
+    assert!(rt; writes(&tree, before.as_slice()));
+    assert!(rt; replaces(&mut tree, b"/x/e".as_slice(), b"/w".as_slice()));
+    assert!(rt; shows(&tree, b"/w/f".as_slice(), true, 3, (0, 0), 0o100644));
+    assert!(rt; cannot_show(&tree, b"/x/e".as_slice(), true, Cause::NoEntry));
+    Ok(())
+}
+
+#[test]
+fn replaces_files_and_links(rt: HostRuntime) -> Result<(), Fail> {
+    let alloc = rt.alloc();
+    let mut tree = tree_of(alloc, 1, ONE_FILE)?;
+    assert!(rt; links(&mut tree, b"f".as_slice(), b"/l".as_slice()));
+    assert!(rt; replaces(&mut tree, b"/f".as_slice(), b"/l".as_slice()));
+    assert!(rt; shows(&tree, b"/l".as_slice(), false, 3, (0, 0), 0o100644));
+    assert!(rt; cannot_show(&tree, b"/f".as_slice(), false, Cause::NoEntry));
+    assert!(rt; links(&mut tree, b"ab".as_slice(), b"/m".as_slice()));
+    assert!(rt; replaces(&mut tree, b"/m".as_slice(), b"/l".as_slice()));
+    assert!(rt; reads(&tree, b"/l".as_slice(), b"ab".as_slice()));
+    let written = file_of(alloc, 1, b"\0\0\0\x02/lL\0\0\0\x02ab".as_slice())?;
+    assert!(rt; writes(&tree, written.as_slice()));
+    Ok(())
+}
+
+#[test]
+fn sets_attributes(rt: HostRuntime) -> Result<(), Fail> {
+    let mut tree = moved(rt.alloc())?;
+    assert!(rt; links(&mut tree, b"x/e/f".as_slice(), b"/l".as_slice()));
+    assert!(rt; sets(&mut tree, b"/w".as_slice(), &permitted(0o100777)));
+    assert!(rt; shows(&tree, b"/w".as_slice(), true, 0, (0, 0), 0o040777));
+    assert!(rt;
+        cannot_set(
+            &mut tree,
+            b"/w".as_slice(),
+            &sized_for(0, 5, 6),
+            Cause::NotFile
+        )
+    );
+    assert!(rt; shows(&tree, b"/w".as_slice(), true, 0, (0, 0), 0o040777));
+    assert!(rt; sets(&mut tree, b"/l".as_slice(), &sized_for(1, 5, 6)));
+    assert!(rt; shows(&tree, b"/x/e/f".as_slice(), true, 1, (5, 6), 0o100644));
+    assert!(rt; shows(&tree, b"/l".as_slice(), false, 5, (0, 0), 0o120777));
+    assert!(rt; cannot_set(&mut tree, b"/n".as_slice(), &sized(1), Cause::NoEntry));
+    Ok(())
+}
+
+#[test]
+fn sets_sizes(rt: HostRuntime) -> Result<(), Fail> {
+    let alloc = rt.alloc();
+    let mut tree = tree_of(alloc, 1, ONE_FILE)?;
+    assert!(rt; sets(&mut tree, b"/f".as_slice(), &sized(2)));
+    assert!(rt; sets(&mut tree, b"/f".as_slice(), &sized(4)));
+    let written = file_of(
+        alloc,
+        1,
+        b"\0\0\0\x02/fF\0\0\0\0\0\0\0\0\0\0\x01\xa4\0\0\0\x04ab\0\0".as_slice(),
+    )?;
+    assert!(rt; writes(&tree, written.as_slice()));
+    assert!(rt;
+        cannot_set(
+            &mut tree,
+            b"/f".as_slice(),
+            &sized_for(16_777_217, 5, 6),
+            Cause::NoRoom
+        )
+    );
+    assert!(rt; writes(&tree, written.as_slice()));
+    Ok(())
+}
+
+#[test]
+fn moves_the_first_name_of_a_file(rt: HostRuntime) -> Result<(), Fail> {
+    let alloc = rt.alloc();
+    let mut tree = tree_of(alloc, 2, TWO_NAMES)?;
+    let before = tree.write()?;
+    assert!(rt; before.as_slice().len() == 74);
+    assert!(rt; moves(&mut tree, b"/f".as_slice(), b"/h".as_slice()));
+    let written = file_of(
+        alloc,
+        2,
+        b"\0\0\0\x02/gF\0\0\0\0\0\0\0\0\0\0\x01\xa4\0\0\0\x03abc\0\0\0\x02/hH\0\0\0\x01".as_slice(),
+    )?;
+    assert!(rt; written.as_slice().len() == 74);
+    assert!(rt; writes(&tree, written.as_slice()));
+    Ok(())
+}
+
+#[test]
+fn keeps_files_while_they_are_named(rt: HostRuntime) -> Result<(), Fail> {
+    let alloc = rt.alloc();
+    let mut tree = tree_of(alloc, 2, TWO_NAMES)?;
+    assert!(rt; unlinks(&mut tree, b"/g".as_slice()));
+    let one = file_of(alloc, 1, ONE_FILE)?;
+    assert!(rt; writes(&tree, one.as_slice()));
+    assert!(rt; unlinks(&mut tree, b"/f".as_slice()));
+    let none = file_of(alloc, 0, b"".as_slice())?;
+    assert!(rt; writes(&tree, none.as_slice()));
+    assert!(rt; cannot_unlink(&mut tree, b"/f".as_slice(), Cause::NoEntry));
+    assert!(rt; cannot_unlink(&mut tree, b"/".as_slice(), Cause::IsDir));
+    Ok(())
+}
+
+#[test]
+fn leaves_two_names_of_one_file(rt: HostRuntime) -> Result<(), Fail> {
+    let alloc = rt.alloc();
+    let mut tree = tree_of(alloc, 2, TWO_NAMES)?;
+    let before = tree.write()?;
+    assert!(rt; replaces(&mut tree, b"/g".as_slice(), b"/f".as_slice()));
+    assert!(rt; writes(&tree, before.as_slice()));
+    Ok(())
+}
+
+#[test]
+fn gives_files_further_names(rt: HostRuntime) -> Result<(), Fail> {
+    let alloc = rt.alloc();
+    let mut tree = tree_of(alloc, 2, TWO_NAMES)?;
+    assert!(rt; names(&mut tree, b"/g".as_slice(), b"/e".as_slice()));
+    let written = file_of(
+        alloc,
+        3,
+        b"\0\0\0\x02/eF\0\0\0\0\0\0\0\0\0\0\x01\xa4\0\0\0\x03abc\0\0\0\x02/fH\0\0\0\x01\0\0\0\x02/gH\0\0\0\x01".as_slice(),
+    )?;
+    assert!(rt; writes(&tree, written.as_slice()));
+    assert!(rt; makes(&mut tree, b"/d".as_slice()));
+    assert!(rt; links(&mut tree, b"f".as_slice(), b"/l".as_slice()));
+    assert!(rt;
+        cannot_name(
+            &mut tree,
+            b"/d".as_slice(),
+            b"/n".as_slice(),
+            Cause::NotFile
+        )
+    );
+    assert!(rt;
+        cannot_name(
+            &mut tree,
+            b"/l".as_slice(),
+            b"/n".as_slice(),
+            Cause::NotFile
+        )
+    );
+    assert!(rt; cannot_name(&mut tree, b"/f".as_slice(), b"/g".as_slice(), Cause::Exists));
+    Ok(())
+}
+
+#[test]
+fn follows_forty_links_to_a_file(rt: HostRuntime) -> Result<(), Fail> {
+    let mut tree = tree_of(rt.alloc(), 1, ONE_FILE)?;
+    assert!(rt; links(&mut tree, b"f".as_slice(), [1].as_slice()));
+    for next in 2..42 {
+        assert!(rt; links(&mut tree, [next - 1].as_slice(), [next].as_slice()));
+    }
+    assert!(rt; shows(&tree, [40].as_slice(), true, 3, (0, 0), 0o100644));
+    assert!(rt; cannot_show(&tree, [41].as_slice(), true, Cause::Loop));
+    assert!(rt; shows(&tree, [41].as_slice(), false, 1, (0, 0), 0o120777));
+    assert!(rt; cannot_show(&tree, b"/f/x".as_slice(), true, Cause::NotDir));
+    assert!(rt; cannot_show(&tree, b"/f/.".as_slice(), true, Cause::NotDir));
+    assert!(rt; shows(&tree, b"/f/".as_slice(), true, 3, (0, 0), 0o100644));
+    Ok(())
+}
+
+#[test]
+fn has_no_room_for_what_goes_too_deep(rt: HostRuntime) -> Result<(), Fail> {
+    let alloc = rt.alloc();
+    let mut tree = Tree::blank(alloc)?;
+    let mut path = Vec::new(alloc);
+    for _ in 0..63 {
+        path.extend_from_slice(b"/a".as_slice())?;
+        assert!(rt; makes(&mut tree, path.as_slice()));
+    }
+    path.extend_from_slice(b"/x".as_slice())?;
+    assert!(rt; makes(&mut tree, b"/x".as_slice()));
+    assert!(rt; makes(&mut tree, b"/x/y".as_slice()));
+    assert!(rt; cannot_move(&mut tree, b"/x".as_slice(), path.as_slice(), Cause::NoRoom));
+    assert!(rt; cannot_replace(&mut tree, b"/x".as_slice(), path.as_slice(), Cause::NoRoom));
+    assert!(rt; removes(&mut tree, b"/x/y".as_slice()));
+    assert!(rt; moves(&mut tree, b"/x".as_slice(), path.as_slice()));
+    Ok(())
+}
+
+#[test]
+fn tells_the_first_cause(rt: HostRuntime) -> Result<(), Fail> {
+    let mut tree = moved(rt.alloc())?;
+    assert!(rt; cannot_move(&mut tree, b"/".as_slice(), b"/".as_slice(), Cause::Exists));
+    assert!(rt;
+        cannot_move(
+            &mut tree,
+            b"/n".as_slice(),
+            b"/x".as_slice(),
+            Cause::NoEntry
+        )
+    );
+    assert!(rt;
+        cannot_move(
+            &mut tree,
+            b"/n/n".as_slice(),
+            b"\0".as_slice(),
+            Cause::BadPath
+        )
+    );
+    assert!(rt;
+        cannot_move(
+            &mut tree,
+            b"/n/n".as_slice(),
+            b"/x/e/f/n".as_slice(),
+            Cause::NoEntry
+        )
+    );
+    assert!(rt; cannot_replace(&mut tree, b"/".as_slice(), b"/".as_slice(), Cause::Root));
+    assert!(rt;
+        cannot_replace(
+            &mut tree,
+            b"/".as_slice(),
+            b"/x".as_slice(),
+            Cause::NotEmpty
+        )
+    );
+    assert!(rt;
+        cannot_replace(
+            &mut tree,
+            b"/x".as_slice(),
+            b"/x/e/n".as_slice(),
+            Cause::Inside
+        )
+    );
+    assert!(rt; cannot_name(&mut tree, b"/x".as_slice(), b"/w".as_slice(), Cause::Exists));
+    Ok(())
+}
+
+#[test]
+fn tells_every_cause_of_two_paths(rt: HostRuntime) -> Result<(), Fail> {
+    let alloc = rt.alloc();
+    let tree = moved(alloc)?;
+    let lost = rename(alloc, b"/n/n".as_slice(), b"\0".as_slice())?;
+    assert!(rt;
+        judges(
+            &tree,
+            lost,
+            [Cause::BadPath, Cause::NoEntry].as_slice(),
+            [2, 4, 5].as_slice()
+        )
+    );
+    let inside = posix_rename(alloc, b"/".as_slice(), b"/x".as_slice())?;
+    assert!(rt;
+        judges(
+            &tree,
+            inside,
+            [Cause::NotEmpty, Cause::Root, Cause::Inside].as_slice(),
+            [4].as_slice()
+        )
+    );
+    let named = hardlink(alloc, b"/x".as_slice(), b"/w".as_slice())?;
+    assert!(rt;
+        judges(
+            &tree,
+            named,
+            [Cause::Exists, Cause::NotFile].as_slice(),
+            [4].as_slice()
+        )
+    );
     Ok(())
 }
 
