@@ -25,7 +25,7 @@ use Rattle.sftp_tree.specs.PictureParts.{content_of, contents_of, node_of, entry
 use Rattle.sftp_tree.proofs.PictureLists.{all_both, all_weaker, all_pass, each_passes, all_together, all_right}
 use Rattle.sftp_tree.proofs.PictureTables.{IsPlace, IsFitNode, IsTable, bare_names, text_place, root_table, table_of_rows, rows_of_table, root_first, root_at, entries_below}
 use Rattle.sftp_tree.proofs.PictureShapes.{bared, table_bare, table_from_bare, names_bare}
-use Rattle.sftp_tree.proofs.PictureNumbers.{made_by, FirstAt, first_of_number, names_split, length-entries, IsBelow, AreBelow, all_below, first_names}
+use Rattle.sftp_tree.proofs.PictureNumbers.{made_by, made_few, FirstAt, first_of_number, names_split, length-entries, IsBelow, AreBelow, all_below, first_names}
 use Rattle.sftp_tree.proofs.PictureContents.{numbered_contents, numbered_there, each_number, each_content, numbered_order, numbered_again}
 use Rattle.sftp_tree.proofs.PictureNamed.{IsBelowRoot, IsFitContent, length-rows, place_text, entry_texts, rows_bare, kinds_fit}
 use Rattle.sftp_tree.proofs.PictureAgain.{Again, rows_again, rows_numbered, entries_again}
@@ -71,16 +71,6 @@ rows_contents : (earlier rows : List Row) → AreRows earlier rows → AllByRecu
 rows_contents earlier [] fit = tt
 rows_contents earlier (row ∷ rows) fit =
     all_both IsFitContent (content_of row.kind) (contents_of rows) (fit_contents earlier row.kind fit.0.kind) (rows_contents (earlier ++ row ∷ []) rows fit.1)
-
-few_contents : (kind : Kind) → length (content_of kind) ≤ 1
-few_contents (kinds.Dir owner) = omega arith
-few_contents (kinds.First owner bytes) = omega arith
-few_contents (kinds.Further entry) = omega arith
-few_contents (kinds.Link target) = omega arith
-
-pub made_few : (rows : List Row) → made_by rows ≤ length rows
-made_few [] = omega arith
-made_few (row ∷ rows) = omega (arith, length-append (content_of row.kind) (contents_of rows), few_contents row.kind, made_few rows)
 
 node_kept : (files : Files) (made : ℕ) → ((n : ℕ) → n < made → IsTrue (is_some (content_at files n))) → (standing : Node) → IsFitNode standing → IsBelow made standing → IsNode files standing
 node_kept files made there (Dir owner) fits below = fits

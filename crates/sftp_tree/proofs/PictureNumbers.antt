@@ -37,6 +37,16 @@ made_behind row rows = length-append (content_of row.kind) (contents_of rows)
 pub made_push : (earlier : List Row) (row : Row) → made_by (earlier ++ row ∷ []) ≡ made_by earlier + length (content_of row.kind)
 made_push earlier row = omega (arith, made_split earlier (row ∷ []), made_behind row [])
 
+few_contents : (kind : Kind) → length (content_of kind) ≤ 1
+few_contents (kinds.Dir owner) = omega arith
+few_contents (kinds.First owner bytes) = omega arith
+few_contents (kinds.Further entry) = omega arith
+few_contents (kinds.Link target) = omega arith
+
+pub made_few : (rows : List Row) → made_by rows ≤ length rows
+made_few [] = omega arith
+made_few (row ∷ rows) = omega (arith, length-append (content_of row.kind) (contents_of rows), few_contents row.kind, made_few rows)
+
 first_made : (kind : Kind) → IsTrue (is_first kind) → length (content_of kind) ≡ 1
 first_made (kinds.Dir owner) h = absurd cc
 first_made (kinds.First owner bytes) h = refl

@@ -24,18 +24,19 @@ use Rattle.sftp_treefile.specs.declared.files.Owner.{Owner}
 use Rattle.sftp_treefile.specs.declared.files.Kind.{Kind}
 use Rattle.sftp_treefile.specs.declared.files.Kind.TheVariants as kinds
 use Rattle.sftp_treefile.specs.declared.files.Row.{Row}
+use Rattle.sftp_treefile.specs.declared.files.TreeFile.{TreeFile}
 use Rattle.sftp_treefile.specs.TreeFile.{place_of, IsKind, IsNext, AreRows}
 use Rattle.sftp_tree.specs.declared.contents.Content.{Content}
 use Rattle.sftp_tree.specs.declared.contents.Stored.{Stored}
 use Rattle.sftp_tree.specs.declared.nodes.Node.{Node}
 use Rattle.sftp_tree.specs.declared.nodes.Node.TheVariants.{Dir, File, Link}
-use Rattle.sftp_tree.specs.Tree.{Names, Files, content_at, names_file, times_named}
+use Rattle.sftp_tree.specs.Tree.{Tree, Names, Files, content_at, names_file, times_named}
 use Rattle.sftp_tree.specs.Stored.{contents, AreCounted}
-use Rattle.sftp_tree.specs.PictureParts.{content_of, contents_of, node_of, entry_of, only_root, names_of, numbered_from, numbers_from, known_number, known_node, IsKnown, Stores, HaveRoom, with_name, stores_with, IsGrown}
+use Rattle.sftp_tree.specs.PictureParts.{content_of, contents_of, node_of, entry_of, only_root, names_of, numbered_from, numbers_from, known_number, known_node, IsKnown, Stores, HaveRoom, with_name, stores_with, IsGrown, tree_of}
 use Rattle.sftp_tree.proofs.PictureLists.{all_both, all_weaker, all_from_map, insert_last}
 use Rattle.sftp_tree.proofs.PictureTables.{later_than_all, bare_names}
 use Rattle.sftp_tree.proofs.PictureShapes.{bare, bared, names_bare}
-use Rattle.sftp_tree.proofs.PictureNumbers.{made_by, made_push, contents_split, FirstAt, first_at, made_front, front_taken, names_push, length-entries, IsBelow, AreBelow, all_below}
+use Rattle.sftp_tree.proofs.PictureNumbers.{made_by, made_few, made_push, contents_split, FirstAt, first_at, made_front, front_taken, names_push, length-entries, IsBelow, AreBelow, all_below}
 use Rattle.sftp_tree.proofs.PictureContents.{number_is, numbered_there, each_number, numbered_order}
 
 -- ---- room for a name more
@@ -314,3 +315,30 @@ many_files root rows names stores grown =
 pub grown_room : (root : Owner) (rows : List Row) (names : Names) (stores : Stores) → IsGrown root rows names stores → length rows ≤ 65536 → HaveRoom stores
 grown_room root rows names stores grown few =
     counted_room names stores grown.counted (omega (arith, ap length grown.names_are, length-entries [] rows))
+
+-- nothing but the root
+pub grown_root : (root : Owner) (names new : Names) (stores : Stores) (place : Place) → names ≡ [] → place ≡ [] → new ≡ insert_entry place_cmp names place (Dir root) → stores ≡ [] → IsGrown root [] new stores
+grown_root root names new stores place empty at put none = record {
+  names_are = put ∙ (λ i. insert_entry place_cmp (empty i) (at i) (Dir root));
+  contents_are = ap contents none;
+  counted = subst (AreCounted new) (sym none) tt;
+}
+
+-- the number of the next file fits its field
+pub next_fits : (root : Owner) (rows rest : List Row) (names : Names) (stores : Stores) → IsGrown root rows names stores → length (rows ++ rest) ≤ 65536 → length stores ≤ 65536
+next_fits root rows rest names stores grown few =
+    omega (arith, many_files root rows names stores grown, made_few rows, length-append rows rest)
+
+pub numbers_grow : (rows : List Row) (row : Row) (numbers new : List ℕ) (next : ℕ) → new ≡ numbers ++ next ∷ [] → numbers ≡ numbers_from 0 rows → next ≡ made_by rows → new ≡ numbers_from 0 (rows ++ row ∷ [])
+numbers_grow rows row numbers new next put are is =
+    let zero_more : next ≡ 0 + made_by rows = omega (arith, is) in
+    put ∙ (λ i. are i ++ zero_more i ∷ []) ∙ sym (numbers_push 0 rows row)
+
+-- ---- the tree
+
+pub tree_grown : (file : TreeFile) (rows : List Row) (names : Names) (stores : Stores) (made : ℕ) (home : Place) → rows ≡ file.rows → IsGrown file.root rows names stores → made ≡ length stores → home ≡ place_of file.home
+    → (record { names = names; files = contents stores; made = made; home = home; uid = file.uid; gid = file.gid }) ≡ tree_of file
+tree_grown file rows names stores made home rows-are grown made-is home-is =
+    let g : IsGrown file.root file.rows names stores = subst (λ (rs : List Row). IsGrown file.root rs names stores) rows-are grown in
+    let many = made-is ∙ many_files file.root file.rows names stores g in
+    λ i. record { names = g.names_are i; files = g.contents_are i; made = many i; home = home-is i; uid = file.uid; gid = file.gid }
