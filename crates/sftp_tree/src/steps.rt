@@ -150,7 +150,7 @@ impl Tree {
         let (from, to) = self.lead_both(old, new)?;
         self.replacing(&from, &to).refuse()?;
         trimmed_already();
-        if self.is_one(&from, &to) {
+        if self.are_one(&from, &to) {
             return Ok(());
         }
         nothing_below();
@@ -323,14 +323,6 @@ impl Tree {
             Some(Node::File(number)) => *number,
             Some(Node::Dir(_) | Node::Link(_)) | None => unreachable!(),
         }
-    }
-
-    /// Whether both are one place, or names of one file.
-    #[tactic(auto, unfolding(sftp_path::specs::Table::get))]
-    fn is_one(&self, old: &Place, new: &Place) -> bool
-        ensures { result ≡ steps.are_one self.now.names old.now new.now }
-    {
-        old == new || are_one_file(self.names().get(old), self.names().get(new))
     }
 
     /// Sets the attributes of what stands at a place.

@@ -15,20 +15,20 @@ pub returns-in_err-refuse-clause-refused : goal.returns-in_err-refuse-clause-ref
 returns-in_err-refuse-clause-refused c =
     refused-by c.args.self.now (PosixRename c.args.old.now c.args.new.now) (causes_at_places c.args.self.now (PosixRename c.args.old.now c.args.new.now) c.in_ok-from.from c.in_ok-from.to) c.replacing.result _ _ (c.in_ok-from.ensures.led (PosixRename c.args.old.now c.args.new.now) refl refl refl (λ cause. refl)) (c.replacing.ensures c.args.old.now c.args.new.now) c.from_residual-in_err-refuse.ensures.1 c.in_err-refuse.ensures.cause
 
-pub returns-then-is_one-clause-free : goal.returns-then-is_one-clause-free
-returns-then-is_one-clause-free c =
+pub returns-then-are_one-clause-free : goal.returns-then-are_one-clause-free
+returns-then-are_one-clause-free c =
     free-by c.args.self.now (PosixRename c.args.old.now c.args.new.now) (causes_at_places c.args.self.now (PosixRename c.args.old.now c.args.new.now) c.in_ok-from.from c.in_ok-from.to) (c.in_ok-from.ensures.led (PosixRename c.args.old.now c.args.new.now) refl refl refl (λ cause. refl)) (none-of-set c.replacing.result (causes_at_places c.args.self.now (PosixRename c.args.old.now c.args.new.now) c.in_ok-from.from c.in_ok-from.to) (c.replacing.ensures c.args.old.now c.args.new.now) c.in_ok-refuse.ensures.free)
 
-pub returns-then-is_one-clause-done : goal.returns-then-is_one-clause-done
-returns-then-is_one-clause-done c =
-    let one = sym c.is_one.ensures ∙ c.if-is_one.true in
+pub returns-then-are_one-clause-done : goal.returns-then-are_one-clause-done
+returns-then-are_one-clause-done c =
+    let one = sym c.are_one.ensures ∙ c.if-are_one.true in
     let same = (target-two c.args.self.now (PosixRename c.args.old.now c.args.new.now) c.in_ok-from.from c.in_ok-from.to (led-is c.args.self.now (PosixRename c.args.old.now c.args.new.now) false c.args.old.now _ refl refl c.in_ok-from.ensures.reached) (new-led-is c.args.self.now (PosixRename c.args.old.now c.args.new.now) c.args.new.now _ refl c.in_ok-from.ensures.reached_new)) ∙ ap (λ b. if b then c.args.self.now else put_in_its_stead c.args.self.now c.in_ok-from.from c.in_ok-from.to) one in
     sym (ap trim same ∙ c.trimmed_already.ensures c.args.self.now c.lead_both.ensures.kept.trimmed)
 
 pub move_node-requires : goal.move_node-requires
 move_node-requires c =
     let none = (none-of-set c.replacing.result (causes_at_places c.args.self.now (PosixRename c.args.old.now c.args.new.now) c.in_ok-from.from c.in_ok-from.to) (c.replacing.ensures c.args.old.now c.args.new.now) c.in_ok-refuse.ensures.free) in
-    let apart = sym c.is_one.ensures ∙ c.if-is_one.false in
+    let apart = sym c.are_one.ensures ∙ c.if-are_one.false in
     let may = replace-may c.args.self.now c.in_ok-from.from c.in_ok-from.to c.args.old.now c.args.new.now none apart in
     record {
       taken = may.taken;
@@ -48,6 +48,6 @@ returns-clause-free c =
 
 pub returns-clause-done : goal.returns-clause-done
 returns-clause-done c =
-    let apart = sym c.is_one.ensures ∙ c.if-is_one.false in
+    let apart = sym c.are_one.ensures ∙ c.if-are_one.false in
     let same = (target-two c.args.self.now (PosixRename c.args.old.now c.args.new.now) c.in_ok-from.from c.in_ok-from.to (led-is c.args.self.now (PosixRename c.args.old.now c.args.new.now) false c.args.old.now _ refl refl c.in_ok-from.ensures.reached) (new-led-is c.args.self.now (PosixRename c.args.old.now c.args.new.now) c.args.new.now _ refl c.in_ok-from.ensures.reached_new)) ∙ ap (λ b. if b then c.args.self.now else put_in_its_stead c.args.self.now c.in_ok-from.from c.in_ok-from.to) apart in
     c.in_ok-move_node.ensures.ok ∙ ap trim (sym same)
