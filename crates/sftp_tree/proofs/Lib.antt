@@ -16,6 +16,7 @@ pub mod CausePlaces
 pub mod CauseMoves
 pub mod CauseMoved
 pub mod CausePairs
+pub mod CausePaths
 pub mod StepCauses
 pub mod StepAnswers
 pub mod PictureRows

@@ -122,39 +122,68 @@ impl Tree {
         })
     }
 
-    /// The causes of a name that is to be removed where a path leads.
+    /// The causes of a name that is to be removed where a path leads; a link that is last is not followed.
     fn causes_of_unlinking(&self, path: &[u8]) -> Result<Causes, NoMemory>
         ensures { IfOk result (λ set. judged.IsSet set (steps.causes self.now (Remove path.now))) }
     {
-        Err(NoMemory)
+        self.see();
+        Ok(match self.reach(false, path)? {
+            Ok(place) => self.unlinking(&place),
+            Err(cause) => Causes::just(cause),
+        })
     }
 
     /// The causes of what is to get attributes where a path leads; a link that is last is followed.
     fn causes_of_setting(&self, path: &[u8], attrs: &Attrs) -> Result<Causes, NoMemory>
         ensures { IfOk result (λ set. judged.IsSet set (steps.causes self.now (Setstat path.now attrs.now))) }
     {
-        Err(NoMemory)
+        self.see();
+        Ok(match self.reach(true, path)? {
+            Ok(place) => self.setting(&place, attrs),
+            Err(cause) => Causes::just(cause),
+        })
     }
 
-    /// The causes of what is to go to a place that is free.
+    /// The causes of what is to go to a place that is free. Where a path leads nowhere, its cause holds beside those
+    /// at the other's place.
     fn causes_of_renaming(&self, old: &[u8], new: &[u8]) -> Result<Causes, NoMemory>
         ensures { IfOk result (λ set. judged.IsSet set (steps.causes self.now (Rename old.now new.now))) }
     {
-        Err(NoMemory)
+        self.see();
+        Ok(match (self.reach(false, old)?, self.reach(false, new)?) {
+            (Ok(old), Ok(new)) => self.renaming(&old, &new),
+            (Ok(old), Err(lost)) => self.leaving(&old).union(Causes::just(lost)),
+            (Err(lost), Ok(new)) => Causes::just(lost).union(self.arriving(&new)),
+            (Err(lost), Err(also)) => Causes::just(lost).union(Causes::just(also)),
+        })
     }
 
-    /// The causes of what is to go to a place in the stead of what stands there.
+    /// The causes of what is to go to a place in the stead of what stands there. Where a path leads nowhere, its cause
+    /// holds beside those at the other's place.
     fn causes_of_replacing(&self, old: &[u8], new: &[u8]) -> Result<Causes, NoMemory>
         ensures { IfOk result (λ set. judged.IsSet set (steps.causes self.now (PosixRename old.now new.now))) }
     {
-        Err(NoMemory)
+        self.see();
+        Ok(match (self.reach(false, old)?, self.reach(false, new)?) {
+            (Ok(old), Ok(new)) => self.replacing(&old, &new),
+            (Ok(old), Err(lost)) => self.leaving(&old).union(Causes::just(lost)),
+            (Err(lost), Ok(new)) => Causes::just(lost).union(giving(&new)),
+            (Err(lost), Err(also)) => Causes::just(lost).union(Causes::just(also)),
+        })
     }
 
-    /// The causes of a file that is to get a further name.
+    /// The causes of a file that is to get a further name. Where a path leads nowhere, its cause holds beside those
+    /// at the other's place.
     fn causes_of_linking(&self, old: &[u8], new: &[u8]) -> Result<Causes, NoMemory>
         ensures { IfOk result (λ set. judged.IsSet set (steps.causes self.now (Hardlink old.now new.now))) }
     {
-        Err(NoMemory)
+        self.see();
+        Ok(match (self.reach(false, old)?, self.reach(false, new)?) {
+            (Ok(old), Ok(new)) => self.linking(&old, &new),
+            (Ok(old), Err(lost)) => self.naming(&old).union(Causes::just(lost)),
+            (Err(lost), Ok(new)) => Causes::just(lost).union(self.arriving(&new)),
+            (Err(lost), Err(also)) => Causes::just(lost).union(Causes::just(also)),
+        })
     }
 
     /// The causes of what is to be made at a place.
