@@ -18,6 +18,7 @@ pub mod CauseMoved
 pub mod CausePairs
 pub mod CausePaths
 pub mod StepCauses
+pub mod CauseAsks
 pub mod StepAnswers
 pub mod PictureRows
 pub mod WalkRules
