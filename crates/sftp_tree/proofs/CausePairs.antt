@@ -1,20 +1,18 @@
 -- The causes of requests at the two places that their paths lead to, as the code has them.
-use Rattle.std.proofs.Common.{◌≡◌, ◌≢◌, ℕ, Bool, true, false, ◌&&◌, ◌||◌, not, if◌then◌else◌, List, ◌∷◌, ◌++◌, refl, sym, subst, ◌∙◌, ap, Option, Some, None, IsTrue}
+use Rattle.std.proofs.Common.{◌≡◌, ℕ, Bool, true, false, ◌&&◌, ◌||◌, not, if◌then◌else◌, List, ◌∷◌, ◌++◌, refl, sym, subst, ◌∙◌, ap, Option, Some, None, IsTrue}
 use Rattle.std.specs.List.{list_any}
 use Rattle.sftp_wire.specs.declared.packets.Ask.TheVariants.{Rename, PosixRename, Hardlink}
 use Rattle.sftp_path.specs.Place.{Name, Place, parent, begins}
-use Rattle.sftp_path.specs.Rekeying.{NothingFrom}
 use Rattle.sftp_treefile.specs.TreeFile.{same_place}
 use Rattle.sftp_tree.specs.declared.nodes.Node.{Node}
 use Rattle.sftp_tree.specs.declared.nodes.Node.TheVariants.{Dir, File, Link}
-use Rattle.sftp_tree.specs.declared.causes.Cause.{Cause}
-use Rattle.sftp_tree.specs.declared.causes.Cause.TheVariants.{NoEntry, Exists, IsDir, NotFile, NotEmpty, Inside, NoRoom}
+use Rattle.sftp_tree.specs.declared.causes.Cause.TheVariants.{NoEntry, Exists, IsDir, NotFile, NotEmpty, Inside}
 use Rattle.sftp_tree.specs.declared.causes.Causes.{Causes}
-use Rattle.sftp_tree.specs.Tree.{Tree, IsKept, fits, node_at, without_node, is_taken, is_directory, has_entries}
-use Rattle.sftp_tree.specs.Steps.{CauseSet, every_cause, is_none, making_causes, file_causes, leaving_causes, giving_causes, moving_causes, replacing_causes, goes_inside, are_one, are_one_file, with_further_name, moved, put_in_its_stead, target_between}
+use Rattle.sftp_tree.specs.Tree.{Tree, IsKept, fits, node_at, is_taken, is_directory, has_entries}
+use Rattle.sftp_tree.specs.Steps.{CauseSet, every_cause, is_none, making_causes, file_causes, leaving_causes, giving_causes, moving_causes, replacing_causes, goes_inside, are_one, are_one_file, with_further_name, moved, put_in_its_stead}
 use Rattle.sftp_tree.specs.Sets.{in_set}
 use Rattle.sftp_tree.specs.Judged.{has_room, move_fits, with_room, causes_at_places, IsSet}
-use Rattle.sftp_tree.proofs.CauseLed.{or-false, or-true}
+use Rattle.sftp_tree.proofs.CauseLed.{or-false}
 use Rattle.sftp_tree.proofs.CauseRoom.{fits-put}
 use Rattle.sftp_tree.proofs.CauseSets.{set-whole, set-joined, none-holds}
 use Rattle.sftp_tree.proofs.CausePlaces.{absent-of}

@@ -9,7 +9,7 @@ use Rattle.std.proofs.lemmas.Bool.{and_parts}
 use Rattle.std.proofs.lemmas.Bool.Decides.{nat_tests}
 use Rattle.std.proofs.lemmas.Cmp.{nat_cmp_total}
 use Rattle.sftp_path.specs.Place.{Place, place_cmp}
-use Rattle.sftp_path.specs.Table.{Table, get, put, without, InOrder}
+use Rattle.sftp_path.specs.Table.{Table, get, InOrder}
 use Rattle.sftp_path.proofs.Order.{place_cmp-total}
 use Rattle.sftp_path.proofs.TableLaws.{get-put_here, size-put, size-put_present, size-without}
 use Rattle.sftp_path.proofs.TestLaws.{all-put_new, all-without, values-put, keys-put_in_order}

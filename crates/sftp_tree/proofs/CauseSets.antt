@@ -1,5 +1,5 @@
 -- Sets of causes as the code has them, and the sets that the definitions name.
-use Rattle.std.proofs.Common.{◌≡◌, ℕ, zero, suc, Bool, true, false, ◌&&◌, ◌||◌, not, List, [], ◌∷◌, drop, refl, sym, ◌∙◌, ap, Option, Some, None, IsTrue, Result, Ok, Err}
+use Rattle.std.proofs.Common.{◌≡◌, ℕ, zero, suc, Bool, true, false, ◌&&◌, ◌||◌, not, List, [], ◌∷◌, drop, refl, sym, ◌∙◌, ap, Option, Some, None, Result, Ok, Err}
 use Rattle.std.specs.List.{list_any}
 use Rattle.sftp_wire.specs.declared.packets.Ask.{Ask}
 use Rattle.sftp_path.specs.Place.{Place}
@@ -7,11 +7,11 @@ use Rattle.sftp_tree.specs.declared.causes.Cause.{Cause}
 use Rattle.sftp_tree.specs.declared.causes.Cause.TheVariants.{BadPath, NoEntry, NotDir, Loop, Exists, IsDir, NotLink, NotFile, NotEmpty, Root, Inside, NoRoom}
 use Rattle.sftp_tree.specs.declared.causes.Causes.{Causes}
 use Rattle.sftp_tree.specs.Tree.{Tree, IsKept, fits}
-use Rattle.sftp_tree.specs.Steps.{CauseSet, every_cause, led, new_led, only, is_none, causes_at, target_causes, target_on, led_to, causes}
+use Rattle.sftp_tree.specs.Steps.{CauseSet, every_cause, led, new_led, only, is_none, target_causes, target_on, led_to, causes}
 use Rattle.sftp_tree.specs.Sets.{in_set}
 use Rattle.sftp_tree.specs.Judged.{just, with_room, causes_at_place, causes_at_places, IsSet}
 use Rattle.sftp_tree.proofs.CauseWalks.{led-room}
-use Rattle.sftp_tree.proofs.CauseLed.{or-false, or-true, causes-are, plain_of, plain-led, target-led, led-one, led-two}
+use Rattle.sftp_tree.proofs.CauseLed.{or-false, causes-are, plain_of, plain-led, target-led, led-one, led-two}
 
 pub and-false : (b : Bool) → (b && false) ≡ false
 and-false true = refl
