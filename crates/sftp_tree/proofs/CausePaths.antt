@@ -54,16 +54,16 @@ new-lost t ask oldpath newpath old failed s kept first second good e f room same
     let two = new_led-by t ask newpath (Err failed) second f in
     let apart = only-apart failed (λ is. new_led-room t ask (two ∙ ap (λ c. Some (Err c)) is)) in
     lost t ask (Some (Ok old)) (Some (Err failed)) s kept (led-by t ask oldpath (Ok old) first e) two refl
-      (λ i. room i || (apart i || good NoRoom i))
-      (λ c. same c ∙ ap (λ b. causes_at t ask old c || b) (alone (only failed c) (target_causes ask c) (good c)))
+    (λ i. room i || (apart i || good NoRoom i))
+    (λ c. same c ∙ ap (λ b. causes_at t ask old c || b) (alone (only failed c) (target_causes ask c) (good c)))
 
 pub old-lost : (t : Tree) (ask : Ask) (oldpath newpath : List ℕ) (new : Place) (failed : Cause) (s : Causes) → IsKept t → path_of ask ≡ Some oldpath → new_path_of ask ≡ Some newpath → HasNoTarget ask → reached t (follows ask) oldpath ≡ Err failed → reached t false newpath ≡ Ok new → new_causes_at t ask new NoRoom ≡ false → IsSet s (λ c. only failed c || new_causes_at t ask new c) → IsSet s (causes t ask)
 old-lost t ask oldpath newpath new failed s kept first second good e f room same =
     let one = led-by t ask oldpath (Err failed) first e in
     let apart = only-apart failed (λ is. led-room t ask (one ∙ ap (λ c. Some (Err c)) is)) in
     lost t ask (Some (Err failed)) (Some (Ok new)) s kept one (new_led-by t ask newpath (Ok new) second f) refl
-      (λ i. apart i || (room i || good NoRoom i))
-      (λ c. same c ∙ ap (λ b. only failed c || b) (alone (new_causes_at t ask new c) (target_causes ask c) (good c)))
+    (λ i. apart i || (room i || good NoRoom i))
+    (λ c. same c ∙ ap (λ b. only failed c || b) (alone (new_causes_at t ask new c) (target_causes ask c) (good c)))
 
 pub both-lost : (t : Tree) (ask : Ask) (oldpath newpath : List ℕ) (failed also : Cause) (s : Causes) → IsKept t → path_of ask ≡ Some oldpath → new_path_of ask ≡ Some newpath → HasNoTarget ask → reached t (follows ask) oldpath ≡ Err failed → reached t false newpath ≡ Err also → IsSet s (λ c. only failed c || only also c) → IsSet s (causes t ask)
 both-lost t ask oldpath newpath failed also s kept first second good e f same =
@@ -72,5 +72,5 @@ both-lost t ask oldpath newpath failed also s kept first second good e f same =
     let apart = only-apart failed (λ is. led-room t ask (one ∙ ap (λ c. Some (Err c)) is)) in
     let apart_too = only-apart also (λ is. new_led-room t ask (two ∙ ap (λ c. Some (Err c)) is)) in
     lost t ask (Some (Err failed)) (Some (Err also)) s kept one two refl
-      (λ i. apart i || (apart_too i || good NoRoom i))
-      (λ c. same c ∙ ap (λ b. only failed c || b) (alone (only also c) (target_causes ask c) (good c)))
+    (λ i. apart i || (apart_too i || good NoRoom i))
+    (λ c. same c ∙ ap (λ b. only failed c || b) (alone (only also c) (target_causes ask c) (good c)))

@@ -49,7 +49,7 @@ pub making-is : (t : Tree) (place : Place) (node : Node) → IsKept t → IsTrue
 unfolding making-by
 making-is t place node kept link =
     making-set (node_at t.names place) (has_room t place) (record t { names = with_node t.names place node })
-      (λ free. fits-put t place node kept.within_limits (absent-of (node_at t.names place) free) ∙ ap (λ b. has_room t place && b) link ∙ and-true (has_room t place))
+    (λ free. fits-put t place node kept.within_limits (absent-of (node_at t.names place) free) ∙ ap (λ b. has_room t place && b) link ∙ and-true (has_room t place))
 
 -- ---- what changes nothing
 
@@ -139,7 +139,7 @@ setting-at t attrs place None kept is BadPath = refl
 setting-at t attrs place None kept is _ = refl
 setting-at t attrs place (Some (Dir owner)) kept is c =
     set-whole (setting (limits t) attrs (Some (Dir owner))) (setting_causes attrs (Some (Dir owner))) (with_attributes t attrs place (Some (Dir owner)))
-      (fits-again t place (Dir owner) (Dir (changed_owner attrs owner)) kept.within_limits kept.well_formed.ordered is refl) refl same c
+    (fits-again t place (Dir owner) (Dir (changed_owner attrs owner)) kept.within_limits kept.well_formed.ordered is refl) refl same c
   where
     same : IsSet (setting (limits t) attrs (Some (Dir owner))) (setting_causes attrs (Some (Dir owner)))
     same BadPath = refl

@@ -65,13 +65,16 @@ none-holds plain none = by (list_any plain every_cause) refl none
     first : (a b : Bool) → (a || b) ≡ false → a ≡ false
     first true b e = cc
     first false b e = refl
+
     behind : (a b : Bool) → (a || b) ≡ false → b ≡ false
     behind true b e = cc
     behind false b e = e
+
     from : (k : ℕ) (cs : List Cause) → list_any plain cs ≡ false → list_any plain (drop k cs) ≡ false
     from zero cs e = e
     from (suc k) [] e = e
     from (suc k) (c ∷ cs) e = from k cs (behind (plain c) (list_any plain cs) e)
+
     each : list_any plain every_cause ≡ false → (c : Cause) → plain c ≡ false
     each e BadPath = first (plain BadPath) _ (from 0 every_cause e)
     each e NoEntry = first (plain NoEntry) _ (from 1 every_cause e)
@@ -85,6 +88,7 @@ none-holds plain none = by (list_any plain every_cause) refl none
     each e Root = first (plain Root) _ (from 9 every_cause e)
     each e Inside = first (plain Inside) _ (from 10 every_cause e)
     each e NoRoom = first (plain NoRoom) _ (from 11 every_cause e)
+
     by : (b : Bool) → list_any plain every_cause ≡ b → not b ≡ true → (c : Cause) → plain c ≡ false
     by true some h = absurd cc
     by false e h = each e
