@@ -1,5 +1,5 @@
 -- The causes of a request by where its paths lead.
-use Rattle.std.proofs.Common.{◌≡◌, Bool, true, false, ◌&&◌, ◌||◌, not, refl, sym, ◌∙◌, ap, Option, Some, None, IsTrue, Result, Ok, Err}
+use Rattle.std.proofs.Common.{◌≡◌, Bool, true, false, ◌&&◌, ◌||◌, not, refl, ◌∙◌, ap, Option, Some, None, IsTrue, Result, Ok, Err}
 use Rattle.sftp_wire.specs.declared.packets.Ask.{Ask}
 use Rattle.sftp_path.specs.Place.{Place}
 use Rattle.sftp_tree.specs.declared.causes.Cause.{Cause}

@@ -1,5 +1,5 @@
 -- Which trees keep to the limits after something went to another place.
-use Rattle.std.proofs.Common.{◌≡◌, ℕ, ◌+◌, ◌-◌, ◌<◌, ◌≤◌, Bool, true, false, ◌&&◌, ◌||◌, not, cond, if◌then◌else◌, [], ◌∷◌, ◌++◌, length, drop, refl, sym, subst, ◌∙◌, ap, arith, Option, Some, None, nat_le, IsTrue}
+use Rattle.std.proofs.Common.{◌≡◌, ℕ, ◌+◌, ◌-◌, ◌≤◌, Bool, true, false, ◌&&◌, ◌||◌, not, cond, [], ◌∷◌, ◌++◌, length, drop, refl, sym, ◌∙◌, ap, arith, Option, Some, None, nat_le}
 use Rattle.std.specs.Ordering.{is_eq}
 use Rattle.std.specs.Cmp.{Equal-is}
 use Rattle.std.specs.declared.cmp.Ordering.TheVariants.{Equal}
@@ -11,7 +11,7 @@ use Rattle.std.proofs.lemmas.Bool.Decides.{nat_tests}
 use Rattle.std.proofs.lemmas.List.{append-nil, length-append}
 use Rattle.sftp_path.specs.Place.{Name, Place, place_cmp, begins, depth_limit}
 use Rattle.sftp_path.specs.Table.{get, without}
-use Rattle.sftp_path.specs.Rekeying.{renamed, renamed_entry, rekeyed, NothingFrom}
+use Rattle.sftp_path.specs.Rekeying.{renamed, rekeyed, NothingFrom}
 use Rattle.sftp_path.proofs.Order.{place_cmp-total, place_cmp-same, begins-front, begins-append}
 use Rattle.sftp_path.proofs.TableLaws.{get-without_here, get-without_elsewhere, InOrder-without}
 use Rattle.sftp_path.proofs.TestLaws.{all-without}
@@ -99,6 +99,7 @@ depths-moved names old new all taken = by (nat_le (length new) depth_limit) refl
       where
         same_length : (n m k : ℕ) → n + m ≡ m + k → n ≡ k
         same_length n m k is = omega arith
+
         none : (b : Bool) → list_all (λ e. depth_fits (renamed old new e.0)) names ≡ b → b ≡ false
         none true passed =
             let at_old = place-passes (λ place. depth_fits (renamed old new place)) old names passed taken in
@@ -118,9 +119,9 @@ fits-moved t old new kept taken nothing =
     let fit = fitting t kept.within_limits in
     let order = kept.well_formed.ordered in
     fits-names t (rekeyed old new t.names) true (move_fits t.names old new) true fit
-      (ap (λ n. nat_le (n - 1) (limits t).entries) (size-rekeyed old new t.names order nothing) ∙ fit.entries)
-      (tests.all-rekeyed old new t.names (λ e. depth_fits e.0) order nothing ∙ depths-moved t.names old new fit.depths taken)
-      (tests.all-rekeyed old new t.names (λ e. link_fits e.1) order nothing ∙ fit.links)
+    (ap (λ n. nat_le (n - 1) (limits t).entries) (size-rekeyed old new t.names order nothing) ∙ fit.entries)
+    (tests.all-rekeyed old new t.names (λ e. depth_fits e.0) order nothing ∙ depths-moved t.names old new fit.depths taken)
+    (tests.all-rekeyed old new t.names (λ e. link_fits e.1) order nothing ∙ fit.links)
     ∙ and-true (move_fits t.names old new)
 
 -- with what stood at the new place gone
@@ -129,10 +130,10 @@ fits-put_in_stead t old new kept taken nothing apart =
     let fit = fitting t kept.within_limits in
     let order = InOrder-without place_cmp t.names new kept.well_formed.ordered in
     fits-names t (rekeyed old new (without_node t.names new)) true (move_fits t.names old new) true fit
-      (ap (λ n. nat_le (n - 1) (limits t).entries) (size-rekeyed old new (without_node t.names new) order nothing)
-      ∙ fewer (length t.names) (length (without_node t.names new)) (limits t).entries (length-without t.names new) fit.entries)
-      (tests.all-rekeyed old new (without_node t.names new) (λ e. depth_fits e.0) order nothing ∙ others fit ∙ depths-moved t.names old new fit.depths taken)
-      (tests.all-rekeyed old new (without_node t.names new) (λ e. link_fits e.1) order nothing ∙ all-without place_cmp t.names new (λ e. link_fits e.1) fit.links)
+    (ap (λ n. nat_le (n - 1) (limits t).entries) (size-rekeyed old new (without_node t.names new) order nothing)
+    ∙ fewer (length t.names) (length (without_node t.names new)) (limits t).entries (length-without t.names new) fit.entries)
+    (tests.all-rekeyed old new (without_node t.names new) (λ e. depth_fits e.0) order nothing ∙ others fit ∙ depths-moved t.names old new fit.depths taken)
+    (tests.all-rekeyed old new (without_node t.names new) (λ e. link_fits e.1) order nothing ∙ all-without place_cmp t.names new (λ e. link_fits e.1) fit.links)
     ∙ and-true (move_fits t.names old new)
   where
     -- what goes is neither moved nor too deep
@@ -159,4 +160,4 @@ longer place n ns same =
 pub nothing-left : (t : Tree) (place : Place) → IsKept t → ((n : Name) (ns : Place) → node_at t.names (place ++ n ∷ ns) ≡ None) → NothingFrom (without_node t.names place) place
 nothing-left t place kept below =
     nothing-from (without_node t.names place) place (get-without_here place_cmp place_cmp-total t.names place kept.well_formed.ordered)
-      (λ n ns. get-without_elsewhere place_cmp place_cmp-total t.names place (place ++ n ∷ ns) kept.well_formed.ordered (longer place n ns) ∙ below n ns)
+    (λ n ns. get-without_elsewhere place_cmp place_cmp-total t.names place (place ++ n ∷ ns) kept.well_formed.ordered (longer place n ns) ∙ below n ns)

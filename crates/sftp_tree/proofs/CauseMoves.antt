@@ -1,5 +1,5 @@
 -- Which moves keep to the most names of a place.
-use Rattle.std.proofs.Common.{◌≡◌, ℕ, ◌-◌, Bool, true, false, ◌&&◌, ◌||◌, not, cond, if◌then◌else◌, [], ◌∷◌, length, refl, sym, ◌∙◌, ap, nat_le}
+use Rattle.std.proofs.Common.{◌≡◌, ℕ, ◌-◌, Bool, true, false, ◌&&◌, ◌||◌, not, cond, [], ◌∷◌, length, refl, sym, ◌∙◌, ap, nat_le}
 use Rattle.std.specs.Cmp.Lexicographic.{bytes_decides, texts_ties, nat_list_cmp_total}
 use Rattle.std.specs.Ordering.{ordering_then, ordering_reverse, is_eq, is_le}
 use Rattle.std.specs.declared.cmp.Ordering.{Ordering}
@@ -11,7 +11,7 @@ use Rattle.std.specs.Map.{keys_of}
 use Rattle.std.specs.BTreeMap.Range.{entries_between}
 use Rattle.std.proofs.lemmas.Bool.{and_parts}
 use Rattle.std.proofs.lemmas.Map.Keys.{sorted_head, sorted_tail}
-use Rattle.sftp_path.specs.Place.{Name, Place, name_cmp, place_cmp, same_bytes, begins}
+use Rattle.sftp_path.specs.Place.{Place, name_cmp, place_cmp, same_bytes, begins}
 use Rattle.sftp_tree.specs.declared.nodes.Node.{Node}
 use Rattle.sftp_tree.specs.Tree.{Names}
 use Rattle.sftp_tree.specs.Judged.{reaches_at_most}

@@ -1,20 +1,18 @@
 -- The causes of requests at the two places that their paths lead to, as the code has them.
-use Rattle.std.proofs.Common.{◌≡◌, ◌≢◌, ℕ, Bool, true, false, ◌&&◌, ◌||◌, not, if◌then◌else◌, List, ◌∷◌, ◌++◌, refl, sym, subst, ◌∙◌, ap, Option, Some, None, IsTrue}
+use Rattle.std.proofs.Common.{◌≡◌, ℕ, Bool, true, false, ◌&&◌, ◌||◌, not, if◌then◌else◌, List, ◌∷◌, ◌++◌, refl, sym, subst, ◌∙◌, ap, Option, Some, None, IsTrue}
 use Rattle.std.specs.List.{list_any}
 use Rattle.sftp_wire.specs.declared.packets.Ask.TheVariants.{Rename, PosixRename, Hardlink}
 use Rattle.sftp_path.specs.Place.{Name, Place, parent, begins}
-use Rattle.sftp_path.specs.Rekeying.{NothingFrom}
 use Rattle.sftp_treefile.specs.TreeFile.{same_place}
 use Rattle.sftp_tree.specs.declared.nodes.Node.{Node}
 use Rattle.sftp_tree.specs.declared.nodes.Node.TheVariants.{Dir, File, Link}
-use Rattle.sftp_tree.specs.declared.causes.Cause.{Cause}
-use Rattle.sftp_tree.specs.declared.causes.Cause.TheVariants.{NoEntry, Exists, IsDir, NotFile, NotEmpty, Inside, NoRoom}
+use Rattle.sftp_tree.specs.declared.causes.Cause.TheVariants.{NoEntry, Exists, IsDir, NotFile, NotEmpty, Inside}
 use Rattle.sftp_tree.specs.declared.causes.Causes.{Causes}
-use Rattle.sftp_tree.specs.Tree.{Tree, IsKept, fits, node_at, without_node, is_taken, is_directory, has_entries}
-use Rattle.sftp_tree.specs.Steps.{CauseSet, every_cause, is_none, making_causes, file_causes, leaving_causes, giving_causes, moving_causes, replacing_causes, goes_inside, are_one, are_one_file, with_further_name, moved, put_in_its_stead, target_between}
+use Rattle.sftp_tree.specs.Tree.{Tree, IsKept, fits, node_at, is_taken, is_directory, has_entries}
+use Rattle.sftp_tree.specs.Steps.{CauseSet, every_cause, is_none, making_causes, file_causes, leaving_causes, giving_causes, moving_causes, replacing_causes, goes_inside, are_one, are_one_file, with_further_name, moved, put_in_its_stead}
 use Rattle.sftp_tree.specs.Sets.{in_set}
 use Rattle.sftp_tree.specs.Judged.{has_room, move_fits, with_room, causes_at_places, IsSet}
-use Rattle.sftp_tree.proofs.CauseLed.{or-false, or-true}
+use Rattle.sftp_tree.proofs.CauseLed.{or-false}
 use Rattle.sftp_tree.proofs.CauseRoom.{fits-put}
 use Rattle.sftp_tree.proofs.CauseSets.{set-whole, set-joined, none-holds}
 use Rattle.sftp_tree.proofs.CausePlaces.{absent-of}
@@ -62,8 +60,8 @@ linking-room t old new kept none =
 pub linking-from : (t : Tree) (old new : Place) (oldpath newpath : List ℕ) (s : Causes) (any : Bool) → IsKept t → IsSet s (λ c. file_causes (node_at t.names old) c || making_causes (node_at t.names new) c) → list_any (in_set s) every_cause ≡ any → IsSet (record s { no_room = not any && not (has_room t new) }) (causes_at_places t (Hardlink oldpath newpath) old new)
 linking-from t old new oldpath newpath s any kept same is =
     set-joined s (λ c. file_causes (node_at t.names old) c || (making_causes (node_at t.names new) c || false)) (with_further_name t (node_at t.names old) new) (not (has_room t new)) any refl
-      (λ c. same c ∙ ap (λ b. file_causes (node_at t.names old) c || b) (sym (or-false (making_causes (node_at t.names new) c)))) is
-      (λ none. linking-room t old new kept none ∙ twice (has_room t new))
+    (λ c. same c ∙ ap (λ b. file_causes (node_at t.names old) c || b) (sym (or-false (making_causes (node_at t.names new) c)))) is
+    (λ none. linking-room t old new kept none ∙ twice (has_room t new))
 
 -- ---- what the laws of trees say
 
@@ -96,7 +94,7 @@ pub renaming-from : (t : Tree) (old new : Place) (oldpath newpath : List ℕ) (s
 unfolding moving_plain
 renaming-from t old new oldpath newpath s any kept below alone same is =
     set-joined s (moving_plain t old new) (moved t old new) (not (move_fits t.names old new)) any refl same is
-      (λ none. renaming-room t old new kept below alone none ∙ twice (move_fits t.names old new))
+    (λ none. renaming-room t old new kept below alone none ∙ twice (move_fits t.names old new))
 
 -- ---- posix-rename
 
@@ -118,7 +116,7 @@ replacing-room t old new kept below alone apart two none =
     let empty = empty-there (is_directory (node_at t.names old)) (is_directory (node_at t.names new)) (is_taken (node_at t.names old)) (has_entries t.names new) taken (holds NotEmpty) (holds IsDir) (below t new kept) in
     let elsewhere = first (same_place old new) (are_one_file (node_at t.names old) (node_at t.names new)) two in
     fits-put_in_stead t old new kept taken (nothing-left t new kept (alone t new kept empty))
-      (λ there. apart t old new kept taken (holds Inside) elsewhere (kept.well_formed.parents new there))
+    (λ there. apart t old new kept taken (holds Inside) elsewhere (kept.well_formed.parents new there))
 
 abbrev pub replacing_set : Tree → Place → Place → Bool → CauseSet
 replacing_set t old new one = with_room (λ c. leaving_causes t.names old c || (giving_causes new c || (not one && replacing_causes t.names old new c))) (if one then t else put_in_its_stead t old new)
@@ -127,12 +125,12 @@ pub replacing-from : (t : Tree) (old new : Place) (oldpath newpath : List ℕ) (
 unfolding replacing_plain
 replacing-from t old new oldpath newpath s any kept below alone apart two same is =
     subst (λ b. IsSet (record s { no_room = not any && not (move_fits t.names old new) }) (replacing_set t old new b)) (sym two)
-      (set-joined s (replacing_plain t old new) (put_in_its_stead t old new) (not (move_fits t.names old new)) any refl same is
-        (λ none. replacing-room t old new kept below alone apart two none ∙ twice (move_fits t.names old new)))
+    (set-joined s (replacing_plain t old new) (put_in_its_stead t old new) (not (move_fits t.names old new)) any refl same is
+    (λ none. replacing-room t old new kept below alone apart two none ∙ twice (move_fits t.names old new)))
 
 -- nothing is done where both are one
 pub one-from : (t : Tree) (old new : Place) (oldpath newpath : List ℕ) (s : Causes) → IsKept t → are_one t.names old new ≡ true → IsSet s (λ c. leaving_causes t.names old c || giving_causes new c) → IsSet s (causes_at_places t (PosixRename oldpath newpath) old new)
 one-from t old new oldpath newpath s kept one same =
     subst (λ b. IsSet s (replacing_set t old new b)) (sym one)
-      (set-whole s (λ c. leaving_causes t.names old c || (giving_causes new c || false)) t kept.within_limits refl
-        (λ c. same c ∙ ap (λ b. leaving_causes t.names old c || b) (sym (or-false (giving_causes new c)))))
+    (set-whole s (λ c. leaving_causes t.names old c || (giving_causes new c || false)) t kept.within_limits refl
+    (λ c. same c ∙ ap (λ b. leaving_causes t.names old c || b) (sym (or-false (giving_causes new c)))))

@@ -7,24 +7,20 @@ use Rattle.std.specs.BTreeMap.{is_at}
 use Rattle.std.specs.List.{AllByRecursion}
 use Rattle.std.proofs.lemmas.List.{length-append, length-take, length-replicate}
 use Rattle.sftp_wire.specs.declared.attributes.Attrs.{Attrs}
-use Rattle.sftp_wire.specs.declared.packets.Ask.{Ask}
-use Rattle.sftp_wire.specs.declared.packets.Ask.TheVariants.{Mkdir, Rmdir, Remove, Setstat, Symlink}
+use Rattle.sftp_wire.specs.declared.packets.Ask.TheVariants.{Remove, Setstat}
 use Rattle.sftp_path.specs.Place.{Place, place_cmp}
 use Rattle.sftp_path.specs.Table.{get}
 use Rattle.sftp_treefile.specs.declared.limits.TreeLimits.{TreeLimits}
-use Rattle.sftp_treefile.specs.TreeFile.{is_target}
 use Rattle.sftp_tree.specs.declared.contents.Content.{Content}
 use Rattle.sftp_tree.specs.declared.nodes.Node.{Node}
 use Rattle.sftp_tree.specs.declared.nodes.Node.TheVariants.{Dir, File, Link}
-use Rattle.sftp_tree.specs.declared.causes.Cause.{Cause}
-use Rattle.sftp_tree.specs.declared.causes.Cause.TheVariants.{BadPath, NoEntry, NotDir, Loop, Exists, IsDir, NotLink, NotFile, NotEmpty, Root, Inside, NoRoom}
+use Rattle.sftp_tree.specs.declared.causes.Cause.TheVariants.{BadPath, NoRoom}
 use Rattle.sftp_tree.specs.declared.causes.Causes.{Causes}
 use Rattle.sftp_tree.specs.Tree.{Names, Tree, IsKept, IsNode, limits, fits, link_fits, node_at, with_node, without_node, content_at, is_taken, is_directory, is_file}
 use Rattle.sftp_tree.specs.Attributes.{changed_owner, changed_content, resized}
-use Rattle.sftp_tree.specs.Steps.{CauseSet, is_none, making_causes, needing_causes, link_causes, removing_causes, unlinking_causes, setting_causes, with_changed_file, with_attributes}
+use Rattle.sftp_tree.specs.Steps.{making_causes, needing_causes, link_causes, removing_causes, unlinking_causes, setting_causes, with_changed_file, with_attributes}
 use Rattle.sftp_tree.specs.Sets.{in_set}
 use Rattle.sftp_tree.specs.Judged.{no_causes, has_room, size_fits, making, needing, reading, removing, with_room, causes_at_place, IsSet}
-use Rattle.sftp_tree.proofs.CauseLed.{or-false}
 use Rattle.sftp_tree.proofs.CauseRoom.{fits-put, fits-without, fits-again, fits-content, content-fits}
 use Rattle.sftp_tree.proofs.CauseSets.{and-false, set-whole}
 
@@ -53,7 +49,7 @@ pub making-is : (t : Tree) (place : Place) (node : Node) → IsKept t → IsTrue
 unfolding making-by
 making-is t place node kept link =
     making-set (node_at t.names place) (has_room t place) (record t { names = with_node t.names place node })
-      (λ free. fits-put t place node kept.within_limits (absent-of (node_at t.names place) free) ∙ ap (λ b. has_room t place && b) link ∙ and-true (has_room t place))
+    (λ free. fits-put t place node kept.within_limits (absent-of (node_at t.names place) free) ∙ ap (λ b. has_room t place && b) link ∙ and-true (has_room t place))
 
 -- ---- what changes nothing
 
@@ -143,7 +139,7 @@ setting-at t attrs place None kept is BadPath = refl
 setting-at t attrs place None kept is _ = refl
 setting-at t attrs place (Some (Dir owner)) kept is c =
     set-whole (setting (limits t) attrs (Some (Dir owner))) (setting_causes attrs (Some (Dir owner))) (with_attributes t attrs place (Some (Dir owner)))
-      (fits-again t place (Dir owner) (Dir (changed_owner attrs owner)) kept.within_limits kept.well_formed.ordered is refl) refl same c
+    (fits-again t place (Dir owner) (Dir (changed_owner attrs owner)) kept.within_limits kept.well_formed.ordered is refl) refl same c
   where
     same : IsSet (setting (limits t) attrs (Some (Dir owner))) (setting_causes attrs (Some (Dir owner)))
     same BadPath = refl

@@ -9,7 +9,7 @@ use Rattle.std.proofs.lemmas.Bool.{and_parts}
 use Rattle.std.proofs.lemmas.Bool.Decides.{nat_tests}
 use Rattle.std.proofs.lemmas.Cmp.{nat_cmp_total}
 use Rattle.sftp_path.specs.Place.{Place, place_cmp}
-use Rattle.sftp_path.specs.Table.{Table, get, put, without, InOrder}
+use Rattle.sftp_path.specs.Table.{Table, get, InOrder}
 use Rattle.sftp_path.proofs.Order.{place_cmp-total}
 use Rattle.sftp_path.proofs.TableLaws.{get-put_here, size-put, size-put_present, size-without}
 use Rattle.sftp_path.proofs.TestLaws.{all-put_new, all-without, values-put, keys-put_in_order}
@@ -70,9 +70,9 @@ pub fits-put : (t : Tree) (place : Place) (node : Node) → IsTrue (fits t) → 
 fits-put t place node kept absent =
     let fit = fitting t kept in
     fits-names t (with_node t.names place node) (nat_le (length t.names) (limits t).entries) (depth_fits place) (link_fits node) fit
-      (more-entries (length t.names) (length (with_node t.names place node)) (limits t).entries (size-put place_cmp t.names place node absent))
-      (all-put_new place_cmp t.names place node (λ e. depth_fits e.0) absent ∙ ap (λ b. depth_fits place && b) fit.depths ∙ and-true (depth_fits place))
-      (all-put_new place_cmp t.names place node (λ e. link_fits e.1) absent ∙ ap (λ b. link_fits node && b) fit.links ∙ and-true (link_fits node))
+    (more-entries (length t.names) (length (with_node t.names place node)) (limits t).entries (size-put place_cmp t.names place node absent))
+    (all-put_new place_cmp t.names place node (λ e. depth_fits e.0) absent ∙ ap (λ b. depth_fits place && b) fit.depths ∙ and-true (depth_fits place))
+    (all-put_new place_cmp t.names place node (λ e. link_fits e.1) absent ∙ ap (λ b. link_fits node && b) fit.links ∙ and-true (link_fits node))
     ∙ and-three (nat_le (length t.names) (limits t).entries) (depth_fits place) (link_fits node)
 
 -- ---- one entry less
@@ -93,9 +93,9 @@ pub fits-without : (t : Tree) (place : Place) → IsTrue (fits t) → fits (reco
 fits-without t place kept =
     let fit = fitting t kept in
     fits-names t (without_node t.names place) true true true fit
-      (fewer (length t.names) (length (without_node t.names place)) (limits t).entries (length-without t.names place) fit.entries)
-      (all-without place_cmp t.names place (λ e. depth_fits e.0) fit.depths)
-      (all-without place_cmp t.names place (λ e. link_fits e.1) fit.links)
+    (fewer (length t.names) (length (without_node t.names place)) (limits t).entries (length-without t.names place) fit.entries)
+    (all-without place_cmp t.names place (λ e. depth_fits e.0) fit.depths)
+    (all-without place_cmp t.names place (λ e. link_fits e.1) fit.links)
 
 -- ---- something else at a place
 
@@ -103,9 +103,9 @@ pub fits-again : (t : Tree) (place : Place) (before node : Node) → IsTrue (fit
 fits-again t place before node kept order there link =
     let fit = fitting t kept in
     fits-names t (with_node t.names place node) true true true fit
-      (ap (λ n. nat_le (n - 1) (limits t).entries) (size-put_present place_cmp place_cmp-total t.names place node before order there) ∙ fit.entries)
-      (keys-put_in_order place_cmp place_cmp-total t.names place node before depth_fits order there ∙ fit.depths)
-      (values-put place_cmp t.names place node link_fits fit.links link)
+    (ap (λ n. nat_le (n - 1) (limits t).entries) (size-put_present place_cmp place_cmp-total t.names place node before order there) ∙ fit.entries)
+    (keys-put_in_order place_cmp place_cmp-total t.names place node before depth_fits order there ∙ fit.depths)
+    (values-put place_cmp t.names place node link_fits fit.links link)
 
 -- ---- another content of a file
 
@@ -136,9 +136,9 @@ unfolding fits
 fits-content t number content kept =
     let fit = fitting t kept in
     let files : files_fit (record t { files = with_content t.files number content }) ≡ content_fits (limits t) content =
-      both-ways (files_fit (record t { files = with_content t.files number content })) (content_fits (limits t) content)
-        (λ all. value-passes nat_cmp (with_content t.files number content) number content (content_fits (limits t)) all (get-put_here nat_cmp nat_cmp_total t.files number content))
-        (λ passing. values-put nat_cmp t.files number content (content_fits (limits t)) fit.files passing) in
+    both-ways (files_fit (record t { files = with_content t.files number content })) (content_fits (limits t) content)
+    (λ all. value-passes nat_cmp (with_content t.files number content) number content (content_fits (limits t)) all (get-put_here nat_cmp nat_cmp_total t.files number content))
+    (λ passing. values-put nat_cmp t.files number content (content_fits (limits t)) fit.files passing) in
     (λ i. fit.entries i && (fit.depths i && (fit.home i && (fit.links i && (files i && fit.numbers i))))) ∙ and-true (content_fits (limits t) content)
 
 -- the content of a file of a tree within the limits fits

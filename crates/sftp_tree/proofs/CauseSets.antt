@@ -1,5 +1,5 @@
 -- Sets of causes as the code has them, and the sets that the definitions name.
-use Rattle.std.proofs.Common.{◌≡◌, ℕ, zero, suc, Bool, true, false, ◌&&◌, ◌||◌, not, List, [], ◌∷◌, drop, refl, sym, ◌∙◌, ap, Option, Some, None, IsTrue, Result, Ok, Err}
+use Rattle.std.proofs.Common.{◌≡◌, ℕ, zero, suc, Bool, true, false, ◌&&◌, ◌||◌, not, List, [], ◌∷◌, drop, refl, sym, ◌∙◌, ap, Option, Some, None, Result, Ok, Err}
 use Rattle.std.specs.List.{list_any}
 use Rattle.sftp_wire.specs.declared.packets.Ask.{Ask}
 use Rattle.sftp_path.specs.Place.{Place}
@@ -7,11 +7,11 @@ use Rattle.sftp_tree.specs.declared.causes.Cause.{Cause}
 use Rattle.sftp_tree.specs.declared.causes.Cause.TheVariants.{BadPath, NoEntry, NotDir, Loop, Exists, IsDir, NotLink, NotFile, NotEmpty, Root, Inside, NoRoom}
 use Rattle.sftp_tree.specs.declared.causes.Causes.{Causes}
 use Rattle.sftp_tree.specs.Tree.{Tree, IsKept, fits}
-use Rattle.sftp_tree.specs.Steps.{CauseSet, every_cause, led, new_led, only, is_none, causes_at, target_causes, target_on, led_to, causes}
+use Rattle.sftp_tree.specs.Steps.{CauseSet, every_cause, led, new_led, only, is_none, target_causes, target_on, led_to, causes}
 use Rattle.sftp_tree.specs.Sets.{in_set}
 use Rattle.sftp_tree.specs.Judged.{just, with_room, causes_at_place, causes_at_places, IsSet}
 use Rattle.sftp_tree.proofs.CauseWalks.{led-room}
-use Rattle.sftp_tree.proofs.CauseLed.{or-false, or-true, causes-are, plain_of, plain-led, target-led, led-one, led-two}
+use Rattle.sftp_tree.proofs.CauseLed.{or-false, causes-are, plain_of, plain-led, target-led, led-one, led-two}
 
 pub and-false : (b : Bool) → (b && false) ≡ false
 and-false true = refl
@@ -65,13 +65,16 @@ none-holds plain none = by (list_any plain every_cause) refl none
     first : (a b : Bool) → (a || b) ≡ false → a ≡ false
     first true b e = cc
     first false b e = refl
+
     behind : (a b : Bool) → (a || b) ≡ false → b ≡ false
     behind true b e = cc
     behind false b e = e
+
     from : (k : ℕ) (cs : List Cause) → list_any plain cs ≡ false → list_any plain (drop k cs) ≡ false
     from zero cs e = e
     from (suc k) [] e = e
     from (suc k) (c ∷ cs) e = from k cs (behind (plain c) (list_any plain cs) e)
+
     each : list_any plain every_cause ≡ false → (c : Cause) → plain c ≡ false
     each e BadPath = first (plain BadPath) _ (from 0 every_cause e)
     each e NoEntry = first (plain NoEntry) _ (from 1 every_cause e)
@@ -85,6 +88,7 @@ none-holds plain none = by (list_any plain every_cause) refl none
     each e Root = first (plain Root) _ (from 9 every_cause e)
     each e Inside = first (plain Inside) _ (from 10 every_cause e)
     each e NoRoom = first (plain NoRoom) _ (from 11 every_cause e)
+
     by : (b : Bool) → list_any plain every_cause ≡ b → not b ≡ true → (c : Cause) → plain c ≡ false
     by true some h = absurd cc
     by false e h = each e

@@ -22,7 +22,9 @@ pub mod CausePlaces
 pub mod CauseMoves
 pub mod CauseMoved
 pub mod CausePairs
+pub mod CausePaths
 pub mod StepCauses
+pub mod CauseAsks
 pub mod StepAnswers
 pub mod CallSets
 pub mod CallPlaces

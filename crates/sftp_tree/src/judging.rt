@@ -2,7 +2,7 @@
 ghost use Rattle.std.specs.Prelude.{◌≡◌, ℕ, List, IfOk, true, false, option_copied};
 ghost use Rattle.sftp_wire.specs.declared.packets.Ask.TheVariants.{Setstat, Remove, Rename, PosixRename, Hardlink};
 ghost use Rattle.sftp_path.specs.Place as places;
-ghost use Rattle.sftp_treefile.specs.TreeFile.{is_target};
+ghost use Rattle.sftp_treefile.specs.TreeFile.{is_root, is_target};
 ghost use Rattle.sftp_tree.specs.declared.causes.Cause.{Cause as cause};
 ghost use Rattle.sftp_tree.specs.Tree as tree;
 ghost use Rattle.sftp_tree.specs.Steps as steps;
@@ -122,39 +122,68 @@ impl Tree {
         })
     }
 
-    /// The causes of a name that is to be removed where a path leads.
+    /// The causes of a name that is to be removed where a path leads; a link that is last is not followed.
     fn causes_of_unlinking(&self, path: &[u8]) -> Result<Causes, NoMemory>
         ensures { IfOk result (λ set. judged.IsSet set (steps.causes self.now (Remove path.now))) }
     {
-        Err(NoMemory)
+        self.see();
+        Ok(match self.reach(false, path)? {
+            Ok(place) => self.unlinking(&place),
+            Err(cause) => Causes::just(cause),
+        })
     }
 
     /// The causes of what is to get attributes where a path leads; a link that is last is followed.
     fn causes_of_setting(&self, path: &[u8], attrs: &Attrs) -> Result<Causes, NoMemory>
         ensures { IfOk result (λ set. judged.IsSet set (steps.causes self.now (Setstat path.now attrs.now))) }
     {
-        Err(NoMemory)
+        self.see();
+        Ok(match self.reach(true, path)? {
+            Ok(place) => self.setting(&place, attrs),
+            Err(cause) => Causes::just(cause),
+        })
     }
 
-    /// The causes of what is to go to a place that is free.
+    /// The causes of what is to go to a place that is free. Where a path leads nowhere, its cause holds beside those
+    /// at the other's place.
     fn causes_of_renaming(&self, old: &[u8], new: &[u8]) -> Result<Causes, NoMemory>
         ensures { IfOk result (λ set. judged.IsSet set (steps.causes self.now (Rename old.now new.now))) }
     {
-        Err(NoMemory)
+        self.see();
+        Ok(match (self.reach(false, old)?, self.reach(false, new)?) {
+            (Ok(old), Ok(new)) => self.renaming(&old, &new),
+            (Ok(old), Err(lost)) => self.leaving(&old).union(Causes::just(lost)),
+            (Err(lost), Ok(new)) => Causes::just(lost).union(self.arriving(&new)),
+            (Err(lost), Err(also)) => Causes::just(lost).union(Causes::just(also)),
+        })
     }
 
-    /// The causes of what is to go to a place in the stead of what stands there.
+    /// The causes of what is to go to a place in the stead of what stands there. Where a path leads nowhere, its cause
+    /// holds beside those at the other's place.
     fn causes_of_replacing(&self, old: &[u8], new: &[u8]) -> Result<Causes, NoMemory>
         ensures { IfOk result (λ set. judged.IsSet set (steps.causes self.now (PosixRename old.now new.now))) }
     {
-        Err(NoMemory)
+        self.see();
+        Ok(match (self.reach(false, old)?, self.reach(false, new)?) {
+            (Ok(old), Ok(new)) => self.replacing(&old, &new),
+            (Ok(old), Err(lost)) => self.leaving(&old).union(Causes::just(lost)),
+            (Err(lost), Ok(new)) => Causes::just(lost).union(giving(&new)),
+            (Err(lost), Err(also)) => Causes::just(lost).union(Causes::just(also)),
+        })
     }
 
-    /// The causes of a file that is to get a further name.
+    /// The causes of a file that is to get a further name. Where a path leads nowhere, its cause holds beside those
+    /// at the other's place.
     fn causes_of_linking(&self, old: &[u8], new: &[u8]) -> Result<Causes, NoMemory>
         ensures { IfOk result (λ set. judged.IsSet set (steps.causes self.now (Hardlink old.now new.now))) }
     {
-        Err(NoMemory)
+        self.see();
+        Ok(match (self.reach(false, old)?, self.reach(false, new)?) {
+            (Ok(old), Ok(new)) => self.linking(&old, &new),
+            (Ok(old), Err(lost)) => self.naming(&old).union(Causes::just(lost)),
+            (Err(lost), Ok(new)) => Causes::just(lost).union(self.arriving(&new)),
+            (Err(lost), Err(also)) => Causes::just(lost).union(Causes::just(also)),
+        })
     }
 
     /// The causes of what is to be made at a place.
@@ -176,7 +205,7 @@ impl Tree {
         ensures { result ≡ judged.removing self.now.names place.now }
     {
         let mut causes = Causes::none();
-        causes.root = place.depth() == 0;
+        causes.root = is_root(place);
         match self.names().get(place) {
             Some(Node::Dir(_)) => causes.not_empty = has_entries(self.names(), place),
             Some(Node::File(_) | Node::Link(_)) => causes.not_dir = true,
@@ -286,12 +315,12 @@ impl Tree {
     }
 
     /// The causes of what is to go from a place to another.
-    fn leaving(&self, place: &Place) -> Causes
-        ensures { judged.IsSet result (steps.leaving_causes self.now.names place.now) }
+    fn leaving(&self, old: &Place) -> Causes
+        ensures { judged.IsSet result (steps.leaving_causes self.now.names old.now) }
     {
         let mut causes = Causes::none();
-        causes.no_entry = !is_taken(self.standing(place));
-        causes.root = place.depth() == 0;
+        causes.no_entry = !is_taken(self.standing(old));
+        causes.root = is_root(old);
         causes
     }
 
@@ -360,8 +389,7 @@ impl Tree {
     fn move_fits(&self, old: &Place, new: &Place) -> bool
         ensures { result ≡ judged.move_fits self.now.names old.now new.now }
     {
-        new.depth() <= DEPTH_LIMIT
-            && reaches_at_most(self.names(), old, DEPTH_LIMIT - new.depth())
+        new.depth() <= DEPTH_LIMIT && reaches_at_most(self.names(), old, DEPTH_LIMIT - new.depth())
     }
 
     /// Whether a file may have the size that is given, where one is.
@@ -396,6 +424,13 @@ pub(crate) fn is_target(target: &[u8]) -> bool
     !target.is_empty() && good_path(target)
 }
 
+/// Whether the place is the root, which no names lead to.
+fn is_root(place: &Place) -> bool
+    ensures { result ≡ is_root place.now }
+{
+    place.depth() == 0
+}
+
 /// Whether anything stands there.
 fn is_taken(found: Option<&Node>) -> bool
     ensures { result ≡ tree.is_taken (option_copied found.entry) }
@@ -428,11 +463,11 @@ fn are_one_file(one: Option<&Node>, other: Option<&Node>) -> bool
 }
 
 /// The causes of a place that is to be given to something else.
-fn giving(place: &Place) -> Causes
-    ensures { judged.IsSet result (steps.giving_causes place.now) }
+fn giving(new: &Place) -> Causes
+    ensures { judged.IsSet result (steps.giving_causes new.now) }
 {
     let mut causes = Causes::none();
-    causes.root = place.depth() == 0;
+    causes.root = is_root(new);
     causes
 }
 
