@@ -9,7 +9,6 @@ pub mod StepBelow
 pub mod StepTables
 pub mod StepKept
 pub mod StepCauses
-pub mod StepAnswers
 pub mod CallSets
 pub mod CallPlaces
 pub mod CallRooms
