@@ -7,10 +7,11 @@ ghost use Rattle.sftp_path.specs.Table.{get};
 ghost use Rattle.sftp_treefile.specs.TreeFile.{row_text};
 ghost use Rattle.sftp_treefile.specs.TreeFileParts.{head_bytes};
 ghost use Rattle.sftp_tree.specs.declared.contents.Content.{Content as content};
-ghost use Rattle.sftp_tree.specs.Tree.{node_at, content_at};
+ghost use Rattle.sftp_tree.specs.Tree.{IsKept, node_at, content_at};
 ghost use Rattle.sftp_tree.specs.Picture as spec;
 ghost use Rattle.sftp_tree.specs.PictureParts as parts;
 
+use crate::contents::Stored;
 use crate::nodes::Node;
 use crate::trees::Tree;
 use sftp_path::{NoMemory, Place, absolute};
@@ -109,7 +110,8 @@ fn put_entry(
 
 /// Appends the entries below the root.
 fn put_entries(alloc: Global, out: &mut Vec<u8>, tree: &Tree) -> Result<(), NoMemory>
-    ensures { OnOk result (out.new.items ≡ out.old.items ++ flat_map row_text (spec.rows_behind tree.now.files [] tree.now.names)) }
+    ensures kept { IsKept tree.now }
+    ensures out { OnOk result (out.new.items ≡ out.old.items ++ flat_map row_text (spec.rows_behind tree.now.files [] tree.now.names)) }
 {
     let mut firsts = BTreeMap::new(alloc);
     let mut entries = tree.names().iter();
@@ -122,13 +124,48 @@ fn put_entries(alloc: Global, out: &mut Vec<u8>, tree: &Tree) -> Result<(), NoMe
     Ok(())
 }
 
-/// The tree file of a tree, whose files are copied once.
-#[tactic(auto, unfolding(crate::specs::Picture::picture))]
+/// How many bytes the absolute text of a place takes, with its length.
+fn room_of_path(place: &Place) -> usize {
+    let mut room: usize = 5;
+    for name in place.names() {
+        room = room.saturating_add(name.as_slice().len()).saturating_add(1);
+    }
+    room
+}
+
+/// How many bytes what stands at a place takes, but for the bytes of a file.
+fn room_of_node(node: &Node) -> usize {
+    match node {
+        Node::Dir(_) => 13,
+        Node::File(_) => 17,
+        Node::Link(target) => target.as_slice().len().saturating_add(5),
+    }
+}
+
+/// How many bytes the files take.
+fn room_of_files(files: &BTreeMap<u32, Stored>) -> usize {
+    let mut room: usize = 0;
+    for stored in files.values() {
+        room = room.saturating_add(stored.content.bytes.as_slice().len());
+    }
+    room
+}
+
+/// Enough bytes for the tree file.
+fn room_of(tree: &Tree) -> usize {
+    let mut room = room_of_files(tree.files()).saturating_add(room_of_path(tree.home())).saturating_add(36);
+    for (place, node) in tree.names() {
+        room = room.saturating_add(room_of_path(place)).saturating_add(room_of_node(node));
+    }
+    room
+}
+
+/// The tree file of a tree. The room for it is taken at once, so that the bytes of files are copied once.
 pub(super) fn picture_of(tree: &Tree) -> Result<Vec<u8>, NoMemory>
     ensures { IfOk result (λ v. v.items ≡ spec.picture tree.now) }
 {
     let alloc = tree.home().allocator();
-    let mut out = Vec::new(alloc);
+    let mut out = Vec::with_capacity(alloc, room_of(tree))?;
     put_front(alloc, &mut out, tree)?;
     put_entries(alloc, &mut out, tree)?;
     Ok(out)

@@ -39,8 +39,8 @@ loop-place-preserved c =
         at.invariant.below_root rest at.invariant.written c.in_ok-put_entry.ensures.out c.in_ok-put_entry.ensures.firsts in
     record { rest = n.0; below_root = omega arith; written = n.1 }
 
-pub returns : goal.returns
-returns c =
+pub returns-clause-out : goal.returns-clause-out
+returns-clause-out c =
     let at = c.loop-place in
     let none = at.invariant.rest ∙ rest_all deref_pair _ _ _ c.in-None.is c.next-in-loop-place.ensures.steps in
     written_all c.args.tree.now c.args.out.now.items at.out.items at.firsts.entries at.entry at.invariant.written none
