@@ -16,10 +16,10 @@ use Rattle.sftp_treefile.proofs.FieldTexts.{path_front, kind_front}
 row_parts : (x : Row) (r : List ℕ) → row_text x ++ r ≡ string x.path ++ (kind_text x.kind ++ r)
 row_parts x r = append_assoc (string x.path) (kind_text x.kind) r
 
-row_front : (x y : Row) (r s : List ℕ) → IsPlaceText x.path → IsPlaceText y.path → IsKind x.kind → IsKind y.kind → row_text x ++ r ≡ row_text y ++ s → (x ≡ y) × (r ≡ s)
-row_front x y r s x-path y-path x-kind y-kind e =
+row_front : (rows : List Row) (x y : Row) (r s : List ℕ) → IsPlaceText x.path → IsPlaceText y.path → IsKind rows x.kind → IsKind rows y.kind → row_text x ++ r ≡ row_text y ++ s → (x ≡ y) × (r ≡ s)
+row_front rows x y r s x-path y-path x-kind y-kind e =
     let a = path_front x.path y.path (kind_text x.kind ++ r) (kind_text y.kind ++ s) x-path y-path (sym (row_parts x r) ∙ e ∙ row_parts y s) in
-    let b = kind_front x.kind y.kind r s x-kind y-kind a.1 in
+    let b = kind_front rows x.kind y.kind r s x-kind y-kind a.1 in
     ((λ i. record { path = a.0 i; kind = b.0 i }), b.1)
 
 -- a path that cannot be an entry's
@@ -33,7 +33,7 @@ path_absent earlier bytes none text rest follows e = none text rest follows.text
 follows_next : (earlier : List Row) (row : Row) → IsNext earlier row → Follows earlier row.path
 follows_next earlier row next = record { text = next.path; below_root = next.below_root; later = next.later; parent = next.parent }
 
-pub row_read : (earlier : List Row) (bytes text middle rest : List ℕ) (kind : Kind) → Reads (Follows earlier) string bytes text middle → Reads IsKind kind_text middle kind rest
+pub row_read : (earlier : List Row) (bytes text middle rest : List ℕ) (kind : Kind) → Reads (Follows earlier) string bytes text middle → Reads (IsKind earlier) kind_text middle kind rest
     → Reads (IsNext earlier) row_text bytes (record { path = text; kind = kind }) rest
 row_read earlier bytes text middle rest kind path what = (
   record { path = path.0.text; below_root = path.0.below_root; later = path.0.later; parent = path.0.parent; kind = what.0 },
@@ -43,7 +43,7 @@ row_read earlier bytes text middle rest kind path what = (
 pub row_absent : (earlier : List Row) (bytes : List ℕ) → ReadsNone (Follows earlier) string bytes → ReadsNone (IsNext earlier) row_text bytes
 row_absent earlier bytes none row rest next e = none row.path (kind_text row.kind ++ rest) (follows_next earlier row next) (e ∙ row_parts row rest)
 
-pub kind_absent : (earlier : List Row) (bytes text middle : List ℕ) → Reads (Follows earlier) string bytes text middle → ReadsNone IsKind kind_text middle → ReadsNone (IsNext earlier) row_text bytes
+pub kind_absent : (earlier : List Row) (bytes text middle : List ℕ) → Reads (Follows earlier) string bytes text middle → ReadsNone (IsKind earlier) kind_text middle → ReadsNone (IsNext earlier) row_text bytes
 kind_absent earlier bytes text middle path none row rest next e =
     none row.kind rest next.kind (path_front text row.path middle (kind_text row.kind ++ rest) path.0.text next.path (sym path.1 ∙ e ∙ row_parts row rest)).1
 
@@ -64,7 +64,7 @@ pub goes_on : (earlier front whole : List Row) (rest tail : List ℕ) → AreRow
 goes_on earlier [] whole rest tail front-fits whole-fits short e = record { more = whole; whole_is = refl; rows_fit = rw append-nil whole-fits; rest_is = e }
 goes_on earlier (x ∷ front) [] rest tail front-fits whole-fits short e = absurd (omega arith)
 goes_on earlier (x ∷ front) (y ∷ whole) rest tail front-fits whole-fits short e =
-    let a = row_front x y (flat_map row_text front ++ rest) (flat_map row_text whole ++ tail) front-fits.0.path whole-fits.0.path front-fits.0.kind whole-fits.0.kind (sym (entries_parts x front rest) ∙ e ∙ entries_parts y whole tail) in
+    let a = row_front earlier x y (flat_map row_text front ++ rest) (flat_map row_text whole ++ tail) front-fits.0.path whole-fits.0.path front-fits.0.kind whole-fits.0.kind (sym (entries_parts x front rest) ∙ e ∙ entries_parts y whole tail) in
     let same_fits : AreRows (earlier ++ x ∷ []) whole = subst (λ (z : Row). AreRows (earlier ++ z ∷ []) whole) (sym a.0) whole-fits.1 in
     let next = goes_on (earlier ++ x ∷ []) front whole rest tail front-fits.1 same_fits (omega arith) a.1 in
     record {
@@ -80,7 +80,7 @@ entries_are_one earlier [] [] r s x-fits y-fits len e = (refl, e)
 entries_are_one earlier [] (y ∷ ys) r s x-fits y-fits len e = absurd (omega arith)
 entries_are_one earlier (x ∷ xs) [] r s x-fits y-fits len e = absurd (omega arith)
 entries_are_one earlier (x ∷ xs) (y ∷ ys) r s x-fits y-fits len e =
-    let a = row_front x y (flat_map row_text xs ++ r) (flat_map row_text ys ++ s) x-fits.0.path y-fits.0.path x-fits.0.kind y-fits.0.kind (sym (entries_parts x xs r) ∙ e ∙ entries_parts y ys s) in
+    let a = row_front earlier x y (flat_map row_text xs ++ r) (flat_map row_text ys ++ s) x-fits.0.path y-fits.0.path x-fits.0.kind y-fits.0.kind (sym (entries_parts x xs r) ∙ e ∙ entries_parts y ys s) in
     let same_fits : AreRows (earlier ++ x ∷ []) ys = subst (λ (z : Row). AreRows (earlier ++ z ∷ []) ys) (sym a.0) y-fits.1 in
     let next = entries_are_one (earlier ++ x ∷ []) xs ys r s x-fits.1 same_fits (omega arith) a.1 in
     ((λ i. a.0 i ∷ next.0 i), next.1)

@@ -12,9 +12,10 @@ use Rattle.sftp_path.specs.Text.{IsTextOf}
 use Rattle.sftp_path.proofs.AbsoluteTexts.{components-absolute}
 use Rattle.sftp_treefile.specs.declared.files.Owner.{Owner}
 use Rattle.sftp_treefile.specs.declared.files.Kind.{Kind}
-use Rattle.sftp_treefile.specs.declared.files.Kind.TheVariants.{Dir, Link}
+use Rattle.sftp_treefile.specs.declared.files.Kind.TheVariants.{Dir, First, Further, Link}
+use Rattle.sftp_treefile.specs.declared.files.Row.{Row}
 use Rattle.sftp_treefile.specs.TreeFile.{owner_text, kind_text, place_of, are_bytes, IsPlaceText, IsOwner, IsKind}
-use Rattle.sftp_treefile.specs.TreeFileParts.{ReadsNone, IsNumber, IsTarget}
+use Rattle.sftp_treefile.specs.TreeFileParts.{Reads, ReadsNone, IsNumber, IsTarget, IsFileBytes, IsFile, file_text}
 
 -- ---- numbers
 
@@ -99,7 +100,7 @@ pub are_bytes_of : (bytes : List ℕ) → ((i : ℕ) → get_or bytes i 0 < 256)
 are_bytes_of [] fits = refl
 are_bytes_of (b ∷ bytes) fits = and_from (nat_lt b 256) (are_bytes bytes) (lt-ltb b 256 (fits 0)) (are_bytes_of bytes (λ i. fits (suc i)))
 
--- ---- owners and kinds
+-- ---- owners
 
 pub same_owner : (x y : Owner) → x.uid ≡ y.uid → x.gid ≡ y.gid → x.permissions ≡ y.permissions → x ≡ y
 same_owner x y p q r = λ i. record { uid = p i; gid = q i; permissions = r i }
@@ -114,20 +115,101 @@ owner_front x y r s x-fits y-fits e =
     let c = number_front x.permissions y.permissions r s (omega (arith, x-fits.2)) (omega (arith, y-fits.2)) b.1 in
     (same_owner x y a.0 b.0 c.0, c.1)
 
-same_cons : (a b : ℕ) (x y : List ℕ) → a ∷ x ≡ b ∷ y → (a ≡ b) × (x ≡ y)
-same_cons a b x y e = (cc, cc)
+-- ---- files
 
-pub kind_front : (x y : Kind) (r s : List ℕ) → IsKind x → IsKind y → kind_text x ++ r ≡ kind_text y ++ s → (x ≡ y) × (r ≡ s)
-kind_front (Dir x) (Dir y) r s x-fits y-fits e =
+pub file_bytes_length : (bytes : List ℕ) → IsFileBytes bytes → length bytes < 2 ^ 32
+file_bytes_length bytes fits = omega (arith, fits.0)
+
+file_parts : (x : Owner × List ℕ) (r : List ℕ) → file_text x ++ r ≡ owner_text x.0 ++ (string x.1 ++ r)
+file_parts x r = append_assoc (owner_text x.0) (string x.1) r
+
+pub file_front : (x y : Owner × List ℕ) (r s : List ℕ) → IsFile x → IsFile y → file_text x ++ r ≡ file_text y ++ s → (x ≡ y) × (r ≡ s)
+file_front x y r s x-fits y-fits e =
+    let a = owner_front x.0 y.0 (string x.1 ++ r) (string y.1 ++ s) x-fits.0 y-fits.0 (sym (file_parts x r) ∙ e ∙ file_parts y s) in
+    let b = string_front x.1 y.1 r s (file_bytes_length x.1 x-fits.1) (file_bytes_length y.1 y-fits.1) a.1 in
+    ((λ i. (a.0 i, b.0 i)), b.1)
+
+pub file_read : (bytes middle rest text : List ℕ) (owner : Owner) → Reads IsOwner owner_text bytes owner middle → Reads IsFileBytes string middle text rest → Reads IsFile file_text bytes (owner, text) rest
+file_read bytes middle rest text owner a b = (
+  (a.0, b.0),
+  a.1 ∙ ap (λ (t : List ℕ). owner_text owner ++ t) b.1 ∙ sym (append_assoc (owner_text owner) (string text) rest),
+)
+
+-- a file whose owner cannot be read, and one whose bytes cannot
+pub file_owner_none : (bytes : List ℕ) → ReadsNone IsOwner owner_text bytes → ReadsNone IsFile file_text bytes
+file_owner_none bytes none file rest fits e = none file.0 (string file.1 ++ rest) fits.0 (e ∙ file_parts file rest)
+
+pub file_bytes_none : (bytes middle : List ℕ) (owner : Owner) → Reads IsOwner owner_text bytes owner middle → ReadsNone IsFileBytes string middle → ReadsNone IsFile file_text bytes
+file_bytes_none bytes middle owner read none file rest fits e =
+    none file.1 rest fits.1 (owner_front owner file.0 middle (string file.1 ++ rest) read.0 fits.0 (sym read.1 ∙ e ∙ file_parts file rest)).1
+
+-- ---- kinds
+
+letter : Kind → ℕ
+letter (Dir owner) = 68
+letter (First owner bytes) = 70
+letter (Further number) = 72
+letter (Link target) = 76
+
+-- a kind begins with its letter
+letter_is : (x : Kind) (r : List ℕ) → get_or (kind_text x ++ r) 0 0 ≡ letter x
+unfolding letter
+letter_is (Dir owner) r = refl
+letter_is (First owner bytes) r = refl
+letter_is (Further number) r = refl
+letter_is (Link target) r = refl
+
+same_letter : (x y : Kind) (r s : List ℕ) → kind_text x ++ r ≡ kind_text y ++ s → letter x ≡ letter y
+same_letter x y r s e = sym (letter_is x r) ∙ ap (λ (t : List ℕ). get_or t 0 0) e ∙ letter_is y s
+
+pub first_fits : (rows : List Row) (file : Owner × List ℕ) → IsFile file → IsKind rows (First file.0 file.1)
+first_fits rows file fits = (fits.0, fits.1.0, fits.1.1)
+
+pub kind_front : (rows : List Row) (x y : Kind) (r s : List ℕ) → IsKind rows x → IsKind rows y → kind_text x ++ r ≡ kind_text y ++ s → (x ≡ y) × (r ≡ s)
+unfolding letter
+kind_front rows (Dir x) (Dir y) r s x-fits y-fits e =
     let a = owner_front x y r s x-fits y-fits (ap (drop 1) e) in
     (ap Dir a.0, a.1)
-kind_front (Dir x) (Link y) r s x-fits y-fits e = absurd (omega (arith, (same_cons 68 76 (owner_text x ++ r) (string y ++ s) e).0))
-kind_front (Link x) (Dir y) r s x-fits y-fits e = absurd (omega (arith, (same_cons 76 68 (string x ++ r) (owner_text y ++ s) e).0))
-kind_front (Link x) (Link y) r s x-fits y-fits e =
+kind_front rows (First x b) (First y c) r s x-fits y-fits e =
+    let a = file_front (x, b) (y, c) r s (x-fits.0, (x-fits.1, x-fits.2)) (y-fits.0, (y-fits.1, y-fits.2)) (ap (drop 1) e) in
+    ((λ i. First (a.0 i).0 (a.0 i).1), a.1)
+kind_front rows (Further x) (Further y) r s x-fits y-fits e =
+    let a = number_front x y r s x-fits.0 y-fits.0 (ap (drop 1) e) in
+    (ap Further a.0, a.1)
+kind_front rows (Link x) (Link y) r s x-fits y-fits e =
     let a = string_front x y r s (target_length x x-fits) (target_length y y-fits) (ap (drop 1) e) in
     (ap Link a.0, a.1)
+kind_front rows (Dir x) (First y c) r s x-fits y-fits e = absurd (omega (arith, same_letter (Dir x) (First y c) r s e))
+kind_front rows (Dir x) (Further y) r s x-fits y-fits e = absurd (omega (arith, same_letter (Dir x) (Further y) r s e))
+kind_front rows (Dir x) (Link y) r s x-fits y-fits e = absurd (omega (arith, same_letter (Dir x) (Link y) r s e))
+kind_front rows (First x b) (Dir y) r s x-fits y-fits e = absurd (omega (arith, same_letter (First x b) (Dir y) r s e))
+kind_front rows (First x b) (Further y) r s x-fits y-fits e = absurd (omega (arith, same_letter (First x b) (Further y) r s e))
+kind_front rows (First x b) (Link y) r s x-fits y-fits e = absurd (omega (arith, same_letter (First x b) (Link y) r s e))
+kind_front rows (Further x) (Dir y) r s x-fits y-fits e = absurd (omega (arith, same_letter (Further x) (Dir y) r s e))
+kind_front rows (Further x) (First y c) r s x-fits y-fits e = absurd (omega (arith, same_letter (Further x) (First y c) r s e))
+kind_front rows (Further x) (Link y) r s x-fits y-fits e = absurd (omega (arith, same_letter (Further x) (Link y) r s e))
+kind_front rows (Link x) (Dir y) r s x-fits y-fits e = absurd (omega (arith, same_letter (Link x) (Dir y) r s e))
+kind_front rows (Link x) (First y c) r s x-fits y-fits e = absurd (omega (arith, same_letter (Link x) (First y c) r s e))
+kind_front rows (Link x) (Further y) r s x-fits y-fits e = absurd (omega (arith, same_letter (Link x) (Further y) r s e))
 
--- a directory's owner cannot be read
-pub owner_none : (bytes rest : List ℕ) → bytes ≡ 68 ∷ rest → ReadsNone IsOwner owner_text rest → ReadsNone IsKind kind_text bytes
-owner_none bytes rest is none (Dir x) r fits e = none x r fits (same_cons 68 68 rest (owner_text x ++ r) (sym is ∙ e)).1
-owner_none bytes rest is none (Link x) r fits e = omega (arith, (same_cons 68 76 rest (string x ++ r) (sym is ∙ e)).0)
+-- of bytes that begin with this letter a kind of another letter cannot be read
+module _ (bytes rest : List ℕ) (first : ℕ) (is : bytes ≡ first ∷ rest) where
+  letter_here : (x : Kind) (r : List ℕ) → bytes ≡ kind_text x ++ r → letter x ≡ first
+  letter_here x r e = sym (letter_is x r) ∙ ap (λ (t : List ℕ). get_or t 0 0) (sym e ∙ is)
+
+  behind : (x : Kind) (r : List ℕ) → bytes ≡ kind_text x ++ r → rest ≡ drop 1 (kind_text x ++ r)
+  behind x r e = ap (drop 1) (sym is ∙ e)
+
+  pub dir_none : (rows : List Row) → first ≡ 68 → ReadsNone IsOwner owner_text rest → ReadsNone (IsKind rows) kind_text bytes
+  unfolding letter
+  dir_none rows here none (Dir x) r fits e = none x r fits (behind (Dir x) r e)
+  dir_none rows here none (First x b) r fits e = omega (arith, letter_here (First x b) r e)
+  dir_none rows here none (Further x) r fits e = omega (arith, letter_here (Further x) r e)
+  dir_none rows here none (Link x) r fits e = omega (arith, letter_here (Link x) r e)
+
+  pub first_none : (rows : List Row) → first ≡ 70 → ReadsNone IsFile file_text rest → ReadsNone (IsKind rows) kind_text bytes
+  unfolding letter
+  first_none rows here none (Dir x) r fits e = omega (arith, letter_here (Dir x) r e)
+  first_none rows here none (First x b) r fits e = none (x, b) r (fits.0, (fits.1, fits.2)) (behind (First x b) r e)
+  first_none rows here none (Further x) r fits e = omega (arith, letter_here (Further x) r e)
+  first_none rows here none (Link x) r fits e = omega (arith, letter_here (Link x) r e)

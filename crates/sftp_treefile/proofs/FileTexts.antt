@@ -30,6 +30,11 @@ spelled_parts file = by (string file.home) (uint32 file.uid) (uint32 file.gid) (
     by : (a b c d e f : List ℕ) → tree_opening ++ (a ++ (b ++ (c ++ (d ++ (e ++ f))))) ≡ (tree_opening ++ (a ++ (b ++ (c ++ (d ++ e))))) ++ f
     by a b c d e f = simp append_assoc
 
+-- the same for those who write a tree by its pieces
+pub spelled_head : (file : TreeFile) → spelled file ≡ head_bytes (record { home = file.home; uid = file.uid; gid = file.gid; count = length file.rows; root = file.root }) ++ flat_map row_text file.rows
+unfolding head_of
+spelled_head file = spelled_parts file
+
 bytes_parts : (file : TreeFile) (bytes : List ℕ) → IsSpelled file bytes → bytes ≡ head_bytes (head_of file) ++ flat_map row_text file.rows
 bytes_parts file bytes is = is.bytes_are ∙ spelled_parts file
 

@@ -1,7 +1,7 @@
 -- What the worked rows speak of.
 use Rattle.std.specs.Prelude.{ℕ, List, [], ◌∷◌, codes}
 use Rattle.sftp_wire.specs.Rows.{hex}
-use Rattle.sftp_treefile.specs.declared.files.Kind.TheVariants.{Dir, Link}
+use Rattle.sftp_treefile.specs.declared.files.Kind.TheVariants.{Dir, First, Further, Link}
 use Rattle.sftp_treefile.specs.declared.files.TreeFile.{TreeFile}
 
 -- the root alone, which is the home
@@ -25,3 +25,17 @@ linked = record {
 
 abbrev pub linked_bytes : List ℕ
 linked_bytes = hex (codes "5346545245453031 00000002 2f64 000003e8 00000064 00000003 00000001 00000002 000003ed 00000002 2f64 44 00000003 00000004 000001c0 00000004 2f642f65 44 00000005 00000006 00000fff 00000002 2f6c 4c 00000003 642f65")
+
+-- the blank tree with a file `/f` of `abc`, and its second name `/g`
+abbrev pub two_names : TreeFile
+two_names = record {
+  home = codes "/";
+  uid = 0;
+  gid = 0;
+  root = record { uid = 0; gid = 0; permissions = 0o755 };
+  rows = record { path = codes "/f"; kind = First (record { uid = 0; gid = 0; permissions = 0o644 }) (codes "abc") }
+      ∷ record { path = codes "/g"; kind = Further 1 } ∷ [];
+}
+
+abbrev pub two_names_bytes : List ℕ
+two_names_bytes = hex (codes "5346545245453031 00000001 2f 00000000 00000000 00000002 00000000 00000000 000001ed 00000002 2f66 46 00000000 00000000 000001a4 00000003 616263 00000002 2f67 48 00000001")

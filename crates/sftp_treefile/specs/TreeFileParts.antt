@@ -6,11 +6,14 @@ use Rattle.sftp_wire.specs.Spelling.{uint32, string}
 use Rattle.sftp_path.specs.Place.{Place, place_cmp, parent}
 use Rattle.sftp_treefile.specs.declared.errors.TreeError.{TreeError}
 use Rattle.sftp_treefile.specs.declared.errors.TreeError.TheVariants.{Magic, Short, Trailing, Value, Order, Parent, NoMemory}
+use Rattle.sftp_treefile.specs.declared.files.Owner.{Owner}
+use Rattle.sftp_treefile.specs.declared.files.Kind.{Kind}
+use Rattle.sftp_treefile.specs.declared.files.Kind.TheVariants.{Dir, First, Further, Link}
 use Rattle.sftp_treefile.specs.declared.files.Row.{Row}
 use Rattle.sftp_treefile.specs.declared.files.TreeFile.{TreeFile}
 use Rattle.sftp_treefile.specs.declared.heads.Head.{Head}
 use Rattle.sftp_treefile.specs.Limits.{usual_limits}
-use Rattle.sftp_treefile.specs.TreeFile.{tree_opening, owner_text, row_text, place_of, has_dir, is_target, are_bytes, IsPlaceText, IsOwner, AreRows}
+use Rattle.sftp_treefile.specs.TreeFile.{tree_opening, owner_text, row_text, place_of, has_dir, is_target, are_bytes, is_first_row, entry_at, IsPlaceText, IsOwner, AreRows}
 
 -- ---- reading a field
 
@@ -54,18 +57,36 @@ IsCount n = n ≤ usual_limits.entries
 abbrev pub IsTarget : List ℕ → Type 0
 IsTarget target = IsTrue (is_target target) × IsTrue (are_bytes target)
 
+abbrev pub IsFileBytes : List ℕ → Type 0
+IsFileBytes bytes = (length bytes ≤ usual_limits.file_bytes) × IsTrue (are_bytes bytes)
+
+-- a file's owner and its bytes
+abbrev pub IsFile : Owner × List ℕ → Type 0
+IsFile file = IsOwner file.0 × IsFileBytes file.1
+
+abbrev pub file_text : Owner × List ℕ → List ℕ
+file_text file = owner_text file.0 ++ string file.1
+
+-- the number of the first name of a file among these rows
+abbrev pub IsFirstAmong : List Row → ℕ → Type 0
+IsFirstAmong rows number = (number < 2 ^ 32) × IsTrue (is_first_row (entry_at rows number))
+
 -- ---- the head
 
 abbrev pub head_bytes : Head → List ℕ
 head_bytes head = tree_opening ++ (string head.home ++ (uint32 head.uid ++ (uint32 head.gid ++ (uint32 head.count ++ owner_text head.root))))
 
 -- the opening, the home, and who owns what is made with no owner given
-abbrev pub front_text : TreeFile → List ℕ
-front_text file = tree_opening ++ (string file.home ++ (uint32 file.uid ++ uint32 file.gid))
+abbrev pub front_text : List ℕ → ℕ → ℕ → List ℕ
+front_text home uid gid = tree_opening ++ (string home ++ (uint32 uid ++ uint32 gid))
+
+-- how many entries there are, and who owns the root
+abbrev pub root_text : ℕ → Owner → List ℕ
+root_text count root = uint32 count ++ owner_text root
 
 -- what stands before the entries
 abbrev pub head_text : TreeFile → List ℕ
-head_text file = front_text file ++ (uint32 (length file.rows) ++ owner_text file.root)
+head_text file = front_text file.home file.uid file.gid ++ root_text (length file.rows) file.root
 
 pub record IsHead (head : Head) : Type 0 where
   pub home : IsPlaceText head.home
@@ -75,6 +96,17 @@ pub record IsHead (head : Head) : Type 0 where
   pub root : IsOwner head.root
 
 -- ---- entries
+
+-- the lengths of the strings of an entry can be written
+abbrev pub KindHasLengths : Kind → Type 0
+KindHasLengths (Dir owner) = Unit {0}
+KindHasLengths (First owner bytes) = length bytes < 2 ^ 32
+KindHasLengths (Further number) = Unit {0}
+KindHasLengths (Link target) = length target < 2 ^ 32
+
+pub record HasLengths (row : Row) : Type 0 where
+  pub path : length row.path < 2 ^ 32
+  pub kind : KindHasLengths row.kind
 
 -- the path may be that of an entry behind these
 pub record Follows (earlier : List Row) (path : List ℕ) : Type 0 where

@@ -1,11 +1,13 @@
 //! The fields of tree files, read one by one.
 ghost use Rattle.std.specs.Prelude.{◌≡◌, [], ◌∷◌, IfOk, IfErr, IsTrue};
 ghost use Rattle.sftp_wire.specs.Spelling.{uint32, string};
-ghost use Rattle.sftp_treefile.specs.TreeFile.{place_of, owner_text, kind_text, are_bytes, IsPlaceText, IsOwner, IsKind};
-ghost use Rattle.sftp_treefile.specs.TreeFileParts.{Reads, ReadsNone, OutOfMemoryOr, IsAt, IsNumber, IsPermissions, IsTarget};
+ghost use Rattle.sftp_treefile.specs.TreeFile.{place_of, owner_text, kind_text, are_bytes, is_first_row, entry_at, IsPlaceText, IsOwner, IsKind};
+ghost use Rattle.sftp_treefile.specs.TreeFile as spec;
+ghost use Rattle.sftp_treefile.specs.TreeFileParts.{Reads, ReadsNone, OutOfMemoryOr, IsAt, IsNumber, IsPermissions, IsTarget, IsFileBytes, IsFile, file_text, IsFirstAmong};
 
 use crate::errors::TreeError;
 use crate::files::{Kind, Owner, Row};
+use crate::limits::usual_limits;
 use sftp_path::{DEPTH_LIMIT, Place, canonical, good_path};
 use sftp_wire::{ByteString, take_number, take_string};
 use std::alloc::Global;
@@ -99,6 +101,66 @@ fn target_at(alloc: Global, entry: u32, bytes: &[u8]) -> Result<(ByteString, &[u
     Ok((ByteString::from_slice(alloc, target)?, rest))
 }
 
+/// The bytes of a file in front, and what follows them. They are copied once.
+fn file_bytes_at(alloc: Global, entry: u32, bytes: &[u8]) -> Result<(ByteString, &[u8]), TreeError>
+    ensures found { IfOk result (λ taken. Reads IsFileBytes string bytes.now taken.0 taken.1.now) }
+    ensures none { IfErr result (λ error. OutOfMemoryOr error (ReadsNone IsFileBytes string bytes.now)) }
+    ensures number { IfErr result (IsAt entry) }
+{
+    let Some((text, rest)) = take_string(bytes) else {
+        return Err(TreeError::Short { entry });
+    };
+    if text.len() > usual_limits().file_bytes as usize {
+        return Err(TreeError::Value { entry });
+    }
+    see_bytes(text);
+    Ok((ByteString::from_slice(alloc, text)?, rest))
+}
+
+/// The owner and the bytes of a file in front, and what follows them.
+fn file_at(alloc: Global, entry: u32, bytes: &[u8]) -> Result<(Owner, ByteString, &[u8]), TreeError>
+    ensures found { IfOk result (λ taken. Reads IsFile file_text bytes.now (taken.0, taken.1) taken.2.now) }
+    ensures none { IfErr result (λ error. OutOfMemoryOr error (ReadsNone IsFile file_text bytes.now)) }
+    ensures number { IfErr result (IsAt entry) }
+{
+    let (owner, rest) = owner_at(entry, bytes)?;
+    let (text, rest) = file_bytes_at(alloc, entry, rest)?;
+    Ok((owner, text, rest))
+}
+
+/// Whether an entry is the first name of a file.
+fn is_first(kind: &Kind) -> bool
+    ensures { result ≡ spec.is_first kind.now }
+{
+    matches!(kind, Kind::First(_, _))
+}
+
+/// Whether the row of this number is the first name of a file. Rows count from 1.
+fn is_first_at(rows: &[Row], number: u32) -> bool
+    ensures { result ≡ is_first_row (entry_at rows.now number) }
+{
+    if number == 0 {
+        return false;
+    }
+    match rows.get(number as usize - 1) {
+        Some(row) => is_first(&row.kind),
+        None => false,
+    }
+}
+
+/// The number in front, which is that of the first name of a file among these rows, and what follows it.
+fn first_at<'a>(entry: u32, rows: &[Row], bytes: &'a [u8]) -> Result<(u32, &'a [u8]), TreeError>
+    ensures found { IfOk result (λ taken. Reads (IsFirstAmong rows.now) uint32 bytes.now taken.0 taken.1.now) }
+    ensures none { IfErr result (λ _. ReadsNone (IsFirstAmong rows.now) uint32 bytes.now) }
+    ensures number { IfErr result (IsAt entry) }
+{
+    let (number, rest) = number_at(entry, bytes)?;
+    if !is_first_at(rows, number) {
+        return Err(TreeError::Value { entry });
+    }
+    Ok((number, rest))
+}
+
 /// The letter in front, and what follows it.
 fn letter_at(entry: u32, bytes: &[u8]) -> Result<(u8, &[u8]), TreeError>
     ensures found { IfOk result (λ taken. bytes.now ≡ taken.0 ∷ taken.1.now) }
@@ -125,6 +187,14 @@ pub(crate) fn kind_at<'a>(
         b'D' => {
             let (owner, rest) = owner_at(entry, rest)?;
             Ok((Kind::Dir(owner), rest))
+        }
+        b'F' => {
+            let (owner, text, rest) = file_at(alloc, entry, rest)?;
+            Ok((Kind::First(owner, text), rest))
+        }
+        b'H' => {
+            let (number, rest) = first_at(entry, rows, rest)?;
+            Ok((Kind::Further(number), rest))
         }
         b'L' => {
             let (target, rest) = target_at(alloc, entry, rest)?;

@@ -8,6 +8,7 @@ mod files;
 mod heads;
 mod laws;
 mod limits;
+mod measuring;
 mod reading;
 pub mod rows;
 mod writing;

@@ -2,7 +2,7 @@
 //! contract.
 ghost use Rattle.std.specs.Prelude.{◌≡◌, ℕ, List, length};
 ghost use Rattle.sftp_treefile.specs.TreeFile.{IsTreeFile, IsSpelled, spelled};
-ghost use Rattle.sftp_treefile.specs.Rows.{blank, blank_bytes, linked, linked_bytes};
+ghost use Rattle.sftp_treefile.specs.Rows.{blank, blank_bytes, linked, linked_bytes, two_names, two_names_bytes};
 
 /// The blank tree: its home is the root, which has uid and gid 0 and permissions 0o755 and no entries, and uid
 /// and gid 0 own what is made with no owner given. Its file has 37 bytes.
@@ -16,4 +16,10 @@ pub fn blank_file()
 pub fn linked_file()
     ensures length { length linked_bytes ≡ 92 }
     ensures spelled { IsSpelled linked linked_bytes }
+{}
+
+/// The blank tree with a file `/f` of the bytes `abc`, and its second name `/g`: 74 bytes.
+pub fn file_of_two_names()
+    ensures length { length two_names_bytes ≡ 74 }
+    ensures spelled { IsSpelled two_names two_names_bytes }
 {}

@@ -1,13 +1,61 @@
 //! Tree files, written piece by piece, and whole.
 ghost use Rattle.std.specs.Prelude.{◌≡◌, ◌++◌, ◌<◌, ◌^◌, length, IfOk, OnOk};
+ghost use Rattle.sftp_wire.specs.Spelling.{uint32, string};
 ghost use Rattle.sftp_treefile.specs.declared.files.Kind.TheVariants.{Dir, First, Further, Link};
-ghost use Rattle.sftp_treefile.specs.TreeFile.{IsTreeFile, row_text, spelled};
-ghost use Rattle.sftp_treefile.specs.TreeFileParts.{head_bytes};
+ghost use Rattle.sftp_treefile.specs.TreeFile.{IsTreeFile, owner_text, row_text, spelled};
+ghost use Rattle.sftp_treefile.specs.TreeFileParts.{front_text, root_text, head_text, head_bytes, HasLengths};
 
-use crate::files::{Owner, TreeFile};
+use crate::files::{Kind, Owner, Row, TreeFile};
 use crate::heads::Head;
+use crate::measuring::file_size;
 use sftp_path::NoMemory;
 use std::alloc::Global;
+
+fn put_number(out: &mut Vec<u8>, number: u32) -> Result<(), NoMemory>
+    ensures { OnOk result (out.new.items ≡ out.old.items ++ uint32 number) }
+{
+    out.extend_from_slice(&number.to_be_bytes())?;
+    Ok(())
+}
+
+fn put_string(out: &mut Vec<u8>, text: &[u8]) -> Result<(), NoMemory>
+    requires { length text.now < 2 ^ 32 }
+    ensures { OnOk result (out.new.items ≡ out.old.items ++ string text.now) }
+{
+    put_number(out, text.len() as u32)?;
+    out.extend_from_slice(text)?;
+    Ok(())
+}
+
+fn put_owner(out: &mut Vec<u8>, owner: &Owner) -> Result<(), NoMemory>
+    ensures { OnOk result (out.new.items ≡ out.old.items ++ owner_text owner.now) }
+{
+    put_number(out, owner.uid)?;
+    put_number(out, owner.gid)?;
+    put_number(out, owner.permissions)?;
+    Ok(())
+}
+
+/// The opening, the home, and who owns what is made with no owner given.
+fn put_front(out: &mut Vec<u8>, home: &[u8], uid: u32, gid: u32) -> Result<(), NoMemory>
+    requires { length home.now < 2 ^ 32 }
+    ensures { OnOk result (out.new.items ≡ out.old.items ++ front_text home.now uid gid) }
+{
+    out.extend_from_slice(b"SFTREE01")?;
+    put_string(out, home)?;
+    put_number(out, uid)?;
+    put_number(out, gid)?;
+    Ok(())
+}
+
+/// How many entries there are, and who owns the root.
+fn put_root(out: &mut Vec<u8>, count: u32, root: &Owner) -> Result<(), NoMemory>
+    ensures { OnOk result (out.new.items ≡ out.old.items ++ root_text count root.now) }
+{
+    put_number(out, count)?;
+    put_owner(out, root)?;
+    Ok(())
+}
 
 /// Appends what stands before the entries.
 ///
@@ -18,7 +66,9 @@ pub fn put_head(out: &mut Vec<u8>, head: &Head) -> Result<(), NoMemory>
     requires { length head.now.home < 2 ^ 32 }
     ensures { OnOk result (out.new.items ≡ out.old.items ++ head_bytes head.now) }
 {
-    Err(NoMemory)
+    put_front(out, head.home.as_slice(), head.uid, head.gid)?;
+    put_root(out, head.count, &head.root)?;
+    Ok(())
 }
 
 /// Appends the entry of a directory.
@@ -30,7 +80,10 @@ pub fn put_directory(out: &mut Vec<u8>, path: &[u8], owner: &Owner) -> Result<()
     requires { length path.now < 2 ^ 32 }
     ensures { OnOk result (out.new.items ≡ out.old.items ++ row_text (record { path = path.now; kind = Dir owner.now })) }
 {
-    Err(NoMemory)
+    put_string(out, path)?;
+    out.push(b'D')?;
+    put_owner(out, owner)?;
+    Ok(())
 }
 
 /// Appends the entry of the first name of a file, with the file's bytes.
@@ -43,7 +96,11 @@ pub fn put_file(out: &mut Vec<u8>, path: &[u8], owner: &Owner, bytes: &[u8]) -> 
     requires bytes { length bytes.now < 2 ^ 32 }
     ensures { OnOk result (out.new.items ≡ out.old.items ++ row_text (record { path = path.now; kind = First owner.now bytes.now })) }
 {
-    Err(NoMemory)
+    put_string(out, path)?;
+    out.push(b'F')?;
+    put_owner(out, owner)?;
+    put_string(out, bytes)?;
+    Ok(())
 }
 
 /// Appends the entry of a further name of a file, with the number of the entry that is its first name.
@@ -55,7 +112,10 @@ pub fn put_further_name(out: &mut Vec<u8>, path: &[u8], number: u32) -> Result<(
     requires { length path.now < 2 ^ 32 }
     ensures { OnOk result (out.new.items ≡ out.old.items ++ row_text (record { path = path.now; kind = Further number })) }
 {
-    Err(NoMemory)
+    put_string(out, path)?;
+    out.push(b'H')?;
+    put_number(out, number)?;
+    Ok(())
 }
 
 /// Appends the entry of a link.
@@ -68,10 +128,37 @@ pub fn put_link(out: &mut Vec<u8>, path: &[u8], target: &[u8]) -> Result<(), NoM
     requires target { length target.now < 2 ^ 32 }
     ensures { OnOk result (out.new.items ≡ out.old.items ++ row_text (record { path = path.now; kind = Link target.now })) }
 {
-    Err(NoMemory)
+    put_string(out, path)?;
+    out.push(b'L')?;
+    put_string(out, target)?;
+    Ok(())
 }
 
-/// The bytes of the tree file that says this.
+fn put_row(out: &mut Vec<u8>, row: &Row) -> Result<(), NoMemory>
+    requires { HasLengths row.now }
+    ensures { OnOk result (out.new.items ≡ out.old.items ++ row_text row.now) }
+{
+    let path = row.path.as_slice();
+    match &row.kind {
+        Kind::Dir(owner) => put_directory(out, path, owner)?,
+        Kind::First(owner, bytes) => put_file(out, path, owner, bytes.as_slice())?,
+        Kind::Further(number) => put_further_name(out, path, *number)?,
+        Kind::Link(target) => put_link(out, path, target.as_slice())?,
+    }
+    Ok(())
+}
+
+/// What stands before the entries.
+fn put_start(out: &mut Vec<u8>, file: &TreeFile) -> Result<(), NoMemory>
+    requires { IsTreeFile file.now }
+    ensures { OnOk result (out.new.items ≡ out.old.items ++ head_text file.now) }
+{
+    put_front(out, file.home.as_slice(), file.uid, file.gid)?;
+    put_root(out, file.rows.as_slice().len() as u32, &file.root)?;
+    Ok(())
+}
+
+/// The bytes of the tree file that says this. Memory for them is asked for once.
 ///
 /// # Errors
 ///
@@ -80,5 +167,10 @@ pub fn write_rows(alloc: Global, file: &TreeFile) -> Result<Vec<u8>, NoMemory>
     requires { IsTreeFile file.now }
     ensures { IfOk result (λ v. v.items ≡ spelled file.now) }
 {
-    Err(NoMemory)
+    let mut out = Vec::with_capacity(alloc, file_size(file))?;
+    put_start(&mut out, file)?;
+    for row in file.rows.as_slice() {
+        put_row(&mut out, row)?;
+    }
+    Ok(out)
 }

@@ -1,5 +1,5 @@
 -- A path that stands in front and may not come next: no path that may stands there.
-use Rattle.std.proofs.Common.{inr, ap, length, sym, ◌∙◌, arith}
+use Rattle.std.proofs.Common.{inr, ap, length, ◌∙◌, arith}
 use Rattle.std.proofs.lemmas.Bool.{false≢true}
 use Rattle.std.proofs.lemmas.Result.{err_from_is_err_and}
 use Rattle.sftp_treefile.proofs.EntryTexts.{or_fault, path_unfit, path_absent}
@@ -18,6 +18,6 @@ pub returns-then-not-is_later-clause-none : goal.returns-then-not-is_later-claus
 returns-then-not-is_later-clause-none c =
     inr (path_unfit c.args.entries.now.rows.items c.args.bytes.now c.in_ok-text.text.now c.in_ok-text.rest.now c.in_ok-text.ensures.found (λ f. false≢true (c.if-not-is_later.ensures.1 (rw c.in_ok-text.ensures.place f.later))))
 
-pub returns-then-not-branch-clause-none : goal.returns-then-not-branch-clause-none
-returns-then-not-branch-clause-none c =
-    inr (path_unfit c.args.entries.now.rows.items c.args.bytes.now c.in_ok-text.text.now c.in_ok-text.rest.now c.in_ok-text.ensures.found (λ f. false≢true (sym c.if-not-branch.true ∙ c.in_ok-has_parent.ensures ∙ rw c.in_ok-text.ensures.place f.parent)))
+pub returns-then-not-has_parent-clause-none : goal.returns-then-not-has_parent-clause-none
+returns-then-not-has_parent-clause-none c =
+    inr (path_unfit c.args.entries.now.rows.items c.args.bytes.now c.in_ok-text.text.now c.in_ok-text.rest.now c.in_ok-text.ensures.found (λ f. false≢true (c.if-not-has_parent.ensures ∙ rw c.in_ok-text.ensures.place f.parent)))

@@ -1,14 +1,10 @@
 -- The fields, one behind the other.
 use Rattle.sftp_wire.specs.Spelling.{uint32, string}
 use Rattle.sftp_treefile.specs.TreeFile.{tree_opening}
-use Rattle.sftp_treefile.proofs.FieldTexts.{path_length}
 use Rattle.sftp_treefile.proofs.Written.{four_pieces}
 use Rattle.sftp_treefile.proofs.writing.put_front.Goals as goal
 
-pub put_string-requires : goal.put_string-requires
-put_string-requires c = path_length c.args.file.now.home c.requires.home
-
 pub returns : goal.returns
 returns c =
-    four_pieces tree_opening (string c.args.file.now.home) (uint32 c.args.file.now.uid) (uint32 c.args.file.now.gid) c.args.out.now.items c.extend_from_slice.new.self.items c.put_string.new.out.items c.put_number.new.out.items c.put_number-2.new.out.items
+    four_pieces tree_opening (string c.args.home.now) (uint32 c.args.uid) (uint32 c.args.gid) c.args.out.now.items c.extend_from_slice.new.self.items c.put_string.new.out.items c.put_number.new.out.items c.put_number-2.new.out.items
     c.in_ok-extend_from_slice.ensures.items c.in_ok-put_string.ensures c.in_ok-put_number.ensures c.in_ok-put_number-2.ensures

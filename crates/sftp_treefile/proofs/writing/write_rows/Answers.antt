@@ -9,13 +9,9 @@ use Rattle.sftp_treefile.proofs.FileTexts.{head_written}
 use Rattle.sftp_treefile.proofs.Written.{row_at_place}
 use Rattle.sftp_treefile.proofs.writing.write_rows.Goals as goal
 
-pub put_row-requires-clause-path : goal.put_row-requires-clause-path
-put_row-requires-clause-path c =
-    (row_at_place [] c.as_slice-row-items.result.now c.loop-row.row-index c.row-item.result (subst (AreRows []) (sym c.as_slice-row-items.ensures) c.requires.rows) c.loop-row-test.true c.row-item.is).0
-
-pub put_row-requires-clause-kind : goal.put_row-requires-clause-kind
-put_row-requires-clause-kind c =
-    (row_at_place [] c.as_slice-row-items.result.now c.loop-row.row-index c.row-item.result (subst (AreRows []) (sym c.as_slice-row-items.ensures) c.requires.rows) c.loop-row-test.true c.row-item.is).1
+pub put_row-requires : goal.put_row-requires
+put_row-requires c =
+    row_at_place [] c.as_slice-row-items.result.now c.loop-row.row-index c.row-item.result (subst (AreRows []) (sym c.as_slice-row-items.ensures) c.requires.rows) c.loop-row-test.true c.row-item.is
 
 pub returns : goal.returns
 returns c =

@@ -1,0 +1,23 @@
+use Rattle.std.proofs.Common.{refl, arith}
+use Rattle.sftp_wire.specs.Rows.{hex}
+use Rattle.sftp_path.specs.Place.{components, parts}
+use Rattle.sftp_treefile.specs.TreeFile.{spelled, has_dir}
+use Rattle.sftp_treefile.proofs.rows.file_of_two_names.Goals as goal
+
+pub returns-clause-length : goal.returns-clause-length
+unfolding hex
+returns-clause-length c = refl
+
+pub returns-clause-spelled : goal.returns-clause-spelled
+unfolding spelled has_dir components parts hex
+returns-clause-spelled c = record {
+  may_be = record {
+    home = record { names = refl; depth = omega arith; one = refl };
+    uid = omega arith;
+    gid = omega arith;
+    count = omega arith;
+    root = (omega arith, omega arith, omega arith);
+    rows = (record { path = record { names = refl; depth = omega arith; one = refl }; below_root = omega arith; later = tt; parent = refl; kind = ((omega arith, omega arith, omega arith), omega arith, refl) }, (record { path = record { names = refl; depth = omega arith; one = refl }; below_root = omega arith; later = (refl, tt); parent = refl; kind = (omega arith, refl) }, tt));
+  };
+  bytes_are = refl;
+}

@@ -1,0 +1,36 @@
+//! How many bytes a tree file takes, found before memory is asked for. A number that does not fit is the largest
+//! that does.
+use crate::files::{Kind, Row, TreeFile};
+use sftp_wire::ByteString;
+
+/// The opening, the uid, the gid, the count, and the owner of the root.
+const HEAD: usize = 32;
+
+/// A kind's letter, and an owner.
+const OWNED: usize = 13;
+
+fn string_size(text: &ByteString) -> usize {
+    text.as_slice().len().saturating_add(4)
+}
+
+fn kind_size(kind: &Kind) -> usize {
+    match kind {
+        Kind::Dir(_) => OWNED,
+        Kind::First(_, bytes) => string_size(bytes).saturating_add(OWNED),
+        Kind::Further(_) => 5,
+        Kind::Link(target) => string_size(target).saturating_add(1),
+    }
+}
+
+fn row_size(row: &Row) -> usize {
+    string_size(&row.path).saturating_add(kind_size(&row.kind))
+}
+
+/// How many bytes the file takes.
+pub(crate) fn file_size(file: &TreeFile) -> usize {
+    let mut size = string_size(&file.home).saturating_add(HEAD);
+    for row in file.rows.as_slice() {
+        size = size.saturating_add(row_size(row));
+    }
+    size
+}
