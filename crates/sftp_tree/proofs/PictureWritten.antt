@@ -13,10 +13,10 @@ use Rattle.sftp_path.specs.Table.{get, put}
 use Rattle.sftp_path.proofs.TableLaws.{get-empty, get-put}
 use Rattle.sftp_treefile.specs.declared.files.Owner.{Owner}
 use Rattle.sftp_treefile.specs.declared.files.Row.{Row}
-use Rattle.sftp_wire.specs.Spelling.{uint32, string}
-use Rattle.sftp_treefile.specs.declared.files.TreeFile.{TreeFile}
-use Rattle.sftp_treefile.specs.TreeFile.{tree_opening, owner_text, row_text, spelled}
+use Rattle.sftp_treefile.specs.TreeFile.{row_text}
 use Rattle.sftp_treefile.specs.TreeFileParts.{head_bytes}
+use Rattle.sftp_treefile.proofs.FieldTexts.{path_length, target_length}
+use Rattle.sftp_treefile.proofs.FileTexts.{spelled_head}
 use Rattle.sftp_tree.specs.declared.contents.Content.{Content}
 use Rattle.sftp_tree.specs.declared.nodes.Node.{Node}
 use Rattle.sftp_tree.specs.declared.nodes.Node.TheVariants.{Dir, File, Link}
@@ -25,27 +25,13 @@ use Rattle.sftp_tree.specs.Picture.{entry_naming, naming, kind_of, rows_behind, 
 use Rattle.sftp_tree.specs.PictureParts.{only_root, head_of, Firsts, with_first, firsts_with, known_kind, IsShort}
 use Rattle.sftp_tree.proofs.PictureTables.{IsPlace, IsFitNode}
 use Rattle.sftp_tree.proofs.PictureContents.{number_is}
-use Rattle.sftp_tree.proofs.PictureNamed.{row_of, one_row, rows_push, IsBelowRoot, IsFitContent, all_at, length-rows}
+use Rattle.sftp_tree.proofs.PictureNamed.{place_text, row_of, one_row, rows_push, IsBelowRoot, IsFitContent, all_at, length-rows}
 use Rattle.sftp_tree.proofs.PictureFiles.{Limits, limits_from, Split, split_kept, fit_files}
 
 -- ---- lengths
 
-names_length : (names : List Name) → are_names names ≡ true → length (flat_map (λ name. 47 ∷ name) names) ≤ 256 * length names
-names_length [] h = omega arith
-names_length (n ∷ ns) h =
-    let p = and_parts (is_name n) (are_names ns) h in
-    let q = and_parts (nat_lt 0 (length n) && nat_le (length n) 255) (list_all is_name_byte n && (not (is_dot n) && not (is_dot_dot n))) p.0 in
-    let few = leb-true (length n) 255 (and_parts (nat_lt 0 (length n)) (nat_le (length n) 255) q.0).1 in
-    omega (arith, few, names_length ns p.1, length-append (47 ∷ n) (flat_map (λ name. 47 ∷ name) ns))
-
 pub path_short : (place : Place) → IsPlace place → length (absolute place) < 2 ^ 32
-path_short [] is = omega arith
-path_short (n ∷ ns) is = omega (arith, names_length (n ∷ ns) is.0, leb-true (length (n ∷ ns)) 64 is.1)
-
-target_short : (target : List ℕ) → is_good_path target ≡ true → length target < 2 ^ 32
-unfolding is_good_path
-target_short target good =
-    omega (arith, leb-true (length target) 4096 (and_parts (nat_le (length target) 4096) (list_all (λ b. not (b == 0)) target && list_all (λ part. nat_le (length part) 255) (components target)) good).0)
+path_short place is = path_length (absolute place) (place_text place is)
 
 bytes_short : (files : Files) (number : ℕ) (content : Option Content) → AllByRecursion (λ e. IsFitContent e.1) files → content_at files number ≡ content → IfSome content (λ (c : Content). length c.bytes < 2 ^ 32)
 bytes_short files number None fit is = tt
@@ -54,7 +40,7 @@ bytes_short files number (Some content) fit is = omega (arith, (all_at IsFitCont
 pub node_short : (t : Tree) → IsKept t → (standing : Node) → IsFitNode standing → IsShort t.files standing
 node_short t kept (Dir owner) fits = tt
 node_short t kept (File number) fits = bytes_short t.files number (content_at t.files number) (fit_files t kept) refl
-node_short t kept (Link target) fits = target_short target (and_parts (nat_lt 0 (length target)) (is_good_path target) fits.1).1
+node_short t kept (Link target) fits = target_length target (fits.1, fits.0)
 
 -- ---- one entry more
 
@@ -211,13 +197,6 @@ names_count t kept =
 
 pub home_short : (t : Tree) → IsKept t → length (absolute t.home) < 2 ^ 32
 home_short t kept = path_short t.home (kept.well_formed.home, (limits_from t kept.within_limits).home)
-
-spelled_head : (file : TreeFile) → spelled file ≡ head_bytes (record { home = file.home; uid = file.uid; gid = file.gid; count = length file.rows; root = file.root }) ++ flat_map row_text file.rows
-unfolding spelled
-spelled_head file = by (string file.home) (uint32 file.uid) (uint32 file.gid) (uint32 (length file.rows)) (owner_text file.root) (flat_map row_text file.rows)
-  where
-    by : (a b c d e f : List ℕ) → tree_opening ++ (a ++ (b ++ (c ++ (d ++ (e ++ f))))) ≡ (tree_opening ++ (a ++ (b ++ (c ++ (d ++ e))))) ++ f
-    by a b c d e f = simp append_assoc
 
 pub picture_written : (t : Tree) → IsKept t → picture t ≡ head_bytes (head_of t) ++ flat_map row_text (rows_behind t.files [] t.names)
 unfolding picture
