@@ -7,6 +7,7 @@ pub mod PictureNamed
 pub mod PictureAgain
 pub mod PictureStores
 pub mod PictureFiles
+pub mod PictureWritten
 pub mod WalkRoutes
 pub mod WalkSteps
 pub mod WalkMeetings

@@ -16,6 +16,7 @@ use Rattle.sftp_treefile.specs.declared.files.Kind.TheVariants as kinds
 use Rattle.sftp_treefile.specs.declared.files.Row.{Row}
 use Rattle.sftp_treefile.specs.declared.files.TreeFile.{TreeFile}
 use Rattle.sftp_treefile.specs.TreeFile.{place_of, is_first, IsPlaceText, IsOwner, IsKind, AreRows, IsTreeFile, spelled, IsSpelled}
+use Rattle.sftp_treefile.proofs.FileTexts.{one_file}
 use Rattle.sftp_tree.specs.declared.contents.Content.{Content}
 use Rattle.sftp_tree.specs.declared.nodes.Node.{Node}
 use Rattle.sftp_tree.specs.declared.nodes.Node.TheVariants.{Dir, File, Link}
@@ -302,3 +303,10 @@ start_of_spelled file bytes is =
 pub start_of_picture : (t : Tree) → IsKept t → IsStart (tree_of (file_of t)) (picture t)
 unfolding picture
 start_of_picture t kept = start_of_spelled (file_of t) (picture t) (record { may_be = file_of_kept t kept; bytes_are = refl })
+
+-- bytes are the tree file of one tree
+pub one_start : (t u : Tree) (bytes : List ℕ) → IsStart t bytes → IsStart u bytes → t ≡ u
+one_start t u bytes t-start u-start =
+    sym (tree_again t (kept_of_start t bytes t-start) t-start.numbered)
+    ∙ ap tree_of (one_file (file_of t) (file_of u) bytes (spelled_of_start t bytes t-start) (spelled_of_start u bytes u-start))
+    ∙ tree_again u (kept_of_start u bytes u-start) u-start.numbered

@@ -144,7 +144,7 @@ named_within number (e ∷ es) m is = by (names_file number e.1) (entry_naming n
 abbrev pub IsFitContent : Content → Type 0
 IsFitContent content = IsOwner content.owner × (length content.bytes ≤ usual_limits.file_bytes) × IsTrue (are_bytes content.bytes)
 
-all_at : (P : Content → Type 0) (files : Files) (number : ℕ) (content : Content) → AllByRecursion (λ e. P e.1) files → content_at files number ≡ Some content → P content
+pub all_at : (P : Content → Type 0) (files : Files) (number : ℕ) (content : Content) → AllByRecursion (λ e. P e.1) files → content_at files number ≡ Some content → P content
 all_at P [] number content all is = absurd (let none : None ≡ Some content = sym (get-empty nat_cmp number) ∙ is in cc)
 all_at P (e ∷ files) number content all is = by (is_eq (nat_cmp number e.0)) (sym (get-cons nat_cmp e files number) ∙ is) (λ more. all_at P files number content all.1 more)
   where

@@ -1,13 +1,15 @@
--- A worked tree is one that the program may have.
+-- Worked trees are such that the program may have.
 use Rattle.std.proofs.Common.{[], ◌∷◌, refl, arith}
 use Rattle.std.specs.Prelude.{codes}
+use Rattle.sftp_wire.specs.Rows.{hex}
 use Rattle.sftp_path.specs.Place.{components, parts, is_good_path}
 use Rattle.sftp_treefile.specs.declared.files.Kind.TheVariants as kinds
 use Rattle.sftp_treefile.specs.declared.files.TreeFile.{TreeFile}
-use Rattle.sftp_treefile.specs.TreeFile.{has_dir, IsPlaceText, IsTreeFile}
+use Rattle.sftp_treefile.specs.TreeFile.{has_dir, spelled, IsPlaceText, IsTreeFile, IsSpelled}
 use Rattle.sftp_tree.specs.Tree.{IsKept}
-use Rattle.sftp_tree.specs.PictureRows.{user_owner, linked}
-use Rattle.sftp_tree.proofs.PictureFiles.{kept_of_file}
+use Rattle.sftp_tree.specs.Picture.{IsStart}
+use Rattle.sftp_tree.specs.PictureRows.{user_owner, linked, two_names, two_names_bytes}
+use Rattle.sftp_tree.proofs.PictureFiles.{kept_of_file, start_of_spelled}
 
 linked_file : TreeFile
 linked_file = record {
@@ -43,3 +45,48 @@ may_be = record {
 pub linked_kept : IsKept linked
 unfolding linked_file components parts
 linked_kept = kept_of_file linked_file may_be
+
+-- ---- a file of two names
+
+two_names_file : TreeFile
+two_names_file = record {
+  home = codes "/";
+  uid = 0;
+  gid = 0;
+  root = record { uid = 0; gid = 0; permissions = 0o755 };
+  rows = record { path = codes "/f"; kind = kinds.First (record { uid = 0; gid = 0; permissions = 0o644 }) (codes "abc") } ∷ record { path = codes "/g"; kind = kinds.Further 1 } ∷ [];
+}
+
+text_root : IsPlaceText (codes "/")
+unfolding components parts
+text_root = record { names = refl; depth = omega arith; one = refl }
+
+text_f : IsPlaceText (codes "/f")
+unfolding components parts
+text_f = record { names = refl; depth = omega arith; one = refl }
+
+text_g : IsPlaceText (codes "/g")
+unfolding components parts
+text_g = record { names = refl; depth = omega arith; one = refl }
+
+two_names_may_be : IsTreeFile two_names_file
+unfolding two_names_file components parts has_dir
+two_names_may_be = record {
+  home = text_root;
+  uid = omega arith;
+  gid = omega arith;
+  count = omega arith;
+  root = (omega arith, omega arith, omega arith);
+  rows = (
+    record { path = text_f; below_root = omega arith; later = tt; parent = refl; kind = ((omega arith, omega arith, omega arith), omega arith, refl) },
+    (record { path = text_g; below_root = omega arith; later = (refl, tt); parent = refl; kind = (omega arith, refl) }, tt),
+  );
+}
+
+two_names_spelled : IsSpelled two_names_file two_names_bytes
+unfolding two_names_file spelled hex
+two_names_spelled = record { may_be = two_names_may_be; bytes_are = refl }
+
+pub two_names_start : IsStart two_names two_names_bytes
+unfolding two_names_file components parts
+two_names_start = start_of_spelled two_names_file two_names_bytes two_names_spelled

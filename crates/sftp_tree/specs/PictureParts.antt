@@ -1,23 +1,25 @@
 -- The tree that a tree file speaks of, and what the code keeps on its way from the one to the other.
-use Rattle.std.specs.Prelude.{◌≡◌, ℕ, suc, ◌+◌, ◌-◌, ◌≤◌, List, [], ◌∷◌, ◌++◌, length, take, slice_index, Option, Some, None}
+use Rattle.std.specs.Prelude.{◌≡◌, ℕ, suc, ◌+◌, ◌-◌, ◌≤◌, ◌<◌, ◌^◌, List, [], ◌∷◌, ◌++◌, length, take, slice_index, Option, Some, None, IfSome}
 use Rattle.std.specs.BTreeMap.{is_at}
 use Rattle.std.specs.List.{flat_map, AllByRecursion}
 use Rattle.std.specs.Map.{set_value}
 use Rattle.std.specs.Ordering.{nat_cmp}
-use Rattle.sftp_path.specs.Place.{Place}
+use Rattle.sftp_path.specs.Place.{Place, absolute}
 use Rattle.sftp_path.specs.Table.{Table, get, put}
 use Rattle.sftp_treefile.specs.declared.files.Owner.{Owner}
 use Rattle.sftp_treefile.specs.declared.files.Kind.{Kind}
 use Rattle.sftp_treefile.specs.declared.files.Kind.TheVariants as kinds
 use Rattle.sftp_treefile.specs.declared.files.Row.{Row}
 use Rattle.sftp_treefile.specs.declared.files.TreeFile.{TreeFile}
+use Rattle.sftp_treefile.specs.declared.heads.Head.{Head}
 use Rattle.sftp_treefile.specs.TreeFile.{place_of}
 use Rattle.sftp_tree.specs.declared.contents.Content.{Content}
 use Rattle.sftp_tree.specs.declared.contents.Stored.{Stored}
 use Rattle.sftp_tree.specs.declared.nodes.Node.{Node}
 use Rattle.sftp_tree.specs.declared.nodes.Node.TheVariants.{Dir, File, Link}
-use Rattle.sftp_tree.specs.Tree.{Names, Files, Tree}
+use Rattle.sftp_tree.specs.Tree.{Names, Files, Tree, node_at, content_at}
 use Rattle.sftp_tree.specs.Stored.{contents, AreCounted}
+use Rattle.sftp_tree.specs.Picture.{naming, root_owner}
 
 -- the file that an entry comes with
 abbrev pub content_of : Kind → List Content
@@ -117,3 +119,36 @@ pub record IsGrown (root : Owner) (rows : List Row) (names : Names) (stores : St
   pub names_are : names ≡ names_of root rows
   pub contents_are : contents stores ≡ numbered_from 0 (contents_of rows)
   pub counted : AreCounted names stores
+
+-- ---- on the way to the tree file
+
+-- what stands before the entries
+abbrev pub head_of : Tree → Head
+head_of t = record { home = absolute t.home; uid = t.uid; gid = t.gid; count = length t.names - 1; root = root_owner (node_at t.names []) }
+
+-- for each file that was met the number of the entry that is its first name
+abbrev pub Firsts : Type 0
+Firsts = Table ℕ ℕ
+
+-- with an entry that is a name of the file
+abbrev pub with_first : Firsts → ℕ → ℕ → Option ℕ → Firsts
+with_first firsts entry number (Some first) = firsts
+with_first firsts entry number None = put nat_cmp firsts number entry
+
+-- with the entry of this number
+abbrev pub firsts_with : Firsts → ℕ → Node → Firsts
+firsts_with firsts entry (Dir owner) = firsts
+firsts_with firsts entry (File number) = with_first firsts entry number (get nat_cmp firsts number)
+firsts_with firsts entry (Link target) = firsts
+
+-- the entry behind those that were met
+abbrev pub known_kind : Files → Firsts → Node → Kind
+known_kind files firsts (Dir owner) = kinds.Dir owner
+known_kind files firsts (File number) = naming (get nat_cmp firsts number) (content_at files number)
+known_kind files firsts (Link target) = kinds.Link target
+
+-- the lengths of its strings can be written
+abbrev pub IsShort : Files → Node → Type 0
+IsShort files (Dir owner) = Unit {0}
+IsShort files (File number) = IfSome (content_at files number) (λ (content : Content). length content.bytes < 2 ^ 32)
+IsShort files (Link target) = length target < 2 ^ 32

@@ -1,7 +1,8 @@
 -- Trees and their tree files, worked out by hand.
 use Rattle.std.specs.Prelude.{ℕ, List, [], ◌∷◌, codes}
+use Rattle.sftp_wire.specs.Rows.{hex}
 use Rattle.sftp_treefile.specs.declared.files.Owner.{Owner}
-use Rattle.sftp_tree.specs.declared.nodes.Node.TheVariants.{Dir, Link}
+use Rattle.sftp_tree.specs.declared.nodes.Node.TheVariants.{Dir, File, Link}
 use Rattle.sftp_tree.specs.Tree.{Tree}
 
 -- `SFTREE01`, the home `/`, the user and the group 0, no entries, and the root with the user and the group 0 and
@@ -38,3 +39,18 @@ linked_directory = 0x00 ∷ 0x00 ∷ 0x00 ∷ 0x02 ∷ 0x2f ∷ 0x64 ∷ 0x44 �
 -- `/l`, `L` and its target
 abbrev pub linked_link : List ℕ
 linked_link = 0x00 ∷ 0x00 ∷ 0x00 ∷ 0x02 ∷ 0x2f ∷ 0x6c ∷ 0x4c ∷ 0x00 ∷ 0x00 ∷ 0x00 ∷ 0x01 ∷ 0x64 ∷ []
+
+-- the blank tree with a file `/f` of the bytes `abc`, whose second name is `/g`
+abbrev pub two_names : Tree
+two_names = record {
+  names = ([], Dir (record { uid = 0; gid = 0; permissions = 0o755 })) ∷ (codes "f" ∷ [], File 0) ∷ (codes "g" ∷ [], File 0) ∷ [];
+  files = (0, record { owner = record { uid = 0; gid = 0; permissions = 0o644 }; bytes = codes "abc" }) ∷ [];
+  made = 1;
+  home = [];
+  uid = 0;
+  gid = 0;
+}
+
+-- the blank head with two entries; `/f`, `F`, the owner and the bytes; `/g`, `H` and the number 1
+abbrev pub two_names_bytes : List ℕ
+two_names_bytes = hex (codes "5346545245453031 00000001 2f 00000000 00000000 00000002 00000000 00000000 000001ed 00000002 2f66 46 00000000 00000000 000001a4 00000003 616263 00000002 2f67 48 00000001")

@@ -1,18 +1,20 @@
 //! Laws of trees and their tree files, as theorems on the definitions that the contracts name. The functions do
 //! nothing; each promise is in the contract.
-ghost use Rattle.std.specs.Prelude.{◌≡◌, ◌++◌, ℕ, List};
+ghost use Rattle.std.specs.Prelude.{◌≡◌, ◌++◌, ℕ, List, length};
 ghost use Rattle.sftp_tree.specs.Tree.{Tree, IsKept};
-ghost use Rattle.sftp_tree.specs.Picture.{IsStart, picture, blank};
-ghost use Rattle.sftp_tree.specs.PictureRows.{blank_bytes, linked, linked_front, linked_root, linked_directory, linked_link};
+ghost use Rattle.sftp_tree.specs.Picture.{IsStart, file_of, picture, blank};
+ghost use Rattle.sftp_tree.specs.PictureParts.{tree_of};
+ghost use Rattle.sftp_tree.specs.PictureRows.{blank_bytes, linked, linked_front, linked_root, linked_directory, linked_link, two_names, two_names_bytes};
 
 /// Bytes are the tree file of one tree.
 pub fn starts_are_one()
     ensures { (t u : Tree) (bytes : List ℕ) → IsStart t bytes → IsStart u bytes → t ≡ u }
 {}
 
-/// The tree file of a tree that the program may have is that of a tree.
+/// The tree file of a tree that the program may have is that of the same tree with its files numbered from 0 in the order of
+/// their first names.
 pub fn pictures_are_starts()
-    ensures { (t : Tree) → IsKept t → IsStart t (picture t) }
+    ensures { (t : Tree) → IsKept t → IsStart (tree_of (file_of t)) (picture t) }
 {}
 
 /// The tree of nothing but a root is one that the program may have, and these 37 bytes are its tree file.
@@ -27,4 +29,10 @@ pub fn blank_is_a_start()
 pub fn file_of_a_directory_and_a_link()
     ensures kept { IsKept linked }
     ensures bytes { picture linked ≡ linked_front ++ (linked_root ++ (linked_directory ++ linked_link)) }
+{}
+
+/// The blank tree with a file of two names: its tree file has 74 bytes, in which the file's bytes stand once.
+pub fn file_of_two_names()
+    ensures length { length two_names_bytes ≡ 74 }
+    ensures start { IsStart two_names two_names_bytes }
 {}

@@ -79,6 +79,13 @@ impl Tree {
         Some(&stored.content)
     }
 
+    /// The files, by their numbers.
+    pub(crate) fn files(&self) -> &BTreeMap<u32, Stored>
+        ensures { stored.contents result.now.entries ≡ self.now.files }
+    {
+        &self.files
+    }
+
     /// Where relative paths start.
     pub(crate) fn home(&self) -> &Place
         ensures { result.now ≡ self.now.home }

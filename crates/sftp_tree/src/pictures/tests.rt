@@ -15,6 +15,25 @@ const INNER: &[u8] = b"\0\0\0\x04/d/eD\0\0\0\0\0\0\0\0\0\0\x01\xed";
 /// The link `/l` to `d/e`.
 const LINK: &[u8] = b"\0\0\0\x02/lL\0\0\0\x03d/e";
 
+/// The blank tree with the file `/f` of the bytes `abc`, whose second name is `/g`.
+const TWO_NAMES: &[u8] = b"SFTREE01\0\0\0\x01/\0\0\0\0\0\0\0\0\0\0\0\x02\0\0\0\0\0\0\0\0\0\0\x01\xed\
+\0\0\0\x02/fF\0\0\0\0\0\0\0\0\0\0\x01\xa4\0\0\0\x03abc\0\0\0\x02/gH\0\0\0\x01";
+
+/// The file `/a` of the byte `x`.
+const FIRST_FILE: &[u8] = b"\0\0\0\x02/aF\0\0\x03\xe8\0\0\0\x64\0\0\x01\xa4\0\0\0\x01x";
+
+/// The empty file `/b`.
+const SECOND_FILE: &[u8] = b"\0\0\0\x02/bF\0\0\0\0\0\0\0\0\0\0\x01\x80\0\0\0\0";
+
+/// A second name of the entry 1, `/c`.
+const NAME_OF_FIRST: &[u8] = b"\0\0\0\x02/cH\0\0\0\x01";
+
+/// A second name of the entry 2, `/d`.
+const NAME_OF_SECOND: &[u8] = b"\0\0\0\x02/dH\0\0\0\x02";
+
+/// A third name of the entry 1, `/e`.
+const THIRD_NAME: &[u8] = b"\0\0\0\x02/eH\0\0\0\x01";
+
 /// A tree file of rows, whose home is `/d`.
 fn file_of(alloc: Global, count: u8, rows: &[&[u8]]) -> Result<Vec<u8>, AllocError> {
     let mut file = Vec::from_slice(alloc, b"SFTREE01\0\0\0\x02/d\0\0\x03\xe8\0\0\0\x64\0\0\0")?;
@@ -65,5 +84,32 @@ fn a_fault_is_passed_on(rt: HostRuntime) -> Result<(), Fail> {
     let file = file_of(rt.alloc(), 2, &[LINK, DIRECTORY])?;
     let fault = Tree::read(rt.alloc(), &file).err();
     assert_eq!(rt; fault, Some(TreeError::Order { entry: 2 }));
+    Ok(())
+}
+
+#[test]
+fn a_file_of_two_names(rt: HostRuntime) {
+    assert!(rt; comes_back(rt.alloc(), TWO_NAMES));
+}
+
+#[test]
+fn files_whose_names_interleave(rt: HostRuntime) -> Result<(), Fail> {
+    let rows = &[
+        FIRST_FILE,
+        SECOND_FILE,
+        NAME_OF_FIRST,
+        NAME_OF_SECOND,
+        THIRD_NAME,
+    ];
+    let file = file_of(rt.alloc(), 5, rows)?;
+    assert!(rt; comes_back(rt.alloc(), &file));
+    Ok(())
+}
+
+#[test]
+fn a_name_of_no_file_is_a_fault(rt: HostRuntime) -> Result<(), Fail> {
+    let file = file_of(rt.alloc(), 2, &[FIRST_FILE, NAME_OF_SECOND])?;
+    let fault = Tree::read(rt.alloc(), &file).err();
+    assert_eq!(rt; fault, Some(TreeError::Value { entry: 2 }));
     Ok(())
 }

@@ -1,13 +1,172 @@
 //! From a tree to its tree file.
-ghost use Rattle.std.specs.Prelude.{◌≡◌, IfOk};
+ghost use Rattle.std.specs.Prelude.{◌≡◌, [], ◌++◌, ◌<◌, ◌^◌, length, IfOk, IfSome, OnOk};
+ghost use Rattle.std.specs.List.{flat_map};
+ghost use Rattle.std.specs.Ordering.{nat_cmp};
+ghost use Rattle.sftp_path.specs.Place.{absolute};
+ghost use Rattle.sftp_path.specs.Table.{get};
+ghost use Rattle.sftp_treefile.specs.TreeFile.{row_text};
+ghost use Rattle.sftp_treefile.specs.TreeFileParts.{head_bytes};
+ghost use Rattle.sftp_tree.specs.declared.contents.Content.{Content as content};
+ghost use Rattle.sftp_tree.specs.Tree.{IsKept, node_at, content_at};
 ghost use Rattle.sftp_tree.specs.Picture as spec;
+ghost use Rattle.sftp_tree.specs.PictureParts as parts;
 
+use crate::contents::Stored;
+use crate::nodes::Node;
 use crate::trees::Tree;
-use sftp_path::NoMemory;
+use sftp_path::{NoMemory, Place, absolute};
+use sftp_treefile::{Head, Owner, put_directory, put_file, put_further_name, put_head, put_link};
+use sftp_wire::ByteString;
+use std::alloc::Global;
+use std::collections::BTreeMap;
 
-/// The tree file of a tree, whose files are copied once.
+/// Who owns what has no owner.
+const NO_OWNER: Owner = Owner {
+    uid: 0,
+    gid: 0,
+    permissions: 0,
+};
+
+/// The owner of the root, which is a directory in every tree.
+#[tactic(auto, unfolding(sftp_path::specs::Table::get))]
+fn root_owner(alloc: Global, names: &BTreeMap<Place, Node>) -> Owner
+    ensures { result ≡ spec.root_owner (node_at names.now.entries []) }
+{
+    match names.get(&Place::root(alloc)) {
+        Some(Node::Dir(owner)) => *owner,
+        Some(Node::File(_)) | Some(Node::Link(_)) | None => NO_OWNER,
+    }
+}
+
+/// Appends what stands before the entries.
+fn put_front(alloc: Global, out: &mut Vec<u8>, tree: &Tree) -> Result<(), NoMemory>
+    ensures { OnOk result (out.new.items ≡ out.old.items ++ head_bytes (parts.head_of tree.now)) }
+{
+    let home = absolute(alloc, tree.home().names())?;
+    let head = Head {
+        home: ByteString::new(home),
+        uid: tree.uid(),
+        gid: tree.gid(),
+        count: (tree.names().len() - 1) as u32,
+        root: root_owner(alloc, tree.names()),
+    };
+    put_head(out, &head)?;
+    Ok(())
+}
+
+/// Appends the entry of a name of a file. The first one comes with the file, and is remembered with its number.
+#[tactic(auto, unfolding(sftp_path::specs::Table::get, sftp_path::specs::Table::put))]
+fn put_name(
+    out: &mut Vec<u8>,
+    firsts: &mut BTreeMap<u32, u32>,
+    tree: &Tree,
+    path: &[u8],
+    entry: u32,
+    number: u32,
+) -> Result<(), NoMemory>
+    requires path { length path.now < 2 ^ 32 }
+    requires file { IfSome (content_at tree.now.files number) (λ (c : content). length c.bytes < 2 ^ 32) }
+    ensures out { OnOk result (out.new.items ≡ out.old.items
+        ++ row_text (record { path = path.now; kind = spec.naming (get nat_cmp firsts.old.entries number) (content_at tree.now.files number) })) }
+    ensures firsts { OnOk result
+        (firsts.new.entries ≡ parts.with_first firsts.old.entries entry number (get nat_cmp firsts.old.entries number)) }
+{
+    if let Some(first) = firsts.get(&number) {
+        put_further_name(out, path, *first)?;
+        return Ok(());
+    }
+    match tree.content(number) {
+        Some(content) => put_file(out, path, &content.owner, content.bytes.as_slice())?,
+        None => put_file(out, path, &NO_OWNER, b"")?,
+    }
+    firsts.insert(number, entry)?;
+    Ok(())
+}
+
+/// Appends an entry below the root.
+fn put_entry(
+    alloc: Global,
+    out: &mut Vec<u8>,
+    firsts: &mut BTreeMap<u32, u32>,
+    tree: &Tree,
+    entry: u32,
+    place: &Place,
+    node: &Node,
+) -> Result<(), NoMemory>
+    requires path { length (absolute place.now) < 2 ^ 32 }
+    requires node { parts.IsShort tree.now.files node.now }
+    ensures out { OnOk result (out.new.items ≡ out.old.items
+        ++ row_text (record { path = absolute place.now; kind = parts.known_kind tree.now.files firsts.old.entries node.now })) }
+    ensures firsts { OnOk result (firsts.new.entries ≡ parts.firsts_with firsts.old.entries entry node.now) }
+{
+    let path = absolute(alloc, place.names())?;
+    match node {
+        Node::Dir(owner) => put_directory(out, &path, owner)?,
+        Node::File(number) => put_name(out, firsts, tree, &path, entry, *number)?,
+        Node::Link(target) => put_link(out, &path, target.as_slice())?,
+    }
+    Ok(())
+}
+
+/// Appends the entries below the root.
+fn put_entries(alloc: Global, out: &mut Vec<u8>, tree: &Tree) -> Result<(), NoMemory>
+    ensures kept { IsKept tree.now }
+    ensures out { OnOk result (out.new.items ≡ out.old.items ++ flat_map row_text (spec.rows_behind tree.now.files [] tree.now.names)) }
+{
+    let mut firsts = BTreeMap::new(alloc);
+    let mut entries = tree.names().iter();
+    entries.next();
+    let mut entry = 1;
+    for (place, node) in entries {
+        put_entry(alloc, out, &mut firsts, tree, entry, place, node)?;
+        entry += 1;
+    }
+    Ok(())
+}
+
+/// How many bytes the absolute text of a place takes, with its length.
+fn room_of_path(place: &Place) -> usize {
+    let mut room: usize = 5;
+    for name in place.names() {
+        room = room.saturating_add(name.as_slice().len()).saturating_add(1);
+    }
+    room
+}
+
+/// How many bytes what stands at a place takes, but for the bytes of a file.
+fn room_of_node(node: &Node) -> usize {
+    match node {
+        Node::Dir(_) => 13,
+        Node::File(_) => 17,
+        Node::Link(target) => target.as_slice().len().saturating_add(5),
+    }
+}
+
+/// How many bytes the files take.
+fn room_of_files(files: &BTreeMap<u32, Stored>) -> usize {
+    let mut room: usize = 0;
+    for stored in files.values() {
+        room = room.saturating_add(stored.content.bytes.as_slice().len());
+    }
+    room
+}
+
+/// Enough bytes for the tree file.
+fn room_of(tree: &Tree) -> usize {
+    let mut room = room_of_files(tree.files()).saturating_add(room_of_path(tree.home())).saturating_add(36);
+    for (place, node) in tree.names() {
+        room = room.saturating_add(room_of_path(place)).saturating_add(room_of_node(node));
+    }
+    room
+}
+
+/// The tree file of a tree. The room for it is taken at once, so that the bytes of files are copied once.
 pub(super) fn picture_of(tree: &Tree) -> Result<Vec<u8>, NoMemory>
     ensures { IfOk result (λ v. v.items ≡ spec.picture tree.now) }
 {
-    Err(NoMemory)
+    let alloc = tree.home().allocator();
+    let mut out = Vec::with_capacity(alloc, room_of(tree))?;
+    put_front(alloc, &mut out, tree)?;
+    put_entries(alloc, &mut out, tree)?;
+    Ok(out)
 }

@@ -1,5 +1,5 @@
-use Rattle.sftp_tree.proofs.PictureFiles.{start_of_picture}
+use Rattle.sftp_tree.proofs.PictureFiles.{one_start}
 use Rattle.sftp_tree.proofs.picture_laws.starts_are_one.Goals as goal
 
 pub returns : goal.returns
-returns c = ?
+returns c = one_start
