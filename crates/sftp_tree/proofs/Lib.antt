@@ -26,7 +26,6 @@ pub mod CausePairs
 pub mod CausePaths
 pub mod StepCauses
 pub mod CauseAsks
-pub mod StepAnswers
 pub mod CallSets
 pub mod CallPlaces
 pub mod CallRooms
