@@ -1,15 +1,15 @@
 -- What is known of a node that stands in a tree that is kept, and of places in it.
-use Rattle.std.proofs.Common.{◌≡◌, ◌&&◌, ◌||◌, ℕ, ◌≤◌, Bool, true, false, List, [], ◌∷◌, length, Option, Some, None, refl, subst, cond, leb-true, ap}
+use Rattle.std.proofs.Common.{◌≡◌, ◌&&◌, ℕ, ◌≤◌, Bool, true, false, List, [], ◌∷◌, length, Option, Some, None, refl, subst, cond, leb-true}
 use Rattle.std.specs.Ordering.{nat_cmp}
 use Rattle.std.specs.List.{list_all, AllByRecursion}
-use Rattle.std.specs.Prelude.{filter, is_some}
+use Rattle.std.specs.Prelude.{is_some}
 use Rattle.std.specs.Map.{lookup}
 use Rattle.std.specs.BTreeMap.{is_at}
 use Rattle.sftp_path.specs.Place.{Place, place_cmp}
-use Rattle.sftp_path.specs.Table.{get, retain}
+use Rattle.sftp_path.specs.Table.{get}
 use Rattle.sftp_tree.specs.declared.contents.Content.{Content}
 use Rattle.sftp_tree.specs.declared.nodes.Node.{Node}
-use Rattle.sftp_tree.specs.Tree.{Tree, trim, is_named, held_by_names_alone, IsKept, IsNode, IsContent, node_at, content_at, limits, entries_fit, depths_fit, home_fits, links_fit, link_fits, files_fit, content_fits, numbers_fit, fits}
+use Rattle.sftp_tree.specs.Tree.{Tree, IsKept, IsNode, IsContent, node_at, content_at, limits, entries_fit, depths_fit, home_fits, links_fit, link_fits, files_fit, content_fits, numbers_fit, fits}
 
 pub both : (a b : Bool) → (a && b) ≡ true → (a ≡ true) × (b ≡ true)
 both true b is = (refl, is)
@@ -66,14 +66,3 @@ content_kept t kept number content is =
       found-all IsContent (is_at (nat_cmp number)) t.files content kept.well_formed.contents is,
       leb-true (length content.bytes) 16777216 (found-all (λ c. content_fits (limits t) c ≡ true) (is_at (nat_cmp number)) t.files content (tested-all (λ e. content_fits (limits t) e.1) t.files l.files) is),
     )
-
--- where each file has a name, none goes
-kept-all : {E : Type 0} (p q : E → Bool) (es : List E) → AllByRecursion (λ e. p e ≡ true) es → filter (λ e. p e || q e) es ≡ es
-kept-all p q [] all = refl
-kept-all p q (e ∷ es) all = rw all.0 (ap (λ rest. e ∷ rest) (kept-all p q es all.1))
-
-pub trimmed_kept : (t : Tree) → IsKept t → trim t ≡ t
-unfolding retain
-trimmed_kept t kept =
-    let same = kept-all (λ (e : ℕ × Content). is_named t.names e.0) (λ (e : ℕ × Content). held_by_names_alone e.0) t.files kept.trimmed in
-    λ i. record t { files = same i }

@@ -9,6 +9,7 @@ ghost use Rattle.sftp_tree.specs.Sets.{stat_ask};
 ghost use Rattle.sftp_audit.specs.Steps as spec;
 ghost use Rattle.sftp_audit.specs.Judging.{given, is_done, is_answer, IsDone, Judges};
 
+use sftp_tree::keeping::trimmed_already;
 use sftp_tree::{NoMemory, Refused, Tree};
 use sftp_wire::{Answer, Ask, Attrs, ByteString, Names, Reply, Request};
 
@@ -38,6 +39,7 @@ fn judge(tree: &mut Tree, ask: &Ask, answer: &Answer) -> Result<bool, NoMemory>
     ensures err { OnErr result (tree.new ≡ tree.old) }
 {
     tree.see();
+    trimmed_already();
     match answer {
         Answer::Status { code, .. } => judge_status(tree, ask, *code),
         Answer::Attrs(attrs) => shows(tree, ask, attrs),
