@@ -1,5 +1,5 @@
 -- The causes of requests with one path are the sets that the code has.
-use Rattle.std.proofs.Common.{◌≡◌, ℕ, Bool, true, false, ◌&&◌, ◌||◌, not, List, refl, sym, ◌∙◌, ap, Option, Some, None, IsTrue, Result, Ok, Err}
+use Rattle.std.proofs.Common.{◌≡◌, ℕ, Bool, true, false, ◌&&◌, ◌||◌, not, List, refl, sym, ◌∙◌, ap, Option, Some, None, Result, Ok, Err}
 use Rattle.sftp_wire.specs.declared.attributes.Attrs.{Attrs}
 use Rattle.sftp_wire.specs.declared.packets.Ask.{Ask}
 use Rattle.sftp_wire.specs.declared.packets.Ask.TheVariants.{Lstat, Mkdir, Rmdir, Realpath, Stat, Readlink, Symlink}
@@ -13,17 +13,14 @@ use Rattle.sftp_tree.specs.declared.causes.Causes.{Causes}
 use Rattle.sftp_tree.specs.Tree.{Tree, IsKept, fits, node_at, with_node, is_taken}
 use Rattle.sftp_tree.specs.Walk.{reached}
 use Rattle.sftp_tree.specs.Attributes.{directory_owner}
-use Rattle.sftp_tree.specs.Steps.{CauseSet, led, new_led, only, is_none, making_causes, target_causes, plain_causes, target_at, led_to, target, causes}
-use Rattle.sftp_tree.specs.Sets.{in_set, IsFree, stat_ask}
+use Rattle.sftp_tree.specs.Steps.{CauseSet, led, new_led, only, making_causes, target_causes, plain_causes, target, causes}
+use Rattle.sftp_tree.specs.Sets.{in_set, stat_ask}
 use Rattle.sftp_tree.specs.Judged.{no_causes, just, has_room, making, needing, reading, removing, led_set, with_room, with_target, causes_at_place, IsSet}
-use Rattle.sftp_tree.proofs.CauseWalks as walks
+use Rattle.sftp_tree.proofs.CauseWalks.{led-room}
 use Rattle.sftp_tree.proofs.CauseLed as laws
 use Rattle.sftp_tree.proofs.CauseRoom.{fits-put}
 use Rattle.sftp_tree.proofs.CauseSets.{and-false, set-whole, just-is, only-apart, one-led, one-lost}
 use Rattle.sftp_tree.proofs.CausePlaces.{absent-of, making-is, needing-is, reading-is, none-is, removing-is}
-
-pub led-room : (t : Tree) (ask : Ask) → led t ask ≡ Some (Err NoRoom) → ⊥
-led-room = walks.led-room
 
 -- ---- where a request leads
 
@@ -51,13 +48,6 @@ led-readlink t path r e = ap Some (sym e)
 pub led-symlink : (t : Tree) (target link : List ℕ) (r : Result Place Cause) → r ≡ reached t false link → led t (Symlink target link) ≡ Some r
 unfolding led
 led-symlink t target link r e = ap Some (sym e)
-
--- of a request with one path
-pub target-led : (t : Tree) (ask : Ask) (r : Result Place Cause) → new_led t ask ≡ None → led t ask ≡ Some r → target t ask ≡ led_to t (Some r) (target_at t ask)
-target-led t ask r none e = laws.target-led t ask (Some r) None e none
-
-pub free-by : (t : Tree) (ask : Ask) (s : Causes) → ((c : Cause) → causes t ask c ≡ in_set s c) → IsTrue (is_none (in_set s)) → IsFree t ask
-free-by t ask s same none = ap is_none (λ i c. same c i) ∙ none
 
 -- ---- a set by where a path leads
 
