@@ -1,4 +1,4 @@
-use Rattle.std.proofs.Common.{◌≡◌, ℕ, ◌<◌, ◌%◌, ◌^◌, Option, Some, None, unwrap_or, subst}
+use Rattle.std.proofs.Common.{ℕ, ◌<◌, ◌%◌, ◌^◌, Option, Some, None, unwrap_or, subst}
 use Rattle.std.specs.Option.{option_map}
 use Rattle.sftp_treefile.specs.TreeFile.{IsOwner}
 use Rattle.sftp_tree.proofs.steps.see_attributes.Goals as goal

@@ -1,7 +1,7 @@
-use Rattle.std.proofs.Common.{◌≡◌, sym, ◌∙◌, ap, refl, false}
+use Rattle.std.proofs.Common.{sym, ◌∙◌, ap, refl, false}
 use Rattle.sftp_wire.specs.declared.packets.Ask.TheVariants.{Hardlink}
 use Rattle.sftp_tree.specs.declared.nodes.Node.TheVariants.{File}
-use Rattle.sftp_tree.specs.Tree.{Tree, trim, with_node}
+use Rattle.sftp_tree.specs.Tree.{trim}
 use Rattle.sftp_tree.specs.Steps.{with_further_name}
 use Rattle.sftp_tree.specs.Judged.{causes_at_places}
 use Rattle.sftp_tree.proofs.CallSets.{led-is, new-led-is, target-two, none-of-set, free-by, refused-by, lost-by}

@@ -2,10 +2,10 @@ use Rattle.std.proofs.Common.{◌≡◌, sym, ◌∙◌, Some, Ok, Err}
 use Rattle.sftp_wire.specs.declared.packets.Ask.{Ask}
 use Rattle.sftp_tree.specs.declared.causes.Refused.{Refused}
 use Rattle.sftp_tree.specs.declared.causes.Refused.TheVariants as refusals
-use Rattle.sftp_tree.specs.Steps.{path_of, new_path_of, follows}
+use Rattle.sftp_tree.specs.Steps.{path_of, follows}
 use Rattle.sftp_tree.specs.Sets.{IsRefusal}
 use Rattle.sftp_tree.specs.Walk.{reached}
-use Rattle.sftp_tree.proofs.CallSets.{exit, led-is, new-led-is, new-led-none}
+use Rattle.sftp_tree.proofs.CallSets.{exit, led-is, new-led-none}
 use Rattle.sftp_tree.proofs.trees.Tree.lead.Goals as goal
 
 pub returns-in_err-place-clause-lost : goal.returns-in_err-place-clause-lost

@@ -1,7 +1,7 @@
-use Rattle.std.proofs.Common.{◌≡◌, sym, ◌∙◌, ap, refl, false}
+use Rattle.std.proofs.Common.{sym, ◌∙◌, ap, refl, false}
 use Rattle.sftp_wire.specs.declared.packets.Ask.TheVariants.{Mkdir}
 use Rattle.sftp_tree.specs.declared.nodes.Node.TheVariants.{Dir}
-use Rattle.sftp_tree.specs.Tree.{Tree, fits, trim, with_node}
+use Rattle.sftp_tree.specs.Tree.{fits, trim, with_node}
 use Rattle.sftp_tree.specs.Attributes.{directory_owner}
 use Rattle.sftp_tree.specs.Steps.{target_at}
 use Rattle.sftp_tree.specs.Judged.{causes_at_place}

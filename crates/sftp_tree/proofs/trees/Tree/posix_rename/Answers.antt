@@ -1,6 +1,6 @@
-use Rattle.std.proofs.Common.{◌≡◌, sym, ◌∙◌, ap, refl, false, true, if◌then◌else◌}
+use Rattle.std.proofs.Common.{sym, ◌∙◌, ap, refl, false, if◌then◌else◌}
 use Rattle.sftp_wire.specs.declared.packets.Ask.TheVariants.{PosixRename}
-use Rattle.sftp_tree.specs.Tree.{Tree, trim}
+use Rattle.sftp_tree.specs.Tree.{trim}
 use Rattle.sftp_tree.specs.Steps.{put_in_its_stead}
 use Rattle.sftp_tree.specs.Judged.{causes_at_places}
 use Rattle.sftp_tree.proofs.CallSets.{led-is, new-led-is, target-two, none-of-set, free-by, refused-by, lost-by}

@@ -1,4 +1,4 @@
-use Rattle.std.proofs.Common.{◌≡◌, sym, ◌∙◌, ap, refl, false}
+use Rattle.std.proofs.Common.{sym, ◌∙◌, ap, refl, false}
 use Rattle.sftp_wire.specs.declared.packets.Ask.TheVariants.{Rename}
 use Rattle.sftp_tree.specs.Tree.{trim, is_directory}
 use Rattle.sftp_tree.specs.Judged.{causes_at_places}

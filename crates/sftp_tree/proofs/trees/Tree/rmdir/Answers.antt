@@ -1,6 +1,6 @@
-use Rattle.std.proofs.Common.{◌≡◌, true, sym, ◌∙◌, ap, refl, false}
+use Rattle.std.proofs.Common.{sym, ◌∙◌, ap, refl, false}
 use Rattle.sftp_wire.specs.declared.packets.Ask.TheVariants.{Rmdir}
-use Rattle.sftp_tree.specs.Tree.{trim, node_at, is_taken, is_directory, has_entries}
+use Rattle.sftp_tree.specs.Tree.{trim}
 use Rattle.sftp_tree.specs.Judged.{causes_at_place}
 use Rattle.sftp_tree.proofs.CallSets.{led-is, target-one, none-of-set, free-by, refused-by, lost-by}
 use Rattle.sftp_tree.proofs.CallRooms.{removing-set}

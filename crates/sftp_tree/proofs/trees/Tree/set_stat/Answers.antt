@@ -1,4 +1,4 @@
-use Rattle.std.proofs.Common.{◌≡◌, true, sym, ◌∙◌, ap, refl}
+use Rattle.std.proofs.Common.{true, sym, ◌∙◌, ap, refl}
 use Rattle.sftp_wire.specs.declared.packets.Ask.TheVariants.{Setstat}
 use Rattle.sftp_tree.specs.Tree.{trim}
 use Rattle.sftp_tree.specs.Judged.{causes_at_place}

@@ -1,8 +1,8 @@
-use Rattle.std.proofs.Common.{◌≡◌, sym, ◌∙◌, ap, refl, false, arith}
+use Rattle.std.proofs.Common.{sym, ◌∙◌, ap, refl, false, arith}
 use Rattle.sftp_wire.specs.declared.packets.Ask.TheVariants.{Symlink}
 use Rattle.sftp_treefile.specs.TreeFile.{are_bytes}
 use Rattle.sftp_tree.specs.declared.nodes.Node.TheVariants.{Link}
-use Rattle.sftp_tree.specs.Tree.{Tree, fits, trim, with_node}
+use Rattle.sftp_tree.specs.Tree.{fits, trim, with_node}
 use Rattle.sftp_tree.specs.Steps.{target_at}
 use Rattle.sftp_tree.specs.Judged.{causes_at_place}
 use Rattle.sftp_tree.proofs.CallSets.{led-is, target-one, none-of-set, free-by, refused-by, lost-by}
