@@ -11,7 +11,7 @@ ghost use Rattle.sftp_tree.specs.Tree.{IsKept, node_at, content_at};
 ghost use Rattle.sftp_tree.specs.Picture as spec;
 ghost use Rattle.sftp_tree.specs.PictureParts as parts;
 
-use crate::contents::Stored;
+use super::measuring::file_size;
 use crate::nodes::Node;
 use crate::trees::Tree;
 use sftp_path::{NoMemory, Place, absolute};
@@ -39,9 +39,10 @@ fn root_owner(alloc: Global, names: &BTreeMap<Place, Node>) -> Owner
 }
 
 /// Appends what stands before the entries.
-fn put_front(alloc: Global, out: &mut Vec<u8>, tree: &Tree) -> Result<(), NoMemory>
+fn put_front(out: &mut Vec<u8>, tree: &Tree) -> Result<(), NoMemory>
     ensures { OnOk result (out.new.items ≡ out.old.items ++ head_bytes (parts.head_of tree.now)) }
 {
+    let alloc = tree.home().allocator();
     let home = absolute(alloc, tree.home().names())?;
     let head = Head {
         home: ByteString::new(home),
@@ -85,7 +86,6 @@ fn put_name(
 
 /// Appends an entry below the root.
 fn put_entry(
-    alloc: Global,
     out: &mut Vec<u8>,
     firsts: &mut BTreeMap<u32, u32>,
     tree: &Tree,
@@ -99,7 +99,7 @@ fn put_entry(
         ++ row_text (record { path = absolute place.now; kind = parts.known_kind tree.now.files firsts.old.entries node.now })) }
     ensures firsts { OnOk result (firsts.new.entries ≡ parts.firsts_with firsts.old.entries entry node.now) }
 {
-    let path = absolute(alloc, place.names())?;
+    let path = absolute(place.allocator(), place.names())?;
     match node {
         Node::Dir(owner) => put_directory(out, &path, owner)?,
         Node::File(number) => put_name(out, firsts, tree, &path, entry, *number)?,
@@ -109,64 +109,27 @@ fn put_entry(
 }
 
 /// Appends the entries below the root.
-fn put_entries(alloc: Global, out: &mut Vec<u8>, tree: &Tree) -> Result<(), NoMemory>
+fn put_entries(out: &mut Vec<u8>, tree: &Tree) -> Result<(), NoMemory>
     ensures kept { IsKept tree.now }
     ensures out { OnOk result (out.new.items ≡ out.old.items ++ flat_map row_text (spec.rows_behind tree.now.files [] tree.now.names)) }
 {
-    let mut firsts = BTreeMap::new(alloc);
+    let mut firsts = BTreeMap::new(tree.home().allocator());
     let mut entries = tree.names().iter();
     entries.next();
     let mut entry = 1;
     for (place, node) in entries {
-        put_entry(alloc, out, &mut firsts, tree, entry, place, node)?;
+        put_entry(out, &mut firsts, tree, entry, place, node)?;
         entry += 1;
     }
     Ok(())
-}
-
-/// How many bytes the absolute text of a place takes, with its length.
-fn room_of_path(place: &Place) -> usize {
-    let mut room: usize = 5;
-    for name in place.names() {
-        room = room.saturating_add(name.as_slice().len()).saturating_add(1);
-    }
-    room
-}
-
-/// How many bytes what stands at a place takes, but for the bytes of a file.
-fn room_of_node(node: &Node) -> usize {
-    match node {
-        Node::Dir(_) => 13,
-        Node::File(_) => 17,
-        Node::Link(target) => target.as_slice().len().saturating_add(5),
-    }
-}
-
-/// How many bytes the files take.
-fn room_of_files(files: &BTreeMap<u32, Stored>) -> usize {
-    let mut room: usize = 0;
-    for stored in files.values() {
-        room = room.saturating_add(stored.content.bytes.as_slice().len());
-    }
-    room
-}
-
-/// Enough bytes for the tree file.
-fn room_of(tree: &Tree) -> usize {
-    let mut room = room_of_files(tree.files()).saturating_add(room_of_path(tree.home())).saturating_add(36);
-    for (place, node) in tree.names() {
-        room = room.saturating_add(room_of_path(place)).saturating_add(room_of_node(node));
-    }
-    room
 }
 
 /// The tree file of a tree. The room for it is taken at once, so that the bytes of files are copied once.
 pub(super) fn picture_of(tree: &Tree) -> Result<Vec<u8>, NoMemory>
     ensures { IfOk result (λ v. v.items ≡ spec.picture tree.now) }
 {
-    let alloc = tree.home().allocator();
-    let mut out = Vec::with_capacity(alloc, room_of(tree))?;
-    put_front(alloc, &mut out, tree)?;
-    put_entries(alloc, &mut out, tree)?;
+    let mut out = Vec::with_capacity(tree.home().allocator(), file_size(tree))?;
+    put_front(&mut out, tree)?;
+    put_entries(&mut out, tree)?;
     Ok(out)
 }

@@ -12,5 +12,5 @@ overflow_cast-head c = omega (arith, c.len.ensures.len, ap length c.names-2.ensu
 
 pub put_head-requires : goal.put_head-requires
 put_head-requires c =
-    let home = c.new.ensures ∙ c.in_ok-home.ensures ∙ ap absolute (c.names.ensures.names ∙ c.home.ensures) in
+    let home = c.new.ensures ∙ c.in_ok-home.ensures ∙ ap absolute (c.names.ensures.names ∙ c.home-2.ensures) in
     omega (arith, ap length home, home_short c.args.tree.now c.names-2.ensures.kept)

@@ -1,0 +1,52 @@
+//! How many bytes a tree file takes, at most, found before memory is asked for. A number that does not fit is the largest that
+//! does.
+use crate::contents::Stored;
+use crate::nodes::Node;
+use crate::trees::Tree;
+use sftp_path::Place;
+use std::collections::BTreeMap;
+
+/// The opening, the user, the group, the count, and the owner of the root.
+const HEAD: usize = 32;
+
+/// A kind's letter, and an owner.
+const OWNED: usize = 13;
+
+/// The length of a string.
+const LENGTH: usize = 4;
+
+/// The absolute text of a place, with its length.
+fn path_size(place: &Place) -> usize {
+    let mut size = LENGTH + 1;
+    for name in place.names() {
+        size = size.saturating_add(name.as_slice().len()).saturating_add(1);
+    }
+    size
+}
+
+/// The kind of an entry and what it says, but for the bytes of a file.
+fn node_size(node: &Node) -> usize {
+    match node {
+        Node::Dir(_) => OWNED,
+        Node::File(_) => OWNED + LENGTH,
+        Node::Link(target) => target.as_slice().len().saturating_add(1 + LENGTH),
+    }
+}
+
+/// The bytes of the files.
+fn bytes_size(files: &BTreeMap<u32, Stored>) -> usize {
+    let mut size: usize = 0;
+    for stored in files.values() {
+        size = size.saturating_add(stored.content.bytes.as_slice().len());
+    }
+    size
+}
+
+/// How many bytes the tree file takes, at most.
+pub(super) fn file_size(tree: &Tree) -> usize {
+    let mut size = bytes_size(tree.files()).saturating_add(HEAD).saturating_add(path_size(tree.home()));
+    for (place, node) in tree.names() {
+        size = size.saturating_add(path_size(place)).saturating_add(node_size(node));
+    }
+    size
+}
