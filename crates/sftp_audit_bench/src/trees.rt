@@ -1,8 +1,9 @@
 //! What is printed of tree files that are read and written.
+ghost use Rattle.std.specs.Prelude.{◌<◌, ◌^◌, length};
+
 use crate::errors::BenchError;
 use sftp_tree::Tree;
-use sftp_treefile::{Head, Owner, put_directory, put_file, put_head};
-use sftp_wire::ByteString;
+use sftp_treefile::{Owner, put_directory, put_file};
 use std::alloc::Global;
 use std::rt::Clock;
 use std::time::Instant;
@@ -24,41 +25,53 @@ const OWNER: Owner = Owner {
     permissions: 0o755,
 };
 
+/// The last three digits of a number.
+fn digits(number: u32) -> [u8; 3] {
+    [digit(number / 100), digit(number / 10), digit(number)]
+}
+
+/// The last digit of a number.
+fn digit(number: u32) -> u8 {
+    match number % 10 {
+        0 => b'0',
+        1 => b'1',
+        2 => b'2',
+        3 => b'3',
+        4 => b'4',
+        5 => b'5',
+        6 => b'6',
+        7 => b'7',
+        8 => b'8',
+        _ => b'9',
+    }
+}
+
 /// The tree file of so many directories in the root, each with so many files of so many bytes.
-fn tree_file(
-    alloc: Global,
-    groups: u32,
-    members: u32,
-    bytes: &[u8],
-) -> Result<Vec<u8>, BenchError> {
+fn tree_file(alloc: Global, groups: u32, members: u32, bytes: &[u8]) -> Result<Vec<u8>, BenchError>
+    requires { length bytes.now < 2 ^ 32 }
+{
     let mut out = Vec::new(alloc);
-    let head = Head {
-        home: ByteString::from_slice(alloc, b"/")?,
-        uid: 0,
-        gid: 0,
-        count: groups.saturating_mul(members.saturating_add(1)),
-        root: OWNER,
-    };
-    put_head(&mut out, &head)?;
+    out.extend_from_slice(b"SFTREE01\0\0\0\x01/\0\0\0\0\0\0\0\0")?;
+    let count = groups.saturating_mul(members.saturating_add(1));
+    out.extend_from_slice(&count.to_be_bytes())?;
+    out.extend_from_slice(b"\0\0\0\0\0\0\0\0\0\0\x01\xed")?;
     for group in 0..groups {
-        let directory = format!(in alloc; "/d{group:03}")?;
-        put_directory(&mut out, directory.as_bytes(), &OWNER)?;
-        put_members(alloc, &mut out, group, members, bytes)?;
+        let [c, b, a] = digits(group);
+        put_directory(&mut out, &[b'/', b'd', c, b, a], &OWNER)?;
+        put_members(&mut out, group, members, bytes)?;
     }
     Ok(out)
 }
 
 /// Appends the files of a directory.
-fn put_members(
-    alloc: Global,
-    out: &mut Vec<u8>,
-    group: u32,
-    members: u32,
-    bytes: &[u8],
-) -> Result<(), BenchError> {
+fn put_members(out: &mut Vec<u8>, group: u32, members: u32, bytes: &[u8]) -> Result<(), BenchError>
+    requires { length bytes.now < 2 ^ 32 }
+{
+    let [c, b, a] = digits(group);
     for member in 0..members {
-        let path = format!(in alloc; "/d{group:03}/f{member:03}")?;
-        put_file(out, path.as_bytes(), &OWNER, bytes)?;
+        let [f, e, d] = digits(member);
+        let path = [b'/', b'd', c, b, a, b'/', b'f', f, e, d];
+        put_file(out, &path, &OWNER, bytes)?;
     }
     Ok(())
 }
@@ -77,16 +90,17 @@ pub(crate) fn print_counts<R: AllocGlobal + Print>(rt: &R) -> Result<(), BenchEr
 pub(crate) fn print_figures<R: AllocGlobal + Clock + Print>(rt: &R) -> Result<(), BenchError> {
     let bytes = [7; FILE_BYTES];
     let file = tree_file(rt.alloc(), GROUPS, MEMBERS, &bytes)?;
+    let file = file.as_slice();
     let size = file.len() as u128;
-    let copied = least(rt, |alloc| Ok(Vec::from_slice(alloc, file.as_slice())?.len()))?;
-    let read = least(rt, |alloc| read_only(alloc, file.as_slice()))?;
-    let mut tree = Tree::read(rt.alloc(), file.as_slice())?;
-    let written = least(rt, |_| Ok(tree.write()?.len()))?;
+    let mut tree = Tree::read(rt.alloc(), file)?;
+    let copied = least_micros(rt, Work::Copy, file, &tree)?;
+    let read = least_micros(rt, Work::Read, file, &tree)?;
+    let written = least_micros(rt, Work::Write, file, &tree)?;
     println!(rt;
         "tree file of 65,536 entries and {size} bytes: copied {} MB/s, read {} MB/s, written {} MB/s",
-        size / copied,
-        size / read,
-        size / written
+        size / copied.max(1),
+        size / read.max(1),
+        size / written.max(1)
     )?;
     let start = Instant::now(rt)?;
     tree.rename(b"/d000", b"/e000")?;
@@ -95,22 +109,45 @@ pub(crate) fn print_figures<R: AllocGlobal + Clock + Print>(rt: &R) -> Result<()
     Ok(())
 }
 
-/// Reads a tree file, and drops the tree.
-fn read_only(alloc: Global, file: &[u8]) -> Result<usize, BenchError> {
-    let _tree = Tree::read(alloc, file)?;
-    Ok(file.len())
+/// What is done with a tree file of which times are taken.
+#[derive(Clone, Copy)]
+enum Work {
+    /// Its bytes are copied.
+    Copy,
+    /// It is read, and the tree dropped.
+    Read,
+    /// It is written again.
+    Write,
 }
 
-/// The least of the times in microseconds that something takes.
-fn least<R: AllocGlobal + Clock, F: FnMut(Global) -> Result<usize, BenchError>>(
+/// The least of the times in microseconds that some work takes.
+fn least_micros<R: AllocGlobal + Clock>(
     rt: &R,
-    mut work: F,
+    work: Work,
+    file: &[u8],
+    tree: &Tree,
 ) -> Result<u128, BenchError> {
     let mut least = u128::MAX;
     for _ in 0..ROUNDS {
         let start = Instant::now(rt)?;
-        work(rt.alloc())?;
+        do_work(rt.alloc(), work, file, tree)?;
         least = least.min(start.elapsed(rt)?.as_micros());
     }
-    Ok(least.max(1))
+    Ok(least)
+}
+
+/// Does it once.
+fn do_work(alloc: Global, work: Work, file: &[u8], tree: &Tree) -> Result<(), BenchError> {
+    match work {
+        Work::Copy => {
+            let _copy = Vec::from_slice(alloc, file)?;
+        }
+        Work::Read => {
+            let _tree = Tree::read(alloc, file)?;
+        }
+        Work::Write => {
+            let _file = tree.write()?;
+        }
+    }
+    Ok(())
 }
