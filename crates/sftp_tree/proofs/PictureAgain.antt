@@ -1,25 +1,25 @@
 -- Rows come back from their entries, and entries whose files are numbered in the order of their first names from their rows.
-use Rattle.std.proofs.Common.{◌≡◌, ℕ, suc, ◌+◌, ◌-◌, ◌<◌, ◌≤◌, ◌==◌, Bool, true, false, cond, if◌then◌else◌, List, [], ◌∷◌, ◌++◌, length, take, Option, Some, None, refl, sym, ap, subst, ◌∙◌, append_assoc, arith, ◌⊎◌, inl, inr}
-use Rattle.std.specs.Prelude.{IsTrue, is_some, ◌&&◌, nat_le}
+use Rattle.std.proofs.Common.{◌≡◌, ℕ, suc, ◌+◌, ◌-◌, ◌<◌, ◌≤◌, ◌==◌, List, [], ◌∷◌, ◌++◌, length, take, Option, Some, None, refl, sym, ap, subst, ◌∙◌, append_assoc, arith, ◌⊎◌, inl, inr}
+use Rattle.std.specs.Prelude.{IsTrue, is_some}
 use Rattle.std.specs.List.{AllByRecursion}
 use Rattle.std.proofs.lemmas.Bool.{eqb-true, leb-true, le-leb, eq-eqb, ne_eqb, cases_lt, cond-true, cond-false, and_parts, and_from}
-use Rattle.std.proofs.lemmas.List.{append-nil, length-append}
-use Rattle.sftp_path.specs.Place.{Place, absolute, components}
+use Rattle.std.proofs.lemmas.List.{append-nil}
+use Rattle.sftp_path.specs.Place.{Place}
 use Rattle.sftp_path.proofs.AbsoluteTexts.{components-absolute}
 use Rattle.sftp_treefile.specs.declared.files.Owner.{Owner}
 use Rattle.sftp_treefile.specs.declared.files.Kind.{Kind}
 use Rattle.sftp_treefile.specs.declared.files.Kind.TheVariants as kinds
 use Rattle.sftp_treefile.specs.declared.files.Row.{Row}
-use Rattle.sftp_treefile.specs.TreeFile.{place_of, IsKind, IsPlaceText, AreRows}
+use Rattle.sftp_treefile.specs.TreeFile.{IsKind, AreRows}
 use Rattle.sftp_tree.specs.declared.contents.Content.{Content}
 use Rattle.sftp_tree.specs.declared.nodes.Node.{Node}
 use Rattle.sftp_tree.specs.declared.nodes.Node.TheVariants.{Dir, File, Link}
 use Rattle.sftp_tree.specs.Tree.{Names, Files, IsNode, content_at}
-use Rattle.sftp_tree.specs.Picture.{entry_naming, naming, kind_of, rows_of, rows_behind, is_given_or_next, given_with, is_numbered}
+use Rattle.sftp_tree.specs.Picture.{entry_naming, naming, kind_of, rows_behind, is_given_or_next, given_with, is_numbered}
 use Rattle.sftp_tree.specs.PictureParts.{content_of, contents_of, node_of, entry_of, entries_behind, names_of}
-use Rattle.sftp_tree.proofs.PictureNumbers.{made_by, made_push, contents_split, FirstAt, first_at, made_front, front_taken, FirstOf, first_of_number, rows_split, rows_join, names_push, all_below, none_named, first_is_named}
+use Rattle.sftp_tree.proofs.PictureNumbers.{made_by, made_push, first_at, made_front, front_taken, first_of_number, rows_join, names_push, all_below, none_named, first_is_named}
 use Rattle.sftp_tree.proofs.PictureContents.{AreContents, contents_behind}
-use Rattle.sftp_tree.proofs.PictureNamed.{row_of, one_row, rows_cons, IsBelowRoot}
+use Rattle.sftp_tree.proofs.PictureNamed.{row_of, rows_cons, IsBelowRoot}
 
 -- ---- rows, from their entries
 
@@ -43,7 +43,7 @@ rows_again root files earlier (row ∷ rows) front fit there =
     let kind = kind_again root files earlier row.kind (contents_of rows) front fit.0.kind there in
     let same : row_of files (names_of root earlier) (entry_of earlier row) ≡ row = (λ i. record { path = sym fit.0.path.one i; kind = kind i }) in
     let behind : AreContents files (made_by more) (contents_of rows) =
-        subst (λ n. AreContents files n (contents_of rows)) (sym (made_push earlier row)) (contents_behind files (made_by earlier) (content_of row.kind) (contents_of rows) there) in
+    subst (λ n. AreContents files n (contents_of rows)) (sym (made_push earlier row)) (contents_behind files (made_by earlier) (content_of row.kind) (contents_of rows) there) in
     let rest = rows_again root files more rows (rows_join [] earlier (row ∷ []) front (fit.0, tt)) fit.1 behind in
     rows_cons files (names_of root earlier) (entry_of earlier row) (entries_behind more rows) fit.0.below_root
     ∙ (λ i. same i ∷ rows_behind files (sym (names_push root earlier row) i) (entries_behind more rows))

@@ -1,5 +1,5 @@
 -- Files that are numbered in a row.
-use Rattle.std.proofs.Common.{◌≡◌, ◌≢◌, ℕ, suc, ◌+◌, ◌<◌, ◌≤◌, ◌==◌, Bool, true, false, cond, List, [], ◌∷◌, ◌++◌, length, Option, Some, None, refl, sym, ap, subst, ◌∙◌, append_assoc, append-nil, arith, ◌⊎◌, inl, inr}
+use Rattle.std.proofs.Common.{◌≡◌, ◌≢◌, ℕ, suc, ◌+◌, ◌<◌, ◌≤◌, ◌==◌, List, [], ◌∷◌, ◌++◌, length, Some, None, refl, sym, ap, subst, ◌∙◌, append_assoc, arith, ◌⊎◌, inl, inr}
 use Rattle.std.specs.Prelude.{IsTrue, is_some}
 use Rattle.std.specs.List.{AllByRecursion}
 use Rattle.std.specs.List.Sorted.{IsStrictlySortedBy}
@@ -52,10 +52,11 @@ numbered_behind : (s : ℕ) (front contents : List Content) → AreContents (num
 numbered_behind s front [] = tt
 numbered_behind s front (content ∷ contents) =
     let more : s + length (front ++ content ∷ []) ≡ suc (s + length front) = omega (arith, length-append front (content ∷ [])) in
-    let rest = numbered_behind s (front ++ content ∷ []) contents in
-    (numbered_at (s + length front) s front content contents refl,
-     subst (λ n. AreContents (numbered_from s (front ++ content ∷ contents)) n contents) more
-     (subst (λ (cs : List Content). AreContents (numbered_from s cs) (s + length (front ++ content ∷ [])) contents) (append_assoc front (content ∷ []) contents) rest))
+    let rest = numbered_behind s (front ++ content ∷ []) contents in (
+      numbered_at (s + length front) s front content contents refl,
+      subst (λ n. AreContents (numbered_from s (front ++ content ∷ contents)) n contents) more
+          (subst (λ (cs : List Content). AreContents (numbered_from s cs) (s + length (front ++ content ∷ [])) contents) (append_assoc front (content ∷ []) contents) rest),
+    )
 
 pub numbered_contents : (contents : List Content) → AreContents (numbered_from 0 contents) 0 contents
 numbered_contents contents = numbered_behind 0 [] contents

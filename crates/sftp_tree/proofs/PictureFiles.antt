@@ -1,12 +1,12 @@
 -- What a tree's file says is a tree file, whose tree is that tree with its files numbered anew; and what a tree file says is what
 -- its tree's says.
-use Rattle.std.proofs.Common.{◌≡◌, ℕ, suc, ◌+◌, ◌-◌, ◌<◌, ◌≤◌, ◌^◌, ◌&&◌, cond, List, [], ◌∷◌, ◌++◌, length, map, Some, refl, sym, ap, subst, ◌∙◌, arith}
+use Rattle.std.proofs.Common.{◌≡◌, ℕ, ◌+◌, ◌-◌, ◌<◌, ◌≤◌, ◌^◌, ◌&&◌, cond, List, [], ◌∷◌, ◌++◌, length, Some, refl, sym, ap, subst, ◌∙◌, arith}
 use Rattle.std.specs.Prelude.{IsTrue, is_some}
 use Rattle.std.specs.List.{AllByRecursion, filter}
-use Rattle.std.proofs.lemmas.Bool.{leb-true, ltb-true, le-leb, lt-ltb, eqb-true, eq-eqb, and_parts, and_from}
+use Rattle.std.proofs.lemmas.Bool.{leb-true, ltb-true, le-leb, lt-ltb, and_parts, and_from}
 use Rattle.std.proofs.lemmas.List.{length-append}
 use Rattle.std.proofs.lemmas.List.Elements.{filter-append}
-use Rattle.sftp_path.specs.Place.{Place, are_names, absolute, components}
+use Rattle.sftp_path.specs.Place.{Place, are_names, components}
 use Rattle.sftp_path.specs.Table.{retain}
 use Rattle.sftp_path.specs.Text.{IsTextOf}
 use Rattle.sftp_path.proofs.AbsoluteTexts.{components-absolute}
@@ -15,7 +15,7 @@ use Rattle.sftp_treefile.specs.declared.files.Kind.{Kind}
 use Rattle.sftp_treefile.specs.declared.files.Kind.TheVariants as kinds
 use Rattle.sftp_treefile.specs.declared.files.Row.{Row}
 use Rattle.sftp_treefile.specs.declared.files.TreeFile.{TreeFile}
-use Rattle.sftp_treefile.specs.TreeFile.{place_of, is_first, IsPlaceText, IsOwner, IsKind, AreRows, IsTreeFile, spelled, IsSpelled}
+use Rattle.sftp_treefile.specs.TreeFile.{place_of, IsOwner, IsKind, AreRows, IsTreeFile, spelled, IsSpelled}
 use Rattle.sftp_treefile.proofs.FileTexts.{one_file}
 use Rattle.sftp_tree.specs.declared.contents.Content.{Content}
 use Rattle.sftp_tree.specs.declared.nodes.Node.{Node}
@@ -25,11 +25,11 @@ use Rattle.sftp_tree.specs.Picture.{rows_behind, root_owner, is_numbered, file_o
 use Rattle.sftp_tree.specs.PictureParts.{content_of, contents_of, node_of, entry_of, entries_behind, only_root, names_of, numbered_from, tree_of}
 use Rattle.sftp_tree.proofs.PictureLists.{all_both, all_weaker, all_pass, each_passes, all_together, all_right}
 use Rattle.sftp_tree.proofs.PictureTables.{IsPlace, IsFitNode, IsTable, bare_names, text_place, root_table, table_of_rows, rows_of_table, root_first, root_at, entries_below}
-use Rattle.sftp_tree.proofs.PictureShapes.{bared, table_bare, table_from_bare, names_bare}
-use Rattle.sftp_tree.proofs.PictureNumbers.{made_by, made_few, FirstAt, first_of_number, names_split, length-entries, IsBelow, AreBelow, all_below, first_names}
+use Rattle.sftp_tree.proofs.PictureShapes.{table_bare, table_from_bare, names_bare}
+use Rattle.sftp_tree.proofs.PictureNumbers.{made_by, made_few, first_of_number, names_split, length-entries, IsBelow, AreBelow, all_below, first_names}
 use Rattle.sftp_tree.proofs.PictureContents.{numbered_contents, numbered_there, each_number, each_content, numbered_order, numbered_again}
 use Rattle.sftp_tree.proofs.PictureNamed.{IsBelowRoot, IsFitContent, length-rows, place_text, entry_texts, rows_bare, kinds_fit}
-use Rattle.sftp_tree.proofs.PictureAgain.{Again, rows_again, rows_numbered, entries_again}
+use Rattle.sftp_tree.proofs.PictureAgain.{rows_again, rows_numbered, entries_again}
 
 -- ---- the limits, entry by entry
 
@@ -151,7 +151,7 @@ pub file_again : (file : TreeFile) → IsTreeFile file → file_of (tree_of file
 file_again file is =
     let root : root_owner (node_at (names_of file.root file.rows) []) ≡ file.root = ap root_owner (root_at file.root (entries_behind [] file.rows)) in
     let rows : rows_behind (numbered_from 0 (contents_of file.rows)) (only_root file.root) (entries_behind [] file.rows) ≡ file.rows =
-        rows_again file.root (numbered_from 0 (contents_of file.rows)) [] file.rows tt is.rows (numbered_contents (contents_of file.rows)) in
+    rows_again file.root (numbered_from 0 (contents_of file.rows)) [] file.rows tt is.rows (numbered_contents (contents_of file.rows)) in
     λ i. record { home = sym is.home.one i; uid = file.uid; gid = file.gid; root = root i; rows = rows i }
 
 -- ---- from a tree to its file
@@ -218,7 +218,7 @@ rows_of_split : (t : Tree) → IsKept t → (s : Split t) → AreRows [] (rows_b
 rows_of_split t kept s =
     let rows = rows_behind t.files (only_root s.root) s.entries in
     let table : IsTable s.root (bare_names s.root rows) =
-        subst (IsTable s.root) (ap (λ (es : Names). only_root s.root ++ es) (sym (rows_bare t.files (only_root s.root) s.entries s.below))) (table_bare s.root (only_root s.root ++ s.entries) s.table) in
+    subst (IsTable s.root) (ap (λ (es : Names). only_root s.root ++ es) (sym (rows_bare t.files (only_root s.root) s.entries s.below))) (table_bare s.root (only_root s.root ++ s.entries) s.table) in
     let fit = all_right (λ (e : Place × Node). IsFitNode e.1) (only_root s.root) s.entries s.table.nodes in
     rows_of_table s.root [] rows table (entry_texts t.files (only_root s.root) s.entries s.below)
     (kinds_fit t.files s.root [] s.entries fit s.nodes (fit_files t kept) tt s.below (omega (arith, s.few)))
@@ -244,11 +244,11 @@ tree_again t kept numbered =
     let rows : rows_behind t.files [] t.names ≡ rows_behind t.files (only_root s.root) s.entries = ap (rows_behind t.files []) s.names_are in
     let a = entries_again s.root t.files [] (only_root s.root) s.entries t.made refl tt fit s.below s.nodes (subst (λ (names : Names). IsTrue (is_numbered 0 names t.made)) s.names_are numbered) in
     let names : names_of (root_owner (node_at t.names [])) (rows_behind t.files [] t.names) ≡ t.names =
-        (λ i. names_of (root_of_split t s i) (rows i)) ∙ ap (λ (es : Names). only_root s.root ++ es) a.entries_are ∙ sym s.names_are in
+    (λ i. names_of (root_of_split t s i) (rows i)) ∙ ap (λ (es : Names). only_root s.root ++ es) a.entries_are ∙ sym s.names_are in
     let made : made_by (rows_behind t.files [] t.names) ≡ t.made = ap made_by rows ∙ a.made_is in
     let files : numbered_from 0 (contents_of (rows_behind t.files [] t.names)) ≡ t.files =
-        ap (λ (rs : List Row). numbered_from 0 (contents_of rs)) rows
-        ∙ numbered_again t.files (contents_of (rows_behind t.files (only_root s.root) s.entries)) kept.well_formed.numbered (subst (λ n. AllByRecursion (λ e. e.0 < n) t.files) (sym a.made_is) kept.well_formed.given) a.contents in
+    ap (λ (rs : List Row). numbered_from 0 (contents_of rs)) rows
+    ∙ numbered_again t.files (contents_of (rows_behind t.files (only_root s.root) s.entries)) kept.well_formed.numbered (subst (λ n. AllByRecursion (λ e. e.0 < n) t.files) (sym a.made_is) kept.well_formed.given) a.contents in
     λ i. record { names = names i; files = files i; made = made i; home = components-absolute t.home kept.well_formed.home i; uid = t.uid; gid = t.gid }
 
 -- the place that a text was found to be of

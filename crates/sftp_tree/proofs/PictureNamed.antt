@@ -1,31 +1,28 @@
 -- What the tree file of a tree says of its entries, one by one.
-use Rattle.std.proofs.Common.{◌≡◌, ◌≢◌, ℕ, zero, suc, ◌+◌, ◌-◌, ◌<◌, ◌≤◌, ◌==◌, Bool, true, false, cond, if◌then◌else◌, List, [], ◌∷◌, ◌++◌, length, take, map, Option, Some, None, refl, sym, ap, subst, ◌∙◌, append_assoc, arith, ◌⊎◌, inl, inr}
+use Rattle.std.proofs.Common.{◌≡◌, ℕ, zero, suc, ◌+◌, ◌-◌, ◌<◌, ◌≤◌, Bool, true, false, cond, if◌then◌else◌, List, [], ◌∷◌, ◌++◌, length, map, Option, Some, None, refl, sym, ap, subst, ◌∙◌, append_assoc, arith}
 use Rattle.std.specs.Prelude.{IsTrue, is_some}
 use Rattle.std.specs.List.{slice_get, AllByRecursion}
 use Rattle.std.specs.Option.{option_map}
 use Rattle.std.specs.Ordering.{nat_cmp, is_eq}
-use Rattle.std.proofs.lemmas.Bool.{eqb-true, leb-true, le-leb, le-ltb, eq-eqb, ne_eqb, cases_lt, cond-true, cond-false, and_parts, and_from}
+use Rattle.std.proofs.lemmas.Bool.{eqb-true, leb-true}
 use Rattle.std.proofs.lemmas.List.{append-nil, length-append}
 use Rattle.sftp_path.specs.Place.{Place, are_names, absolute, components}
 use Rattle.sftp_path.proofs.AbsoluteTexts.{components-absolute}
 use Rattle.sftp_path.proofs.TableLaws.{get-empty, get-cons}
 use Rattle.sftp_treefile.specs.declared.files.Owner.{Owner}
-use Rattle.sftp_treefile.specs.declared.files.Kind.{Kind}
 use Rattle.sftp_treefile.specs.declared.files.Kind.TheVariants as kinds
 use Rattle.sftp_treefile.specs.declared.files.Row.{Row}
 use Rattle.sftp_treefile.specs.Limits.{usual_limits}
-use Rattle.sftp_treefile.specs.TreeFile.{place_of, is_first, is_first_row, entry_at, are_bytes, IsOwner, IsKind, IsPlaceText, AreRows}
+use Rattle.sftp_treefile.specs.TreeFile.{is_first, is_first_row, are_bytes, IsOwner, IsKind, IsPlaceText}
 use Rattle.sftp_tree.specs.declared.contents.Content.{Content}
 use Rattle.sftp_tree.specs.declared.nodes.Node.{Node}
 use Rattle.sftp_tree.specs.declared.nodes.Node.TheVariants.{Dir, File, Link}
 use Rattle.sftp_tree.specs.Tree.{Names, Files, IsNode, content_at, names_file}
-use Rattle.sftp_tree.specs.Picture.{entry_naming, naming, kind_of, rows_of, rows_behind, is_given_or_next, given_with, is_numbered}
-use Rattle.sftp_tree.specs.PictureParts.{content_of, contents_of, node_of, entry_of, entries_behind, only_root, names_of}
+use Rattle.sftp_tree.specs.Picture.{entry_naming, naming, kind_of, rows_of, rows_behind}
+use Rattle.sftp_tree.specs.PictureParts.{only_root}
 use Rattle.sftp_tree.proofs.PictureLists.{all_both}
 use Rattle.sftp_tree.proofs.PictureTables.{IsPlace, IsFitNode, AreKinds, bare_kind, bare_entry}
 use Rattle.sftp_tree.proofs.PictureShapes.{bare, bared}
-use Rattle.sftp_tree.proofs.PictureNumbers.{made_by, made_push, contents_split, FirstAt, first_at, front_taken, first_of_number, rows_split, rows_join, names_push, all_below, none_named, first_is_named}
-use Rattle.sftp_tree.proofs.PictureContents.{AreContents, contents_behind}
 
 -- ---- the row of an entry below the root
 
@@ -175,7 +172,7 @@ pub kinds_fit : (files : Files) (root : Owner) (fs es : Names) → AllByRecursio
 kinds_fit files root fs [] fits there fit front below few = tt
 kinds_fit files root fs (e ∷ es) fits there fit front below few =
     let more : rows_below files root (fs ++ e ∷ []) ≡ rows_below files root fs ++ row_of files (only_root root ++ fs) e ∷ [] =
-        rows_push files (only_root root) fs e ∙ ap (λ (rs : List Row). rows_below files root fs ++ rs) (one_row files (only_root root ++ fs) e below.0.1) in
+    rows_push files (only_root root) fs e ∙ ap (λ (rs : List Row). rows_below files root fs ++ rs) (one_row files (only_root root ++ fs) e below.0.1) in
     let rest = kinds_fit files root (fs ++ e ∷ []) es fits.1 there.1 fit (all_both IsBelowRoot fs (e ∷ []) front (below.0, tt)) below.1 (omega (arith, length-append fs (e ∷ []))) in
     subst (AreKinds (rows_below files root fs)) (sym (rows_cons files (only_root root ++ fs) e es below.0.1))
     (kind_fits files root fs e.1 fits.0 there.0 fit front (omega arith), subst (λ (rs : List Row). AreKinds rs (rows_behind files (only_root root ++ (fs ++ e ∷ [])) es)) more rest)

@@ -1,7 +1,7 @@
 -- How rows number the files that they come with, and which entry is the first name of each.
-use Rattle.std.proofs.Common.{◌≡◌, ℕ, zero, suc, ◌+◌, ◌-◌, ◌<◌, ◌≤◌, ◌==◌, Bool, true, false, if◌then◌else◌, List, [], ◌∷◌, ◌++◌, length, take, Option, Some, None, refl, sym, ap, subst, ◌∙◌, append_assoc, arith}
+use Rattle.std.proofs.Common.{◌≡◌, ℕ, zero, suc, ◌+◌, ◌-◌, ◌<◌, ◌≤◌, Bool, true, false, if◌then◌else◌, List, [], ◌∷◌, ◌++◌, length, take, Option, Some, None, refl, sym, ap, subst, ◌∙◌, append_assoc, arith}
 use Rattle.std.specs.Prelude.{IsTrue}
-use Rattle.std.specs.List.{flat_map, slice_get, AllByRecursion}
+use Rattle.std.specs.List.{AllByRecursion}
 use Rattle.std.specs.Option.{option_map}
 use Rattle.std.proofs.lemmas.Bool.{eq-eqb, ne_eqb}
 use Rattle.std.proofs.lemmas.Grind.{flat_map-append}
@@ -12,12 +12,12 @@ use Rattle.sftp_treefile.specs.declared.files.Owner.{Owner}
 use Rattle.sftp_treefile.specs.declared.files.Kind.{Kind}
 use Rattle.sftp_treefile.specs.declared.files.Kind.TheVariants as kinds
 use Rattle.sftp_treefile.specs.declared.files.Row.{Row}
-use Rattle.sftp_treefile.specs.TreeFile.{is_first, is_first_row, entry_at, IsKind, IsNext, AreRows}
+use Rattle.sftp_treefile.specs.TreeFile.{is_first, is_first_row, entry_at, IsKind, AreRows}
 use Rattle.sftp_tree.specs.declared.nodes.Node.{Node}
 use Rattle.sftp_tree.specs.declared.nodes.Node.TheVariants.{Dir, File, Link}
 use Rattle.sftp_tree.specs.Tree.{Names, names_file}
 use Rattle.sftp_tree.specs.Picture.{entry_naming}
-use Rattle.sftp_tree.specs.PictureParts.{content_of, contents_of, node_of, entry_of, entries_behind, only_root, names_of}
+use Rattle.sftp_tree.specs.PictureParts.{content_of, contents_of, node_of, entry_of, entries_behind, names_of}
 use Rattle.sftp_tree.proofs.PictureLists.{all_both, all_weaker}
 
 -- ---- how many files rows come with
@@ -71,15 +71,6 @@ first_at (row ∷ rows) (suc zero) h = record { front = []; row = row; rest = ro
 first_at (row ∷ rows) (suc (suc n)) h =
     let f = first_at rows (suc n) h in
     record { front = row ∷ f.front; row = f.row; rest = f.rest; rows_are = ap (λ (rs : List Row). row ∷ rs) f.rows_are; first = f.first; entry_is = ap suc f.entry_is }
-
-at_seam : (front : List Row) (row : Row) (rest : List Row) → slice_get (front ++ row ∷ rest) (length front) ≡ Some row
-at_seam [] row rest = refl
-at_seam (r ∷ front) row rest = at_seam front row rest
-
-pub at_first : (rows : List Row) (entry : ℕ) → FirstAt rows entry → IsTrue (is_first_row (entry_at rows entry))
-at_first rows entry f =
-    let found : entry_at rows entry ≡ Some f.row = (λ i. entry_at (f.rows_are i) (f.entry_is i)) ∙ at_seam f.front f.row f.rest in
-    rw found f.first
 
 pub front_taken : (rows : List Row) (entry : ℕ) (f : FirstAt rows entry) → take (entry - 1) rows ≡ f.front
 front_taken rows entry f =
@@ -174,9 +165,9 @@ below_push root earlier row below fits =
     let le : made_by earlier ≤ made_by earlier + length (content_of row.kind) = omega arith in
     let made = made_by earlier + length (content_of row.kind) in
     let all : AreBelow made (names_of root earlier ++ entry_of earlier row ∷ []) =
-        all_both (λ (e : Place × Node). IsBelow made e.1) (names_of root earlier) (entry_of earlier row ∷ [])
-        (all_weaker (λ (e : Place × Node). IsBelow (made_by earlier) e.1) (λ (e : Place × Node). IsBelow made e.1) (names_of root earlier) (λ e b. below_more (made_by earlier) made le e.1 b) below)
-        (entry_below earlier row.kind fits, tt) in
+    all_both (λ (e : Place × Node). IsBelow made e.1) (names_of root earlier) (entry_of earlier row ∷ [])
+    (all_weaker (λ (e : Place × Node). IsBelow (made_by earlier) e.1) (λ (e : Place × Node). IsBelow made e.1) (names_of root earlier) (λ e b. below_more (made_by earlier) made le e.1 b) below)
+    (entry_below earlier row.kind fits, tt) in
     subst (λ (n : ℕ). AreBelow n (names_of root (earlier ++ row ∷ []))) (sym (made_push earlier row)) (subst (AreBelow made) (sym (names_push root earlier row)) all)
 
 below_behind : (root : Owner) (earlier rows : List Row) → AreBelow (made_by earlier) (names_of root earlier) → AreRows earlier rows → AreBelow (made_by (earlier ++ rows)) (names_of root (earlier ++ rows))

@@ -1,9 +1,7 @@
 -- What the table of a tree keeps does not hang on the numbers of its files.
-use Rattle.std.proofs.Common.{◌≡◌, ◌<◌, ◌++◌, List, [], ◌∷◌, map, Option, Some, None, refl, sym, ap, subst, ◌∙◌}
-use Rattle.std.specs.Prelude.{IsTrue}
+use Rattle.std.proofs.Common.{◌≡◌, ◌++◌, List, [], ◌∷◌, map, Option, Some, None, refl, sym, ap, subst, ◌∙◌}
 use Rattle.std.specs.List.{AllByRecursion}
 use Rattle.std.specs.List.Sorted.{IsStrictlySortedBy}
-use Rattle.std.specs.Map.{keys_of}
 use Rattle.std.specs.Option.{option_map}
 use Rattle.std.proofs.lemmas.Map.Made.{keys_of-map_values}
 use Rattle.sftp_path.specs.Place.{Place, place_cmp, parent}
@@ -15,10 +13,8 @@ use Rattle.sftp_treefile.specs.declared.files.Kind.TheVariants as kinds
 use Rattle.sftp_treefile.specs.declared.files.Row.{Row}
 use Rattle.sftp_tree.specs.declared.nodes.Node.{Node}
 use Rattle.sftp_tree.specs.declared.nodes.Node.TheVariants.{Dir, File, Link}
-use Rattle.sftp_tree.specs.Tree.{Names, Files, node_at, is_directory, is_taken}
-use Rattle.sftp_tree.specs.Picture.{kind_of, naming, rows_of, rows_behind}
+use Rattle.sftp_tree.specs.Tree.{Names, node_at, is_directory, is_taken}
 use Rattle.sftp_tree.specs.PictureParts.{node_of, entry_of, entries_behind, only_root, names_of}
-use Rattle.sftp_tree.proofs.PictureLists.{all_from_map, all_to_map}
 use Rattle.sftp_tree.proofs.PictureTables.{IsPlace, IsFitNode, IsTable, bare_kind, bare_entry, bare_names}
 
 -- ---- without numbers

@@ -1,5 +1,5 @@
 -- The files of the rows so far, as the code keeps them: each with the count of its names.
-use Rattle.std.proofs.Common.{◌≡◌, ◌≢◌, ℕ, zero, suc, ◌+◌, ◌-◌, ◌<◌, ◌≤◌, ◌==◌, Bool, true, false, cond, if◌then◌else◌, List, [], ◌∷◌, ◌++◌, length, take, Option, Some, None, refl, sym, ap, subst, ◌∙◌, append_assoc, arith, ◌⊎◌, inl, inr}
+use Rattle.std.proofs.Common.{◌≡◌, ◌≢◌, ℕ, zero, suc, ◌+◌, ◌-◌, ◌<◌, ◌≤◌, ◌==◌, Bool, true, false, cond, if◌then◌else◌, List, [], ◌∷◌, ◌++◌, length, take, Option, Some, None, refl, sym, ap, subst, ◌∙◌, arith}
 use Rattle.std.specs.Prelude.{IsTrue, is_some, not, slice_index}
 use Rattle.std.specs.BTreeMap.{insert_entry, is_at}
 use Rattle.std.specs.List.{filter, AllByRecursion}
@@ -9,7 +9,7 @@ use Rattle.std.specs.Option.{option_map}
 use Rattle.std.specs.Ordering.{nat_cmp, is_eq}
 use Rattle.std.specs.declared.cmp.Ordering.TheVariants.{Less}
 use Rattle.std.specs.Cmp.{nat_cmp_total, nat_cmp_is}
-use Rattle.std.proofs.lemmas.Bool.{eqb-true, eqb-false, eq-eqb, ne_eqb}
+use Rattle.std.proofs.lemmas.Bool.{eqb-true, eq-eqb, ne_eqb}
 use Rattle.std.proofs.lemmas.Cmp.{ranked}
 use Rattle.std.proofs.lemmas.List.{length-append, append-nil, length-map}
 use Rattle.std.proofs.lemmas.List.Elements.{filter-append}
@@ -17,7 +17,7 @@ use Rattle.std.proofs.lemmas.List.Filters.{length-filter_both}
 use Rattle.std.proofs.lemmas.Map.Made.{keys_of-map_values}
 use Rattle.std.proofs.lemmas.Map.Keys.{sorted_head, sorted_tail}
 use Rattle.sftp_path.specs.Place.{Place, place_cmp}
-use Rattle.sftp_path.specs.Table.{InOrder, get, put, retain, with_values}
+use Rattle.sftp_path.specs.Table.{InOrder, get, put, retain}
 use Rattle.sftp_path.proofs.Order.{place_cmp-total}
 use Rattle.sftp_path.proofs.ValueLaws.{get-with_values, with_values-put}
 use Rattle.sftp_treefile.specs.declared.files.Owner.{Owner}
@@ -30,13 +30,13 @@ use Rattle.sftp_tree.specs.declared.contents.Content.{Content}
 use Rattle.sftp_tree.specs.declared.contents.Stored.{Stored}
 use Rattle.sftp_tree.specs.declared.nodes.Node.{Node}
 use Rattle.sftp_tree.specs.declared.nodes.Node.TheVariants.{Dir, File, Link}
-use Rattle.sftp_tree.specs.Tree.{Tree, Names, Files, content_at, names_file, times_named}
+use Rattle.sftp_tree.specs.Tree.{Names, Files, content_at, names_file, times_named}
 use Rattle.sftp_tree.specs.Stored.{contents, AreCounted}
-use Rattle.sftp_tree.specs.PictureParts.{content_of, contents_of, node_of, entry_of, only_root, names_of, numbered_from, numbers_from, known_number, known_node, IsKnown, Stores, HaveRoom, with_name, stores_with, IsGrown, tree_of}
-use Rattle.sftp_tree.proofs.PictureLists.{all_both, all_weaker, all_from_map, insert_last}
+use Rattle.sftp_tree.specs.PictureParts.{content_of, contents_of, node_of, names_of, numbered_from, numbers_from, known_number, known_node, IsKnown, Stores, HaveRoom, with_name, stores_with, IsGrown, tree_of}
+use Rattle.sftp_tree.proofs.PictureLists.{all_both, all_from_map, insert_last}
 use Rattle.sftp_tree.proofs.PictureTables.{later_than_all, bare_names}
-use Rattle.sftp_tree.proofs.PictureShapes.{bare, bared, names_bare}
-use Rattle.sftp_tree.proofs.PictureNumbers.{made_by, made_few, made_push, contents_split, FirstAt, first_at, made_front, front_taken, names_push, length-entries, IsBelow, AreBelow, all_below}
+use Rattle.sftp_tree.proofs.PictureShapes.{bare, names_bare}
+use Rattle.sftp_tree.proofs.PictureNumbers.{made_by, made_few, contents_split, FirstAt, first_at, made_front, front_taken, names_push, length-entries, IsBelow, AreBelow, all_below}
 use Rattle.sftp_tree.proofs.PictureContents.{number_is, numbered_there, each_number, numbered_order}
 
 -- ---- room for a name more
@@ -220,9 +220,10 @@ again_counted names place number (e ∷ stores) s new more ordered is counted =
         → AreCounted (names ++ (place, File number) ∷ []) (cond b ((e.0, new) ∷ stores) (e ∷ set_value (is_at (nat_cmp number)) stores new))
     by true at is rest =
         let found : e.1 ≡ s = cc in
-        let same : number ≡ e.0 = eqb-true number e.0 (sym at) in
-        (omega (arith, more, ap (λ (x : Stored). x.names) found, counted.0, times_more names (place, File number) e.0 (sym at)),
-         counted_same names (place, File number) stores (all_other number e.0 stores same (sorted_head nat_cmp e.0 (keys_of stores) ordered)) counted.1)
+        let same : number ≡ e.0 = eqb-true number e.0 (sym at) in (
+          omega (arith, more, ap (λ (x : Stored). x.names) found, counted.0, times_more names (place, File number) e.0 (sym at)),
+          counted_same names (place, File number) stores (all_other number e.0 stores same (sorted_head nat_cmp e.0 (keys_of stores) ordered)) counted.1,
+        )
     by false at is rest =
         (counted.0 ∙ sym (times_same names (place, File number) e.0 (sym at)), rest is counted.1)
 
@@ -246,9 +247,10 @@ pushed_further root rows place number stores None same counted below found-is =
     let none : false ≡ true = sym (ap is_some (ap (λ (fs : Files). content_at fs number) (sym same) ∙ get-with_values nat_cmp (λ (s : Stored). s.content) stores number ∙ ap (option_map (λ (s : Stored). s.content)) found-is)) ∙ there in
     absurd cc
 pushed_further root rows place number stores (Some s) same counted below found-is =
-    let new : Stored = record s { names = s.names + 1 } in
-    (again_contents number stores s new refl found-is ∙ same,
-     again_counted (names_of root rows) place number stores s new refl (stores_order stores (contents_of rows) same) found-is counted)
+    let new : Stored = record s { names = s.names + 1 } in (
+      again_contents number stores s new refl found-is ∙ same,
+      again_counted (names_of root rows) place number stores s new refl (stores_order stores (contents_of rows) same) found-is counted,
+    )
 
 pushed : (root : Owner) (rows : List Row) (place : Place) (kind : Kind) (stores : Stores) → AreRows [] rows → IsKind rows kind → contents stores ≡ numbered_from 0 (contents_of rows) → AreCounted (names_of root rows) stores
     → Pushed root rows place kind (stores_with stores (numbers_from 0 rows) (made_by rows) kind)

@@ -1,17 +1,16 @@
 -- A tree file is written entry by entry.
-use Rattle.std.proofs.Common.{◌≡◌, ℕ, zero, suc, ◌+◌, ◌-◌, ◌<◌, ◌≤◌, ◌^◌, ◌==◌, Bool, true, false, cond, if◌then◌else◌, List, [], ◌∷◌, ◌++◌, length, take, drop, Option, Some, None, refl, sym, ap, subst, ◌∙◌, append_assoc, arith}
-use Rattle.std.specs.Prelude.{IsTrue, IfSome, ◌*◌, ◌&&◌, not, nat_lt, nat_le}
-use Rattle.std.specs.List.{flat_map, list_all, AllByRecursion}
+use Rattle.std.proofs.Common.{◌≡◌, ℕ, zero, suc, ◌+◌, ◌-◌, ◌<◌, ◌≤◌, ◌^◌, ◌==◌, Bool, true, false, cond, if◌then◌else◌, List, [], ◌∷◌, ◌++◌, length, take, drop, Option, Some, None, refl, sym, ap, subst, ◌∙◌, arith}
+use Rattle.std.specs.Prelude.{IfSome}
+use Rattle.std.specs.List.{flat_map, AllByRecursion}
 use Rattle.std.specs.Map.Iter.{TakesFirst}
 use Rattle.std.specs.Option.{option_map}
 use Rattle.std.specs.Ordering.{nat_cmp, is_eq}
 use Rattle.std.specs.Cmp.{nat_cmp_total}
-use Rattle.std.proofs.lemmas.Bool.{leb-true, eqb-true, eq-eqb, ne_eqb, and_parts}
-use Rattle.std.proofs.lemmas.List.{append-nil, length-append, length-take-le, take-append-drop, flat_map_more}
-use Rattle.sftp_path.specs.Place.{Name, Place, is_name, are_names, absolute, is_name_byte, is_dot, is_dot_dot, is_good_path, components}
+use Rattle.std.proofs.lemmas.Bool.{eqb-true, eq-eqb}
+use Rattle.std.proofs.lemmas.List.{append-nil, length-take-le, take-append-drop, flat_map_more}
+use Rattle.sftp_path.specs.Place.{Place, absolute}
 use Rattle.sftp_path.specs.Table.{get, put}
 use Rattle.sftp_path.proofs.TableLaws.{get-empty, get-put}
-use Rattle.sftp_treefile.specs.declared.files.Owner.{Owner}
 use Rattle.sftp_treefile.specs.declared.files.Row.{Row}
 use Rattle.sftp_treefile.specs.TreeFile.{row_text}
 use Rattle.sftp_treefile.specs.TreeFileParts.{head_bytes}
@@ -26,7 +25,7 @@ use Rattle.sftp_tree.specs.PictureParts.{only_root, head_of, Firsts, with_first,
 use Rattle.sftp_tree.proofs.PictureTables.{IsPlace, IsFitNode}
 use Rattle.sftp_tree.proofs.PictureContents.{number_is}
 use Rattle.sftp_tree.proofs.PictureNamed.{place_text, row_of, one_row, rows_push, IsBelowRoot, IsFitContent, all_at, length-rows}
-use Rattle.sftp_tree.proofs.PictureFiles.{Limits, limits_from, Split, split_kept, fit_files}
+use Rattle.sftp_tree.proofs.PictureFiles.{limits_from, split_kept, fit_files}
 
 -- ---- lengths
 
@@ -164,7 +163,7 @@ written_push t kept start out more firsts new i e rest there w put met =
     let count : length front ≡ suc i = length-take-le (suc i) t.names (omega (arith, n.within)) in
     let row : record { path = absolute e.0; kind = known_kind t.files firsts e.1 } ≡ row_of t.files front e = (λ j. record { path = absolute e.0; kind = known t.files firsts front e.1 w.firsts_are j }) in
     let rows : rows_behind t.files [] (front ++ e ∷ []) ≡ rows_behind t.files [] front ++ row_of t.files front e ∷ [] =
-        rows_push t.files [] front e ∙ ap (λ (rs : List Row). rows_behind t.files [] front ++ rs) (one_row t.files front e n.below.1) in
+    rows_push t.files [] front e ∙ ap (λ (rs : List Row). rows_behind t.files [] front ++ rs) (one_row t.files front e n.below.1) in
     record {
       out_is = put ∙ (λ j. w.out_is j ++ row_text (row j)) ∙ flat_map_more row_text start (rows_behind t.files [] front) (row_of t.files front e)
           ∙ ap (λ (rs : List Row). start ++ flat_map row_text rs) (sym rows)
@@ -203,7 +202,7 @@ unfolding picture
 picture_written t kept =
     let s = split_kept t kept in
     let count : length (rows_behind t.files [] t.names) ≡ length t.names - 1 =
-        omega (arith, ap length (ap (rows_behind t.files []) s.names_are), length-rows t.files (only_root s.root) s.entries s.below, ap length s.names_are) in
+    omega (arith, ap length (ap (rows_behind t.files []) s.names_are), length-rows t.files (only_root s.root) s.entries s.below, ap length s.names_are) in
     spelled_head (file_of t)
     ∙ ap (λ n. head_bytes (record { home = absolute t.home; uid = t.uid; gid = t.gid; count = n; root = root_owner (node_at t.names []) }) ++ flat_map row_text (rows_behind t.files [] t.names)) count
 
@@ -217,9 +216,10 @@ pub written_next : (t : Tree) → IsKept t → (start out more : List ℕ) (firs
     → more ≡ out ++ row_text (record { path = absolute e.0; kind = known_kind t.files firsts e.1 }) → new ≡ firsts_with firsts entry e.1 → (drop (entry + 1) t.names ≡ rest) × Written t start more new (entry + 1)
 written_next t kept start out more firsts new zero e rest above is w put met = absurd (omega arith)
 written_next t kept start out more firsts new (suc i) e rest above is w put met =
-    let same : suc (suc i) ≡ suc i + 1 = omega arith in
-    (ap (λ n. drop n t.names) (sym same) ∙ drop_push (suc i) t.names e rest is,
-     subst (Written t start more new) same (written_push t kept start out more firsts new i e rest is w put met))
+    let same : suc (suc i) ≡ suc i + 1 = omega arith in (
+      ap (λ n. drop n t.names) (sym same) ∙ drop_push (suc i) t.names e rest is,
+      subst (Written t start more new) same (written_push t kept start out more firsts new i e rest is w put met),
+    )
 
 -- the first entry is passed over
 pub passed_over : {A : Type 0} (shows : A → Place × Node) (s : Names) (r : Option A) (t : Names) → TakesFirst shows s r t → drop 1 s ≡ t

@@ -44,9 +44,13 @@ fn bytes_size(files: &BTreeMap<u32, Stored>) -> usize {
 
 /// How many bytes the tree file takes, at most.
 pub(super) fn file_size(tree: &Tree) -> usize {
-    let mut size = bytes_size(tree.files()).saturating_add(HEAD).saturating_add(path_size(tree.home()));
+    let mut size = bytes_size(tree.files())
+        .saturating_add(HEAD)
+        .saturating_add(path_size(tree.home()));
     for (place, node) in tree.names() {
-        size = size.saturating_add(path_size(place)).saturating_add(node_size(node));
+        size = size
+            .saturating_add(path_size(place))
+            .saturating_add(node_size(node));
     }
     size
 }

@@ -39,7 +39,12 @@ fn count_name(files: &mut BTreeMap<u32, Stored>, number: u32)
 /// What an entry is, as what stands at a place. A file that comes with it is put among the others, and a further name is counted:
 /// `numbers` has for each entry before it the number that its file has, if it comes with one.
 #[tactic(auto, unfolding(sftp_path::specs::Table::put))]
-fn node_of(files: &mut BTreeMap<u32, Stored>, numbers: &[u32], next: u32, kind: Kind) -> Result<Node, NoMemory>
+fn node_of(
+    files: &mut BTreeMap<u32, Stored>,
+    numbers: &[u32],
+    next: u32,
+    kind: Kind,
+) -> Result<Node, NoMemory>
     requires known { parts.IsKnown numbers.now kind }
     requires room { parts.HaveRoom files.old.entries }
     ensures node { IfOk result (λ node. node ≡ parts.known_node numbers.now next kind) }

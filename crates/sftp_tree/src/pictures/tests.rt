@@ -16,7 +16,8 @@ const INNER: &[u8] = b"\0\0\0\x04/d/eD\0\0\0\0\0\0\0\0\0\0\x01\xed";
 const LINK: &[u8] = b"\0\0\0\x02/lL\0\0\0\x03d/e";
 
 /// The blank tree with the file `/f` of the bytes `abc`, whose second name is `/g`.
-const TWO_NAMES: &[u8] = b"SFTREE01\0\0\0\x01/\0\0\0\0\0\0\0\0\0\0\0\x02\0\0\0\0\0\0\0\0\0\0\x01\xed\
+const TWO_NAMES: &[u8] =
+    b"SFTREE01\0\0\0\x01/\0\0\0\0\0\0\0\0\0\0\0\x02\0\0\0\0\0\0\0\0\0\0\x01\xed\
 \0\0\0\x02/fF\0\0\0\0\0\0\0\0\0\0\x01\xa4\0\0\0\x03abc\0\0\0\x02/gH\0\0\0\x01";
 
 /// The file `/a` of the byte `x`.

@@ -1,9 +1,9 @@
 -- Each row's entry stands behind all others.
-use Rattle.std.proofs.Common.{◌≡◌, ◌≤◌, [], ◌∷◌, ◌++◌, length, ap, sym, subst, ◌∙◌, append_assoc, append-nil, arith, refl}
+use Rattle.std.proofs.Common.{◌≡◌, [], ◌∷◌, length, ap, sym, subst, ◌∙◌, append_assoc, append-nil, arith, refl}
 use Rattle.std.specs.Vec.Iter.{into_iter_items}
 use Rattle.std.proofs.lemmas.List.{nil_from_length, length-append}
 use Rattle.sftp_treefile.specs.TreeFile.{place_of, IsPlaceText, AreRows}
-use Rattle.sftp_tree.specs.PictureParts.{numbers_from, IsKnown, IsGrown}
+use Rattle.sftp_tree.specs.PictureParts.{IsKnown, IsGrown}
 use Rattle.sftp_tree.proofs.PictureNumbers.{rows_join}
 use Rattle.sftp_tree.proofs.PictureStores.{kind_known, numbers_grow, grown_push, grown_room, grown_root, many_files, next_fits}
 use Rattle.sftp_tree.proofs.pictures.reading.grow.Goals as goal

@@ -36,7 +36,7 @@ loop-place-preserved c =
     let at = c.loop-place in
     let rest = at.invariant.rest ∙ rest_more deref_pair _ _ _ (c.in-Some.place, c.in-Some.node) c.in-Some.is c.next-in-loop-place.ensures.steps in
     let n = written_next c.args.tree.now c.names.ensures.kept c.args.out.now.items at.out.items c.put_entry.new.out.items at.firsts.entries c.put_entry.new.firsts.entries at.entry (deref_pair (c.in-Some.place, c.in-Some.node)) _
-        at.invariant.below_root rest at.invariant.written c.in_ok-put_entry.ensures.out c.in_ok-put_entry.ensures.firsts in
+    at.invariant.below_root rest at.invariant.written c.in_ok-put_entry.ensures.out c.in_ok-put_entry.ensures.firsts in
     record { rest = n.0; below_root = omega arith; written = n.1 }
 
 pub returns-clause-out : goal.returns-clause-out

@@ -1,5 +1,5 @@
 -- The root alone.
-use Rattle.std.proofs.Common.{[], sym, subst}
+use Rattle.std.proofs.Common.{sym, subst}
 use Rattle.sftp_tree.specs.Tree.{IsKept}
 use Rattle.sftp_tree.proofs.PictureFiles.{blank_kept}
 use Rattle.sftp_tree.proofs.PictureStores.{grown_root}
