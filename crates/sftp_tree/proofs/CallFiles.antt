@@ -1,5 +1,5 @@
 -- Why a tree is kept where the attributes of what stands at a place are set.
-use Rattle.std.proofs.Common.{◌≡◌, ℕ, zero, suc, ◌-◌, Bool, true, false, ◌&&◌, List, [], ◌∷◌, ◌++◌, length, take, replicate, nat_lt, unwrap_or, refl, sym, ◌∙◌, ap, Option, Some, None, IsTrue}
+use Rattle.std.proofs.Common.{◌≡◌, ℕ, zero, suc, ◌-◌, Bool, true, ◌&&◌, List, [], ◌∷◌, length, take, replicate, nat_lt, unwrap_or, refl, ◌∙◌, Option, Some, None, IsTrue}
 use Rattle.std.specs.Ordering.{nat_cmp}
 use Rattle.std.specs.Option.{option_map}
 use Rattle.std.specs.List.{list_all}
@@ -15,7 +15,7 @@ use Rattle.sftp_tree.specs.declared.contents.Content.{Content}
 use Rattle.sftp_tree.specs.declared.nodes.Node.{Node}
 use Rattle.sftp_tree.specs.declared.nodes.Node.TheVariants.{Dir, File, Link}
 use Rattle.sftp_tree.specs.Tree.{Tree, IsKept, IsContent, limits, fits, content_fits, node_at, with_node, content_at, with_content}
-use Rattle.sftp_tree.specs.Attributes.{changed_owner, changed_bytes, changed_content, resized}
+use Rattle.sftp_tree.specs.Attributes.{changed_owner, changed_content, resized}
 use Rattle.sftp_tree.specs.Steps.{setting_causes, is_none, with_changed_file, with_attributes}
 use Rattle.sftp_tree.specs.Judged.{causes_at_place}
 use Rattle.sftp_tree.proofs.CallSets.{room-in}

@@ -1,17 +1,12 @@
 -- What it says of the places of a request that none of its causes holds.
-use Rattle.std.proofs.Common.{◌≡◌, ℕ, Bool, true, false, ◌&&◌, ◌||◌, not, if◌then◌else◌, List, refl, sym, ◌∙◌, ap, Option, Some, None, IsTrue}
-use Rattle.sftp_wire.specs.declared.packets.Ask.{Ask}
+use Rattle.std.proofs.Common.{◌≡◌, ℕ, Bool, true, false, ◌&&◌, ◌||◌, not, if◌then◌else◌, List, refl, sym, ◌∙◌, ap, Some, None, IsTrue}
 use Rattle.sftp_wire.specs.declared.packets.Ask.TheVariants.{Rmdir, Rename, PosixRename, Hardlink}
 use Rattle.sftp_path.specs.Place.{Place}
 use Rattle.sftp_treefile.specs.TreeFile.{is_root, same_place}
-use Rattle.sftp_tree.specs.declared.nodes.Node.{Node}
 use Rattle.sftp_tree.specs.declared.nodes.Node.TheVariants.{File}
-use Rattle.sftp_tree.specs.declared.causes.Cause.{Cause}
-use Rattle.sftp_tree.specs.declared.causes.Cause.TheVariants.{NoEntry, NotDir, Exists, IsDir, NotFile, NotEmpty, Root, Inside, NoRoom}
-use Rattle.sftp_tree.specs.declared.causes.Causes.{Causes}
-use Rattle.sftp_tree.specs.Tree.{Names, Tree, IsKept, fits, trim, node_at, with_node, is_taken, is_directory, is_file, has_entries}
-use Rattle.sftp_tree.specs.Steps.{CauseSet, is_none, making_causes, causes_at, new_causes_at, causes_between, target_between, target, led, new_led, are_one, are_one_file, goes_inside, moved, put_in_its_stead, with_further_name}
-use Rattle.sftp_tree.specs.Sets.{in_set}
+use Rattle.sftp_tree.specs.declared.causes.Cause.TheVariants.{NoEntry, NotDir, Exists, IsDir, NotFile, NotEmpty, Root, Inside}
+use Rattle.sftp_tree.specs.Tree.{Tree, IsKept, fits, node_at, with_node, is_taken, is_directory, is_file, has_entries}
+use Rattle.sftp_tree.specs.Steps.{CauseSet, is_none, making_causes, causes_at, new_causes_at, causes_between, target_between, are_one, are_one_file, goes_inside, moved, put_in_its_stead, with_further_name}
 use Rattle.sftp_tree.specs.Judged.{with_room, causes_at_place, causes_at_places}
 use Rattle.sftp_tree.proofs.CallSets.{none-in, room-in}
 use Rattle.sftp_tree.proofs.CallPlaces.{absent-of, true-of, file-of, below-root, apart-of, moved-is}

@@ -1,5 +1,5 @@
 -- What stands at the places that paths lead to, as the calls for requests find it.
-use Rattle.std.proofs.Common.{◌≡◌, ℕ, Bool, true, false, ◌&&◌, not, cond, List, [], ◌∷◌, nat_eq, refl, sym, subst, ◌∙◌, ap, Option, Some, None, IsTrue}
+use Rattle.std.proofs.Common.{◌≡◌, Bool, true, false, ◌&&◌, not, cond, [], ◌∷◌, nat_eq, refl, sym, subst, ◌∙◌, ap, Option, Some, None}
 use Rattle.std.specs.Ordering.{is_eq}
 use Rattle.std.specs.declared.cmp.Ordering.{Ordering}
 use Rattle.std.specs.Map.{lookup}

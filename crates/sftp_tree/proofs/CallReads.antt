@@ -1,9 +1,9 @@
 -- What the calls that change nothing are told, and the targets of links.
-use Rattle.std.proofs.Common.{◌≡◌, ℕ, suc, ◌<◌, Bool, true, false, ◌&&◌, ◌||◌, not, List, [], ◌∷◌, get_or, refl, sym, ◌∙◌, ap, Option, Some, None, IsTrue, Result, Ok, Err}
+use Rattle.std.proofs.Common.{◌≡◌, ℕ, suc, ◌<◌, Bool, true, false, ◌&&◌, ◌||◌, not, List, [], ◌∷◌, get_or, refl, sym, ◌∙◌, ap, Some, None, IsTrue, Ok}
 use Rattle.std.proofs.lemmas.Bool.{lt-ltb}
 use Rattle.sftp_wire.specs.declared.attributes.Attrs.{Attrs}
 use Rattle.sftp_wire.specs.declared.packets.Ask.{Ask}
-use Rattle.sftp_wire.specs.declared.packets.Ask.TheVariants.{Lstat, Realpath, Stat, Readlink, Symlink}
+use Rattle.sftp_wire.specs.declared.packets.Ask.TheVariants.{Realpath, Readlink, Symlink}
 use Rattle.sftp_path.specs.Place.{Place, absolute}
 use Rattle.sftp_treefile.specs.TreeFile.{is_target, are_bytes}
 use Rattle.sftp_tree.specs.declared.nodes.Node.{Node}
@@ -13,7 +13,7 @@ use Rattle.sftp_tree.specs.declared.causes.Cause.TheVariants.{BadPath, NoEntry, 
 use Rattle.sftp_tree.specs.Tree.{Tree, IsKept, node_at, is_taken, is_link}
 use Rattle.sftp_tree.specs.Walk.{reached}
 use Rattle.sftp_tree.specs.Attributes.{shown}
-use Rattle.sftp_tree.specs.Steps.{CauseSet, path_of, new_path_of, follows, led, new_led, led_to, is_none, causes_at, new_causes_at, causes_between, target_causes, led_causes, both_causes, plain_causes, causes, shown_at, shown_to, target_of, target_to, text_to}
+use Rattle.sftp_tree.specs.Steps.{path_of, new_path_of, follows, led, new_led, led_to, is_none, causes_at, new_causes_at, causes_between, target_causes, led_causes, both_causes, plain_causes, causes, shown_at, shown_to, target_of, target_to, text_to}
 use Rattle.sftp_tree.specs.Sets.{in_set, IsFree, stat_ask}
 use Rattle.sftp_tree.specs.Judged.{causes_at_place, needing, reading}
 use Rattle.sftp_tree.proofs.CallSets.{led-is, none-of-set, free-by}

@@ -1,19 +1,16 @@
 -- What the code judges of a place is what is said of it, with the want of room.
 use Rattle.std.proofs.Common.{◌≡◌, ℕ, ◌+◌, ◌-◌, ◌≤◌, Bool, true, false, ◌&&◌, ◌||◌, not, nat_le, List, length, refl, sym, ◌∙◌, ap, arith, Option, Some, None, IsTrue}
 use Rattle.std.proofs.lemmas.Bool.Decides.{nat_tests}
-use Rattle.sftp_wire.specs.declared.attributes.Attrs.{Attrs}
-use Rattle.sftp_wire.specs.declared.packets.Ask.{Ask}
-use Rattle.sftp_wire.specs.declared.packets.Ask.TheVariants.{Lstat, Mkdir, Rmdir, Realpath, Stat, Readlink, Symlink}
+use Rattle.sftp_wire.specs.declared.packets.Ask.TheVariants.{Realpath, Readlink}
 use Rattle.sftp_path.specs.Place.{Place, place_cmp}
 use Rattle.sftp_path.proofs.TableLaws.{size-put, size-without}
 use Rattle.sftp_path.proofs.EntryLaws.{without-absent}
 use Rattle.sftp_path.proofs.TestLaws.{all-put_new, all-without}
 use Rattle.sftp_tree.specs.declared.nodes.Node.{Node}
-use Rattle.sftp_tree.specs.declared.causes.Cause.{Cause}
 use Rattle.sftp_tree.specs.declared.causes.Cause.TheVariants.{NoRoom}
 use Rattle.sftp_tree.specs.declared.causes.Causes.{Causes}
 use Rattle.sftp_tree.specs.Tree.{Names, Tree, IsKept, limits, fits, entries_fit, depths_fit, home_fits, links_fit, files_fit, numbers_fit, depth_fits, link_fits, node_at, with_node, without_node, is_taken}
-use Rattle.sftp_tree.specs.Steps.{CauseSet, is_none, making_causes, removing_causes, needing_causes, link_causes}
+use Rattle.sftp_tree.specs.Steps.{is_none, making_causes, removing_causes, needing_causes, link_causes}
 use Rattle.sftp_tree.specs.Sets.{in_set, stat_ask}
 use Rattle.sftp_tree.specs.Judged.{IsSet, with_room, causes_at_place, has_room, making, needing, reading, removing}
 

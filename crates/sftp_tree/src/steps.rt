@@ -1,5 +1,5 @@
-//! What requests do to a tree, and what they are told (draft, sections 6.6 to 6.11). A path that leads nowhere has one
-//! cause, the walk's: `NoEntry`, `NotDir` or `Loop`.
+//! What requests do to a tree, and what they are told (draft, sections 6.5 to 6.11; OpenSSH's PROTOCOL, sections 4.3 and
+//! 4.5). A bad path has the cause `BadPath`, and one that leads nowhere the walk's: `NoEntry`, `NotDir` or `Loop`.
 ghost use Rattle.std.specs.Prelude.{◌≡◌, false, Some, None, Ok, IfOk, IfErr, IsTrue, OnOk, OnErr, option_copied};
 ghost use Rattle.sftp_path.specs.Place.{are_names, parent};
 ghost use Rattle.sftp_treefile.specs.declared.files.Owner.{Owner};
@@ -31,7 +31,7 @@ use sftp_wire::{Attrs, ByteString};
 
 impl Tree {
     /// MKDIR: makes an empty directory. What the attributes do not give is the tree's owner, and permissions 0o755;
-    /// of the permissions given the low twelve bits count, and a size and times are passed over.
+    /// of the permissions given the low twelve bits count, and all else is passed over.
     ///
     /// # Errors
     ///
@@ -92,7 +92,7 @@ impl Tree {
     }
 
     /// SETSTAT: sets the size of a file, which cuts its bytes or fills them with zeros, and the owner and the low twelve
-    /// bits of the permissions of a file or a directory, each where it is given. Times are passed over.
+    /// bits of the permissions of a file or a directory, each where it is given. All else is passed over.
     ///
     /// # Errors
     ///
