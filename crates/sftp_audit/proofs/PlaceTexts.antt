@@ -13,7 +13,7 @@ use Rattle.sftp_path.specs.Table.{get}
 use Rattle.sftp_path.proofs.Order.{place_cmp-same}
 use Rattle.sftp_treefile.specs.TreeFile.{are_bytes}
 use Rattle.sftp_tree.specs.declared.nodes.Node.{Node}
-use Rattle.sftp_tree.specs.Tree.{Names, Tree, IsKept, node_at, is_directory, entries_fit, depths_fit, home_fits, links_fit, depth_fits, fits}
+use Rattle.sftp_tree.specs.Tree.{Names, Tree, IsKept, node_at, is_directory, depths_fit, depth_fits}
 use Rattle.sftp_audit.proofs.KeptNodes.{both, limits_of}
 
 -- ---- bytes
