@@ -1,4 +1,4 @@
--- The causes of requests as the code has them: at the place that a path leads to, and of a walk that fails.
+-- The causes of requests as the code has them: at the place, or the two places, that paths lead to, and of a walk that fails.
 use Rattle.std.specs.Prelude.{◌≡◌, ◌-◌, ◌&&◌, ◌||◌, not, nat_le, Bool, true, false, List, length, ℕ, Option, Some, None, Result, Ok, Err}
 use Rattle.std.specs.List.{list_all}
 use Rattle.sftp_path.specs.Place.{Place, begins, depth_limit}

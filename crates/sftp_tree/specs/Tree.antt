@@ -175,7 +175,7 @@ content_fits bounds content = nat_le (length content.bytes) bounds.file_bytes
 abbrev pub files_fit : Tree → Bool
 files_fit t = list_all (λ e. content_fits (limits t) e.1) t.files
 
--- how many numbers were given to files has 32 bits
+-- the count of the numbers that were given to files has 32 bits
 abbrev pub numbers_fit : Tree → Bool
 numbers_fit t = nat_lt t.made (2 ^ 32)
 

@@ -29,22 +29,22 @@ pub enum Cause {
     /// The new place is taken.
     #[error("Exists")]
     Exists,
-    /// A directory stands where none may be.
+    /// The request is none for directories, and one stands there.
     #[error("IsDir")]
     IsDir,
     /// The target is asked of what is no link.
     #[error("NotLink")]
     NotLink,
-    /// A further name or a size is asked for what is no file.
+    /// The request gives a further name or a size, which only files have.
     #[error("NotFile")]
     NotFile,
     /// A directory that must be empty is not.
     #[error("NotEmpty")]
     NotEmpty,
-    /// The root would be moved, replaced or removed.
+    /// The root would go, or something else come in its place.
     #[error("Root")]
     Root,
-    /// A directory would be moved into itself.
+    /// The new place of a directory lies below the directory.
     #[error("Inside")]
     Inside,
     /// No other cause holds, and what would stand after the request breaks a limit.

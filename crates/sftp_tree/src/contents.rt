@@ -62,13 +62,16 @@ impl FileBytes {
 /// What a file is.
 #[derive(Debug, Drop)]
 pub struct Content {
+    /// Its user, its group, and its permissions of twelve bits.
     pub owner: Owner,
+    /// Its bytes: 16,777,216 of them at most.
     pub bytes: FileBytes,
 }
 
 /// A file as a tree keeps it.
 #[derive(Debug, Drop)]
 pub struct Stored {
+    /// What it is.
     pub content: Content,
     /// How many names the file has.
     pub names: u32,

@@ -18,7 +18,8 @@ pub enum TreeError {
     /// Bytes stand after the last entry, whose number is one less.
     #[error("entry {entry}: Trailing")]
     Trailing { entry: u32 },
-    /// A field is out of its range, a path is no absolute text of a place, or a kind is unknown.
+    /// A field is out of its range, a path is no absolute text of a place, a kind is unknown, or the number of a further name
+    /// leads to no first name before it.
     #[error("entry {entry}: Value")]
     Value { entry: u32 },
     /// The path does not come after the one before it.

@@ -1,4 +1,6 @@
-//! Tree files, written piece by piece, and whole.
+//! Tree files, written piece by piece, and whole. The pieces are written as they are given: that a path is the absolute text of a
+//! place, that entries come in the order of their places, that permissions have twelve bits and that a further name tells the number
+//! of a first one is the caller's.
 ghost use Rattle.std.specs.Prelude.{◌≡◌, ◌++◌, ◌<◌, ◌^◌, length, IfOk, OnOk};
 ghost use Rattle.sftp_wire.specs.Spelling.{uint32, string};
 ghost use Rattle.sftp_treefile.specs.declared.files.Kind.TheVariants.{Dir, First, Further, Link};
@@ -61,7 +63,7 @@ fn put_root(out: &mut Vec<u8>, count: u32, root: &Owner) -> Result<(), NoMemory>
 ///
 /// # Errors
 ///
-/// `NoMemory` where memory runs out; some of the bytes may then be there.
+/// `NoMemory` where memory runs out; what `out` holds is then of no use.
 pub fn put_head(out: &mut Vec<u8>, head: &Head) -> Result<(), NoMemory>
     requires { length head.now.home < 2 ^ 32 }
     ensures { OnOk result (out.new.items ≡ out.old.items ++ head_bytes head.now) }
@@ -75,7 +77,7 @@ pub fn put_head(out: &mut Vec<u8>, head: &Head) -> Result<(), NoMemory>
 ///
 /// # Errors
 ///
-/// `NoMemory` where memory runs out; some of the bytes may then be there.
+/// `NoMemory` where memory runs out; what `out` holds is then of no use.
 pub fn put_directory(out: &mut Vec<u8>, path: &[u8], owner: &Owner) -> Result<(), NoMemory>
     requires { length path.now < 2 ^ 32 }
     ensures { OnOk result (out.new.items ≡ out.old.items ++ row_text (record { path = path.now; kind = Dir owner.now })) }
@@ -90,7 +92,7 @@ pub fn put_directory(out: &mut Vec<u8>, path: &[u8], owner: &Owner) -> Result<()
 ///
 /// # Errors
 ///
-/// `NoMemory` where memory runs out; some of the bytes may then be there.
+/// `NoMemory` where memory runs out; what `out` holds is then of no use.
 pub fn put_file(out: &mut Vec<u8>, path: &[u8], owner: &Owner, bytes: &[u8]) -> Result<(), NoMemory>
     requires path { length path.now < 2 ^ 32 }
     requires bytes { length bytes.now < 2 ^ 32 }
@@ -107,7 +109,7 @@ pub fn put_file(out: &mut Vec<u8>, path: &[u8], owner: &Owner, bytes: &[u8]) -> 
 ///
 /// # Errors
 ///
-/// `NoMemory` where memory runs out; some of the bytes may then be there.
+/// `NoMemory` where memory runs out; what `out` holds is then of no use.
 pub fn put_further_name(out: &mut Vec<u8>, path: &[u8], number: u32) -> Result<(), NoMemory>
     requires { length path.now < 2 ^ 32 }
     ensures { OnOk result (out.new.items ≡ out.old.items ++ row_text (record { path = path.now; kind = Further number })) }
@@ -122,7 +124,7 @@ pub fn put_further_name(out: &mut Vec<u8>, path: &[u8], number: u32) -> Result<(
 ///
 /// # Errors
 ///
-/// `NoMemory` where memory runs out; some of the bytes may then be there.
+/// `NoMemory` where memory runs out; what `out` holds is then of no use.
 pub fn put_link(out: &mut Vec<u8>, path: &[u8], target: &[u8]) -> Result<(), NoMemory>
     requires path { length path.now < 2 ^ 32 }
     requires target { length target.now < 2 ^ 32 }

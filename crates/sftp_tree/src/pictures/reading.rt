@@ -27,7 +27,7 @@ fn place_of(alloc: Global, text: &[u8]) -> Result<Place, NoMemory>
 
 /// Counts a name more of a file.
 #[tactic(auto, unfolding(sftp_path::specs::Table::get))]
-fn count_name(files: &mut BTreeMap<u32, Stored>, number: u32)
+fn count_further_name(files: &mut BTreeMap<u32, Stored>, number: u32)
     requires { parts.HaveRoom files.old.entries }
     ensures { files.new.entries ≡ parts.with_name files.old.entries number (get nat_cmp files.old.entries number) }
 {
@@ -60,7 +60,7 @@ fn node_of(
         }
         Kind::Further(entry) => {
             let number = numbers[entry as usize - 1];
-            count_name(files, number);
+            count_further_name(files, number);
             Ok(Node::File(number))
         }
         Kind::Link(target) => Ok(Node::Link(target)),
