@@ -1,5 +1,6 @@
 -- What it says of the places of a request that none of its causes holds.
 use Rattle.std.proofs.Common.{◌≡◌, ℕ, Bool, true, false, ◌&&◌, ◌||◌, not, if◌then◌else◌, List, refl, sym, ◌∙◌, ap, Some, None, IsTrue}
+use Rattle.std.proofs.lemmas.Bool.{not-false}
 use Rattle.sftp_wire.specs.declared.packets.Ask.TheVariants.{Rmdir, Rename, PosixRename, Hardlink}
 use Rattle.sftp_path.specs.Place.{Place}
 use Rattle.sftp_treefile.specs.TreeFile.{is_root, same_place}
@@ -9,7 +10,8 @@ use Rattle.sftp_tree.specs.Tree.{Tree, IsKept, fits, node_at, with_node, is_take
 use Rattle.sftp_tree.specs.Steps.{CauseSet, is_none, making_causes, causes_at, new_causes_at, causes_between, target_between, are_one, are_one_file, goes_inside, moved, put_in_its_stead, with_further_name}
 use Rattle.sftp_tree.specs.Judged.{with_room, causes_at_place, causes_at_places}
 use Rattle.sftp_tree.proofs.CallSets.{none-in, room-in}
-use Rattle.sftp_tree.proofs.CallPlaces.{absent-of, true-of, file-of, below-root, apart-of, moved-is}
+use Rattle.sftp_tree.proofs.CallPlaces.{absent-of, file-of, below-root, apart-of, moved-is}
+use Rattle.sftp_tree.proofs.CauseSets.{and-false}
 
 neither : (a b : Bool) → (a || b) ≡ false → (a ≡ false) × (b ≡ false)
 neither false b e = (refl, e)
@@ -44,7 +46,7 @@ pub rename-may : (t : Tree) (old new : Place) (oldpath newpath : List ℕ) → I
 rename-may t old new oldpath newpath kept none =
     let each = none-in (causes_at_places t (Rename oldpath newpath) old new) none in
     let free = rename-absent t old new oldpath newpath none in
-    let there = true-of (is_taken (node_at t.names old)) (neither (not (is_taken (node_at t.names old))) false (each NoEntry)).0 in
+    let there = not-false (is_taken (node_at t.names old)) (neither (not (is_taken (node_at t.names old))) false (each NoEntry)).0 in
     record {
       taken = there;
       old_below_root = (neither (is_root old) false (each Root)).0;
@@ -53,10 +55,6 @@ rename-may t old new oldpath newpath kept none =
       elsewhere = apart-of t.names old new there free;
       fits = ap fits (sym (moved-is t old new free)) ∙ room-in (λ c. causes_at t (Rename oldpath newpath) old c || (new_causes_at t (Rename oldpath newpath) new c || causes_between t (Rename oldpath newpath) old new c)) (moved t old new) refl none;
     }
-
-and-false : (b : Bool) → (b && false) ≡ false
-and-false true = refl
-and-false false = refl
 
 -- where it is not one, what holds of two places does not
 other-one : (one b : Bool) → one ≡ false → (not one && b) ≡ false → b ≡ false
@@ -70,7 +68,7 @@ replace-may t old new oldpath newpath none apart =
     let below = neither (is_root old) (is_root new || (not (are_one t.names old new) && false)) (each Root) in
     let plain : CauseSet = (λ c. causes_at t (PosixRename oldpath newpath) old c || (new_causes_at t (PosixRename oldpath newpath) new c || causes_between t (PosixRename oldpath newpath) old new c)) in
     record {
-      taken = true-of (is_taken (node_at t.names old)) (neither (not (is_taken (node_at t.names old))) (not (are_one t.names old new) && false) (each NoEntry)).0;
+      taken = not-false (is_taken (node_at t.names old)) (neither (not (is_taken (node_at t.names old))) (not (are_one t.names old new) && false) (each NoEntry)).0;
       old_below_root = below.0;
       new_below_root = (neither (is_root new) (not (are_one t.names old new) && false) below.1).0;
       outside = other-one (are_one t.names old new) (goes_inside t.names old new) apart (each Inside);
@@ -98,7 +96,7 @@ replace-alone t old new oldpath newpath none apart other =
 pub further-file : (t : Tree) (old new : Place) (oldpath newpath : List ℕ) → IsTrue (is_none (causes_at_places t (Hardlink oldpath newpath) old new)) → IsTrue (is_file (node_at t.names old))
 further-file t old new oldpath newpath none =
     let each = none-in (causes_at_places t (Hardlink oldpath newpath) old new) none in
-    let there = true-of (is_taken (node_at t.names old)) (neither (not (is_taken (node_at t.names old))) false (each NoEntry)).0 in
+    let there = not-false (is_taken (node_at t.names old)) (neither (not (is_taken (node_at t.names old))) false (each NoEntry)).0 in
     file-of (node_at t.names old) there (neither (is_taken (node_at t.names old) && not (is_file (node_at t.names old))) false (each NotFile)).0
 
 pub further-absent : (t : Tree) (old new : Place) (oldpath newpath : List ℕ) → IsTrue (is_none (causes_at_places t (Hardlink oldpath newpath) old new)) → node_at t.names new ≡ None
@@ -114,7 +112,7 @@ further-fits t old new oldpath newpath number none there =
 pub removing-parts : (t : Tree) (place : Place) (path : List ℕ) → IsTrue (is_none (causes_at_place t (Rmdir path) place)) → IsTrue (is_taken (node_at t.names place)) × (is_root place ≡ false) × (has_entries t.names place ≡ false)
 removing-parts t place path none =
     let each = none-in (causes_at_place t (Rmdir path) place) none in
-    let there = true-of (is_taken (node_at t.names place)) (each NoEntry) in
+    let there = not-false (is_taken (node_at t.names place)) (each NoEntry) in
     let directory = directory-of (is_taken (node_at t.names place)) (is_directory (node_at t.names place)) there (each NotDir) in
     (there, each Root, ap (λ b. b && has_entries t.names place) (sym directory) ∙ each NotEmpty)
   where

@@ -21,10 +21,6 @@ pub absent-of : (found : Option Node) → is_taken found ≡ false → found ≡
 absent-of None e = refl
 absent-of (Some it) e = cc
 
-pub true-of : (b : Bool) → not b ≡ false → b ≡ true
-true-of true e = refl
-true-of false e = cc
-
 pub taken-of : (found : Option Node) (it : Node) → found ≡ Some it → is_taken found ≡ true
 taken-of found it e = ap is_taken e
 

@@ -13,6 +13,8 @@ use Rattle.sftp_tree.specs.Tree.{Names, Tree, IsKept, limits, fits, entries_fit,
 use Rattle.sftp_tree.specs.Steps.{is_none, making_causes, removing_causes, needing_causes, link_causes}
 use Rattle.sftp_tree.specs.Sets.{in_set, stat_ask}
 use Rattle.sftp_tree.specs.Judged.{IsSet, with_room, causes_at_place, has_room, making, needing, reading, removing}
+use Rattle.sftp_tree.proofs.StepTables.{and-true}
+use Rattle.sftp_tree.proofs.CauseSets.{and-false}
 
 -- ---- the parts of the test
 
@@ -78,17 +80,9 @@ fits-without t place within =
 
 -- ---- sets
 
-and-false : (b : Bool) → (b && false) ≡ false
-and-false true = refl
-and-false false = refl
-
 -- where what is asked for fits, room is no cause
 no-want : (b : Bool) (asked : Tree) → fits asked ≡ true → (b && not (fits asked)) ≡ false
 no-want b asked fit = ap (λ f. b && not f) fit ∙ and-false b
-
-and-true : (b : Bool) → (b && true) ≡ b
-and-true true = refl
-and-true false = refl
 
 making-room : (t : Tree) (place : Place) (it : Node) → IsKept t → link_fits it ≡ true → (found : Option Node) → node_at t.names place ≡ found → (not (is_taken found) && not (has_room t place)) ≡ (is_none (making_causes found) && not (fits (record t { names = with_node t.names place it })))
 making-room t place it kept link None is =

@@ -23,6 +23,7 @@ use Rattle.sftp_tree.specs.Tree.{Names, Tree, IsKept, limits, fits, depth_fits, 
 use Rattle.sftp_tree.specs.Judged.{reaches_at_most, move_fits}
 use Rattle.sftp_tree.specs.Steps.{moved, put_in_its_stead}
 use Rattle.sftp_tree.proofs.CauseRoom.{Fitting, fitting, fits-names, fewer, length-without}
+use Rattle.sftp_tree.proofs.StepTables.{and-true}
 
 -- ---- tests of all entries
 
@@ -109,10 +110,6 @@ depths-moved names old new all taken = by (nat_le (length new) depth_limit) refl
         none false failed = refl
 
 -- ---- a move
-
-and-true : (b : Bool) → (b && true) ≡ b
-and-true true = refl
-and-true false = refl
 
 pub fits-moved : (t : Tree) (old new : Place) → IsKept t → is_taken (node_at t.names old) ≡ true → NothingFrom t.names new → fits (moved t old new) ≡ move_fits t.names old new
 fits-moved t old new kept taken nothing =

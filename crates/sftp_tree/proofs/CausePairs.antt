@@ -1,6 +1,7 @@
 -- The causes of requests at the two places that their paths lead to, as the code has them.
 use Rattle.std.proofs.Common.{◌≡◌, ℕ, Bool, true, false, ◌&&◌, ◌||◌, not, if◌then◌else◌, List, ◌∷◌, ◌++◌, refl, sym, subst, ◌∙◌, ap, Option, Some, None, IsTrue}
 use Rattle.std.specs.List.{list_any}
+use Rattle.std.proofs.lemmas.Bool.{not-false}
 use Rattle.sftp_wire.specs.declared.packets.Ask.TheVariants.{Rename, PosixRename, Hardlink}
 use Rattle.sftp_path.specs.Place.{Name, Place, parent, begins}
 use Rattle.sftp_treefile.specs.TreeFile.{same_place}
@@ -17,12 +18,9 @@ use Rattle.sftp_tree.proofs.CauseRoom.{fits-put}
 use Rattle.sftp_tree.proofs.CauseSets.{set-whole, set-joined, none-holds}
 use Rattle.sftp_tree.proofs.CausePlaces.{absent-of}
 use Rattle.sftp_tree.proofs.CauseMoved.{fits-moved, fits-put_in_stead, nothing-from, nothing-left}
+use Rattle.sftp_tree.proofs.StepTables.{and-true}
 
 -- ---- tests
-
-and-true : (b : Bool) → (b && true) ≡ b
-and-true true = refl
-and-true false = refl
 
 twice : (b : Bool) → b ≡ not (not b)
 twice true = refl
@@ -35,10 +33,6 @@ first false b e = refl
 behind : (a b : Bool) → (a || b) ≡ false → b ≡ false
 behind true b e = cc
 behind false b e = e
-
-not-false : (b : Bool) → not b ≡ false → b ≡ true
-not-false true e = refl
-not-false false e = cc
 
 -- ---- hardlink
 

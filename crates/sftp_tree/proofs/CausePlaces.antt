@@ -23,10 +23,7 @@ use Rattle.sftp_tree.specs.Sets.{in_set}
 use Rattle.sftp_tree.specs.Judged.{no_causes, has_room, size_fits, making, needing, reading, removing, with_room, causes_at_place, IsSet}
 use Rattle.sftp_tree.proofs.CauseRoom.{fits-put, fits-without, fits-again, fits-content, content-fits}
 use Rattle.sftp_tree.proofs.CauseSets.{and-false, set-whole}
-
-and-true : (b : Bool) → (b && true) ≡ b
-and-true true = refl
-and-true false = refl
+use Rattle.sftp_tree.proofs.StepTables.{and-true}
 
 -- ---- what is to be made
 

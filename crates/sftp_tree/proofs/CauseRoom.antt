@@ -18,6 +18,7 @@ use Rattle.sftp_tree.specs.declared.contents.Content.{Content}
 use Rattle.sftp_tree.specs.declared.nodes.Node.{Node}
 use Rattle.sftp_tree.specs.Tree.{Names, Tree, limits, fits, entries_fit, depths_fit, home_fits, links_fit, files_fit, numbers_fit, depth_fits, link_fits, content_fits, node_at, with_node, without_node, content_at, with_content}
 use Rattle.sftp_tree.specs.Judged.{has_room}
+use Rattle.sftp_tree.proofs.StepTables.{and-true}
 
 -- ---- the parts of the test
 
@@ -56,10 +57,6 @@ fits-names t names entries depths links fit one two three =
 more-entries : (n m limit : ℕ) → m ≡ n + 1 → nat_le (m - 1) limit ≡ nat_le n limit
 more-entries n m limit one_more =
     let same : m - 1 ≡ n = omega arith in ap (λ k. nat_le k limit) same
-
-and-true : (b : Bool) → (b && true) ≡ b
-and-true true = refl
-and-true false = refl
 
 and-three : (a b d : Bool) → (a && (b && d)) ≡ ((a && b) && d)
 and-three true b d = refl

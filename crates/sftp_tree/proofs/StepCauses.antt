@@ -21,6 +21,7 @@ use Rattle.sftp_tree.proofs.CauseLed as laws
 use Rattle.sftp_tree.proofs.CauseRoom.{fits-put}
 use Rattle.sftp_tree.proofs.CauseSets.{and-false, set-whole, just-is, only-apart, one-led, one-lost}
 use Rattle.sftp_tree.proofs.CausePlaces.{absent-of, making-is, needing-is, reading-is, none-is, removing-is}
+use Rattle.sftp_tree.proofs.StepTables.{and-true}
 
 -- ---- where a request leads
 
@@ -95,10 +96,6 @@ with-bad good s = record s { bad_path = s.bad_path || not good; no_room = s.no_r
 
 making-by : (found : Option Node) (room : Bool) → Causes
 making-by found room = record no_causes { exists = is_taken found; no_room = not (is_taken found) && not room }
-
-and-true : (b : Bool) → (b && true) ≡ b
-and-true true = refl
-and-true false = refl
 
 symlink-set : (found : Option Node) (good room : Bool) (asked : Tree) → (is_taken found ≡ false → good ≡ true → fits asked ≡ room) → IsSet (with-bad good (making-by found room)) (with_room (λ c. making_causes found c || bad good c) asked)
 unfolding bad with-bad making-by
