@@ -20,7 +20,7 @@ use Rattle.sftp_tree.specs.Steps.{setting_causes, is_none, with_changed_file, wi
 use Rattle.sftp_tree.specs.Judged.{causes_at_place}
 use Rattle.sftp_tree.proofs.CallSets.{room-in}
 use Rattle.sftp_tree.proofs.CallPlaces.{found-keeps, found-passes, node-kept}
-use Rattle.sftp_tree.proofs.CallRooms.{fits-parts}
+use Rattle.sftp_tree.proofs.KeepFits.{fits-parts}
 
 -- ---- bytes
 
@@ -51,7 +51,7 @@ content-kept t number content kept there =
 -- what stands in a tree that fits does
 content-fits : (t : Tree) (number : ℕ) (content : Content) → IsTrue (fits (record t { files = with_content t.files number content })) → IsTrue (content_fits (limits t) content)
 content-fits t number content within =
-    found-passes nat_cmp (content_fits (limits t)) number content (with_content t.files number content) (fits-parts (record t { files = with_content t.files number content }) within).4 (get-put_here nat_cmp nat_cmp_total t.files number content)
+    found-passes nat_cmp (content_fits (limits t)) number content (with_content t.files number content) (fits-parts (record t { files = with_content t.files number content }) within).files (get-put_here nat_cmp nat_cmp_total t.files number content)
 
 -- ---- what stands at a place
 

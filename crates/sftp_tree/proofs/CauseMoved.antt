@@ -22,8 +22,10 @@ use Rattle.sftp_tree.specs.declared.nodes.Node.{Node}
 use Rattle.sftp_tree.specs.Tree.{Names, Tree, IsKept, limits, fits, depth_fits, link_fits, node_at, without_node, is_taken}
 use Rattle.sftp_tree.specs.Judged.{reaches_at_most, move_fits}
 use Rattle.sftp_tree.specs.Steps.{moved, put_in_its_stead}
-use Rattle.sftp_tree.proofs.CauseRoom.{Fitting, fitting, fits-names, fewer, length-without}
-use Rattle.sftp_tree.proofs.StepTables.{and-true}
+use Rattle.sftp_tree.proofs.CauseRoom.{fits-names}
+use Rattle.sftp_tree.proofs.StepTables.{and-true, length-without}
+use Rattle.sftp_tree.proofs.KeepFits.{Fits, fits-parts}
+use Rattle.sftp_tree.proofs.KeepLimits.{fewer}
 
 -- ---- tests of all entries
 
@@ -113,7 +115,7 @@ depths-moved names old new all taken = by (nat_le (length new) depth_limit) refl
 
 pub fits-moved : (t : Tree) (old new : Place) → IsKept t → is_taken (node_at t.names old) ≡ true → NothingFrom t.names new → fits (moved t old new) ≡ move_fits t.names old new
 fits-moved t old new kept taken nothing =
-    let fit = fitting t kept.within_limits in
+    let fit = fits-parts t kept.within_limits in
     let order = kept.well_formed.ordered in
     fits-names t (rekeyed old new t.names) true (move_fits t.names old new) true fit
     (ap (λ n. nat_le (n - 1) (limits t).entries) (size-rekeyed old new t.names order nothing) ∙ fit.entries)
@@ -124,17 +126,17 @@ fits-moved t old new kept taken nothing =
 -- with what stood at the new place gone
 pub fits-put_in_stead : (t : Tree) (old new : Place) → IsKept t → is_taken (node_at t.names old) ≡ true → NothingFrom (without_node t.names new) new → (is_taken (node_at t.names new) ≡ true → begins old new ≡ false) → fits (put_in_its_stead t old new) ≡ move_fits t.names old new
 fits-put_in_stead t old new kept taken nothing apart =
-    let fit = fitting t kept.within_limits in
+    let fit = fits-parts t kept.within_limits in
     let order = InOrder-without place_cmp t.names new kept.well_formed.ordered in
     fits-names t (rekeyed old new (without_node t.names new)) true (move_fits t.names old new) true fit
     (ap (λ n. nat_le (n - 1) (limits t).entries) (size-rekeyed old new (without_node t.names new) order nothing)
-    ∙ fewer (length t.names) (length (without_node t.names new)) (limits t).entries (length-without t.names new) fit.entries)
+    ∙ fewer (length t.names) (length (without_node t.names new)) (limits t).entries (length-without new t.names) fit.entries)
     (tests.all-rekeyed old new (without_node t.names new) (λ e. depth_fits e.0) order nothing ∙ others fit ∙ depths-moved t.names old new fit.depths taken)
     (tests.all-rekeyed old new (without_node t.names new) (λ e. link_fits e.1) order nothing ∙ all-without place_cmp t.names new (λ e. link_fits e.1) fit.links)
     ∙ and-true (move_fits t.names old new)
   where
     -- what goes is neither moved nor too deep
-    others : Fitting t → list_all (λ e. depth_fits (renamed old new e.0)) (without_node t.names new) ≡ list_all (λ e. depth_fits (renamed old new e.0)) t.names
+    others : Fits t → list_all (λ e. depth_fits (renamed old new e.0)) (without_node t.names new) ≡ list_all (λ e. depth_fits (renamed old new e.0)) t.names
     others fit = by (node_at t.names new) refl
       where
         by : (found : Option Node) → node_at t.names new ≡ found → list_all (λ e. depth_fits (renamed old new e.0)) (without_node t.names new) ≡ list_all (λ e. depth_fits (renamed old new e.0)) t.names
