@@ -16,9 +16,9 @@ use Rattle.sftp_tree.specs.Judged.{has_room, move_fits, with_room, causes_at_pla
 use Rattle.sftp_tree.proofs.CauseLed.{or-false}
 use Rattle.sftp_tree.proofs.CauseRoom.{fits-put}
 use Rattle.sftp_tree.proofs.CauseSets.{set-whole, set-joined, none-holds}
-use Rattle.sftp_tree.proofs.CausePlaces.{absent-of}
 use Rattle.sftp_tree.proofs.CauseMoved.{fits-moved, fits-put_in_stead, nothing-from, nothing-left}
 use Rattle.sftp_tree.proofs.StepTables.{and-true}
+use Rattle.sftp_tree.proofs.CallPlaces.{absent-of}
 
 -- ---- tests
 

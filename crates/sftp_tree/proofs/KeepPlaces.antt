@@ -13,6 +13,7 @@ use Rattle.sftp_tree.specs.Tree.{Names, node_at, is_taken, is_directory, has_ent
 use Rattle.sftp_tree.specs.Steps.{goes_inside}
 use Rattle.sftp_tree.proofs.KeepTables.{get-each}
 use Rattle.sftp_tree.proofs.StepBelow.{has_entries-below, has_entries-none}
+use Rattle.sftp_tree.proofs.CallPlaces.{absent-of}
 
 -- each taken place has a directory for its parent
 abbrev pub HaveParents : Names → Type 0
@@ -25,10 +26,6 @@ directory-taken (Some it) h = refl
 pub taken-some : (o : Option Node) (it : Node) → o ≡ Some it → IsTrue (is_taken o)
 taken-some None it h = absurd cc
 taken-some (Some x) it h = refl
-
-pub none-from : (o : Option Node) → is_taken o ≡ false → o ≡ None
-none-from None h = refl
-none-from (Some it) h = absurd cc
 
 -- ---- lists of names
 
@@ -122,5 +119,5 @@ nothing-below names place order parents none =
 
 pub alone-there : (names : Names) (place : Place) → has_entries names place ≡ false → (n : Name) (ns : Place) → node_at names (place ++ n ∷ ns) ≡ None
 alone-there names place empty n ns =
-    none-from (node_at names (place ++ n ∷ ns))
+    absent-of (node_at names (place ++ n ∷ ns))
     (false_from_ne_true (is_taken (node_at names (place ++ n ∷ ns))) (λ taken. both_ways (has_entries names place) empty (has_entries-below place (place ++ n ∷ ns) names (below-further place n ns) taken)))

@@ -20,8 +20,9 @@ use Rattle.sftp_tree.proofs.CauseWalks.{led-room}
 use Rattle.sftp_tree.proofs.CauseLed as laws
 use Rattle.sftp_tree.proofs.CauseRoom.{fits-put}
 use Rattle.sftp_tree.proofs.CauseSets.{and-false, set-whole, just-is, only-apart, one-led, one-lost}
-use Rattle.sftp_tree.proofs.CausePlaces.{absent-of, making-is, needing-is, reading-is, none-is, removing-is}
+use Rattle.sftp_tree.proofs.CausePlaces.{making-is, needing-is, reading-is, none-is, removing-is, making-by}
 use Rattle.sftp_tree.proofs.StepTables.{and-true}
+use Rattle.sftp_tree.proofs.CallPlaces.{absent-of}
 
 -- ---- where a request leads
 
@@ -94,11 +95,8 @@ bad-is target link _ = refl
 with-bad : Bool → Causes → Causes
 with-bad good s = record s { bad_path = s.bad_path || not good; no_room = s.no_room && good }
 
-making-by : (found : Option Node) (room : Bool) → Causes
-making-by found room = record no_causes { exists = is_taken found; no_room = not (is_taken found) && not room }
-
 symlink-set : (found : Option Node) (good room : Bool) (asked : Tree) → (is_taken found ≡ false → good ≡ true → fits asked ≡ room) → IsSet (with-bad good (making-by found room)) (with_room (λ c. making_causes found c || bad good c) asked)
-unfolding bad with-bad making-by
+unfolding bad with-bad
 symlink-set None true room asked fit NoRoom = and-true (not room) ∙ ap not (sym (fit refl refl))
 symlink-set None true room asked fit BadPath = refl
 symlink-set None true room asked fit _ = refl
@@ -132,7 +130,7 @@ symlink-plain t goal link base first e same c =
     laws.plain-led t (Symlink goal link) first None e refl c ∙ same c ∙ ap (λ b. base c || b) (bad-is goal link c)
 
 pub causes-symlink : (t : Tree) (target link : List ℕ) → IsKept t → (r : Result Place Cause) → led t (Symlink target link) ≡ Some r → (c : Cause) → causes t (Symlink target link) c ≡ in_set (with_target target (led_set r (making t))) c
-unfolding with-bad making-by
+unfolding with-bad
 causes-symlink t goal link kept (Err failed) e c =
     let apart : failed ≡ NoRoom → ⊥ = λ is. led-room t (Symlink goal link) (e ∙ ap (λ c. Some (Err c)) is) in
     let plain : CauseSet = λ c. only failed c || bad (is_target goal) c in

@@ -27,11 +27,12 @@ use Rattle.sftp_tree.specs.Sets.{IsFree}
 use Rattle.sftp_tree.proofs.KeepTables.{each-get}
 use Rattle.sftp_tree.proofs.KeepFields.{bytes-fit, owner-fits, changed-owner-fits, changed-content-fits}
 use Rattle.sftp_tree.proofs.KeepCauses.{free-at, free-between}
-use Rattle.sftp_tree.proofs.KeepPlaces.{none-from, apart-from, nothing-below, alone-there}
+use Rattle.sftp_tree.proofs.KeepPlaces.{apart-from, nothing-below, alone-there}
 use Rattle.sftp_tree.proofs.KeepNames.{names-of, names-put, names-owner, names-without, well-formed-names}
 use Rattle.sftp_tree.proofs.KeepValues.{well-formed-content}
 use Rattle.sftp_tree.proofs.KeepMoves.{well-formed-moved, well-formed-in-stead}
 use Rattle.sftp_tree.proofs.KeepTrim.{kept-trim}
+use Rattle.sftp_tree.proofs.CallPlaces.{absent-of}
 
 -- ---- where the paths of a request lead
 
@@ -105,7 +106,7 @@ free-from t place well absent (n ∷ ns) = alone-there t.names place (empty-ther
 well-with : (t : Tree) (place : Place) (it : Node) → WellFormed t → Led t place → is_taken (node_at t.names place) ≡ false → IsNode t.files it → WellFormed (record t { names = with_node t.names place it })
 well-with t place it well leads free is_node =
     well-formed-names t (with_node t.names place it) well
-    (names-put t.files t.names place it (names-of t well) leads.named (none-from (node_at t.names place) free) leads.above is_node)
+    (names-put t.files t.names place it (names-of t well) leads.named (absent-of (node_at t.names place) free) leads.above is_node)
 
 well-without : (t : Tree) (place : Place) → WellFormed t → is_root place ≡ false → has_entries t.names place ≡ false → WellFormed (record t { names = without_node t.names place })
 well-without t place well apart empty =
@@ -156,7 +157,7 @@ taken-differs names old new there free =
 well-renamed : (t : Tree) (old new : Place) → WellFormed t → Led t new → not (is_taken (node_at t.names old)) ≡ false → is_root old ≡ false → is_taken (node_at t.names new) ≡ false → goes_inside t.names old new ≡ false → WellFormed (moved t old new)
 well-renamed t old new well leads there not_root free outside =
     let apart = apart-from t.names old new well.parents outside (taken-differs t.names old new there free) leads.above in
-    well-formed-moved t old new well (free-from t new well (none-from (node_at t.names new) free)) leads.named not_root apart leads.above
+    well-formed-moved t old new well (free-from t new well (absent-of (node_at t.names new) free)) leads.named not_root apart leads.above
 
 -- what is replaced has no entries
 replaced-empty : (t : Tree) (old new : Place) (b : Bool) → is_directory (node_at t.names new) ≡ b → WellFormed t → not (is_taken (node_at t.names old)) ≡ false → ((is_taken (node_at t.names old) && not (is_directory (node_at t.names old))) && is_directory (node_at t.names new)) ≡ false → (is_directory (node_at t.names old) && (is_directory (node_at t.names new) && has_entries t.names new)) ≡ false → has_entries t.names new ≡ false
