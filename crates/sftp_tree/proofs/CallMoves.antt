@@ -9,9 +9,10 @@ use Rattle.sftp_tree.specs.declared.causes.Cause.TheVariants.{NoEntry, NotDir, E
 use Rattle.sftp_tree.specs.Tree.{Tree, IsKept, fits, node_at, with_node, is_taken, is_directory, is_file, has_entries}
 use Rattle.sftp_tree.specs.Steps.{CauseSet, is_none, making_causes, causes_at, new_causes_at, causes_between, target_between, are_one, are_one_file, goes_inside, moved, put_in_its_stead, with_further_name}
 use Rattle.sftp_tree.specs.Judged.{with_room, causes_at_place, causes_at_places}
-use Rattle.sftp_tree.proofs.CallSets.{none-in, room-in}
+use Rattle.sftp_tree.proofs.CallSets.{room-in}
 use Rattle.sftp_tree.proofs.CallPlaces.{absent-of, file-of, below-root, apart-of, moved-is}
 use Rattle.sftp_tree.proofs.CauseSets.{and-false}
+use Rattle.sftp_tree.proofs.KeepCauses.{none-each}
 
 neither : (a b : Bool) → (a || b) ≡ false → (a ≡ false) × (b ≡ false)
 neither false b e = (refl, e)
@@ -21,7 +22,7 @@ neither true b e = absurd cc
 
 pub making-absent : (t : Tree) (place : Place) (asked : Tree) → IsTrue (is_none (with_room (making_causes (node_at t.names place)) asked)) → node_at t.names place ≡ None
 making-absent t place asked none =
-    absent-of (node_at t.names place) (none-in (with_room (making_causes (node_at t.names place)) asked) none Exists)
+    absent-of (node_at t.names place) (none-each (with_room (making_causes (node_at t.names place)) asked) none Exists)
 
 pub making-fits : (t : Tree) (place : Place) (asked : Tree) → IsTrue (is_none (with_room (making_causes (node_at t.names place)) asked)) → IsTrue (fits asked)
 making-fits t place asked none = room-in (making_causes (node_at t.names place)) asked refl none
@@ -40,11 +41,11 @@ pub record MayGo (t : Tree) (old new : Place) : Type 0 where
 -- RENAME: nothing stands at the new place
 pub rename-absent : (t : Tree) (old new : Place) (oldpath newpath : List ℕ) → IsTrue (is_none (causes_at_places t (Rename oldpath newpath) old new)) → node_at t.names new ≡ None
 rename-absent t old new oldpath newpath none =
-    absent-of (node_at t.names new) (neither (is_taken (node_at t.names new)) false (none-in (causes_at_places t (Rename oldpath newpath) old new) none Exists)).0
+    absent-of (node_at t.names new) (neither (is_taken (node_at t.names new)) false (none-each (causes_at_places t (Rename oldpath newpath) old new) none Exists)).0
 
 pub rename-may : (t : Tree) (old new : Place) (oldpath newpath : List ℕ) → IsKept t → IsTrue (is_none (causes_at_places t (Rename oldpath newpath) old new)) → MayGo t old new
 rename-may t old new oldpath newpath kept none =
-    let each = none-in (causes_at_places t (Rename oldpath newpath) old new) none in
+    let each = none-each (causes_at_places t (Rename oldpath newpath) old new) none in
     let free = rename-absent t old new oldpath newpath none in
     let there = not-false (is_taken (node_at t.names old)) (neither (not (is_taken (node_at t.names old))) false (each NoEntry)).0 in
     record {
@@ -64,7 +65,7 @@ other-one true b apart e = cc
 -- posix-rename, where the places are not one
 pub replace-may : (t : Tree) (old new : Place) (oldpath newpath : List ℕ) → IsTrue (is_none (causes_at_places t (PosixRename oldpath newpath) old new)) → are_one t.names old new ≡ false → MayGo t old new
 replace-may t old new oldpath newpath none apart =
-    let each = none-in (causes_at_places t (PosixRename oldpath newpath) old new) none in
+    let each = none-each (causes_at_places t (PosixRename oldpath newpath) old new) none in
     let below = neither (is_root old) (is_root new || (not (are_one t.names old new) && false)) (each Root) in
     let plain : CauseSet = (λ c. causes_at t (PosixRename oldpath newpath) old c || (new_causes_at t (PosixRename oldpath newpath) new c || causes_between t (PosixRename oldpath newpath) old new c)) in
     record {
@@ -86,7 +87,7 @@ alone-of false old_is new_is true is a b other = cc
 -- what stands at the new place has no entries, if only a directory may have some
 pub replace-alone : (t : Tree) (old new : Place) (oldpath newpath : List ℕ) → IsTrue (is_none (causes_at_places t (PosixRename oldpath newpath) old new)) → are_one t.names old new ≡ false → (is_directory (node_at t.names new) ≡ false → has_entries t.names new ≡ false) → has_entries t.names new ≡ false
 replace-alone t old new oldpath newpath none apart other =
-    let each = none-in (causes_at_places t (PosixRename oldpath newpath) old new) none in
+    let each = none-each (causes_at_places t (PosixRename oldpath newpath) old new) none in
     let old_is = is_directory (node_at t.names old) in
     let new_is = is_directory (node_at t.names new) in
     alone-of (is_taken (node_at t.names old)) old_is new_is (has_entries t.names new) (replace-may t old new oldpath newpath none apart).taken (other-one (are_one t.names old new) ((is_taken (node_at t.names old) && not old_is) && new_is) apart (each IsDir)) (other-one (are_one t.names old new) (old_is && (new_is && has_entries t.names new)) apart (each NotEmpty)) other
@@ -95,13 +96,13 @@ replace-alone t old new oldpath newpath none apart other =
 
 pub further-file : (t : Tree) (old new : Place) (oldpath newpath : List ℕ) → IsTrue (is_none (causes_at_places t (Hardlink oldpath newpath) old new)) → IsTrue (is_file (node_at t.names old))
 further-file t old new oldpath newpath none =
-    let each = none-in (causes_at_places t (Hardlink oldpath newpath) old new) none in
+    let each = none-each (causes_at_places t (Hardlink oldpath newpath) old new) none in
     let there = not-false (is_taken (node_at t.names old)) (neither (not (is_taken (node_at t.names old))) false (each NoEntry)).0 in
     file-of (node_at t.names old) there (neither (is_taken (node_at t.names old) && not (is_file (node_at t.names old))) false (each NotFile)).0
 
 pub further-absent : (t : Tree) (old new : Place) (oldpath newpath : List ℕ) → IsTrue (is_none (causes_at_places t (Hardlink oldpath newpath) old new)) → node_at t.names new ≡ None
 further-absent t old new oldpath newpath none =
-    absent-of (node_at t.names new) (neither (is_taken (node_at t.names new)) false (none-in (causes_at_places t (Hardlink oldpath newpath) old new) none Exists)).0
+    absent-of (node_at t.names new) (neither (is_taken (node_at t.names new)) false (none-each (causes_at_places t (Hardlink oldpath newpath) old new) none Exists)).0
 
 pub further-fits : (t : Tree) (old new : Place) (oldpath newpath : List ℕ) (number : ℕ) → IsTrue (is_none (causes_at_places t (Hardlink oldpath newpath) old new)) → node_at t.names old ≡ Some (File number) → IsTrue (fits (record t { names = with_node t.names new (File number) }))
 further-fits t old new oldpath newpath number none there =
@@ -111,7 +112,7 @@ further-fits t old new oldpath newpath number none there =
 
 pub removing-parts : (t : Tree) (place : Place) (path : List ℕ) → IsTrue (is_none (causes_at_place t (Rmdir path) place)) → IsTrue (is_taken (node_at t.names place)) × (is_root place ≡ false) × (has_entries t.names place ≡ false)
 removing-parts t place path none =
-    let each = none-in (causes_at_place t (Rmdir path) place) none in
+    let each = none-each (causes_at_place t (Rmdir path) place) none in
     let there = not-false (is_taken (node_at t.names place)) (each NoEntry) in
     let directory = directory-of (is_taken (node_at t.names place)) (is_directory (node_at t.names place)) there (each NotDir) in
     (there, each Root, ap (λ b. b && has_entries t.names place) (sym directory) ∙ each NotEmpty)

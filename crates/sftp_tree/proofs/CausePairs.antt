@@ -15,10 +15,11 @@ use Rattle.sftp_tree.specs.Sets.{in_set}
 use Rattle.sftp_tree.specs.Judged.{has_room, move_fits, with_room, causes_at_places, IsSet}
 use Rattle.sftp_tree.proofs.CauseLed.{or-false}
 use Rattle.sftp_tree.proofs.CauseRoom.{fits-put}
-use Rattle.sftp_tree.proofs.CauseSets.{set-whole, set-joined, none-holds}
+use Rattle.sftp_tree.proofs.CauseSets.{set-whole, set-joined}
 use Rattle.sftp_tree.proofs.CauseMoved.{fits-moved, fits-put_in_stead, nothing-from, nothing-left}
 use Rattle.sftp_tree.proofs.StepTables.{and-true}
 use Rattle.sftp_tree.proofs.CallPlaces.{absent-of}
+use Rattle.sftp_tree.proofs.KeepCauses.{none-each}
 
 -- ---- tests
 
@@ -44,7 +45,7 @@ file-link (Some (Link goal)) there file = absurd cc
 
 linking-room : (t : Tree) (old new : Place) → IsKept t → is_none (λ c. file_causes (node_at t.names old) c || (making_causes (node_at t.names new) c || false)) ≡ true → fits (with_further_name t (node_at t.names old) new) ≡ has_room t new
 linking-room t old new kept none =
-    let holds = none-holds (λ c. file_causes (node_at t.names old) c || (making_causes (node_at t.names new) c || false)) none in
+    let holds = none-each (λ c. file_causes (node_at t.names old) c || (making_causes (node_at t.names new) c || false)) none in
     let file = file-link (node_at t.names old) (first (file_causes (node_at t.names old) NoEntry) _ (holds NoEntry)) (first (file_causes (node_at t.names old) NotFile) _ (holds NotFile)) in
     let free = absent-of (node_at t.names new) (first (is_taken (node_at t.names new)) false (holds Exists)) in
     ap (λ found. fits (with_further_name t found new)) file.1
@@ -79,7 +80,7 @@ moving_plain t old new c = leaving_causes t.names old c || (making_causes (node_
 renaming-room : (t : Tree) (old new : Place) → IsKept t → NothingBelow → AloneThere → is_none (moving_plain t old new) ≡ true → fits (moved t old new) ≡ move_fits t.names old new
 unfolding moving_plain
 renaming-room t old new kept below alone none =
-    let holds = none-holds (moving_plain t old new) none in
+    let holds = none-each (moving_plain t old new) none in
     let taken = not-false (is_taken (node_at t.names old)) (first (not (is_taken (node_at t.names old))) _ (holds NoEntry)) in
     let free = absent-of (node_at t.names new) (first (is_taken (node_at t.names new)) false (holds Exists)) in
     fits-moved t old new kept taken (nothing-from t.names new free (alone t new kept (below t new kept (ap is_directory free))))
@@ -105,7 +106,7 @@ empty-there false true false entries there first second below = absurd cc
 replacing-room : (t : Tree) (old new : Place) → IsKept t → NothingBelow → AloneThere → PlacesApart → are_one t.names old new ≡ false → is_none (replacing_plain t old new) ≡ true → fits (put_in_its_stead t old new) ≡ move_fits t.names old new
 unfolding replacing_plain
 replacing-room t old new kept below alone apart two none =
-    let holds = none-holds (replacing_plain t old new) none in
+    let holds = none-each (replacing_plain t old new) none in
     let taken = not-false (is_taken (node_at t.names old)) (first (not (is_taken (node_at t.names old))) _ (holds NoEntry)) in
     let empty = empty-there (is_directory (node_at t.names old)) (is_directory (node_at t.names new)) (is_taken (node_at t.names old)) (has_entries t.names new) taken (holds NotEmpty) (holds IsDir) (below t new kept) in
     let elsewhere = first (same_place old new) (are_one_file (node_at t.names old) (node_at t.names new)) two in

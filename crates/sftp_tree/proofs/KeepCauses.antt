@@ -19,10 +19,6 @@ none-listed set (c ∷ cs) h =
     let parts = or_parts (set c) (list_any set cs) h in
     (parts.0, none-listed set cs parts.1)
 
-listed-none : (set : CauseSet) → ((c : Cause) → set c ≡ false) → (es : List Cause) → list_any set es ≡ false
-listed-none set none [] = refl
-listed-none set none (c ∷ cs) = (λ i. none c i || listed-none set none cs i)
-
 by-list : (set : CauseSet) → AllByRecursion (λ c. set c ≡ false) every_cause → (c : Cause) → set c ≡ false
 by-list set h BadPath = h.0
 by-list set h NoEntry = h.1.0
@@ -41,8 +37,8 @@ by-list set h NoRoom = h.1.1.1.1.1.1.1.1.1.1.1.0
 pub none-each : (set : CauseSet) → IsTrue (is_none set) → (c : Cause) → set c ≡ false
 none-each set none = by-list set (none-listed set every_cause (not-true (list_any set every_cause) none))
 
-each-none : (set : CauseSet) → ((c : Cause) → set c ≡ false) → is_none set ≡ true
-each-none set none = ap not (listed-none set none every_cause)
+pub each-none : (set : CauseSet) → ((c : Cause) → set c ≡ false) → is_none set ≡ true
+each-none set none = λ i. is_none (λ c. none c i)
 
 -- ---- the causes but for the want of room
 
