@@ -1,17 +1,17 @@
 -- What the calls for requests share: where a request leads, which causes then hold of it, and what it asks for.
-use Rattle.std.proofs.Common.{◌≡◌, ℕ, Bool, if◌then◌else◌, true, false, ◌&&◌, not, List, [], refl, sym, subst, ◌∙◌, ap, Some, None, IsTrue, Result, Ok, Err}
+use Rattle.std.proofs.Common.{◌≡◌, ℕ, Bool, true, false, ◌&&◌, not, List, refl, sym, subst, ◌∙◌, ap, Some, None, IsTrue, Result, Ok}
 use Rattle.std.specs.Option.{option_map}
 use Rattle.std.specs.Result.{IfErr, IsErrAnd}
 use Rattle.std.proofs.lemmas.Result.{err_from_is_err_and}
 use Rattle.sftp_wire.specs.declared.packets.Ask.{Ask}
-use Rattle.sftp_path.specs.Place.{Place, is_good_path}
+use Rattle.sftp_path.specs.Place.{Place}
 use Rattle.sftp_tree.specs.declared.causes.Cause.{Cause}
 use Rattle.sftp_tree.specs.declared.causes.Cause.TheVariants.{BadPath, NoEntry, NotDir, Loop, Exists, IsDir, NotLink, NotFile, NotEmpty, Root, Inside, NoRoom}
 use Rattle.sftp_tree.specs.declared.causes.Causes.{Causes}
 use Rattle.sftp_tree.specs.declared.causes.Refused.{Refused}
 use Rattle.sftp_tree.specs.declared.causes.Refused.TheVariants as refusals
 use Rattle.sftp_tree.specs.Tree.{Tree, fits}
-use Rattle.sftp_tree.specs.Walk.{reached, walk, link_limit, steps_of}
+use Rattle.sftp_tree.specs.Walk.{reached}
 use Rattle.sftp_tree.specs.Steps.{CauseSet, path_of, new_path_of, follows, led, new_led, led_to, target_at, target_between, target_on, target, is_none, causes}
 use Rattle.sftp_tree.specs.Sets.{in_set, IsFree, IsRefusal}
 use Rattle.sftp_tree.specs.Judged.{IsSet, with_room}
@@ -30,11 +30,6 @@ new-led-is t ask path r asked reaches =
 
 pub new-led-none : (t : Tree) (ask : Ask) → new_path_of ask ≡ None → new_led t ask ≡ None
 new-led-none t ask asked = λ i. option_map (reached t false) (asked i)
-
--- a bad path leads nowhere
-pub bad-lost : (t : Tree) (follow : Bool) (path : List ℕ) → is_good_path path ≡ false → reached t follow path ≡ Err BadPath
-unfolding reached
-bad-lost t follow path bad = λ i. if bad i then walk t.names follow link_limit [] (steps_of t path) else Err BadPath
 
 -- what a request of one path asks for
 pub target-one : (t : Tree) (ask : Ask) (place : Place) → led t ask ≡ Some (Ok place) → new_led t ask ≡ None → target t ask ≡ target_at t ask place

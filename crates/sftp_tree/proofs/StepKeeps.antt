@@ -22,7 +22,7 @@ use Rattle.sftp_tree.specs.declared.causes.Cause.TheVariants.{NoEntry, NotDir, E
 use Rattle.sftp_tree.specs.Tree.{Names, Tree, WellFormed, IsKept, IsNode, IsContent, fits, node_at, with_node, without_node, content_at, is_taken, is_directory, has_entries, trim}
 use Rattle.sftp_tree.specs.Walk.{reached}
 use Rattle.sftp_tree.specs.Attributes.{directory_owner, changed_owner, changed_content}
-use Rattle.sftp_tree.specs.Steps.{path_of, new_path_of, follows, led, new_led, causes_at, new_causes_at, causes_between, goes_inside, are_one, are_one_file, replacing_causes, with_changed_file, with_attributes, target_at, moved, put_in_its_stead, with_further_name, target_between, target_on, led_to, target, after}
+use Rattle.sftp_tree.specs.Steps.{path_of, new_path_of, follows, led, new_led, causes_at, new_causes_at, causes_between, goes_inside, are_one, are_one_file, replacing_causes, with_changed_file, with_attributes, target_at, moved, put_in_its_stead, with_further_name, target_between, target, after}
 use Rattle.sftp_tree.specs.Sets.{IsFree}
 use Rattle.sftp_tree.proofs.KeepTables.{each-get}
 use Rattle.sftp_tree.proofs.KeepFields.{bytes-fit, owner-fits, changed-owner-fits, changed-content-fits}
@@ -33,6 +33,7 @@ use Rattle.sftp_tree.proofs.KeepValues.{well-formed-content}
 use Rattle.sftp_tree.proofs.KeepMoves.{well-formed-moved, well-formed-in-stead}
 use Rattle.sftp_tree.proofs.KeepTrim.{kept-trim}
 use Rattle.sftp_tree.proofs.CallPlaces.{absent-of}
+use Rattle.sftp_tree.proofs.CauseLed.{target-led}
 
 -- ---- where the paths of a request lead
 
@@ -191,31 +192,27 @@ well-between t other old new well leads at_old at_new between = well
 
 -- ---- every request
 
-target-is : (t : Tree) (ask : Ask) (l n : Option (Result Place Cause)) → led t ask ≡ l → new_led t ask ≡ n → target t ask ≡ led_to t l (λ place. target_on t ask place n)
-unfolding target
-target-is t ask l n e f = λ i. led_to t (e i) (λ place. target_on t ask place (f i))
-
 -- a tree within the limits, which may have files with no name
 pub record Stands (t : Tree) : Type 0 where
   pub well_formed : WellFormed t
   pub within_limits : IsTrue (fits t)
 
 target-stands-by : (t : Tree) (ask : Ask) (l n : Option (Result Place Cause)) → led t ask ≡ l → new_led t ask ≡ n → LeadsWell t → Stands t → FitsAsk ask → IsFree t ask → Stands (target t ask)
-target-stands-by t ask None n e f leads stands fit free = subst Stands (sym (target-is t ask None n e f)) stands
-target-stands-by t ask (Some (Err failed)) n e f leads stands fit free = subst Stands (sym (target-is t ask (Some (Err failed)) n e f)) stands
+target-stands-by t ask None n e f leads stands fit free = subst Stands (sym (target-led t ask None n e f)) stands
+target-stands-by t ask (Some (Err failed)) n e f leads stands fit free = subst Stands (sym (target-led t ask (Some (Err failed)) n e f)) stands
 target-stands-by t ask (Some (Ok place)) None e f leads stands fit free =
     let none = free-at t ask place free e f in
     record {
-      well_formed = subst WellFormed (sym (target-is t ask (Some (Ok place)) None e f)) (well-at t ask place stands.well_formed fit (place-led t ask place leads fit e) none.none);
+      well_formed = subst WellFormed (sym (target-led t ask (Some (Ok place)) None e f)) (well-at t ask place stands.well_formed fit (place-led t ask place leads fit e) none.none);
       within_limits = none.room;
     }
 target-stands-by t ask (Some (Ok place)) (Some (Err failed)) e f leads stands fit free =
-    subst Stands (sym (target-is t ask (Some (Ok place)) (Some (Err failed)) e f)) stands
+    subst Stands (sym (target-led t ask (Some (Ok place)) (Some (Err failed)) e f)) stands
 target-stands-by t ask (Some (Ok old)) (Some (Ok new)) e f leads stands fit free =
     let none = free-between t ask old new free e f in
     record {
       well_formed =
-          subst WellFormed (sym (target-is t ask (Some (Ok old)) (Some (Ok new)) e f))
+          subst WellFormed (sym (target-led t ask (Some (Ok old)) (Some (Ok new)) e f))
           (well-between t ask old new stands.well_formed (new-place-led t ask new leads fit f) none.at_old none.at_new none.between);
       within_limits = none.room;
     }
