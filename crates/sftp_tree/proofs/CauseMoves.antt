@@ -1,7 +1,7 @@
 -- Which moves keep to the most names of a place.
 use Rattle.std.proofs.Common.{◌≡◌, ℕ, ◌-◌, Bool, true, false, ◌&&◌, ◌||◌, not, cond, [], ◌∷◌, length, refl, sym, ◌∙◌, ap, nat_le}
 use Rattle.std.specs.Cmp.Lexicographic.{bytes_decides, texts_ties, nat_list_cmp_total}
-use Rattle.std.specs.Ordering.{ordering_then, ordering_reverse, is_eq, is_le}
+use Rattle.std.specs.Ordering.{ordering_then, is_eq, is_le}
 use Rattle.std.specs.declared.cmp.Ordering.{Ordering}
 use Rattle.std.specs.declared.cmp.Ordering.TheVariants.{Less, Equal, Greater}
 use Rattle.std.specs.declared.ops.Bound.TheVariants.{Included, Unbounded}
@@ -15,18 +15,9 @@ use Rattle.sftp_path.specs.Place.{Place, name_cmp, place_cmp, same_bytes, begins
 use Rattle.sftp_tree.specs.declared.nodes.Node.{Node}
 use Rattle.sftp_tree.specs.Tree.{Names}
 use Rattle.sftp_tree.specs.Judged.{reaches_at_most}
+use Rattle.sftp_tree.proofs.StepBelow.{between-names}
 
 -- ---- the places that a place begins stand in a row, from it on
-
--- a name that is neither below nor above another is that name
-between-names : (o q : Ordering) (x y : Ordering) → o ≡ ordering_reverse q → ordering_then o x ≡ Less → ordering_then q y ≡ Less → (o ≡ Equal) × (x ≡ Less) × (y ≡ Less)
-between-names Less Less x y turned first second = cc
-between-names Less Equal x y turned first second = cc
-between-names Less Greater x y turned first second = cc
-between-names Equal Less x y turned first second = cc
-between-names Equal Equal x y turned first second = (refl, first, second)
-between-names Equal Greater x y turned first second = cc
-between-names Greater q x y turned first second = cc
 
 -- what stands between a place and one that it begins, it begins too
 begins-between : (p a b : Place) → place_cmp p a ≡ Less → place_cmp a b ≡ Less → begins p b ≡ true → begins p a ≡ true

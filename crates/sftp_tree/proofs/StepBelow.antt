@@ -37,7 +37,7 @@ less-from_below (m ∷ ms) (n ∷ ns) below =
     ap (λ o. ordering_then o (place_cmp ms ns)) (same_bytes-cmp m n (first_so (same_bytes m n) (is_below ms ns) below)) ∙ less-from_below ms ns (second_so (same_bytes m n) (is_below ms ns) below)
 
 -- a name that is neither below nor above another is that name
-between-names : (o q : Ordering) (x y : Ordering) → o ≡ ordering_reverse q → ordering_then o x ≡ Less → ordering_then q y ≡ Less → (o ≡ Equal) × (x ≡ Less) × (y ≡ Less)
+pub between-names : (o q : Ordering) (x y : Ordering) → o ≡ ordering_reverse q → ordering_then o x ≡ Less → ordering_then q y ≡ Less → (o ≡ Equal) × (x ≡ Less) × (y ≡ Less)
 between-names Less Less x y turned first second = cc
 between-names Less Equal x y turned first second = cc
 between-names Less Greater x y turned first second = cc
