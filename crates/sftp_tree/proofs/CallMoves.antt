@@ -1,6 +1,7 @@
 -- What it says of the places of a request that none of its causes holds.
 use Rattle.std.proofs.Common.{◌≡◌, ℕ, Bool, true, false, ◌&&◌, ◌||◌, not, if◌then◌else◌, List, refl, sym, ◌∙◌, ap, Some, None, IsTrue}
-use Rattle.std.proofs.lemmas.Bool.{not-false}
+use Rattle.std.proofs.lemmas.Bool.{not-false, or_parts}
+use Rattle.std.proofs.Math.Bool.{and-false}
 use Rattle.sftp_wire.specs.declared.packets.Ask.TheVariants.{Rmdir, Rename, PosixRename, Hardlink}
 use Rattle.sftp_path.specs.Place.{Place}
 use Rattle.sftp_treefile.specs.TreeFile.{is_root, same_place}
@@ -11,12 +12,7 @@ use Rattle.sftp_tree.specs.Steps.{CauseSet, is_none, making_causes, causes_at, n
 use Rattle.sftp_tree.specs.Judged.{with_room, causes_at_place, causes_at_places}
 use Rattle.sftp_tree.proofs.CallSets.{room-in}
 use Rattle.sftp_tree.proofs.CallPlaces.{absent-of, file-of, below-root, apart-of, moved-is}
-use Rattle.sftp_tree.proofs.CauseSets.{and-false}
 use Rattle.sftp_tree.proofs.KeepCauses.{none-each}
-
-neither : (a b : Bool) → (a || b) ≡ false → (a ≡ false) × (b ≡ false)
-neither false b e = (refl, e)
-neither true b e = absurd cc
 
 -- ---- what is to be made
 
@@ -41,16 +37,16 @@ pub record MayGo (t : Tree) (old new : Place) : Type 0 where
 -- RENAME: nothing stands at the new place
 pub rename-absent : (t : Tree) (old new : Place) (oldpath newpath : List ℕ) → IsTrue (is_none (causes_at_places t (Rename oldpath newpath) old new)) → node_at t.names new ≡ None
 rename-absent t old new oldpath newpath none =
-    absent-of (node_at t.names new) (neither (is_taken (node_at t.names new)) false (none-each (causes_at_places t (Rename oldpath newpath) old new) none Exists)).0
+    absent-of (node_at t.names new) (or_parts (is_taken (node_at t.names new)) false (none-each (causes_at_places t (Rename oldpath newpath) old new) none Exists)).0
 
 pub rename-may : (t : Tree) (old new : Place) (oldpath newpath : List ℕ) → IsKept t → IsTrue (is_none (causes_at_places t (Rename oldpath newpath) old new)) → MayGo t old new
 rename-may t old new oldpath newpath kept none =
     let each = none-each (causes_at_places t (Rename oldpath newpath) old new) none in
     let free = rename-absent t old new oldpath newpath none in
-    let there = not-false (is_taken (node_at t.names old)) (neither (not (is_taken (node_at t.names old))) false (each NoEntry)).0 in
+    let there = not-false (is_taken (node_at t.names old)) (or_parts (not (is_taken (node_at t.names old))) false (each NoEntry)).0 in
     record {
       taken = there;
-      old_below_root = (neither (is_root old) false (each Root)).0;
+      old_below_root = (or_parts (is_root old) false (each Root)).0;
       new_below_root = below-root t new kept (ap is_directory free);
       outside = each Inside;
       elsewhere = apart-of t.names old new there free;
@@ -66,14 +62,14 @@ other-one true b apart e = cc
 pub replace-may : (t : Tree) (old new : Place) (oldpath newpath : List ℕ) → IsTrue (is_none (causes_at_places t (PosixRename oldpath newpath) old new)) → are_one t.names old new ≡ false → MayGo t old new
 replace-may t old new oldpath newpath none apart =
     let each = none-each (causes_at_places t (PosixRename oldpath newpath) old new) none in
-    let below = neither (is_root old) (is_root new || (not (are_one t.names old new) && false)) (each Root) in
+    let below = or_parts (is_root old) (is_root new || (not (are_one t.names old new) && false)) (each Root) in
     let plain : CauseSet = (λ c. causes_at t (PosixRename oldpath newpath) old c || (new_causes_at t (PosixRename oldpath newpath) new c || causes_between t (PosixRename oldpath newpath) old new c)) in
     record {
-      taken = not-false (is_taken (node_at t.names old)) (neither (not (is_taken (node_at t.names old))) (not (are_one t.names old new) && false) (each NoEntry)).0;
+      taken = not-false (is_taken (node_at t.names old)) (or_parts (not (is_taken (node_at t.names old))) (not (are_one t.names old new) && false) (each NoEntry)).0;
       old_below_root = below.0;
-      new_below_root = (neither (is_root new) (not (are_one t.names old new) && false) below.1).0;
+      new_below_root = (or_parts (is_root new) (not (are_one t.names old new) && false) below.1).0;
       outside = other-one (are_one t.names old new) (goes_inside t.names old new) apart (each Inside);
-      elsewhere = (neither (same_place old new) (are_one_file (node_at t.names old) (node_at t.names new)) apart).0;
+      elsewhere = (or_parts (same_place old new) (are_one_file (node_at t.names old) (node_at t.names new)) apart).0;
       fits = ap (λ b. fits (if b then t else put_in_its_stead t old new)) (sym apart) ∙ room-in plain (target_between t (PosixRename oldpath newpath) old new) (and-false (not (are_one t.names old new))) none;
     }
 
@@ -97,12 +93,12 @@ replace-alone t old new oldpath newpath none apart other =
 pub further-file : (t : Tree) (old new : Place) (oldpath newpath : List ℕ) → IsTrue (is_none (causes_at_places t (Hardlink oldpath newpath) old new)) → IsTrue (is_file (node_at t.names old))
 further-file t old new oldpath newpath none =
     let each = none-each (causes_at_places t (Hardlink oldpath newpath) old new) none in
-    let there = not-false (is_taken (node_at t.names old)) (neither (not (is_taken (node_at t.names old))) false (each NoEntry)).0 in
-    file-of (node_at t.names old) there (neither (is_taken (node_at t.names old) && not (is_file (node_at t.names old))) false (each NotFile)).0
+    let there = not-false (is_taken (node_at t.names old)) (or_parts (not (is_taken (node_at t.names old))) false (each NoEntry)).0 in
+    file-of (node_at t.names old) there (or_parts (is_taken (node_at t.names old) && not (is_file (node_at t.names old))) false (each NotFile)).0
 
 pub further-absent : (t : Tree) (old new : Place) (oldpath newpath : List ℕ) → IsTrue (is_none (causes_at_places t (Hardlink oldpath newpath) old new)) → node_at t.names new ≡ None
 further-absent t old new oldpath newpath none =
-    absent-of (node_at t.names new) (neither (is_taken (node_at t.names new)) false (none-each (causes_at_places t (Hardlink oldpath newpath) old new) none Exists)).0
+    absent-of (node_at t.names new) (or_parts (is_taken (node_at t.names new)) false (none-each (causes_at_places t (Hardlink oldpath newpath) old new) none Exists)).0
 
 pub further-fits : (t : Tree) (old new : Place) (oldpath newpath : List ℕ) (number : ℕ) → IsTrue (is_none (causes_at_places t (Hardlink oldpath newpath) old new)) → node_at t.names old ≡ Some (File number) → IsTrue (fits (record t { names = with_node t.names new (File number) }))
 further-fits t old new oldpath newpath number none there =

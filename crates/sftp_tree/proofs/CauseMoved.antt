@@ -9,6 +9,7 @@ use Rattle.std.specs.BTreeMap.{is_at}
 use Rattle.std.proofs.lemmas.Bool.{and_parts}
 use Rattle.std.proofs.lemmas.Bool.Decides.{nat_tests}
 use Rattle.std.proofs.lemmas.List.{append-nil, length-append}
+use Rattle.std.proofs.Math.Bool.{and-true}
 use Rattle.sftp_path.specs.Place.{Name, Place, place_cmp, begins, depth_limit}
 use Rattle.sftp_path.specs.Table.{get, without}
 use Rattle.sftp_path.specs.Rekeying.{renamed, rekeyed, NothingFrom}
@@ -23,7 +24,7 @@ use Rattle.sftp_tree.specs.Tree.{Names, Tree, IsKept, limits, fits, depth_fits, 
 use Rattle.sftp_tree.specs.Judged.{reaches_at_most, move_fits}
 use Rattle.sftp_tree.specs.Steps.{moved, put_in_its_stead}
 use Rattle.sftp_tree.proofs.CauseRoom.{fits-names}
-use Rattle.sftp_tree.proofs.StepTables.{and-true, length-without}
+use Rattle.sftp_tree.proofs.StepTables.{length-without}
 use Rattle.sftp_tree.proofs.KeepFits.{Fits, fits-parts}
 use Rattle.sftp_tree.proofs.KeepLimits.{fewer}
 

@@ -2,6 +2,7 @@
 use Rattle.std.proofs.Common.{◌≡◌, ℕ, Bool, true, false, ◌&&◌, ◌||◌, not, if◌then◌else◌, List, ◌∷◌, ◌++◌, refl, sym, subst, ◌∙◌, ap, Option, Some, None, IsTrue}
 use Rattle.std.specs.List.{list_any}
 use Rattle.std.proofs.lemmas.Bool.{not-false}
+use Rattle.std.proofs.Math.Bool.{and-true, or-false, not-not}
 use Rattle.sftp_wire.specs.declared.packets.Ask.TheVariants.{Rename, PosixRename, Hardlink}
 use Rattle.sftp_path.specs.Place.{Name, Place, parent, begins}
 use Rattle.sftp_treefile.specs.TreeFile.{same_place}
@@ -13,19 +14,13 @@ use Rattle.sftp_tree.specs.Tree.{Tree, IsKept, fits, node_at, is_taken, is_direc
 use Rattle.sftp_tree.specs.Steps.{CauseSet, every_cause, is_none, making_causes, file_causes, leaving_causes, giving_causes, moving_causes, replacing_causes, goes_inside, are_one, are_one_file, with_further_name, moved, put_in_its_stead}
 use Rattle.sftp_tree.specs.Sets.{in_set}
 use Rattle.sftp_tree.specs.Judged.{has_room, move_fits, with_room, causes_at_places, IsSet}
-use Rattle.sftp_tree.proofs.CauseLed.{or-false}
 use Rattle.sftp_tree.proofs.CauseRoom.{fits-put}
 use Rattle.sftp_tree.proofs.CauseSets.{set-whole, set-joined}
 use Rattle.sftp_tree.proofs.CauseMoved.{fits-moved, fits-put_in_stead, nothing-from, nothing-left}
-use Rattle.sftp_tree.proofs.StepTables.{and-true}
 use Rattle.sftp_tree.proofs.CallPlaces.{absent-of}
 use Rattle.sftp_tree.proofs.KeepCauses.{none-each}
 
 -- ---- tests
-
-twice : (b : Bool) → b ≡ not (not b)
-twice true = refl
-twice false = refl
 
 first : (a b : Bool) → (a || b) ≡ false → a ≡ false
 first true b e = cc
@@ -56,7 +51,7 @@ pub linking-from : (t : Tree) (old new : Place) (oldpath newpath : List ℕ) (s 
 linking-from t old new oldpath newpath s any kept same is =
     set-joined s (λ c. file_causes (node_at t.names old) c || (making_causes (node_at t.names new) c || false)) (with_further_name t (node_at t.names old) new) (not (has_room t new)) any refl
     (λ c. same c ∙ ap (λ b. file_causes (node_at t.names old) c || b) (sym (or-false (making_causes (node_at t.names new) c)))) is
-    (λ none. linking-room t old new kept none ∙ twice (has_room t new))
+    (λ none. linking-room t old new kept none ∙ sym (not-not (has_room t new)))
 
 -- ---- what the laws of trees say
 
@@ -89,7 +84,7 @@ pub renaming-from : (t : Tree) (old new : Place) (oldpath newpath : List ℕ) (s
 unfolding moving_plain
 renaming-from t old new oldpath newpath s any kept below alone same is =
     set-joined s (moving_plain t old new) (moved t old new) (not (move_fits t.names old new)) any refl same is
-    (λ none. renaming-room t old new kept below alone none ∙ twice (move_fits t.names old new))
+    (λ none. renaming-room t old new kept below alone none ∙ sym (not-not (move_fits t.names old new)))
 
 -- ---- posix-rename
 
@@ -121,7 +116,7 @@ unfolding replacing_plain
 replacing-from t old new oldpath newpath s any kept below alone apart two same is =
     subst (λ b. IsSet (record s { no_room = not any && not (move_fits t.names old new) }) (replacing_set t old new b)) (sym two)
     (set-joined s (replacing_plain t old new) (put_in_its_stead t old new) (not (move_fits t.names old new)) any refl same is
-    (λ none. replacing-room t old new kept below alone apart two none ∙ twice (move_fits t.names old new)))
+    (λ none. replacing-room t old new kept below alone apart two none ∙ sym (not-not (move_fits t.names old new))))
 
 -- nothing is done where both are one
 pub one-from : (t : Tree) (old new : Place) (oldpath newpath : List ℕ) (s : Causes) → IsKept t → are_one t.names old new ≡ true → IsSet s (λ c. leaving_causes t.names old c || giving_causes new c) → IsSet s (causes_at_places t (PosixRename oldpath newpath) old new)

@@ -1,5 +1,6 @@
 -- The causes of requests by where the walks of their paths end.
 use Rattle.std.proofs.Common.{◌≡◌, ℕ, Bool, false, ◌||◌, List, refl, sym, ◌∙◌, ap, Some, None, Ok, Err}
+use Rattle.std.proofs.Math.Bool.{or-false}
 use Rattle.sftp_wire.specs.declared.packets.Ask.{Ask}
 use Rattle.sftp_path.specs.Place.{Place}
 use Rattle.sftp_tree.specs.declared.causes.Cause.{Cause}
@@ -11,7 +12,6 @@ use Rattle.sftp_tree.specs.Steps.{path_of, new_path_of, follows, only, causes_at
 use Rattle.sftp_tree.specs.Sets.{in_set}
 use Rattle.sftp_tree.specs.Judged.{just, causes_at_place, causes_at_places, IsSet}
 use Rattle.sftp_tree.proofs.CauseWalks.{led-room, new_led-room}
-use Rattle.sftp_tree.proofs.CauseLed.{or-false}
 use Rattle.sftp_tree.proofs.CauseSets.{just-is, only-apart, one-led, one-lost, two-led, lost}
 use Rattle.sftp_tree.proofs.CallSets.{led-is, new-led-is, new-led-none}
 

@@ -2,6 +2,7 @@
 use Rattle.std.proofs.Common.{◌≡◌, ℕ, ◌-◌, Bool, true, false, ◌&&◌, ◌||◌, not, List, length, take, replicate, refl, sym, ◌∙◌, ap, arith, Option, Some, None, IsTrue, nat_le, unwrap_or}
 use Rattle.std.specs.Option.{is_some, option_map}
 use Rattle.std.proofs.lemmas.List.{length-append, length-take, length-replicate}
+use Rattle.std.proofs.Math.Bool.{and-true, and-false}
 use Rattle.sftp_wire.specs.declared.attributes.Attrs.{Attrs}
 use Rattle.sftp_wire.specs.declared.packets.Ask.TheVariants.{Remove, Setstat}
 use Rattle.sftp_path.specs.Place.{Place}
@@ -17,8 +18,7 @@ use Rattle.sftp_tree.specs.Steps.{making_causes, needing_causes, link_causes, re
 use Rattle.sftp_tree.specs.Sets.{in_set}
 use Rattle.sftp_tree.specs.Judged.{no_causes, has_room, size_fits, making, needing, reading, removing, with_room, causes_at_place, IsSet}
 use Rattle.sftp_tree.proofs.CauseRoom.{fits-put, fits-without, fits-again, fits-content, content-fits}
-use Rattle.sftp_tree.proofs.CauseSets.{and-false, set-whole}
-use Rattle.sftp_tree.proofs.StepTables.{and-true}
+use Rattle.sftp_tree.proofs.CauseSets.{set-whole}
 use Rattle.sftp_tree.proofs.CallPlaces.{absent-of, node-kept}
 
 -- ---- what is to be made

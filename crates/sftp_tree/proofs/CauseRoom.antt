@@ -7,6 +7,7 @@ use Rattle.std.specs.Map.{lookup}
 use Rattle.std.specs.BTreeMap.{is_at}
 use Rattle.std.proofs.lemmas.Bool.{and_parts}
 use Rattle.std.proofs.lemmas.Cmp.{nat_cmp_total}
+use Rattle.std.proofs.Math.Bool.{and-true}
 use Rattle.sftp_path.specs.Place.{Place, place_cmp}
 use Rattle.sftp_path.specs.Table.{Table, get, InOrder}
 use Rattle.sftp_path.proofs.Order.{place_cmp-total}
@@ -16,7 +17,7 @@ use Rattle.sftp_tree.specs.declared.contents.Content.{Content}
 use Rattle.sftp_tree.specs.declared.nodes.Node.{Node}
 use Rattle.sftp_tree.specs.Tree.{Names, Tree, limits, fits, entries_fit, depths_fit, links_fit, files_fit, depth_fits, link_fits, content_fits, node_at, with_node, without_node, content_at, with_content}
 use Rattle.sftp_tree.specs.Judged.{has_room}
-use Rattle.sftp_tree.proofs.StepTables.{and-true, length-without}
+use Rattle.sftp_tree.proofs.StepTables.{length-without}
 use Rattle.sftp_tree.proofs.KeepFits.{Fits, fits-parts}
 use Rattle.sftp_tree.proofs.KeepLimits.{more-entries, fewer}
 

@@ -1,6 +1,7 @@
 -- Sets of causes as the code has them, and the sets that the definitions name.
 use Rattle.std.proofs.Common.{◌≡◌, Bool, true, false, ◌&&◌, ◌||◌, not, refl, sym, ◌∙◌, ap, Option, Some, None, Result, Ok, Err}
 use Rattle.std.specs.List.{list_any}
+use Rattle.std.proofs.Math.Bool.{and-false, or-false}
 use Rattle.sftp_wire.specs.declared.packets.Ask.{Ask}
 use Rattle.sftp_path.specs.Place.{Place}
 use Rattle.sftp_tree.specs.declared.causes.Cause.{Cause}
@@ -11,11 +12,7 @@ use Rattle.sftp_tree.specs.Steps.{CauseSet, every_cause, led, new_led, only, is_
 use Rattle.sftp_tree.specs.Sets.{in_set}
 use Rattle.sftp_tree.specs.Judged.{just, with_room, causes_at_place, causes_at_places, IsSet}
 use Rattle.sftp_tree.proofs.CauseWalks.{led-room}
-use Rattle.sftp_tree.proofs.CauseLed.{or-false, causes-are, plain_of, plain-led, target-led, led-one, led-two}
-
-pub and-false : (b : Bool) → (b && false) ≡ false
-and-false true = refl
-and-false false = refl
+use Rattle.sftp_tree.proofs.CauseLed.{causes-are, plain_of, plain-led, target-led, led-one, led-two}
 
 -- ---- with the want of room
 

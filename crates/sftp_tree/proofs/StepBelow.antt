@@ -12,6 +12,7 @@ use Rattle.std.specs.BTreeMap.{is_at}
 use Rattle.std.proofs.lemmas.Map.Keys.{sorted_head, sorted_tail}
 use Rattle.std.specs.BTreeMap.Range.{entries_between}
 use Rattle.std.specs.declared.ops.Bound.TheVariants.{Excluded, Unbounded}
+use Rattle.std.proofs.Math.Bool.{or-true}
 use Rattle.sftp_tree.specs.declared.nodes.Node.{Node}
 use Rattle.sftp_path.specs.Place.{Name, Place, name_cmp, place_cmp, same_bytes, is_below, parent}
 use Rattle.sftp_path.specs.Table.{get}
@@ -122,10 +123,6 @@ has-turn p q e es below rest true same taken =
     ap (λ x. is_below p x || list_any (λ e. is_below p e.0) es) (sym one) ∙ ap (λ b. b || list_any (λ e. is_below p e.0) es) below
 has-turn p q e es below rest false apart taken =
     ap (λ b. is_below p e.0 || b) (rest taken) ∙ or-true (is_below p e.0)
-  where
-    or-true : (b : Bool) → (b || true) ≡ true
-    or-true true = refl
-    or-true false = refl
 
 has-below : (p q : Place) (es : Names) → is_below p q ≡ true → is_taken (lookup (is_at (place_cmp q)) es) ≡ true → list_any (λ e. is_below p e.0) es ≡ true
 has-below p q [] below taken = cc

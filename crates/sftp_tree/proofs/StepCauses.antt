@@ -1,5 +1,6 @@
 -- The causes of requests with one path are the sets that the code has.
 use Rattle.std.proofs.Common.{◌≡◌, ℕ, Bool, true, false, ◌&&◌, ◌||◌, not, List, refl, sym, ◌∙◌, ap, Option, Some, None, Result, Ok, Err}
+use Rattle.std.proofs.Math.Bool.{and-true, and-false, or-false}
 use Rattle.sftp_wire.specs.declared.attributes.Attrs.{Attrs}
 use Rattle.sftp_wire.specs.declared.packets.Ask.{Ask}
 use Rattle.sftp_wire.specs.declared.packets.Ask.TheVariants.{Lstat, Mkdir, Rmdir, Realpath, Stat, Readlink, Symlink}
@@ -19,9 +20,8 @@ use Rattle.sftp_tree.specs.Judged.{no_causes, just, has_room, making, needing, r
 use Rattle.sftp_tree.proofs.CauseWalks.{led-room}
 use Rattle.sftp_tree.proofs.CauseLed as laws
 use Rattle.sftp_tree.proofs.CauseRoom.{fits-put}
-use Rattle.sftp_tree.proofs.CauseSets.{and-false, set-whole, just-is, only-apart, one-led, one-lost}
+use Rattle.sftp_tree.proofs.CauseSets.{set-whole, just-is, only-apart, one-led, one-lost}
 use Rattle.sftp_tree.proofs.CausePlaces.{making-is, needing-is, reading-is, none-is, removing-is, making-by}
-use Rattle.sftp_tree.proofs.StepTables.{and-true}
 use Rattle.sftp_tree.proofs.CallPlaces.{absent-of}
 
 -- ---- where a request leads
@@ -113,16 +113,16 @@ unfolding bad with-bad
 lost-set failed good apart BadPath = ap (λ b. b || not good) (just-is failed BadPath)
 lost-set failed good apart NoRoom =
     ap (λ b. b && good) (just-is failed NoRoom ∙ only-apart failed apart) ∙ sym (ap (λ b. b || false) (only-apart failed apart))
-lost-set failed good apart NoEntry = just-is failed NoEntry ∙ sym (laws.or-false (only failed NoEntry))
-lost-set failed good apart NotDir = just-is failed NotDir ∙ sym (laws.or-false (only failed NotDir))
-lost-set failed good apart Loop = just-is failed Loop ∙ sym (laws.or-false (only failed Loop))
-lost-set failed good apart Exists = just-is failed Exists ∙ sym (laws.or-false (only failed Exists))
-lost-set failed good apart IsDir = just-is failed IsDir ∙ sym (laws.or-false (only failed IsDir))
-lost-set failed good apart NotLink = just-is failed NotLink ∙ sym (laws.or-false (only failed NotLink))
-lost-set failed good apart NotFile = just-is failed NotFile ∙ sym (laws.or-false (only failed NotFile))
-lost-set failed good apart NotEmpty = just-is failed NotEmpty ∙ sym (laws.or-false (only failed NotEmpty))
-lost-set failed good apart Root = just-is failed Root ∙ sym (laws.or-false (only failed Root))
-lost-set failed good apart Inside = just-is failed Inside ∙ sym (laws.or-false (only failed Inside))
+lost-set failed good apart NoEntry = just-is failed NoEntry ∙ sym (or-false (only failed NoEntry))
+lost-set failed good apart NotDir = just-is failed NotDir ∙ sym (or-false (only failed NotDir))
+lost-set failed good apart Loop = just-is failed Loop ∙ sym (or-false (only failed Loop))
+lost-set failed good apart Exists = just-is failed Exists ∙ sym (or-false (only failed Exists))
+lost-set failed good apart IsDir = just-is failed IsDir ∙ sym (or-false (only failed IsDir))
+lost-set failed good apart NotLink = just-is failed NotLink ∙ sym (or-false (only failed NotLink))
+lost-set failed good apart NotFile = just-is failed NotFile ∙ sym (or-false (only failed NotFile))
+lost-set failed good apart NotEmpty = just-is failed NotEmpty ∙ sym (or-false (only failed NotEmpty))
+lost-set failed good apart Root = just-is failed Root ∙ sym (or-false (only failed Root))
+lost-set failed good apart Inside = just-is failed Inside ∙ sym (or-false (only failed Inside))
 
 -- the causes of a link that is to be made, with its target's
 symlink-plain : (t : Tree) (goal link : List ℕ) (base : CauseSet) (first : Option (Result Place Cause)) → led t (Symlink goal link) ≡ first → ((c : Cause) → laws.plain_of t (Symlink goal link) first None c ≡ (base c || target_causes (Symlink goal link) c)) → (c : Cause) → plain_causes t (Symlink goal link) c ≡ (base c || bad (is_target goal) c)
