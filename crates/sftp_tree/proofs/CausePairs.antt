@@ -1,7 +1,7 @@
 -- The causes of requests at the two places that their paths lead to, as the code has them.
 use Rattle.std.proofs.Common.{◌≡◌, ℕ, Bool, true, false, ◌&&◌, ◌||◌, not, if◌then◌else◌, List, ◌∷◌, ◌++◌, refl, sym, subst, ◌∙◌, ap, Option, Some, None, IsTrue}
 use Rattle.std.specs.List.{list_any}
-use Rattle.std.proofs.lemmas.Bool.{not-false}
+use Rattle.std.proofs.lemmas.Bool.{not-false, or_parts}
 use Rattle.std.proofs.Math.Bool.{and-true, or-false, not-not}
 use Rattle.sftp_wire.specs.declared.packets.Ask.TheVariants.{Rename, PosixRename, Hardlink}
 use Rattle.sftp_path.specs.Place.{Name, Place, parent, begins}
@@ -20,16 +20,6 @@ use Rattle.sftp_tree.proofs.CauseMoved.{fits-moved, fits-put_in_stead, nothing-f
 use Rattle.sftp_tree.proofs.CallPlaces.{absent-of}
 use Rattle.sftp_tree.proofs.KeepCauses.{none-each}
 
--- ---- tests
-
-first : (a b : Bool) → (a || b) ≡ false → a ≡ false
-first true b e = cc
-first false b e = refl
-
-behind : (a b : Bool) → (a || b) ≡ false → b ≡ false
-behind true b e = cc
-behind false b e = e
-
 -- ---- hardlink
 
 file-link : (found : Option Node) → file_causes found NoEntry ≡ false → file_causes found NotFile ≡ false → (number : ℕ) × (found ≡ Some (File number))
@@ -41,8 +31,8 @@ file-link (Some (Link goal)) there file = absurd cc
 linking-room : (t : Tree) (old new : Place) → IsKept t → is_none (λ c. file_causes (node_at t.names old) c || (making_causes (node_at t.names new) c || false)) ≡ true → fits (with_further_name t (node_at t.names old) new) ≡ has_room t new
 linking-room t old new kept none =
     let holds = none-each (λ c. file_causes (node_at t.names old) c || (making_causes (node_at t.names new) c || false)) none in
-    let file = file-link (node_at t.names old) (first (file_causes (node_at t.names old) NoEntry) _ (holds NoEntry)) (first (file_causes (node_at t.names old) NotFile) _ (holds NotFile)) in
-    let free = absent-of (node_at t.names new) (first (is_taken (node_at t.names new)) false (holds Exists)) in
+    let file = file-link (node_at t.names old) (or_parts (file_causes (node_at t.names old) NoEntry) _ (holds NoEntry)).0 (or_parts (file_causes (node_at t.names old) NotFile) _ (holds NotFile)).0 in
+    let free = absent-of (node_at t.names new) (or_parts (is_taken (node_at t.names new)) false (holds Exists)).0 in
     ap (λ found. fits (with_further_name t found new)) file.1
     ∙ fits-put t new (File file.0) kept.within_limits free
     ∙ and-true (has_room t new)
@@ -76,8 +66,8 @@ renaming-room : (t : Tree) (old new : Place) → IsKept t → NothingBelow → A
 unfolding moving_plain
 renaming-room t old new kept below alone none =
     let holds = none-each (moving_plain t old new) none in
-    let taken = not-false (is_taken (node_at t.names old)) (first (not (is_taken (node_at t.names old))) _ (holds NoEntry)) in
-    let free = absent-of (node_at t.names new) (first (is_taken (node_at t.names new)) false (holds Exists)) in
+    let taken = not-false (is_taken (node_at t.names old)) (or_parts (not (is_taken (node_at t.names old))) _ (holds NoEntry)).0 in
+    let free = absent-of (node_at t.names new) (or_parts (is_taken (node_at t.names new)) false (holds Exists)).0 in
     fits-moved t old new kept taken (nothing-from t.names new free (alone t new kept (below t new kept (ap is_directory free))))
 
 pub renaming-from : (t : Tree) (old new : Place) (oldpath newpath : List ℕ) (s : Causes) (any : Bool) → IsKept t → NothingBelow → AloneThere → IsSet s (λ c. leaving_causes t.names old c || (making_causes (node_at t.names new) c || moving_causes t.names old new c)) → list_any (in_set s) every_cause ≡ any → IsSet (record s { no_room = not any && not (move_fits t.names old new) }) (causes_at_places t (Rename oldpath newpath) old new)
@@ -102,9 +92,9 @@ replacing-room : (t : Tree) (old new : Place) → IsKept t → NothingBelow → 
 unfolding replacing_plain
 replacing-room t old new kept below alone apart two none =
     let holds = none-each (replacing_plain t old new) none in
-    let taken = not-false (is_taken (node_at t.names old)) (first (not (is_taken (node_at t.names old))) _ (holds NoEntry)) in
+    let taken = not-false (is_taken (node_at t.names old)) (or_parts (not (is_taken (node_at t.names old))) _ (holds NoEntry)).0 in
     let empty = empty-there (is_directory (node_at t.names old)) (is_directory (node_at t.names new)) (is_taken (node_at t.names old)) (has_entries t.names new) taken (holds NotEmpty) (holds IsDir) (below t new kept) in
-    let elsewhere = first (same_place old new) (are_one_file (node_at t.names old) (node_at t.names new)) two in
+    let elsewhere = (or_parts (same_place old new) (are_one_file (node_at t.names old) (node_at t.names new)) two).0 in
     fits-put_in_stead t old new kept taken (nothing-left t new kept (alone t new kept empty))
     (λ there. apart t old new kept taken (holds Inside) elsewhere (kept.well_formed.parents new there))
 

@@ -1,15 +1,10 @@
 -- Which changes of a tree keep to its limits: an entry more or less, another owner, another content.
-use Rattle.std.proofs.Common.{◌≡◌, ℕ, ◌-◌, Bool, true, false, ◌&&◌, cond, [], ◌∷◌, length, refl, sym, ◌∙◌, ap, Some, None, nat_le, IsTrue}
-use Rattle.std.specs.Ordering.{is_eq, nat_cmp}
-use Rattle.std.specs.declared.cmp.Ordering.{Ordering}
-use Rattle.std.specs.List.{list_all}
-use Rattle.std.specs.Map.{lookup}
-use Rattle.std.specs.BTreeMap.{is_at}
-use Rattle.std.proofs.lemmas.Bool.{and_parts}
+use Rattle.std.proofs.Common.{◌≡◌, ℕ, ◌-◌, Bool, true, false, ◌&&◌, length, refl, sym, ◌∙◌, ap, Some, None, nat_le, IsTrue}
+use Rattle.std.specs.Ordering.{nat_cmp}
 use Rattle.std.proofs.lemmas.Cmp.{nat_cmp_total}
-use Rattle.std.proofs.Math.Bool.{and-true}
+use Rattle.std.proofs.Math.Bool.{and-true, and_assoc}
 use Rattle.sftp_path.specs.Place.{Place, place_cmp}
-use Rattle.sftp_path.specs.Table.{Table, get, InOrder}
+use Rattle.sftp_path.specs.Table.{InOrder}
 use Rattle.sftp_path.proofs.Order.{place_cmp-total}
 use Rattle.sftp_path.proofs.TableLaws.{get-put_here, size-put, size-put_present}
 use Rattle.sftp_path.proofs.TestLaws.{all-put_new, all-without, values-put, keys-put_in_order}
@@ -20,6 +15,7 @@ use Rattle.sftp_tree.specs.Judged.{has_room}
 use Rattle.sftp_tree.proofs.StepTables.{length-without}
 use Rattle.sftp_tree.proofs.KeepFits.{Fits, fits-parts}
 use Rattle.sftp_tree.proofs.KeepLimits.{more-entries, fewer}
+use Rattle.sftp_tree.proofs.CallPlaces.{found-passes}
 
 -- with other entries
 pub fits-names : (t : Tree) (names : Names) (entries depths links : Bool) → Fits t → entries_fit (record t { names = names }) ≡ entries → depths_fit (record t { names = names }) ≡ depths → links_fit (record t { names = names }) ≡ links → fits (record t { names = names }) ≡ (entries && (depths && links))
@@ -35,10 +31,6 @@ fits-names t names entries depths links fit one two three =
 
 -- ---- one entry more
 
-and-three : (a b d : Bool) → (a && (b && d)) ≡ ((a && b) && d)
-and-three true b d = refl
-and-three false b d = refl
-
 -- with a new place a tree within the limits fits where there is room, and a link's target is one
 pub fits-put : (t : Tree) (place : Place) (node : Node) → IsTrue (fits t) → node_at t.names place ≡ None → fits (record t { names = with_node t.names place node }) ≡ (has_room t place && link_fits node)
 fits-put t place node kept absent =
@@ -47,7 +39,7 @@ fits-put t place node kept absent =
     (more-entries (length t.names) (length (with_node t.names place node)) (limits t).entries (size-put place_cmp t.names place node absent))
     (all-put_new place_cmp t.names place node (λ e. depth_fits e.0) absent ∙ ap (λ b. depth_fits place && b) fit.depths ∙ and-true (depth_fits place))
     (all-put_new place_cmp t.names place node (λ e. link_fits e.1) absent ∙ ap (λ b. link_fits node && b) fit.links ∙ and-true (link_fits node))
-    ∙ and-three (nat_le (length t.names) (limits t).entries) (depth_fits place) (link_fits node)
+    ∙ sym (and_assoc (nat_le (length t.names) (limits t).entries) (depth_fits place) (link_fits node))
 
 -- ---- one entry less
 
@@ -72,21 +64,6 @@ fits-again t place before node kept order there link =
 
 -- ---- another content of a file
 
--- where all values pass a test, the one at a key does
-value-found : {K X : Type 0} (cmp : K → K → Ordering) (es : Table K X) (key : K) (value : X) (passes : X → Bool) → list_all (λ e. passes e.1) es ≡ true → lookup (is_at (cmp key)) es ≡ Some value → passes value ≡ true
-value-found cmp [] key value passes all there = cc
-value-found cmp (e ∷ es) key value passes all there =
-    let parts = and_parts (passes e.1) (list_all (λ x. passes x.1) es) all in
-    by (is_eq (cmp key e.0)) parts.0 (value-found cmp es key value passes parts.1) there
-  where
-    by : (b : Bool) → passes e.1 ≡ true → (lookup (is_at (cmp key)) es ≡ Some value → passes value ≡ true) → cond b (Some e.1) (lookup (is_at (cmp key)) es) ≡ Some value → passes value ≡ true
-    by true first rest is = let same : value ≡ e.1 = cc in ap passes same ∙ first
-    by false first rest is = rest is
-
-pub value-passes : {K X : Type 0} (cmp : K → K → Ordering) (es : Table K X) (key : K) (value : X) (passes : X → Bool) → list_all (λ e. passes e.1) es ≡ true → get cmp es key ≡ Some value → passes value ≡ true
-unfolding get
-value-passes = value-found
-
 both-ways : (a b : Bool) → (a ≡ true → b ≡ true) → (b ≡ true → a ≡ true) → a ≡ b
 both-ways true true there back = refl
 both-ways true false there back = sym (there refl)
@@ -100,10 +77,10 @@ fits-content t number content kept =
     let fit = fits-parts t kept in
     let files : files_fit (record t { files = with_content t.files number content }) ≡ content_fits (limits t) content =
     both-ways (files_fit (record t { files = with_content t.files number content })) (content_fits (limits t) content)
-    (λ all. value-passes nat_cmp (with_content t.files number content) number content (content_fits (limits t)) all (get-put_here nat_cmp nat_cmp_total t.files number content))
+    (λ all. found-passes nat_cmp (content_fits (limits t)) number content (with_content t.files number content) all (get-put_here nat_cmp nat_cmp_total t.files number content))
     (λ passing. values-put nat_cmp t.files number content (content_fits (limits t)) fit.files passing) in
     (λ i. fit.entries i && (fit.depths i && (fit.home i && (fit.links i && (files i && fit.numbers i))))) ∙ and-true (content_fits (limits t) content)
 
 -- the content of a file of a tree within the limits fits
 pub content-fits : (t : Tree) (number : ℕ) (content : Content) → IsTrue (fits t) → content_at t.files number ≡ Some content → content_fits (limits t) content ≡ true
-content-fits t number content kept there = value-passes nat_cmp t.files number content (content_fits (limits t)) (fits-parts t kept).files there
+content-fits t number content kept there = found-passes nat_cmp (content_fits (limits t)) number content t.files (fits-parts t kept).files there
