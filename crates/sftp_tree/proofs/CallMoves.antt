@@ -13,6 +13,7 @@ use Rattle.sftp_tree.specs.Judged.{with_room, causes_at_place, causes_at_places}
 use Rattle.sftp_tree.proofs.CallSets.{room-in}
 use Rattle.sftp_tree.proofs.CallPlaces.{absent-of, file-of, below-root, apart-of, moved-is}
 use Rattle.sftp_tree.proofs.KeepCauses.{none-each}
+use Rattle.sftp_tree.proofs.CausePairs.{empty-there}
 
 -- ---- what is to be made
 
@@ -73,20 +74,13 @@ replace-may t old new oldpath newpath none apart =
       fits = ap (λ b. fits (if b then t else put_in_its_stead t old new)) (sym apart) ∙ room-in plain (target_between t (PosixRename oldpath newpath) old new) (and-false (not (are_one t.names old new))) none;
     }
 
-alone-of : (there old_is new_is has : Bool) → there ≡ true → ((there && not old_is) && new_is) ≡ false → (old_is && (new_is && has)) ≡ false → (new_is ≡ false → has ≡ false) → has ≡ false
-alone-of there old_is new_is false is a b other = refl
-alone-of true true true true is a b other = cc
-alone-of true false true true is a b other = cc
-alone-of true old_is false true is a b other = other refl
-alone-of false old_is new_is true is a b other = cc
-
 -- what stands at the new place has no entries, if only a directory may have some
 pub replace-alone : (t : Tree) (old new : Place) (oldpath newpath : List ℕ) → IsTrue (is_none (causes_at_places t (PosixRename oldpath newpath) old new)) → are_one t.names old new ≡ false → (is_directory (node_at t.names new) ≡ false → has_entries t.names new ≡ false) → has_entries t.names new ≡ false
 replace-alone t old new oldpath newpath none apart other =
     let each = none-each (causes_at_places t (PosixRename oldpath newpath) old new) none in
     let old_is = is_directory (node_at t.names old) in
     let new_is = is_directory (node_at t.names new) in
-    alone-of (is_taken (node_at t.names old)) old_is new_is (has_entries t.names new) (replace-may t old new oldpath newpath none apart).taken (other-one (are_one t.names old new) ((is_taken (node_at t.names old) && not old_is) && new_is) apart (each IsDir)) (other-one (are_one t.names old new) (old_is && (new_is && has_entries t.names new)) apart (each NotEmpty)) other
+    empty-there old_is new_is (is_taken (node_at t.names old)) (has_entries t.names new) (replace-may t old new oldpath newpath none apart).taken (other-one (are_one t.names old new) (old_is && (new_is && has_entries t.names new)) apart (each NotEmpty)) (other-one (are_one t.names old new) ((is_taken (node_at t.names old) && not old_is) && new_is) apart (each IsDir)) other
 
 -- ---- a further name
 

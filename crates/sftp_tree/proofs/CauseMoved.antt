@@ -2,7 +2,6 @@
 use Rattle.std.proofs.Common.{◌≡◌, ℕ, ◌+◌, ◌-◌, ◌≤◌, Bool, true, false, ◌&&◌, ◌||◌, not, cond, [], ◌∷◌, ◌++◌, length, drop, refl, sym, ◌∙◌, ap, arith, Option, Some, None, nat_le}
 use Rattle.std.specs.Ordering.{is_eq}
 use Rattle.std.specs.Cmp.{Equal-is}
-use Rattle.std.specs.declared.cmp.Ordering.TheVariants.{Equal}
 use Rattle.std.specs.List.{list_all}
 use Rattle.std.specs.Map.{lookup, remove_entry}
 use Rattle.std.specs.BTreeMap.{is_at}
@@ -13,8 +12,8 @@ use Rattle.std.proofs.Math.Bool.{and-true}
 use Rattle.sftp_path.specs.Place.{Name, Place, place_cmp, begins, depth_limit}
 use Rattle.sftp_path.specs.Table.{get, without}
 use Rattle.sftp_path.specs.Rekeying.{renamed, rekeyed, NothingFrom}
-use Rattle.sftp_path.proofs.Order.{place_cmp-total, place_cmp-same, begins-front, begins-append}
-use Rattle.sftp_path.proofs.TableLaws.{get-without_here, get-without_elsewhere, InOrder-without}
+use Rattle.sftp_path.proofs.Order.{place_cmp-same, begins-front, begins-append}
+use Rattle.sftp_path.proofs.TableLaws.{InOrder-without}
 use Rattle.sftp_path.proofs.TestLaws.{all-without}
 use Rattle.sftp_path.proofs.TestLaws as tests
 use Rattle.sftp_path.proofs.RekeyingLaws.{renamed-outside, length-renamed, size-rekeyed}
@@ -151,13 +150,3 @@ fits-put_in_stead t old new kept taken nothing apart =
 pub nothing-from : (names : Names) (place : Place) → node_at names place ≡ None → ((n : Name) (ns : Place) → node_at names (place ++ n ∷ ns) ≡ None) → NothingFrom names place
 nothing-from names place here below [] = ap (node_at names) (append-nil place) ∙ here
 nothing-from names place here below (n ∷ ns) = below n ns
-
-longer : (place : Place) (n : Name) (ns : Place) → place_cmp place (place ++ n ∷ ns) ≡ Equal → ⊥
-longer place n ns same =
-    let one : length place ≡ length (place ++ n ∷ ns) = ap length (place_cmp-same place (place ++ n ∷ ns) same) in
-    omega (arith, length-append place (n ∷ ns))
-
-pub nothing-left : (t : Tree) (place : Place) → IsKept t → ((n : Name) (ns : Place) → node_at t.names (place ++ n ∷ ns) ≡ None) → NothingFrom (without_node t.names place) place
-nothing-left t place kept below =
-    nothing-from (without_node t.names place) place (get-without_here place_cmp place_cmp-total t.names place kept.well_formed.ordered)
-    (λ n ns. get-without_elsewhere place_cmp place_cmp-total t.names place (place ++ n ∷ ns) kept.well_formed.ordered (longer place n ns) ∙ below n ns)

@@ -16,7 +16,8 @@ use Rattle.sftp_tree.specs.Sets.{in_set}
 use Rattle.sftp_tree.specs.Judged.{has_room, move_fits, with_room, causes_at_places, IsSet}
 use Rattle.sftp_tree.proofs.CauseRoom.{fits-put}
 use Rattle.sftp_tree.proofs.CauseSets.{set-whole, set-joined}
-use Rattle.sftp_tree.proofs.CauseMoved.{fits-moved, fits-put_in_stead, nothing-from, nothing-left}
+use Rattle.sftp_tree.proofs.CauseMoved.{fits-moved, fits-put_in_stead, nothing-from}
+use Rattle.sftp_tree.proofs.MovedNames as left
 use Rattle.sftp_tree.proofs.CallPlaces.{absent-of}
 use Rattle.sftp_tree.proofs.KeepCauses.{none-each}
 
@@ -82,7 +83,7 @@ replacing_plain : Tree → Place → Place → CauseSet
 replacing_plain t old new c = leaving_causes t.names old c || (giving_causes new c || replacing_causes t.names old new c)
 
 -- what is replaced has nothing below it
-empty-there : (from_directory to_directory taken entries : Bool) → taken ≡ true → (from_directory && (to_directory && entries)) ≡ false → ((taken && not from_directory) && to_directory) ≡ false → (to_directory ≡ false → entries ≡ false) → entries ≡ false
+pub empty-there : (from_directory to_directory taken entries : Bool) → taken ≡ true → (from_directory && (to_directory && entries)) ≡ false → ((taken && not from_directory) && to_directory) ≡ false → (to_directory ≡ false → entries ≡ false) → entries ≡ false
 empty-there from_directory false taken entries there first second below = below refl
 empty-there true true taken entries there first second below = first
 empty-there false true true entries there first second below = absurd cc
@@ -95,7 +96,7 @@ replacing-room t old new kept below alone apart two none =
     let taken = not-false (is_taken (node_at t.names old)) (or_parts (not (is_taken (node_at t.names old))) _ (holds NoEntry)).0 in
     let empty = empty-there (is_directory (node_at t.names old)) (is_directory (node_at t.names new)) (is_taken (node_at t.names old)) (has_entries t.names new) taken (holds NotEmpty) (holds IsDir) (below t new kept) in
     let elsewhere = (or_parts (same_place old new) (are_one_file (node_at t.names old) (node_at t.names new)) two).0 in
-    fits-put_in_stead t old new kept taken (nothing-left t new kept (alone t new kept empty))
+    fits-put_in_stead t old new kept taken (left.nothing-from t.names new kept.well_formed.ordered (alone t new kept empty))
     (λ there. apart t old new kept taken (holds Inside) elsewhere (kept.well_formed.parents new there))
 
 abbrev pub replacing_set : Tree → Place → Place → Bool → CauseSet

@@ -2,7 +2,6 @@
 use Rattle.std.proofs.Common.{◌≡◌, ℕ, ◌&&◌, not, List, [], ◌∷◌, refl, sym, subst, ap, ◌∙◌, Option, Some, None, IsTrue, Result, Ok, Err, Bool, true, false, if◌then◌else◌}
 use Rattle.std.specs.Option.{option_map, IfSome}
 use Rattle.std.proofs.lemmas.Bool.{both_ways, false_from_ne_true, not-false, or_parts}
-use Rattle.std.proofs.lemmas.List.{append-nil}
 use Rattle.std.specs.Cmp.Lexicographic.{pointwise_decides, bytes_decides}
 use Rattle.std.specs.Ordering.{nat_cmp}
 use Rattle.std.specs.FinMap.{nat_cmp-IsAntisymmetric}
@@ -34,6 +33,7 @@ use Rattle.sftp_tree.proofs.KeepMoves.{well-formed-moved, well-formed-in-stead}
 use Rattle.sftp_tree.proofs.KeepTrim.{kept-trim}
 use Rattle.sftp_tree.proofs.CallPlaces.{absent-of}
 use Rattle.sftp_tree.proofs.CauseLed.{target-led}
+use Rattle.sftp_tree.proofs.CauseMoved.{nothing-from}
 
 -- ---- where the paths of a request lead
 
@@ -99,8 +99,8 @@ empty-there t place well = nothing-below t.names place well.ordered well.parents
 
 -- where nothing stands at a place, nothing stands below it
 free-from : (t : Tree) (place : Place) → WellFormed t → node_at t.names place ≡ None → NothingFrom t.names place
-free-from t place well absent [] = ap (node_at t.names) (append-nil place) ∙ absent
-free-from t place well absent (n ∷ ns) = alone-there t.names place (empty-there t place well (absent-nothing t.names place absent)) n ns
+free-from t place well absent =
+    nothing-from t.names place absent (alone-there t.names place (empty-there t place well (absent-nothing t.names place absent)))
 
 -- ---- requests with one path
 
