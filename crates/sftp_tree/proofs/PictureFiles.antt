@@ -23,13 +23,14 @@ use Rattle.sftp_tree.specs.declared.nodes.Node.TheVariants.{Dir, File, Link}
 use Rattle.sftp_tree.specs.Tree.{Names, Files, Tree, IsKept, IsNode, IsContent, limits, node_at, content_at, names_file, times_named, is_named, fits, entries_fit, depths_fit, depth_fits, home_fits, links_fit, link_fits, files_fit, content_fits, numbers_fit}
 use Rattle.sftp_tree.specs.Picture.{rows_behind, root_owner, is_numbered, file_of, picture, IsStart, blank}
 use Rattle.sftp_tree.specs.PictureParts.{content_of, contents_of, node_of, entry_of, entries_behind, only_root, names_of, numbered_from, tree_of}
-use Rattle.sftp_tree.proofs.PictureLists.{all_both, all_weaker, all_pass, each_passes, all_together, all_right}
+use Rattle.sftp_tree.proofs.PictureLists.{all_both, all_weaker, all_together, all_right}
 use Rattle.sftp_tree.proofs.PictureTables.{IsPlace, IsFitNode, IsTable, bare_names, text_place, root_table, table_of_rows, rows_of_table, root_first, root_at, entries_below}
 use Rattle.sftp_tree.proofs.PictureShapes.{table_bare, table_from_bare, names_bare}
 use Rattle.sftp_tree.proofs.PictureNumbers.{made_by, made_few, first_of_number, names_split, length-entries, IsBelow, AreBelow, all_below, first_names}
 use Rattle.sftp_tree.proofs.PictureContents.{numbered_contents, numbered_there, each_number, each_content, numbered_order, numbered_again}
 use Rattle.sftp_tree.proofs.PictureNamed.{IsBelowRoot, IsFitContent, length-rows, place_text, entry_texts, rows_bare, kinds_fit}
 use Rattle.sftp_tree.proofs.PictureAgain.{rows_again, rows_numbered, entries_again}
+use Rattle.sftp_tree.proofs.KeepTables.{each-all, all-each}
 
 -- ---- the limits, entry by entry
 
@@ -135,10 +136,10 @@ kept_of_file file is =
       };
       within_limits = limits_fit (tree_of file) (record {
         entries = omega (arith, many, is.count);
-        depths = all_pass (λ (e : Place × Node). depth_fits e.0) names (all_weaker (λ (e : Place × Node). IsPlace e.0) (λ (e : Place × Node). IsTrue (depth_fits e.0)) names (λ e p. p.1) t.places);
+        depths = all-each (λ (e : Place × Node). depth_fits e.0) names (all_weaker (λ (e : Place × Node). IsPlace e.0) (λ (e : Place × Node). IsTrue (depth_fits e.0)) names (λ e p. p.1) t.places);
         home = home.1;
-        links = all_pass (λ (e : Place × Node). link_fits e.1) names (all_weaker (λ (e : Place × Node). IsFitNode e.1) (λ (e : Place × Node). IsTrue (link_fits e.1)) names (λ e p. fit_link e.1 p) t.nodes);
-        files = all_pass (λ (e : ℕ × Content). content_fits (limits (tree_of file)) e.1) files (each_content (λ c. IsTrue (content_fits (limits (tree_of file)) c)) 0 contents (all_weaker IsFitContent (λ c. IsTrue (content_fits (limits (tree_of file)) c)) contents (λ c f. le-leb (length c.bytes) 16777216 f.1) fit));
+        links = all-each (λ (e : Place × Node). link_fits e.1) names (all_weaker (λ (e : Place × Node). IsFitNode e.1) (λ (e : Place × Node). IsTrue (link_fits e.1)) names (λ e p. fit_link e.1 p) t.nodes);
+        files = all-each (λ (e : ℕ × Content). content_fits (limits (tree_of file)) e.1) files (each_content (λ c. IsTrue (content_fits (limits (tree_of file)) c)) 0 contents (all_weaker IsFitContent (λ c. IsTrue (content_fits (limits (tree_of file)) c)) contents (λ c f. le-leb (length c.bytes) 16777216 f.1) fit));
         numbers = omega (arith, made_few file.rows, is.count);
       });
       trimmed = each_number (λ n. IsTrue (is_named names n)) 0 contents (λ n above below. names_each file.root file.rows n (omega arith));
@@ -192,8 +193,8 @@ table_of_kept t kept root root_is =
     let l = limits_from t kept.within_limits in
     record {
       ordered = w.ordered;
-      places = all_together (λ (e : Place × Node). IsTrue (are_names e.0)) (λ (e : Place × Node). IsTrue (depth_fits e.0)) t.names w.named (each_passes (λ (e : Place × Node). depth_fits e.0) t.names l.depths);
-      nodes = nodes_fit t.files t.names w.nodes (each_passes (λ (e : Place × Node). link_fits e.1) t.names l.links);
+      places = all_together (λ (e : Place × Node). IsTrue (are_names e.0)) (λ (e : Place × Node). IsTrue (depth_fits e.0)) t.names w.named (each-all (λ (e : Place × Node). depth_fits e.0) t.names l.depths);
+      nodes = nodes_fit t.files t.names w.nodes (each-all (λ (e : Place × Node). link_fits e.1) t.names l.links);
       root_is = root_is;
       parents = w.parents;
     }
@@ -212,7 +213,7 @@ content_fit [] are fit = tt
 content_fit (e ∷ files) are fit = ((are.0.0, leb-true (length e.1.bytes) 16777216 fit.0, are.0.1), content_fit files are.1 fit.1)
 
 pub fit_files : (t : Tree) → IsKept t → AllByRecursion (λ e. IsFitContent e.1) t.files
-fit_files t kept = content_fit t.files kept.well_formed.contents (each_passes (λ (e : ℕ × Content). content_fits (limits t) e.1) t.files (limits_from t kept.within_limits).files)
+fit_files t kept = content_fit t.files kept.well_formed.contents (each-all (λ (e : ℕ × Content). content_fits (limits t) e.1) t.files (limits_from t kept.within_limits).files)
 
 rows_of_split : (t : Tree) → IsKept t → (s : Split t) → AreRows [] (rows_behind t.files (only_root s.root) s.entries)
 rows_of_split t kept s =

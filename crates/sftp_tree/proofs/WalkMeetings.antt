@@ -16,6 +16,7 @@ use Rattle.sftp_tree.specs.declared.causes.Cause.TheVariants.{NoEntry, NotDir}
 use Rattle.sftp_tree.specs.Tree.{Names, node_at, Tree, IsNode, link_fits, entries_fit, depths_fit, home_fits, links_fit, files_fit, numbers_fit, fits, IsKept}
 use Rattle.sftp_tree.specs.Walk.{Meeting, enters, ends, fails, through, is_last, met_link, met, meets}
 use Rattle.sftp_tree.specs.WalkRules.{IsPlain, GoesThrough, not_last, followed}
+use Rattle.sftp_tree.proofs.KeepTables.{each-all}
 
 -- ---- each meeting, with what it is by
 
@@ -93,12 +94,6 @@ pub lookup_holds : {K X : Type 0} (P : X → Type 0) (test : K → Bool) (es : L
 lookup_holds P test [] x h e = cc
 lookup_holds P test (entry ∷ es) x h e = found_by P (test entry.0) entry.1 x (lookup test es) e h.0 (lookup_holds P test es x h.1)
 
-all-from_test : {X : Type 0} (p : X → Bool) (xs : List X) → list_all p xs ≡ true → AllByRecursion (λ x. IsTrue (p x)) xs
-all-from_test p [] h = tt
-all-from_test p (x ∷ xs) h =
-    let a = and_parts (p x) (list_all p xs) h in
-    (a.0, all-from_test p xs a.1)
-
 links-fit : (t : Tree) → IsKept t → links_fit t ≡ true
 unfolding fits
 links-fit t kept =
@@ -118,7 +113,7 @@ home-fits t kept =
 pub target-good : (t : Tree) → IsKept t → (place : Place) (target : List ℕ) → node_at t.names place ≡ Some (Link target) → is_good_path target ≡ true
 unfolding get
 target-good t kept place target there =
-    let fit = lookup_holds (λ node. IsTrue (link_fits node)) (is_at (place_cmp place)) t.names (Link target) (all-from_test (λ e. link_fits e.1) t.names (links-fit t kept)) there in
+    let fit = lookup_holds (λ node. IsTrue (link_fits node)) (is_at (place_cmp place)) t.names (Link target) (each-all (λ e. link_fits e.1) t.names (links-fit t kept)) there in
     (and_parts _ (is_good_path target) fit).1
 
 target-bytes : (t : Tree) → IsKept t → (place : Place) (target : List ℕ) → node_at t.names place ≡ Some (Link target) → are_bytes target ≡ true
