@@ -11,6 +11,7 @@ use Rattle.std.specs.Map.{keys_of}
 use Rattle.std.specs.BTreeMap.Range.{entries_between}
 use Rattle.std.proofs.lemmas.Bool.{and_parts}
 use Rattle.std.proofs.lemmas.Map.Keys.{sorted_head, sorted_tail}
+use Rattle.std.specs.Cmp.{Equal-is}
 use Rattle.sftp_path.specs.Place.{Place, name_cmp, place_cmp, same_bytes, begins}
 use Rattle.sftp_tree.specs.declared.nodes.Node.{Node}
 use Rattle.sftp_tree.specs.Tree.{Names}
@@ -32,11 +33,6 @@ begins-between (m ∷ ms) (k ∷ ks) (n ∷ ns) after before begun =
     let same : same_bytes m k ≡ true = texts_ties m k ∙ ap is_eq found.0 in
     ap (λ x. x && begins ms ks) same ∙ begins-between ms ks ns found.1 found.2 parts.1
 
-tied : (o : Ordering) → is_eq o ≡ true → o ≡ Equal
-tied Less e = cc
-tied Equal e = refl
-tied Greater e = cc
-
 -- a place comes before those that it begins, or is one of them
 begins-le : (p k : Place) → begins p k ≡ true → is_le (place_cmp p k) ≡ true
 begins-le [] [] begun = refl
@@ -44,7 +40,7 @@ begins-le [] (n ∷ ns) begun = refl
 begins-le (m ∷ ms) [] begun = cc
 begins-le (m ∷ ms) (n ∷ ns) begun =
     let parts = and_parts (same_bytes m n) (begins ms ns) begun in
-    ap (λ o. is_le (ordering_then o (place_cmp ms ns))) (tied (name_cmp m n) (sym (texts_ties m n) ∙ parts.0)) ∙ begins-le ms ns parts.1
+    ap (λ o. is_le (ordering_then o (place_cmp ms ns))) ((Equal-is (name_cmp m n)).0 (sym (texts_ties m n) ∙ parts.0)) ∙ begins-le ms ns parts.1
 
 begins-equal : (p k : Place) → place_cmp p k ≡ Equal → begins p k ≡ true
 begins-equal [] [] e = refl

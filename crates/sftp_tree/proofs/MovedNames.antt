@@ -1,8 +1,7 @@
 -- What stands where, after what stood at one place went to another in the stead of what stood there.
 use Rattle.std.proofs.Common.{◌≡◌, ◌≢◌, ℕ, ◌+◌, Bool, true, false, cond, [], ◌∷◌, ◌++◌, refl, sym, ap, subst, ◌∙◌, Option, Some, None, if◌then◌else◌}
-use Rattle.std.specs.Ordering.{is_eq, ordering_reverse}
-use Rattle.std.specs.declared.cmp.Ordering.{Ordering}
-use Rattle.std.specs.declared.cmp.Ordering.TheVariants.{Less, Equal, Greater}
+use Rattle.std.specs.Ordering.{is_eq}
+use Rattle.std.specs.declared.cmp.Ordering.TheVariants.{Equal}
 use Rattle.std.specs.Bool.{Decides}
 use Rattle.std.specs.Cmp.{Equal-is}
 use Rattle.std.proofs.lemmas.Cmp.{tied_itself}
@@ -23,6 +22,7 @@ use Rattle.sftp_tree.specs.declared.nodes.Node.{Node}
 use Rattle.sftp_tree.specs.Tree.{Names, node_at, with_node, without_node, has_entries, names_file, times_named}
 use Rattle.sftp_tree.proofs.StoredNames.{one_name, named-without}
 use Rattle.sftp_tree.proofs.KeepPlaces.{alone-there}
+use Rattle.sftp_tree.proofs.StoredFiles.{reversed}
 
 -- ---- a place that is freed
 
@@ -39,11 +39,6 @@ module _ (names : Names) (new : Place) (order : InOrder place_cmp names) where
   pub nothing-from : ((n : Name) (ns : Place) → node_at names (new ++ n ∷ ns) ≡ None) → NothingFrom (without_node names new) new
   nothing-from alone [] = ap (node_at (without_node names new)) (append-nil new) ∙ get-without_here place_cmp place_cmp-total names new order
   nothing-from alone (n ∷ ns) = nothing-freed (new ++ n ∷ ns) (alone n ns)
-
-  reversed : (o : Ordering) → is_eq (ordering_reverse o) ≡ is_eq o
-  reversed Less = refl
-  reversed Equal = refl
-  reversed Greater = refl
 
   either-way : {A : Type 0} (b : Bool) (x y : A) (c : Bool) → c ≡ b → (none : A) → cond b x (cond c none y) ≡ cond b x y
   either-way true x y c same none = refl

@@ -22,12 +22,7 @@ use Rattle.sftp_tree.specs.Tree.{Names, node_at, is_taken, has_entries}
 -- ---- the order
 
 same_bytes-cmp : (m n : Name) → same_bytes m n ≡ true → name_cmp m n ≡ Equal
-same_bytes-cmp m n same = by (name_cmp m n) (sym (texts_ties m n) ∙ same)
-  where
-    by : (o : Ordering) → is_eq o ≡ true → o ≡ Equal
-    by Less e = cc
-    by Equal e = refl
-    by Greater e = cc
+same_bytes-cmp m n same = (Equal-is (name_cmp m n)).0 (sym (texts_ties m n) ∙ same)
 
 -- what stands below a place comes after it
 pub less-from_below : (p b : Place) → is_below p b ≡ true → place_cmp p b ≡ Less

@@ -26,7 +26,7 @@ use Rattle.sftp_tree.specs.Sets.{IsFree}
 use Rattle.sftp_tree.proofs.KeepTables.{each-get}
 use Rattle.sftp_tree.proofs.KeepFields.{bytes-fit, owner-fits, changed-owner-fits, changed-content-fits}
 use Rattle.sftp_tree.proofs.KeepCauses.{free-at, free-between}
-use Rattle.sftp_tree.proofs.KeepPlaces.{apart-from, nothing-below, alone-there}
+use Rattle.sftp_tree.proofs.KeepPlaces.{apart-from, nothing-below, alone-there, second-false}
 use Rattle.sftp_tree.proofs.KeepNames.{names-of, names-put, names-owner, names-without, well-formed-names}
 use Rattle.sftp_tree.proofs.KeepValues.{well-formed-content}
 use Rattle.sftp_tree.proofs.KeepMoves.{well-formed-moved, well-formed-in-stead}
@@ -80,11 +80,6 @@ new-place-led : (t : Tree) (ask : Ask) (place : Place) → LeadsWell t → FitsA
 new-place-led t ask place well fits is = led-well t false (new_path_of ask) place well (new-path-bytes ask fits) is
 
 -- ---- what stands at a place
-
--- where a test and what it is tested with do not both hold
-second-false : (a b : Bool) → a ≡ true → (a && b) ≡ false → b ≡ false
-second-false true b first h = h
-second-false false b first h = absurd cc
 
 absent-nothing : (names : Names) (place : Place) → node_at names place ≡ None → is_directory (node_at names place) ≡ false
 absent-nothing names place absent = ap is_directory absent
