@@ -1,9 +1,9 @@
 -- What a tree's file says is a tree file, whose tree is that tree with its files numbered anew; and what a tree file says is what
 -- its tree's says.
-use Rattle.std.proofs.Common.{◌≡◌, ℕ, ◌+◌, ◌-◌, ◌<◌, ◌≤◌, ◌^◌, ◌&&◌, cond, List, [], ◌∷◌, ◌++◌, length, Some, refl, sym, ap, subst, ◌∙◌, arith}
+use Rattle.std.proofs.Common.{◌≡◌, ℕ, ◌+◌, ◌-◌, ◌<◌, ◌≤◌, ◌^◌, cond, List, [], ◌∷◌, ◌++◌, length, Some, refl, sym, ap, subst, ◌∙◌, arith}
 use Rattle.std.specs.Prelude.{IsTrue, is_some}
 use Rattle.std.specs.List.{AllByRecursion, filter}
-use Rattle.std.proofs.lemmas.Bool.{leb-true, ltb-true, le-leb, lt-ltb, and_parts, and_from}
+use Rattle.std.proofs.lemmas.Bool.{leb-true, ltb-true, le-leb, lt-ltb}
 use Rattle.std.proofs.lemmas.List.{length-append}
 use Rattle.std.proofs.lemmas.List.Elements.{filter-append}
 use Rattle.sftp_path.specs.Place.{Place, are_names, components}
@@ -20,7 +20,7 @@ use Rattle.sftp_treefile.proofs.FileTexts.{one_file}
 use Rattle.sftp_tree.specs.declared.contents.Content.{Content}
 use Rattle.sftp_tree.specs.declared.nodes.Node.{Node}
 use Rattle.sftp_tree.specs.declared.nodes.Node.TheVariants.{Dir, File, Link}
-use Rattle.sftp_tree.specs.Tree.{Names, Files, Tree, IsKept, IsNode, IsContent, limits, node_at, content_at, names_file, times_named, is_named, fits, entries_fit, depths_fit, depth_fits, home_fits, links_fit, link_fits, files_fit, content_fits, numbers_fit}
+use Rattle.sftp_tree.specs.Tree.{Names, Files, Tree, IsKept, IsNode, IsContent, limits, node_at, content_at, names_file, times_named, is_named, fits, depths_fit, depth_fits, home_fits, links_fit, link_fits, files_fit, content_fits}
 use Rattle.sftp_tree.specs.Picture.{rows_behind, root_owner, is_numbered, file_of, picture, IsStart, blank}
 use Rattle.sftp_tree.specs.PictureParts.{content_of, contents_of, node_of, entry_of, entries_behind, only_root, names_of, numbered_from, tree_of}
 use Rattle.sftp_tree.proofs.PictureLists.{all_both, all_weaker, all_together, all_right}
@@ -31,6 +31,7 @@ use Rattle.sftp_tree.proofs.PictureContents.{numbered_contents, numbered_there, 
 use Rattle.sftp_tree.proofs.PictureNamed.{IsBelowRoot, IsFitContent, length-rows, place_text, entry_texts, rows_bare, kinds_fit}
 use Rattle.sftp_tree.proofs.PictureAgain.{rows_again, rows_numbered, entries_again}
 use Rattle.sftp_tree.proofs.KeepTables.{each-all, all-each}
+use Rattle.sftp_tree.proofs.KeepFits.{fits-parts, fits-from}
 
 -- ---- the limits, entry by entry
 
@@ -43,23 +44,13 @@ pub record Limits (t : Tree) : Type 0 where
   pub numbers : t.made < 2 ^ 32
 
 pub limits_from : (t : Tree) → IsTrue (fits t) → Limits t
-unfolding fits
 limits_from t h =
-    let a = and_parts (entries_fit t) (depths_fit t && (home_fits t && (links_fit t && (files_fit t && numbers_fit t)))) h in
-    let b = and_parts (depths_fit t) (home_fits t && (links_fit t && (files_fit t && numbers_fit t))) a.1 in
-    let c = and_parts (home_fits t) (links_fit t && (files_fit t && numbers_fit t)) b.1 in
-    let d = and_parts (links_fit t) (files_fit t && numbers_fit t) c.1 in
-    let e = and_parts (files_fit t) (numbers_fit t) d.1 in
-    record { entries = omega (arith, leb-true (length t.names - 1) 65536 a.0); depths = b.0; home = c.0; links = d.0; files = e.0; numbers = ltb-true t.made (2 ^ 32) e.1 }
+    let parts = fits-parts t h in
+    record { entries = omega (arith, leb-true (length t.names - 1) 65536 parts.entries); depths = parts.depths; home = parts.home; links = parts.links; files = parts.files; numbers = ltb-true t.made (2 ^ 32) parts.numbers }
 
 pub limits_fit : (t : Tree) → Limits t → IsTrue (fits t)
-unfolding fits
 limits_fit t l =
-    and_from (entries_fit t) (depths_fit t && (home_fits t && (links_fit t && (files_fit t && numbers_fit t)))) (le-leb (length t.names - 1) 65536 (omega (arith, l.entries)))
-    (and_from (depths_fit t) (home_fits t && (links_fit t && (files_fit t && numbers_fit t))) l.depths
-    (and_from (home_fits t) (links_fit t && (files_fit t && numbers_fit t)) l.home
-    (and_from (links_fit t) (files_fit t && numbers_fit t) l.links
-    (and_from (files_fit t) (numbers_fit t) l.files (lt-ltb t.made (2 ^ 32) l.numbers)))))
+    fits-from t (record { entries = le-leb (length t.names - 1) 65536 (omega (arith, l.entries)); depths = l.depths; home = l.home; links = l.links; files = l.files; numbers = lt-ltb t.made (2 ^ 32) l.numbers })
 
 -- ---- what the files of rows keep
 
