@@ -23,14 +23,14 @@ use Rattle.sftp_tree.specs.declared.nodes.Node.TheVariants.{Dir, File, Link}
 use Rattle.sftp_tree.specs.Tree.{Names, Files, Tree, IsKept, IsNode, IsContent, limits, node_at, content_at, names_file, times_named, is_named, fits, depths_fit, depth_fits, home_fits, links_fit, link_fits, files_fit, content_fits}
 use Rattle.sftp_tree.specs.Picture.{rows_behind, root_owner, is_numbered, file_of, picture, IsStart, blank}
 use Rattle.sftp_tree.specs.PictureParts.{content_of, contents_of, node_of, entry_of, entries_behind, only_root, names_of, numbered_from, tree_of}
-use Rattle.sftp_tree.proofs.PictureLists.{all_both, all_weaker, all_together, all_right}
+use Rattle.sftp_tree.proofs.PictureLists.{all_both, all_together, all_right}
 use Rattle.sftp_tree.proofs.PictureTables.{IsPlace, IsFitNode, IsTable, bare_names, text_place, root_table, table_of_rows, rows_of_table, root_first, root_at, entries_below}
 use Rattle.sftp_tree.proofs.PictureShapes.{table_bare, table_from_bare, names_bare}
 use Rattle.sftp_tree.proofs.PictureNumbers.{made_by, made_few, first_of_number, names_split, length-entries, IsBelow, AreBelow, all_below, first_names}
 use Rattle.sftp_tree.proofs.PictureContents.{numbered_contents, numbered_there, each_number, each_content, numbered_order, numbered_again}
 use Rattle.sftp_tree.proofs.PictureNamed.{IsBelowRoot, IsFitContent, length-rows, place_text, entry_texts, rows_bare, kinds_fit}
 use Rattle.sftp_tree.proofs.PictureAgain.{rows_again, rows_numbered, entries_again}
-use Rattle.sftp_tree.proofs.KeepTables.{each-all, all-each}
+use Rattle.sftp_tree.proofs.KeepTables.{each-all, all-each, each-weaker}
 use Rattle.sftp_tree.proofs.KeepFits.{fits-parts, fits-from}
 
 -- ---- the limits, entry by entry
@@ -114,12 +114,12 @@ kept_of_file file is =
     record {
       well_formed = record {
         ordered = t.ordered;
-        named = all_weaker (λ (e : Place × Node). IsPlace e.0) (λ (e : Place × Node). IsTrue (are_names e.0)) names (λ e p. p.0) t.places;
+        named = each-weaker (λ (e : Place × Node). IsPlace e.0) (λ (e : Place × Node). IsTrue (are_names e.0)) (λ e p. p.0) names t.places;
         nodes = nodes_kept files made there names t.nodes (all_below file.root file.rows is.rows);
         root = rw t.root_is refl;
         parents = t.parents;
         numbered = numbered_order 0 contents;
-        contents = each_content IsContent 0 contents (all_weaker IsFitContent IsContent contents (λ c f. (f.0, f.2)) fit);
+        contents = each_content IsContent 0 contents (each-weaker IsFitContent IsContent (λ c f. (f.0, f.2)) contents fit);
         given = each_number (λ n. n < made) 0 contents (λ n above below. omega arith);
         home = home.0;
         uid = is.uid;
@@ -127,10 +127,10 @@ kept_of_file file is =
       };
       within_limits = limits_fit (tree_of file) (record {
         entries = omega (arith, many, is.count);
-        depths = all-each (λ (e : Place × Node). depth_fits e.0) names (all_weaker (λ (e : Place × Node). IsPlace e.0) (λ (e : Place × Node). IsTrue (depth_fits e.0)) names (λ e p. p.1) t.places);
+        depths = all-each (λ (e : Place × Node). depth_fits e.0) names (each-weaker (λ (e : Place × Node). IsPlace e.0) (λ (e : Place × Node). IsTrue (depth_fits e.0)) (λ e p. p.1) names t.places);
         home = home.1;
-        links = all-each (λ (e : Place × Node). link_fits e.1) names (all_weaker (λ (e : Place × Node). IsFitNode e.1) (λ (e : Place × Node). IsTrue (link_fits e.1)) names (λ e p. fit_link e.1 p) t.nodes);
-        files = all-each (λ (e : ℕ × Content). content_fits (limits (tree_of file)) e.1) files (each_content (λ c. IsTrue (content_fits (limits (tree_of file)) c)) 0 contents (all_weaker IsFitContent (λ c. IsTrue (content_fits (limits (tree_of file)) c)) contents (λ c f. le-leb (length c.bytes) 16777216 f.1) fit));
+        links = all-each (λ (e : Place × Node). link_fits e.1) names (each-weaker (λ (e : Place × Node). IsFitNode e.1) (λ (e : Place × Node). IsTrue (link_fits e.1)) (λ e p. fit_link e.1 p) names t.nodes);
+        files = all-each (λ (e : ℕ × Content). content_fits (limits (tree_of file)) e.1) files (each_content (λ c. IsTrue (content_fits (limits (tree_of file)) c)) 0 contents (each-weaker IsFitContent (λ c. IsTrue (content_fits (limits (tree_of file)) c)) (λ c f. le-leb (length c.bytes) 16777216 f.1) contents fit));
         numbers = omega (arith, made_few file.rows, is.count);
       });
       trimmed = each_number (λ n. IsTrue (is_named names n)) 0 contents (λ n above below. names_each file.root file.rows n (omega arith));

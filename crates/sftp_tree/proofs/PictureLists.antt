@@ -24,10 +24,6 @@ pub all_right : {A : Type 0} (P : A → Type 0) (xs ys : List A) → AllByRecurs
 all_right P [] ys p = p
 all_right P (x ∷ xs) ys p = all_right P xs ys p.1
 
-pub all_weaker : {A : Type 0} (P Q : A → Type 0) (xs : List A) → ((x : A) → P x → Q x) → AllByRecursion P xs → AllByRecursion Q xs
-all_weaker P Q [] f p = tt
-all_weaker P Q (x ∷ xs) f p = (f x p.0, all_weaker P Q xs f p.1)
-
 -- each element's image, and each image
 pub all_from_map : {A B : Type 0} (f : A → B) (P : B → Type 0) (xs : List A) → AllByRecursion P (map f xs) → AllByRecursion (λ x. P (f x)) xs
 all_from_map f P [] p = tt

@@ -30,7 +30,8 @@ use Rattle.sftp_tree.specs.declared.nodes.Node.{Node}
 use Rattle.sftp_tree.specs.declared.nodes.Node.TheVariants.{Dir, File, Link}
 use Rattle.sftp_tree.specs.Tree.{Names, node_at, is_directory, is_taken, depth_fits}
 use Rattle.sftp_tree.specs.PictureParts.{only_root}
-use Rattle.sftp_tree.proofs.PictureLists.{all_both, all_weaker, all_from_map, all_to_map, sorted_push, sorted_before, sorted_right, sorted_left, keys_append, lookup_left, lookup_right, lookup_found, places_tie, parent_less, root_before}
+use Rattle.sftp_tree.proofs.PictureLists.{all_both, all_from_map, all_to_map, sorted_push, sorted_before, sorted_right, sorted_left, keys_append, lookup_left, lookup_right, lookup_found, places_tie, parent_less, root_before}
+use Rattle.sftp_tree.proofs.KeepTables.{each-weaker}
 
 -- ---- tables
 
@@ -261,7 +262,7 @@ root_first ((n ∷ ns, node) ∷ entries) sorted there =
 -- and all else stands below it
 pub entries_below : (root : Owner) (entries : Names) → InOrder place_cmp (only_root root ++ entries) → AllByRecursion (λ e. 0 < length e.0) entries
 entries_below root entries sorted =
-    all_weaker (λ (e : Place × Node). place_cmp [] e.0 ≡ Less) (λ (e : Place × Node). 0 < length e.0) entries (λ e less. below_root e.0 less)
+    each-weaker (λ (e : Place × Node). place_cmp [] e.0 ≡ Less) (λ (e : Place × Node). 0 < length e.0) (λ e less. below_root e.0 less) entries
     (all_from_map (λ (e : Place × Node). e.0) (λ q. place_cmp [] q ≡ Less) entries (sorted_head place_cmp [] (keys_of entries) sorted))
 
 pub root_at : (root : Owner) (entries : Names) → node_at (only_root root ++ entries) [] ≡ Some (Dir root)
