@@ -1,46 +1,24 @@
 -- Why a tree is kept where the attributes of what stands at a place are set.
-use Rattle.std.proofs.Common.{◌≡◌, ℕ, zero, suc, ◌-◌, Bool, true, ◌&&◌, List, [], ◌∷◌, length, take, replicate, nat_lt, unwrap_or, refl, ◌∙◌, Option, Some, None, IsTrue}
+use Rattle.std.proofs.Common.{◌≡◌, ℕ, List, refl, Option, Some, None, IsTrue}
 use Rattle.std.specs.Ordering.{nat_cmp}
-use Rattle.std.specs.Option.{option_map}
-use Rattle.std.specs.List.{list_all}
-use Rattle.std.specs.Cmp.{nat_cmp_total, first_so, second_so}
-use Rattle.std.proofs.lemmas.List.Folds.{list_all-append}
+use Rattle.std.specs.Cmp.{nat_cmp_total}
 use Rattle.sftp_wire.specs.declared.attributes.Attrs.{Attrs}
 use Rattle.sftp_wire.specs.declared.packets.Ask.TheVariants.{Setstat}
 use Rattle.sftp_path.specs.Place.{Place}
 use Rattle.sftp_path.proofs.TableLaws.{get-put_here}
 use Rattle.sftp_treefile.specs.declared.files.Owner.{Owner}
-use Rattle.sftp_treefile.specs.TreeFile.{IsOwner, are_bytes}
+use Rattle.sftp_treefile.specs.TreeFile.{IsOwner}
 use Rattle.sftp_tree.specs.declared.contents.Content.{Content}
 use Rattle.sftp_tree.specs.declared.nodes.Node.{Node}
 use Rattle.sftp_tree.specs.declared.nodes.Node.TheVariants.{Dir, File, Link}
 use Rattle.sftp_tree.specs.Tree.{Tree, IsKept, IsContent, limits, fits, content_fits, node_at, with_node, content_at, with_content}
-use Rattle.sftp_tree.specs.Attributes.{changed_owner, changed_content, resized}
+use Rattle.sftp_tree.specs.Attributes.{changed_owner, changed_content}
 use Rattle.sftp_tree.specs.Steps.{setting_causes, is_none, with_changed_file, with_attributes}
 use Rattle.sftp_tree.specs.Judged.{causes_at_place}
 use Rattle.sftp_tree.proofs.CallSets.{room-in}
 use Rattle.sftp_tree.proofs.CallPlaces.{found-keeps, found-passes, node-kept}
-use Rattle.sftp_tree.proofs.CallRooms.{fits-parts}
-
--- ---- bytes
-
-all-take : (passes : ℕ → Bool) (n : ℕ) (xs : List ℕ) → list_all passes xs ≡ true → list_all passes (take n xs) ≡ true
-all-take passes zero xs all = refl
-all-take passes (suc n) [] all = refl
-all-take passes (suc n) (x ∷ xs) all =
-    λ i. first_so (passes x) (list_all passes xs) all i && all-take passes n xs (second_so (passes x) (list_all passes xs) all) i
-
-all-zeros : (n : ℕ) → IsTrue (are_bytes (replicate n 0))
-all-zeros zero = refl
-all-zeros (suc n) = all-zeros n
-
-resized-bytes : (size : ℕ) (bytes : List ℕ) → IsTrue (are_bytes bytes) → IsTrue (are_bytes (resized size bytes))
-resized-bytes size bytes all =
-    list_all-append (λ b. nat_lt b 256) (take size bytes) (replicate (size - length bytes) 0) ∙ (λ i. all-take (λ b. nat_lt b 256) size bytes all i && all-zeros (size - length bytes) i)
-
-changed-bytes : (size : Option ℕ) (bytes : List ℕ) → IsTrue (are_bytes bytes) → IsTrue (are_bytes (unwrap_or (option_map (λ size. resized size bytes) size) bytes))
-changed-bytes None bytes all = all
-changed-bytes (Some size) bytes all = resized-bytes size bytes all
+use Rattle.sftp_tree.proofs.KeepFits.{fits-parts}
+use Rattle.sftp_tree.proofs.KeepFields.{sized-bytes}
 
 -- ---- a file whose attributes are set
 
@@ -51,7 +29,7 @@ content-kept t number content kept there =
 -- what stands in a tree that fits does
 content-fits : (t : Tree) (number : ℕ) (content : Content) → IsTrue (fits (record t { files = with_content t.files number content })) → IsTrue (content_fits (limits t) content)
 content-fits t number content within =
-    found-passes nat_cmp (content_fits (limits t)) number content (with_content t.files number content) (fits-parts (record t { files = with_content t.files number content }) within).4 (get-put_here nat_cmp nat_cmp_total t.files number content)
+    found-passes nat_cmp (content_fits (limits t)) number content (with_content t.files number content) (fits-parts (record t { files = with_content t.files number content }) within).files (get-put_here nat_cmp nat_cmp_total t.files number content)
 
 -- ---- what stands at a place
 
@@ -64,7 +42,7 @@ set-keeps t attrs place path kept with_owner with_bytes owners none =
     by_content number None there within = kept
     by_content number (Some content) there within =
         let before = content-kept t number content kept there in
-        with_bytes number content (changed_content attrs content) there (owners content.owner before.0, changed-bytes attrs.size content.bytes before.1) (content-fits t number (changed_content attrs content) within)
+        with_bytes number content (changed_content attrs content) there (owners content.owner before.0, sized-bytes attrs.size content.bytes before.1) (content-fits t number (changed_content attrs content) within)
 
     by : (found : Option Node) → node_at t.names place ≡ found → IsTrue (fits (with_attributes t attrs place found)) → IsKept (with_attributes t attrs place found)
     by None there within = kept

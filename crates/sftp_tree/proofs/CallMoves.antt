@@ -1,5 +1,7 @@
 -- What it says of the places of a request that none of its causes holds.
 use Rattle.std.proofs.Common.{◌≡◌, ℕ, Bool, true, false, ◌&&◌, ◌||◌, not, if◌then◌else◌, List, refl, sym, ◌∙◌, ap, Some, None, IsTrue}
+use Rattle.std.proofs.lemmas.Bool.{not-false, or_parts}
+use Rattle.std.proofs.Math.Bool.{and-false}
 use Rattle.sftp_wire.specs.declared.packets.Ask.TheVariants.{Rmdir, Rename, PosixRename, Hardlink}
 use Rattle.sftp_path.specs.Place.{Place}
 use Rattle.sftp_treefile.specs.TreeFile.{is_root, same_place}
@@ -8,18 +10,16 @@ use Rattle.sftp_tree.specs.declared.causes.Cause.TheVariants.{NoEntry, NotDir, E
 use Rattle.sftp_tree.specs.Tree.{Tree, IsKept, fits, node_at, with_node, is_taken, is_directory, is_file, has_entries}
 use Rattle.sftp_tree.specs.Steps.{CauseSet, is_none, making_causes, causes_at, new_causes_at, causes_between, target_between, are_one, are_one_file, goes_inside, moved, put_in_its_stead, with_further_name}
 use Rattle.sftp_tree.specs.Judged.{with_room, causes_at_place, causes_at_places}
-use Rattle.sftp_tree.proofs.CallSets.{none-in, room-in}
-use Rattle.sftp_tree.proofs.CallPlaces.{absent-of, true-of, file-of, below-root, apart-of, moved-is}
-
-neither : (a b : Bool) → (a || b) ≡ false → (a ≡ false) × (b ≡ false)
-neither false b e = (refl, e)
-neither true b e = absurd cc
+use Rattle.sftp_tree.proofs.CallSets.{room-in}
+use Rattle.sftp_tree.proofs.CallPlaces.{absent-of, file-of, below-root, apart-of, moved-is}
+use Rattle.sftp_tree.proofs.KeepCauses.{none-each}
+use Rattle.sftp_tree.proofs.CausePairs.{empty-there}
 
 -- ---- what is to be made
 
 pub making-absent : (t : Tree) (place : Place) (asked : Tree) → IsTrue (is_none (with_room (making_causes (node_at t.names place)) asked)) → node_at t.names place ≡ None
 making-absent t place asked none =
-    absent-of (node_at t.names place) (none-in (with_room (making_causes (node_at t.names place)) asked) none Exists)
+    absent-of (node_at t.names place) (none-each (with_room (making_causes (node_at t.names place)) asked) none Exists)
 
 pub making-fits : (t : Tree) (place : Place) (asked : Tree) → IsTrue (is_none (with_room (making_causes (node_at t.names place)) asked)) → IsTrue (fits asked)
 making-fits t place asked none = room-in (making_causes (node_at t.names place)) asked refl none
@@ -38,25 +38,21 @@ pub record MayGo (t : Tree) (old new : Place) : Type 0 where
 -- RENAME: nothing stands at the new place
 pub rename-absent : (t : Tree) (old new : Place) (oldpath newpath : List ℕ) → IsTrue (is_none (causes_at_places t (Rename oldpath newpath) old new)) → node_at t.names new ≡ None
 rename-absent t old new oldpath newpath none =
-    absent-of (node_at t.names new) (neither (is_taken (node_at t.names new)) false (none-in (causes_at_places t (Rename oldpath newpath) old new) none Exists)).0
+    absent-of (node_at t.names new) (or_parts (is_taken (node_at t.names new)) false (none-each (causes_at_places t (Rename oldpath newpath) old new) none Exists)).0
 
 pub rename-may : (t : Tree) (old new : Place) (oldpath newpath : List ℕ) → IsKept t → IsTrue (is_none (causes_at_places t (Rename oldpath newpath) old new)) → MayGo t old new
 rename-may t old new oldpath newpath kept none =
-    let each = none-in (causes_at_places t (Rename oldpath newpath) old new) none in
+    let each = none-each (causes_at_places t (Rename oldpath newpath) old new) none in
     let free = rename-absent t old new oldpath newpath none in
-    let there = true-of (is_taken (node_at t.names old)) (neither (not (is_taken (node_at t.names old))) false (each NoEntry)).0 in
+    let there = not-false (is_taken (node_at t.names old)) (or_parts (not (is_taken (node_at t.names old))) false (each NoEntry)).0 in
     record {
       taken = there;
-      old_below_root = (neither (is_root old) false (each Root)).0;
+      old_below_root = (or_parts (is_root old) false (each Root)).0;
       new_below_root = below-root t new kept (ap is_directory free);
       outside = each Inside;
       elsewhere = apart-of t.names old new there free;
       fits = ap fits (sym (moved-is t old new free)) ∙ room-in (λ c. causes_at t (Rename oldpath newpath) old c || (new_causes_at t (Rename oldpath newpath) new c || causes_between t (Rename oldpath newpath) old new c)) (moved t old new) refl none;
     }
-
-and-false : (b : Bool) → (b && false) ≡ false
-and-false true = refl
-and-false false = refl
 
 -- where it is not one, what holds of two places does not
 other-one : (one b : Bool) → one ≡ false → (not one && b) ≡ false → b ≡ false
@@ -66,44 +62,37 @@ other-one true b apart e = cc
 -- posix-rename, where the places are not one
 pub replace-may : (t : Tree) (old new : Place) (oldpath newpath : List ℕ) → IsTrue (is_none (causes_at_places t (PosixRename oldpath newpath) old new)) → are_one t.names old new ≡ false → MayGo t old new
 replace-may t old new oldpath newpath none apart =
-    let each = none-in (causes_at_places t (PosixRename oldpath newpath) old new) none in
-    let below = neither (is_root old) (is_root new || (not (are_one t.names old new) && false)) (each Root) in
+    let each = none-each (causes_at_places t (PosixRename oldpath newpath) old new) none in
+    let below = or_parts (is_root old) (is_root new || (not (are_one t.names old new) && false)) (each Root) in
     let plain : CauseSet = (λ c. causes_at t (PosixRename oldpath newpath) old c || (new_causes_at t (PosixRename oldpath newpath) new c || causes_between t (PosixRename oldpath newpath) old new c)) in
     record {
-      taken = true-of (is_taken (node_at t.names old)) (neither (not (is_taken (node_at t.names old))) (not (are_one t.names old new) && false) (each NoEntry)).0;
+      taken = not-false (is_taken (node_at t.names old)) (or_parts (not (is_taken (node_at t.names old))) (not (are_one t.names old new) && false) (each NoEntry)).0;
       old_below_root = below.0;
-      new_below_root = (neither (is_root new) (not (are_one t.names old new) && false) below.1).0;
+      new_below_root = (or_parts (is_root new) (not (are_one t.names old new) && false) below.1).0;
       outside = other-one (are_one t.names old new) (goes_inside t.names old new) apart (each Inside);
-      elsewhere = (neither (same_place old new) (are_one_file (node_at t.names old) (node_at t.names new)) apart).0;
+      elsewhere = (or_parts (same_place old new) (are_one_file (node_at t.names old) (node_at t.names new)) apart).0;
       fits = ap (λ b. fits (if b then t else put_in_its_stead t old new)) (sym apart) ∙ room-in plain (target_between t (PosixRename oldpath newpath) old new) (and-false (not (are_one t.names old new))) none;
     }
-
-alone-of : (there old_is new_is has : Bool) → there ≡ true → ((there && not old_is) && new_is) ≡ false → (old_is && (new_is && has)) ≡ false → (new_is ≡ false → has ≡ false) → has ≡ false
-alone-of there old_is new_is false is a b other = refl
-alone-of true true true true is a b other = cc
-alone-of true false true true is a b other = cc
-alone-of true old_is false true is a b other = other refl
-alone-of false old_is new_is true is a b other = cc
 
 -- what stands at the new place has no entries, if only a directory may have some
 pub replace-alone : (t : Tree) (old new : Place) (oldpath newpath : List ℕ) → IsTrue (is_none (causes_at_places t (PosixRename oldpath newpath) old new)) → are_one t.names old new ≡ false → (is_directory (node_at t.names new) ≡ false → has_entries t.names new ≡ false) → has_entries t.names new ≡ false
 replace-alone t old new oldpath newpath none apart other =
-    let each = none-in (causes_at_places t (PosixRename oldpath newpath) old new) none in
+    let each = none-each (causes_at_places t (PosixRename oldpath newpath) old new) none in
     let old_is = is_directory (node_at t.names old) in
     let new_is = is_directory (node_at t.names new) in
-    alone-of (is_taken (node_at t.names old)) old_is new_is (has_entries t.names new) (replace-may t old new oldpath newpath none apart).taken (other-one (are_one t.names old new) ((is_taken (node_at t.names old) && not old_is) && new_is) apart (each IsDir)) (other-one (are_one t.names old new) (old_is && (new_is && has_entries t.names new)) apart (each NotEmpty)) other
+    empty-there old_is new_is (is_taken (node_at t.names old)) (has_entries t.names new) (replace-may t old new oldpath newpath none apart).taken (other-one (are_one t.names old new) (old_is && (new_is && has_entries t.names new)) apart (each NotEmpty)) (other-one (are_one t.names old new) ((is_taken (node_at t.names old) && not old_is) && new_is) apart (each IsDir)) other
 
 -- ---- a further name
 
 pub further-file : (t : Tree) (old new : Place) (oldpath newpath : List ℕ) → IsTrue (is_none (causes_at_places t (Hardlink oldpath newpath) old new)) → IsTrue (is_file (node_at t.names old))
 further-file t old new oldpath newpath none =
-    let each = none-in (causes_at_places t (Hardlink oldpath newpath) old new) none in
-    let there = true-of (is_taken (node_at t.names old)) (neither (not (is_taken (node_at t.names old))) false (each NoEntry)).0 in
-    file-of (node_at t.names old) there (neither (is_taken (node_at t.names old) && not (is_file (node_at t.names old))) false (each NotFile)).0
+    let each = none-each (causes_at_places t (Hardlink oldpath newpath) old new) none in
+    let there = not-false (is_taken (node_at t.names old)) (or_parts (not (is_taken (node_at t.names old))) false (each NoEntry)).0 in
+    file-of (node_at t.names old) there (or_parts (is_taken (node_at t.names old) && not (is_file (node_at t.names old))) false (each NotFile)).0
 
 pub further-absent : (t : Tree) (old new : Place) (oldpath newpath : List ℕ) → IsTrue (is_none (causes_at_places t (Hardlink oldpath newpath) old new)) → node_at t.names new ≡ None
 further-absent t old new oldpath newpath none =
-    absent-of (node_at t.names new) (neither (is_taken (node_at t.names new)) false (none-in (causes_at_places t (Hardlink oldpath newpath) old new) none Exists)).0
+    absent-of (node_at t.names new) (or_parts (is_taken (node_at t.names new)) false (none-each (causes_at_places t (Hardlink oldpath newpath) old new) none Exists)).0
 
 pub further-fits : (t : Tree) (old new : Place) (oldpath newpath : List ℕ) (number : ℕ) → IsTrue (is_none (causes_at_places t (Hardlink oldpath newpath) old new)) → node_at t.names old ≡ Some (File number) → IsTrue (fits (record t { names = with_node t.names new (File number) }))
 further-fits t old new oldpath newpath number none there =
@@ -113,8 +102,8 @@ further-fits t old new oldpath newpath number none there =
 
 pub removing-parts : (t : Tree) (place : Place) (path : List ℕ) → IsTrue (is_none (causes_at_place t (Rmdir path) place)) → IsTrue (is_taken (node_at t.names place)) × (is_root place ≡ false) × (has_entries t.names place ≡ false)
 removing-parts t place path none =
-    let each = none-in (causes_at_place t (Rmdir path) place) none in
-    let there = true-of (is_taken (node_at t.names place)) (each NoEntry) in
+    let each = none-each (causes_at_place t (Rmdir path) place) none in
+    let there = not-false (is_taken (node_at t.names place)) (each NoEntry) in
     let directory = directory-of (is_taken (node_at t.names place)) (is_directory (node_at t.names place)) there (each NotDir) in
     (there, each Root, ap (λ b. b && has_entries t.names place) (sym directory) ∙ each NotEmpty)
   where

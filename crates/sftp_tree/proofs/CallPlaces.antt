@@ -1,8 +1,6 @@
 -- What stands at the places that paths lead to, as the calls for requests find it.
-use Rattle.std.proofs.Common.{◌≡◌, Bool, true, false, ◌&&◌, not, cond, [], ◌∷◌, nat_eq, refl, sym, subst, ◌∙◌, ap, Option, Some, None}
-use Rattle.std.specs.Ordering.{is_eq}
+use Rattle.std.proofs.Common.{◌≡◌, Bool, true, false, ◌&&◌, not, [], ◌∷◌, nat_eq, refl, sym, ap, Option, Some, None, IsTrue}
 use Rattle.std.specs.declared.cmp.Ordering.{Ordering}
-use Rattle.std.specs.Map.{lookup}
 use Rattle.std.specs.BTreeMap.{is_at}
 use Rattle.std.specs.List.{AllByRecursion, list_all}
 use Rattle.std.specs.Cmp.{first_so, second_so}
@@ -16,14 +14,12 @@ use Rattle.sftp_tree.specs.declared.nodes.Node.{Node}
 use Rattle.sftp_tree.specs.declared.nodes.Node.TheVariants.{Dir, File, Link}
 use Rattle.sftp_tree.specs.Tree.{Names, Tree, IsKept, IsNode, node_at, is_taken, is_directory, is_file}
 use Rattle.sftp_tree.specs.Steps.{moved, put_in_its_stead}
+use Rattle.sftp_tree.proofs.WalkMeetings.{lookup_holds}
+use Rattle.sftp_tree.proofs.KeepTables.{each-all}
 
 pub absent-of : (found : Option Node) → is_taken found ≡ false → found ≡ None
 absent-of None e = refl
 absent-of (Some it) e = cc
-
-pub true-of : (b : Bool) → not b ≡ false → b ≡ true
-true-of true e = refl
-true-of false e = cc
 
 pub taken-of : (found : Option Node) (it : Node) → found ≡ Some it → is_taken found ≡ true
 taken-of found it e = ap is_taken e
@@ -66,32 +62,12 @@ moved-is t old new free =
 
 -- ---- what is found in a table keeps what each entry keeps
 
-found-in : {K X : Type 0} (cmp : K → K → Ordering) (P : X → Type 0) (key : K) (value : X) (es : Table K X) → AllByRecursion (λ e. P e.1) es → lookup (is_at (cmp key)) es ≡ Some value → P value
-found-in cmp P key value [] all there = absurd cc
-found-in cmp P key value (e ∷ es) all there = by (is_eq (cmp key e.0)) there (found-in cmp P key value es all.1)
-  where
-    by : (b : Bool) → cond b (Some e.1) (lookup (is_at (cmp key)) es) ≡ Some value → (lookup (is_at (cmp key)) es ≡ Some value → P value) → P value
-    by true here rest =
-        let same : e.1 ≡ value = cc in subst P same all.0
-    by false further rest = rest further
-
 pub found-keeps : {K X : Type 0} (cmp : K → K → Ordering) (P : X → Type 0) (key : K) (value : X) (es : Table K X) → AllByRecursion (λ e. P e.1) es → get cmp es key ≡ Some value → P value
 unfolding get
-found-keeps cmp P key value es all there = found-in cmp P key value es all there
-
-found-passed : {K X : Type 0} (cmp : K → K → Ordering) (passes : X → Bool) (key : K) (value : X) (es : Table K X) → list_all (λ e. passes e.1) es ≡ true → lookup (is_at (cmp key)) es ≡ Some value → passes value ≡ true
-found-passed cmp passes key value [] all there = cc
-found-passed cmp passes key value (e ∷ es) all there =
-    by (is_eq (cmp key e.0)) there (found-passed cmp passes key value es (second_so (passes e.1) (list_all (λ x. passes x.1) es) all))
-  where
-    by : (b : Bool) → cond b (Some e.1) (lookup (is_at (cmp key)) es) ≡ Some value → (lookup (is_at (cmp key)) es ≡ Some value → passes value ≡ true) → passes value ≡ true
-    by true here rest =
-        let same : e.1 ≡ value = cc in ap passes (sym same) ∙ first_so (passes e.1) (list_all (λ x. passes x.1) es) all
-    by false further rest = rest further
+found-keeps cmp P key value es all there = lookup_holds P (is_at (cmp key)) es value all there
 
 pub found-passes : {K X : Type 0} (cmp : K → K → Ordering) (passes : X → Bool) (key : K) (value : X) (es : Table K X) → list_all (λ e. passes e.1) es ≡ true → get cmp es key ≡ Some value → passes value ≡ true
-unfolding get
-found-passes cmp passes key value es all there = found-passed cmp passes key value es all there
+found-passes cmp passes key value es all there = found-keeps cmp (λ x. IsTrue (passes x)) key value es (each-all (λ e. passes e.1) es all) there
 
 -- what stands at a place of a tree is a node of one
 pub node-kept : (t : Tree) (place : Place) (it : Node) → IsKept t → node_at t.names place ≡ Some it → IsNode t.files it

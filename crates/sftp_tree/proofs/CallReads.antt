@@ -17,7 +17,8 @@ use Rattle.sftp_tree.specs.Steps.{path_of, new_path_of, follows, led, new_led, l
 use Rattle.sftp_tree.specs.Sets.{in_set, IsFree, stat_ask}
 use Rattle.sftp_tree.specs.Judged.{causes_at_place, needing, reading}
 use Rattle.sftp_tree.proofs.CallSets.{led-is, none-of-set, free-by}
-use Rattle.sftp_tree.proofs.CallRooms.{needing-is, reading-is}
+use Rattle.sftp_tree.proofs.CallRooms.{needing-at}
+use Rattle.sftp_tree.proofs.CausePlaces.{reading-is}
 
 -- the causes at a place are those of the request
 abbrev pub AreCauses : Tree → Ask → Place → Type 0
@@ -47,11 +48,11 @@ stat-led t follow path place leads =
 
 pub stat-free : (t : Tree) (follow : Bool) (path : List ℕ) (place : Place) (it : Node) → IsKept t → AreCauses t (stat_ask follow path) place → node_at t.names place ≡ Some it → IsFree t (stat_ask follow path)
 stat-free t follow path place it kept are there =
-    free-by t (stat_ask follow path) (causes_at_place t (stat_ask follow path) place) are (none-of-set (needing (node_at t.names place)) (causes_at_place t (stat_ask follow path) place) (needing-is t place follow path kept) (ap (λ found. is_none (in_set (needing found))) there))
+    free-by t (stat_ask follow path) (causes_at_place t (stat_ask follow path) place) are (none-of-set (needing (node_at t.names place)) (causes_at_place t (stat_ask follow path) place) (needing-at t place follow path kept) (ap (λ found. is_none (in_set (needing found))) there))
 
 pub stat-absent : (t : Tree) (follow : Bool) (path : List ℕ) (place : Place) → IsKept t → AreCauses t (stat_ask follow path) place → node_at t.names place ≡ None → IsTrue (causes t (stat_ask follow path) NoEntry)
 stat-absent t follow path place kept are absent =
-    are NoEntry ∙ sym (needing-is t place follow path kept NoEntry) ∙ ap (λ found. not (is_taken found)) absent
+    are NoEntry ∙ sym (needing-at t place follow path kept NoEntry) ∙ ap (λ found. not (is_taken found)) absent
 
 pub stat-shown : (t : Tree) (follow : Bool) (path : List ℕ) (place : Place) (it : Node) (attrs : Attrs) → reached t follow path ≡ Ok place → node_at t.names place ≡ Some it → shown t it ≡ Some attrs → shown_to t (stat_ask follow path) ≡ Some attrs
 unfolding shown_to
@@ -69,15 +70,15 @@ realpath-text t path text place leads is =
 
 pub readlink-free : (t : Tree) (path : List ℕ) (place : Place) (goal : List ℕ) → IsKept t → AreCauses t (Readlink path) place → node_at t.names place ≡ Some (Link goal) → IsFree t (Readlink path)
 readlink-free t path place goal kept are there =
-    free-by t (Readlink path) (causes_at_place t (Readlink path) place) are (none-of-set (reading (node_at t.names place)) (causes_at_place t (Readlink path) place) (reading-is t place path kept) (ap (λ found. is_none (in_set (reading found))) there))
+    free-by t (Readlink path) (causes_at_place t (Readlink path) place) are (none-of-set (reading (node_at t.names place)) (causes_at_place t (Readlink path) place) (reading-is t (node_at t.names place) kept) (ap (λ found. is_none (in_set (reading found))) there))
 
 pub readlink-absent : (t : Tree) (path : List ℕ) (place : Place) → IsKept t → AreCauses t (Readlink path) place → node_at t.names place ≡ None → IsTrue (causes t (Readlink path) NoEntry)
 readlink-absent t path place kept are absent =
-    are NoEntry ∙ sym (reading-is t place path kept NoEntry) ∙ ap (λ found. not (is_taken found)) absent
+    are NoEntry ∙ sym (reading-is t (node_at t.names place) kept NoEntry) ∙ ap (λ found. not (is_taken found)) absent
 
 pub readlink-other : (t : Tree) (path : List ℕ) (place : Place) (it : Node) → IsKept t → AreCauses t (Readlink path) place → node_at t.names place ≡ Some it → is_link (Some it) ≡ false → IsTrue (causes t (Readlink path) NotLink)
 readlink-other t path place it kept are there other =
-    are NotLink ∙ sym (reading-is t place path kept NotLink) ∙ ap (λ found. is_taken found && not (is_link found)) there ∙ ap not other
+    are NotLink ∙ sym (reading-is t (node_at t.names place) kept NotLink) ∙ ap (λ found. is_taken found && not (is_link found)) there ∙ ap not other
 
 pub readlink-target : (t : Tree) (path : List ℕ) (place : Place) (goal given : List ℕ) → reached t false path ≡ Ok place → node_at t.names place ≡ Some (Link goal) → given ≡ goal → target_to t (Readlink path) ≡ Some given
 unfolding target_to

@@ -1,21 +1,21 @@
 -- What the calls for requests share: where a request leads, which causes then hold of it, and what it asks for.
-use Rattle.std.proofs.Common.{◌≡◌, ℕ, Bool, if◌then◌else◌, true, false, ◌&&◌, ◌||◌, not, List, [], ◌∷◌, refl, sym, subst, ◌∙◌, ap, Some, None, IsTrue, Result, Ok, Err}
-use Rattle.std.specs.List.{list_any}
+use Rattle.std.proofs.Common.{◌≡◌, ℕ, Bool, true, false, ◌&&◌, not, List, refl, sym, subst, ◌∙◌, ap, Some, None, IsTrue, Result, Ok}
 use Rattle.std.specs.Option.{option_map}
 use Rattle.std.specs.Result.{IfErr, IsErrAnd}
 use Rattle.std.proofs.lemmas.Result.{err_from_is_err_and}
 use Rattle.sftp_wire.specs.declared.packets.Ask.{Ask}
-use Rattle.sftp_path.specs.Place.{Place, is_good_path}
+use Rattle.sftp_path.specs.Place.{Place}
 use Rattle.sftp_tree.specs.declared.causes.Cause.{Cause}
 use Rattle.sftp_tree.specs.declared.causes.Cause.TheVariants.{BadPath, NoEntry, NotDir, Loop, Exists, IsDir, NotLink, NotFile, NotEmpty, Root, Inside, NoRoom}
 use Rattle.sftp_tree.specs.declared.causes.Causes.{Causes}
 use Rattle.sftp_tree.specs.declared.causes.Refused.{Refused}
 use Rattle.sftp_tree.specs.declared.causes.Refused.TheVariants as refusals
 use Rattle.sftp_tree.specs.Tree.{Tree, fits}
-use Rattle.sftp_tree.specs.Walk.{reached, walk, link_limit, steps_of}
-use Rattle.sftp_tree.specs.Steps.{CauseSet, path_of, new_path_of, follows, led, new_led, led_to, target_at, target_between, target_on, target, is_none, every_cause, causes}
+use Rattle.sftp_tree.specs.Walk.{reached}
+use Rattle.sftp_tree.specs.Steps.{CauseSet, path_of, new_path_of, follows, led, new_led, led_to, target_at, target_between, target_on, target, is_none, causes}
 use Rattle.sftp_tree.specs.Sets.{in_set, IsFree, IsRefusal}
 use Rattle.sftp_tree.specs.Judged.{IsSet, with_room}
+use Rattle.sftp_tree.proofs.KeepCauses.{none-each, each-none}
 
 -- ---- where a request leads
 
@@ -30,11 +30,6 @@ new-led-is t ask path r asked reaches =
 
 pub new-led-none : (t : Tree) (ask : Ask) → new_path_of ask ≡ None → new_led t ask ≡ None
 new-led-none t ask asked = λ i. option_map (reached t false) (asked i)
-
--- a bad path leads nowhere
-pub bad-lost : (t : Tree) (follow : Bool) (path : List ℕ) → is_good_path path ≡ false → reached t follow path ≡ Err BadPath
-unfolding reached
-bad-lost t follow path bad = λ i. if bad i then walk t.names follow link_limit [] (steps_of t path) else Err BadPath
 
 -- what a request of one path asks for
 pub target-one : (t : Tree) (ask : Ask) (place : Place) → led t ask ≡ Some (Ok place) → new_led t ask ≡ None → target t ask ≡ target_at t ask place
@@ -56,58 +51,12 @@ exit r P y gives holds =
 
 -- ---- sets of causes
 
-parted : (f : CauseSet) (c : Cause) (cs : List Cause) → list_any f (c ∷ cs) ≡ false → (f c ≡ false) × (list_any f cs ≡ false)
-parted f c cs none = by (f c) (list_any f cs) none
-  where
-    by : (a b : Bool) → (a || b) ≡ false → (a ≡ false) × (b ≡ false)
-    by false b e = (refl, e)
-    by true b e = absurd cc
-
--- where no cause is in the set, each of them is not
-pub none-in : (f : CauseSet) → IsTrue (is_none f) → (c : Cause) → f c ≡ false
-none-in f none c =
-    let whole : list_any f every_cause ≡ false = not-true (list_any f every_cause) none in
-    let p1 = parted f BadPath (NoEntry ∷ NotDir ∷ Loop ∷ Exists ∷ IsDir ∷ NotLink ∷ NotFile ∷ NotEmpty ∷ Root ∷ Inside ∷ NoRoom ∷ []) whole in
-    let p2 = parted f NoEntry (NotDir ∷ Loop ∷ Exists ∷ IsDir ∷ NotLink ∷ NotFile ∷ NotEmpty ∷ Root ∷ Inside ∷ NoRoom ∷ []) p1.1 in
-    let p3 = parted f NotDir (Loop ∷ Exists ∷ IsDir ∷ NotLink ∷ NotFile ∷ NotEmpty ∷ Root ∷ Inside ∷ NoRoom ∷ []) p2.1 in
-    let p4 = parted f Loop (Exists ∷ IsDir ∷ NotLink ∷ NotFile ∷ NotEmpty ∷ Root ∷ Inside ∷ NoRoom ∷ []) p3.1 in
-    let p5 = parted f Exists (IsDir ∷ NotLink ∷ NotFile ∷ NotEmpty ∷ Root ∷ Inside ∷ NoRoom ∷ []) p4.1 in
-    let p6 = parted f IsDir (NotLink ∷ NotFile ∷ NotEmpty ∷ Root ∷ Inside ∷ NoRoom ∷ []) p5.1 in
-    let p7 = parted f NotLink (NotFile ∷ NotEmpty ∷ Root ∷ Inside ∷ NoRoom ∷ []) p6.1 in
-    let p8 = parted f NotFile (NotEmpty ∷ Root ∷ Inside ∷ NoRoom ∷ []) p7.1 in
-    let p9 = parted f NotEmpty (Root ∷ Inside ∷ NoRoom ∷ []) p8.1 in
-    let p10 = parted f Root (Inside ∷ NoRoom ∷ []) p9.1 in
-    let p11 = parted f Inside (NoRoom ∷ []) p10.1 in
-    let p12 = parted f NoRoom ([]) p11.1 in
-    at p1.0 p2.0 p3.0 p4.0 p5.0 p6.0 p7.0 p8.0 p9.0 p10.0 p11.0 p12.0 c
-  where
-    not-true : (b : Bool) → not b ≡ true → b ≡ false
-    not-true false e = refl
-    not-true true e = cc
-
-    at : f BadPath ≡ false → f NoEntry ≡ false → f NotDir ≡ false → f Loop ≡ false → f Exists ≡ false → f IsDir ≡ false → f NotLink ≡ false → f NotFile ≡ false → f NotEmpty ≡ false → f Root ≡ false → f Inside ≡ false → f NoRoom ≡ false → (c : Cause) → f c ≡ false
-    at a b c d e f g h i j k l BadPath = a
-    at a b c d e f g h i j k l NoEntry = b
-    at a b c d e f g h i j k l NotDir = c
-    at a b c d e f g h i j k l Loop = d
-    at a b c d e f g h i j k l Exists = e
-    at a b c d e f g h i j k l IsDir = f
-    at a b c d e f g h i j k l NotLink = g
-    at a b c d e f g h i j k l NotFile = h
-    at a b c d e f g h i j k l NotEmpty = i
-    at a b c d e f g h i j k l Root = j
-    at a b c d e f g h i j k l Inside = k
-    at a b c d e f g h i j k l NoRoom = l
-
-none-of : (f : CauseSet) → ((c : Cause) → f c ≡ false) → is_none f ≡ true
-none-of f each = λ i. is_none (λ c. each c i)
-
 -- where no cause holds, what is asked for fits
 pub room-in : (plain : CauseSet) (asked : Tree) → plain NoRoom ≡ false → IsTrue (is_none (with_room plain asked)) → IsTrue (fits asked)
 room-in plain asked room none =
-    let without : (c : Cause) → plain c ≡ false = others (none-in (with_room plain asked) none) in
-    let here : (is_none plain && not (fits asked)) ≡ false = none-in (with_room plain asked) none NoRoom in
-    last (is_none plain) (fits asked) (none-of plain without) here
+    let without : (c : Cause) → plain c ≡ false = others (none-each (with_room plain asked) none) in
+    let here : (is_none plain && not (fits asked)) ≡ false = none-each (with_room plain asked) none NoRoom in
+    last (is_none plain) (fits asked) (each-none plain without) here
   where
     last : (a b : Bool) → a ≡ true → (a && not b) ≡ false → b ≡ true
     last a true all e = refl

@@ -1,5 +1,6 @@
 -- The causes of a request by where its paths lead.
-use Rattle.std.proofs.Common.{◌≡◌, Bool, true, false, ◌&&◌, ◌||◌, not, refl, ◌∙◌, ap, Option, Some, None, IsTrue, Result, Ok, Err}
+use Rattle.std.proofs.Common.{◌≡◌, true, false, ◌&&◌, ◌||◌, not, refl, ◌∙◌, ap, Option, Some, None, IsTrue, Result, Ok, Err}
+use Rattle.std.proofs.Math.Bool.{or-false, or-true}
 use Rattle.sftp_wire.specs.declared.packets.Ask.{Ask}
 use Rattle.sftp_path.specs.Place.{Place}
 use Rattle.sftp_tree.specs.declared.causes.Cause.{Cause}
@@ -8,16 +9,6 @@ use Rattle.sftp_tree.specs.Tree.{Tree, fits}
 use Rattle.sftp_tree.specs.Steps.{CauseSet, led, new_led, only, is_none, causes_at, new_causes_at, causes_between, target_causes, led_causes, both_causes, plain_causes, target_at, target_between, target_on, led_to, target, causes}
 use Rattle.sftp_tree.specs.Judged.{with_room, causes_at_place, causes_at_places}
 use Rattle.sftp_tree.proofs.CauseWalks.{led-room, new_led-room}
-
--- ---- tests
-
-pub or-false : (b : Bool) → (b || false) ≡ b
-or-false true = refl
-or-false false = refl
-
-pub or-true : (b : Bool) → (b || true) ≡ true
-or-true true = refl
-or-true false = refl
 
 -- ---- sets
 

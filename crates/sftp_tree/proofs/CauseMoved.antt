@@ -2,18 +2,18 @@
 use Rattle.std.proofs.Common.{◌≡◌, ℕ, ◌+◌, ◌-◌, ◌≤◌, Bool, true, false, ◌&&◌, ◌||◌, not, cond, [], ◌∷◌, ◌++◌, length, drop, refl, sym, ◌∙◌, ap, arith, Option, Some, None, nat_le}
 use Rattle.std.specs.Ordering.{is_eq}
 use Rattle.std.specs.Cmp.{Equal-is}
-use Rattle.std.specs.declared.cmp.Ordering.TheVariants.{Equal}
 use Rattle.std.specs.List.{list_all}
 use Rattle.std.specs.Map.{lookup, remove_entry}
 use Rattle.std.specs.BTreeMap.{is_at}
 use Rattle.std.proofs.lemmas.Bool.{and_parts}
 use Rattle.std.proofs.lemmas.Bool.Decides.{nat_tests}
 use Rattle.std.proofs.lemmas.List.{append-nil, length-append}
+use Rattle.std.proofs.Math.Bool.{and-true}
 use Rattle.sftp_path.specs.Place.{Name, Place, place_cmp, begins, depth_limit}
 use Rattle.sftp_path.specs.Table.{get, without}
 use Rattle.sftp_path.specs.Rekeying.{renamed, rekeyed, NothingFrom}
-use Rattle.sftp_path.proofs.Order.{place_cmp-total, place_cmp-same, begins-front, begins-append}
-use Rattle.sftp_path.proofs.TableLaws.{get-without_here, get-without_elsewhere, InOrder-without}
+use Rattle.sftp_path.proofs.Order.{place_cmp-same, begins-front, begins-append}
+use Rattle.sftp_path.proofs.TableLaws.{InOrder-without}
 use Rattle.sftp_path.proofs.TestLaws.{all-without}
 use Rattle.sftp_path.proofs.TestLaws as tests
 use Rattle.sftp_path.proofs.RekeyingLaws.{renamed-outside, length-renamed, size-rekeyed}
@@ -22,7 +22,10 @@ use Rattle.sftp_tree.specs.declared.nodes.Node.{Node}
 use Rattle.sftp_tree.specs.Tree.{Names, Tree, IsKept, limits, fits, depth_fits, link_fits, node_at, without_node, is_taken}
 use Rattle.sftp_tree.specs.Judged.{reaches_at_most, move_fits}
 use Rattle.sftp_tree.specs.Steps.{moved, put_in_its_stead}
-use Rattle.sftp_tree.proofs.CauseRoom.{Fitting, fitting, fits-names, fewer, length-without}
+use Rattle.sftp_tree.proofs.CauseRoom.{fits-names}
+use Rattle.sftp_tree.proofs.StepTables.{length-without}
+use Rattle.sftp_tree.proofs.KeepFits.{Fits, fits-parts}
+use Rattle.sftp_tree.proofs.KeepLimits.{fewer}
 
 -- ---- tests of all entries
 
@@ -110,13 +113,9 @@ depths-moved names old new all taken = by (nat_le (length new) depth_limit) refl
 
 -- ---- a move
 
-and-true : (b : Bool) → (b && true) ≡ b
-and-true true = refl
-and-true false = refl
-
 pub fits-moved : (t : Tree) (old new : Place) → IsKept t → is_taken (node_at t.names old) ≡ true → NothingFrom t.names new → fits (moved t old new) ≡ move_fits t.names old new
 fits-moved t old new kept taken nothing =
-    let fit = fitting t kept.within_limits in
+    let fit = fits-parts t kept.within_limits in
     let order = kept.well_formed.ordered in
     fits-names t (rekeyed old new t.names) true (move_fits t.names old new) true fit
     (ap (λ n. nat_le (n - 1) (limits t).entries) (size-rekeyed old new t.names order nothing) ∙ fit.entries)
@@ -127,17 +126,17 @@ fits-moved t old new kept taken nothing =
 -- with what stood at the new place gone
 pub fits-put_in_stead : (t : Tree) (old new : Place) → IsKept t → is_taken (node_at t.names old) ≡ true → NothingFrom (without_node t.names new) new → (is_taken (node_at t.names new) ≡ true → begins old new ≡ false) → fits (put_in_its_stead t old new) ≡ move_fits t.names old new
 fits-put_in_stead t old new kept taken nothing apart =
-    let fit = fitting t kept.within_limits in
+    let fit = fits-parts t kept.within_limits in
     let order = InOrder-without place_cmp t.names new kept.well_formed.ordered in
     fits-names t (rekeyed old new (without_node t.names new)) true (move_fits t.names old new) true fit
     (ap (λ n. nat_le (n - 1) (limits t).entries) (size-rekeyed old new (without_node t.names new) order nothing)
-    ∙ fewer (length t.names) (length (without_node t.names new)) (limits t).entries (length-without t.names new) fit.entries)
+    ∙ fewer (length t.names) (length (without_node t.names new)) (limits t).entries (length-without new t.names) fit.entries)
     (tests.all-rekeyed old new (without_node t.names new) (λ e. depth_fits e.0) order nothing ∙ others fit ∙ depths-moved t.names old new fit.depths taken)
     (tests.all-rekeyed old new (without_node t.names new) (λ e. link_fits e.1) order nothing ∙ all-without place_cmp t.names new (λ e. link_fits e.1) fit.links)
     ∙ and-true (move_fits t.names old new)
   where
     -- what goes is neither moved nor too deep
-    others : Fitting t → list_all (λ e. depth_fits (renamed old new e.0)) (without_node t.names new) ≡ list_all (λ e. depth_fits (renamed old new e.0)) t.names
+    others : Fits t → list_all (λ e. depth_fits (renamed old new e.0)) (without_node t.names new) ≡ list_all (λ e. depth_fits (renamed old new e.0)) t.names
     others fit = by (node_at t.names new) refl
       where
         by : (found : Option Node) → node_at t.names new ≡ found → list_all (λ e. depth_fits (renamed old new e.0)) (without_node t.names new) ≡ list_all (λ e. depth_fits (renamed old new e.0)) t.names
@@ -151,13 +150,3 @@ fits-put_in_stead t old new kept taken nothing apart =
 pub nothing-from : (names : Names) (place : Place) → node_at names place ≡ None → ((n : Name) (ns : Place) → node_at names (place ++ n ∷ ns) ≡ None) → NothingFrom names place
 nothing-from names place here below [] = ap (node_at names) (append-nil place) ∙ here
 nothing-from names place here below (n ∷ ns) = below n ns
-
-longer : (place : Place) (n : Name) (ns : Place) → place_cmp place (place ++ n ∷ ns) ≡ Equal → ⊥
-longer place n ns same =
-    let one : length place ≡ length (place ++ n ∷ ns) = ap length (place_cmp-same place (place ++ n ∷ ns) same) in
-    omega (arith, length-append place (n ∷ ns))
-
-pub nothing-left : (t : Tree) (place : Place) → IsKept t → ((n : Name) (ns : Place) → node_at t.names (place ++ n ∷ ns) ≡ None) → NothingFrom (without_node t.names place) place
-nothing-left t place kept below =
-    nothing-from (without_node t.names place) place (get-without_here place_cmp place_cmp-total t.names place kept.well_formed.ordered)
-    (λ n ns. get-without_elsewhere place_cmp place_cmp-total t.names place (place ++ n ∷ ns) kept.well_formed.ordered (longer place n ns) ∙ below n ns)

@@ -1,7 +1,7 @@
 -- Which moves keep to the most names of a place.
 use Rattle.std.proofs.Common.{◌≡◌, ℕ, ◌-◌, Bool, true, false, ◌&&◌, ◌||◌, not, cond, [], ◌∷◌, length, refl, sym, ◌∙◌, ap, nat_le}
 use Rattle.std.specs.Cmp.Lexicographic.{bytes_decides, texts_ties, nat_list_cmp_total}
-use Rattle.std.specs.Ordering.{ordering_then, ordering_reverse, is_eq, is_le}
+use Rattle.std.specs.Ordering.{ordering_then, is_eq, is_le}
 use Rattle.std.specs.declared.cmp.Ordering.{Ordering}
 use Rattle.std.specs.declared.cmp.Ordering.TheVariants.{Less, Equal, Greater}
 use Rattle.std.specs.declared.ops.Bound.TheVariants.{Included, Unbounded}
@@ -11,22 +11,14 @@ use Rattle.std.specs.Map.{keys_of}
 use Rattle.std.specs.BTreeMap.Range.{entries_between}
 use Rattle.std.proofs.lemmas.Bool.{and_parts}
 use Rattle.std.proofs.lemmas.Map.Keys.{sorted_head, sorted_tail}
+use Rattle.std.specs.Cmp.{Equal-is}
 use Rattle.sftp_path.specs.Place.{Place, name_cmp, place_cmp, same_bytes, begins}
 use Rattle.sftp_tree.specs.declared.nodes.Node.{Node}
 use Rattle.sftp_tree.specs.Tree.{Names}
 use Rattle.sftp_tree.specs.Judged.{reaches_at_most}
+use Rattle.sftp_tree.proofs.StepBelow.{between-names}
 
 -- ---- the places that a place begins stand in a row, from it on
-
--- a name that is neither below nor above another is that name
-between-names : (o q : Ordering) (x y : Ordering) → o ≡ ordering_reverse q → ordering_then o x ≡ Less → ordering_then q y ≡ Less → (o ≡ Equal) × (x ≡ Less) × (y ≡ Less)
-between-names Less Less x y turned first second = cc
-between-names Less Equal x y turned first second = cc
-between-names Less Greater x y turned first second = cc
-between-names Equal Less x y turned first second = cc
-between-names Equal Equal x y turned first second = (refl, first, second)
-between-names Equal Greater x y turned first second = cc
-between-names Greater q x y turned first second = cc
 
 -- what stands between a place and one that it begins, it begins too
 begins-between : (p a b : Place) → place_cmp p a ≡ Less → place_cmp a b ≡ Less → begins p b ≡ true → begins p a ≡ true
@@ -41,11 +33,6 @@ begins-between (m ∷ ms) (k ∷ ks) (n ∷ ns) after before begun =
     let same : same_bytes m k ≡ true = texts_ties m k ∙ ap is_eq found.0 in
     ap (λ x. x && begins ms ks) same ∙ begins-between ms ks ns found.1 found.2 parts.1
 
-tied : (o : Ordering) → is_eq o ≡ true → o ≡ Equal
-tied Less e = cc
-tied Equal e = refl
-tied Greater e = cc
-
 -- a place comes before those that it begins, or is one of them
 begins-le : (p k : Place) → begins p k ≡ true → is_le (place_cmp p k) ≡ true
 begins-le [] [] begun = refl
@@ -53,7 +40,7 @@ begins-le [] (n ∷ ns) begun = refl
 begins-le (m ∷ ms) [] begun = cc
 begins-le (m ∷ ms) (n ∷ ns) begun =
     let parts = and_parts (same_bytes m n) (begins ms ns) begun in
-    ap (λ o. is_le (ordering_then o (place_cmp ms ns))) (tied (name_cmp m n) (sym (texts_ties m n) ∙ parts.0)) ∙ begins-le ms ns parts.1
+    ap (λ o. is_le (ordering_then o (place_cmp ms ns))) ((Equal-is (name_cmp m n)).0 (sym (texts_ties m n) ∙ parts.0)) ∙ begins-le ms ns parts.1
 
 begins-equal : (p k : Place) → place_cmp p k ≡ Equal → begins p k ≡ true
 begins-equal [] [] e = refl

@@ -1,52 +1,39 @@
 -- The causes of requests at the place that their path leads to, as the code has them.
-use Rattle.std.proofs.Common.{◌≡◌, ℕ, ◌-◌, Bool, true, false, ◌&&◌, ◌||◌, not, cond, List, [], ◌∷◌, length, take, replicate, refl, sym, subst, ◌∙◌, ap, arith, Option, Some, None, IsTrue, nat_le, unwrap_or}
+use Rattle.std.proofs.Common.{◌≡◌, ℕ, ◌-◌, Bool, true, false, ◌&&◌, ◌||◌, not, List, length, take, replicate, refl, sym, ◌∙◌, ap, arith, Option, Some, None, IsTrue, nat_le, unwrap_or}
 use Rattle.std.specs.Option.{is_some, option_map}
-use Rattle.std.specs.Ordering.{is_eq}
-use Rattle.std.specs.Map.{lookup}
-use Rattle.std.specs.BTreeMap.{is_at}
-use Rattle.std.specs.List.{AllByRecursion}
 use Rattle.std.proofs.lemmas.List.{length-append, length-take, length-replicate}
+use Rattle.std.proofs.Math.Bool.{and-true, and-false}
 use Rattle.sftp_wire.specs.declared.attributes.Attrs.{Attrs}
 use Rattle.sftp_wire.specs.declared.packets.Ask.TheVariants.{Remove, Setstat}
-use Rattle.sftp_path.specs.Place.{Place, place_cmp}
-use Rattle.sftp_path.specs.Table.{get}
+use Rattle.sftp_path.specs.Place.{Place}
 use Rattle.sftp_treefile.specs.declared.limits.TreeLimits.{TreeLimits}
 use Rattle.sftp_tree.specs.declared.contents.Content.{Content}
 use Rattle.sftp_tree.specs.declared.nodes.Node.{Node}
 use Rattle.sftp_tree.specs.declared.nodes.Node.TheVariants.{Dir, File, Link}
 use Rattle.sftp_tree.specs.declared.causes.Cause.TheVariants.{BadPath, NoRoom}
 use Rattle.sftp_tree.specs.declared.causes.Causes.{Causes}
-use Rattle.sftp_tree.specs.Tree.{Names, Tree, IsKept, IsNode, limits, fits, link_fits, node_at, with_node, without_node, content_at, is_taken, is_directory, is_file}
+use Rattle.sftp_tree.specs.Tree.{Tree, IsKept, limits, fits, link_fits, node_at, with_node, without_node, content_at, is_taken, is_directory, is_file}
 use Rattle.sftp_tree.specs.Attributes.{changed_owner, changed_content, resized}
 use Rattle.sftp_tree.specs.Steps.{making_causes, needing_causes, link_causes, removing_causes, unlinking_causes, setting_causes, with_changed_file, with_attributes}
 use Rattle.sftp_tree.specs.Sets.{in_set}
 use Rattle.sftp_tree.specs.Judged.{no_causes, has_room, size_fits, making, needing, reading, removing, with_room, causes_at_place, IsSet}
 use Rattle.sftp_tree.proofs.CauseRoom.{fits-put, fits-without, fits-again, fits-content, content-fits}
-use Rattle.sftp_tree.proofs.CauseSets.{and-false, set-whole}
-
-and-true : (b : Bool) → (b && true) ≡ b
-and-true true = refl
-and-true false = refl
+use Rattle.sftp_tree.proofs.CauseSets.{set-whole}
+use Rattle.sftp_tree.proofs.CallPlaces.{absent-of, node-kept}
 
 -- ---- what is to be made
 
-making-by : (found : Option Node) (room : Bool) → Causes
+abbrev pub making-by : (found : Option Node) (room : Bool) → Causes
 making-by found room = record no_causes { exists = is_taken found; no_room = not (is_taken found) && not room }
 
 making-set : (found : Option Node) (room : Bool) (asked : Tree) → (is_taken found ≡ false → fits asked ≡ room) → IsSet (making-by found room) (with_room (making_causes found) asked)
-unfolding making-by
 making-set None room asked fit NoRoom = ap not (sym (fit refl))
 making-set None room asked fit BadPath = refl
 making-set None room asked fit _ = refl
 making-set (Some node) room asked fit BadPath = refl
 making-set (Some node) room asked fit _ = refl
 
-pub absent-of : (found : Option Node) → is_taken found ≡ false → found ≡ None
-absent-of None free = refl
-absent-of (Some node) free = cc
-
 pub making-is : (t : Tree) (place : Place) (node : Node) → IsKept t → IsTrue (link_fits node) → IsSet (making t place) (with_room (making_causes (node_at t.names place)) (record t { names = with_node t.names place node }))
-unfolding making-by
 making-is t place node kept link =
     making-set (node_at t.names place) (has_room t place) (record t { names = with_node t.names place node })
     (λ free. fits-put t place node kept.within_limits (absent-of (node_at t.names place) free) ∙ ap (λ b. has_room t place && b) link ∙ and-true (has_room t place))
@@ -114,19 +101,6 @@ length-resized size bytes =
 changed-fits : (bounds : TreeLimits) (size : Option ℕ) (bytes : List ℕ) → nat_le (length bytes) bounds.file_bytes ≡ true → nat_le (length (unwrap_or (option_map (λ n. resized n bytes) size) bytes)) bounds.file_bytes ≡ size_fits bounds size
 changed-fits bounds None bytes fit = fit
 changed-fits bounds (Some size) bytes fit = ap (λ n. nat_le n bounds.file_bytes) (length-resized size bytes)
-
--- what stands at a place of a tree is a node of one
-node-in : (P : Place × Node → Type 0) (place : Place) (node : Node) (es : Names) → AllByRecursion (λ e. P e) es → lookup (is_at (place_cmp place)) es ≡ Some node → (at : Place) × P (at, node)
-node-in P place node [] all there = absurd cc
-node-in P place node (e ∷ es) all there = by (is_eq (place_cmp place e.0)) there (node-in P place node es all.1)
-  where
-    by : (b : Bool) → cond b (Some e.1) (lookup (is_at (place_cmp place)) es) ≡ Some node → (lookup (is_at (place_cmp place)) es ≡ Some node → (at : Place) × P (at, node)) → (at : Place) × P (at, node)
-    by true here rest = let same : e.1 ≡ node = cc in (e.0, subst (λ n. P (e.0, n)) same all.0)
-    by false further rest = rest further
-
-node-kept : (t : Tree) (place : Place) (node : Node) → IsKept t → node_at t.names place ≡ Some node → IsNode t.files node
-unfolding get
-node-kept t place node kept there = (node-in (λ e. IsNode t.files e.1) place node t.names kept.well_formed.nodes there).1
 
 changed-room : (t : Tree) (attrs : Attrs) (number : ℕ) → IsKept t → (content : Option Content) → content_at t.files number ≡ content → IsTrue (is_some content) → fits (with_changed_file t attrs number content) ≡ size_fits (limits t) attrs.size
 changed-room t attrs number kept None is there = absurd cc

@@ -1,46 +1,24 @@
 -- Which changes of a tree keep to its limits: an entry more or less, another owner, another content.
-use Rattle.std.proofs.Common.{◌≡◌, ℕ, ◌+◌, ◌-◌, ◌≤◌, Bool, true, false, ◌&&◌, cond, [], ◌∷◌, length, refl, sym, ◌∙◌, ap, arith, Option, Some, None, nat_le, IsTrue}
-use Rattle.std.specs.Ordering.{is_eq, nat_cmp}
-use Rattle.std.specs.declared.cmp.Ordering.{Ordering}
-use Rattle.std.specs.List.{list_all}
-use Rattle.std.specs.Map.{lookup}
-use Rattle.std.specs.BTreeMap.{is_at}
-use Rattle.std.proofs.lemmas.Bool.{and_parts}
-use Rattle.std.proofs.lemmas.Bool.Decides.{nat_tests}
+use Rattle.std.proofs.Common.{◌≡◌, ℕ, ◌-◌, Bool, true, false, ◌&&◌, length, refl, sym, ◌∙◌, ap, Some, None, nat_le, IsTrue}
+use Rattle.std.specs.Ordering.{nat_cmp}
 use Rattle.std.proofs.lemmas.Cmp.{nat_cmp_total}
+use Rattle.std.proofs.Math.Bool.{and-true, and_assoc}
 use Rattle.sftp_path.specs.Place.{Place, place_cmp}
-use Rattle.sftp_path.specs.Table.{Table, get, InOrder}
+use Rattle.sftp_path.specs.Table.{InOrder}
 use Rattle.sftp_path.proofs.Order.{place_cmp-total}
-use Rattle.sftp_path.proofs.TableLaws.{get-put_here, size-put, size-put_present, size-without}
+use Rattle.sftp_path.proofs.TableLaws.{get-put_here, size-put, size-put_present}
 use Rattle.sftp_path.proofs.TestLaws.{all-put_new, all-without, values-put, keys-put_in_order}
-use Rattle.sftp_path.proofs.EntryLaws.{without-absent}
 use Rattle.sftp_tree.specs.declared.contents.Content.{Content}
 use Rattle.sftp_tree.specs.declared.nodes.Node.{Node}
-use Rattle.sftp_tree.specs.Tree.{Names, Tree, limits, fits, entries_fit, depths_fit, home_fits, links_fit, files_fit, numbers_fit, depth_fits, link_fits, content_fits, node_at, with_node, without_node, content_at, with_content}
+use Rattle.sftp_tree.specs.Tree.{Names, Tree, limits, fits, entries_fit, depths_fit, links_fit, files_fit, depth_fits, link_fits, content_fits, node_at, with_node, without_node, content_at, with_content}
 use Rattle.sftp_tree.specs.Judged.{has_room}
-
--- ---- the parts of the test
-
-pub record Fitting (t : Tree) : Type 0 where
-  pub entries : entries_fit t ≡ true
-  pub depths : depths_fit t ≡ true
-  pub home : home_fits t ≡ true
-  pub links : links_fit t ≡ true
-  pub files : files_fit t ≡ true
-  pub numbers : numbers_fit t ≡ true
-
-pub fitting : (t : Tree) → IsTrue (fits t) → Fitting t
-unfolding fits
-fitting t kept =
-    let a = and_parts (entries_fit t) (depths_fit t && (home_fits t && (links_fit t && (files_fit t && numbers_fit t)))) kept in
-    let b = and_parts (depths_fit t) (home_fits t && (links_fit t && (files_fit t && numbers_fit t))) a.1 in
-    let c = and_parts (home_fits t) (links_fit t && (files_fit t && numbers_fit t)) b.1 in
-    let d = and_parts (links_fit t) (files_fit t && numbers_fit t) c.1 in
-    let e = and_parts (files_fit t) (numbers_fit t) d.1 in
-    record { entries = a.0; depths = b.0; home = c.0; links = d.0; files = e.0; numbers = e.1 }
+use Rattle.sftp_tree.proofs.StepTables.{length-without}
+use Rattle.sftp_tree.proofs.KeepFits.{Fits, fits-parts}
+use Rattle.sftp_tree.proofs.KeepLimits.{more-entries, fewer}
+use Rattle.sftp_tree.proofs.CallPlaces.{found-passes}
 
 -- with other entries
-pub fits-names : (t : Tree) (names : Names) (entries depths links : Bool) → Fitting t → entries_fit (record t { names = names }) ≡ entries → depths_fit (record t { names = names }) ≡ depths → links_fit (record t { names = names }) ≡ links → fits (record t { names = names }) ≡ (entries && (depths && links))
+pub fits-names : (t : Tree) (names : Names) (entries depths links : Bool) → Fits t → entries_fit (record t { names = names }) ≡ entries → depths_fit (record t { names = names }) ≡ depths → links_fit (record t { names = names }) ≡ links → fits (record t { names = names }) ≡ (entries && (depths && links))
 unfolding fits
 fits-names t names entries depths links fit one two three =
     (λ i. one i && (two i && (fit.home i && (three i && (fit.files i && fit.numbers i))))) ∙ by entries depths links
@@ -53,47 +31,24 @@ fits-names t names entries depths links fit one two three =
 
 -- ---- one entry more
 
-more-entries : (n m limit : ℕ) → m ≡ n + 1 → nat_le (m - 1) limit ≡ nat_le n limit
-more-entries n m limit one_more =
-    let same : m - 1 ≡ n = omega arith in ap (λ k. nat_le k limit) same
-
-and-true : (b : Bool) → (b && true) ≡ b
-and-true true = refl
-and-true false = refl
-
-and-three : (a b d : Bool) → (a && (b && d)) ≡ ((a && b) && d)
-and-three true b d = refl
-and-three false b d = refl
-
 -- with a new place a tree within the limits fits where there is room, and a link's target is one
 pub fits-put : (t : Tree) (place : Place) (node : Node) → IsTrue (fits t) → node_at t.names place ≡ None → fits (record t { names = with_node t.names place node }) ≡ (has_room t place && link_fits node)
 fits-put t place node kept absent =
-    let fit = fitting t kept in
+    let fit = fits-parts t kept in
     fits-names t (with_node t.names place node) (nat_le (length t.names) (limits t).entries) (depth_fits place) (link_fits node) fit
     (more-entries (length t.names) (length (with_node t.names place node)) (limits t).entries (size-put place_cmp t.names place node absent))
     (all-put_new place_cmp t.names place node (λ e. depth_fits e.0) absent ∙ ap (λ b. depth_fits place && b) fit.depths ∙ and-true (depth_fits place))
     (all-put_new place_cmp t.names place node (λ e. link_fits e.1) absent ∙ ap (λ b. link_fits node && b) fit.links ∙ and-true (link_fits node))
-    ∙ and-three (nat_le (length t.names) (limits t).entries) (depth_fits place) (link_fits node)
+    ∙ sym (and_assoc (nat_le (length t.names) (limits t).entries) (depth_fits place) (link_fits node))
 
 -- ---- one entry less
-
-pub fewer : (n m limit : ℕ) → m ≤ n → nat_le (n - 1) limit ≡ true → nat_le (m - 1) limit ≡ true
-fewer n m limit less fit = grind (arith, nat_tests)
-
--- there are no more entries without a place
-pub length-without : (names : Names) (place : Place) → length (without_node names place) ≤ length names
-length-without names place = by (node_at names place) refl
-  where
-    by : (found : Option Node) → node_at names place ≡ found → length (without_node names place) ≤ length names
-    by None absent = omega (arith, ap (λ (es : Names). length es) (without-absent place_cmp names place absent))
-    by (Some node) there = omega (arith, size-without place_cmp names place node there)
 
 -- a tree within the limits fits with an entry less
 pub fits-without : (t : Tree) (place : Place) → IsTrue (fits t) → fits (record t { names = without_node t.names place }) ≡ true
 fits-without t place kept =
-    let fit = fitting t kept in
+    let fit = fits-parts t kept in
     fits-names t (without_node t.names place) true true true fit
-    (fewer (length t.names) (length (without_node t.names place)) (limits t).entries (length-without t.names place) fit.entries)
+    (fewer (length t.names) (length (without_node t.names place)) (limits t).entries (length-without place t.names) fit.entries)
     (all-without place_cmp t.names place (λ e. depth_fits e.0) fit.depths)
     (all-without place_cmp t.names place (λ e. link_fits e.1) fit.links)
 
@@ -101,28 +56,13 @@ fits-without t place kept =
 
 pub fits-again : (t : Tree) (place : Place) (before node : Node) → IsTrue (fits t) → InOrder place_cmp t.names → node_at t.names place ≡ Some before → link_fits node ≡ true → fits (record t { names = with_node t.names place node }) ≡ true
 fits-again t place before node kept order there link =
-    let fit = fitting t kept in
+    let fit = fits-parts t kept in
     fits-names t (with_node t.names place node) true true true fit
     (ap (λ n. nat_le (n - 1) (limits t).entries) (size-put_present place_cmp place_cmp-total t.names place node before order there) ∙ fit.entries)
     (keys-put_in_order place_cmp place_cmp-total t.names place node before depth_fits order there ∙ fit.depths)
     (values-put place_cmp t.names place node link_fits fit.links link)
 
 -- ---- another content of a file
-
--- where all values pass a test, the one at a key does
-value-found : {K X : Type 0} (cmp : K → K → Ordering) (es : Table K X) (key : K) (value : X) (passes : X → Bool) → list_all (λ e. passes e.1) es ≡ true → lookup (is_at (cmp key)) es ≡ Some value → passes value ≡ true
-value-found cmp [] key value passes all there = cc
-value-found cmp (e ∷ es) key value passes all there =
-    let parts = and_parts (passes e.1) (list_all (λ x. passes x.1) es) all in
-    by (is_eq (cmp key e.0)) parts.0 (value-found cmp es key value passes parts.1) there
-  where
-    by : (b : Bool) → passes e.1 ≡ true → (lookup (is_at (cmp key)) es ≡ Some value → passes value ≡ true) → cond b (Some e.1) (lookup (is_at (cmp key)) es) ≡ Some value → passes value ≡ true
-    by true first rest is = let same : value ≡ e.1 = cc in ap passes same ∙ first
-    by false first rest is = rest is
-
-pub value-passes : {K X : Type 0} (cmp : K → K → Ordering) (es : Table K X) (key : K) (value : X) (passes : X → Bool) → list_all (λ e. passes e.1) es ≡ true → get cmp es key ≡ Some value → passes value ≡ true
-unfolding get
-value-passes = value-found
 
 both-ways : (a b : Bool) → (a ≡ true → b ≡ true) → (b ≡ true → a ≡ true) → a ≡ b
 both-ways true true there back = refl
@@ -134,13 +74,13 @@ both-ways false false there back = refl
 pub fits-content : (t : Tree) (number : ℕ) (content : Content) → IsTrue (fits t) → fits (record t { files = with_content t.files number content }) ≡ content_fits (limits t) content
 unfolding fits
 fits-content t number content kept =
-    let fit = fitting t kept in
+    let fit = fits-parts t kept in
     let files : files_fit (record t { files = with_content t.files number content }) ≡ content_fits (limits t) content =
     both-ways (files_fit (record t { files = with_content t.files number content })) (content_fits (limits t) content)
-    (λ all. value-passes nat_cmp (with_content t.files number content) number content (content_fits (limits t)) all (get-put_here nat_cmp nat_cmp_total t.files number content))
+    (λ all. found-passes nat_cmp (content_fits (limits t)) number content (with_content t.files number content) all (get-put_here nat_cmp nat_cmp_total t.files number content))
     (λ passing. values-put nat_cmp t.files number content (content_fits (limits t)) fit.files passing) in
     (λ i. fit.entries i && (fit.depths i && (fit.home i && (fit.links i && (files i && fit.numbers i))))) ∙ and-true (content_fits (limits t) content)
 
 -- the content of a file of a tree within the limits fits
 pub content-fits : (t : Tree) (number : ℕ) (content : Content) → IsTrue (fits t) → content_at t.files number ≡ Some content → content_fits (limits t) content ≡ true
-content-fits t number content kept there = value-passes nat_cmp t.files number content (content_fits (limits t)) (fitting t kept).files there
+content-fits t number content kept there = found-passes nat_cmp (content_fits (limits t)) number content t.files (fits-parts t kept).files there

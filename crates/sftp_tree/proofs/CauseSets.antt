@@ -1,6 +1,7 @@
 -- Sets of causes as the code has them, and the sets that the definitions name.
-use Rattle.std.proofs.Common.{◌≡◌, ℕ, zero, suc, Bool, true, false, ◌&&◌, ◌||◌, not, List, [], ◌∷◌, drop, refl, sym, ◌∙◌, ap, Option, Some, None, Result, Ok, Err}
+use Rattle.std.proofs.Common.{◌≡◌, Bool, true, false, ◌&&◌, ◌||◌, not, refl, sym, ◌∙◌, ap, Option, Some, None, Result, Ok, Err}
 use Rattle.std.specs.List.{list_any}
+use Rattle.std.proofs.Math.Bool.{and-false, or-false}
 use Rattle.sftp_wire.specs.declared.packets.Ask.{Ask}
 use Rattle.sftp_path.specs.Place.{Place}
 use Rattle.sftp_tree.specs.declared.causes.Cause.{Cause}
@@ -11,11 +12,7 @@ use Rattle.sftp_tree.specs.Steps.{CauseSet, every_cause, led, new_led, only, is_
 use Rattle.sftp_tree.specs.Sets.{in_set}
 use Rattle.sftp_tree.specs.Judged.{just, with_room, causes_at_place, causes_at_places, IsSet}
 use Rattle.sftp_tree.proofs.CauseWalks.{led-room}
-use Rattle.sftp_tree.proofs.CauseLed.{or-false, causes-are, plain_of, plain-led, target-led, led-one, led-two}
-
-pub and-false : (b : Bool) → (b && false) ≡ false
-and-false true = refl
-and-false false = refl
+use Rattle.sftp_tree.proofs.CauseLed.{causes-are, plain_of, plain-led, target-led, led-one, led-two}
 
 -- ---- with the want of room
 
@@ -57,41 +54,6 @@ pub set-joined : (s : Causes) (plain : CauseSet) (asked : Tree) (lacks any : Boo
 set-joined s plain asked lacks false none same is decides c = set-none s plain asked lacks same is decides c
 set-joined s plain asked lacks true none same is decides c =
     ap (λ u. in_set u c) (λ i. record s { no_room = sym (same NoRoom ∙ none) i }) ∙ set-any s plain asked none same is c
-
--- where there is no cause, none holds
-pub none-holds : (plain : CauseSet) → is_none plain ≡ true → (c : Cause) → plain c ≡ false
-none-holds plain none = by (list_any plain every_cause) refl none
-  where
-    first : (a b : Bool) → (a || b) ≡ false → a ≡ false
-    first true b e = cc
-    first false b e = refl
-
-    behind : (a b : Bool) → (a || b) ≡ false → b ≡ false
-    behind true b e = cc
-    behind false b e = e
-
-    from : (k : ℕ) (cs : List Cause) → list_any plain cs ≡ false → list_any plain (drop k cs) ≡ false
-    from zero cs e = e
-    from (suc k) [] e = e
-    from (suc k) (c ∷ cs) e = from k cs (behind (plain c) (list_any plain cs) e)
-
-    each : list_any plain every_cause ≡ false → (c : Cause) → plain c ≡ false
-    each e BadPath = first (plain BadPath) _ (from 0 every_cause e)
-    each e NoEntry = first (plain NoEntry) _ (from 1 every_cause e)
-    each e NotDir = first (plain NotDir) _ (from 2 every_cause e)
-    each e Loop = first (plain Loop) _ (from 3 every_cause e)
-    each e Exists = first (plain Exists) _ (from 4 every_cause e)
-    each e IsDir = first (plain IsDir) _ (from 5 every_cause e)
-    each e NotLink = first (plain NotLink) _ (from 6 every_cause e)
-    each e NotFile = first (plain NotFile) _ (from 7 every_cause e)
-    each e NotEmpty = first (plain NotEmpty) _ (from 8 every_cause e)
-    each e Root = first (plain Root) _ (from 9 every_cause e)
-    each e Inside = first (plain Inside) _ (from 10 every_cause e)
-    each e NoRoom = first (plain NoRoom) _ (from 11 every_cause e)
-
-    by : (b : Bool) → list_any plain every_cause ≡ b → not b ≡ true → (c : Cause) → plain c ≡ false
-    by true some h = absurd cc
-    by false e h = each e
 
 -- ---- the set of one cause
 

@@ -1,5 +1,5 @@
 -- A request that no cause refuses: what is so where its paths lead, and that there is room for what it asks for.
-use Rattle.std.proofs.Common.{◌≡◌, ◌&&◌, ◌||◌, not, List, [], ◌∷◌, refl, sym, ap, ◌∙◌, Option, Some, None, true, false, Result, Ok, IsTrue}
+use Rattle.std.proofs.Common.{◌≡◌, ◌&&◌, ◌||◌, not, List, [], ◌∷◌, refl, sym, ap, ◌∙◌, Some, None, true, false, Ok, IsTrue}
 use Rattle.std.specs.List.{list_any, AllByRecursion}
 use Rattle.std.proofs.lemmas.Bool.{or_parts, not-true, not-false, and_right, or_from}
 use Rattle.sftp_wire.specs.declared.packets.Ask.{Ask}
@@ -8,8 +8,9 @@ use Rattle.sftp_path.specs.Place.{Place}
 use Rattle.sftp_tree.specs.declared.causes.Cause.{Cause}
 use Rattle.sftp_tree.specs.declared.causes.Cause.TheVariants.{BadPath, NoEntry, NotDir, Loop, Exists, IsDir, NotLink, NotFile, NotEmpty, Root, Inside, NoRoom}
 use Rattle.sftp_tree.specs.Tree.{Tree, fits}
-use Rattle.sftp_tree.specs.Steps.{CauseSet, every_cause, is_none, led, new_led, causes_at, new_causes_at, causes_between, target_causes, led_causes, both_causes, plain_causes, are_one, target, causes}
+use Rattle.sftp_tree.specs.Steps.{CauseSet, every_cause, is_none, led, new_led, causes_at, new_causes_at, causes_between, target_causes, plain_causes, are_one, target, causes}
 use Rattle.sftp_tree.specs.Sets.{IsFree}
+use Rattle.sftp_tree.proofs.CauseLed.{plain_of, plain-led}
 
 -- ---- sets
 
@@ -18,10 +19,6 @@ none-listed set [] h = tt
 none-listed set (c ∷ cs) h =
     let parts = or_parts (set c) (list_any set cs) h in
     (parts.0, none-listed set cs parts.1)
-
-listed-none : (set : CauseSet) → ((c : Cause) → set c ≡ false) → (es : List Cause) → list_any set es ≡ false
-listed-none set none [] = refl
-listed-none set none (c ∷ cs) = (λ i. none c i || listed-none set none cs i)
 
 by-list : (set : CauseSet) → AllByRecursion (λ c. set c ≡ false) every_cause → (c : Cause) → set c ≡ false
 by-list set h BadPath = h.0
@@ -41,20 +38,12 @@ by-list set h NoRoom = h.1.1.1.1.1.1.1.1.1.1.1.0
 pub none-each : (set : CauseSet) → IsTrue (is_none set) → (c : Cause) → set c ≡ false
 none-each set none = by-list set (none-listed set every_cause (not-true (list_any set every_cause) none))
 
-each-none : (set : CauseSet) → ((c : Cause) → set c ≡ false) → is_none set ≡ true
-each-none set none = ap not (listed-none set none every_cause)
+pub each-none : (set : CauseSet) → ((c : Cause) → set c ≡ false) → is_none set ≡ true
+each-none set none = λ i. is_none (λ c. none c i)
 
 -- ---- the causes but for the want of room
 
 module _ (t : Tree) (ask : Ask) where
-  -- by where the paths lead
-  abbrev plain_by : Option (Result Place Cause) → Option (Result Place Cause) → CauseSet
-  plain_by l n c = led_causes l (causes_at t ask) c || (led_causes n (new_causes_at t ask) c || (both_causes l n (causes_between t ask) c || target_causes ask c))
-
-  plain-led : (l n : Option (Result Place Cause)) → led t ask ≡ l → new_led t ask ≡ n → (c : Cause) → plain_causes t ask c ≡ plain_by l n c
-  unfolding plain_causes
-  plain-led l n e f c = λ i. led_causes (e i) (causes_at t ask) c || (led_causes (f i) (new_causes_at t ask) c || (both_causes (e i) (f i) (causes_between t ask) c || target_causes ask c))
-
   -- that no cause holds says so of each but the want of room
   plain-none : (set : CauseSet) → ((c : Cause) → causes t ask c ≡ false) → ((c : Cause) → plain_causes t ask c ≡ set c) → set NoRoom ≡ false → (c : Cause) → set c ≡ false
   unfolding causes
@@ -78,11 +67,11 @@ module _ (t : Tree) (ask : Ask) where
       not-false (fits (target t ask)) (ap (λ b. b && not (fits (target t ask))) (sym (each-none (plain_causes t ask) plain)) ∙ none NoRoom)
 
 -- no place has the want of room for a cause of its own
-one-room : (t : Tree) (ask : Ask) (place : Place) → plain_by t ask (Some (Ok place)) None NoRoom ≡ false
+one-room : (t : Tree) (ask : Ask) (place : Place) → plain_of t ask (Some (Ok place)) None NoRoom ≡ false
 one-room t (Symlink target link) place = refl
 one-room t other place = refl
 
-two-room : (t : Tree) (ask : Ask) (old new : Place) → plain_by t ask (Some (Ok old)) (Some (Ok new)) NoRoom ≡ false
+two-room : (t : Tree) (ask : Ask) (old new : Place) → plain_of t ask (Some (Ok old)) (Some (Ok new)) NoRoom ≡ false
 two-room t (PosixRename oldpath newpath) old new = or_from (not (are_one t.names old new) && false) false (and_right (not (are_one t.names old new)) false refl) refl
 two-room t other old new = refl
 
@@ -104,7 +93,7 @@ pub free-at : (t : Tree) (ask : Ask) (place : Place) → IsFree t ask → led t 
 free-at t ask place free leads alone =
     let none = none-each (causes t ask) free in
     let is = plain-led t ask (Some (Ok place)) None leads alone in
-    let plain = plain-none t ask (plain_by t ask (Some (Ok place)) None) none is (one-room t ask place) in
+    let plain = plain-none t ask (plain_of t ask (Some (Ok place)) None) none is (one-room t ask place) in
     record {
       none = λ c. (or_parts (causes_at t ask place c) (target_causes ask c) (plain c)).0;
       room = room-is t ask none (λ c. is c ∙ plain c);
@@ -114,7 +103,7 @@ pub free-between : (t : Tree) (ask : Ask) (old new : Place) → IsFree t ask →
 free-between t ask old new free leads leads_new =
     let none = none-each (causes t ask) free in
     let is = plain-led t ask (Some (Ok old)) (Some (Ok new)) leads leads_new in
-    let plain = plain-none t ask (plain_by t ask (Some (Ok old)) (Some (Ok new))) none is (two-room t ask old new) in
+    let plain = plain-none t ask (plain_of t ask (Some (Ok old)) (Some (Ok new))) none is (two-room t ask old new) in
     record {
       at_old = λ c. (or_parts (causes_at t ask old c) (new_causes_at t ask new c || (causes_between t ask old new c || target_causes ask c)) (plain c)).0;
       at_new = λ c. (or_parts (new_causes_at t ask new c) (causes_between t ask old new c || target_causes ask c) (or_parts (causes_at t ask old c) (new_causes_at t ask new c || (causes_between t ask old new c || target_causes ask c)) (plain c)).1).0;

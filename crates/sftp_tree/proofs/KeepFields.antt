@@ -58,7 +58,8 @@ resized-bytes size bytes h =
     list_all-append (λ b. nat_lt b 256) (take size bytes) (replicate (size - length bytes) 0)
     ∙ and_from (are_bytes (take size bytes)) (are_bytes (replicate (size - length bytes) 0)) (bytes-taken size bytes h) (zeros (size - length bytes))
 
-sized-bytes : (given : Option ℕ) (bytes : List ℕ) → IsTrue (are_bytes bytes) → IsTrue (are_bytes (unwrap_or (option_map (λ size. resized size bytes) given) bytes))
+-- of a file that gets a size, or keeps its own
+pub sized-bytes : (given : Option ℕ) (bytes : List ℕ) → IsTrue (are_bytes bytes) → IsTrue (are_bytes (unwrap_or (option_map (λ size. resized size bytes) given) bytes))
 sized-bytes None bytes h = h
 sized-bytes (Some size) bytes h = resized-bytes size bytes h
 

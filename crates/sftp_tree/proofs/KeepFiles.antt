@@ -5,6 +5,7 @@ use Rattle.std.specs.Ordering.{nat_cmp}
 use Rattle.std.specs.FinMap.{nat_cmp-IsAntisymmetric}
 use Rattle.std.proofs.lemmas.Cmp.{nat_cmp_total}
 use Rattle.std.proofs.lemmas.Bool.{ltb-false, ltb-true, cases_lt}
+use Rattle.std.proofs.Math.Bool.{or-false}
 use Rattle.sftp_wire.specs.declared.attributes.Attrs.{Attrs}
 use Rattle.sftp_wire.specs.declared.packets.Ask.{Ask}
 use Rattle.sftp_wire.specs.declared.packets.Ask.TheVariants.{Mkdir, Rmdir, Remove, Setstat, Symlink, Rename, PosixRename, Hardlink}
@@ -21,7 +22,7 @@ use Rattle.sftp_tree.specs.Tree.{Names, Tree, WellFormed, IsNode, node_at, with_
 use Rattle.sftp_tree.specs.Attributes.{directory_owner, changed_owner, changed_content}
 use Rattle.sftp_tree.specs.Steps.{led, new_led, are_one, with_changed_file, with_attributes, put_in_its_stead, with_further_name, target_at, target_between, target_on, led_to, target, after}
 use Rattle.sftp_tree.proofs.KeepTables.{each-get}
-use Rattle.sftp_tree.proofs.KeepTrim.{stays, or-false}
+use Rattle.sftp_tree.proofs.KeepTrim.{stays}
 
 -- ---- what requests ask for
 

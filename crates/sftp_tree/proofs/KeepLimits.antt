@@ -18,7 +18,7 @@ use Rattle.sftp_tree.proofs.StepTables.{length-without}
 
 -- ---- an entry at a new place
 
-more-entries : (n m limit : ℕ) → m ≡ n + 1 → nat_le (m - 1) limit ≡ nat_le n limit
+pub more-entries : (n m limit : ℕ) → m ≡ n + 1 → nat_le (m - 1) limit ≡ nat_le n limit
 more-entries n m limit one_more =
     let same : m - 1 ≡ n = omega arith in ap (λ k. nat_le k limit) same
 
@@ -44,7 +44,7 @@ links-again t place it = values-put place_cmp t.names place it link_fits
 
 -- ---- an entry less
 
-fewer : (n m limit : ℕ) → m ≤ n → nat_le (n - 1) limit ≡ true → nat_le (m - 1) limit ≡ true
+pub fewer : (n m limit : ℕ) → m ≤ n → nat_le (n - 1) limit ≡ true → nat_le (m - 1) limit ≡ true
 fewer n m limit less fit = grind (arith, nat_tests)
 
 pub entries-without : (t : Tree) (place : Place) → IsTrue (entries_fit t) → IsTrue (entries_fit (record t { names = without_node t.names place }))

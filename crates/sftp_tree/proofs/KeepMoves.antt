@@ -10,7 +10,6 @@ use Rattle.sftp_path.specs.Place.{Name, Place, place_cmp, parent, begins, is_nam
 use Rattle.sftp_path.specs.Table.{InOrder}
 use Rattle.sftp_path.specs.Rekeying.{rekeyed, NothingFrom}
 use Rattle.sftp_path.proofs.Order.{begins-front, place_cmp-total, place_cmp-same}
-use Rattle.sftp_path.proofs.TableLaws.{get-without_here, get-without_elsewhere}
 use Rattle.sftp_path.proofs.RekeyingLaws.{nothing-at, get-rekeyed_moved, get-rekeyed_elsewhere, get-rekeyed_behind, InOrder-rekeyed}
 use Rattle.sftp_treefile.specs.TreeFile.{is_root}
 use Rattle.sftp_tree.specs.declared.nodes.Node.{Node}
@@ -20,6 +19,7 @@ use Rattle.sftp_tree.proofs.KeepTables.{each-get, get-each}
 use Rattle.sftp_tree.proofs.KeepTrim.{kept-trim}
 use Rattle.sftp_tree.proofs.KeepPlaces.{HaveParents, directory-taken, apart-parent, alone-there}
 use Rattle.sftp_tree.proofs.KeepNames.{NamesFit, names-of, names-without, stays-without, well-formed-names}
+use Rattle.sftp_tree.proofs.MovedNames.{nothing-from}
 
 -- ---- places
 
@@ -114,19 +114,6 @@ pub well-formed-moved : (t : Tree) (old new : Place) → WellFormed t → Nothin
 well-formed-moved t old new well nothing named not_root apart above =
     well-formed-names t (rekeyed old new t.names) well (names-moved old new t.names nothing t.files (names-of t well) named not_root apart above)
 
--- no place is one that it begins
-further-apart : (p : Place) (n : Name) (ns : Place) → place_cmp p (p ++ n ∷ ns) ≢ Equal
-further-apart p n ns e =
-    let same = ap length (place_cmp-same p (p ++ n ∷ ns) e) in
-    omega (arith, length-append p (n ∷ ns), same)
-
--- where nothing stands below a place, nothing stands there when it is gone
-pub nothing-from : (names : Names) (place : Place) → InOrder place_cmp names → has_entries names place ≡ false → NothingFrom (without_node names place) place
-nothing-from names place order empty [] =
-    ap (node_at (without_node names place)) (append-nil place) ∙ get-without_here place_cmp place_cmp-total names place order
-nothing-from names place order empty (n ∷ ns) =
-    get-without_elsewhere place_cmp place_cmp-total names place (place ++ n ∷ ns) order (further-apart place n ns) ∙ alone-there names place empty n ns
-
 -- but for the root, no place is its parent
 parent-differs : (place : Place) → is_root place ≡ false → place_cmp place (parent place) ≢ Equal
 parent-differs [] apart e = cc
@@ -138,7 +125,7 @@ parent-differs (n ∷ ns) apart e =
 pub well-formed-in-stead : (t : Tree) (old new : Place) → WellFormed t → IsTrue (are_names new) → is_root old ≡ false → is_root new ≡ false → begins old new ≡ false → IsTrue (is_directory (node_at t.names (parent new))) → has_entries t.names new ≡ false → WellFormed (put_in_its_stead t old new)
 well-formed-in-stead t old new well named old_not_root new_not_root apart above empty =
     let emptied = well-formed-names t (without_node t.names new) well (names-without t.files t.names new (names-of t well) new_not_root empty) in
-    well-formed-moved (record t { names = without_node t.names new }) old new emptied (nothing-from t.names new well.ordered empty) named old_not_root apart
+    well-formed-moved (record t { names = without_node t.names new }) old new emptied (nothing-from t.names new well.ordered (alone-there t.names new empty)) named old_not_root apart
     (stays-without t.names new (parent new) well.ordered (parent-differs new new_not_root) above)
 
 pub kept-move : (t : Tree) (old new : Place) → IsKept t → IsTrue (are_names new) → is_root old ≡ false → is_root new ≡ false → begins old new ≡ false → IsTrue (is_directory (node_at t.names (parent new))) → has_entries t.names new ≡ false → IsTrue (fits (put_in_its_stead t old new)) → IsKept (trim (put_in_its_stead t old new))

@@ -13,6 +13,7 @@ use Rattle.sftp_tree.specs.Tree.{Names, node_at, is_taken, is_directory, has_ent
 use Rattle.sftp_tree.specs.Steps.{goes_inside}
 use Rattle.sftp_tree.proofs.KeepTables.{get-each}
 use Rattle.sftp_tree.proofs.StepBelow.{has_entries-below, has_entries-none}
+use Rattle.sftp_tree.proofs.CallPlaces.{absent-of, taken-of}
 
 -- each taken place has a directory for its parent
 abbrev pub HaveParents : Names → Type 0
@@ -21,14 +22,6 @@ HaveParents names = (place : Place) → IsTrue (is_taken (node_at names place)) 
 pub directory-taken : (o : Option Node) → IsTrue (is_directory o) → IsTrue (is_taken o)
 directory-taken None h = absurd cc
 directory-taken (Some it) h = refl
-
-pub taken-some : (o : Option Node) (it : Node) → o ≡ Some it → IsTrue (is_taken o)
-taken-some None it h = absurd cc
-taken-some (Some x) it h = refl
-
-pub none-from : (o : Option Node) → is_taken o ≡ false → o ≡ None
-none-from None h = refl
-none-from (Some it) h = absurd cc
 
 -- ---- lists of names
 
@@ -84,15 +77,16 @@ front-directory names q n parents within directory =
       | inr whole ↦ subst (λ p. IsTrue (is_directory (node_at names p))) (sym (take_all n q whole)) directory
     ]
 
+-- where a test and what it is tested with do not both hold
+pub second-false : (a b : Bool) → a ≡ true → (a && b) ≡ false → b ≡ false
+second-false true b first h = h
+second-false false b first h = absurd cc
+
 -- what begins a place is that place, or the place is below it
 pub begins-or-same : (p q : Place) → begins p q ≡ true → is_below p q ≡ false → same_place p q ≡ true
 begins-or-same p q begun apart =
-    let none = and_right-false (begins p q) (nat_lt (length p) (length q)) begun (sym (below-begins p q) ∙ apart) in
+    let none = second-false (begins p q) (nat_lt (length p) (length q)) begun (sym (below-begins p q) ∙ apart) in
     ap (same_place p) (sym (take_all (length p) q (ltb-false (length p) (length q) none))) ∙ begins-is p q ∙ begun
-  where
-    and_right-false : (a b : Bool) → a ≡ true → (a && b) ≡ false → b ≡ false
-    and_right-false true b first h = h
-    and_right-false false b first h = absurd cc
 
 -- a place whose parent is a directory stands below no other but a directory
 pub apart-from : (names : Names) (old new : Place) → HaveParents names → goes_inside names old new ≡ false → same_place old new ≡ false → IsTrue (is_directory (node_at names (parent new))) → begins old new ≡ false
@@ -118,9 +112,9 @@ pub nothing-below : (names : Names) (place : Place) → InOrder place_cmp names 
 nothing-below names place order parents none =
     has_entries-none place names
     (get-each place_cmp place_cmp-same place_cmp-total (λ e. is_below place e.0 ≡ false) names order
-    (λ q it there. false_from_ne_true (is_below place q) (λ below. both_ways (is_directory (node_at names place)) none (above-directory names place q parents below (taken-some (node_at names q) it there)))))
+    (λ q it there. false_from_ne_true (is_below place q) (λ below. both_ways (is_directory (node_at names place)) none (above-directory names place q parents below (taken-of (node_at names q) it there)))))
 
 pub alone-there : (names : Names) (place : Place) → has_entries names place ≡ false → (n : Name) (ns : Place) → node_at names (place ++ n ∷ ns) ≡ None
 alone-there names place empty n ns =
-    none-from (node_at names (place ++ n ∷ ns))
+    absent-of (node_at names (place ++ n ∷ ns))
     (false_from_ne_true (is_taken (node_at names (place ++ n ∷ ns))) (λ taken. both_ways (has_entries names place) empty (has_entries-below place (place ++ n ∷ ns) names (below-further place n ns) taken)))

@@ -1,10 +1,11 @@
 -- A tree without the files that have no name and that nothing else holds: it is a tree again, within the limits.
-use Rattle.std.proofs.Common.{◌≡◌, ℕ, ◌<◌, Bool, true, false, cond, ◌||◌, refl, sym, ap, ◌∙◌, Option, Some, None, is_some, IsTrue}
+use Rattle.std.proofs.Common.{◌≡◌, ℕ, ◌<◌, Bool, true, cond, ◌||◌, refl, sym, ap, ◌∙◌, Option, Some, None, is_some, IsTrue}
 use Rattle.std.specs.Ordering.{nat_cmp}
 use Rattle.std.specs.List.{AllByRecursion}
 use Rattle.std.specs.FinMap.{nat_cmp-IsAntisymmetric}
 use Rattle.std.proofs.lemmas.Bool.{lt-ltb, eq-eqb, or_left}
 use Rattle.std.proofs.lemmas.Cmp.{nat_cmp_total}
+use Rattle.std.proofs.Math.Bool.{or-false}
 use Rattle.sftp_path.specs.Place.{Place, place_cmp}
 use Rattle.sftp_path.specs.Table.{retain, kept}
 use Rattle.sftp_path.proofs.Order.{place_cmp-total, place_cmp-same}
@@ -85,10 +86,6 @@ fits-trimmed is_held t h =
       files = files-trimmed is_held t parts.files;
       numbers = parts.numbers;
     })
-
-pub or-false : (b : Bool) → (b || false) ≡ b
-or-false true = refl
-or-false false = refl
 
 pub is-trimmed : (t : Tree) → WellFormed t → IsTrimmed (trim t)
 is-trimmed t well =

@@ -1,9 +1,9 @@
 -- What a tree's file says is a tree file, whose tree is that tree with its files numbered anew; and what a tree file says is what
 -- its tree's says.
-use Rattle.std.proofs.Common.{◌≡◌, ℕ, ◌+◌, ◌-◌, ◌<◌, ◌≤◌, ◌^◌, ◌&&◌, cond, List, [], ◌∷◌, ◌++◌, length, Some, refl, sym, ap, subst, ◌∙◌, arith}
+use Rattle.std.proofs.Common.{◌≡◌, ℕ, ◌+◌, ◌-◌, ◌<◌, ◌≤◌, ◌^◌, cond, List, [], ◌∷◌, ◌++◌, length, Some, refl, sym, ap, subst, ◌∙◌, arith}
 use Rattle.std.specs.Prelude.{IsTrue, is_some}
 use Rattle.std.specs.List.{AllByRecursion, filter}
-use Rattle.std.proofs.lemmas.Bool.{leb-true, ltb-true, le-leb, lt-ltb, and_parts, and_from}
+use Rattle.std.proofs.lemmas.Bool.{leb-true, ltb-true, le-leb, lt-ltb}
 use Rattle.std.proofs.lemmas.List.{length-append}
 use Rattle.std.proofs.lemmas.List.Elements.{filter-append}
 use Rattle.sftp_path.specs.Place.{Place, are_names, components}
@@ -20,16 +20,18 @@ use Rattle.sftp_treefile.proofs.FileTexts.{one_file}
 use Rattle.sftp_tree.specs.declared.contents.Content.{Content}
 use Rattle.sftp_tree.specs.declared.nodes.Node.{Node}
 use Rattle.sftp_tree.specs.declared.nodes.Node.TheVariants.{Dir, File, Link}
-use Rattle.sftp_tree.specs.Tree.{Names, Files, Tree, IsKept, IsNode, IsContent, limits, node_at, content_at, names_file, times_named, is_named, fits, entries_fit, depths_fit, depth_fits, home_fits, links_fit, link_fits, files_fit, content_fits, numbers_fit}
+use Rattle.sftp_tree.specs.Tree.{Names, Files, Tree, IsKept, IsNode, IsContent, limits, node_at, content_at, names_file, times_named, is_named, fits, depths_fit, depth_fits, home_fits, links_fit, link_fits, files_fit, content_fits}
 use Rattle.sftp_tree.specs.Picture.{rows_behind, root_owner, is_numbered, file_of, picture, IsStart, blank}
 use Rattle.sftp_tree.specs.PictureParts.{content_of, contents_of, node_of, entry_of, entries_behind, only_root, names_of, numbered_from, tree_of}
-use Rattle.sftp_tree.proofs.PictureLists.{all_both, all_weaker, all_pass, each_passes, all_together, all_right}
+use Rattle.sftp_tree.proofs.PictureLists.{all_both, all_together, all_right}
 use Rattle.sftp_tree.proofs.PictureTables.{IsPlace, IsFitNode, IsTable, bare_names, text_place, root_table, table_of_rows, rows_of_table, root_first, root_at, entries_below}
 use Rattle.sftp_tree.proofs.PictureShapes.{table_bare, table_from_bare, names_bare}
 use Rattle.sftp_tree.proofs.PictureNumbers.{made_by, made_few, first_of_number, names_split, length-entries, IsBelow, AreBelow, all_below, first_names}
 use Rattle.sftp_tree.proofs.PictureContents.{numbered_contents, numbered_there, each_number, each_content, numbered_order, numbered_again}
 use Rattle.sftp_tree.proofs.PictureNamed.{IsBelowRoot, IsFitContent, length-rows, place_text, entry_texts, rows_bare, kinds_fit}
 use Rattle.sftp_tree.proofs.PictureAgain.{rows_again, rows_numbered, entries_again}
+use Rattle.sftp_tree.proofs.KeepTables.{each-all, all-each, each-weaker}
+use Rattle.sftp_tree.proofs.KeepFits.{fits-parts, fits-from}
 
 -- ---- the limits, entry by entry
 
@@ -42,23 +44,13 @@ pub record Limits (t : Tree) : Type 0 where
   pub numbers : t.made < 2 ^ 32
 
 pub limits_from : (t : Tree) → IsTrue (fits t) → Limits t
-unfolding fits
 limits_from t h =
-    let a = and_parts (entries_fit t) (depths_fit t && (home_fits t && (links_fit t && (files_fit t && numbers_fit t)))) h in
-    let b = and_parts (depths_fit t) (home_fits t && (links_fit t && (files_fit t && numbers_fit t))) a.1 in
-    let c = and_parts (home_fits t) (links_fit t && (files_fit t && numbers_fit t)) b.1 in
-    let d = and_parts (links_fit t) (files_fit t && numbers_fit t) c.1 in
-    let e = and_parts (files_fit t) (numbers_fit t) d.1 in
-    record { entries = omega (arith, leb-true (length t.names - 1) 65536 a.0); depths = b.0; home = c.0; links = d.0; files = e.0; numbers = ltb-true t.made (2 ^ 32) e.1 }
+    let parts = fits-parts t h in
+    record { entries = omega (arith, leb-true (length t.names - 1) 65536 parts.entries); depths = parts.depths; home = parts.home; links = parts.links; files = parts.files; numbers = ltb-true t.made (2 ^ 32) parts.numbers }
 
 pub limits_fit : (t : Tree) → Limits t → IsTrue (fits t)
-unfolding fits
 limits_fit t l =
-    and_from (entries_fit t) (depths_fit t && (home_fits t && (links_fit t && (files_fit t && numbers_fit t)))) (le-leb (length t.names - 1) 65536 (omega (arith, l.entries)))
-    (and_from (depths_fit t) (home_fits t && (links_fit t && (files_fit t && numbers_fit t))) l.depths
-    (and_from (home_fits t) (links_fit t && (files_fit t && numbers_fit t)) l.home
-    (and_from (links_fit t) (files_fit t && numbers_fit t) l.links
-    (and_from (files_fit t) (numbers_fit t) l.files (lt-ltb t.made (2 ^ 32) l.numbers)))))
+    fits-from t (record { entries = le-leb (length t.names - 1) 65536 (omega (arith, l.entries)); depths = l.depths; home = l.home; links = l.links; files = l.files; numbers = lt-ltb t.made (2 ^ 32) l.numbers })
 
 -- ---- what the files of rows keep
 
@@ -122,12 +114,12 @@ kept_of_file file is =
     record {
       well_formed = record {
         ordered = t.ordered;
-        named = all_weaker (λ (e : Place × Node). IsPlace e.0) (λ (e : Place × Node). IsTrue (are_names e.0)) names (λ e p. p.0) t.places;
+        named = each-weaker (λ (e : Place × Node). IsPlace e.0) (λ (e : Place × Node). IsTrue (are_names e.0)) (λ e p. p.0) names t.places;
         nodes = nodes_kept files made there names t.nodes (all_below file.root file.rows is.rows);
         root = rw t.root_is refl;
         parents = t.parents;
         numbered = numbered_order 0 contents;
-        contents = each_content IsContent 0 contents (all_weaker IsFitContent IsContent contents (λ c f. (f.0, f.2)) fit);
+        contents = each_content IsContent 0 contents (each-weaker IsFitContent IsContent (λ c f. (f.0, f.2)) contents fit);
         given = each_number (λ n. n < made) 0 contents (λ n above below. omega arith);
         home = home.0;
         uid = is.uid;
@@ -135,10 +127,10 @@ kept_of_file file is =
       };
       within_limits = limits_fit (tree_of file) (record {
         entries = omega (arith, many, is.count);
-        depths = all_pass (λ (e : Place × Node). depth_fits e.0) names (all_weaker (λ (e : Place × Node). IsPlace e.0) (λ (e : Place × Node). IsTrue (depth_fits e.0)) names (λ e p. p.1) t.places);
+        depths = all-each (λ (e : Place × Node). depth_fits e.0) names (each-weaker (λ (e : Place × Node). IsPlace e.0) (λ (e : Place × Node). IsTrue (depth_fits e.0)) (λ e p. p.1) names t.places);
         home = home.1;
-        links = all_pass (λ (e : Place × Node). link_fits e.1) names (all_weaker (λ (e : Place × Node). IsFitNode e.1) (λ (e : Place × Node). IsTrue (link_fits e.1)) names (λ e p. fit_link e.1 p) t.nodes);
-        files = all_pass (λ (e : ℕ × Content). content_fits (limits (tree_of file)) e.1) files (each_content (λ c. IsTrue (content_fits (limits (tree_of file)) c)) 0 contents (all_weaker IsFitContent (λ c. IsTrue (content_fits (limits (tree_of file)) c)) contents (λ c f. le-leb (length c.bytes) 16777216 f.1) fit));
+        links = all-each (λ (e : Place × Node). link_fits e.1) names (each-weaker (λ (e : Place × Node). IsFitNode e.1) (λ (e : Place × Node). IsTrue (link_fits e.1)) (λ e p. fit_link e.1 p) names t.nodes);
+        files = all-each (λ (e : ℕ × Content). content_fits (limits (tree_of file)) e.1) files (each_content (λ c. IsTrue (content_fits (limits (tree_of file)) c)) 0 contents (each-weaker IsFitContent (λ c. IsTrue (content_fits (limits (tree_of file)) c)) (λ c f. le-leb (length c.bytes) 16777216 f.1) contents fit));
         numbers = omega (arith, made_few file.rows, is.count);
       });
       trimmed = each_number (λ n. IsTrue (is_named names n)) 0 contents (λ n above below. names_each file.root file.rows n (omega arith));
@@ -192,8 +184,8 @@ table_of_kept t kept root root_is =
     let l = limits_from t kept.within_limits in
     record {
       ordered = w.ordered;
-      places = all_together (λ (e : Place × Node). IsTrue (are_names e.0)) (λ (e : Place × Node). IsTrue (depth_fits e.0)) t.names w.named (each_passes (λ (e : Place × Node). depth_fits e.0) t.names l.depths);
-      nodes = nodes_fit t.files t.names w.nodes (each_passes (λ (e : Place × Node). link_fits e.1) t.names l.links);
+      places = all_together (λ (e : Place × Node). IsTrue (are_names e.0)) (λ (e : Place × Node). IsTrue (depth_fits e.0)) t.names w.named (each-all (λ (e : Place × Node). depth_fits e.0) t.names l.depths);
+      nodes = nodes_fit t.files t.names w.nodes (each-all (λ (e : Place × Node). link_fits e.1) t.names l.links);
       root_is = root_is;
       parents = w.parents;
     }
@@ -212,7 +204,7 @@ content_fit [] are fit = tt
 content_fit (e ∷ files) are fit = ((are.0.0, leb-true (length e.1.bytes) 16777216 fit.0, are.0.1), content_fit files are.1 fit.1)
 
 pub fit_files : (t : Tree) → IsKept t → AllByRecursion (λ e. IsFitContent e.1) t.files
-fit_files t kept = content_fit t.files kept.well_formed.contents (each_passes (λ (e : ℕ × Content). content_fits (limits t) e.1) t.files (limits_from t kept.within_limits).files)
+fit_files t kept = content_fit t.files kept.well_formed.contents (each-all (λ (e : ℕ × Content). content_fits (limits t) e.1) t.files (limits_from t kept.within_limits).files)
 
 rows_of_split : (t : Tree) → IsKept t → (s : Split t) → AreRows [] (rows_behind t.files (only_root s.root) s.entries)
 rows_of_split t kept s =

@@ -1,16 +1,14 @@
 -- Lists whose keys rise, and tables that grow at their end.
 use Rattle.std.proofs.Common.{◌≡◌, ◌-◌, ◌<◌, Bool, true, false, cond, List, [], ◌∷◌, ◌++◌, length, take, drop, map, Option, Some, None, refl, sym, ap, subst, ◌∙◌, arith}
-use Rattle.std.specs.Prelude.{IsTrue}
 use Rattle.std.specs.BTreeMap.{insert_entry}
 use Rattle.std.specs.Map.{keys_of, lookup}
-use Rattle.std.specs.List.{AllByRecursion, list_all}
+use Rattle.std.specs.List.{AllByRecursion}
 use Rattle.std.specs.List.Sorted.{IsStrictlySortedBy}
 use Rattle.std.specs.Cmp.{IsTotalOrder}
 use Rattle.std.specs.Cmp.Lexicographic.{slice_cmp, nat_list_cmp_total, nat_list_eq_equiv, lists_equiv, lists_ties, texts_ties}
 use Rattle.std.specs.Ordering.{nat_cmp, is_eq, ordering_reverse}
 use Rattle.std.specs.declared.cmp.Ordering.{Ordering}
 use Rattle.std.specs.declared.cmp.Ordering.TheVariants.{Less, Greater}
-use Rattle.std.proofs.lemmas.Bool.{and_parts, and_from}
 use Rattle.std.proofs.lemmas.Cmp.{tied_itself}
 use Rattle.std.proofs.lemmas.List.{take-append-drop, map-append, length-drop}
 use Rattle.sftp_path.specs.Place.{Place, place_cmp, parent}
@@ -26,10 +24,6 @@ pub all_right : {A : Type 0} (P : A → Type 0) (xs ys : List A) → AllByRecurs
 all_right P [] ys p = p
 all_right P (x ∷ xs) ys p = all_right P xs ys p.1
 
-pub all_weaker : {A : Type 0} (P Q : A → Type 0) (xs : List A) → ((x : A) → P x → Q x) → AllByRecursion P xs → AllByRecursion Q xs
-all_weaker P Q [] f p = tt
-all_weaker P Q (x ∷ xs) f p = (f x p.0, all_weaker P Q xs f p.1)
-
 -- each element's image, and each image
 pub all_from_map : {A B : Type 0} (f : A → B) (P : B → Type 0) (xs : List A) → AllByRecursion P (map f xs) → AllByRecursion (λ x. P (f x)) xs
 all_from_map f P [] p = tt
@@ -38,17 +32,6 @@ all_from_map f P (x ∷ xs) p = (p.0, all_from_map f P xs p.1)
 pub all_to_map : {A B : Type 0} (f : A → B) (P : B → Type 0) (xs : List A) → AllByRecursion (λ x. P (f x)) xs → AllByRecursion P (map f xs)
 all_to_map f P [] p = tt
 all_to_map f P (x ∷ xs) p = (p.0, all_to_map f P xs p.1)
-
--- a test that each passes
-pub all_pass : {A : Type 0} (test : A → Bool) (xs : List A) → AllByRecursion (λ x. IsTrue (test x)) xs → IsTrue (list_all test xs)
-all_pass test [] p = refl
-all_pass test (x ∷ xs) p = and_from (test x) (list_all test xs) p.0 (all_pass test xs p.1)
-
-pub each_passes : {A : Type 0} (test : A → Bool) (xs : List A) → IsTrue (list_all test xs) → AllByRecursion (λ x. IsTrue (test x)) xs
-each_passes test [] h = tt
-each_passes test (x ∷ xs) h =
-    let parts = and_parts (test x) (list_all test xs) h in
-    (parts.0, each_passes test xs parts.1)
 
 pub all_together : {A : Type 0} (P Q : A → Type 0) (xs : List A) → AllByRecursion P xs → AllByRecursion Q xs → AllByRecursion (λ x. P x × Q x) xs
 all_together P Q [] p q = tt

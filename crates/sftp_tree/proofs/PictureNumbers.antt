@@ -18,7 +18,8 @@ use Rattle.sftp_tree.specs.declared.nodes.Node.TheVariants.{Dir, File, Link}
 use Rattle.sftp_tree.specs.Tree.{Names, names_file}
 use Rattle.sftp_tree.specs.Picture.{entry_naming}
 use Rattle.sftp_tree.specs.PictureParts.{content_of, contents_of, node_of, entry_of, entries_behind, names_of}
-use Rattle.sftp_tree.proofs.PictureLists.{all_both, all_weaker}
+use Rattle.sftp_tree.proofs.PictureLists.{all_both}
+use Rattle.sftp_tree.proofs.KeepTables.{each-weaker}
 
 -- ---- how many files rows come with
 
@@ -166,7 +167,7 @@ below_push root earlier row below fits =
     let made = made_by earlier + length (content_of row.kind) in
     let all : AreBelow made (names_of root earlier ++ entry_of earlier row ∷ []) =
     all_both (λ (e : Place × Node). IsBelow made e.1) (names_of root earlier) (entry_of earlier row ∷ [])
-    (all_weaker (λ (e : Place × Node). IsBelow (made_by earlier) e.1) (λ (e : Place × Node). IsBelow made e.1) (names_of root earlier) (λ e b. below_more (made_by earlier) made le e.1 b) below)
+    (each-weaker (λ (e : Place × Node). IsBelow (made_by earlier) e.1) (λ (e : Place × Node). IsBelow made e.1) (λ e b. below_more (made_by earlier) made le e.1 b) (names_of root earlier) below)
     (entry_below earlier row.kind fits, tt) in
     subst (λ (n : ℕ). AreBelow n (names_of root (earlier ++ row ∷ []))) (sym (made_push earlier row)) (subst (AreBelow made) (sym (names_push root earlier row)) all)
 

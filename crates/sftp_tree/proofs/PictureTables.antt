@@ -16,6 +16,7 @@ use Rattle.std.proofs.lemmas.List.{append-nil, map-append}
 use Rattle.std.proofs.lemmas.Map.{lookup-none}
 use Rattle.std.proofs.lemmas.Map.Entries.{none_below_head}
 use Rattle.std.proofs.lemmas.Map.Keys.{sorted_head, sorted_tail}
+use Rattle.std.specs.Cmp.{Equal-is}
 use Rattle.sftp_path.specs.Place.{Place, place_cmp, parent, are_names}
 use Rattle.sftp_path.specs.Table.{InOrder, get}
 use Rattle.sftp_path.proofs.Order.{place_cmp-total, place_cmp-same}
@@ -29,7 +30,8 @@ use Rattle.sftp_tree.specs.declared.nodes.Node.{Node}
 use Rattle.sftp_tree.specs.declared.nodes.Node.TheVariants.{Dir, File, Link}
 use Rattle.sftp_tree.specs.Tree.{Names, node_at, is_directory, is_taken, depth_fits}
 use Rattle.sftp_tree.specs.PictureParts.{only_root}
-use Rattle.sftp_tree.proofs.PictureLists.{all_both, all_weaker, all_from_map, all_to_map, sorted_push, sorted_before, sorted_right, sorted_left, keys_append, lookup_left, lookup_right, lookup_found, places_tie, parent_less, root_before}
+use Rattle.sftp_tree.proofs.PictureLists.{all_both, all_from_map, all_to_map, sorted_push, sorted_before, sorted_right, sorted_left, keys_append, lookup_left, lookup_right, lookup_found, places_tie, parent_less, root_before}
+use Rattle.sftp_tree.proofs.KeepTables.{each-weaker}
 
 -- ---- tables
 
@@ -134,14 +136,9 @@ row_stands [] p sorted = refl
 row_stands (row ∷ rows) p sorted =
     let place = place_of row.path in
     let behind : node_at (map bare_entry rows) place ≡ None = get-below place_cmp place (map bare_entry rows) (sorted_head place_cmp place (keys_of (map bare_entry rows)) sorted) in
-    let none : same_place place p ≡ true → node_at (map bare_entry rows) p ≡ None = (λ same. ap (node_at (map bare_entry rows)) (place_cmp-same p place (tied (place_cmp p place) (places_tie p place ∙ same))) ∙ behind) in
+    let none : same_place place p ≡ true → node_at (map bare_entry rows) p ≡ None = (λ same. ap (node_at (map bare_entry rows)) (place_cmp-same p place ((Equal-is (place_cmp p place)).0 (places_tie p place ∙ same))) ∙ behind) in
     here_or_behind (is_dir row.kind) (same_place place p) (bare_kind row.kind) (list_any (is_dir_at p) rows) (node_at (map bare_entry rows) p) (kind_is row.kind) (row_stands rows p (sorted_tail place_cmp place (keys_of (map bare_entry rows)) sorted)) none
     ∙ ap (λ b. is_directory (cond b (Some (bare_kind row.kind)) (node_at (map bare_entry rows) p))) (sym (places_tie p place))
-  where
-    tied : (o : Ordering) → is_eq o ≡ true → o ≡ Equal
-    tied Less e = absurd cc
-    tied Equal e = refl
-    tied Greater e = absurd cc
 
 pub has_dir_is : (root : Owner) (rows : List Row) (p : Place) → InOrder place_cmp (bare_names root rows) → has_dir rows p ≡ is_directory (node_at (bare_names root rows) p)
 unfolding get has_dir
@@ -265,7 +262,7 @@ root_first ((n ∷ ns, node) ∷ entries) sorted there =
 -- and all else stands below it
 pub entries_below : (root : Owner) (entries : Names) → InOrder place_cmp (only_root root ++ entries) → AllByRecursion (λ e. 0 < length e.0) entries
 entries_below root entries sorted =
-    all_weaker (λ (e : Place × Node). place_cmp [] e.0 ≡ Less) (λ (e : Place × Node). 0 < length e.0) entries (λ e less. below_root e.0 less)
+    each-weaker (λ (e : Place × Node). place_cmp [] e.0 ≡ Less) (λ (e : Place × Node). 0 < length e.0) (λ e less. below_root e.0 less) entries
     (all_from_map (λ (e : Place × Node). e.0) (λ q. place_cmp [] q ≡ Less) entries (sorted_head place_cmp [] (keys_of entries) sorted))
 
 pub root_at : (root : Owner) (entries : Names) → node_at (only_root root ++ entries) [] ≡ Some (Dir root)

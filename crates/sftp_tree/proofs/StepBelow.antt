@@ -12,6 +12,7 @@ use Rattle.std.specs.BTreeMap.{is_at}
 use Rattle.std.proofs.lemmas.Map.Keys.{sorted_head, sorted_tail}
 use Rattle.std.specs.BTreeMap.Range.{entries_between}
 use Rattle.std.specs.declared.ops.Bound.TheVariants.{Excluded, Unbounded}
+use Rattle.std.proofs.Math.Bool.{or-true}
 use Rattle.sftp_tree.specs.declared.nodes.Node.{Node}
 use Rattle.sftp_path.specs.Place.{Name, Place, name_cmp, place_cmp, same_bytes, is_below, parent}
 use Rattle.sftp_path.specs.Table.{get}
@@ -21,12 +22,7 @@ use Rattle.sftp_tree.specs.Tree.{Names, node_at, is_taken, has_entries}
 -- ---- the order
 
 same_bytes-cmp : (m n : Name) → same_bytes m n ≡ true → name_cmp m n ≡ Equal
-same_bytes-cmp m n same = by (name_cmp m n) (sym (texts_ties m n) ∙ same)
-  where
-    by : (o : Ordering) → is_eq o ≡ true → o ≡ Equal
-    by Less e = cc
-    by Equal e = refl
-    by Greater e = cc
+same_bytes-cmp m n same = (Equal-is (name_cmp m n)).0 (sym (texts_ties m n) ∙ same)
 
 -- what stands below a place comes after it
 pub less-from_below : (p b : Place) → is_below p b ≡ true → place_cmp p b ≡ Less
@@ -37,7 +33,7 @@ less-from_below (m ∷ ms) (n ∷ ns) below =
     ap (λ o. ordering_then o (place_cmp ms ns)) (same_bytes-cmp m n (first_so (same_bytes m n) (is_below ms ns) below)) ∙ less-from_below ms ns (second_so (same_bytes m n) (is_below ms ns) below)
 
 -- a name that is neither below nor above another is that name
-between-names : (o q : Ordering) (x y : Ordering) → o ≡ ordering_reverse q → ordering_then o x ≡ Less → ordering_then q y ≡ Less → (o ≡ Equal) × (x ≡ Less) × (y ≡ Less)
+pub between-names : (o q : Ordering) (x y : Ordering) → o ≡ ordering_reverse q → ordering_then o x ≡ Less → ordering_then q y ≡ Less → (o ≡ Equal) × (x ≡ Less) × (y ≡ Less)
 between-names Less Less x y turned first second = cc
 between-names Less Equal x y turned first second = cc
 between-names Less Greater x y turned first second = cc
@@ -122,10 +118,6 @@ has-turn p q e es below rest true same taken =
     ap (λ x. is_below p x || list_any (λ e. is_below p e.0) es) (sym one) ∙ ap (λ b. b || list_any (λ e. is_below p e.0) es) below
 has-turn p q e es below rest false apart taken =
     ap (λ b. is_below p e.0 || b) (rest taken) ∙ or-true (is_below p e.0)
-  where
-    or-true : (b : Bool) → (b || true) ≡ true
-    or-true true = refl
-    or-true false = refl
 
 has-below : (p q : Place) (es : Names) → is_below p q ≡ true → is_taken (lookup (is_at (place_cmp q)) es) ≡ true → list_any (λ e. is_below p e.0) es ≡ true
 has-below p q [] below taken = cc

@@ -1,5 +1,6 @@
 -- The causes of requests with one path are the sets that the code has.
 use Rattle.std.proofs.Common.{◌≡◌, ℕ, Bool, true, false, ◌&&◌, ◌||◌, not, List, refl, sym, ◌∙◌, ap, Option, Some, None, Result, Ok, Err}
+use Rattle.std.proofs.Math.Bool.{and-true, and-false, or-false}
 use Rattle.sftp_wire.specs.declared.attributes.Attrs.{Attrs}
 use Rattle.sftp_wire.specs.declared.packets.Ask.{Ask}
 use Rattle.sftp_wire.specs.declared.packets.Ask.TheVariants.{Lstat, Mkdir, Rmdir, Realpath, Stat, Readlink, Symlink}
@@ -19,8 +20,9 @@ use Rattle.sftp_tree.specs.Judged.{no_causes, just, has_room, making, needing, r
 use Rattle.sftp_tree.proofs.CauseWalks.{led-room}
 use Rattle.sftp_tree.proofs.CauseLed as laws
 use Rattle.sftp_tree.proofs.CauseRoom.{fits-put}
-use Rattle.sftp_tree.proofs.CauseSets.{and-false, set-whole, just-is, only-apart, one-led, one-lost}
-use Rattle.sftp_tree.proofs.CausePlaces.{absent-of, making-is, needing-is, reading-is, none-is, removing-is}
+use Rattle.sftp_tree.proofs.CauseSets.{set-whole, just-is, only-apart, one-led, one-lost}
+use Rattle.sftp_tree.proofs.CausePlaces.{making-is, needing-is, reading-is, none-is, removing-is, making-by}
+use Rattle.sftp_tree.proofs.CallPlaces.{absent-of}
 
 -- ---- where a request leads
 
@@ -93,15 +95,8 @@ bad-is target link _ = refl
 with-bad : Bool → Causes → Causes
 with-bad good s = record s { bad_path = s.bad_path || not good; no_room = s.no_room && good }
 
-making-by : (found : Option Node) (room : Bool) → Causes
-making-by found room = record no_causes { exists = is_taken found; no_room = not (is_taken found) && not room }
-
-and-true : (b : Bool) → (b && true) ≡ b
-and-true true = refl
-and-true false = refl
-
 symlink-set : (found : Option Node) (good room : Bool) (asked : Tree) → (is_taken found ≡ false → good ≡ true → fits asked ≡ room) → IsSet (with-bad good (making-by found room)) (with_room (λ c. making_causes found c || bad good c) asked)
-unfolding bad with-bad making-by
+unfolding bad with-bad
 symlink-set None true room asked fit NoRoom = and-true (not room) ∙ ap not (sym (fit refl refl))
 symlink-set None true room asked fit BadPath = refl
 symlink-set None true room asked fit _ = refl
@@ -118,16 +113,16 @@ unfolding bad with-bad
 lost-set failed good apart BadPath = ap (λ b. b || not good) (just-is failed BadPath)
 lost-set failed good apart NoRoom =
     ap (λ b. b && good) (just-is failed NoRoom ∙ only-apart failed apart) ∙ sym (ap (λ b. b || false) (only-apart failed apart))
-lost-set failed good apart NoEntry = just-is failed NoEntry ∙ sym (laws.or-false (only failed NoEntry))
-lost-set failed good apart NotDir = just-is failed NotDir ∙ sym (laws.or-false (only failed NotDir))
-lost-set failed good apart Loop = just-is failed Loop ∙ sym (laws.or-false (only failed Loop))
-lost-set failed good apart Exists = just-is failed Exists ∙ sym (laws.or-false (only failed Exists))
-lost-set failed good apart IsDir = just-is failed IsDir ∙ sym (laws.or-false (only failed IsDir))
-lost-set failed good apart NotLink = just-is failed NotLink ∙ sym (laws.or-false (only failed NotLink))
-lost-set failed good apart NotFile = just-is failed NotFile ∙ sym (laws.or-false (only failed NotFile))
-lost-set failed good apart NotEmpty = just-is failed NotEmpty ∙ sym (laws.or-false (only failed NotEmpty))
-lost-set failed good apart Root = just-is failed Root ∙ sym (laws.or-false (only failed Root))
-lost-set failed good apart Inside = just-is failed Inside ∙ sym (laws.or-false (only failed Inside))
+lost-set failed good apart NoEntry = just-is failed NoEntry ∙ sym (or-false (only failed NoEntry))
+lost-set failed good apart NotDir = just-is failed NotDir ∙ sym (or-false (only failed NotDir))
+lost-set failed good apart Loop = just-is failed Loop ∙ sym (or-false (only failed Loop))
+lost-set failed good apart Exists = just-is failed Exists ∙ sym (or-false (only failed Exists))
+lost-set failed good apart IsDir = just-is failed IsDir ∙ sym (or-false (only failed IsDir))
+lost-set failed good apart NotLink = just-is failed NotLink ∙ sym (or-false (only failed NotLink))
+lost-set failed good apart NotFile = just-is failed NotFile ∙ sym (or-false (only failed NotFile))
+lost-set failed good apart NotEmpty = just-is failed NotEmpty ∙ sym (or-false (only failed NotEmpty))
+lost-set failed good apart Root = just-is failed Root ∙ sym (or-false (only failed Root))
+lost-set failed good apart Inside = just-is failed Inside ∙ sym (or-false (only failed Inside))
 
 -- the causes of a link that is to be made, with its target's
 symlink-plain : (t : Tree) (goal link : List ℕ) (base : CauseSet) (first : Option (Result Place Cause)) → led t (Symlink goal link) ≡ first → ((c : Cause) → laws.plain_of t (Symlink goal link) first None c ≡ (base c || target_causes (Symlink goal link) c)) → (c : Cause) → plain_causes t (Symlink goal link) c ≡ (base c || bad (is_target goal) c)
@@ -135,7 +130,7 @@ symlink-plain t goal link base first e same c =
     laws.plain-led t (Symlink goal link) first None e refl c ∙ same c ∙ ap (λ b. base c || b) (bad-is goal link c)
 
 pub causes-symlink : (t : Tree) (target link : List ℕ) → IsKept t → (r : Result Place Cause) → led t (Symlink target link) ≡ Some r → (c : Cause) → causes t (Symlink target link) c ≡ in_set (with_target target (led_set r (making t))) c
-unfolding with-bad making-by
+unfolding with-bad
 causes-symlink t goal link kept (Err failed) e c =
     let apart : failed ≡ NoRoom → ⊥ = λ is. led-room t (Symlink goal link) (e ∙ ap (λ c. Some (Err c)) is) in
     let plain : CauseSet = λ c. only failed c || bad (is_target goal) c in

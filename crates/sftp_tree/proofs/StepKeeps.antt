@@ -2,7 +2,6 @@
 use Rattle.std.proofs.Common.{◌≡◌, ℕ, ◌&&◌, not, List, [], ◌∷◌, refl, sym, subst, ap, ◌∙◌, Option, Some, None, IsTrue, Result, Ok, Err, Bool, true, false, if◌then◌else◌}
 use Rattle.std.specs.Option.{option_map, IfSome}
 use Rattle.std.proofs.lemmas.Bool.{both_ways, false_from_ne_true, not-false, or_parts}
-use Rattle.std.proofs.lemmas.List.{append-nil}
 use Rattle.std.specs.Cmp.Lexicographic.{pointwise_decides, bytes_decides}
 use Rattle.std.specs.Ordering.{nat_cmp}
 use Rattle.std.specs.FinMap.{nat_cmp-IsAntisymmetric}
@@ -22,16 +21,19 @@ use Rattle.sftp_tree.specs.declared.causes.Cause.TheVariants.{NoEntry, NotDir, E
 use Rattle.sftp_tree.specs.Tree.{Names, Tree, WellFormed, IsKept, IsNode, IsContent, fits, node_at, with_node, without_node, content_at, is_taken, is_directory, has_entries, trim}
 use Rattle.sftp_tree.specs.Walk.{reached}
 use Rattle.sftp_tree.specs.Attributes.{directory_owner, changed_owner, changed_content}
-use Rattle.sftp_tree.specs.Steps.{path_of, new_path_of, follows, led, new_led, causes_at, new_causes_at, causes_between, goes_inside, are_one, are_one_file, replacing_causes, with_changed_file, with_attributes, target_at, moved, put_in_its_stead, with_further_name, target_between, target_on, led_to, target, after}
+use Rattle.sftp_tree.specs.Steps.{path_of, new_path_of, follows, led, new_led, causes_at, new_causes_at, causes_between, goes_inside, are_one, are_one_file, replacing_causes, with_changed_file, with_attributes, target_at, moved, put_in_its_stead, with_further_name, target_between, target, after}
 use Rattle.sftp_tree.specs.Sets.{IsFree}
 use Rattle.sftp_tree.proofs.KeepTables.{each-get}
 use Rattle.sftp_tree.proofs.KeepFields.{bytes-fit, owner-fits, changed-owner-fits, changed-content-fits}
 use Rattle.sftp_tree.proofs.KeepCauses.{free-at, free-between}
-use Rattle.sftp_tree.proofs.KeepPlaces.{none-from, apart-from, nothing-below, alone-there}
+use Rattle.sftp_tree.proofs.KeepPlaces.{apart-from, nothing-below, alone-there, second-false}
 use Rattle.sftp_tree.proofs.KeepNames.{names-of, names-put, names-owner, names-without, well-formed-names}
 use Rattle.sftp_tree.proofs.KeepValues.{well-formed-content}
 use Rattle.sftp_tree.proofs.KeepMoves.{well-formed-moved, well-formed-in-stead}
 use Rattle.sftp_tree.proofs.KeepTrim.{kept-trim}
+use Rattle.sftp_tree.proofs.CallPlaces.{absent-of}
+use Rattle.sftp_tree.proofs.CauseLed.{target-led}
+use Rattle.sftp_tree.proofs.CauseMoved.{nothing-from}
 
 -- ---- where the paths of a request lead
 
@@ -79,11 +81,6 @@ new-place-led t ask place well fits is = led-well t false (new_path_of ask) plac
 
 -- ---- what stands at a place
 
--- where a test and what it is tested with do not both hold
-second-false : (a b : Bool) → a ≡ true → (a && b) ≡ false → b ≡ false
-second-false true b first h = h
-second-false false b first h = absurd cc
-
 absent-nothing : (names : Names) (place : Place) → node_at names place ≡ None → is_directory (node_at names place) ≡ false
 absent-nothing names place absent = ap is_directory absent
 
@@ -97,15 +94,15 @@ empty-there t place well = nothing-below t.names place well.ordered well.parents
 
 -- where nothing stands at a place, nothing stands below it
 free-from : (t : Tree) (place : Place) → WellFormed t → node_at t.names place ≡ None → NothingFrom t.names place
-free-from t place well absent [] = ap (node_at t.names) (append-nil place) ∙ absent
-free-from t place well absent (n ∷ ns) = alone-there t.names place (empty-there t place well (absent-nothing t.names place absent)) n ns
+free-from t place well absent =
+    nothing-from t.names place absent (alone-there t.names place (empty-there t place well (absent-nothing t.names place absent)))
 
 -- ---- requests with one path
 
 well-with : (t : Tree) (place : Place) (it : Node) → WellFormed t → Led t place → is_taken (node_at t.names place) ≡ false → IsNode t.files it → WellFormed (record t { names = with_node t.names place it })
 well-with t place it well leads free is_node =
     well-formed-names t (with_node t.names place it) well
-    (names-put t.files t.names place it (names-of t well) leads.named (none-from (node_at t.names place) free) leads.above is_node)
+    (names-put t.files t.names place it (names-of t well) leads.named (absent-of (node_at t.names place) free) leads.above is_node)
 
 well-without : (t : Tree) (place : Place) → WellFormed t → is_root place ≡ false → has_entries t.names place ≡ false → WellFormed (record t { names = without_node t.names place })
 well-without t place well apart empty =
@@ -156,7 +153,7 @@ taken-differs names old new there free =
 well-renamed : (t : Tree) (old new : Place) → WellFormed t → Led t new → not (is_taken (node_at t.names old)) ≡ false → is_root old ≡ false → is_taken (node_at t.names new) ≡ false → goes_inside t.names old new ≡ false → WellFormed (moved t old new)
 well-renamed t old new well leads there not_root free outside =
     let apart = apart-from t.names old new well.parents outside (taken-differs t.names old new there free) leads.above in
-    well-formed-moved t old new well (free-from t new well (none-from (node_at t.names new) free)) leads.named not_root apart leads.above
+    well-formed-moved t old new well (free-from t new well (absent-of (node_at t.names new) free)) leads.named not_root apart leads.above
 
 -- what is replaced has no entries
 replaced-empty : (t : Tree) (old new : Place) (b : Bool) → is_directory (node_at t.names new) ≡ b → WellFormed t → not (is_taken (node_at t.names old)) ≡ false → ((is_taken (node_at t.names old) && not (is_directory (node_at t.names old))) && is_directory (node_at t.names new)) ≡ false → (is_directory (node_at t.names old) && (is_directory (node_at t.names new) && has_entries t.names new)) ≡ false → has_entries t.names new ≡ false
@@ -190,31 +187,27 @@ well-between t other old new well leads at_old at_new between = well
 
 -- ---- every request
 
-target-is : (t : Tree) (ask : Ask) (l n : Option (Result Place Cause)) → led t ask ≡ l → new_led t ask ≡ n → target t ask ≡ led_to t l (λ place. target_on t ask place n)
-unfolding target
-target-is t ask l n e f = λ i. led_to t (e i) (λ place. target_on t ask place (f i))
-
 -- a tree within the limits, which may have files with no name
 pub record Stands (t : Tree) : Type 0 where
   pub well_formed : WellFormed t
   pub within_limits : IsTrue (fits t)
 
 target-stands-by : (t : Tree) (ask : Ask) (l n : Option (Result Place Cause)) → led t ask ≡ l → new_led t ask ≡ n → LeadsWell t → Stands t → FitsAsk ask → IsFree t ask → Stands (target t ask)
-target-stands-by t ask None n e f leads stands fit free = subst Stands (sym (target-is t ask None n e f)) stands
-target-stands-by t ask (Some (Err failed)) n e f leads stands fit free = subst Stands (sym (target-is t ask (Some (Err failed)) n e f)) stands
+target-stands-by t ask None n e f leads stands fit free = subst Stands (sym (target-led t ask None n e f)) stands
+target-stands-by t ask (Some (Err failed)) n e f leads stands fit free = subst Stands (sym (target-led t ask (Some (Err failed)) n e f)) stands
 target-stands-by t ask (Some (Ok place)) None e f leads stands fit free =
     let none = free-at t ask place free e f in
     record {
-      well_formed = subst WellFormed (sym (target-is t ask (Some (Ok place)) None e f)) (well-at t ask place stands.well_formed fit (place-led t ask place leads fit e) none.none);
+      well_formed = subst WellFormed (sym (target-led t ask (Some (Ok place)) None e f)) (well-at t ask place stands.well_formed fit (place-led t ask place leads fit e) none.none);
       within_limits = none.room;
     }
 target-stands-by t ask (Some (Ok place)) (Some (Err failed)) e f leads stands fit free =
-    subst Stands (sym (target-is t ask (Some (Ok place)) (Some (Err failed)) e f)) stands
+    subst Stands (sym (target-led t ask (Some (Ok place)) (Some (Err failed)) e f)) stands
 target-stands-by t ask (Some (Ok old)) (Some (Ok new)) e f leads stands fit free =
     let none = free-between t ask old new free e f in
     record {
       well_formed =
-          subst WellFormed (sym (target-is t ask (Some (Ok old)) (Some (Ok new)) e f))
+          subst WellFormed (sym (target-led t ask (Some (Ok old)) (Some (Ok new)) e f))
           (well-between t ask old new stands.well_formed (new-place-led t ask new leads fit f) none.at_old none.at_new none.between);
       within_limits = none.room;
     }

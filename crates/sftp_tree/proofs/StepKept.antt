@@ -1,5 +1,5 @@
 -- A tree with an entry more or less: that it fits the limits, and that it stays a tree.
-use Rattle.std.proofs.Common.{◌≡◌, ◌<◌, ℕ, ◌+◌, true, false, if◌then◌else◌, arith, None, IsTrue}
+use Rattle.std.proofs.Common.{◌≡◌, ◌<◌, ℕ, ◌+◌, false, if◌then◌else◌, arith, None, IsTrue}
 use Rattle.std.proofs.lemmas.Bool.{lt-ltb, ltb-true}
 use Rattle.sftp_path.specs.Place.{Place, place_cmp, parent, are_names}
 use Rattle.sftp_path.proofs.CountLaws.{count-put_new}
@@ -7,10 +7,9 @@ use Rattle.sftp_treefile.specs.TreeFile.{is_root}
 use Rattle.sftp_tree.specs.declared.nodes.Node.{Node}
 use Rattle.sftp_tree.specs.Tree.{Names, Tree, IsKept, IsNode, fits, node_at, with_node, without_node, is_directory, has_entries, names_file, times_named, is_named, trim}
 use Rattle.sftp_tree.proofs.KeepTables.{each-weaker}
-use Rattle.sftp_tree.proofs.KeepFits.{fits-parts, fits-from}
 use Rattle.sftp_tree.proofs.KeepTrim.{kept-trim}
 use Rattle.sftp_tree.proofs.KeepNames.{names-of, names-put, names-without, well-formed-names}
-use Rattle.sftp_tree.proofs.KeepLimits.{entries-without, depths-without, links-without}
+use Rattle.sftp_tree.proofs.CauseRoom.{fits-without}
 
 -- ---- one entry more
 
@@ -35,19 +34,6 @@ kept-put t place it kept named absent above is_node within = record {
 }
 
 -- ---- one entry less
-
--- a tree within the limits fits with an entry less
-pub fits-without : (t : Tree) (place : Place) → IsTrue (fits t) → fits (record t { names = without_node t.names place }) ≡ true
-fits-without t place within =
-    let parts = fits-parts t within in
-    fits-from (record t { names = without_node t.names place }) (record {
-      entries = entries-without t place parts.entries;
-      depths = depths-without t place parts.depths;
-      home = parts.home;
-      links = links-without t place parts.links;
-      files = parts.files;
-      numbers = parts.numbers;
-    })
 
 -- a tree stays one without a place that is not the root and has no entries; a file goes with its last name
 pub kept-without : (t : Tree) (place : Place) → IsKept t → is_root place ≡ false → has_entries t.names place ≡ false → IsKept (trim (record t { names = without_node t.names place }))

@@ -1,5 +1,5 @@
 -- Tables of places with an entry less: what is left of them.
-use Rattle.std.proofs.Common.{◌≡◌, ◌≤◌, Bool, true, false, ◌&&◌, cond, [], ◌∷◌, length, refl, arith}
+use Rattle.std.proofs.Common.{◌≤◌, Bool, true, false, cond, [], ◌∷◌, length, arith}
 use Rattle.std.specs.List.{AllByRecursion}
 use Rattle.std.specs.Map.{remove_entry}
 use Rattle.std.specs.BTreeMap.{is_at}
@@ -7,10 +7,6 @@ use Rattle.sftp_path.specs.Place.{Place, place_cmp}
 use Rattle.sftp_path.specs.Table.{without}
 use Rattle.sftp_tree.specs.declared.nodes.Node.{Node}
 use Rattle.sftp_tree.specs.Tree.{Names}
-
-pub and-true : (b : Bool) → (b && true) ≡ b
-and-true true = refl
-and-true false = refl
 
 length-remove : (test : Place → Bool) (es : Names) → length (remove_entry test es) ≤ length es
 length-remove test [] = omega arith

@@ -68,7 +68,7 @@ without_a_name-other s other = ap (λ b. if b then None else Some (record s { na
 
 -- ---- another value at a key that is there
 
-reversed : (o : Ordering) → is_eq (ordering_reverse o) ≡ is_eq o
+pub reversed : (o : Ordering) → is_eq (ordering_reverse o) ≡ is_eq o
 reversed Less = refl
 reversed Equal = refl
 reversed Greater = refl

@@ -10,6 +10,7 @@ use Rattle.std.proofs.lemmas.Bool.Decides.{nat_tests}
 use Rattle.std.proofs.lemmas.Cmp.{tied_itself}
 use Rattle.std.proofs.lemmas.Option.{same_Some}
 use Rattle.std.proofs.lemmas.Map.Keys.{sorted_head, sorted_tail}
+use Rattle.std.proofs.Math.Bool.{or-false}
 use Rattle.sftp_path.specs.Place.{Place, place_cmp}
 use Rattle.sftp_path.specs.Table.{Table, InOrder, get, retain, kept}
 use Rattle.sftp_path.proofs.TableLaws.{get-cons, get-below, get-empty, get-put_here, get-put_elsewhere, get-retain, InOrder-put, InOrder-retain, same_table}
@@ -179,10 +180,6 @@ fewer-names (Some before) s n is counted = by (nat_le before.names 1) refl is
         let more : 1 < before.names = grind (arith, nat_tests) in
         let names : before.names - 1 ≡ s.names = ap (λ (s : Stored). s.names) (same_Some _ s left) in
         omega (arith, counted before refl)
-
-or-false : (b : Bool) → (b || false) ≡ b
-or-false true = refl
-or-false false = refl
 
 last-name : (m n : ℕ) → m ≡ n + 1 → nat_le m 1 ≡ not (nat_lt 0 n)
 last-name m n is = grind (arith, nat_tests)

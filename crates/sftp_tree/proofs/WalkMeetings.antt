@@ -1,5 +1,5 @@
 -- What a walk meets, by what stands there.
-use Rattle.std.proofs.Common.{◌≡◌, ◌&&◌, ◌||◌, Bool, true, false, cond, nat_eq, if◌then◌else◌, List, [], ◌∷◌, ◌++◌, ℕ, refl, sym, ◌∙◌, ap, subst, Option, Some, None, IsTrue}
+use Rattle.std.proofs.Common.{◌≡◌, ◌||◌, Bool, true, false, cond, nat_eq, if◌then◌else◌, List, [], ◌∷◌, ◌++◌, ℕ, refl, sym, ◌∙◌, ap, subst, Option, Some, None, IsTrue}
 use Rattle.std.specs.List.{list_all, AllByRecursion}
 use Rattle.std.specs.Map.{lookup}
 use Rattle.std.specs.BTreeMap.{is_at}
@@ -13,9 +13,11 @@ use Rattle.sftp_treefile.specs.TreeFile.{are_bytes}
 use Rattle.sftp_tree.specs.declared.nodes.Node.{Node}
 use Rattle.sftp_tree.specs.declared.nodes.Node.TheVariants.{Dir, File, Link}
 use Rattle.sftp_tree.specs.declared.causes.Cause.TheVariants.{NoEntry, NotDir}
-use Rattle.sftp_tree.specs.Tree.{Names, node_at, Tree, IsNode, link_fits, entries_fit, depths_fit, home_fits, links_fit, files_fit, numbers_fit, fits, IsKept}
+use Rattle.sftp_tree.specs.Tree.{Names, node_at, Tree, IsNode, link_fits, home_fits, IsKept}
 use Rattle.sftp_tree.specs.Walk.{Meeting, enters, ends, fails, through, is_last, met_link, met, meets}
 use Rattle.sftp_tree.specs.WalkRules.{IsPlain, GoesThrough, not_last, followed}
+use Rattle.sftp_tree.proofs.KeepTables.{each-all}
+use Rattle.sftp_tree.proofs.KeepFits.{fits-parts}
 
 -- ---- each meeting, with what it is by
 
@@ -93,32 +95,14 @@ pub lookup_holds : {K X : Type 0} (P : X → Type 0) (test : K → Bool) (es : L
 lookup_holds P test [] x h e = cc
 lookup_holds P test (entry ∷ es) x h e = found_by P (test entry.0) entry.1 x (lookup test es) e h.0 (lookup_holds P test es x h.1)
 
-all-from_test : {X : Type 0} (p : X → Bool) (xs : List X) → list_all p xs ≡ true → AllByRecursion (λ x. IsTrue (p x)) xs
-all-from_test p [] h = tt
-all-from_test p (x ∷ xs) h =
-    let a = and_parts (p x) (list_all p xs) h in
-    (a.0, all-from_test p xs a.1)
-
-links-fit : (t : Tree) → IsKept t → links_fit t ≡ true
-unfolding fits
-links-fit t kept =
-    let a = and_parts (entries_fit t) (depths_fit t && (home_fits t && (links_fit t && (files_fit t && numbers_fit t)))) kept.within_limits in
-    let b = and_parts (depths_fit t) (home_fits t && (links_fit t && (files_fit t && numbers_fit t))) a.1 in
-    let d = and_parts (home_fits t) (links_fit t && (files_fit t && numbers_fit t)) b.1 in
-    (and_parts (links_fit t) (files_fit t && numbers_fit t) d.1).0
-
 pub home-fits : (t : Tree) → IsKept t → home_fits t ≡ true
-unfolding fits
-home-fits t kept =
-    let a = and_parts (entries_fit t) (depths_fit t && (home_fits t && (links_fit t && (files_fit t && numbers_fit t)))) kept.within_limits in
-    let b = and_parts (depths_fit t) (home_fits t && (links_fit t && (files_fit t && numbers_fit t))) a.1 in
-    (and_parts (home_fits t) (links_fit t && (files_fit t && numbers_fit t)) b.1).0
+home-fits t kept = (fits-parts t kept.within_limits).home
 
 -- a target in a tree is a good path of bytes
 pub target-good : (t : Tree) → IsKept t → (place : Place) (target : List ℕ) → node_at t.names place ≡ Some (Link target) → is_good_path target ≡ true
 unfolding get
 target-good t kept place target there =
-    let fit = lookup_holds (λ node. IsTrue (link_fits node)) (is_at (place_cmp place)) t.names (Link target) (all-from_test (λ e. link_fits e.1) t.names (links-fit t kept)) there in
+    let fit = lookup_holds (λ node. IsTrue (link_fits node)) (is_at (place_cmp place)) t.names (Link target) (each-all (λ e. link_fits e.1) t.names (fits-parts t kept.within_limits).links) there in
     (and_parts _ (is_good_path target) fit).1
 
 target-bytes : (t : Tree) → IsKept t → (place : Place) (target : List ℕ) → node_at t.names place ≡ Some (Link target) → are_bytes target ≡ true

@@ -1,5 +1,5 @@
 -- Where walks lead: to lists of names whose parents are directories.
-use Rattle.std.proofs.Common.{◌≡◌, ℕ, zero, suc, ◌-◌, ◌||◌, Bool, true, false, if◌then◌else◌, List, [], ◌∷◌, ◌++◌, length, take, refl, sym, ◌∙◌, ap, subst, Option, Some, None, Result, Ok, Err, IsTrue}
+use Rattle.std.proofs.Common.{◌≡◌, ℕ, zero, suc, ◌-◌, ◌||◌, Bool, true, false, if◌then◌else◌, List, [], ◌∷◌, ◌++◌, length, take, refl, sym, ◌∙◌, ap, subst, Some, Result, Ok, Err, IsTrue}
 use Rattle.std.specs.List.{list_all}
 use Rattle.std.proofs.lemmas.Bool.{and_parts, and_from}
 use Rattle.std.proofs.lemmas.List.Folds.{list_all-append}
@@ -7,14 +7,14 @@ use Rattle.sftp_path.specs.Place.{Name, Place, parent, is_name, is_step, is_dot,
 use Rattle.sftp_path.proofs.GoodPaths.{components-steps, list_all-weaker}
 use Rattle.sftp_path.proofs.Order.{parent-entered}
 use Rattle.sftp_treefile.specs.TreeFile.{are_bytes}
-use Rattle.sftp_tree.specs.declared.nodes.Node.{Node}
 use Rattle.sftp_tree.specs.declared.nodes.Node.TheVariants.{Link}
 use Rattle.sftp_tree.specs.declared.causes.Cause.{Cause}
 use Rattle.sftp_tree.specs.declared.causes.Cause.TheVariants.{BadPath}
-use Rattle.sftp_tree.specs.Tree.{node_at, is_directory, is_taken, Tree, IsKept}
+use Rattle.sftp_tree.specs.Tree.{node_at, is_directory, Tree, IsKept}
 use Rattle.sftp_tree.specs.Walk.{Meeting, is_last, start_of, meets, walk, steps_of, reached}
 use Rattle.sftp_tree.proofs.WalkSteps.{behind_link, walk_on, walk-nil, walk-cons, reached-good, reached-bad}
 use Rattle.sftp_tree.proofs.WalkMeetings.{MetBy, by_dot, by_dot_dot, by_directory, by_last_file, by_file, by_link, by_last_link, by_last_absent, by_absent, met_by, plain-is_name, steps-behind}
+use Rattle.sftp_tree.proofs.KeepPlaces.{directory-taken}
 
 -- a walk stands at a directory
 pub record Stands (t : Tree) (at : Place) : Type 0 where
@@ -37,10 +37,6 @@ list_all-take p (suc n) [] h = refl
 list_all-take p (suc n) (x ∷ xs) h =
     let a = and_parts (p x) (list_all p xs) h in
     and_from (p x) (list_all p (take n xs)) a.0 (list_all-take p n xs a.1)
-
-directory-taken : (node : Option Node) → IsTrue (is_directory node) → IsTrue (is_taken node)
-directory-taken None there = cc
-directory-taken (Some node) there = refl
 
 pub root-stands : (t : Tree) → IsKept t → Stands t []
 root-stands t kept = record { names = refl; directory = kept.well_formed.root }

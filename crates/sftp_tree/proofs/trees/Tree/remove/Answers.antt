@@ -1,10 +1,12 @@
 use Rattle.std.proofs.Common.{◌≡◌, sym, ◌∙◌, ap, refl, false}
+use Rattle.std.proofs.lemmas.Bool.{not-false}
 use Rattle.sftp_wire.specs.declared.packets.Ask.TheVariants.{Remove}
 use Rattle.sftp_tree.specs.declared.causes.Cause.TheVariants.{NoEntry, IsDir}
 use Rattle.sftp_tree.specs.Tree.{trim, node_at, is_taken, is_directory}
 use Rattle.sftp_tree.specs.Judged.{causes_at_place}
-use Rattle.sftp_tree.proofs.CallSets.{led-is, target-one, none-in, none-of-set, free-by, refused-by, lost-by}
-use Rattle.sftp_tree.proofs.CallPlaces.{true-of, below-root}
+use Rattle.sftp_tree.proofs.CallSets.{led-is, target-one, none-of-set, free-by, refused-by, lost-by}
+use Rattle.sftp_tree.proofs.CallPlaces.{below-root}
+use Rattle.sftp_tree.proofs.KeepCauses.{none-each}
 use Rattle.sftp_tree.proofs.trees.Tree.remove.Goals as goal
 
 pub returns-in_err-place-clause-refused : goal.returns-in_err-place-clause-refused
@@ -18,9 +20,9 @@ returns-in_err-refuse-clause-refused c =
 pub remove_at-requires : goal.remove_at-requires
 remove_at-requires c =
     let none = none-of-set c.unlinking.result (causes_at_place c.args.self.now (Remove c.args.path.now) c.in_ok-place.place) (c.unlinking.ensures c.args.path.now) c.in_ok-refuse.ensures.free in
-    let each = none-in (causes_at_place c.args.self.now (Remove c.args.path.now) c.in_ok-place.place) none in
+    let each = none-each (causes_at_place c.args.self.now (Remove c.args.path.now) c.in_ok-place.place) none in
     let no_directory : is_directory (node_at c.args.self.now.names c.in_ok-place.place) ≡ false = each IsDir in
-    c.kept_without_entry.ensures c.args.self.now c.in_ok-place.place c.lead.ensures.kept (true-of (is_taken (node_at c.args.self.now.names c.in_ok-place.place)) (each NoEntry)) (below-root c.args.self.now c.in_ok-place.place c.lead.ensures.kept no_directory) (c.nothing_below.ensures c.args.self.now c.in_ok-place.place c.lead.ensures.kept no_directory)
+    c.kept_without_entry.ensures c.args.self.now c.in_ok-place.place c.lead.ensures.kept (not-false (is_taken (node_at c.args.self.now.names c.in_ok-place.place)) (each NoEntry)) (below-root c.args.self.now c.in_ok-place.place c.lead.ensures.kept no_directory) (c.nothing_below.ensures c.args.self.now c.in_ok-place.place c.lead.ensures.kept no_directory)
 
 pub returns-clause-free : goal.returns-clause-free
 returns-clause-free c =
