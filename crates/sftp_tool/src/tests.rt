@@ -27,8 +27,8 @@ const MAKE_A_B: &[u8] = b"C\0\0\0\x11\x0e\0\0\0\x02\0\0\0\x04/a/b\0\0\0\0";
 
 const MAKE_A_DOT: &[u8] = b"C\0\0\0\x10\x0e\0\0\0\x02\0\0\0\x03a/.\0\0\0\0";
 
-/// REMOVE of the file `/a`, which cannot be judged yet.
-const DELETE_A: &[u8] = b"C\0\0\0\x0b\x0d\0\0\0\x01\0\0\0\x02/a";
+/// OPENDIR of `/a`, which cannot be judged yet.
+const LIST_A: &[u8] = b"C\0\0\0\x0b\x0b\0\0\0\x01\0\0\0\x02/a";
 
 /// A DATA reply to the first request.
 const DATA: &[u8] = b"S\0\0\0\x0b\x67\0\0\0\x01\0\0\0\x02hi";
@@ -257,7 +257,7 @@ fn names_what_is_wrong_with_the_files(rt: HostRuntime) -> Result<(), Fail> {
         "sftpv3: transcript: record 2: Truncated\n",
     );
     // A request that cannot be judged yet.
-    let transcript = joined(rt.alloc(), &[OPENING, DELETE_A])?;
+    let transcript = joined(rt.alloc(), &[OPENING, LIST_A])?;
     let outcome = audit_in(&rt, folder, BLANK, transcript.as_slice())?;
     expect(
         &rt,
