@@ -6,7 +6,7 @@ use Rattle.std.proofs.lemmas.List.{take_at, drop_at, take-append-drop, append-ni
 use Rattle.sftp_wire.specs.declared.errors.Fault.{Fault}
 use Rattle.sftp_wire.specs.declared.errors.Fault.TheVariants.{Short, HandleTooLong}
 use Rattle.sftp_wire.specs.Spelling.{uint32, uint64, string, two_uint32, pair, handle_limit, AreBytes, FitsString, FitsTwo, FitsPair}
-use Rattle.sftp_wire.specs.Reading.{◌>>=◌, number_at, uint32_at, uint64_at, string_at, handle_at, rest_at, two_uint32_at, pair_at}
+use Rattle.sftp_wire.specs.Reading.{◌>>=◌, number_at, uint32_at, uint64_at, bytes_at, string_at, handle_at, rest_at, two_uint32_at, pair_at}
 use Rattle.sftp_wire.proofs.Numbers.{IsBytes-take, IsBytes-drop, AreBytes-from_places, IsWide, wide32, wide64}
 use Rattle.sftp_wire.proofs.Steps.{bind_ok, guard_ok, ok_is, Takes, Takes-then}
 use Rattle.sftp_wire.proofs.ReaderLaws.{TakesAs, AgainAs, two_takes, two_again}
@@ -56,7 +56,7 @@ two_uint32_again rest p fits = two_again uint32_at uint32_at (λ a b. (a, b)) ui
 
 -- as many bytes as were said
 abbrev text_behind : ℕ × List ℕ → Result (List ℕ × List ℕ) Fault
-text_behind n = cond (ltb (length n.1) n.0) (Err Short) (Ok (take n.0 n.1, drop n.0 n.1))
+text_behind n = bytes_at n.0 n.1
 
 -- the bytes behind their number are taken where they are there
 text_takes : (bytes : List ℕ) (n : ℕ × List ℕ) (text rest : List ℕ) → Takes bytes (uint32 n.0) n.1 → n.0 < 2 ^ 32 → text_behind n ≡ Ok (text, rest) → Takes bytes (string text) rest × FitsString text × (length text ≡ n.0)

@@ -3,7 +3,7 @@
 //! bytes is in range, by its type, and each of its lengths is, since the whole is.
 ghost use Rattle.std.specs.Prelude.{◌≡◌, ◌-◌, ◌^◌, ◌<◌, ◌++◌, length, min, IsSome, IfSome};
 ghost use Rattle.std.specs.List.{flat_map, AllByRecursion};
-ghost use Rattle.sftp_wire.specs.Spelling.{uint32, uint64, two_uint32, string, pair, pairs, counted_pairs, optional, attributes, name_item, names, asked, asked_handle, answered, with_id, contents, AreBytes, FitsString, FitsTwo, FitsPair, FitsPairs, FitsCounted, FitsAttrs, FitsNameItem, FitsNames, FitsAsk, FitsAnswer, FitsFields};
+ghost use Rattle.sftp_wire.specs.Spelling.{uint32, uint64, two_uint32, string, pair, pairs, counted_pairs, optional, attributes, name_item, names, ask_parts, asked_handle, answer_parts, with_id, contents, AreBytes, FitsString, FitsTwo, FitsPair, FitsPairs, FitsCounted, FitsAttrs, FitsNameItem, FitsNames, FitsAsk, FitsAnswer, FitsFields};
 
 use crate::attributes::Attrs;
 use crate::extensions::{FSYNC, HARDLINK, POSIX_RENAME};
@@ -160,8 +160,8 @@ fn names_length(items: &Names) -> usize
 /// The bytes of what is asked through a handle, behind the request's id.
 fn asked_on_handle_length(ask: &Ask) -> usize
     requires { IsSome (asked_handle ask.now) }
-    ensures exact { result ≡ min (length ((asked ask.now).1)) (2 ^ 64 - 1) }
-    ensures fits { length ((asked ask.now).1) < 2 ^ 32 → FitsAsk ask.now }
+    ensures exact { result ≡ min (length ((ask_parts ask.now).1)) (2 ^ 64 - 1) }
+    ensures fits { length ((ask_parts ask.now).1) < 2 ^ 32 → FitsAsk ask.now }
 {
     match ask {
         Ask::Close { handle } | Ask::Fstat { handle } | Ask::Readdir { handle } => {
@@ -187,8 +187,8 @@ fn asked_on_handle_length(ask: &Ask) -> usize
 
 /// The bytes of what is asked, behind the request's id.
 fn asked_length(ask: &Ask) -> usize
-    ensures exact { result ≡ min (length ((asked ask.now).1)) (2 ^ 64 - 1) }
-    ensures fits { length ((asked ask.now).1) < 2 ^ 32 → FitsAsk ask.now }
+    ensures exact { result ≡ min (length ((ask_parts ask.now).1)) (2 ^ 64 - 1) }
+    ensures fits { length ((ask_parts ask.now).1) < 2 ^ 32 → FitsAsk ask.now }
 {
     match ask {
         Ask::Lstat { path }
@@ -224,8 +224,8 @@ fn asked_length(ask: &Ask) -> usize
 
 /// The bytes of what is answered, behind the id.
 fn answered_length(answer: &Answer) -> usize
-    ensures exact { result ≡ min (length ((answered answer.now).1)) (2 ^ 64 - 1) }
-    ensures fits { length ((answered answer.now).1) < 2 ^ 32 → FitsAnswer answer.now }
+    ensures exact { result ≡ min (length ((answer_parts answer.now).1)) (2 ^ 64 - 1) }
+    ensures fits { length ((answer_parts answer.now).1) < 2 ^ 32 → FitsAnswer answer.now }
 {
     match answer {
         Answer::Status {

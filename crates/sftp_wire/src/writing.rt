@@ -2,12 +2,13 @@
 //! after an error: `encode` takes it away.
 ghost use Rattle.std.specs.Prelude.{◌≡◌, ◌∷◌, ◌++◌, ◌<◌, ◌^◌, ◌↔◌, ◌⊎◌, length, IsSome, OnOk, OnErr, IfErr, IsErrOf};
 ghost use Rattle.std.specs.List.{flat_map};
-ghost use Rattle.sftp_wire.specs.Spelling.{uint32, uint64, two_uint32, string, pair, pairs, counted_pairs, optional, attribute_flags, attribute_fields, attributes, name_item, names, asked, asked_handle, answered, with_id, contents, spelling, HasSpelling};
+ghost use Rattle.sftp_wire.specs.Spelling.{uint32, uint64, two_uint32, string, pair, pairs, counted_pairs, optional, attribute_flags, attribute_fields, attributes, name_item, names, ask_parts, asked_handle, answer_parts, with_id, contents, spelling, HasSpelling};
 ghost use Rattle.sftp_wire.specs.Writing.{Extends, IsTooLong, IsNotCanonical};
 
 use crate::attributes::{AttrFlags, Attrs};
 use crate::errors::WireError;
-use crate::extensions::{FSYNC, HARDLINK, POSIX_RENAME};
+use crate::extensions::{FSYNC, HARDLINK, POSIX_RENAME, hides_extension};
+use crate::handles::has_long_handle;
 use crate::measuring::contents_length;
 use crate::names::{NameItem, Names};
 use crate::packets::{
@@ -15,7 +16,6 @@ use crate::packets::{
     LSTAT, MKDIR, NAME, OPEN, OPENDIR, PACKET_LIMIT, Packet, READ, READDIR, READLINK, REALPATH,
     REMOVE, RENAME, RMDIR, SETSTAT, STAT, STATUS, SYMLINK, VERSION, WRITE,
 };
-use crate::refusing::{has_long_handle, hides_extension};
 use crate::strings::{ByteString, Pairs};
 use bitflags::Flags;
 use bytes::BufMut;
@@ -391,7 +391,7 @@ fn put_unknown(out: &mut Vec<u8>, name: &ByteString, rest: &ByteString) -> Resul
 
 /// The type of a request's packet.
 fn asked_type(ask: &Ask) -> u8
-    ensures { result ≡ (asked ask.now).0 }
+    ensures { result ≡ (ask_parts ask.now).0 }
 {
     match ask {
         Ask::Open { .. } => OPEN,
@@ -420,8 +420,8 @@ fn asked_type(ask: &Ask) -> u8
 /// What is asked through a handle, behind the request's id.
 fn put_fields_on_handle(out: &mut Vec<u8>, ask: &Ask) -> Result<(), AllocError>
     requires on_handle { IsSome (asked_handle ask.now) }
-    requires within { length ((asked ask.now).1) < 2 ^ 32 }
-    ensures ok { OnOk result (out.new.items ≡ out.old.items ++ (asked ask.now).1) }
+    requires within { length ((ask_parts ask.now).1) < 2 ^ 32 }
+    ensures ok { OnOk result (out.new.items ≡ out.old.items ++ (ask_parts ask.now).1) }
     ensures err { OnErr result (Extends out.old.items out.new.items) }
 {
     match ask {
@@ -446,8 +446,8 @@ fn put_fields_on_handle(out: &mut Vec<u8>, ask: &Ask) -> Result<(), AllocError>
 
 /// What is asked, behind the request's id.
 fn put_ask_fields(out: &mut Vec<u8>, ask: &Ask) -> Result<(), AllocError>
-    requires { length ((asked ask.now).1) < 2 ^ 32 }
-    ensures ok { OnOk result (out.new.items ≡ out.old.items ++ (asked ask.now).1) }
+    requires { length ((ask_parts ask.now).1) < 2 ^ 32 }
+    ensures ok { OnOk result (out.new.items ≡ out.old.items ++ (ask_parts ask.now).1) }
     ensures err { OnErr result (Extends out.old.items out.new.items) }
 {
     match ask {
@@ -483,8 +483,8 @@ fn put_ask_fields(out: &mut Vec<u8>, ask: &Ask) -> Result<(), AllocError>
 }
 
 fn put_asked(out: &mut Vec<u8>, id: u32, ask: &Ask) -> Result<(), AllocError>
-    requires { length (with_id id (asked ask.now)) < 2 ^ 32 }
-    ensures ok { OnOk result (out.new.items ≡ out.old.items ++ with_id id (asked ask.now)) }
+    requires { length (with_id id (ask_parts ask.now)) < 2 ^ 32 }
+    ensures ok { OnOk result (out.new.items ≡ out.old.items ++ with_id id (ask_parts ask.now)) }
     ensures err { OnErr result (Extends out.old.items out.new.items) }
 {
     put_type_and_id(out, asked_type(ask), id)?;
@@ -494,7 +494,7 @@ fn put_asked(out: &mut Vec<u8>, id: u32, ask: &Ask) -> Result<(), AllocError>
 
 /// The type of a reply's packet.
 fn answered_type(answer: &Answer) -> u8
-    ensures { result ≡ (answered answer.now).0 }
+    ensures { result ≡ (answer_parts answer.now).0 }
 {
     match answer {
         Answer::Status { .. } => STATUS,
@@ -508,8 +508,8 @@ fn answered_type(answer: &Answer) -> u8
 
 /// What is answered, behind the id.
 fn put_answer_fields(out: &mut Vec<u8>, answer: &Answer) -> Result<(), AllocError>
-    requires { length ((answered answer.now).1) < 2 ^ 32 }
-    ensures ok { OnOk result (out.new.items ≡ out.old.items ++ (answered answer.now).1) }
+    requires { length ((answer_parts answer.now).1) < 2 ^ 32 }
+    ensures ok { OnOk result (out.new.items ≡ out.old.items ++ (answer_parts answer.now).1) }
     ensures err { OnErr result (Extends out.old.items out.new.items) }
 {
     match answer {
@@ -530,8 +530,8 @@ fn put_answer_fields(out: &mut Vec<u8>, answer: &Answer) -> Result<(), AllocErro
 }
 
 fn put_answered(out: &mut Vec<u8>, id: u32, answer: &Answer) -> Result<(), AllocError>
-    requires { length (with_id id (answered answer.now)) < 2 ^ 32 }
-    ensures ok { OnOk result (out.new.items ≡ out.old.items ++ with_id id (answered answer.now)) }
+    requires { length (with_id id (answer_parts answer.now)) < 2 ^ 32 }
+    ensures ok { OnOk result (out.new.items ≡ out.old.items ++ with_id id (answer_parts answer.now)) }
     ensures err { OnErr result (Extends out.old.items out.new.items) }
 {
     put_type_and_id(out, answered_type(answer), id)?;
