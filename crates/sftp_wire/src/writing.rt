@@ -1,8 +1,8 @@
 //! Packets as bytes (draft, sections 3 to 8). A private function may leave part of what it writes behind
 //! after an error: `encode` takes it away.
-ghost use Rattle.std.specs.Prelude.{◌≡◌, ◌∷◌, ◌++◌, ◌<◌, ◌^◌, ◌↔◌, ◌⊎◌, length, IsSome, OnOk, OnErr, IfErr, IsErrOf};
+ghost use Rattle.std.specs.Prelude.{◌≡◌, ◌∷◌, ◌++◌, ◌<◌, ◌^◌, ◌↔◌, ◌⊎◌, length, OnOk, OnErr, IfErr, IsErrOf};
 ghost use Rattle.std.specs.List.{flat_map};
-ghost use Rattle.sftp_wire.specs.Spelling.{uint32, uint64, two_uint32, string, pair, pairs, counted_pairs, optional, attribute_flags, attribute_fields, attributes, name_item, names, ask_parts, asked_handle, answer_parts, with_id, contents, spelling, HasSpelling};
+ghost use Rattle.sftp_wire.specs.Spelling.{uint32, uint64, two_uint32, string, pair, pairs, counted_pairs, optional, attribute_flags, attribute_fields, attributes, name_item, names, ask_parts, answer_parts, with_id, contents, spelling, HasSpelling};
 ghost use Rattle.sftp_wire.specs.Writing.{Extends, IsTooLong, IsNotCanonical};
 
 use crate::attributes::{AttrFlags, Attrs};
@@ -21,18 +21,26 @@ use bitflags::Flags;
 use bytes::BufMut;
 use std::alloc::AllocError;
 
+/// The length of a string, and its bytes.
+fn put_bytes(out: &mut Vec<u8>, bytes: &[u8]) -> Result<(), AllocError>
+    requires { length (string bytes.now) < 2 ^ 32 }
+    ensures ok { OnOk result (out.new.items ≡ out.old.items ++ string bytes.now) }
+    ensures err { OnErr result (Extends out.old.items out.new.items) }
+{
+    out.put_u32(bytes.len() as u32)?;
+    // A copy of no bytes would still be a call.
+    if !bytes.is_empty() {
+        out.put_slice(bytes)?;
+    }
+    Ok(())
+}
+
 fn put_string(out: &mut Vec<u8>, text: &ByteString) -> Result<(), AllocError>
     requires { length (string text.now) < 2 ^ 32 }
     ensures ok { OnOk result (out.new.items ≡ out.old.items ++ string text.now) }
     ensures err { OnErr result (Extends out.old.items out.new.items) }
 {
-    let bytes = text.as_slice();
-    out.put_u32(bytes.len() as u32)?;
-    // A copy of no bytes would be a call all the same.
-    if !bytes.is_empty() {
-        out.put_slice(bytes)?;
-    }
-    Ok(())
+    put_bytes(out, text.as_slice())
 }
 
 fn put_two_strings(
@@ -174,36 +182,30 @@ fn put_attributes(out: &mut Vec<u8>, attrs: &Attrs) -> Result<(), AllocError>
     Ok(())
 }
 
-fn put_init(out: &mut Vec<u8>, version: u32, extensions: &Pairs) -> Result<(), AllocError>
-    requires { length (contents (Packet.Init version extensions.now)) < 2 ^ 32 }
-    ensures ok { OnOk result (out.new.items
-        ≡ out.old.items ++ contents (Packet.Init version extensions.now)) }
-    ensures err { OnErr result (Extends out.old.items out.new.items) }
-{
-    out.put_u8(INIT)?;
-    out.put_u32(version)?;
-    put_pairs(out, extensions)?;
-    Ok(())
-}
-
-fn put_version(out: &mut Vec<u8>, version: u32, extensions: &Pairs) -> Result<(), AllocError>
-    requires { length (contents (Packet.Version version extensions.now)) < 2 ^ 32 }
-    ensures ok { OnOk result (out.new.items
-        ≡ out.old.items ++ contents (Packet.Version version extensions.now)) }
-    ensures err { OnErr result (Extends out.old.items out.new.items) }
-{
-    out.put_u8(VERSION)?;
-    out.put_u32(version)?;
-    put_pairs(out, extensions)?;
-    Ok(())
-}
-
-fn put_type_and_id(out: &mut Vec<u8>, kind: u8, id: u32) -> Result<(), AllocError>
-    ensures ok { OnOk result (out.new.items ≡ out.old.items ++ (kind ∷ uint32 id)) }
+/// The type of a packet, and the number behind it: a version or an id.
+fn put_type_and_number(out: &mut Vec<u8>, kind: u8, number: u32) -> Result<(), AllocError>
+    ensures ok { OnOk result (out.new.items ≡ out.old.items ++ (kind ∷ uint32 number)) }
     ensures err { OnErr result (Extends out.old.items out.new.items) }
 {
     out.put_u8(kind)?;
-    out.put_u32(id)?;
+    out.put_u32(number)?;
+    Ok(())
+}
+
+/// INIT or VERSION.
+fn put_first_packet(
+    out: &mut Vec<u8>,
+    kind: u8,
+    version: u32,
+    extensions: &Pairs,
+) -> Result<(), AllocError>
+    requires { length (kind ∷ uint32 version ++ pairs extensions.now) < 2 ^ 32 }
+    ensures ok { OnOk result (out.new.items
+        ≡ out.old.items ++ (kind ∷ uint32 version ++ pairs extensions.now)) }
+    ensures err { OnErr result (Extends out.old.items out.new.items) }
+{
+    put_type_and_number(out, kind, version)?;
+    put_pairs(out, extensions)?;
     Ok(())
 }
 
@@ -338,17 +340,6 @@ fn put_names(out: &mut Vec<u8>, items: &Names) -> Result<(), AllocError>
     Ok(())
 }
 
-/// The name of an extension.
-fn put_extension_name(out: &mut Vec<u8>, name: &[u8]) -> Result<(), AllocError>
-    requires { length name.now < 2 ^ 32 }
-    ensures ok { OnOk result (out.new.items ≡ out.old.items ++ string name.now) }
-    ensures err { OnErr result (Extends out.old.items out.new.items) }
-{
-    out.put_u32(name.len() as u32)?;
-    out.put_slice(name)?;
-    Ok(())
-}
-
 fn put_two_paths_extension(
     out: &mut Vec<u8>,
     name: &[u8],
@@ -360,7 +351,7 @@ fn put_two_paths_extension(
         ≡ out.old.items ++ (string name.now ++ pair (oldpath.now, newpath.now))) }
     ensures err { OnErr result (Extends out.old.items out.new.items) }
 {
-    put_extension_name(out, name)?;
+    put_bytes(out, name)?;
     put_two_strings(out, oldpath, newpath)?;
     Ok(())
 }
@@ -374,7 +365,7 @@ fn put_handle_extension(
     ensures ok { OnOk result (out.new.items ≡ out.old.items ++ (string name.now ++ string handle.now)) }
     ensures err { OnErr result (Extends out.old.items out.new.items) }
 {
-    put_extension_name(out, name)?;
+    put_bytes(out, name)?;
     put_string(out, handle)?;
     Ok(())
 }
@@ -417,17 +408,34 @@ fn asked_type(ask: &Ask) -> u8
     }
 }
 
-/// What is asked through a handle, behind the request's id.
-fn put_fields_on_handle(out: &mut Vec<u8>, ask: &Ask) -> Result<(), AllocError>
-    requires on_handle { IsSome (asked_handle ask.now) }
-    requires within { length ((ask_parts ask.now).1) < 2 ^ 32 }
+/// The fields behind the id of a request.
+fn put_ask_fields(out: &mut Vec<u8>, ask: &Ask) -> Result<(), AllocError>
+    requires { length ((ask_parts ask.now).1) < 2 ^ 32 }
     ensures ok { OnOk result (out.new.items ≡ out.old.items ++ (ask_parts ask.now).1) }
     ensures err { OnErr result (Extends out.old.items out.new.items) }
 {
     match ask {
-        Ask::Close { handle } | Ask::Fstat { handle } | Ask::Readdir { handle } => {
-            put_string(out, handle)
-        }
+        Ask::Lstat { path: text }
+        | Ask::Opendir { path: text }
+        | Ask::Remove { path: text }
+        | Ask::Rmdir { path: text }
+        | Ask::Realpath { path: text }
+        | Ask::Stat { path: text }
+        | Ask::Readlink { path: text }
+        | Ask::Close { handle: text }
+        | Ask::Fstat { handle: text }
+        | Ask::Readdir { handle: text } => put_string(out, text),
+        Ask::Setstat { path: text, attrs }
+        | Ask::Mkdir { path: text, attrs }
+        | Ask::Fsetstat {
+            handle: text,
+            attrs,
+        } => put_string_and_attributes(out, text, attrs),
+        Ask::Open {
+            path,
+            pflags,
+            attrs,
+        } => put_open_fields(out, path, *pflags, attrs),
         Ask::Read {
             handle,
             offset,
@@ -438,34 +446,6 @@ fn put_fields_on_handle(out: &mut Vec<u8>, ask: &Ask) -> Result<(), AllocError>
             offset,
             bytes,
         } => put_write_fields(out, handle, *offset, bytes),
-        Ask::Fsetstat { handle, attrs } => put_string_and_attributes(out, handle, attrs),
-        Ask::Fsync { handle } => put_handle_extension(out, FSYNC, handle),
-        _ => unreachable!(),
-    }
-}
-
-/// What is asked, behind the request's id.
-fn put_ask_fields(out: &mut Vec<u8>, ask: &Ask) -> Result<(), AllocError>
-    requires { length ((ask_parts ask.now).1) < 2 ^ 32 }
-    ensures ok { OnOk result (out.new.items ≡ out.old.items ++ (ask_parts ask.now).1) }
-    ensures err { OnErr result (Extends out.old.items out.new.items) }
-{
-    match ask {
-        Ask::Lstat { path }
-        | Ask::Opendir { path }
-        | Ask::Remove { path }
-        | Ask::Rmdir { path }
-        | Ask::Realpath { path }
-        | Ask::Stat { path }
-        | Ask::Readlink { path } => put_string(out, path),
-        Ask::Open {
-            path,
-            pflags,
-            attrs,
-        } => put_open_fields(out, path, *pflags, attrs),
-        Ask::Setstat { path, attrs } | Ask::Mkdir { path, attrs } => {
-            put_string_and_attributes(out, path, attrs)
-        }
         Ask::Rename { oldpath, newpath } => put_two_strings(out, oldpath, newpath),
         Ask::Symlink {
             targetpath,
@@ -477,8 +457,8 @@ fn put_ask_fields(out: &mut Vec<u8>, ask: &Ask) -> Result<(), AllocError>
         Ask::Hardlink { oldpath, newpath } => {
             put_two_paths_extension(out, HARDLINK, oldpath, newpath)
         }
+        Ask::Fsync { handle } => put_handle_extension(out, FSYNC, handle),
         Ask::Unknown { name, rest } => put_unknown(out, name, rest),
-        _ => put_fields_on_handle(out, ask),
     }
 }
 
@@ -487,7 +467,7 @@ fn put_asked(out: &mut Vec<u8>, id: u32, ask: &Ask) -> Result<(), AllocError>
     ensures ok { OnOk result (out.new.items ≡ out.old.items ++ with_id id (ask_parts ask.now)) }
     ensures err { OnErr result (Extends out.old.items out.new.items) }
 {
-    put_type_and_id(out, asked_type(ask), id)?;
+    put_type_and_number(out, asked_type(ask), id)?;
     put_ask_fields(out, ask)?;
     Ok(())
 }
@@ -506,7 +486,7 @@ fn answered_type(answer: &Answer) -> u8
     }
 }
 
-/// What is answered, behind the id.
+/// The fields behind the id of a reply.
 fn put_answer_fields(out: &mut Vec<u8>, answer: &Answer) -> Result<(), AllocError>
     requires { length ((answer_parts answer.now).1) < 2 ^ 32 }
     ensures ok { OnOk result (out.new.items ≡ out.old.items ++ (answer_parts answer.now).1) }
@@ -534,7 +514,7 @@ fn put_answered(out: &mut Vec<u8>, id: u32, answer: &Answer) -> Result<(), Alloc
     ensures ok { OnOk result (out.new.items ≡ out.old.items ++ with_id id (answer_parts answer.now)) }
     ensures err { OnErr result (Extends out.old.items out.new.items) }
 {
-    put_type_and_id(out, answered_type(answer), id)?;
+    put_type_and_number(out, answered_type(answer), id)?;
     put_answer_fields(out, answer)?;
     Ok(())
 }
@@ -548,11 +528,11 @@ fn put_contents(out: &mut Vec<u8>, packet: &Packet) -> Result<(), AllocError>
         Packet::Init {
             version,
             extensions,
-        } => put_init(out, *version, extensions),
+        } => put_first_packet(out, INIT, *version, extensions),
         Packet::Version {
             version,
             extensions,
-        } => put_version(out, *version, extensions),
+        } => put_first_packet(out, VERSION, *version, extensions),
         Packet::Request(request) => put_asked(out, request.id, &request.ask),
         Packet::Reply(reply) => put_answered(out, reply.id, &reply.answer),
     }
