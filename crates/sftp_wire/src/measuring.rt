@@ -61,7 +61,7 @@ fn pairs_length(extensions: &Pairs) -> usize
     total
 }
 
-#[tactic(auto, using(crate::proofs::Appending::length_pairs))]
+#[tactic(auto, using(crate::proofs::FieldLaws::Lengths::length_pairs))]
 fn counted_pairs_length(extensions: &Pairs) -> usize
     ensures exact { result ≡ min (length (counted_pairs extensions.now)) (2 ^ 64 - 1) }
     ensures fits { length (counted_pairs extensions.now) < 2 ^ 32 → FitsCounted extensions.now }
@@ -149,7 +149,7 @@ fn name_items_length(items: &Names) -> usize
     total
 }
 
-#[tactic(auto, using(crate::proofs::Appending::length_names))]
+#[tactic(auto, using(crate::proofs::FieldLaws::Lengths::length_names))]
 fn names_length(items: &Names) -> usize
     ensures exact { result ≡ min (length (names items.now)) (2 ^ 64 - 1) }
     ensures fits { length (names items.now) < 2 ^ 32 → FitsNames items.now }

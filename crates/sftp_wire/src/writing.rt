@@ -68,7 +68,7 @@ fn put_pairs(out: &mut Vec<u8>, extensions: &Pairs) -> Result<(), AllocError>
     Ok(())
 }
 
-#[tactic(auto, using(crate::proofs::Appending::length_pairs))]
+#[tactic(auto, using(crate::proofs::FieldLaws::Lengths::length_pairs))]
 fn put_counted_pairs(out: &mut Vec<u8>, extended: &Pairs) -> Result<(), AllocError>
     requires { length (counted_pairs extended.now) < 2 ^ 32 }
     ensures ok { OnOk result (out.new.items ≡ out.old.items ++ counted_pairs extended.now) }
@@ -329,7 +329,7 @@ fn put_name_items(out: &mut Vec<u8>, items: &Names) -> Result<(), AllocError>
     Ok(())
 }
 
-#[tactic(auto, using(crate::proofs::Appending::length_names))]
+#[tactic(auto, using(crate::proofs::FieldLaws::Lengths::length_names))]
 fn put_names(out: &mut Vec<u8>, items: &Names) -> Result<(), AllocError>
     requires { length (names items.now) < 2 ^ 32 }
     ensures ok { OnOk result (out.new.items ≡ out.old.items ++ names items.now) }

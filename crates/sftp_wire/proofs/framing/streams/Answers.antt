@@ -1,4 +1,4 @@
-use Rattle.sftp_wire.proofs.FramingLaws.{stream_is_kept, nothing_is_told, nothing_is_given, fault_stands, fault_takes_none, spelled_is_lent, held_within, waiting_has_room}
+use Rattle.sftp_wire.proofs.StreamLaws.Buffer.{stream_is_kept, nothing_is_told, nothing_is_given, fault_stands, fault_takes_none, spelled_is_lent, held_within, waiting_has_room}
 use Rattle.sftp_wire.proofs.framing.streams.Goals as goal
 
 pub returns-clause-kept : goal.returns-clause-kept

@@ -1,5 +1,5 @@
 -- What a row of the packet table says of a packet: its type, the fields behind it, and what they fit.
-use Rattle.std.proofs.Common.{◌≡◌, ℕ, ◌^◌, ◌<◌, ◌≤◌, false, List, [], ◌∷◌, length, refl}
+use Rattle.std.proofs.Common.{◌≡◌, ℕ, ◌≤◌, false, List, [], ◌∷◌, length, refl}
 use Rattle.std.specs.Prelude.{IfSome}
 use Rattle.sftp_wire.specs.declared.packets.Ask.{Ask}
 use Rattle.sftp_wire.specs.declared.packets.Answer.{Answer}
@@ -36,12 +36,6 @@ contents-parts (Request request) = refl
 contents-parts (Reply reply) = refl
 
 -- ---- what is read behind a type fits
-
-abbrev pub Is32 : ℕ → Type 0
-Is32 n = n < 2 ^ 32
-
-abbrev pub Is64 : ℕ → Type 0
-Is64 n = n < 2 ^ 64
 
 abbrev pub IsSmall : List ℕ → Type 0
 IsSmall handle = length handle ≤ handle_limit

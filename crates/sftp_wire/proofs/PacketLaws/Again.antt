@@ -14,13 +14,13 @@ use Rattle.sftp_wire.specs.declared.packets.Side.{Side}
 use Rattle.sftp_wire.specs.declared.packets.Side.TheVariants.{Client, Server}
 use Rattle.sftp_wire.specs.Spelling.{uint32, uint64, string, pairs, attributes, names, ask_parts, answer_parts, with_id, contents, side_of, asked_handle, answered_handle, asks_known, FitsString, FitsPairs, FitsAttrs, FitsAsk, FitsAnswer, HasSpelling}
 use Rattle.sftp_wire.specs.Reading.{Reader, one, two, three, uint32_at, uint64_at, string_at, handle_at, rest_at, pairs_at, attributes_at, names_at, extension_at, request_at, reply_at, client_packet_at, server_packet_at, packet_at, packet_of}
-use Rattle.sftp_wire.proofs.ReaderLaws.{one_again, two_again, three_again}
-use Rattle.sftp_wire.proofs.FieldLaws.{FitsHandle, uint32_again, uint64_again, string_again, handle_again, rest_again}
-use Rattle.sftp_wire.proofs.PairLaws.{pairs_again}
-use Rattle.sftp_wire.proofs.AttributeLaws.{attributes_again}
-use Rattle.sftp_wire.proofs.NameLaws.{names_again}
-use Rattle.sftp_wire.proofs.PacketRows.{IsSmall}
-use Rattle.sftp_wire.proofs.ExtensionLaws.{posix_rename_again, hardlink_again, fsync_again, unknown_again}
+use Rattle.sftp_wire.proofs.Readers.Combined.{one_again, two_again, three_again}
+use Rattle.sftp_wire.proofs.FieldLaws.Strings.{FitsHandle, uint32_again, uint64_again, string_again, handle_again, rest_again}
+use Rattle.sftp_wire.proofs.FieldLaws.Pairs.{pairs_again}
+use Rattle.sftp_wire.proofs.FieldLaws.Attributes.{attributes_again}
+use Rattle.sftp_wire.proofs.FieldLaws.Names.{names_again}
+use Rattle.sftp_wire.proofs.PacketLaws.Rows.{IsSmall}
+use Rattle.sftp_wire.proofs.PacketLaws.Extensions.{posix_rename_again, hardlink_again, fsync_again, unknown_again}
 
 ends : (side : Side) (kind : ℕ) (body : List ℕ) (packet : Packet) → packet_at side kind body ≡ Ok (packet, []) → packet_of side (kind ∷ body) ≡ Ok packet
 unfolding packet_of

@@ -1,5 +1,5 @@
 -- A stream of packets that comes in pieces: what a step takes in and gives out.
-use Rattle.std.proofs.Common.{◌≡◌, ℕ, zero, suc, ◌+◌, ◌-◌, ◌<◌, ◌≤◌, ◌⊎◌, inl, inr, Bool, true, false, List, [], ◌∷◌, ◌++◌, length, take, drop, Option, Some, None, Result, Ok, Err, refl, sym, ap, subst, ◌∙◌, append_assoc, append-nil, arith}
+use Rattle.std.proofs.Common.{◌≡◌, ℕ, ◌-◌, ◌<◌, ◌≤◌, ◌⊎◌, inl, inr, Bool, true, false, List, [], ◌∷◌, ◌++◌, length, take, drop, Option, Some, None, Result, Ok, Err, refl, sym, ap, subst, ◌∙◌, append_assoc, append-nil, arith}
 use Rattle.std.specs.Prelude.{min, if◌then◌else◌, is_some}
 use Rattle.std.proofs.Math.Nat.{zero-min}
 use Rattle.std.proofs.lemmas.List.{length-append, length-take, length-drop}
@@ -11,20 +11,8 @@ use Rattle.sftp_wire.specs.declared.packets.Side.{Side}
 use Rattle.sftp_wire.specs.Spelling.{packet_limit, spelling, AreBytes, HasSpelling}
 use Rattle.sftp_wire.specs.Reading.{front_of}
 use Rattle.sftp_wire.specs.Framing.{Frames, Step, Push, Next, IsStep, AreSteps, no_frames, room_of, front_unless, told_of, outcome_of, push_of, bytes_in, bytes_out, all_in, all_out, whole_of}
-use Rattle.sftp_wire.proofs.Numbers.{IsBytes, IsBytes-take, IsBytes-drop}
-use Rattle.sftp_wire.proofs.FrontLaws.{front_takes, begins_with, none-leaves_room}
-
--- ---- bytes
-
-places : (bytes : List ℕ) → AreBytes bytes → IsBytes bytes
-places [] fits i = omega arith
-places (b ∷ bytes) fits zero = fits.0
-places (b ∷ bytes) fits (suc i) = places bytes fits.1 i
-
-IsBytes-append : (xs ys : List ℕ) → IsBytes xs → IsBytes ys → IsBytes (xs ++ ys)
-IsBytes-append [] ys p q i = q i
-IsBytes-append (x ∷ xs) ys p q zero = p 0
-IsBytes-append (x ∷ xs) ys p q (suc i) = IsBytes-append xs ys (λ j. p (suc j)) q i
+use Rattle.sftp_wire.proofs.Bytes.Numbers.{IsBytes, IsBytes-take, IsBytes-drop, IsBytes-append, IsBytes-from_all}
+use Rattle.sftp_wire.proofs.StreamLaws.Front.{front_takes, begins_with, none-leaves_room}
 
 -- ---- what a step keeps
 
@@ -51,7 +39,7 @@ push_keeps s bytes taken t fits more e =
     let held : t.held ≡ s.held ++ take (push_of s bytes).0 bytes = ap (λ (p : ℕ × Frames). p.1.held) e in
     let same : t.held ≡ s.held ++ take taken bytes = held ∙ ap (λ (n : ℕ). s.held ++ take n bytes) (sym count) in
     record {
-      are_bytes = subst IsBytes (sym same) (IsBytes-append s.held (take taken bytes) fits (IsBytes-take taken bytes (places bytes more)));
+      are_bytes = subst IsBytes (sym same) (IsBytes-append s.held (take taken bytes) fits (IsBytes-take taken bytes (IsBytes-from_all bytes more)));
       parts = same;
     }
 

@@ -14,11 +14,11 @@ use Rattle.sftp_wire.specs.declared.packets.Side.{Side}
 use Rattle.sftp_wire.specs.declared.packets.Side.TheVariants.{Client, Server}
 use Rattle.sftp_wire.specs.Spelling.{uint32, contents, spelling, side_of, packet_limit, HasSpelling}
 use Rattle.sftp_wire.specs.Reading.{◌>>=◌, IsReading, StandsInFront, packet_of, front_of}
-use Rattle.sftp_wire.proofs.Numbers.{IsBytes, IsBytes-take, IsBytes-drop, wide32}
-use Rattle.sftp_wire.proofs.Steps.{bind_ok, guard_ok, ok_is}
-use Rattle.sftp_wire.proofs.PacketRows.{contents-parts}
-use Rattle.sftp_wire.proofs.PacketLaws.{packet_of_takes}
-use Rattle.sftp_wire.proofs.PacketAgain.{packet_of_again, server_packets_refused}
+use Rattle.sftp_wire.proofs.Bytes.Numbers.{IsBytes, IsBytes-take, IsBytes-drop, wide32}
+use Rattle.sftp_wire.proofs.Readers.Steps.{bind_ok, guard_ok, ok_is}
+use Rattle.sftp_wire.proofs.PacketLaws.Rows.{contents-parts}
+use Rattle.sftp_wire.proofs.PacketLaws.Spelled.{packet_of_takes}
+use Rattle.sftp_wire.proofs.PacketLaws.Again.{packet_of_again, server_packets_refused}
 
 -- a test that gives nothing where it holds, and did not
 guard_none : {A : Type 0} (test : Bool) (read : Result (Option A) Fault) (x : A) → cond test (Ok None) read ≡ Ok (Some x) → (test ≡ false) × (read ≡ Ok (Some x))
