@@ -1,7 +1,7 @@
 -- Flags that are set one after the other add up.
 use Rattle.std.proofs.Common.{◌≡◌, ℕ, ◌+◌, Bool, true, false, ◌&&◌, ◌==◌, cond, Option, Some, None, is_some, refl, ◌∙◌}
 use Rattle.std.specs.Int.RustNames.{bit_or}
-use Rattle.std.proofs.lemmas.Bool.{eqb-true}
+use Rattle.std.proofs.lemmas.Bool.{eqb-true, and_parts}
 use Rattle.bitflags.specs.Sets.{without}
 use Rattle.sftp_wire.specs.declared.attributes.Attrs.{Attrs}
 use Rattle.sftp_wire.specs.Spelling.{flag, attribute_flags}
@@ -14,17 +14,9 @@ with_flag bits bit there = cond there (bit_or bits bit) (without 32 bits bit)
 abbrev every : (Bool → Bool) → Bool
 every p = p true && p false
 
-and_left : (a b : Bool) → (a && b) ≡ true → a ≡ true
-and_left true b e = refl
-and_left false b e = e
-
-and_right : (a b : Bool) → (a && b) ≡ true → b ≡ true
-and_right true b e = e
-and_right false b e = cc
-
 every-at : (p : Bool → Bool) → every p ≡ true → (b : Bool) → p b ≡ true
-every-at p e true = and_left (p true) (p false) e
-every-at p e false = and_right (p true) (p false) e
+every-at p e true = (and_parts (p true) (p false) e).0
+every-at p e false = (and_parts (p true) (p false) e).1
 
 abbrev all_flags : Bool → Bool → Bool → Bool → Bool → ℕ
 all_flags a b c d e = with_flag (with_flag (with_flag (with_flag (with_flag 0 0x1 a) 0x2 b) 0x4 c) 0x8 d) 0x80000000 e

@@ -1,7 +1,8 @@
 -- Packets behind their length: what is spelled so is read again. One more row of the packet table is one more line.
-use Rattle.std.proofs.Common.{◌≡◌, ℕ, ◌^◌, ◌<◌, false, List, [], ◌∷◌, ◌++◌, Ok, refl, sym, ap, ◌∙◌}
+use Rattle.std.proofs.Common.{◌≡◌, ℕ, ◌^◌, ◌<◌, false, List, [], ◌∷◌, ◌++◌, Ok, Err, refl, sym, ap, ◌∙◌}
 use Rattle.std.specs.Prelude.{IfSome}
 use Rattle.std.proofs.lemmas.List.{append-nil}
+use Rattle.sftp_wire.specs.declared.errors.Fault.TheVariants.{WrongType}
 use Rattle.sftp_wire.specs.declared.attributes.Attrs.{Attrs}
 use Rattle.sftp_wire.specs.declared.packets.Ask.{Ask}
 use Rattle.sftp_wire.specs.declared.packets.Ask.TheVariants as asks
@@ -11,15 +12,15 @@ use Rattle.sftp_wire.specs.declared.packets.Packet.{Packet}
 use Rattle.sftp_wire.specs.declared.packets.Packet.TheVariants.{Init, Version, Request, Reply}
 use Rattle.sftp_wire.specs.declared.packets.Side.{Side}
 use Rattle.sftp_wire.specs.declared.packets.Side.TheVariants.{Client, Server}
-use Rattle.sftp_wire.specs.Spelling.{uint32, uint64, string, pairs, attributes, names, asked, answered, with_id, contents, side_of, asked_handle, answered_handle, asks_known, FitsString, FitsPairs, FitsAttrs, FitsAsk, FitsAnswer, HasSpelling}
+use Rattle.sftp_wire.specs.Spelling.{uint32, uint64, string, pairs, attributes, names, ask_parts, answer_parts, with_id, contents, side_of, asked_handle, answered_handle, asks_known, FitsString, FitsPairs, FitsAttrs, FitsAsk, FitsAnswer, HasSpelling}
 use Rattle.sftp_wire.specs.Reading.{Reader, one, two, three, uint32_at, uint64_at, string_at, handle_at, rest_at, pairs_at, attributes_at, names_at, extension_at, request_at, reply_at, client_packet_at, server_packet_at, packet_at, packet_of}
-use Rattle.sftp_wire.proofs.ReaderLaws.{one_again, two_again, three_again}
-use Rattle.sftp_wire.proofs.FieldLaws.{FitsHandle, uint32_again, uint64_again, string_again, handle_again, rest_again}
-use Rattle.sftp_wire.proofs.PairLaws.{pairs_again}
-use Rattle.sftp_wire.proofs.AttributeLaws.{attributes_again}
-use Rattle.sftp_wire.proofs.NameLaws.{names_again}
-use Rattle.sftp_wire.proofs.PacketRows.{IsSmall}
-use Rattle.sftp_wire.proofs.ExtensionLaws.{posix_rename_again, hardlink_again, fsync_again, unknown_again}
+use Rattle.sftp_wire.proofs.Readers.Combined.{one_again, two_again, three_again}
+use Rattle.sftp_wire.proofs.FieldLaws.Strings.{FitsHandle, uint32_again, uint64_again, string_again, handle_again, rest_again}
+use Rattle.sftp_wire.proofs.FieldLaws.Pairs.{pairs_again}
+use Rattle.sftp_wire.proofs.FieldLaws.Attributes.{attributes_again}
+use Rattle.sftp_wire.proofs.FieldLaws.Names.{names_again}
+use Rattle.sftp_wire.proofs.PacketLaws.Rows.{IsSmall}
+use Rattle.sftp_wire.proofs.PacketLaws.Extensions.{posix_rename_again, hardlink_again, fsync_again, unknown_again}
 
 ends : (side : Side) (kind : ℕ) (body : List ℕ) (packet : Packet) → packet_at side kind body ≡ Ok (packet, []) → packet_of side (kind ∷ body) ≡ Ok packet
 unfolding packet_of
@@ -48,12 +49,12 @@ path_attrs_again make a b fits = two_again string_at attributes_at make string a
 
 -- ---- requests
 
-request_again : (ask : Reader Ask) (id : ℕ) (a : Ask) → id < 2 ^ 32 → ask ((asked a).1 ++ []) ≡ Ok (a, []) → request_at ask (uint32 id ++ (asked a).1) ≡ Ok (Request (record { id = id; ask = a }), [])
+request_again : (ask : Reader Ask) (id : ℕ) (a : Ask) → id < 2 ^ 32 → ask ((ask_parts a).1 ++ []) ≡ Ok (a, []) → request_at ask (uint32 id ++ (ask_parts a).1) ≡ Ok (Request (record { id = id; ask = a }), [])
 request_again ask id a lt e =
-    ap (request_at ask) (sym (append-nil (uint32 id ++ (asked a).1)))
-    ∙ two_again uint32_at ask (λ id a. Request (record { id = id; ask = a })) uint32 (λ (x : Ask). (asked x).1) id a [] (uint32_again ((asked a).1 ++ []) id lt) e
+    ap (request_at ask) (sym (append-nil (uint32 id ++ (ask_parts a).1)))
+    ∙ two_again uint32_at ask (λ id a. Request (record { id = id; ask = a })) uint32 (λ (x : Ask). (ask_parts x).1) id a [] (uint32_again ((ask_parts a).1 ++ []) id lt) e
 
-asked_again : (id : ℕ) (ask : Ask) → id < 2 ^ 32 → FitsAsk ask → IfSome (asked_handle ask) IsSmall → asks_known ask ≡ false → packet_of Client (with_id id (asked ask)) ≡ Ok (Request (record { id = id; ask = ask }))
+asked_again : (id : ℕ) (ask : Ask) → id < 2 ^ 32 → FitsAsk ask → IfSome (asked_handle ask) IsSmall → asks_known ask ≡ false → packet_of Client (with_id id (ask_parts ask)) ≡ Ok (Request (record { id = id; ask = ask }))
 unfolding client_packet_at
 asked_again id (asks.Open path pflags attrs) lt fits small known = ends Client 3 _ _ (request_again (three string_at uint32_at attributes_at asks.Open) id _ lt (three_again string_at uint32_at attributes_at asks.Open string uint32 attributes path pflags attrs [] (string_again (uint32 pflags ++ (attributes attrs ++ [])) path fits.0) (uint32_again (attributes attrs ++ []) pflags fits.1) (attributes_again [] attrs fits.2)))
 asked_again id (asks.Close handle) lt fits small known = ends Client 4 _ _ (request_again (one handle_at asks.Close) id _ lt (handle_only_again asks.Close handle (fits, small)))
@@ -80,12 +81,12 @@ asked_again id (asks.Unknown name rest) lt fits small known = ends Client 200 _ 
 
 -- ---- replies
 
-reply_again : (answer : Reader Answer) (id : ℕ) (a : Answer) → id < 2 ^ 32 → answer ((answered a).1 ++ []) ≡ Ok (a, []) → reply_at answer (uint32 id ++ (answered a).1) ≡ Ok (Reply (record { id = id; answer = a }), [])
+reply_again : (answer : Reader Answer) (id : ℕ) (a : Answer) → id < 2 ^ 32 → answer ((answer_parts a).1 ++ []) ≡ Ok (a, []) → reply_at answer (uint32 id ++ (answer_parts a).1) ≡ Ok (Reply (record { id = id; answer = a }), [])
 reply_again answer id a lt e =
-    ap (reply_at answer) (sym (append-nil (uint32 id ++ (answered a).1)))
-    ∙ two_again uint32_at answer (λ id a. Reply (record { id = id; answer = a })) uint32 (λ (x : Answer). (answered x).1) id a [] (uint32_again ((answered a).1 ++ []) id lt) e
+    ap (reply_at answer) (sym (append-nil (uint32 id ++ (answer_parts a).1)))
+    ∙ two_again uint32_at answer (λ id a. Reply (record { id = id; answer = a })) uint32 (λ (x : Answer). (answer_parts x).1) id a [] (uint32_again ((answer_parts a).1 ++ []) id lt) e
 
-answered_again : (id : ℕ) (answer : Answer) → id < 2 ^ 32 → FitsAnswer answer → IfSome (answered_handle answer) IsSmall → packet_of Server (with_id id (answered answer)) ≡ Ok (Reply (record { id = id; answer = answer }))
+answered_again : (id : ℕ) (answer : Answer) → id < 2 ^ 32 → FitsAnswer answer → IfSome (answered_handle answer) IsSmall → packet_of Server (with_id id (answer_parts answer)) ≡ Ok (Reply (record { id = id; answer = answer }))
 unfolding server_packet_at
 answered_again id (answers.Status code message language) lt fits small = ends Server 101 _ _ (reply_again (three uint32_at string_at string_at answers.Status) id _ lt (three_again uint32_at string_at string_at answers.Status uint32 string string code message language [] (uint32_again (string message ++ (string language ++ [])) code fits.0) (string_again (string language ++ []) message fits.1) (string_again [] language fits.2)))
 answered_again id (answers.Handle handle) lt fits small = ends Server 102 _ _ (reply_again (one handle_at answers.Handle) id _ lt (one_again handle_at answers.Handle (string handle) handle [] (handle_again [] handle (fits, small))))
@@ -101,3 +102,20 @@ packet_of_again (Init version extensions) has = ends Client 1 _ _ (first_again I
 packet_of_again (Version version extensions) has = ends Server 2 _ _ (first_again Version version extensions has.fields.0 has.fields.1)
 packet_of_again (Request request) has = asked_again request.id request.ask has.fields.0 has.fields.1 has.handle has.canonical
 packet_of_again (Reply reply) has = answered_again reply.id reply.answer has.fields.0 has.fields.1 has.handle
+
+-- a server's packet has a type that a client's packets do not have
+refused_answer : (id : ℕ) (answer : Answer) → packet_of Client (with_id id (answer_parts answer)) ≡ Err WrongType
+unfolding packet_of client_packet_at
+refused_answer id (answers.Status code message language) = refl
+refused_answer id (answers.Handle handle) = refl
+refused_answer id (answers.Data bytes) = refl
+refused_answer id (answers.Name items) = refl
+refused_answer id (answers.Attrs attrs) = refl
+refused_answer id (answers.Extended bytes) = refl
+
+pub server_packets_refused : (packet : Packet) → side_of packet ≡ Server → packet_of Client (contents packet) ≡ Err WrongType
+unfolding packet_of client_packet_at
+server_packets_refused (Init version extensions) e = absurd cc
+server_packets_refused (Version version extensions) e = refl
+server_packets_refused (Request request) e = absurd cc
+server_packets_refused (Reply reply) e = refused_answer reply.id reply.answer

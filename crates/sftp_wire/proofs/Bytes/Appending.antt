@@ -1,9 +1,7 @@
--- What is appended piece by piece, and that no piece is longer than the whole.
-use Rattle.std.proofs.Common.{◌≡◌, ℕ, ◌<◌, ◌≤◌, List, [], ◌∷◌, ◌++◌, length, get_or, ap, ◌∙◌, append_assoc, length-append, arith}
+-- Bytes that are appended piece by piece, and that no piece is longer than the whole.
+use Rattle.std.proofs.Common.{◌≡◌, ℕ, ◌<◌, List, ◌++◌, length, get_or, ap, ◌∙◌, append_assoc, arith}
 use Rattle.std.proofs.lemmas.List.Folds.{length-flat_map-take}
 use Rattle.std.specs.List.{flat_map}
-use Rattle.sftp_wire.specs.declared.names.NameItem.{NameItem}
-use Rattle.sftp_wire.specs.Spelling.{pair, pairs, name_item}
 use Rattle.sftp_wire.specs.Writing.{Extends}
 
 -- what was appended before, and what was appended then
@@ -19,13 +17,3 @@ part_is_short {A = A} spell limit xs i x short lt is =
     let all = length-flat_map-take spell xs i x lt in
     let same : length (spell x) ≡ length (spell (get_or xs i x)) = ap (λ (y : A). length (spell y)) is in
     omega (arith, all, same)
-
--- a pair takes a byte at least
-pub length_pairs : (ps : List (List ℕ × List ℕ)) → length ps ≤ length (pairs ps)
-length_pairs [] = omega arith
-length_pairs (p ∷ ps) = omega (arith, length_pairs ps, length-append (pair p) (pairs ps))
-
--- and so does a name
-pub length_names : (ns : List NameItem) → length ns ≤ length (flat_map name_item ns)
-length_names [] = omega arith
-length_names (n ∷ ns) = omega (arith, length_names ns, length-append (name_item n) (flat_map name_item ns))

@@ -1,18 +1,18 @@
 -- Extensions: the name decides what is read behind it. What is read is spelled so, and what is spelled so is read
 -- again.
-use Rattle.std.proofs.Common.{◌≡◌, ℕ, Bool, true, false, cond, List, [], ◌∷◌, ◌++◌, Ok, refl, sym, ap, subst, ◌∙◌, append_assoc, arith}
-use Rattle.std.specs.Prelude.{◌&&◌, ◌||◌, bytes_eq}
+use Rattle.std.proofs.Common.{◌≡◌, ℕ, ◌^◌, ◌<◌, Bool, true, false, cond, List, [], ◌∷◌, ◌++◌, length, Ok, refl, sym, ap, subst, ◌∙◌, append_assoc, arith}
+use Rattle.std.specs.Prelude.{◌||◌, bytes_eq}
 use Rattle.std.specs.Simd.Lanes.{all_below}
-use Rattle.std.proofs.lemmas.Bool.{ltb-true}
+use Rattle.std.proofs.lemmas.Bool.{ltb-true, and_parts, or_from, cond_both}
 use Rattle.std.proofs.lemmas.Slice.Eq.{bytes_eq-Decides}
 use Rattle.sftp_wire.specs.declared.packets.Ask.{Ask}
 use Rattle.sftp_wire.specs.declared.packets.Ask.TheVariants as asks
 use Rattle.sftp_wire.specs.Spelling.{string, posix_rename_name, hardlink_name, fsync_name, is_known_extension, AreBytes, FitsString}
 use Rattle.sftp_wire.specs.Reading.{Reader, one, two, string_at, handle_at, rest_at, extension_data_at, extension_at}
-use Rattle.sftp_wire.proofs.Steps.{bind_ok, Takes, Takes-then}
-use Rattle.sftp_wire.proofs.ReaderLaws.{TakesAs, one_takes, one_again, two_takes, two_again}
-use Rattle.sftp_wire.proofs.FieldLaws.{FitsHandle, as_bytes, string_takes, string_again, handle_takes, handle_again, rest_takes, rest_again}
-use Rattle.sftp_wire.proofs.PacketRows.{ask_fields, FitsAskOf}
+use Rattle.sftp_wire.proofs.Readers.Steps.{bind_ok, Takes, Takes-then}
+use Rattle.sftp_wire.proofs.Readers.Combined.{TakesAs, one_takes, one_again, two_takes, two_again}
+use Rattle.sftp_wire.proofs.FieldLaws.Strings.{FitsHandle, as_bytes, string_takes, string_again, handle_takes, handle_again, rest_takes, rest_again}
+use Rattle.sftp_wire.proofs.PacketLaws.Rows.{ask_fields, FitsAskOf}
 
 -- ---- what is read is spelled so
 
@@ -44,15 +44,9 @@ unknown_takes : (name : List ℕ) → FitsString name → is_known_extension nam
 unknown_takes name fits unknown = one_takes rest_at (asks.Unknown name) as_bytes data_of AreBytes (IsExtension name) rest_takes (λ a. refl) (λ a f. (((fits, f), tt, unknown, refl), refl))
 
 -- the data of a known extension is read where the name is its own
-by_test : (name known : List ℕ) (row others : Reader Ask) (test : Bool) → (test ≡ true → name ≡ known) → TakesExtension known row → (test ≡ false → TakesExtension name others) → TakesExtension name (cond test row others)
-by_test name known row others true same row_takes others_take = subst (λ (n : List ℕ). TakesExtension n row) (sym (same refl)) row_takes
-by_test name known row others false same row_takes others_take = others_take refl
-
 by_name : (name known : List ℕ) (row others : Reader Ask) → TakesExtension known row → (bytes_eq name known ≡ false → TakesExtension name others) → TakesExtension name (cond (bytes_eq name known) row others)
-by_name name known row others = by_test name known row others (bytes_eq name known) (bytes_eq-Decides name known).0
-
-none_holds : (a b c : Bool) → a ≡ false → b ≡ false → c ≡ false → (a || (b || (c || false))) ≡ false
-none_holds a b c p q r = rw (p, q, r) refl
+by_name name known row others row_takes others_take =
+    cond_both (bytes_eq name known) row others (TakesExtension name) (λ same. subst (λ (n : List ℕ). TakesExtension n row) (sym ((bytes_eq-Decides name known).0 same)) row_takes) others_take
 
 extension_data_takes : (name : List ℕ) → FitsString name → TakesExtension name (extension_data_at name)
 unfolding extension_data_at
@@ -60,7 +54,7 @@ extension_data_takes name fits =
     by_name name posix_rename_name _ _ posix_rename_takes (λ not_posix_rename.
     by_name name hardlink_name _ _ hardlink_takes (λ not_hardlink.
     by_name name fsync_name _ _ fsync_takes (λ not_fsync.
-    unknown_takes name fits (none_holds _ _ _ not_posix_rename not_hardlink not_fsync))))
+    unknown_takes name fits (or_from _ _ not_posix_rename (or_from _ _ not_hardlink (or_from _ _ not_fsync refl))))))
 
 pub extension_takes : TakesAs extension_at ask_fields (FitsAskOf 200)
 unfolding extension_at
@@ -78,31 +72,34 @@ named_again : (name fields : List ℕ) → FitsString name → extension_at ((st
 unfolding extension_at
 named_again name fields fits = ap extension_at (append_assoc (string name) fields []) ∙ rw (string_again (fields ++ []) name fits) refl
 
-both : (a b : Bool) → (a && b) ≡ true → (a ≡ true) × (b ≡ true)
-both true b e = (refl, e)
-both false b e = absurd cc
-
 -- bytes that pass the test for them are bytes
 are_bytes : (bytes : List ℕ) → all_below 256 bytes ≡ true → AreBytes bytes
 are_bytes [] e = tt
-are_bytes (b ∷ bytes) e = let p = both _ _ e in (ltb-true b 256 p.0, are_bytes bytes p.1)
+are_bytes (b ∷ bytes) e = let p = and_parts _ _ e in (ltb-true b 256 p.0, are_bytes bytes p.1)
+
+-- a name that is written out
+fits_name : (name : List ℕ) → all_below 256 name ≡ true → length name < 2 ^ 32 → FitsString name
+fits_name name bytes short = record { bytes_fit = are_bytes name bytes; length_fits = short }
+
+two_paths_again : (name : List ℕ) (make : List ℕ → List ℕ → Ask) (oldpath newpath : List ℕ) → FitsString name → extension_data_at name ≡ two string_at string_at make → FitsString oldpath × FitsString newpath
+    → extension_at ((string name ++ (string oldpath ++ string newpath)) ++ []) ≡ Ok (make oldpath newpath, [])
+two_paths_again name make oldpath newpath fits_name is fits =
+    named_again name (string oldpath ++ string newpath) fits_name
+    ∙ ap (λ (read : Reader Ask). read ((string oldpath ++ string newpath) ++ [])) is
+    ∙ two_again string_at string_at make string string oldpath newpath [] (string_again (string newpath ++ []) oldpath fits.0) (string_again [] newpath fits.1)
 
 pub posix_rename_again : (oldpath newpath : List ℕ) → FitsString oldpath × FitsString newpath → extension_at ((string posix_rename_name ++ (string oldpath ++ string newpath)) ++ []) ≡ Ok (asks.PosixRename oldpath newpath, [])
 unfolding extension_data_at
-posix_rename_again oldpath newpath fits =
-    named_again posix_rename_name (string oldpath ++ string newpath) (record { bytes_fit = are_bytes posix_rename_name refl; length_fits = omega arith })
-    ∙ two_again string_at string_at asks.PosixRename string string oldpath newpath [] (string_again (string newpath ++ []) oldpath fits.0) (string_again [] newpath fits.1)
+posix_rename_again oldpath newpath fits = two_paths_again posix_rename_name asks.PosixRename oldpath newpath (fits_name posix_rename_name refl (omega arith)) refl fits
 
 pub hardlink_again : (oldpath newpath : List ℕ) → FitsString oldpath × FitsString newpath → extension_at ((string hardlink_name ++ (string oldpath ++ string newpath)) ++ []) ≡ Ok (asks.Hardlink oldpath newpath, [])
 unfolding extension_data_at
-hardlink_again oldpath newpath fits =
-    named_again hardlink_name (string oldpath ++ string newpath) (record { bytes_fit = are_bytes hardlink_name refl; length_fits = omega arith })
-    ∙ two_again string_at string_at asks.Hardlink string string oldpath newpath [] (string_again (string newpath ++ []) oldpath fits.0) (string_again [] newpath fits.1)
+hardlink_again oldpath newpath fits = two_paths_again hardlink_name asks.Hardlink oldpath newpath (fits_name hardlink_name refl (omega arith)) refl fits
 
 pub fsync_again : (handle : List ℕ) → FitsHandle handle → extension_at ((string fsync_name ++ string handle) ++ []) ≡ Ok (asks.Fsync handle, [])
 unfolding extension_data_at
 fsync_again handle fits =
-    named_again fsync_name (string handle) (record { bytes_fit = are_bytes fsync_name refl; length_fits = omega arith })
+    named_again fsync_name (string handle) (fits_name fsync_name refl (omega arith))
     ∙ one_again handle_at asks.Fsync (string handle) handle [] (handle_again [] handle fits)
 
 none_held : (a b c : Bool) (x y z others : Reader Ask) → (a || (b || (c || false))) ≡ false → cond a x (cond b y (cond c z others)) ≡ others

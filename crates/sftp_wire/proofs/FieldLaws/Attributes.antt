@@ -1,20 +1,15 @@
 -- Attributes: what is read is spelled so, and what is spelled so is read again.
-use Rattle.std.proofs.Common.{◌≡◌, ℕ, ◌^◌, ◌<◌, List, ◌++◌, Ok, Err, cond, refl, sym, ap, subst, ◌∙◌, append_assoc}
+use Rattle.std.proofs.Common.{◌≡◌, ℕ, List, ◌++◌, Ok, Err, cond, refl, sym, ap, subst, ◌∙◌, append_assoc}
 use Rattle.sftp_wire.specs.declared.errors.Fault.TheVariants as faults
 use Rattle.sftp_wire.specs.declared.attributes.Attrs.{Attrs}
 use Rattle.sftp_wire.specs.Spelling.{uint32, uint64, two_uint32, counted_pairs, optional, attribute_flags, attribute_fields, attributes, FitsTwo, FitsCounted, FitsAttrs}
 use Rattle.sftp_wire.specs.Reading.{uint32_at, uint64_at, two_uint32_at, counted_pairs_at, optional_at, has_flag, are_known, attribute_fields_at, attributes_at}
-use Rattle.sftp_wire.proofs.Steps.{bind_ok, guard_held, ok_is, Takes, Takes-then}
-use Rattle.sftp_wire.proofs.ReaderLaws.{TakesAs, AgainAs, optional_takes, optional_again}
-use Rattle.sftp_wire.proofs.FieldLaws.{uint32_takes, uint32_again, uint64_takes, uint64_again, two_uint32_takes, two_uint32_again}
-use Rattle.sftp_wire.proofs.PairLaws.{counted_pairs_takes, counted_pairs_again}
-use Rattle.sftp_wire.proofs.Flags.{SaysFields, attribute_flags-are, attribute_flags-say, attribute_flags-known, attribute_flags-fit}
-
-abbrev Is32 : ℕ → Type 0
-Is32 n = n < 2 ^ 32
-
-abbrev Is64 : ℕ → Type 0
-Is64 n = n < 2 ^ 64
+use Rattle.sftp_wire.proofs.Bytes.Numbers.{Is32, Is64}
+use Rattle.sftp_wire.proofs.Readers.Steps.{bind_ok, guard_held, ok_is, Takes, Takes-then}
+use Rattle.sftp_wire.proofs.Readers.Combined.{TakesAs, AgainAs, optional_takes, optional_again}
+use Rattle.sftp_wire.proofs.FieldLaws.Strings.{uint32_takes, uint32_again, uint64_takes, uint64_again, two_uint32_takes, two_uint32_again}
+use Rattle.sftp_wire.proofs.FieldLaws.Pairs.{counted_pairs_takes, counted_pairs_again}
+use Rattle.sftp_wire.proofs.FieldLaws.Flags.{SaysFields, attribute_flags-are, attribute_flags-say, attribute_flags-known, attribute_flags-fit}
 
 attribute_fields_takes : (flags : ℕ) → TakesAs (attribute_fields_at flags) attribute_fields (λ a. FitsAttrs a × SaysFields flags a)
 unfolding attribute_fields_at

@@ -1,33 +1,18 @@
 -- A stream of packets that comes in pieces: what a step takes in and gives out.
-use Rattle.std.proofs.Common.{◌≡◌, ℕ, zero, suc, ◌+◌, ◌-◌, ◌<◌, ◌≤◌, ◌⊎◌, inl, inr, false, eqb, ltb, List, [], ◌∷◌, ◌++◌, length, take, drop, Option, Some, None, Result, Ok, Err, refl, sym, ap, subst, ◌∙◌, append_assoc, append-nil, arith}
+use Rattle.std.proofs.Common.{◌≡◌, ℕ, ◌-◌, ◌<◌, ◌≤◌, ◌⊎◌, inl, inr, Bool, true, false, List, [], ◌∷◌, ◌++◌, length, take, drop, Option, Some, None, Result, Ok, Err, refl, sym, ap, subst, ◌∙◌, append_assoc, append-nil, arith}
 use Rattle.std.specs.Prelude.{min, if◌then◌else◌, is_some}
 use Rattle.std.proofs.Math.Nat.{zero-min}
-use Rattle.std.specs.Int.{w32, from_be_bytes}
-use Rattle.std.proofs.lemmas.Bool.{le-ltb, ne_eqb}
-use Rattle.std.proofs.lemmas.List.{take_at, length-append}
+use Rattle.std.proofs.lemmas.List.{length-append, length-take, length-drop}
 use Rattle.sftp_wire.specs.declared.errors.Fault.{Fault}
 use Rattle.sftp_wire.specs.declared.errors.WireError.{WireError}
 use Rattle.sftp_wire.specs.declared.errors.WireError.TheVariants.{Unreadable, NoMemory}
 use Rattle.sftp_wire.specs.declared.packets.Packet.{Packet}
 use Rattle.sftp_wire.specs.declared.packets.Side.{Side}
-use Rattle.sftp_wire.specs.Spelling.{uint32, contents, packet_limit, spelling, AreBytes, HasSpelling}
+use Rattle.sftp_wire.specs.Spelling.{packet_limit, spelling, AreBytes, HasSpelling}
 use Rattle.sftp_wire.specs.Reading.{front_of}
-use Rattle.sftp_wire.specs.Framing.{Frames, Step, Push, Next, IsStep, AreSteps, no_frames, room_of, front_unless, told_of, telling, push_of, bytes_in, bytes_out, all_in, all_out, whole_of}
-use Rattle.sftp_wire.proofs.Numbers.{IsBytes, IsBytes-take, IsBytes-drop, wide32}
-use Rattle.sftp_wire.proofs.PacketRows.{contents-parts}
-use Rattle.sftp_wire.proofs.FrontLaws.{front_takes}
-
--- ---- bytes
-
-places : (bytes : List ℕ) → AreBytes bytes → IsBytes bytes
-places [] fits i = omega arith
-places (b ∷ bytes) fits zero = fits.0
-places (b ∷ bytes) fits (suc i) = places bytes fits.1 i
-
-IsBytes-append : (xs ys : List ℕ) → IsBytes xs → IsBytes ys → IsBytes (xs ++ ys)
-IsBytes-append [] ys p q i = q i
-IsBytes-append (x ∷ xs) ys p q zero = p 0
-IsBytes-append (x ∷ xs) ys p q (suc i) = IsBytes-append xs ys (λ j. p (suc j)) q i
+use Rattle.sftp_wire.specs.Framing.{Frames, Step, Push, Next, IsStep, AreSteps, no_frames, room_of, front_unless, told_of, outcome_of, push_of, bytes_in, bytes_out, all_in, all_out, whole_of}
+use Rattle.sftp_wire.proofs.Bytes.Numbers.{IsBytes, IsBytes-take, IsBytes-drop, IsBytes-append, IsBytes-from_all}
+use Rattle.sftp_wire.proofs.StreamLaws.Front.{front_takes, begins_with, none-leaves_room}
 
 -- ---- what a step keeps
 
@@ -54,11 +39,11 @@ push_keeps s bytes taken t fits more e =
     let held : t.held ≡ s.held ++ take (push_of s bytes).0 bytes = ap (λ (p : ℕ × Frames). p.1.held) e in
     let same : t.held ≡ s.held ++ take taken bytes = held ∙ ap (λ (n : ℕ). s.held ++ take n bytes) (sym count) in
     record {
-      are_bytes = subst IsBytes (sym same) (IsBytes-append s.held (take taken bytes) fits (IsBytes-take taken bytes (places bytes more)));
+      are_bytes = subst IsBytes (sym same) (IsBytes-append s.held (take taken bytes) fits (IsBytes-take taken bytes (IsBytes-from_all bytes more)));
       parts = same;
     }
 
-told_keeps : (s : Frames) (side : Side) (told : Result (Option (Packet × ℕ)) Fault) (given : Result (Option Packet) WireError) (t : Frames) → IsBytes s.held → told_of side s ≡ told → (given, t) ≡ telling s told → Keeps s (Next side given) t
+told_keeps : (s : Frames) (side : Side) (told : Result (Option (Packet × ℕ)) Fault) (given : Result (Option Packet) WireError) (t : Frames) → IsBytes s.held → told_of side s ≡ told → (given, t) ≡ outcome_of s told → Keeps s (Next side given) t
 told_keeps s side (Ok None) given t fits is e =
     still s side given t fits (ap (λ (p : Result (Option Packet) WireError × Frames). bytes_out (Next side p.0)) e) (ap (λ (p : Result (Option Packet) WireError × Frames). p.1.held) e)
 told_keeps s side (Err fault) given t fits is e =
@@ -94,7 +79,7 @@ stream_is_kept steps t leads = steps_keep no_frames steps t (λ i. omega arith) 
 
 -- ---- what the steps of a `next` say
 
-none_told : (s : Frames) (told : Result (Option (Packet × ℕ)) Fault) (t : Frames) → (Ok None, t) ≡ telling s told → told ≡ Ok None
+none_told : (s : Frames) (told : Result (Option (Packet × ℕ)) Fault) (t : Frames) → (Ok None, t) ≡ outcome_of s told → told ≡ Ok None
 none_told s (Ok None) t e = refl
 none_told s (Ok (Some front)) t e = absurd (let given = ap (λ (p : Result (Option Packet) WireError × Frames). p.0) e in cc)
 none_told s (Err fault) t e = absurd (let given = ap (λ (p : Result (Option Packet) WireError × Frames). p.0) e in cc)
@@ -106,13 +91,13 @@ nothing_is_told side s t (inr refused) = absurd (let e = refused.no_memory in cc
 
 -- and there nothing is given, unless memory runs out
 pub nothing_is_given : (side : Side) (s t : Frames) (given : Result (Option Packet) WireError) → IsStep s (Next side given) t → told_of side s ≡ Ok None → (given ≡ Ok None) ⊎ (given ≡ Err NoMemory)
-nothing_is_given side s t given (inl e) none = inl (ap (λ (p : Result (Option Packet) WireError × Frames). p.0) e ∙ ap (λ (r : Result (Option (Packet × ℕ)) Fault). (telling s r).0) none)
+nothing_is_given side s t given (inl e) none = inl (ap (λ (p : Result (Option Packet) WireError × Frames). p.0) e ∙ ap (λ (r : Result (Option (Packet × ℕ)) Fault). (outcome_of s r).0) none)
 nothing_is_given side s t given (inr refused) none = inr refused.no_memory
 
 -- a fault that was told is told again, and nothing changes
 pub fault_stands : (side : Side) (s t : Frames) (fault : Fault) (given : Result (Option Packet) WireError) → s.fault ≡ Some fault → IsStep s (Next side given) t → (given ≡ Err (Unreadable fault s.place)) × (t ≡ s)
 fault_stands side s t fault given told (inl e) =
-    let same : (given, t) ≡ telling s (Err fault) = e ∙ ap (λ (f : Option Fault). telling s (front_unless f (front_of side s.held))) told in
+    let same : (given, t) ≡ outcome_of s (Err fault) = e ∙ ap (λ (f : Option Fault). outcome_of s (front_unless f (front_of side s.held))) told in
     let after : t ≡ record { held = s.held; place = s.place; fault = Some fault } = ap (λ (p : Result (Option Packet) WireError × Frames). p.1) same in
     (ap (λ (p : Result (Option Packet) WireError × Frames). p.0) same, after ∙ ap (λ (f : Option Fault). record { held = s.held; place = s.place; fault = f }) (sym told))
 fault_stands side s t fault given told (inr refused) = absurd (let none = refused.no_fault in cc)
@@ -127,25 +112,54 @@ fault_takes_none s t fault bytes taken told leads =
 
 -- ---- the packet in front, uncopied
 
-length-spelling : (packet : Packet) → length (spelling packet) ≡ length (contents packet) + 4
-unfolding spelling
-length-spelling packet = omega (arith, length-append (uint32 (length (contents packet))) (contents packet))
-
 -- what is spelled in front is lent
 pub spelled_is_lent : (packet : Packet) (rest : List ℕ) → HasSpelling packet → whole_of (spelling packet ++ rest) ≡ Some (spelling packet)
-unfolding whole_of spelling
+unfolding whole_of
 spelled_is_lent packet rest has =
-    let text = contents packet in
-    let n = length text in
-    let bytes = spelling packet ++ rest in
-    let total : length (spelling packet) ≡ n + 4 = length-spelling packet in
-    let some : 0 < n = omega (arith, ap length (contents-parts packet)) in
-    let regrouped : bytes ≡ uint32 n ++ (text ++ rest) = append_assoc (uint32 n) text rest in
-    let number : from_be_bytes w32 (take 4 bytes) ≡ n = ap (λ (x : List ℕ). from_be_bytes w32 (take 4 x)) regrouped ∙ ap (from_be_bytes w32) (take_at (uint32 n) (text ++ rest) 4 refl) ∙ wide32.again n (omega (arith, has.whole, total)) in
-    let long : n + 4 ≤ length bytes = omega (arith, length-append (spelling packet) rest, total) in
-    let not_short : ltb (length bytes) 4 ≡ false = le-ltb _ _ (omega (arith, long)) in
-    let not_zero : eqb n 0 ≡ false = ne_eqb n 0 (omega (arith, some)) in
-    let not_over : ltb packet_limit (n + 4) ≡ false = le-ltb _ _ (omega (arith, has.whole, total)) in
-    let there : ltb (length bytes) (n + 4) ≡ false = le-ltb _ _ long in
-    let whole : take (n + 4) bytes ≡ spelling packet = ap (λ (k : ℕ). take k bytes) (sym total) ∙ take_at (spelling packet) rest (length (spelling packet)) refl in
-    rw (not_short, number, not_zero, not_over, there, whole) refl
+    let b = begins_with packet rest has in
+    rw (b.has_length, b.size, b.not_zero, b.within, b.is_whole, b.whole) refl
+
+-- ---- no more is held than a packet may have
+
+room-most : (faulty : Bool) (n : ℕ) → (if faulty then 0 else n) ≤ n
+room-most true n = omega arith
+room-most false n = omega arith
+
+step_within : (s : Frames) (step : Step) (t : Frames) → length s.held ≤ packet_limit → IsStep s step t → length t.held ≤ packet_limit
+step_within s (Push bytes taken) t within leads =
+    let held : t.held ≡ s.held ++ take (push_of s bytes).0 bytes = ap (λ (p : ℕ × Frames). p.1.held) leads.1 in
+    omega (arith, ap length held, length-append s.held (take (push_of s bytes).0 bytes), length-take (push_of s bytes).0 bytes, room-most (is_some s.fault) (packet_limit - length s.held), within)
+step_within s (Next side given) t within (inl e) = outcome_within s (told_of side s) given t within e
+  where
+    outcome_within : (s : Frames) (told : Result (Option (Packet × ℕ)) Fault) (given : Result (Option Packet) WireError) (t : Frames) → length s.held ≤ packet_limit → (given, t) ≡ outcome_of s told → length t.held ≤ packet_limit
+    outcome_within s (Ok None) given t within e = rw (ap (λ (p : Result (Option Packet) WireError × Frames). p.1.held) e) within
+    outcome_within s (Ok (Some front)) given t within e =
+        let held : t.held ≡ drop front.1 s.held = ap (λ (p : Result (Option Packet) WireError × Frames). p.1.held) e in
+        omega (arith, ap length held, length-drop front.1 s.held, within)
+    outcome_within s (Err fault) given t within e = rw (ap (λ (p : Result (Option Packet) WireError × Frames). p.1.held) e) within
+step_within s (Next side given) t within (inr refused) = rw (ap (λ (u : Frames). u.held) refused.unchanged) within
+
+steps_within : (s : Frames) (steps : List (Step × Frames)) (t : Frames) → length s.held ≤ packet_limit → AreSteps s steps t → length t.held ≤ packet_limit
+steps_within s [] t within same = rw (ap (λ (u : Frames). u.held) (sym same)) within
+steps_within s (step ∷ steps) t within leads = steps_within step.1 steps t (step_within s step.0 step.1 within leads.0) leads.1
+
+pub held_within : (steps : List (Step × Frames)) (t : Frames) → AreSteps no_frames steps t → length t.held ≤ packet_limit
+held_within steps t leads = steps_within no_frames steps t (omega arith) leads
+
+-- where `next` returns `None` there is room
+pub room-left : (side : Side) (s : Frames) → s.fault ≡ None → front_of side s.held ≡ Ok None → 0 < room_of s
+room-left side s no_fault e =
+    let room : room_of s ≡ packet_limit - length s.held = ap (λ (f : Option Fault). if is_some f then 0 else packet_limit - length s.held) no_fault in
+    omega (arith, room, none-leaves_room side s.held e)
+
+unless_none : (fault : Option Fault) (front : Result (Option (Packet × ℕ)) Fault) → front_unless fault front ≡ Ok None → (fault ≡ None) × (front ≡ Ok None)
+unless_none None front e = (refl, e)
+unless_none (Some fault) front e = absurd cc
+
+pub waiting_has_room : (side : Side) (s t : Frames) → IsStep s (Next side (Ok None)) t → 0 < room_of t
+waiting_has_room side s t (inl e) =
+    let none = none_told s (told_of side s) t e in
+    let same : t ≡ s = ap (λ (p : Result (Option Packet) WireError × Frames). p.1) e ∙ ap (λ (r : Result (Option (Packet × ℕ)) Fault). (outcome_of s r).1) none in
+    let parts = unless_none s.fault (front_of side s.held) none in
+    subst (λ (u : Frames). 0 < room_of u) (sym same) (room-left side s parts.0 parts.1)
+waiting_has_room side s t (inr refused) = absurd (let e = refused.no_memory in cc)

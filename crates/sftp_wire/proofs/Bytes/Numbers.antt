@@ -1,5 +1,5 @@
 -- Numbers of four and of eight bytes, written and read.
-use Rattle.std.proofs.Common.{◌≡◌, ℕ, suc, ◌+◌, ◌^◌, ◌<◌, List, [], ◌∷◌, ◌++◌, length, get_or, take, drop, refl, sym, ap, ◌∙◌, arith, inl, inr}
+use Rattle.std.proofs.Common.{◌≡◌, ℕ, zero, suc, ◌+◌, ◌^◌, ◌<◌, List, [], ◌∷◌, ◌++◌, length, get_or, take, drop, refl, sym, ap, ◌∙◌, arith, inl, inr}
 use Rattle.std.specs.Int.{Width, w32, w64, byte_len, from_be_bytes, to_be_bytes}
 use Rattle.std.proofs.lemmas.Bool.{cases_lt}
 use Rattle.std.proofs.lemmas.List.{length-take, get_or-drop, get_or-take, get_or_past}
@@ -21,13 +21,32 @@ IsBytes-take n bytes fits i =
       | inr le ↦ rw (get_or_past (take n bytes) i 0 (omega (arith, length-take n bytes))) (omega arith)
     ]
 
-IsBytes-rest : (b : ℕ) (bytes : List ℕ) → IsBytes (b ∷ bytes) → IsBytes bytes
+pub IsBytes-rest : (b : ℕ) (bytes : List ℕ) → IsBytes (b ∷ bytes) → IsBytes bytes
 IsBytes-rest b bytes fits i = fits (suc i)
 
--- the same by recursion, and back
+-- the same by recursion
 pub AreBytes-from_places : (bytes : List ℕ) → IsBytes bytes → AreBytes bytes
 AreBytes-from_places [] fits = tt
 AreBytes-from_places (b ∷ bytes) fits = (fits 0, AreBytes-from_places bytes (IsBytes-rest b bytes fits))
+
+-- and back
+pub IsBytes-from_all : (bytes : List ℕ) → AreBytes bytes → IsBytes bytes
+IsBytes-from_all [] fits i = omega arith
+IsBytes-from_all (b ∷ bytes) fits zero = fits.0
+IsBytes-from_all (b ∷ bytes) fits (suc i) = IsBytes-from_all bytes fits.1 i
+
+pub IsBytes-append : (xs ys : List ℕ) → IsBytes xs → IsBytes ys → IsBytes (xs ++ ys)
+IsBytes-append [] ys p q i = q i
+IsBytes-append (x ∷ xs) ys p q zero = p 0
+IsBytes-append (x ∷ xs) ys p q (suc i) = IsBytes-append xs ys (λ j. p (suc j)) q i
+
+-- ---- numbers of a width
+
+abbrev pub Is32 : ℕ → Type 0
+Is32 n = n < 2 ^ 32
+
+abbrev pub Is64 : ℕ → Type 0
+Is64 n = n < 2 ^ 64
 
 -- what reading a number of some width and writing it have to do with each other
 pub record IsWide (w : Width) (limit : ℕ) : Type 0 where

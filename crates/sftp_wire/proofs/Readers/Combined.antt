@@ -7,8 +7,8 @@ use Rattle.std.proofs.lemmas.List.{length-append}
 use Rattle.std.proofs.lemmas.List.Concat.{flat_map-cons}
 use Rattle.sftp_wire.specs.Spelling.{optional}
 use Rattle.sftp_wire.specs.Reading.{◌>>=◌, Reader, one, two, three, optional_at, many_at, up_to_end}
-use Rattle.sftp_wire.proofs.Numbers.{IsBytes}
-use Rattle.sftp_wire.proofs.Steps.{bind_ok, ok_is, Takes, Takes-none, Takes-then}
+use Rattle.sftp_wire.proofs.Bytes.Numbers.{IsBytes}
+use Rattle.sftp_wire.proofs.Readers.Steps.{bind_ok, ok_is, Takes, Takes-none, Takes-then}
 
 -- what is read is spelled so, and fits
 abbrev pub TakesAs : {A : Type 0} → Reader A → (A → List ℕ) → (A → Type 0) → Type 0

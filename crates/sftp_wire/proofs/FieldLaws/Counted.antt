@@ -3,9 +3,9 @@ use Rattle.std.proofs.Common.{ℕ, ◌^◌, ◌<◌, List, ◌++◌, length, sym
 use Rattle.std.specs.List.{flat_map, AllByRecursion}
 use Rattle.sftp_wire.specs.Spelling.{uint32}
 use Rattle.sftp_wire.specs.Reading.{◌>>=◌, Reader, uint32_at, many_at}
-use Rattle.sftp_wire.proofs.Steps.{bind_ok, Takes, Takes-then}
-use Rattle.sftp_wire.proofs.ReaderLaws.{TakesAs, AgainAs, many_takes, many_again}
-use Rattle.sftp_wire.proofs.FieldLaws.{uint32_takes, uint32_again}
+use Rattle.sftp_wire.proofs.Readers.Steps.{bind_ok, Takes, Takes-then}
+use Rattle.sftp_wire.proofs.Readers.Combined.{TakesAs, AgainAs, many_takes, many_again}
+use Rattle.sftp_wire.proofs.FieldLaws.Strings.{uint32_takes, uint32_again}
 
 -- as many values as are said
 abbrev pub counted_at : {A : Type 0} → Reader A → Reader (List A)

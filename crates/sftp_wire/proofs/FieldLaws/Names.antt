@@ -2,10 +2,10 @@
 use Rattle.std.proofs.Common.{refl, ◌++◌}
 use Rattle.sftp_wire.specs.Spelling.{string, attributes, name_item, names, FitsString, FitsAttrs, FitsNameItem, FitsNames}
 use Rattle.sftp_wire.specs.Reading.{string_at, attributes_at, name_item_at, names_at}
-use Rattle.sftp_wire.proofs.ReaderLaws.{TakesAs, AgainAs, three_takes, three_again}
-use Rattle.sftp_wire.proofs.FieldLaws.{string_takes, string_again}
-use Rattle.sftp_wire.proofs.AttributeLaws.{attributes_takes, attributes_again}
-use Rattle.sftp_wire.proofs.CountedLaws.{counted_takes, counted_again}
+use Rattle.sftp_wire.proofs.Readers.Combined.{TakesAs, AgainAs, three_takes, three_again}
+use Rattle.sftp_wire.proofs.FieldLaws.Strings.{string_takes, string_again}
+use Rattle.sftp_wire.proofs.FieldLaws.Attributes.{attributes_takes, attributes_again}
+use Rattle.sftp_wire.proofs.FieldLaws.Counted.{counted_takes, counted_again}
 
 pub name_item_takes : TakesAs name_item_at name_item FitsNameItem
 unfolding name_item_at
