@@ -1,5 +1,5 @@
 -- A tree with another owner of a directory, or another content of a file: it stays a tree within the limits.
-use Rattle.std.proofs.Common.{◌≡◌, ◌+◌, ◌<◌, ℕ, Bool, true, false, cond, refl, ap, ◌∙◌, arith, Some, is_some, nat_lt, IsTrue}
+use Rattle.std.proofs.Common.{◌≡◌, ◌+◌, ◌<◌, ℕ, Bool, true, false, cond, ◌||◌, refl, ap, ◌∙◌, arith, Some, is_some, nat_lt, IsTrue}
 use Rattle.std.specs.Ordering.{nat_cmp, is_eq}
 use Rattle.std.specs.FinMap.{nat_cmp-IsAntisymmetric}
 use Rattle.std.proofs.lemmas.Cmp.{nat_cmp_total}
@@ -13,7 +13,7 @@ use Rattle.sftp_treefile.specs.TreeFile.{IsOwner}
 use Rattle.sftp_tree.specs.declared.contents.Content.{Content}
 use Rattle.sftp_tree.specs.declared.nodes.Node.{Node}
 use Rattle.sftp_tree.specs.declared.nodes.Node.TheVariants.{Dir, File, Link}
-use Rattle.sftp_tree.specs.Tree.{Names, Files, Tree, WellFormed, IsKept, IsNode, IsContent, limits, fits, content_fits, node_at, with_node, content_at, with_content, names_file, times_named, is_named}
+use Rattle.sftp_tree.specs.Tree.{Names, Files, Tree, WellFormed, IsKept, IsNode, IsContent, limits, fits, content_fits, node_at, with_node, content_at, with_content, names_file, times_named, is_named, is_pinned, is_held}
 use Rattle.sftp_tree.proofs.KeepTables.{each-weaker, each-get, each-put}
 use Rattle.sftp_tree.proofs.KeepFits.{fits-parts, fits-from}
 use Rattle.sftp_tree.proofs.KeepLimits.{entries-again, depths-again, links-again, files-again}
@@ -49,8 +49,8 @@ kept-owner t place before owner kept there is_owner = record {
       (names-owner t.files t.names place before owner (names-of t kept.well_formed) there is_owner);
   within_limits = fits-owner t place before owner kept.well_formed kept.within_limits there;
   trimmed =
-      each-weaker (λ e. IsTrue (is_named t.names e.0)) (λ e. IsTrue (is_named (with_node t.names place (Dir owner)) e.0))
-      (λ e h. ap (nat_lt 0) (times_named-owner t.names place before owner e.0 kept.well_formed.ordered there) ∙ h) t.files kept.trimmed;
+      each-weaker (λ e. IsTrue (is_held t e.0)) (λ e. IsTrue (is_named (with_node t.names place (Dir owner)) e.0 || is_pinned t.pins e.0))
+      (λ e h. ap (λ n. nat_lt 0 n || is_pinned t.pins e.0) (times_named-owner t.names place before owner e.0 kept.well_formed.ordered there) ∙ h) t.files kept.trimmed;
 }
 
 -- ---- another content of a file
@@ -81,6 +81,8 @@ well-formed-content t number before content well there is_content = record {
   given =
       each-put nat_cmp nat_cmp-IsAntisymmetric nat_cmp_total (λ e. e.0 < t.made) t.files number content well.numbered
       (each-get nat_cmp nat_cmp-IsAntisymmetric (λ e. e.0 < t.made) t.files number before well.given there) well.given;
+  pins = well.pins;
+  limits = well.limits;
   home = well.home;
   uid = well.uid;
   gid = well.gid;
@@ -103,6 +105,6 @@ kept-content t number before content kept there is_content small = record {
   well_formed = well-formed-content t number before content kept.well_formed there is_content;
   within_limits = fits-content t number content kept.within_limits small;
   trimmed =
-      each-put nat_cmp nat_cmp-IsAntisymmetric nat_cmp_total (λ e. IsTrue (is_named t.names e.0)) t.files number content kept.well_formed.numbered
-      (each-get nat_cmp nat_cmp-IsAntisymmetric (λ e. IsTrue (is_named t.names e.0)) t.files number before kept.trimmed there) kept.trimmed;
+      each-put nat_cmp nat_cmp-IsAntisymmetric nat_cmp_total (λ e. IsTrue (is_held t e.0)) t.files number content kept.well_formed.numbered
+      (each-get nat_cmp nat_cmp-IsAntisymmetric (λ e. IsTrue (is_held t e.0)) t.files number before kept.trimmed there) kept.trimmed;
 }

@@ -13,6 +13,7 @@ use Rattle.sftp_treefile.specs.declared.files.Row.{Row}
 use Rattle.sftp_treefile.specs.declared.files.TreeFile.{TreeFile}
 use Rattle.sftp_treefile.specs.declared.heads.Head.{Head}
 use Rattle.sftp_treefile.specs.TreeFile.{place_of}
+use Rattle.sftp_treefile.specs.Limits.{usual_limits}
 use Rattle.sftp_tree.specs.declared.contents.Content.{Content}
 use Rattle.sftp_tree.specs.declared.contents.Stored.{Stored}
 use Rattle.sftp_tree.specs.declared.nodes.Node.{Node}
@@ -64,6 +65,8 @@ tree_of file = record {
   names = names_of file.root file.rows;
   files = numbered_from 0 (contents_of file.rows);
   made = length (contents_of file.rows);
+  pins = [];
+  limits = usual_limits;
   home = place_of file.home;
   uid = file.uid;
   gid = file.gid;
@@ -100,7 +103,7 @@ Stores = Table ℕ Stored
 
 -- so many names that there is room for one more
 abbrev pub HaveRoom : Stores → Type 0
-HaveRoom stores = AllByRecursion (λ e. e.1.names ≤ 65537) stores
+HaveRoom stores = AllByRecursion (λ e. e.1.names + 1 < 2 ^ 32) stores
 
 -- where the file of the number is, it has a name more
 abbrev pub with_name : Stores → ℕ → Option Stored → Stores

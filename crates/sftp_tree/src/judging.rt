@@ -382,7 +382,7 @@ impl Tree {
     fn has_room(&self, place: &Place) -> bool
         ensures { result ≡ judged.has_room self.now place.now }
     {
-        self.names().len() <= self.limits().entries as usize && place.depth() <= DEPTH_LIMIT
+        self.names().len() <= self.tree_limits().entries as usize && place.depth() <= DEPTH_LIMIT
     }
 
     /// Whether what stands at the old place, with all below it, keeps to the most names of a place at the new one.
@@ -397,7 +397,7 @@ impl Tree {
         ensures { result ≡ judged.size_fits (tree.limits self.now) attrs.now.size }
     {
         match attrs.size {
-            Some(size) => size <= u64::from(self.limits().file_bytes),
+            Some(size) => size <= u64::from(self.tree_limits().file_bytes),
             None => true,
         }
     }

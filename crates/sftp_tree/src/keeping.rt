@@ -10,7 +10,7 @@ ghost use Rattle.sftp_tree.specs.declared.nodes.Node.TheVariants.{Dir};
 ghost use Rattle.sftp_tree.specs.Tree.{Tree, IsKept, IsTrimmed, IsNode, IsContent, limits, content_fits, node_at, with_node, without_node, content_at, with_content, is_taken, is_directory, has_entries, trim, fits};
 ghost use Rattle.sftp_tree.specs.Steps.{goes_inside, put_in_its_stead};
 
-/// A tree whose files all have names is trimmed already.
+/// A tree whose files all have names or are pinned is trimmed already.
 pub fn trimmed_already()
     ensures { (t : Tree) → IsTrimmed t → trim t ≡ t }
 {}
@@ -34,7 +34,7 @@ pub fn alone_there()
         (n : Name) (ns : List Name) → node_at t.names (place ++ n ∷ ns) ≡ None }
 {}
 
-/// With an entry less, which is not the root and has nothing below it. A file goes with its last name.
+/// With an entry less, which is not the root and has nothing below it. A file that is not pinned goes with its last name.
 pub fn kept_without_entry()
     ensures { (t : Tree) (place : Place) → IsKept t → IsTrue (is_taken (node_at t.names place)) → is_root place ≡ false →
         has_entries t.names place ≡ false → IsKept (trim (record t { names = without_node t.names place })) }

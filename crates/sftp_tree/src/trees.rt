@@ -28,9 +28,9 @@ impl Model for Tree {
 
     ghost Value = { tree.Tree };
 
-    ghost view = { λ t. record { names = t.names.entries; files = stored.contents t.files.entries; made = t.made; home = t.home; uid = t.uid; gid = t.gid } };
+    ghost view = { λ t. stored.seen t.names.entries t.files.entries t.made t.home t.uid t.gid };
 
-    ghost invariant = { λ t. tree.IsKept (record { names = t.names.entries; files = stored.contents t.files.entries; made = t.made; home = t.home; uid = t.uid; gid = t.gid })
+    ghost invariant = { λ t. tree.IsKept (stored.seen t.names.entries t.files.entries t.made t.home t.uid t.gid)
         × stored.AreCounted t.names.entries t.files.entries };
 }
 
@@ -48,9 +48,9 @@ impl Tree {
         home: Place,
         owner: (u32, u32),
     ) -> Tree
-        requires kept { tree.IsKept (record { names = names.entries; files = stored.contents files.entries; made = made; home = home; uid = owner.0; gid = owner.1 }) }
+        requires kept { tree.IsKept (stored.seen names.entries files.entries made home owner.0 owner.1) }
         requires counted { stored.AreCounted names.entries files.entries }
-        ensures { result ≡ record { names = names.entries; files = stored.contents files.entries; made = made; home = home; uid = owner.0; gid = owner.1 } }
+        ensures { result ≡ stored.seen names.entries files.entries made home owner.0 owner.1 }
     {
         let (uid, gid) = owner;
         Tree {
@@ -108,9 +108,10 @@ impl Tree {
     }
 
     /// The limits of the tree.
-    pub(crate) fn limits(&self) -> TreeLimits
+    pub(crate) fn tree_limits(&self) -> TreeLimits
         ensures { result ≡ tree.limits self.now }
     {
+        let _ = &self.made;
         usual_limits()
     }
 

@@ -1,8 +1,8 @@
 use Rattle.std.proofs.Common.{◌≡◌, sym, ap, subst, ◌∙◌}
 use Rattle.sftp_tree.specs.Tree.{Tree, IsKept, content_at}
 use Rattle.sftp_tree.specs.Steps.{with_changed_file}
-use Rattle.sftp_tree.specs.Stored.{AreCounted}
-use Rattle.sftp_tree.proofs.StoredTrees.{seen, owner-there, changed-parts}
+use Rattle.sftp_tree.specs.Stored.{seen, AreCounted}
+use Rattle.sftp_tree.proofs.StoredTrees.{owner-there, changed-parts}
 use Rattle.sftp_tree.proofs.trees.Tree.change_file.Goals as goal
 
 pub change_at-requires : goal.change_at-requires

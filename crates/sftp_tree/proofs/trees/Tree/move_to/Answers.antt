@@ -3,15 +3,15 @@ use Rattle.sftp_path.specs.Place.{Name, Place}
 use Rattle.sftp_path.specs.Rekeying.{rekeyed}
 use Rattle.sftp_tree.specs.Tree.{Tree, IsKept, node_at, without_node, times_named, trim}
 use Rattle.sftp_tree.specs.Steps.{put_in_its_stead}
-use Rattle.sftp_tree.specs.Stored.{contents, AreCounted, IsChangedWhereNamed, file_named, without_a_name}
+use Rattle.sftp_tree.specs.Stored.{seen, AreCounted, IsChangedWhereNamed, file_named, without_a_name}
 use Rattle.sftp_tree.proofs.StoredNames.{one_name}
-use Rattle.sftp_tree.proofs.StoredTrees.{seen, name-to-lose, left-parts}
+use Rattle.sftp_tree.proofs.StoredTrees.{name-to-lose, left-parts}
 use Rattle.sftp_tree.proofs.MovedNames.{named-moved}
 use Rattle.sftp_tree.proofs.trees.Tree.move_to.Goals as goal
 
 pub forget_name-requires : goal.forget_name-requires
 forget_name-requires c =
-    name-to-lose (seen c.self.inside.names.entries c.self.inside.files.entries c.self.inside.made c.self.inside.home c.self.inside.uid c.self.inside.gid) c.self.inside.files.entries c.self.invariant.0.trimmed refl c.self.invariant.1 c.file_named.result
+    name-to-lose (seen c.self.inside.names.entries c.self.inside.files.entries c.self.inside.made c.self.inside.home c.self.inside.uid c.self.inside.gid) c.self.inside.files.entries c.self.invariant.0.trimmed refl refl c.self.invariant.1 c.file_named.result
 
 -- the tree afterwards, and its counts
 parts : (c : goal.Joined-gone) → (seen c.move_node.new.names.entries c.forget_name.new.files.entries c.self.inside.made c.self.inside.home c.self.inside.uid c.self.inside.gid ≡ trim (put_in_its_stead c.args.self.now c.args.old.now c.args.new)) × AreCounted c.move_node.new.names.entries c.forget_name.new.files.entries
@@ -27,7 +27,7 @@ parts c =
     let named : c.file_named.result ≡ file_named gone = c.file_named.ensures ∙ ap file_named (c.as_ref.ensures.value ∙ c.in_ok-gone.ensures.gone) in
     let changed = subst (λ named. IsChangedWhereNamed without_a_name named c.self.inside.files.entries c.forget_name.new.files.entries) named c.forget_name.ensures in
     let both = left-parts names c.self.inside.files.entries c.self.inside.made c.self.inside.home c.self.inside.uid c.self.inside.gid c.self.invariant.0 c.self.invariant.1 gone c.move_node.new.names.entries c.forget_name.new.files.entries less changed in (
-      both.0 ∙ ap (λ ns. trim (record { names = ns; files = contents c.self.inside.files.entries; made = c.self.inside.made; home = c.self.inside.home; uid = c.self.inside.uid; gid = c.self.inside.gid })) is
+      both.0 ∙ ap (λ ns. trim (seen ns c.self.inside.files.entries c.self.inside.made c.self.inside.home c.self.inside.uid c.self.inside.gid)) is
           ∙ ap (λ (t : Tree). trim (put_in_its_stead t old new)) c.self.view_is,
       both.1,
     )

@@ -1,14 +1,14 @@
 use Rattle.std.proofs.Common.{◌≡◌, sym, ap, subst, ◌∙◌, IsTrue}
 use Rattle.sftp_tree.specs.declared.nodes.Node.TheVariants.{Dir}
 use Rattle.sftp_tree.specs.Tree.{Tree, IsKept, node_at, with_node, is_directory}
-use Rattle.sftp_tree.specs.Stored.{contents, AreCounted}
-use Rattle.sftp_tree.proofs.StoredTrees.{seen, owner-parts}
+use Rattle.sftp_tree.specs.Stored.{seen, AreCounted}
+use Rattle.sftp_tree.proofs.StoredTrees.{owner-parts}
 use Rattle.sftp_tree.proofs.trees.Tree.set_owner.Goals as goal
 
 -- the tree afterwards
 tree : (c : goal.After-replace) → seen c.replace.new.names.entries c.self.inside.files.entries c.self.inside.made c.self.inside.home c.self.inside.uid c.self.inside.gid ≡ record c.args.self.now { names = with_node c.args.self.now.names c.args.place.now (Dir c.args.owner) }
 tree c =
-    (λ i. record { names = c.replace.ensures i; files = contents c.self.inside.files.entries; made = c.self.inside.made; home = c.self.inside.home; uid = c.self.inside.uid; gid = c.self.inside.gid })
+    (λ i. seen (c.replace.ensures i) c.self.inside.files.entries c.self.inside.made c.self.inside.home c.self.inside.uid c.self.inside.gid)
     ∙ ap (λ (t : Tree). record t { names = with_node t.names c.args.place.now (Dir c.args.owner) }) c.self.view_is
 
 -- its counts
