@@ -5,6 +5,7 @@ use Rattle.std.specs.Cmp.{first_so}
 use Rattle.std.specs.List.{AllByRecursion}
 use Rattle.std.specs.List.Sorted.{IsStrictlySortedBy}
 use Rattle.std.proofs.lemmas.Bool.Decides.{nat_tests}
+use Rattle.std.proofs.lemmas.Option.{same_Some}
 use Rattle.std.proofs.lemmas.List.Filters.{length-filter_both}
 use Rattle.std.proofs.Math.Bool.{or-false}
 use Rattle.std.proofs.lemmas.Map.Made.{keys_of-map_values}
@@ -24,6 +25,7 @@ use Rattle.sftp_treefile.specs.Limits.{usual_limits}
 use Rattle.sftp_treefile.specs.TreeFile.{IsOwner}
 use Rattle.sftp_path.proofs.Order.{place_cmp-total}
 use Rattle.sftp_path.proofs.CountLaws.{count-put_again}
+use Rattle.sftp_tree.specs.Attributes.{changed_owner}
 use Rattle.sftp_tree.specs.Steps.{with_changed_file}
 use Rattle.sftp_tree.specs.Stored.{contents, seen, AreCounted, file_named, IsChanged, IsChangedWhereNamed, with_a_name, without_a_name, with_attributes_set}
 use Rattle.sftp_tree.proofs.KeepTables.{each-weaker}
@@ -151,3 +153,12 @@ module _ (names : Names) (files : Table ℕ Stored) (made : ℕ) (home : Place) 
   owner-there kept number =
       each-some (λ (s : Stored). IsOwner s.content.owner) (get nat_cmp files number) (λ s there.
       (at-number (λ number (content : Content). IsContent content) (contents files) kept.well_formed.contents number s.content (get-with_values nat_cmp (λ (s : Stored). s.content) files number ∙ ap (option_map (λ (s : Stored). s.content)) there)).0)
+
+-- and what its attributes leave is one, once they are set
+pub owner-changed : (files : Table ℕ Stored) (attrs : Attrs) (number : ℕ) → IfSome (get nat_cmp files number) (λ s. IsOwner (changed_owner attrs s.content.owner)) → (content : Content) → content_at (contents files) number ≡ Some content → IsOwner (changed_owner attrs content.owner)
+owner-changed files attrs number owned content there =
+    by (get nat_cmp files number) owned (sym (get-with_values nat_cmp (λ (s : Stored). s.content) files number) ∙ there)
+  where
+    by : (o : Option Stored) → IfSome o (λ s. IsOwner (changed_owner attrs s.content.owner)) → option_map (λ (s : Stored). s.content) o ≡ Some content → IsOwner (changed_owner attrs content.owner)
+    by None owned is = absurd cc
+    by (Some s) owned is = subst (λ (c : Content). IsOwner (changed_owner attrs c.owner)) (same_Some s.content content is) owned

@@ -2,6 +2,7 @@ use Rattle.std.proofs.Common.{◌≡◌, ℕ, ◌+◌, refl, sym, ap, subst, ◌
 use Rattle.sftp_path.specs.Table.{get, without}
 use Rattle.sftp_tree.specs.Tree.{Tree, IsKept, node_at, without_node, times_named, trim}
 use Rattle.sftp_tree.specs.Stored.{seen, AreCounted, IsChangedWhereNamed, file_named, without_a_name}
+use Rattle.sftp_tree.proofs.StepKept.{kept-without}
 use Rattle.sftp_tree.proofs.StoredNames.{one_name, named-without}
 use Rattle.sftp_tree.proofs.StoredTrees.{name-to-lose, left-parts}
 use Rattle.sftp_tree.proofs.trees.Tree.remove_at.Goals as goal
@@ -28,7 +29,9 @@ parts c =
     )
 
 pub invariant_of-self : goal.invariant_of-self
-invariant_of-self c = (subst IsKept (sym (parts c).0) c.requires, (parts c).1)
+invariant_of-self c =
+    let kept = kept-without c.args.self.now c.args.place.now (subst IsKept c.self.view_is c.self.invariant.0) c.requires.below_root c.requires.empty in
+    (subst IsKept (sym (parts c).0) kept, (parts c).1)
 
 pub returns : goal.returns
 returns c = (parts c).0
