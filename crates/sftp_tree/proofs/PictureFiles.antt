@@ -59,13 +59,13 @@ usual-entries t kept = ap (λ (bounds : TreeLimits). bounds.entries) kept.well_f
 
 -- ---- what the files of rows keep
 
-fit_contents : (earlier : List Row) (kind : Kind) → IsKind earlier kind → AllByRecursion IsFitContent (content_of kind)
+fit_contents : (earlier : List Row) (kind : Kind) → IsKind usual_limits earlier kind → AllByRecursion IsFitContent (content_of kind)
 fit_contents earlier (kinds.Dir owner) fits = tt
 fit_contents earlier (kinds.First owner bytes) fits = (fits, tt)
 fit_contents earlier (kinds.Further entry) fits = tt
 fit_contents earlier (kinds.Link target) fits = tt
 
-rows_contents : (earlier rows : List Row) → AreRows earlier rows → AllByRecursion IsFitContent (contents_of rows)
+rows_contents : (earlier rows : List Row) → AreRows usual_limits earlier rows → AllByRecursion IsFitContent (contents_of rows)
 rows_contents earlier [] fit = tt
 rows_contents earlier (row ∷ rows) fit =
     all_both IsFitContent (content_of row.kind) (contents_of rows) (fit_contents earlier row.kind fit.0.kind) (rows_contents (earlier ++ row ∷ []) rows fit.1)
@@ -102,8 +102,11 @@ names_each root rows number below =
 
 -- ---- from a tree file to its tree
 
-pub table_of_file : (root : Owner) (rows : List Row) → IsOwner root → AreRows [] rows → IsTable root (names_of root rows)
+pub table_of_file : (root : Owner) (rows : List Row) → IsOwner root → AreRows usual_limits [] rows → IsTable root (names_of root rows)
 table_of_file root rows fits fit = table_from_bare root (names_of root rows) (subst (IsTable root) (sym (names_bare root rows)) (table_of_rows root rows fits fit))
+
+rows_fit : (file : TreeFile) → IsTreeFile file → AreRows usual_limits [] file.rows
+rows_fit file is = subst (λ (bounds : TreeLimits). AreRows bounds [] file.rows) is.limits is.rows
 
 pub kept_of_file : (file : TreeFile) → IsTreeFile file → IsKept (tree_of file)
 kept_of_file file is =
@@ -111,8 +114,9 @@ kept_of_file file is =
     let contents = contents_of file.rows in
     let files = numbered_from 0 contents in
     let made = length contents in
-    let t = table_of_file file.root file.rows is.root is.rows in
-    let fit = rows_contents [] file.rows is.rows in
+    let rows = rows_fit file is in
+    let t = table_of_file file.root file.rows is.root rows in
+    let fit = rows_contents [] file.rows rows in
     let home = text_place file.home is.home in
     let many : length names ≡ length file.rows + 1 = omega (arith, length-entries [] file.rows) in
     let there = λ (n : ℕ) (below : n < made). numbered_there 0 contents n (omega arith) (omega arith) in
@@ -120,14 +124,14 @@ kept_of_file file is =
       well_formed = record {
         ordered = t.ordered;
         named = each-weaker (λ (e : Place × Node). IsPlace e.0) (λ (e : Place × Node). IsTrue (are_names e.0)) (λ e p. p.0) names t.places;
-        nodes = nodes_kept files made there names t.nodes (all_below file.root file.rows is.rows);
+        nodes = nodes_kept files made there names t.nodes (all_below file.root file.rows rows);
         root = rw t.root_is refl;
         parents = t.parents;
         numbered = numbered_order 0 contents;
         contents = each_content IsContent 0 contents (each-weaker IsFitContent IsContent (λ c f. (f.0, f.2)) contents fit);
         given = each_number (λ n. n < made) 0 contents (λ n above below. omega arith);
         pins = numbered_order 0 [];
-        limits = refl;
+        limits = is.limits;
         home = home.0;
         uid = is.uid;
         gid = is.gid;
@@ -137,21 +141,21 @@ kept_of_file file is =
         depths = all-each (λ (e : Place × Node). depth_fits e.0) names (each-weaker (λ (e : Place × Node). IsPlace e.0) (λ (e : Place × Node). IsTrue (depth_fits e.0)) (λ e p. p.1) names t.places);
         home = home.1;
         links = all-each (λ (e : Place × Node). link_fits e.1) names (each-weaker (λ (e : Place × Node). IsFitNode e.1) (λ (e : Place × Node). IsTrue (link_fits e.1)) (λ e p. fit_link e.1 p) names t.nodes);
-        files = all-each (λ (e : ℕ × Content). content_fits (limits (tree_of file)) e.1) files (each_content (λ c. IsTrue (content_fits (limits (tree_of file)) c)) 0 contents (each-weaker IsFitContent (λ c. IsTrue (content_fits (limits (tree_of file)) c)) (λ c f. le-leb (length c.bytes) usual_limits.file_bytes f.1) contents fit));
-        numbers = omega (arith, made_few file.rows, is.count);
+        files = all-each (λ (e : ℕ × Content). content_fits (limits (tree_of file)) e.1) files (each_content (λ c. IsTrue (content_fits (limits (tree_of file)) c)) 0 contents (each-weaker IsFitContent (λ c. IsTrue (content_fits (limits (tree_of file)) c)) (λ c f. subst (λ (bounds : TreeLimits). IsTrue (content_fits bounds c)) (sym is.limits) (le-leb (length c.bytes) usual_limits.file_bytes f.1)) contents fit));
+        numbers = omega (arith, made_few file.rows, is.count, ap (λ (bounds : TreeLimits). bounds.entries) is.limits);
       });
       trimmed = each_number (λ n. IsTrue (is_named names n || is_pinned [] n)) 0 contents (λ n above below. or_left (is_named names n) (is_pinned [] n) (names_each file.root file.rows n (omega arith)));
     }
 
 pub numbered_of_file : (file : TreeFile) → IsTreeFile file → IsTrue (is_numbered 0 (tree_of file).names (tree_of file).made)
-numbered_of_file file is = rows_numbered [] file.rows is.rows
+numbered_of_file file is = rows_numbered [] file.rows (rows_fit file is)
 
 pub file_again : (file : TreeFile) → IsTreeFile file → file_of (tree_of file) ≡ file
 file_again file is =
     let root : root_owner (node_at (names_of file.root file.rows) []) ≡ file.root = ap root_owner (root_at file.root (entries_behind [] file.rows)) in
     let rows : rows_behind (numbered_from 0 (contents_of file.rows)) (only_root file.root) (entries_behind [] file.rows) ≡ file.rows =
-    rows_again file.root (numbered_from 0 (contents_of file.rows)) [] file.rows tt is.rows (numbered_contents (contents_of file.rows)) in
-    λ i. record { home = sym is.home.one i; uid = file.uid; gid = file.gid; root = root i; rows = rows i }
+    rows_again file.root (numbered_from 0 (contents_of file.rows)) [] file.rows tt (rows_fit file is) (numbered_contents (contents_of file.rows)) in
+    λ i. record { limits = file.limits; home = sym is.home.one i; uid = file.uid; gid = file.gid; root = root i; rows = rows i }
 
 -- ---- from a tree to its file
 
@@ -215,7 +219,7 @@ fit_files t kept =
     let fit = each-all (λ (e : ℕ × Content). content_fits (limits t) e.1) t.files (limits_from t kept.within_limits).files in
     content_fit t.files kept.well_formed.contents (subst (λ (bounds : TreeLimits). AllByRecursion (λ (e : ℕ × Content). IsTrue (content_fits bounds e.1)) t.files) kept.well_formed.limits fit)
 
-rows_of_split : (t : Tree) → IsKept t → (s : Split t) → AreRows [] (rows_behind t.files (only_root s.root) s.entries)
+rows_of_split : (t : Tree) → IsKept t → (s : Split t) → AreRows usual_limits [] (rows_behind t.files (only_root s.root) s.entries)
 rows_of_split t kept s =
     let rows = rows_behind t.files (only_root s.root) s.entries in
     let table : IsTable s.root (bare_names s.root rows) =
@@ -230,12 +234,13 @@ file_of_kept t kept =
     let l = limits_from t kept.within_limits in
     let rows : rows_behind t.files [] t.names ≡ rows_behind t.files (only_root s.root) s.entries = ap (rows_behind t.files []) s.names_are in
     record {
+      limits = kept.well_formed.limits;
       home = place_text t.home (kept.well_formed.home, l.home);
       uid = kept.well_formed.uid;
       gid = kept.well_formed.gid;
-      count = omega (arith, ap length rows, length-rows t.files (only_root s.root) s.entries s.below, s.few, usual-entries t kept);
+      count = omega (arith, ap length rows, length-rows t.files (only_root s.root) s.entries s.below, s.few);
       root = subst IsOwner (sym (root_of_split t s)) s.table.nodes.0;
-      rows = subst (AreRows []) (sym rows) (rows_of_split t kept s);
+      rows = subst (λ (bounds : TreeLimits). AreRows bounds [] (rows_behind t.files [] t.names)) (sym kept.well_formed.limits) (subst (AreRows usual_limits []) (sym rows) (rows_of_split t kept s));
     }
 
 pub tree_again : (t : Tree) → IsKept t → t.pins ≡ [] → IsTrue (is_numbered 0 t.names t.made) → tree_of (file_of t) ≡ t
@@ -250,7 +255,7 @@ tree_again t kept unpinned numbered =
     let files : numbered_from 0 (contents_of (rows_behind t.files [] t.names)) ≡ t.files =
     ap (λ (rs : List Row). numbered_from 0 (contents_of rs)) rows
     ∙ numbered_again t.files (contents_of (rows_behind t.files (only_root s.root) s.entries)) kept.well_formed.numbered (subst (λ n. AllByRecursion (λ e. e.0 < n) t.files) (sym a.made_is) kept.well_formed.given) a.contents in
-    λ i. record { names = names i; files = files i; made = made i; pins = sym unpinned i; limits = sym kept.well_formed.limits i; home = components-absolute t.home kept.well_formed.home i; uid = t.uid; gid = t.gid }
+    λ i. record { names = names i; files = files i; made = made i; pins = sym unpinned i; limits = t.limits; home = components-absolute t.home kept.well_formed.home i; uid = t.uid; gid = t.gid }
 
 -- the place that a text was found to be of
 pub place_found : (text : List ℕ) (place : Place) → IsTextOf text place → place ≡ place_of text

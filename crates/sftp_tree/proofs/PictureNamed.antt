@@ -154,14 +154,14 @@ rows_below files root fs = rows_behind files (only_root root) fs
 
 naming_fits : (files : Files) (root : Owner) (fs : Names) (number : ℕ) (entry : Option ℕ) (content : Option Content) → entry_naming number fs ≡ entry → content_at files number ≡ content
     → IsTrue (is_some (content_at files number)) → AllByRecursion (λ e. IsFitContent e.1) files → AllByRecursion IsBelowRoot fs → length fs < 2 ^ 32
-    → IsKind (rows_below files root fs) (naming (option_map suc entry) content)
+    → IsKind usual_limits (rows_below files root fs) (naming (option_map suc entry) content)
 naming_fits files root fs number (Some m) content entry-is content-is there fit below few =
     (omega (arith, named_within number fs m entry-is), named_is_first files (only_root root) fs number m below refl entry-is)
 naming_fits files root fs number None (Some content) entry-is content-is there fit below few = all_at IsFitContent files number content fit content-is
 naming_fits files root fs number None None entry-is content-is there fit below few = absurd (let f : false ≡ true = sym (ap is_some content-is) ∙ there in cc)
 
 kind_fits : (files : Files) (root : Owner) (fs : Names) (standing : Node) → IsFitNode standing → IsNode files standing → AllByRecursion (λ e. IsFitContent e.1) files → AllByRecursion IsBelowRoot fs → length fs < 2 ^ 32
-    → IsKind (rows_below files root fs) (kind_of files (only_root root ++ fs) standing)
+    → IsKind usual_limits (rows_below files root fs) (kind_of files (only_root root ++ fs) standing)
 kind_fits files root fs (Dir owner) fits there fit below few = fits
 kind_fits files root fs (File number) fits there fit below few = naming_fits files root fs number (entry_naming number fs) (content_at files number) refl refl there fit below few
 kind_fits files root fs (Link target) fits there fit below few = (fits.1, fits.0)

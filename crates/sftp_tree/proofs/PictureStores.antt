@@ -77,7 +77,7 @@ numbers_push number (r ∷ rows) row =
 within : (rows : List Row) (entry : ℕ) → FirstAt rows entry → (1 ≤ entry) × (entry ≤ length rows)
 within rows entry f = (omega (arith, f.entry_is), omega (arith, f.entry_is, ap length f.rows_are, length-append f.front (f.row ∷ f.rest)))
 
-pub kind_known : (rows : List Row) (kind : Kind) → IsKind rows kind → IsKnown (numbers_from 0 rows) kind
+pub kind_known : (rows : List Row) (kind : Kind) → IsKind usual_limits rows kind → IsKnown (numbers_from 0 rows) kind
 kind_known rows (kinds.Dir owner) fits = tt
 kind_known rows (kinds.First owner bytes) fits = tt
 kind_known rows (kinds.Further entry) fits =
@@ -90,7 +90,7 @@ number_known rows entry f =
     let w = within rows entry f in
     number_at 0 rows (entry - 1) (omega (arith, w.0, w.1)) ∙ omega arith
 
-pub node_known : (rows : List Row) (kind : Kind) → IsKind rows kind → known_node (numbers_from 0 rows) (made_by rows) kind ≡ node_of rows kind
+pub node_known : (rows : List Row) (kind : Kind) → IsKind usual_limits rows kind → known_node (numbers_from 0 rows) (made_by rows) kind ≡ node_of rows kind
 node_known rows (kinds.Dir owner) fits = refl
 node_known rows (kinds.First owner bytes) fits = refl
 node_known rows (kinds.Further entry) fits = ap (λ n. File n) (number_known rows entry (first_at rows entry fits.1))
@@ -253,7 +253,7 @@ pushed_further root rows place number stores (Some s) same counted below found-i
       again_counted (names_of root rows) place number stores s new refl (stores_order stores (contents_of rows) same) found-is counted,
     )
 
-pushed : (root : Owner) (rows : List Row) (place : Place) (kind : Kind) (stores : Stores) → AreRows [] rows → IsKind rows kind → contents stores ≡ numbered_from 0 (contents_of rows) → AreCounted (names_of root rows) stores
+pushed : (root : Owner) (rows : List Row) (place : Place) (kind : Kind) (stores : Stores) → AreRows usual_limits [] rows → IsKind usual_limits rows kind → contents stores ≡ numbered_from 0 (contents_of rows) → AreCounted (names_of root rows) stores
     → Pushed root rows place kind (stores_with stores (numbers_from 0 rows) (made_by rows) kind)
 pushed root rows place (kinds.Dir owner) stores fit fits same counted = record {
   contents_are = same ∙ ap (numbered_from 0) (sym (append-nil (contents_of rows)));
@@ -280,7 +280,7 @@ pushed root rows place (kinds.Link target) stores fit fits same counted = record
   counted = counted_same (names_of root rows) (place, Link target) stores (no_names stores (Link target) (λ n. refl)) counted;
 }
 
-entry_put : (root : Owner) (rows : List Row) (row : Row) (names new : Names) (place : Place) (standing : Node) → IsNext rows row → names ≡ names_of root rows
+entry_put : (root : Owner) (rows : List Row) (row : Row) (names new : Names) (place : Place) (standing : Node) → IsNext usual_limits rows row → names ≡ names_of root rows
     → place ≡ place_of row.path → standing ≡ node_of rows row.kind → new ≡ insert_entry place_cmp names place standing → new ≡ names_of root (rows ++ row ∷ [])
 entry_put root rows row names new place standing next names-are place-is node-is put =
     let keys : keys_of (bare_names root rows) ≡ keys_of (names_of root rows) = ap keys_of (sym (names_bare root rows)) ∙ keys_of-map_values bare (names_of root rows) in
@@ -289,7 +289,7 @@ entry_put root rows row names new place standing next names-are place-is node-is
     ∙ sym (names_push root rows row)
 
 pub grown_push : (root : Owner) (rows : List Row) (row : Row) (names new-names : Names) (stores new-stores : Stores) (numbers : List ℕ) (next : ℕ) (place : Place) (standing : Node)
-    → AreRows [] rows → IsNext rows row → IsGrown root rows names stores → numbers ≡ numbers_from 0 rows → next ≡ made_by rows
+    → AreRows usual_limits [] rows → IsNext usual_limits rows row → IsGrown root rows names stores → numbers ≡ numbers_from 0 rows → next ≡ made_by rows
     → place ≡ place_of row.path → standing ≡ known_node numbers next row.kind → new-names ≡ insert_entry place_cmp names place standing → new-stores ≡ stores_with stores numbers next row.kind
     → IsGrown root (rows ++ row ∷ []) new-names new-stores
 grown_push root rows row names new-names stores new-stores numbers next place standing fit is-next grown numbers-are next-is place-is node-is names-put stores-put =
@@ -340,8 +340,8 @@ numbers_grow rows row numbers new next put are is =
 -- ---- the tree
 
 pub tree_grown : (file : TreeFile) (rows : List Row) (names : Names) (stores : Stores) (made : ℕ) (home : Place) → rows ≡ file.rows → IsGrown file.root rows names stores → made ≡ length stores → home ≡ place_of file.home
-    → seen names stores made home file.uid file.gid ≡ tree_of file
+    → seen names stores made file.limits home file.uid file.gid ≡ tree_of file
 tree_grown file rows names stores made home rows-are grown made-is home-is =
     let g : IsGrown file.root file.rows names stores = subst (λ (rs : List Row). IsGrown file.root rs names stores) rows-are grown in
     let many = made-is ∙ many_files file.root file.rows names stores g in
-    λ i. record { names = g.names_are i; files = g.contents_are i; made = many i; pins = []; limits = usual_limits; home = home-is i; uid = file.uid; gid = file.gid }
+    λ i. record { names = g.names_are i; files = g.contents_are i; made = many i; pins = []; limits = file.limits; home = home-is i; uid = file.uid; gid = file.gid }

@@ -205,7 +205,7 @@ picture_written t kept =
     let count : length (rows_behind t.files [] t.names) ≡ length t.names - 1 =
     omega (arith, ap length (ap (rows_behind t.files []) s.names_are), length-rows t.files (only_root s.root) s.entries s.below, ap length s.names_are) in
     spelled_head (file_of t)
-    ∙ ap (λ n. head_bytes (record { home = absolute t.home; uid = t.uid; gid = t.gid; count = n; root = root_owner (node_at t.names []) }) ++ flat_map row_text (rows_behind t.files [] t.names)) count
+    ∙ ap (λ n. head_bytes (record { limits = t.limits; home = absolute t.home; uid = t.uid; gid = t.gid; count = n; root = root_owner (node_at t.names []) }) ++ flat_map row_text (rows_behind t.files [] t.names)) count
 
 -- ---- at any number of an entry
 

@@ -98,26 +98,26 @@ name-to-lose t files trimmed none same counted named =
 
 -- ---- a change of a tree's parts
 
-module _ (names : Names) (files : Table ℕ Stored) (made : ℕ) (home : Place) (uid gid : ℕ) where
+module _ (names : Names) (files : Table ℕ Stored) (made : ℕ) (limits : TreeLimits) (home : Place) (uid gid : ℕ) where
   abbrev the_tree : Tree
-  the_tree = seen names files made home uid gid
+  the_tree = seen names files made limits home uid gid
 
   -- something more at a place
-  pub put-parts : (place : Place) (it : Node) → IsKept the_tree → AreCounted names files → node_at names place ≡ None → (others : Names) (after : Table ℕ Stored) → others ≡ with_node names place it → IsChangedWhereNamed with_a_name (file_named (Some it)) files after → (seen others after made home uid gid ≡ record the_tree { names = with_node names place it }) × AreCounted others after
+  pub put-parts : (place : Place) (it : Node) → IsKept the_tree → AreCounted names files → node_at names place ≡ None → (others : Names) (after : Table ℕ Stored) → others ≡ with_node names place it → IsChangedWhereNamed with_a_name (file_named (Some it)) files after → (seen others after made limits home uid gid ≡ record the_tree { names = with_node names place it }) × AreCounted others after
   put-parts place it kept counted absent others after is changed =
       let order = files-in_order files kept.well_formed.numbered in
       let both = raised names (with_node names place it) files it (named-put names place it absent) after order counted changed in (
-        (λ i. record { names = is i; files = both.0 i; made = made; pins = []; limits = usual_limits; home = home; uid = uid; gid = gid }),
+        (λ i. record { names = is i; files = both.0 i; made = made; pins = []; limits = limits; home = home; uid = uid; gid = gid }),
         subst (λ ns. AreCounted ns after) (sym is) both.1,
       )
 
   -- something less
-  pub left-parts : IsKept the_tree → AreCounted names files → (gone : Option Node) (others : Names) (after : Table ℕ Stored) → ((number : ℕ) → times_named others number + one_name gone number ≡ times_named names number) → IsChangedWhereNamed without_a_name (file_named gone) files after → (seen others after made home uid gid ≡ trim (record the_tree { names = others })) × AreCounted others after
+  pub left-parts : IsKept the_tree → AreCounted names files → (gone : Option Node) (others : Names) (after : Table ℕ Stored) → ((number : ℕ) → times_named others number + one_name gone number ≡ times_named names number) → IsChangedWhereNamed without_a_name (file_named gone) files after → (seen others after made limits home uid gid ≡ trim (record the_tree { names = others })) × AreCounted others after
   left-parts kept counted gone others after less changed =
       let order = files-in_order files kept.well_formed.numbered in
       let both = lowered names others files order counted (all-named names (contents files) kept.trimmed) gone less after changed in
       let same = both.0 ∙ retain-named others (contents files) in
-      ((λ i. record { names = others; files = same i; made = made; pins = []; limits = usual_limits; home = home; uid = uid; gid = gid }), both.1)
+      ((λ i. record { names = others; files = same i; made = made; pins = []; limits = limits; home = home; uid = uid; gid = gid }), both.1)
 
   -- another owner of a directory
   pub owner-parts : IsKept the_tree → AreCounted names files → (place : Place) (owner : Owner) → IsTrue (is_directory (node_at names place)) → (others : Names) → others ≡ with_node names place (Dir owner) → AreCounted others files
@@ -133,20 +133,20 @@ module _ (names : Names) (files : Table ℕ Stored) (made : ℕ) (home : Place) 
       by (Some (Link target)) there directory number = cc
 
   -- other attributes of a file
-  pub changed-parts : IsKept the_tree → AreCounted names files → (attrs : Attrs) (number : ℕ) (after : Table ℕ Stored) → IsChanged (with_attributes_set attrs) number files after → (seen names after made home uid gid ≡ with_changed_file the_tree attrs number (content_at (contents files) number)) × AreCounted names after
+  pub changed-parts : IsKept the_tree → AreCounted names files → (attrs : Attrs) (number : ℕ) (after : Table ℕ Stored) → IsChanged (with_attributes_set attrs) number files after → (seen names after made limits home uid gid ≡ with_changed_file the_tree attrs number (content_at (contents files) number)) × AreCounted names after
   changed-parts kept counted attrs number after changed = (
     by (get nat_cmp files number) refl
         ∙ ap (with_changed_file the_tree attrs number) (sym (get-with_values nat_cmp (λ (s : Stored). s.content) files number)),
     counted-changed names files attrs number after counted changed,
   )
     where
-      by : (o : Option Stored) → get nat_cmp files number ≡ o → seen names after made home uid gid ≡ with_changed_file the_tree attrs number (option_map (λ (s : Stored). s.content) o)
+      by : (o : Option Stored) → get nat_cmp files number ≡ o → seen names after made limits home uid gid ≡ with_changed_file the_tree attrs number (option_map (λ (s : Stored). s.content) o)
       by None none =
           let same = contents-unchanged names files attrs number after (files-in_order files kept.well_formed.numbered) changed none in
-          λ i. record { names = names; files = same i; made = made; pins = []; limits = usual_limits; home = home; uid = uid; gid = gid }
+          λ i. record { names = names; files = same i; made = made; pins = []; limits = limits; home = home; uid = uid; gid = gid }
       by (Some s) there =
           let same = contents-changed names files attrs number after (files-in_order files kept.well_formed.numbered) changed s there in
-          λ i. record { names = names; files = same i; made = made; pins = []; limits = usual_limits; home = home; uid = uid; gid = gid }
+          λ i. record { names = names; files = same i; made = made; pins = []; limits = limits; home = home; uid = uid; gid = gid }
 
   -- the file that is there has an owner
   pub owner-there : IsKept the_tree → (number : ℕ) → IfSome (get nat_cmp files number) (λ s. IsOwner s.content.owner)

@@ -58,6 +58,7 @@ root_owner None = no_owner
 -- what the tree file of a tree says
 abbrev pub file_of : Tree → TreeFile
 file_of t = record {
+  limits = t.limits;
   home = absolute t.home;
   uid = t.uid;
   gid = t.gid;

@@ -13,7 +13,6 @@ use Rattle.sftp_treefile.specs.declared.files.Row.{Row}
 use Rattle.sftp_treefile.specs.declared.files.TreeFile.{TreeFile}
 use Rattle.sftp_treefile.specs.declared.heads.Head.{Head}
 use Rattle.sftp_treefile.specs.TreeFile.{place_of}
-use Rattle.sftp_treefile.specs.Limits.{usual_limits}
 use Rattle.sftp_tree.specs.declared.contents.Content.{Content}
 use Rattle.sftp_tree.specs.declared.contents.Stored.{Stored}
 use Rattle.sftp_tree.specs.declared.nodes.Node.{Node}
@@ -66,7 +65,7 @@ tree_of file = record {
   files = numbered_from 0 (contents_of file.rows);
   made = length (contents_of file.rows);
   pins = [];
-  limits = usual_limits;
+  limits = file.limits;
   home = place_of file.home;
   uid = file.uid;
   gid = file.gid;
@@ -127,7 +126,7 @@ pub record IsGrown (root : Owner) (rows : List Row) (names : Names) (stores : St
 
 -- what stands before the entries
 abbrev pub head_of : Tree → Head
-head_of t = record { home = absolute t.home; uid = t.uid; gid = t.gid; count = length t.names - 1; root = root_owner (node_at t.names []) }
+head_of t = record { limits = t.limits; home = absolute t.home; uid = t.uid; gid = t.gid; count = length t.names - 1; root = root_owner (node_at t.names []) }
 
 -- for each file that was met the number of the entry that is its first name
 abbrev pub Firsts : Type 0

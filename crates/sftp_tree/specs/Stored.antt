@@ -5,7 +5,7 @@ use Rattle.std.specs.List.{AllByRecursion}
 use Rattle.sftp_wire.specs.declared.attributes.Attrs.{Attrs}
 use Rattle.sftp_path.specs.Place.{Place}
 use Rattle.sftp_path.specs.Table.{Table, InOrder, get, with_values}
-use Rattle.sftp_treefile.specs.Limits.{usual_limits}
+use Rattle.sftp_treefile.specs.declared.limits.TreeLimits.{TreeLimits}
 use Rattle.sftp_tree.specs.declared.contents.Stored.{Stored}
 use Rattle.sftp_tree.specs.declared.nodes.Node.{Node}
 use Rattle.sftp_tree.specs.declared.nodes.Node.TheVariants.{Dir, File, Link}
@@ -16,9 +16,9 @@ use Rattle.sftp_tree.specs.Attributes.{changed_content}
 abbrev pub contents : Table ℕ Stored → Files
 contents stored = with_values (λ (s : Stored). s.content) stored
 
--- the tree of these parts: nothing pins a file yet, and the limits are the usual ones
-abbrev pub seen : Names → Table ℕ Stored → ℕ → Place → ℕ → ℕ → Tree
-seen names stored made home uid gid = record { names = names; files = contents stored; made = made; pins = []; limits = usual_limits; home = home; uid = uid; gid = gid }
+-- the tree of these parts; nothing pins a file yet
+abbrev pub seen : Names → Table ℕ Stored → ℕ → TreeLimits → Place → ℕ → ℕ → Tree
+seen names stored made limits home uid gid = record { names = names; files = contents stored; made = made; pins = []; limits = limits; home = home; uid = uid; gid = gid }
 
 -- each count is that of the entries that are names of the file
 abbrev pub AreCounted : Names → Table ℕ Stored → Type 0

@@ -64,7 +64,7 @@ impl FileBytes {
 pub struct Content {
     /// Its user, its group, and its permissions of twelve bits.
     pub owner: Owner,
-    /// Its bytes: 16,777,216 of them at most.
+    /// Its bytes, of which the limits say how many there may be.
     pub bytes: FileBytes,
 }
 

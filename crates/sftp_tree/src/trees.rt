@@ -7,7 +7,7 @@ use crate::contents::{Content, Stored, change_at, count_name, file_named, forget
 use crate::moving::{move_node, replace};
 use crate::nodes::Node;
 use sftp_path::{NoMemory, Place};
-use sftp_treefile::{Owner, TreeLimits, usual_limits};
+use sftp_treefile::{Owner, TreeLimits};
 use sftp_wire::Attrs;
 use std::collections::BTreeMap;
 use std::marker::Model;
@@ -18,6 +18,7 @@ pub struct Tree {
     names: BTreeMap<Place, Node>,
     files: BTreeMap<u32, Stored>,
     made: u32,
+    limits: TreeLimits,
     home: Place,
     uid: u32,
     gid: u32,
@@ -29,9 +30,9 @@ impl Model for Tree {
 
     ghost Value = { tree.Tree };
 
-    ghost view = { λ t. stored.seen t.names.entries t.files.entries t.made t.home t.uid t.gid };
+    ghost view = { λ t. stored.seen t.names.entries t.files.entries t.made t.limits t.home t.uid t.gid };
 
-    ghost invariant = { λ t. tree.IsKept (stored.seen t.names.entries t.files.entries t.made t.home t.uid t.gid)
+    ghost invariant = { λ t. tree.IsKept (stored.seen t.names.entries t.files.entries t.made t.limits t.home t.uid t.gid)
         × stored.AreCounted t.names.entries t.files.entries };
 }
 
@@ -46,18 +47,20 @@ impl Tree {
         names: BTreeMap<Place, Node>,
         files: BTreeMap<u32, Stored>,
         made: u32,
+        limits: TreeLimits,
         home: Place,
         owner: (u32, u32),
     ) -> Tree
-        requires kept { tree.IsKept (stored.seen names.entries files.entries made home owner.0 owner.1) }
+        requires kept { tree.IsKept (stored.seen names.entries files.entries made limits home owner.0 owner.1) }
         requires counted { stored.AreCounted names.entries files.entries }
-        ensures { result ≡ stored.seen names.entries files.entries made home owner.0 owner.1 }
+        ensures { result ≡ stored.seen names.entries files.entries made limits home owner.0 owner.1 }
     {
         let (uid, gid) = owner;
         Tree {
             names,
             files,
             made,
+            limits,
             home,
             uid,
             gid,
@@ -112,8 +115,7 @@ impl Tree {
     pub(crate) fn tree_limits(&self) -> TreeLimits
         ensures { result ≡ tree.limits self.now }
     {
-        let _ = &self.made;
-        usual_limits()
+        self.limits
     }
 
     /// Puts a node at a place where nothing stands, in a directory.

@@ -11,8 +11,8 @@ invariant-loop-row l = record {
   items : l.yielded ++ into_iter_items l.row-iterator ≡ into_iter_items l.initial.row-iterator;
   count : into_iter_len l.row-iterator ≡ length (into_iter_items l.row-iterator);
   few : length (l.yielded ++ into_iter_items l.row-iterator) ≤ usual_limits.entries;
-  before : AreRows [] l.yielded;
-  rows : AreRows l.yielded (into_iter_items l.row-iterator);
+  before : AreRows usual_limits [] l.yielded;
+  rows : AreRows usual_limits l.yielded (into_iter_items l.row-iterator);
   grown : parts.IsGrown l.fn.root l.yielded l.names.entries l.files.entries;
   numbers : l.numbers.items ≡ parts.numbers_from 0 l.yielded;
 }
