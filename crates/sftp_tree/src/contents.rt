@@ -6,8 +6,8 @@ ghost use Rattle.sftp_treefile.specs.TreeFile.{IsOwner};
 ghost use Rattle.sftp_tree.specs.Attributes.{resized, changed_owner, changed_content};
 ghost use Rattle.sftp_tree.specs.Stored.{IsChanged, IsChangedWhereNamed, file_named, with_a_name, without_a_name, with_attributes_set};
 
-use crate::attributes::changed_owner;
 use crate::nodes::Node;
+use crate::owners::changed_owner;
 use sftp_path::NoMemory;
 use sftp_treefile::Owner;
 use sftp_wire::Attrs;

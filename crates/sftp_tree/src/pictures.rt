@@ -9,7 +9,7 @@ mod reading;
 mod tests;
 mod writing;
 
-use crate::nodes::Node;
+use crate::entries::Entries;
 use crate::trees::Tree;
 use reading::tree_of;
 use sftp_path::{NoMemory, Place};
@@ -33,8 +33,7 @@ impl Tree {
             gid: 0,
             permissions: 0o755,
         };
-        let mut names = BTreeMap::new(alloc);
-        names.insert(Place::root(alloc), Node::Dir(owner))?;
+        let names = Entries::root(alloc, owner)?;
         let files = BTreeMap::new(alloc);
         let home = Place::root(alloc);
         Ok(Tree::from_parts(names, files, 0, usual_limits(), home, (0, 0)))

@@ -12,12 +12,12 @@ ghost use Rattle.sftp_tree.specs.Steps as steps;
 ghost use Rattle.sftp_tree.specs.Sets.{IsFree, IsRefusal, stat_ask};
 ghost use Rattle.sftp_tree.specs.Judged as judged;
 
-use crate::attributes::changed_owner;
 use crate::causes::{Cause, Refused};
 use crate::judging::is_target;
 use crate::keeping::{nothing_below, trimmed_already};
 use crate::led::{causes_where_led, causes_where_lost};
 use crate::nodes::Node;
+use crate::owners::changed_owner;
 use crate::trees::Tree;
 use sftp_path::{NoMemory, Place, absolute, good_path};
 use sftp_wire::{Attrs, ByteString};

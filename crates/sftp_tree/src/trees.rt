@@ -4,7 +4,7 @@ ghost use Rattle.sftp_path.specs.Place.{are_names, parent};
 ghost use Rattle.sftp_treefile.specs.TreeFile.{IsOwner, is_root, same_place};
 
 use crate::contents::{Content, Stored, change_at, count_name, file_named, forget_name};
-use crate::moving::{move_node, replace};
+use crate::entries::Entries;
 use crate::nodes::Node;
 use sftp_path::{NoMemory, Place};
 use sftp_treefile::{Owner, TreeLimits};
@@ -15,7 +15,7 @@ use std::marker::Model;
 /// A tree of directories, files and symbolic links, within the limits.
 #[derive(Debug, Drop)]
 pub struct Tree {
-    names: BTreeMap<Place, Node>,
+    names: Entries,
     files: BTreeMap<u32, Stored>,
     made: u32,
     limits: TreeLimits,
@@ -30,10 +30,10 @@ impl Model for Tree {
 
     ghost Value = { tree.Tree };
 
-    ghost view = { λ t. stored.seen t.names.entries t.files.entries t.made t.limits t.home t.uid t.gid };
+    ghost view = { λ t. stored.seen t.names t.files.entries t.made t.limits t.home t.uid t.gid };
 
-    ghost invariant = { λ t. tree.IsKept (stored.seen t.names.entries t.files.entries t.made t.limits t.home t.uid t.gid)
-        × stored.AreCounted t.names.entries t.files.entries };
+    ghost invariant = { λ t. tree.IsKept (stored.seen t.names t.files.entries t.made t.limits t.home t.uid t.gid)
+        × stored.AreCounted t.names t.files.entries };
 }
 
 impl Tree {
@@ -44,16 +44,16 @@ impl Tree {
 
     /// A tree of these parts. It takes no memory.
     pub(crate) fn from_parts(
-        names: BTreeMap<Place, Node>,
+        names: Entries,
         files: BTreeMap<u32, Stored>,
         made: u32,
         limits: TreeLimits,
         home: Place,
         owner: (u32, u32),
     ) -> Tree
-        requires kept { tree.IsKept (stored.seen names.entries files.entries made limits home owner.0 owner.1) }
-        requires counted { stored.AreCounted names.entries files.entries }
-        ensures { result ≡ stored.seen names.entries files.entries made limits home owner.0 owner.1 }
+        requires kept { tree.IsKept (stored.seen names files.entries made limits home owner.0 owner.1) }
+        requires counted { stored.AreCounted names files.entries }
+        ensures { result ≡ stored.seen names files.entries made limits home owner.0 owner.1 }
     {
         let (uid, gid) = owner;
         Tree {
@@ -68,8 +68,8 @@ impl Tree {
     }
 
     /// What stands at each place, the root among them, in the places' order.
-    pub(crate) fn names(&self) -> &BTreeMap<Place, Node>
-        ensures names { result.now.entries ≡ self.now.names }
+    pub(crate) fn names(&self) -> &Entries
+        ensures names { result.now ≡ self.now.names }
         ensures kept { tree.IsKept self.now }
     {
         &self.names
@@ -134,7 +134,7 @@ impl Tree {
         ensures err { OnErr result (self.new ≡ self.old) }
     {
         let named = file_named(Some(&node));
-        self.names.insert(place, node)?;
+        self.names.put(place, node)?;
         count_name(&mut self.files, named);
         Ok(())
     }
@@ -170,7 +170,7 @@ impl Tree {
         ensures ok { OnOk result (self.new ≡ tree.trim (steps.put_in_its_stead self.old old.now new)) }
         ensures err { OnErr result (self.new ≡ self.old) }
     {
-        let gone = move_node(&mut self.names, old, new)?;
+        let gone = self.names.move_node(old, new)?;
         forget_name(&mut self.files, file_named(gone.as_ref()));
         Ok(())
     }
@@ -181,7 +181,7 @@ impl Tree {
         requires owner { IsOwner owner }
         ensures { self.new ≡ tree.trim (record self.old { names = tree.with_node self.old.names place.now (Dir owner) }) }
     {
-        replace(&mut self.names, place, Node::Dir(owner));
+        self.names.set_owner(place, owner);
     }
 
     /// Sets the attributes of a file: its size, which cuts the bytes or fills them with zeros, its owner and the low twelve bits of

@@ -2,7 +2,7 @@ use Rattle.std.proofs.Common.{◌≡◌, [], ◌∷◌, ◌++◌, sym, ap, ◌�
 use Rattle.sftp_tree.specs.declared.nodes.Node.{Node}
 use Rattle.sftp_path.specs.Place.{Place}
 use Rattle.sftp_tree.proofs.MovedNames.{moved-none, moved-more}
-use Rattle.sftp_tree.proofs.moving.moved.Goals as goal
+use Rattle.sftp_tree.proofs.entries.moving.moved.Goals as goal
 
 pub loop-place-init : goal.loop-place-init
 loop-place-init c =

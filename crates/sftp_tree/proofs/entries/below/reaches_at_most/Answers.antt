@@ -1,6 +1,6 @@
 use Rattle.std.proofs.Common.{sym, ◌∙◌, ap}
 use Rattle.sftp_tree.proofs.CauseMoves.{row_reaches, reaches-row}
-use Rattle.sftp_tree.proofs.judging.reaches_at_most.Goals as goal
+use Rattle.sftp_tree.proofs.entries.below.reaches_at_most.Goals as goal
 
 pub loop-place-init : goal.loop-place-init
 loop-place-init c =

@@ -1,7 +1,7 @@
 use Rattle.std.proofs.Common.{◌≡◌, true, [], length, ap, arith}
 use Rattle.sftp_path.specs.Place.{begins}
 use Rattle.sftp_path.proofs.RekeyingLaws.{length-renamed}
-use Rattle.sftp_tree.proofs.moving.renamed.Goals as goal
+use Rattle.sftp_tree.proofs.entries.moving.renamed.Goals as goal
 
 -- a place that begins another has no more names
 pub split_at-requires : goal.split_at-requires

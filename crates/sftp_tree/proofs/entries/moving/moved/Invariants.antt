@@ -2,7 +2,7 @@
 use Rattle.std.proofs.Common.{◌≡◌, ◌++◌}
 use Rattle.sftp_path.specs.Rekeying.{rekeyed}
 use Rattle.sftp_tree.specs.Tree.{Names, without_node}
-use Rattle.sftp_tree.proofs.moving.moved.Given as goal
+use Rattle.sftp_tree.proofs.entries.moving.moved.Given as goal
 
 abbrev pub invariant-loop-place : goal.invariant-loop-place
 invariant-loop-place l =
