@@ -1,10 +1,10 @@
 //! Laws of trees and their tree files, as theorems on the definitions that the contracts name. The functions do
 //! nothing; each promise is in the contract.
-ghost use Rattle.std.specs.Prelude.{◌≡◌, ◌++◌, ℕ, List, length};
+ghost use Rattle.std.specs.Prelude.{◌≡◌, ◌++◌, ℕ, List, length, IsTrue};
 ghost use Rattle.sftp_treefile.specs.Rows.{blank_bytes};
 ghost use Rattle.sftp_treefile.specs.TreeFile.{IsSpelled};
 ghost use Rattle.sftp_treefile.specs.declared.files.TreeFile.{TreeFile};
-ghost use Rattle.sftp_tree.specs.Tree.{Tree, IsKept};
+ghost use Rattle.sftp_tree.specs.Tree.{Tree, WellFormed, IsKept, fits};
 ghost use Rattle.sftp_tree.specs.Picture.{IsStart, file_of, picture, blank};
 ghost use Rattle.sftp_tree.specs.PictureParts.{tree_of};
 ghost use Rattle.sftp_tree.specs.PictureRows.{linked, linked_front, linked_root, linked_directory, linked_link, two_names, two_names_bytes};
@@ -14,10 +14,10 @@ pub fn starts_are_one()
     ensures { (t u : Tree) (bytes : List ℕ) → IsStart t bytes → IsStart u bytes → t ≡ u }
 {}
 
-/// The tree file of a tree that the program may have is that of the same tree with its files numbered from 0 in the order of
-/// their first names.
+/// The tree file of a tree within the limits is that of the same tree with its files numbered from 0 in the order of their first
+/// names, without those that have none.
 pub fn pictures_are_starts()
-    ensures { (t : Tree) → IsKept t → IsStart (tree_of (file_of t)) (picture t) }
+    ensures { (t : Tree) → WellFormed t → IsTrue (fits t) → IsStart (tree_of (file_of t)) (picture t) }
 {}
 
 /// The tree of a tree file by the grammar is a start, and the tree file of a start is one by the grammar.
