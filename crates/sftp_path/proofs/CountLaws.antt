@@ -104,7 +104,7 @@ module _ {K X : Type 0} where
     unfolding get without retain
     count-without es key value passes = count-remove passes cmp es key value
 
-    -- what stands there and passes is counted
+    -- a value that passes is counted
     pub count-found : (es : Table K X) (key : K) (value : X) (passes : X → Bool) → get cmp es key ≡ Some value → IsTrue (passes value) → 0 < count es passes
     count-found es key value passes there passing =
         omega (arith, count-without es key value passes there, ap (λ b. one_if b) passing)

@@ -45,11 +45,11 @@ module _ {K : Type 0} (cmp : K → K → Ordering) (total : IsTotalOrder cmp) (s
       false_from_ne_true (is_eq (cmp b a)) (λ h. not-both (cmp a b) (cmp b b) less (tied_itself total b) (ap (λ k. cmp k b) (sym (tie b a h))))
 
 module _ {K X : Type 0} (cmp : K → K → Ordering) where
-  -- nothing stands at a key: neither in the first entry, nor in the others
+  -- a key has no value: neither in the first entry, nor in the others
   pub get-none : (e : K × X) (es : Table K X) (key : K) → get cmp (e ∷ es) key ≡ None → (is_eq (cmp key e.0) ≡ false) × (get cmp es key ≡ None)
   get-none e es key h = none-parts (is_eq (cmp key e.0)) e.1 (get cmp es key) (sym (get-cons cmp e es key) ∙ h)
 
-  -- nothing stands at a key: neither in front, nor behind
+  -- a key has no value: neither in front, nor behind
   pub get-none_front : (es fs : Table K X) (key : K) → get cmp (es ++ fs) key ≡ None → get cmp es key ≡ None
   get-none_front [] fs key h = get-empty cmp key
   get-none_front (x ∷ xs) fs key h =

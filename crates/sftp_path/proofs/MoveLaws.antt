@@ -1,4 +1,4 @@
--- More laws of a directory that moves in a table of places: what is counted, an entry that stands alone, and
+-- More laws of a directory that moves in a table of places: what is counted, an entry with none below it, and
 -- the move entry by entry.
 use Rattle.std.proofs.Common.{◌≡◌, ◌≢◌, ◌+◌, Bool, true, false, cond, [], ◌∷◌, ◌++◌, length, drop, map, refl, sym, ap, subst, ◌∙◌, arith, Some, None, inl, inr, true≢false}
 use Rattle.std.specs.Ordering.{is_eq}
@@ -10,7 +10,7 @@ use Rattle.std.proofs.lemmas.Map.Keys.{sorted_tail}
 use Rattle.sftp_path.specs.Place.{Name, Place, place_cmp, begins}
 use Rattle.sftp_path.specs.Table.{Table, InOrder, get, put, without, from_entries, count}
 use Rattle.sftp_path.specs.Rekeying.{renamed, renamed_entry, rekeyed, NothingFrom}
-use Rattle.sftp_path.proofs.Order.{begins-front, begins-append, place_cmp-total, place_cmp-same}
+use Rattle.sftp_path.proofs.Order.{begins-front, begins-itself, place_cmp-total, place_cmp-same}
 use Rattle.sftp_path.proofs.TableLaws.{get-put_here, get-put_elsewhere, get-without, get-without_here, get-without_elsewhere, get-from_entries, InOrder-put, InOrder-without}
 use Rattle.sftp_path.proofs.EntryLaws.{get-none_front, get-none_behind, get-front, from_entries-last, put-without}
 use Rattle.sftp_path.proofs.CountLaws.{one_if, count-step, count-put_new}
@@ -19,9 +19,6 @@ use Rattle.sftp_path.proofs.RekeyingLaws.{renamed-inside, renamed-outside, get-m
 -- places that differ do not tie
 differ : (p q : Place) → (p ≡ q → ⊥) → place_cmp p q ≢ Equal
 differ p q apart tie = apart (place_cmp-same p q tie)
-
-begins-itself : (place : Place) → begins place place ≡ true
-begins-itself place = ap (begins place) (sym (append-nil place)) ∙ begins-append place []
 
 -- what one place begins and another does not
 begins-apart : (top p q : Place) → begins top p ≡ true → begins top q ≡ false → p ≡ q → ⊥
@@ -33,7 +30,7 @@ longer-apart place name names is =
     let short : length (place ++ name ∷ names) ≡ length place = ap length is in
     absurd (omega arith)
 
--- nothing stands from a place on, neither in front nor behind
+-- there is no entry from a place on, neither in front nor behind
 pub NothingFrom-front : {X : Type 0} (place : Place) (es fs : Table Place X) → NothingFrom (es ++ fs) place → NothingFrom es place
 NothingFrom-front place es fs nothing rest = get-none_front place_cmp es fs (place ++ rest) (nothing rest)
 

@@ -4,7 +4,7 @@ use Rattle.std.specs.Ordering.{is_eq, ordering_then}
 use Rattle.std.specs.Cmp.{Equal-is}
 use Rattle.std.specs.Cmp.Lexicographic.{nat_list_cmp_total, nat_list_eq_equiv}
 use Rattle.std.specs.Map.{keys_of}
-use Rattle.std.proofs.lemmas.Bool.{and_parts, cases_Bool, false_from_ne_true}
+use Rattle.std.proofs.lemmas.Bool.{and_parts, cases_Bool, false_from_ne_true, false≢true}
 use Rattle.std.proofs.lemmas.Cmp.{tied_itself}
 use Rattle.std.proofs.lemmas.List.{append_assoc, length-append}
 use Rattle.std.proofs.lemmas.Map.Keys.{sorted_head, sorted_tail}
@@ -69,9 +69,6 @@ same-moved old new rest place free =
           ∙ sym (apart old (old ++ rest) place true false (begins-append old rest) outside true≢false)
     ]
 
-false≢true : false ≡ true → ⊥
-false≢true e = true≢false (sym e)
-
 same-elsewhere : (old new at place : Place) → begins old at ≡ false → begins new at ≡ false → is_eq (place_cmp at (renamed old new place)) ≡ is_eq (place_cmp at place)
 same-elsewhere old new at place not_old not_new =
     elim (cases_Bool (begins old place)) [
@@ -90,7 +87,7 @@ never-behind old new at place in_old not_new =
           ∙ apart old at place true false in_old outside true≢false
     ]
 
--- nothing stands at a place, nor at those that it begins
+-- there is no entry at a place, nor at those that it begins
 pub nothing-at : {X : Type 0} (table : Table Place X) (top place : Place) → NothingFrom table top → begins top place ≡ true → get place_cmp table place ≡ None
 nothing-at table top place nothing inside = ap (get place_cmp table) (begins-front top place inside) ∙ nothing (drop (length top) place)
 
@@ -126,7 +123,7 @@ module _ {X : Type 0} (old new : Place) where
   pub nothing-behind : (e : Place × X) (es : Table Place X) → NothingFrom (e ∷ es) new → NothingFrom es new
   nothing-behind e es nothing rest = (get-none place_cmp e es (new ++ rest) (nothing rest)).1
 
-  -- the first entry does not stand at the new place, nor below it
+  -- the first entry is not at the new place, nor below it
   pub first-outside : (e : Place × X) (es : Table Place X) → NothingFrom (e ∷ es) new → begins new e.0 ≡ false
   first-outside e es nothing =
       false_from_ne_true (begins new e.0) (λ inside.
@@ -166,7 +163,7 @@ module _ {X : Type 0} (old new : Place) where
   unfolding rekeyed
   size-rekeyed = size-made
 
-  -- ---- what stands at a place
+  -- ---- the value of a place
 
   pub get-rekeyed : (table : Table Place X) (at : Place) → get place_cmp (rekeyed old new table) at ≡ get place_cmp (map (renamed_entry old new) table) at
   unfolding rekeyed

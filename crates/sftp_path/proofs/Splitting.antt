@@ -8,7 +8,7 @@ use Rattle.std.proofs.lemmas.Bool.{eq-eqb, eqb-true, ne_eqb, lt-ltb, ltb-true, l
 use Rattle.std.proofs.lemmas.List.{drop_all, length-drop, take_rest}
 use Rattle.std.proofs.lemmas.Option.{cond_some, none-some}
 use Rattle.sftp_path.specs.Place.{is_inner, name_limit, with_first, parts, components, is_nonempty}
-use Rattle.sftp_path.specs.Text.{joined}
+use Rattle.sftp_path.specs.Text.{with_slashes}
 use Rattle.sftp_path.specs.Cut.{begins_at_slash, parts_behind}
 
 -- ---- parts
@@ -88,7 +88,7 @@ components-nil = components-are [] ∙ ap (filter is_nonempty) parts-nil
 pub components-slash : (bs : List ℕ) → components (47 ∷ bs) ≡ components bs
 components-slash bs = components-are (47 ∷ bs) ∙ ap (filter is_nonempty) (parts-from_slash bs) ∙ sym (components-are bs)
 
--- what stands behind a part gives the components that are left
+-- what follows a part gives the components that are left
 pub components-behind : (bs : List ℕ) → begins_at_slash bs ≡ true → components bs ≡ filter is_nonempty (parts_behind bs)
 components-behind [] h = components-nil
 components-behind (b ∷ bs) h = components-are (b ∷ bs) ∙ ap (filter is_nonempty) (parts-slash b bs h)
@@ -129,7 +129,7 @@ components-skip (b ∷ bs) =
       | inr inner ↦ ap components (skip-stop b bs inner)
     ]
 
--- behind them stands nothing, or a byte that is no `/`
+-- nothing follows them, or a byte that is not `/`
 skip-inner : (bs : List ℕ) → begins_at_slash (drop (position_or_len is_inner bs) bs) ≡ true → drop (position_or_len is_inner bs) bs ≡ []
 skip-inner [] h = refl
 skip-inner (b ∷ bs) h =
@@ -201,27 +201,27 @@ parts-found bs (Some n) h = parts-cut bs n (λ k l e. h.0.before k (omega arith)
 
 -- ---- the parts make the path
 
-joined-with_first : (b : ℕ) (w : List ℕ) (ws : List (List ℕ)) → joined (with_first b (w ∷ ws)) ≡ b ∷ joined (w ∷ ws)
-joined-with_first b w [] = refl
-joined-with_first b w (v ∷ vs) = refl
+with_slashes-with_first : (b : ℕ) (w : List ℕ) (ws : List (List ℕ)) → with_slashes (with_first b (w ∷ ws)) ≡ b ∷ with_slashes (w ∷ ws)
+with_slashes-with_first b w [] = refl
+with_slashes-with_first b w (v ∷ vs) = refl
 
-pub joined-parts : (bs : List ℕ) → joined (parts bs) ≡ bs
-joined-parts [] = ap joined parts-nil
-joined-parts (b ∷ bs) =
+pub with_slashes-parts : (bs : List ℕ) → with_slashes (parts bs) ≡ bs
+with_slashes-parts [] = ap with_slashes parts-nil
+with_slashes-parts (b ∷ bs) =
     let first = parts-first bs in
-    let rest : joined (first.0 ∷ first.1) ≡ bs = ap joined (sym first.2) ∙ joined-parts bs in
+    let rest : with_slashes (first.0 ∷ first.1) ≡ bs = ap with_slashes (sym first.2) ∙ with_slashes-parts bs in
     elim (cases_Bool (b == 47)) [
       | inl slash ↦
-          ap joined (parts-slash b bs slash) ∙ ap (λ ws. joined ([] ∷ ws)) first.2
+          ap with_slashes (parts-slash b bs slash) ∙ ap (λ ws. with_slashes ([] ∷ ws)) first.2
           ∙ ap (λ cs. 47 ∷ cs) rest ∙ ap (λ v. v ∷ bs) (sym (eqb-true b 47 slash))
       | inr inner ↦
-          ap joined (parts-inner b bs inner ∙ ap (with_first b) first.2)
-          ∙ joined-with_first b first.0 first.1 ∙ ap (λ cs. b ∷ cs) rest
+          ap with_slashes (parts-inner b bs inner ∙ ap (with_first b) first.2)
+          ∙ with_slashes-with_first b first.0 first.1 ∙ ap (λ cs. b ∷ cs) rest
     ]
 
 -- lists without a `/`, at least one, are the parts of what they make
-pub parts-joined : (w : List ℕ) (ws : List (List ℕ)) → list_all (list_all is_inner) (w ∷ ws) ≡ true → parts (joined (w ∷ ws)) ≡ w ∷ ws
-parts-joined w [] h = parts-whole w (and_parts (list_all is_inner w) true h).0
-parts-joined w (v ∷ vs) h =
+pub parts-with_slashes : (w : List ℕ) (ws : List (List ℕ)) → list_all (list_all is_inner) (w ∷ ws) ≡ true → parts (with_slashes (w ∷ ws)) ≡ w ∷ ws
+parts-with_slashes w [] h = parts-whole w (and_parts (list_all is_inner w) true h).0
+parts-with_slashes w (v ∷ vs) h =
     let p = and_parts (list_all is_inner w) (list_all (list_all is_inner) (v ∷ vs)) h in
-    parts-append w (joined (v ∷ vs)) p.0 ∙ ap (λ ws. w ∷ ws) (parts-joined v vs p.1)
+    parts-append w (with_slashes (v ∷ vs)) p.0 ∙ ap (λ ws. w ∷ ws) (parts-with_slashes v vs p.1)

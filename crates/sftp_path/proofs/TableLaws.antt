@@ -8,7 +8,7 @@ use Rattle.std.specs.BTreeMap.{insert_entry, is_at}
 use Rattle.std.specs.Map.{lookup, remove_entry, keys_of}
 use Rattle.std.specs.List.{AllByRecursion, filter}
 use Rattle.std.specs.List.Sorted.{IsStrictlySortedBy}
-use Rattle.std.specs.Cmp.{IsTotalOrder}
+use Rattle.std.specs.Cmp.{IsTotalOrder, Equal-is}
 use Rattle.std.specs.FinMap.{IsAntisymmetric}
 use Rattle.std.specs.FinMap.Entries as sorted_list
 use Rattle.std.proofs.lemmas.Bool.{cases_Bool}
@@ -18,11 +18,6 @@ use Rattle.std.proofs.lemmas.Map.Keys.{sorted_head, sorted_tail, IsDistinct-from
 use Rattle.sftp_path.specs.Table.{Table, InOrder, get, put, without, retain, from_entries, size, kept}
 
 -- ---- orders
-
-tied : (o : Ordering) → is_eq o ≡ true → o ≡ Equal
-tied Less e = cc
-tied Equal e = refl
-tied Greater e = cc
 
 apart : (o : Ordering) → o ≢ Equal → is_eq o ≡ false
 apart Less e = refl
@@ -95,7 +90,7 @@ module _ {K X : Type 0} (cmp : K → K → Ordering) where
   sorted-from (e ∷ es) h =
       (below-from e.0 es (first (sorted_list.below_all cmp e.0 es) (sorted_list.is_sorted cmp es) h), sorted-from es (second (sorted_list.below_all cmp e.0 es) (sorted_list.is_sorted cmp es) h))
 
-  -- ---- what stands at a key
+  -- ---- the value of a key
 
   pub get-empty : (key : K) → get {X = X} cmp [] key ≡ None
   unfolding get
@@ -212,7 +207,7 @@ module _ {K X : Type 0} (cmp : K → K → Ordering) where
 
     lookup-without : (es : Table K X) (key at : K) → InOrder cmp es → lookup (is_at (cmp at)) (remove_entry (is_at (cmp key)) es) ≡ cond (is_eq (cmp key at)) None (lookup (is_at (cmp at)) es)
     lookup-without es key at h =
-        lookup-remove_entry (eq_by_cmp_equiv total) (is_at (cmp key)) (λ x y same. ap is_eq (total.congr key x y (tied (cmp key x) same))) at es (IsDistinct-from_sorted cmp (keys_of es) h)
+        lookup-remove_entry (eq_by_cmp_equiv total) (is_at (cmp key)) (λ x y same. ap is_eq (total.congr key x y ((Equal-is (cmp key x)).0 same))) at es (IsDistinct-from_sorted cmp (keys_of es) h)
 
     pub get-without : (es : Table K X) (key at : K) → InOrder cmp es → get cmp (without cmp es key) at ≡ cond (is_eq (cmp key at)) None (get cmp es at)
     unfolding get without
@@ -257,7 +252,7 @@ module _ {K X : Type 0} (cmp : K → K → Ordering) where
           let rest : lookup (is_at (cmp key)) (filter keeps es) ≡ kept keeps key (lookup (is_at (cmp key)) es) = get-retain es keeps key (sorted_tail cmp e.0 (keys_of es) h) in
           elim (cases_Bool (is_eq (cmp key e.0))) [
             | inl hit ↦
-                let is : key ≡ e.0 = same key e.0 (tied (cmp key e.0) hit) in
+                let is : key ≡ e.0 = same key e.0 ((Equal-is (cmp key e.0)).0 hit) in
                 let none : lookup (is_at (cmp key)) es ≡ None = ap (λ k. lookup (is_at (cmp k)) es) is ∙ get-below e.0 es (sorted_head cmp e.0 (keys_of es) h) in
                 here (keeps e) hit (rest ∙ kept-none keeps key (lookup (is_at (cmp key)) es) none)
                 ∙ ap (λ k. cond (keeps (k, e.1)) (Some e.1) None) (sym is)

@@ -9,7 +9,7 @@ use Rattle.std.specs.Map.{lookup, remove_entry, keys_of}
 use Rattle.std.specs.List.{list_all}
 use Rattle.std.specs.Cmp.{IsTotalOrder}
 use Rattle.std.specs.FinMap.{IsAntisymmetric}
-use Rattle.std.proofs.lemmas.Bool.{and_parts}
+use Rattle.std.proofs.lemmas.Bool.{and_parts, and_from}
 use Rattle.std.proofs.lemmas.Map.{lookup-none}
 use Rattle.std.proofs.lemmas.Map.Entries.{none_below_head}
 use Rattle.std.proofs.lemmas.Map.Keys.{sorted_tail}
@@ -30,9 +30,6 @@ implied : (a b : Bool) → (b ≡ true → a ≡ true) → (a && b) ≡ b
 implied true b from = refl
 implied false true from = from refl
 implied false false from = refl
-
-also : (a b : Bool) → IsTrue a → IsTrue b → IsTrue (a && b)
-also a b p q = ap (λ c. c && b) p ∙ q
 
 module _ {K X : Type 0} (cmp : K → K → Ordering) where
   -- ---- a new key
@@ -65,7 +62,7 @@ module _ {K X : Type 0} (cmp : K → K → Ordering) where
     where
       by : (b : Bool) → IsTrue (keeps e) → IsTrue (list_all keeps es) → IsTrue (list_all keeps (remove_entry test es)) → IsTrue (list_all keeps (cond b es (e ∷ remove_entry test es)))
       by true first others left = others
-      by false first others left = also (keeps e) (list_all keeps (remove_entry test es)) first left
+      by false first others left = and_from (keeps e) (list_all keeps (remove_entry test es)) first left
 
   pub all-without : (es : Table K X) (key : K) (keeps : K × X → Bool) → IsTrue (list_all keeps es) → IsTrue (list_all keeps (without cmp es key))
   unfolding without
@@ -75,12 +72,12 @@ module _ {K X : Type 0} (cmp : K → K → Ordering) where
 
   values-turn : (passes : X → Bool) (key : K) (value : X) (e : K × X) (es more : Table K X) (o : Ordering) → IsTrue (passes e.1) → IsTrue (list_all (λ x. passes x.1) es) → IsTrue (passes value) → IsTrue (list_all (λ x. passes x.1) more) → IsTrue (list_all (λ x. passes x.1) (match_ordering o ((key, value) ∷ e ∷ es) ((e.0, value) ∷ es) (e ∷ more)))
   values-turn passes key value e es more Less first others passing rest =
-      also (passes value) (list_all (λ x. passes x.1) (e ∷ es)) passing (also (passes e.1) (list_all (λ x. passes x.1) es) first others)
-  values-turn passes key value e es more Equal first others passing rest = also (passes value) (list_all (λ x. passes x.1) es) passing others
-  values-turn passes key value e es more Greater first others passing rest = also (passes e.1) (list_all (λ x. passes x.1) more) first rest
+      and_from (passes value) (list_all (λ x. passes x.1) (e ∷ es)) passing (and_from (passes e.1) (list_all (λ x. passes x.1) es) first others)
+  values-turn passes key value e es more Equal first others passing rest = and_from (passes value) (list_all (λ x. passes x.1) es) passing others
+  values-turn passes key value e es more Greater first others passing rest = and_from (passes e.1) (list_all (λ x. passes x.1) more) first rest
 
   values-insert : (passes : X → Bool) (es : Table K X) (key : K) (value : X) → IsTrue (list_all (λ e. passes e.1) es) → IsTrue (passes value) → IsTrue (list_all (λ e. passes e.1) (insert_entry cmp es key value))
-  values-insert passes [] key value h passing = also (passes value) true passing refl
+  values-insert passes [] key value h passing = and_from (passes value) true passing refl
   values-insert passes (e ∷ es) key value h passing =
       let parts = and_parts (passes e.1) (list_all (λ x. passes x.1) es) h in
       values-turn passes key value e es (insert_entry cmp es key value) (cmp key e.0) parts.0 parts.1 passing (values-insert passes es key value parts.1 passing)

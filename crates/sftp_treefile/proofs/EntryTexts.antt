@@ -50,7 +50,7 @@ kind_absent limits earlier bytes text middle path none row rest next e =
 
 -- ---- entries
 
--- what entries have behind some that stand in front of the same bytes
+-- the entries after the first ones, where both lists are read of the same bytes
 pub record GoesOn (limits : TreeLimits) (earlier front whole : List Row) (rest tail : List ℕ) : Type 0 where
   pub more : List Row
   pub whole_is : whole ≡ front ++ more
@@ -97,7 +97,7 @@ pub or_fault : (error : TreeError) (P Q : Type 0) → OutOfMemoryOr error P → 
 or_fault error P Q h f = elim h [ inl e ↦ inl e | inr p ↦ inr (f p) ]
 
 pub read_none : (limits : TreeLimits) (bytes : List ℕ) → AreRead limits bytes [] 0 bytes
-read_none limits bytes = record { rows_fit = tt; counted = refl; bytes_are = refl }
+read_none limits bytes = record { rows_fit = tt; count_is = refl; bytes_are = refl }
 
 pub read_more : (limits : TreeLimits) (bytes : List ℕ) (rows new : List Row) (n m : ℕ) (rest after : List ℕ) (row : Row) → AreRead limits bytes rows n rest
     → Reads (IsNext limits rows) row_text rest row after → new ≡ rows ++ row ∷ [] → m ≡ n + 1 → AreRead limits bytes new m after
@@ -105,20 +105,20 @@ read_more limits bytes rows new n m rest after row so_far read put more =
     rw (put, more)
     record {
       rows_fit = rows_push limits [] rows row so_far.rows_fit read.0;
-      counted = length-append rows (row ∷ []) ∙ ap (λ k. k + 1) so_far.counted;
+      count_is = length-append rows (row ∷ []) ∙ ap (λ k. k + 1) so_far.count_is;
       bytes_are = so_far.bytes_are ∙ ap (λ (t : List ℕ). flat_map row_text rows ++ t) read.1
           ∙ sym (append_assoc (flat_map row_text rows) (row_text row) after)
           ∙ ap (λ (t : List ℕ). (flat_map row_text rows ++ t) ++ after) (sym (append-nil (row_text row)))
           ∙ ap (λ (t : List ℕ). t ++ after) (sym (flat_map-append row_text rows (row ∷ [])));
     }
 
--- where more entries are to come, the next one stands in front of the rest
+-- where more entries are to come, the rest starts with the next one
 pub row_none : (limits : TreeLimits) → limits.file_bytes < 2 ^ 32 → (bytes : List ℕ) (rows : List Row) (n count : ℕ) (rest : List ℕ) → AreRead limits bytes rows n rest → n < count
     → ReadsNone (IsNext limits rows) row_text rest → AreNone limits count bytes
-row_none limits bound bytes rows n count rest so_far lt none whole tail fits counted is =
-    let g = goes_on limits bound [] rows whole rest tail so_far.rows_fit fits (omega (arith, so_far.counted)) (sym so_far.bytes_are ∙ is) in
+row_none limits bound bytes rows n count rest so_far lt none whole tail fits count_is is =
+    let g = goes_on limits bound [] rows whole rest tail so_far.rows_fit fits (omega (arith, so_far.count_is)) (sym so_far.bytes_are ∙ is) in
     let len : length whole ≡ length rows + length g.more = ap length g.whole_is ∙ length-append rows g.more in
-    by g.more g.rows_fit g.rest_is (omega (arith, so_far.counted))
+    by g.more g.rows_fit g.rest_is (omega (arith, so_far.count_is))
   where
     by : (more : List Row) → AreRows limits rows more → rest ≡ flat_map row_text more ++ tail → 0 < length more → ⊥
     by [] fits is lt = absurd (omega arith)

@@ -1,9 +1,9 @@
 -- A field's text says what the field is and what follows it.
-use Rattle.std.proofs.Common.{◌≡◌, ℕ, suc, get_or, ◌*◌, ◌<◌, ◌≤◌, ◌^◌, ◌&&◌, true, false, List, [], ◌∷◌, ◌++◌, length, take, drop, refl, sym, ap, subst, ◌∙◌, append_assoc, arith}
+use Rattle.std.proofs.Common.{◌≡◌, ℕ, get_or, ◌*◌, ◌<◌, ◌≤◌, ◌^◌, ◌&&◌, true, false, List, [], ◌∷◌, ◌++◌, length, take, drop, refl, sym, ap, subst, ◌∙◌, append_assoc, arith}
 use Rattle.std.specs.Prelude.{IsTrue, nat_eq, nat_le, nat_lt, not}
 use Rattle.std.specs.List.{flat_map, list_all}
 use Rattle.std.specs.Int.{w32, from_be_bytes}
-use Rattle.std.proofs.lemmas.Bool.{leb-true, and_parts, and_from, eqb-true, ltb-true, lt-ltb, false≢true}
+use Rattle.std.proofs.lemmas.Bool.{leb-true, and_parts, eqb-true, ltb-true, false≢true}
 use Rattle.std.proofs.lemmas.List.{take_at, drop_at, length-append}
 use Rattle.std.proofs.lemmas.Nat.{from_be_bytes-to_be_bytes_4}
 use Rattle.sftp_wire.specs.Spelling.{uint32, string}
@@ -16,7 +16,7 @@ use Rattle.sftp_treefile.specs.declared.files.Kind.TheVariants.{Dir, First, Furt
 use Rattle.sftp_treefile.specs.declared.files.Row.{Row}
 use Rattle.sftp_treefile.specs.declared.limits.TreeLimits.{TreeLimits}
 use Rattle.sftp_treefile.specs.Limits.{usual_limits}
-use Rattle.sftp_treefile.specs.TreeFile.{owner_text, kind_text, place_of, are_bytes, IsPlaceText, IsOwner, IsKind}
+use Rattle.sftp_treefile.specs.TreeFile.{owner_text, kind_text, place_of, IsPlaceText, IsOwner, IsKind}
 use Rattle.sftp_treefile.specs.TreeFileParts.{Reads, ReadsNone, IsNumber, IsTarget, IsFileBytes, IsFile, file_text}
 
 -- ---- numbers
@@ -36,7 +36,7 @@ string_front t u r s t-fits u-fits e =
     let rests : r ≡ s = sym (drop_at t r (length t) refl) ∙ ap (drop (length t)) n.1 ∙ drop_at u s (length t) (sym n.0) in
     (texts, rests)
 
--- of strings that are short enough: no string, and one that may not stand there
+-- of strings that are short enough: no string, and one that does not fit
 pub string_none_short : (Fits : List ℕ → Type 0) → ((text : List ℕ) → Fits text → length text < 2 ^ 32) → (bytes : List ℕ)
     → ((text rest : List ℕ) → length text < 2 ^ 32 → bytes ≡ string text ++ rest → ⊥) → ReadsNone Fits string bytes
 string_none_short Fits short bytes none text rest fits e = none text rest (short text fits) e
@@ -97,10 +97,6 @@ empty_target target empty fits =
 
 pub bad_target : (target : List ℕ) → is_good_path target ≡ false → IsTarget target → ⊥
 bad_target target bad fits = false≢true (sym bad ∙ (and_parts (nat_lt 0 (length target)) (is_good_path target) fits.0).1)
-
-pub are_bytes_of : (bytes : List ℕ) → ((i : ℕ) → get_or bytes i 0 < 256) → IsTrue (are_bytes bytes)
-are_bytes_of [] fits = refl
-are_bytes_of (b ∷ bytes) fits = and_from (nat_lt b 256) (are_bytes bytes) (lt-ltb b 256 (fits 0)) (are_bytes_of bytes (λ i. fits (suc i)))
 
 -- ---- owners
 

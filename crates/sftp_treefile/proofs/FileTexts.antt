@@ -64,7 +64,7 @@ one_file f g bytes f-is g-is =
 
 -- ---- where no tree file is
 
--- the entries of a file, behind the head that is read
+-- the entries of a file, after the head that is read
 entries_behind : (file : TreeFile) (bytes rest : List ℕ) (head : Head) → Reads IsHead head_bytes bytes head rest → IsSpelled file bytes
     → (length file.rows ≡ head.count) × (rest ≡ flat_map row_text file.rows) × AreRows head.limits [] file.rows
 unfolding head_of
@@ -83,7 +83,7 @@ no_file_entries bytes rest head read none file is =
 pub no_file_trailing : (bytes rest more : List ℕ) (head : Head) (rows : List Row) → Reads IsHead head_bytes bytes head rest → AreRead head.limits rest rows head.count more → 0 < length more → (file : TreeFile) → IsSpelled file bytes → ⊥
 no_file_trailing bytes rest more head rows read all left file is =
     let e = entries_behind file bytes rest head read is in
-    let same = entries_are_one head.limits (usual_file_bytes head.limits read.0.limits) [] rows file.rows more [] all.rows_fit e.2 (all.counted ∙ sym e.0) (sym all.bytes_are ∙ e.1 ∙ sym (append-nil (flat_map row_text file.rows))) in
+    let same = entries_are_one head.limits (usual_file_bytes head.limits read.0.limits) [] rows file.rows more [] all.rows_fit e.2 (all.count_is ∙ sym e.0) (sym all.bytes_are ∙ e.1 ∙ sym (append-nil (flat_map row_text file.rows))) in
     omega (arith, left, ap length same.1)
 
 -- memory ran out where there is no other fault
@@ -98,9 +98,9 @@ unfolding head_of
 file_read bytes rest more head rows read all ended =
     let file : TreeFile = record { limits = head.limits; home = head.home; uid = head.uid; gid = head.gid; root = head.root; rows = rows } in
     let nothing : rest ≡ flat_map row_text rows = all.bytes_are ∙ ap (λ (x : List ℕ). flat_map row_text rows ++ x) (nil_from_length more ended) ∙ append-nil (flat_map row_text rows) in
-    let heads : head ≡ head_of file = (λ i. record { limits = head.limits; home = head.home; uid = head.uid; gid = head.gid; count = sym all.counted i; root = head.root }) in
+    let heads : head ≡ head_of file = (λ i. record { limits = head.limits; home = head.home; uid = head.uid; gid = head.gid; count = sym all.count_is i; root = head.root }) in
     record {
-      may_be = record { limits = read.0.limits; home = read.0.home; uid = read.0.uid; gid = read.0.gid; count = subst (λ k. k ≤ head.limits.entries) (sym all.counted) read.0.count; root = read.0.root; rows = all.rows_fit };
+      may_be = record { limits = read.0.limits; home = read.0.home; uid = read.0.uid; gid = read.0.gid; count = subst (λ k. k ≤ head.limits.entries) (sym all.count_is) read.0.count; root = read.0.root; rows = all.rows_fit };
       bytes_are = read.1 ∙ ap (λ (x : List ℕ). head_bytes head ++ x) nothing ∙ ap (λ (h : Head). head_bytes h ++ flat_map row_text rows) heads ∙ sym (spelled_parts file);
     }
 

@@ -9,7 +9,7 @@ use Rattle.sftp_treefile.specs.TreeFile.{tree_opening, owner_text, IsPlaceText, 
 use Rattle.sftp_treefile.specs.TreeFileParts.{Reads, ReadsNone, IsNumber, IsCount, head_bytes, IsHead}
 use Rattle.sftp_treefile.proofs.FieldTexts.{number_front, owner_front, path_front}
 
--- what stands behind the gid, the uid, the home and the opening
+-- what follows the gid, the uid, and the home
 behind_gid : Head → List ℕ → List ℕ
 behind_gid head rest = uint32 head.count ++ (owner_text head.root ++ rest)
 

@@ -21,7 +21,7 @@ use Rattle.sftp_treefile.specs.TreeFileParts.{IsLast, Follows}
 no_self : (p : Place) → place_cmp p p ≡ Less → ⊥
 no_self p less = let e : Equal ≡ Less = sym (tied_itself place_cmp-total p) ∙ less in cc
 
--- what stands between a place and what it begins is begun by it
+-- a place begins what comes between it and a place that it begins
 then_both : (o p q : Ordering) → ordering_then o p ≡ Greater → ordering_then o q ≡ Less → (o ≡ Equal) × (p ≡ Greater) × (q ≡ Less)
 then_both Less p q g l = absurd cc
 then_both Equal p q g l = (refl, g, l)
@@ -59,7 +59,7 @@ or_left true c d h = refl
 or_left false true d h = refl
 or_left false false d h = absurd (false≢true h)
 
--- no entry before a place stands there
+-- no entry before a place is at it
 none_there : (rows : List Row) (place : Place) → AllByRecursion (λ (r : Row). place_cmp (place_of r.path) place ≡ Less) rows → list_any (is_dir_at place) rows ≡ false
 none_there [] place before = refl
 none_there (r ∷ rows) place before =
@@ -178,7 +178,7 @@ later_more rows row before place = (
   λ each. all_last (λ (r : Row). place_cmp (place_of r.path) place ≡ Less) rows row each,
 )
 
--- whether the new entry is a directory, since no other stands there
+-- whether the new entry is a directory, since no other is at its place
 dir_itself : (rows : List Row) (row : Row) → 0 < length (place_of row.path) → AllByRecursion (λ (r : Row). place_cmp (place_of r.path) (place_of row.path) ≡ Less) rows → has_dir (rows ++ row ∷ []) (place_of row.path) ≡ is_dir row.kind
 unfolding has_dir
 dir_itself rows row below before = by (place_of row.path) refl below

@@ -25,7 +25,7 @@ head_pieces head o0 o1 o2 p q = rw (q, p) (by (string head.home) (uint32 head.ui
     by : (a b c d e : List ℕ) → (o0 ++ (tree_opening ++ (a ++ (b ++ c)))) ++ (d ++ e) ≡ o0 ++ (tree_opening ++ (a ++ (b ++ (c ++ (d ++ e)))))
     by a b c d e = simp append_assoc
 
--- the lengths of the strings of an entry that may stand there can be written
+-- the lengths of the strings of an entry that fits can be written
 kind_lengths : (limits : TreeLimits) → limits.file_bytes < 2 ^ 32 → (earlier : List Row) (kind : Kind) → IsKind limits earlier kind → KindHasLengths kind
 kind_lengths limits bound earlier (Dir owner) fits = tt
 kind_lengths limits bound earlier (First owner bytes) fits = file_bytes_length limits bound bytes (fits.1, fits.2)

@@ -1,4 +1,4 @@
--- One entry more, or none that may stand there.
+-- One entry more, or none that may come next.
 use Rattle.std.proofs.Common.{◌≡◌, ◌+◌, ◌-◌, arith}
 use Rattle.std.proofs.lemmas.Result.{err_from_is_err_and}
 use Rattle.sftp_treefile.proofs.EntryTexts.{or_fault, read_none, read_more, row_none}

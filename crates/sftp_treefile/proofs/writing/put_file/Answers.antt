@@ -1,4 +1,4 @@
--- The fields, one behind the other.
+-- The fields, one after the other.
 use Rattle.std.proofs.Common.{[], ◌∷◌}
 use Rattle.sftp_wire.specs.Spelling.{string}
 use Rattle.sftp_treefile.specs.TreeFile.{owner_text}

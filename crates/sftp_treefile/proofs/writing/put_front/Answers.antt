@@ -1,4 +1,4 @@
--- The fields, one behind the other.
+-- The fields, one after the other.
 use Rattle.sftp_wire.specs.Spelling.{uint32, string}
 use Rattle.sftp_treefile.specs.TreeFile.{tree_opening}
 use Rattle.sftp_treefile.proofs.Written.{four_pieces}

@@ -1,4 +1,4 @@
--- The fields, one behind the other.
+-- The fields, one after the other.
 use Rattle.std.proofs.Common.{◌≡◌, ◌++◌, List, ℕ, ap, ◌∙◌}
 use Rattle.sftp_treefile.specs.TreeFileParts.{front_text}
 use Rattle.sftp_treefile.proofs.Written.{head_pieces}

@@ -1,4 +1,4 @@
--- The fields, one behind the other.
+-- The fields, one after the other.
 use Rattle.sftp_wire.specs.Spelling.{uint32}
 use Rattle.sftp_treefile.specs.TreeFile.{owner_text}
 use Rattle.sftp_treefile.proofs.Written.{two_pieces}

@@ -1,4 +1,4 @@
-//! Worked rows of the definitions, computed by the checker. The functions do nothing; each promise is in the
+//! Worked examples of the definitions, computed by the checker. The functions do nothing; each promise is in the
 //! contract.
 ghost use Rattle.std.specs.Prelude.{◌≡◌, ℕ, List, [], ◌∷◌, true, false, codes, Some, None};
 ghost use Rattle.std.specs.Ordering.{nat_cmp};
@@ -32,7 +32,7 @@ pub fn good_and_bad_paths()
     ensures zero { is_good_path (97 ∷ 0 ∷ []) ≡ false }
 {}
 
-/// Names, and what is none.
+/// What is a name, and what is not.
 pub fn names()
     ensures letter { is_name (codes "a") ≡ true }
     ensures three_dots { is_name (codes "...") ≡ true }
@@ -51,8 +51,8 @@ pub fn texts()
     ensures below { absolute (codes "a" ∷ codes "b" ∷ []) ≡ codes "/a/b" }
 {}
 
-/// Names are ordered by bytes without sign; a place comes before those that it begins, and what stands below
-/// `a` before `ab`.
+/// Names are ordered by bytes without sign; a place comes before those that it begins, and what is below `a` before
+/// `ab`.
 pub fn orders()
     ensures high { name_cmp (127 ∷ []) (128 ∷ []) ≡ Less }
     ensures longer { name_cmp (codes "a") (codes "aa") ≡ Less }
@@ -90,16 +90,15 @@ pub fn renamed_places()
     ensures deeper { renamed (codes "d" ∷ []) (codes "x" ∷ codes "y" ∷ []) (codes "d" ∷ codes "e" ∷ []) ≡ codes "x" ∷ codes "y" ∷ codes "e" ∷ [] }
 {}
 
-/// `/d` moves to `/x` with what stands below it, and the entries come in their new order; `/dd` and `/f` stay.
+/// `/d` moves to `/x` with what is below it, and the entries come in their new order; `/dd` and `/f` stay.
 #[tactic(auto, unfolding(crate::specs::Rekeying::rekeyed, crate::specs::Table::from_entries, crate::specs::Table::put))]
 pub fn rekeyed_tables()
     ensures moved { rekeyed {X = ℕ} (codes "d" ∷ []) (codes "x" ∷ []) ((codes "d" ∷ [], 1) ∷ (codes "d" ∷ codes "e" ∷ [], 2) ∷ (codes "f" ∷ [], 3) ∷ []) ≡ (codes "f" ∷ [], 3) ∷ (codes "x" ∷ [], 1) ∷ (codes "x" ∷ codes "e" ∷ [], 2) ∷ [] }
     ensures beside { rekeyed {X = ℕ} (codes "d" ∷ []) (codes "x" ∷ []) ((codes "d" ∷ [], 1) ∷ (codes "dd" ∷ [], 2) ∷ []) ≡ (codes "dd" ∷ [], 2) ∷ (codes "x" ∷ [], 1) ∷ [] }
 {}
 
-/// What the premises of the laws keep out. Where something stands at the new place, the entry that moves may be
-/// lost. What moves below itself stands below its old place. What moves up to a place above may come to its old
-/// place again.
+/// What the premises of the laws exclude. If there is an entry at the new place, the entry that moves may be lost. What
+/// moves below itself is still below its old place. What moves up to a place above may come to its old place again.
 #[tactic(auto, unfolding(crate::specs::Rekeying::rekeyed, crate::specs::Table::from_entries, crate::specs::Table::put))]
 pub fn rekeyed_without_premises()
     ensures taken { rekeyed {X = ℕ} (codes "f" ∷ []) (codes "d" ∷ []) ((codes "d" ∷ [], 1) ∷ (codes "f" ∷ [], 3) ∷ []) ≡ (codes "d" ∷ [], 1) ∷ [] }
