@@ -41,7 +41,8 @@ below-begins [] [] = refl
 below-begins [] (n ∷ ns) = sym (lt-ltb 0 (length (n ∷ ns)) (omega arith))
 below-begins (m ∷ ms) [] = refl
 below-begins (m ∷ ms) (n ∷ ns) =
-    ap (λ b. same_bytes m n && b) (below-begins ms ns) ∙ sym (and_assoc (same_bytes m n) (begins ms ns) (nat_lt (length ms) (length ns)))
+    ap (λ b. same_bytes m n && b) (below-begins ms ns)
+    ∙ sym (and_assoc (same_bytes m n) (begins ms ns) (nat_lt (length ms) (length ns)))
     ∙ ap (λ b. begins (m ∷ ms) (n ∷ ns) && b) (shorter-tails (length ms) (length ns))
 
 -- ---- the parent

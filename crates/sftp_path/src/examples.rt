@@ -75,7 +75,8 @@ pub fn parents_and_places_below()
 /// Tables of numbers: entries come in any order, and of two with one key the first counts.
 #[tactic(auto, unfolding(crate::specs::Table::from_entries, crate::specs::Table::put, crate::specs::Table::without, crate::specs::Table::get))]
 pub fn tables()
-    ensures made { from_entries nat_cmp ((3, codes "c") ∷ (1, codes "a") ∷ (3, codes "d") ∷ []) ≡ (1, codes "a") ∷ (3, codes "c") ∷ [] }
+    ensures made { from_entries nat_cmp ((3, codes "c") ∷ (1, codes "a") ∷ (3, codes "d") ∷ [])
+        ≡ (1, codes "a") ∷ (3, codes "c") ∷ [] }
     ensures put { put nat_cmp ((1, codes "a") ∷ []) 1 (codes "b") ≡ (1, codes "b") ∷ [] }
     ensures without { without nat_cmp ((1, codes "a") ∷ (2, codes "b") ∷ []) 1 ≡ (2, codes "b") ∷ [] }
     ensures there { get nat_cmp ((1, codes "a") ∷ (2, codes "b") ∷ []) 2 ≡ Some (codes "b") }
@@ -85,9 +86,11 @@ pub fn tables()
 /// Renaming turns the names in front alone: `/dd` is no place below `/d`.
 pub fn renamed_places()
     ensures itself { renamed (codes "d" ∷ []) (codes "x" ∷ []) (codes "d" ∷ []) ≡ codes "x" ∷ [] }
-    ensures below { renamed (codes "d" ∷ []) (codes "x" ∷ []) (codes "d" ∷ codes "e" ∷ []) ≡ codes "x" ∷ codes "e" ∷ [] }
+    ensures below { renamed (codes "d" ∷ []) (codes "x" ∷ []) (codes "d" ∷ codes "e" ∷ [])
+        ≡ codes "x" ∷ codes "e" ∷ [] }
     ensures beside { renamed (codes "d" ∷ []) (codes "x" ∷ []) (codes "dd" ∷ []) ≡ codes "dd" ∷ [] }
-    ensures deeper { renamed (codes "d" ∷ []) (codes "x" ∷ codes "y" ∷ []) (codes "d" ∷ codes "e" ∷ []) ≡ codes "x" ∷ codes "y" ∷ codes "e" ∷ [] }
+    ensures deeper { renamed (codes "d" ∷ []) (codes "x" ∷ codes "y" ∷ []) (codes "d" ∷ codes "e" ∷ [])
+        ≡ codes "x" ∷ codes "y" ∷ codes "e" ∷ [] }
 {}
 
 /// `/d` moves to `/x` with what is below it, and the entries come in their new order; `/dd` and `/f` stay.
@@ -101,7 +104,9 @@ pub fn rekeyed_tables()
 /// moves below itself is still below its old place. What moves up to a place above may come to its old place again.
 #[tactic(auto, unfolding(crate::specs::Rekeying::rekeyed, crate::specs::Table::from_entries, crate::specs::Table::put))]
 pub fn rekeyed_without_premises()
-    ensures taken { rekeyed {X = ℕ} (codes "f" ∷ []) (codes "d" ∷ []) ((codes "d" ∷ [], 1) ∷ (codes "f" ∷ [], 3) ∷ []) ≡ (codes "d" ∷ [], 1) ∷ [] }
-    ensures below_itself { rekeyed {X = ℕ} (codes "d" ∷ []) (codes "d" ∷ codes "e" ∷ []) ((codes "d" ∷ [], 1) ∷ []) ≡ (codes "d" ∷ codes "e" ∷ [], 1) ∷ [] }
+    ensures taken { rekeyed {X = ℕ} (codes "f" ∷ []) (codes "d" ∷ []) ((codes "d" ∷ [], 1) ∷ (codes "f" ∷ [], 3) ∷ [])
+        ≡ (codes "d" ∷ [], 1) ∷ [] }
+    ensures below_itself { rekeyed {X = ℕ} (codes "d" ∷ []) (codes "d" ∷ codes "e" ∷ []) ((codes "d" ∷ [], 1) ∷ [])
+        ≡ (codes "d" ∷ codes "e" ∷ [], 1) ∷ [] }
     ensures up { rekeyed {X = ℕ} (codes "d" ∷ codes "e" ∷ []) (codes "d" ∷ []) ((codes "d" ∷ codes "e" ∷ codes "e" ∷ [], 1) ∷ []) ≡ (codes "d" ∷ codes "e" ∷ [], 1) ∷ [] }
 {}

@@ -42,7 +42,8 @@ pub fn components_are_steps()
 pub fn places_in_front()
     ensures front { (top place : Place) → IsTrue (begins top place) → place ≡ top ++ drop (length top) place }
     ensures begins { (top rest : Place) → IsTrue (begins top (top ++ rest)) }
-    ensures below { (top place : Place) → is_below top place ≡ (begins top place && nat_lt (length top) (length place)) }
+    ensures below { (top place : Place) →
+        is_below top place ≡ (begins top place && nat_lt (length top) (length place)) }
 {}
 
 /// The parent of what is entered from a place is that place.

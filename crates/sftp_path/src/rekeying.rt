@@ -14,9 +14,11 @@ pub fn answers_after_rekeying<X>()
         get place_cmp (rekeyed old new table) (new ++ rest) ≡ get place_cmp table (old ++ rest) }
     ensures left { (old new rest : Place) (table : Table Place X) → begins old new ≡ false → NothingFrom table new →
         get place_cmp (rekeyed old new table) (old ++ rest) ≡ None }
-    ensures left_beside { (old new place : Place) (table : Table Place X) → begins old place ≡ true → begins new place ≡ false →
+    ensures left_beside { (old new place : Place) (table : Table Place X) → begins old place ≡ true →
+        begins new place ≡ false →
         get place_cmp (rekeyed old new table) place ≡ None }
-    ensures elsewhere { (old new place : Place) (table : Table Place X) → begins old place ≡ false → begins new place ≡ false →
+    ensures elsewhere { (old new place : Place) (table : Table Place X) → begins old place ≡ false →
+        begins new place ≡ false →
         get place_cmp (rekeyed old new table) place ≡ get place_cmp table place }
 {}
 
@@ -41,7 +43,8 @@ pub fn rekeyed_is_one<X>()
         NothingFrom other old →
         ((place : Place) → begins old place ≡ false → begins new place ≡ false → get place_cmp other place ≡ get place_cmp table place) →
         other ≡ rekeyed old new table }
-    ensures left_beside { (old new : Place) (table other : Table Place X) → InOrder place_cmp other → NothingFrom table new →
+    ensures left_beside { (old new : Place) (table other : Table Place X) → InOrder place_cmp other →
+        NothingFrom table new →
         ((rest : Place) → get place_cmp other (new ++ rest) ≡ get place_cmp table (old ++ rest)) →
         ((place : Place) → begins old place ≡ true → begins new place ≡ false → get place_cmp other place ≡ None) →
         ((place : Place) → begins old place ≡ false → begins new place ≡ false → get place_cmp other place ≡ get place_cmp table place) →
@@ -50,13 +53,15 @@ pub fn rekeyed_is_one<X>()
 
 /// As many values pass a test after the move as before it.
 pub fn counts_after_rekeying<X>()
-    ensures { (old new : Place) (table : Table Place X) (passes : X → Bool) → InOrder place_cmp table → NothingFrom table new →
+    ensures { (old new : Place) (table : Table Place X) (passes : X → Bool) → InOrder place_cmp table →
+        NothingFrom table new →
         count (rekeyed old new table) passes ≡ count table passes }
 {}
 
 /// All entries pass a test after the move just where each one before it passes the test with its place renamed.
 pub fn tests_after_rekeying<X>()
-    ensures { (old new : Place) (table : Table Place X) (keeps : Place × X → Bool) → InOrder place_cmp table → NothingFrom table new →
+    ensures { (old new : Place) (table : Table Place X) (keeps : Place × X → Bool) → InOrder place_cmp table →
+        NothingFrom table new →
         list_all keeps (rekeyed old new table) ≡ list_all (λ entry. keeps (renamed_entry old new entry)) table }
 {}
 
@@ -82,13 +87,15 @@ pub fn moving_entry_by_entry<X>()
     ensures none { (old new : Place) → rekeyed {X = X} old new [] ≡ [] }
     ensures one_more { (old new : Place) (before rest : Table Place X) (entry : Place × X) →
         InOrder place_cmp (before ++ entry ∷ rest) → NothingFrom (before ++ entry ∷ rest) new →
-        rekeyed old new (before ++ entry ∷ []) ≡ put place_cmp (rekeyed old new before) (renamed old new entry.0) entry.1 }
+        rekeyed old new (before ++ entry ∷ [])
+        ≡ put place_cmp (rekeyed old new before) (renamed old new entry.0) entry.1 }
     ensures free { (old new : Place) (before rest : Table Place X) (entry : Place × X) →
         InOrder place_cmp (before ++ entry ∷ rest) → NothingFrom (before ++ entry ∷ rest) new →
         get place_cmp (rekeyed old new before) (renamed old new entry.0) ≡ None }
     ensures one_more_of { (old new : Place) (table before rest : Table Place X) (entry : Place × X) →
         InOrder place_cmp table → NothingFrom table new → before ++ entry ∷ rest ≡ table →
-        rekeyed old new (before ++ entry ∷ []) ≡ put place_cmp (rekeyed old new before) (renamed old new entry.0) entry.1 }
+        rekeyed old new (before ++ entry ∷ [])
+        ≡ put place_cmp (rekeyed old new before) (renamed old new entry.0) entry.1 }
     ensures free_of { (old new : Place) (table before rest : Table Place X) (entry : Place × X) →
         InOrder place_cmp table → NothingFrom table new → before ++ entry ∷ rest ≡ table →
         get place_cmp (rekeyed old new before) (renamed old new entry.0) ≡ None }

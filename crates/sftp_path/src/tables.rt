@@ -25,9 +25,11 @@ pub fn answers<K: Ord, X>()
 /// Each operation leaves the keys in order; entries in any order are sorted.
 pub fn order_stays<K: Ord, X>()
     ensures empty { InOrder {X = X} K.cmp [] }
-    ensures put { (table : Table K X) (key : K) (value : X) → InOrder K.cmp table → InOrder K.cmp (put K.cmp table key value) }
+    ensures put { (table : Table K X) (key : K) (value : X) → InOrder K.cmp table →
+        InOrder K.cmp (put K.cmp table key value) }
     ensures without { (table : Table K X) (key : K) → InOrder K.cmp table → InOrder K.cmp (without K.cmp table key) }
-    ensures retain { (table : Table K X) (keeps : K × X → Bool) → InOrder K.cmp table → InOrder K.cmp (retain table keeps) }
+    ensures retain { (table : Table K X) (keeps : K × X → Bool) → InOrder K.cmp table →
+        InOrder K.cmp (retain table keeps) }
     ensures from_entries { (entries : List (K × X)) → InOrder K.cmp (from_entries K.cmp entries) }
 {}
 
@@ -35,7 +37,8 @@ pub fn order_stays<K: Ord, X>()
 pub fn sizes<K: Ord, X>()
     ensures put_new { (table : Table K X) (key : K) (value : X) → get K.cmp table key ≡ None →
         size (put K.cmp table key value) ≡ size table + 1 }
-    ensures put_again { (table : Table K X) (key : K) (value old : X) → InOrder K.cmp table → get K.cmp table key ≡ Some old →
+    ensures put_again { (table : Table K X) (key : K) (value old : X) → InOrder K.cmp table →
+        get K.cmp table key ≡ Some old →
         size (put K.cmp table key value) ≡ size table }
     ensures without { (table : Table K X) (key : K) (value : X) → get K.cmp table key ≡ Some value →
         size (without K.cmp table key) + 1 ≡ size table }
@@ -48,7 +51,8 @@ pub fn counts<K: Ord, X>()
         count (put K.cmp table key value) passes ≡ count table passes + (if passes value then 1 else 0) }
     ensures put_again { (table : Table K X) (key : K) (value old : X) (passes : X → Bool) →
         InOrder K.cmp table → get K.cmp table key ≡ Some old →
-        count (put K.cmp table key value) passes + (if passes old then 1 else 0) ≡ count table passes + (if passes value then 1 else 0) }
+        count (put K.cmp table key value) passes + (if passes old then 1 else 0)
+        ≡ count table passes + (if passes value then 1 else 0) }
     ensures without { (table : Table K X) (key : K) (value : X) (passes : X → Bool) → get K.cmp table key ≡ Some value →
         count (without K.cmp table key) passes + (if passes value then 1 else 0) ≡ count table passes }
     ensures found { (table : Table K X) (key : K) (value : X) (passes : X → Bool) → get K.cmp table key ≡ Some value →
@@ -90,11 +94,14 @@ pub fn passing_tests<K: Ord, X>()
 
 /// A new value of a key changes no test on keys alone, also in a table that is not in order.
 pub fn passing_keys<X>()
-    ensures places { (table : Table Place X) (place : Place) (value old : X) (test : Place → Bool) → get place_cmp table place ≡ Some old →
+    ensures places { (table : Table Place X) (place : Place) (value old : X) (test : Place → Bool) →
+        get place_cmp table place ≡ Some old →
         list_all (λ entry. test entry.0) (put place_cmp table place value) ≡ list_all (λ entry. test entry.0) table }
-    ensures byte_strings { (table : Table (List ℕ) X) (name : List ℕ) (value old : X) (test : List ℕ → Bool) → get bytes_cmp table name ≡ Some old →
+    ensures byte_strings { (table : Table (List ℕ) X) (name : List ℕ) (value old : X) (test : List ℕ → Bool) →
+        get bytes_cmp table name ≡ Some old →
         list_all (λ entry. test entry.0) (put bytes_cmp table name value) ≡ list_all (λ entry. test entry.0) table }
-    ensures numbers { (table : Table ℕ X) (number : ℕ) (value old : X) (test : ℕ → Bool) → get nat_cmp table number ≡ Some old →
+    ensures numbers { (table : Table ℕ X) (number : ℕ) (value old : X) (test : ℕ → Bool) →
+        get nat_cmp table number ≡ Some old →
         list_all (λ entry. test entry.0) (put nat_cmp table number value) ≡ list_all (λ entry. test entry.0) table }
 {}
 
@@ -102,7 +109,8 @@ pub fn passing_keys<X>()
 pub fn answers_after_retain<X>()
     ensures places { (table : Table Place X) (keeps : Place × X → Bool) (place : Place) → InOrder place_cmp table →
         get place_cmp (retain table keeps) place ≡ kept keeps place (get place_cmp table place) }
-    ensures byte_strings { (table : Table (List ℕ) X) (keeps : List ℕ × X → Bool) (name : List ℕ) → InOrder bytes_cmp table →
+    ensures byte_strings { (table : Table (List ℕ) X) (keeps : List ℕ × X → Bool) (name : List ℕ) →
+        InOrder bytes_cmp table →
         get bytes_cmp (retain table keeps) name ≡ kept keeps name (get bytes_cmp table name) }
     ensures numbers { (table : Table ℕ X) (keeps : ℕ × X → Bool) (number : ℕ) → InOrder nat_cmp table →
         get nat_cmp (retain table keeps) number ≡ kept keeps number (get nat_cmp table number) }

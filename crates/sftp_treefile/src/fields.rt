@@ -189,7 +189,8 @@ pub(crate) fn kind_at<'a>(
     bytes: &'a [u8],
 ) -> Result<(Kind, &'a [u8]), TreeError>
     ensures found { IfOk result (λ taken. Reads (IsKind limits rows.now) kind_text bytes.now taken.0 taken.1.now) }
-    ensures none { IfErr result (λ error. OutOfMemoryOr error (ReadsNone (IsKind limits rows.now) kind_text bytes.now)) }
+    ensures none { IfErr result
+        (λ error. OutOfMemoryOr error (ReadsNone (IsKind limits rows.now) kind_text bytes.now)) }
     ensures number { IfErr result (IsAt entry) }
 {
     let (letter, rest) = letter_at(entry, bytes)?;

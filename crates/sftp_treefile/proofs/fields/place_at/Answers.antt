@@ -6,7 +6,8 @@ use Rattle.sftp_treefile.proofs.FieldTexts.{path_length, string_none_short, stri
 use Rattle.sftp_treefile.proofs.fields.place_at.Goals as goal
 
 pub returns-in_default-clause-none : goal.returns-in_default-clause-none
-returns-in_default-clause-none c = inr (string_none_short IsPlaceText path_length c.args.bytes.now c.in_default.ensures.none)
+returns-in_default-clause-none c =
+    inr (string_none_short IsPlaceText path_length c.args.bytes.now c.in_default.ensures.none)
 
 pub returns-in_default-2-clause-none : goal.returns-in_default-2-clause-none
 returns-in_default-2-clause-none c =
