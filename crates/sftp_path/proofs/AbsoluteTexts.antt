@@ -15,20 +15,26 @@ use Rattle.sftp_path.proofs.GoodPaths.{is_octet, list_all-weaker, list_all-betwe
 
 name-inner : (n : List ℕ) → is_name n ≡ true → list_all is_inner n ≡ true
 name-inner n h =
-    let a = and_parts (nat_lt 0 (length n) && nat_le (length n) name_limit) (list_all is_name_byte n && (not (is_dot n) && not (is_dot_dot n))) h in
+    let a =
+    and_parts (nat_lt 0 (length n) && nat_le (length n) name_limit)
+    (list_all is_name_byte n && (not (is_dot n) && not (is_dot_dot n))) h in
     let b = and_parts (list_all is_name_byte n) (not (is_dot n) && not (is_dot_dot n)) a.1 in
     list_all-weaker is_name_byte is_inner (λ x p. (and_parts (is_nonzero x) (is_inner x) (and_parts (is_octet x) (is_nonzero x && is_inner x) p).1).1) n b.0
 
 name-nonempty : (n : List ℕ) → is_name n ≡ true → is_nonempty n ≡ true
 name-nonempty n h =
-    let a = and_parts (nat_lt 0 (length n) && nat_le (length n) name_limit) (list_all is_name_byte n && (not (is_dot n) && not (is_dot_dot n))) h in
+    let a =
+    and_parts (nat_lt 0 (length n) && nat_le (length n) name_limit)
+    (list_all is_name_byte n && (not (is_dot n) && not (is_dot_dot n))) h in
     (and_parts (nat_lt 0 (length n)) (nat_le (length n) name_limit) a.0).0
 
-parts-names : (n : List ℕ) (ns : Place) → is_name n ≡ true → are_names ns ≡ true → parts (n ++ flat_map (λ name. 47 ∷ name) ns) ≡ n ∷ ns
+parts-names : (n : List ℕ) (ns : Place) → is_name n ≡ true → are_names ns ≡ true
+    → parts (n ++ flat_map (λ name. 47 ∷ name) ns) ≡ n ∷ ns
 parts-names n [] h g = ap parts (append-nil n) ∙ parts-whole n (name-inner n h)
 parts-names n (m ∷ ms) h g =
     let a = and_parts (is_name m) (list_all is_name ms) g in
-    parts-append n (m ++ flat_map (λ name. 47 ∷ name) ms) (name-inner n h) ∙ ap (λ ps. n ∷ ps) (parts-names m ms a.0 a.1)
+    parts-append n (m ++ flat_map (λ name. 47 ∷ name) ms) (name-inner n h)
+    ∙ ap (λ ps. n ∷ ps) (parts-names m ms a.0 a.1)
 
 -- the parts of the absolute text of a place other than the root
 pub parts-absolute : (n : Name) (ns : Place) → are_names (n ∷ ns) ≡ true → parts (absolute (n ∷ ns)) ≡ [] ∷ n ∷ ns
@@ -40,14 +46,16 @@ parts-absolute n ns h =
 pub components-absolute : (place : Place) → are_names place ≡ true → components (absolute place) ≡ place
 components-absolute [] h = components-slash [] ∙ components-nil
 components-absolute (n ∷ ns) h =
-    components-are (absolute (n ∷ ns)) ∙ ap (filter is_nonempty) (parts-absolute n ns h) ∙ filter_all is_nonempty (n ∷ ns) (list_all-weaker is_name is_nonempty name-nonempty (n ∷ ns) h)
+    components-are (absolute (n ∷ ns)) ∙ ap (filter is_nonempty) (parts-absolute n ns h)
+    ∙ filter_all is_nonempty (n ∷ ns) (list_all-weaker is_name is_nonempty name-nonempty (n ∷ ns) h)
 
 pub is_absolute-absolute : (place : Place) → is_absolute (absolute place) ≡ true
 is_absolute-absolute [] = refl
 is_absolute-absolute (n ∷ ns) = refl
 
 -- what a text that starts at the root begins with
-pub is_absolute-begins : (text : List ℕ) → is_absolute text ≡ true → (begins_at_slash text ≡ true) × (parts text ≡ [] ∷ parts_behind text) × (0 < length text)
+pub is_absolute-begins : (text : List ℕ) → is_absolute text ≡ true
+    → (begins_at_slash text ≡ true) × (parts text ≡ [] ∷ parts_behind text) × (0 < length text)
 is_absolute-begins [] h = absurd (false≢true h)
 is_absolute-begins (b ∷ bs) h = (h, parts-slash b bs h, omega arith)
 
@@ -56,7 +64,9 @@ pub absolute-injective : (p q : Place) → are_names p ≡ true → are_names q 
 absolute-injective p q h g e = sym (components-absolute p h) ∙ ap components e ∙ components-absolute q g
 
 -- a text with a part that is no name is no place's
-pub not_absolute : (text : List ℕ) (place : Place) (part : List ℕ) (more : List (List ℕ)) → text ≢ 47 ∷ [] → parts text ≡ [] ∷ (place ++ part ∷ more) → is_name part ≡ false → (q : Place) → are_names q ≡ true → text ≡ absolute q → ⊥
+pub not_absolute : (text : List ℕ) (place : Place) (part : List ℕ) (more : List (List ℕ)) → text ≢ 47 ∷ []
+    → parts text ≡ [] ∷ (place ++ part ∷ more) → is_name part ≡ false → (q : Place) → are_names q ≡ true
+    → text ≡ absolute q → ⊥
 not_absolute text place part more apart cut bad [] names e = apart e
 not_absolute text place part more apart cut bad (n ∷ ns) names e =
     let same : place ++ part ∷ more ≡ n ∷ ns = tail_same (sym cut ∙ ap parts e ∙ parts-absolute n ns names) in
@@ -66,6 +76,8 @@ not_absolute text place part more apart cut bad (n ∷ ns) names e =
     tail_same h = cc
 
 -- what is found of a place's text is the place
-pub found-absolute : (place : Place) (found : Option Place) → are_names place ≡ true → IfSome found (λ p. IsTextOf (absolute place) p) → IfNone found ((p : Place) → IsTextOf (absolute place) p → ⊥) → found ≡ Some place
+pub found-absolute : (place : Place) (found : Option Place) → are_names place ≡ true
+    → IfSome found (λ p. IsTextOf (absolute place) p) → IfNone found ((p : Place) → IsTextOf (absolute place) p → ⊥)
+    → found ≡ Some place
 found-absolute place None names some none = absurd (none place (names, refl))
 found-absolute place (Some p) names some none = ap (λ q. Some q) (absolute-injective p place some.0 names (sym some.1))

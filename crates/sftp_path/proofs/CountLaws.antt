@@ -27,7 +27,8 @@ module _ {K X : Type 0} (passes : X → Bool) where
   count-with false e es = omega arith
 
   -- the first entry, and the others
-  count-cons : (e : K × X) (es : Table K X) → length (filter of_value (e ∷ es)) ≡ one_if (passes e.1) + length (filter of_value es)
+  count-cons : (e : K × X) (es : Table K X)
+      → length (filter of_value (e ∷ es)) ≡ one_if (passes e.1) + length (filter of_value es)
   count-cons e es = count-with (passes e.1) e (filter of_value es)
 
   module _ (cmp : K → K → Ordering) where
@@ -36,26 +37,31 @@ module _ {K X : Type 0} (passes : X → Bool) where
     new-turn : (key : K) (value : X) (e : K × X) (es more : Table K X) (o : Ordering)
         → cond (is_eq o) (Some e.1) (lookup (is_at (cmp key)) es) ≡ None
         → (lookup (is_at (cmp key)) es ≡ None → length (filter of_value more) ≡ length (filter of_value es) + one_if (passes value))
-        → length (filter of_value (match_ordering o ((key, value) ∷ e ∷ es) ((e.0, value) ∷ es) (e ∷ more))) ≡ length (filter of_value (e ∷ es)) + one_if (passes value)
+        → length (filter of_value (match_ordering o ((key, value) ∷ e ∷ es) ((e.0, value) ∷ es) (e ∷ more)))
+        ≡ length (filter of_value (e ∷ es)) + one_if (passes value)
     new-turn key value e es more Less absent rest = omega (arith, count-cons (key, value) (e ∷ es))
     new-turn key value e es more Equal absent rest = cc
     new-turn key value e es more Greater absent rest = omega (arith, count-cons e es, count-cons e more, rest absent)
 
-    count-insert_new : (es : Table K X) (key : K) (value : X) → lookup (is_at (cmp key)) es ≡ None → length (filter of_value (insert_entry cmp es key value)) ≡ length (filter of_value es) + one_if (passes value)
+    count-insert_new : (es : Table K X) (key : K) (value : X) → lookup (is_at (cmp key)) es ≡ None
+        → length (filter of_value (insert_entry cmp es key value)) ≡ length (filter of_value es) + one_if (passes value)
     count-insert_new [] key value absent = count-cons (key, value) [] ∙ omega arith
     count-insert_new (e ∷ es) key value absent =
         new-turn key value e es (insert_entry cmp es key value) (cmp key e.0) absent (count-insert_new es key value)
 
     -- ---- a key taken away
 
-    count-remove : (es : Table K X) (key : K) (value : X) → lookup (is_at (cmp key)) es ≡ Some value → length (filter of_value (remove_entry (is_at (cmp key)) es)) + one_if (passes value) ≡ length (filter of_value es)
+    count-remove : (es : Table K X) (key : K) (value : X) → lookup (is_at (cmp key)) es ≡ Some value
+        → length (filter of_value (remove_entry (is_at (cmp key)) es)) + one_if (passes value)
+        ≡ length (filter of_value es)
     count-remove [] key value there = cc
     count-remove (e ∷ es) key value there = by (is_eq (cmp key e.0)) (count-remove es key value) there
       where
         by : (b : Bool)
             → (lookup (is_at (cmp key)) es ≡ Some value → length (filter of_value (remove_entry (is_at (cmp key)) es)) + one_if (passes value) ≡ length (filter of_value es))
             → cond b (Some e.1) (lookup (is_at (cmp key)) es) ≡ Some value
-            → length (filter of_value (cond b es (e ∷ remove_entry (is_at (cmp key)) es))) + one_if (passes value) ≡ length (filter of_value (e ∷ es))
+            → length (filter of_value (cond b es (e ∷ remove_entry (is_at (cmp key)) es))) + one_if (passes value)
+            ≡ length (filter of_value (e ∷ es))
         by true rest is =
             let same : e.1 ≡ value = cc in
             omega (arith, count-cons e es, ap (λ x. one_if (passes x)) same)
@@ -71,17 +77,23 @@ module _ {K X : Type 0} (passes : X → Bool) where
           → (lookup (is_at (cmp key)) es ≡ Some old → length (filter of_value more) + one_if (passes old) ≡ length (filter of_value es) + one_if (passes value))
           → length (filter of_value (match_ordering o ((key, value) ∷ e ∷ es) ((e.0, value) ∷ es) (e ∷ more))) + one_if (passes old) ≡ length (filter of_value (e ∷ es)) + one_if (passes value)
       again-turn key value old e es more Less is order there there_o rest =
-          let none : lookup (is_at (cmp key)) (e ∷ es) ≡ None = lookup-none (is_at (cmp key)) (e ∷ es) (none_below_head total key e es order is) in
+          let none : lookup (is_at (cmp key)) (e ∷ es) ≡ None =
+          lookup-none (is_at (cmp key)) (e ∷ es) (none_below_head total key e es order is) in
           cc
       again-turn key value old e es more Equal is order there there_o rest =
           let same : e.1 ≡ old = cc in
           omega (arith, count-cons e es, count-cons (e.0, value) es, ap (λ x. one_if (passes x)) same)
-      again-turn key value old e es more Greater is order there there_o rest = omega (arith, count-cons e es, count-cons e more, rest there_o)
+      again-turn key value old e es more Greater is order there there_o rest =
+          omega (arith, count-cons e es, count-cons e more, rest there_o)
 
-      count-insert_again : (es : Table K X) (key : K) (value old : X) → InOrder cmp es → lookup (is_at (cmp key)) es ≡ Some old → length (filter of_value (insert_entry cmp es key value)) + one_if (passes old) ≡ length (filter of_value es) + one_if (passes value)
+      count-insert_again : (es : Table K X) (key : K) (value old : X) → InOrder cmp es
+          → lookup (is_at (cmp key)) es ≡ Some old
+          → length (filter of_value (insert_entry cmp es key value)) + one_if (passes old)
+          ≡ length (filter of_value es) + one_if (passes value)
       count-insert_again [] key value old order there = cc
       count-insert_again (e ∷ es) key value old order there =
-          again-turn key value old e es (insert_entry cmp es key value) (cmp key e.0) refl order there there (count-insert_again es key value old (sorted_tail cmp e.0 (keys_of es) order))
+          again-turn key value old e es (insert_entry cmp es key value) (cmp key e.0) refl order there there
+          (count-insert_again es key value old (sorted_tail cmp e.0 (keys_of es) order))
 
 -- ---- the laws
 
@@ -91,24 +103,30 @@ count-empty K passes = refl
 
 module _ {K X : Type 0} where
   -- the first entry, and the others
-  pub count-step : (e : K × X) (es : Table K X) (passes : X → Bool) → count (e ∷ es) passes ≡ one_if (passes e.1) + count es passes
+  pub count-step : (e : K × X) (es : Table K X) (passes : X → Bool)
+      → count (e ∷ es) passes ≡ one_if (passes e.1) + count es passes
   unfolding retain
   count-step e es passes = count-cons passes e es
 
   module _ (cmp : K → K → Ordering) where
-    pub count-put_new : (es : Table K X) (key : K) (value : X) (passes : X → Bool) → get cmp es key ≡ None → count (put cmp es key value) passes ≡ count es passes + one_if (passes value)
+    pub count-put_new : (es : Table K X) (key : K) (value : X) (passes : X → Bool) → get cmp es key ≡ None
+        → count (put cmp es key value) passes ≡ count es passes + one_if (passes value)
     unfolding get put retain
     count-put_new es key value passes = count-insert_new passes cmp es key value
 
-    pub count-without : (es : Table K X) (key : K) (value : X) (passes : X → Bool) → get cmp es key ≡ Some value → count (without cmp es key) passes + one_if (passes value) ≡ count es passes
+    pub count-without : (es : Table K X) (key : K) (value : X) (passes : X → Bool) → get cmp es key ≡ Some value
+        → count (without cmp es key) passes + one_if (passes value) ≡ count es passes
     unfolding get without retain
     count-without es key value passes = count-remove passes cmp es key value
 
-    -- what stands there and passes is counted
-    pub count-found : (es : Table K X) (key : K) (value : X) (passes : X → Bool) → get cmp es key ≡ Some value → IsTrue (passes value) → 0 < count es passes
+    -- a value that passes is counted
+    pub count-found : (es : Table K X) (key : K) (value : X) (passes : X → Bool) → get cmp es key ≡ Some value
+        → IsTrue (passes value) → 0 < count es passes
     count-found es key value passes there passing =
         omega (arith, count-without es key value passes there, ap (λ b. one_if b) passing)
 
-    pub count-put_again : IsTotalOrder cmp → (es : Table K X) (key : K) (value old : X) (passes : X → Bool) → InOrder cmp es → get cmp es key ≡ Some old → count (put cmp es key value) passes + one_if (passes old) ≡ count es passes + one_if (passes value)
+    pub count-put_again : IsTotalOrder cmp → (es : Table K X) (key : K) (value old : X) (passes : X → Bool)
+        → InOrder cmp es → get cmp es key ≡ Some old
+        → count (put cmp es key value) passes + one_if (passes old) ≡ count es passes + one_if (passes value)
     unfolding get put retain
     count-put_again total es key value old passes = count-insert_again passes cmp total es key value old

@@ -14,21 +14,25 @@ use Rattle.std.proofs.lemmas.Cmp.{tied_itself}
 use Rattle.sftp_path.specs.Table.{Table, InOrder, get, put, without, from_entries}
 use Rattle.sftp_path.proofs.TableLaws.{get-empty, get-cons, get-put, get-without, get-from_entries, InOrder-put, InOrder-without, InOrder-from_entries, same_table}
 
-none-parts : {X : Type 0} (b : Bool) (value : X) (o : Option X) → cond b (Some value) o ≡ None → (b ≡ false) × (o ≡ None)
+none-parts : {X : Type 0} (b : Bool) (value : X) (o : Option X) → cond b (Some value) o ≡ None
+    → (b ≡ false) × (o ≡ None)
 none-parts true value o h = cc
 none-parts false value o h = (refl, h)
 
 -- two choices, one of which is not made, come in either order
-swap-choices : {A : Type 0} (b c : Bool) (x y z : A) → (b ≡ true → c ≡ true → ⊥) → cond b x (cond c y z) ≡ cond c y (cond b x z)
+swap-choices : {A : Type 0} (b c : Bool) (x y z : A) → (b ≡ true → c ≡ true → ⊥)
+    → cond b x (cond c y z) ≡ cond c y (cond b x z)
 swap-choices true true x y z never = absurd (never refl refl)
 swap-choices true false x y z never = refl
 swap-choices false c x y z never = refl
 
-all-behind : {K X : Type 0} (P : K → Type 0) (es : Table K X) (e : K × X) (fs : Table K X) → AllByRecursion P (keys_of (es ++ e ∷ fs)) → P e.0
+all-behind : {K X : Type 0} (P : K → Type 0) (es : Table K X) (e : K × X) (fs : Table K X)
+    → AllByRecursion P (keys_of (es ++ e ∷ fs)) → P e.0
 all-behind P [] e fs h = h.0
 all-behind P (x ∷ xs) e fs h = all-behind P xs e fs h.1
 
-all-front : {K X : Type 0} (P : K → Type 0) (es fs : Table K X) → AllByRecursion P (keys_of (es ++ fs)) → AllByRecursion P (keys_of es)
+all-front : {K X : Type 0} (P : K → Type 0) (es fs : Table K X) → AllByRecursion P (keys_of (es ++ fs))
+    → AllByRecursion P (keys_of es)
 all-front P [] fs h = tt
 all-front P (x ∷ xs) fs h = (h.0, all-front P xs fs h.1)
 
@@ -45,11 +49,12 @@ module _ {K : Type 0} (cmp : K → K → Ordering) (total : IsTotalOrder cmp) (s
       false_from_ne_true (is_eq (cmp b a)) (λ h. not-both (cmp a b) (cmp b b) less (tied_itself total b) (ap (λ k. cmp k b) (sym (tie b a h))))
 
 module _ {K X : Type 0} (cmp : K → K → Ordering) where
-  -- nothing stands at a key: neither in the first entry, nor in the others
-  pub get-none : (e : K × X) (es : Table K X) (key : K) → get cmp (e ∷ es) key ≡ None → (is_eq (cmp key e.0) ≡ false) × (get cmp es key ≡ None)
+  -- a key has no value: neither in the first entry, nor in the others
+  pub get-none : (e : K × X) (es : Table K X) (key : K) → get cmp (e ∷ es) key ≡ None
+      → (is_eq (cmp key e.0) ≡ false) × (get cmp es key ≡ None)
   get-none e es key h = none-parts (is_eq (cmp key e.0)) e.1 (get cmp es key) (sym (get-cons cmp e es key) ∙ h)
 
-  -- nothing stands at a key: neither in front, nor behind
+  -- a key has no value: neither in front, nor behind
   pub get-none_front : (es fs : Table K X) (key : K) → get cmp (es ++ fs) key ≡ None → get cmp es key ≡ None
   get-none_front [] fs key h = get-empty cmp key
   get-none_front (x ∷ xs) fs key h =
@@ -71,11 +76,13 @@ module _ {K X : Type 0} (cmp : K → K → Ordering) where
     unfolding IsStrictlySortedBy
     get-front [] e fs h = get-empty cmp e.0
     get-front (x ∷ xs) e fs h =
-        let miss : is_eq (cmp e.0 x.0) ≡ false = less-apart cmp total same x.0 e.0 (all-behind (λ k. cmp x.0 k ≡ Less) xs e fs h.0) in
+        let miss : is_eq (cmp e.0 x.0) ≡ false =
+        less-apart cmp total same x.0 e.0 (all-behind (λ k. cmp x.0 k ≡ Less) xs e fs h.0) in
         get-cons cmp x xs e.0 ∙ (λ i. cond (miss i) (Some x.1) (get-front xs e fs h.1 i))
 
     -- one entry more at the end, with a key that none in front has
-    pub get-last : (es : Table K X) (e : K × X) (at : K) → get cmp es e.0 ≡ None → get cmp (es ++ e ∷ []) at ≡ cond (is_eq (cmp at e.0)) (Some e.1) (get cmp es at)
+    pub get-last : (es : Table K X) (e : K × X) (at : K) → get cmp es e.0 ≡ None
+        → get cmp (es ++ e ∷ []) at ≡ cond (is_eq (cmp at e.0)) (Some e.1) (get cmp es at)
     get-last [] e at absent = get-cons cmp e [] at
     get-last (x ∷ xs) e at absent =
         let parts = get-none x xs e.0 absent in
@@ -86,21 +93,25 @@ module _ {K X : Type 0} (cmp : K → K → Ordering) where
       where
         never : is_eq (cmp e.0 x.0) ≡ false → is_eq (cmp at x.0) ≡ true → is_eq (cmp at e.0) ≡ true → ⊥
         never miss g h =
-            let hit : is_eq (cmp e.0 x.0) ≡ true = ap (λ k. is_eq (cmp k x.0)) (sym (tie cmp total same at e.0 h)) ∙ g in
+            let hit : is_eq (cmp e.0 x.0) ≡ true =
+            ap (λ k. is_eq (cmp k x.0)) (sym (tie cmp total same at e.0 h)) ∙ g in
             cc
 
     -- the table of entries is made from the first to the last as well, where no key comes twice
-    pub from_entries-last : (es : List (K × X)) (e : K × X) → get cmp es e.0 ≡ None → from_entries cmp (es ++ e ∷ []) ≡ put cmp (from_entries cmp es) e.0 e.1
+    pub from_entries-last : (es : List (K × X)) (e : K × X) → get cmp es e.0 ≡ None
+        → from_entries cmp (es ++ e ∷ []) ≡ put cmp (from_entries cmp es) e.0 e.1
     from_entries-last es e absent =
         same_table cmp total same (from_entries cmp (es ++ e ∷ [])) (put cmp (from_entries cmp es) e.0 e.1)
-        (InOrder-from_entries cmp total (es ++ e ∷ [])) (InOrder-put cmp total (from_entries cmp es) e.0 e.1 (InOrder-from_entries cmp total es))
+        (InOrder-from_entries cmp total (es ++ e ∷ []))
+        (InOrder-put cmp total (from_entries cmp es) e.0 e.1 (InOrder-from_entries cmp total es))
         (λ at.
         get-from_entries cmp total (es ++ e ∷ []) at ∙ get-last es e at absent
         ∙ ap (cond (is_eq (cmp at e.0)) (Some e.1)) (sym (get-from_entries cmp total es at))
         ∙ sym (get-put cmp total (from_entries cmp es) e.0 e.1 at))
 
     -- a key put and another taken away, in one order or the other
-    pub put-without : (es : Table K X) (gone key : K) (value : X) → InOrder cmp es → cmp gone key ≢ Equal → put cmp (without cmp es gone) key value ≡ without cmp (put cmp es key value) gone
+    pub put-without : (es : Table K X) (gone key : K) (value : X) → InOrder cmp es → cmp gone key ≢ Equal
+        → put cmp (without cmp es gone) key value ≡ without cmp (put cmp es key value) gone
     put-without es gone key value order differ =
         same_table cmp total same (put cmp (without cmp es gone) key value) (without cmp (put cmp es key value) gone)
         (InOrder-put cmp total (without cmp es gone) key value (InOrder-without cmp es gone order))
@@ -121,11 +132,13 @@ remove-absent : {K X : Type 0} (test : K → Bool) (es : Table K X) → lookup t
 remove-absent test [] absent = refl
 remove-absent test (e ∷ es) absent = by (test e.0) absent (remove-absent test es)
   where
-    by : (b : Bool) → cond b (Some e.1) (lookup test es) ≡ None → (lookup test es ≡ None → remove_entry test es ≡ es) → cond b es (e ∷ remove_entry test es) ≡ e ∷ es
+    by : (b : Bool) → cond b (Some e.1) (lookup test es) ≡ None → (lookup test es ≡ None → remove_entry test es ≡ es)
+        → cond b es (e ∷ remove_entry test es) ≡ e ∷ es
     by true none rest = cc
     by false none rest = ap (λ fs. e ∷ fs) (rest none)
 
 -- to take it away changes nothing
-pub without-absent : {K X : Type 0} (cmp : K → K → Ordering) (es : Table K X) (key : K) → get cmp es key ≡ None → without cmp es key ≡ es
+pub without-absent : {K X : Type 0} (cmp : K → K → Ordering) (es : Table K X) (key : K) → get cmp es key ≡ None
+    → without cmp es key ≡ es
 unfolding get without
 without-absent cmp es key = remove-absent (is_at (cmp key)) es

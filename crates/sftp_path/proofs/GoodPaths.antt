@@ -21,13 +21,15 @@ list_all-filter q t [] h = refl
 list_all-filter q t (x ∷ xs) h =
     let p = and_parts (q x) (list_all q xs) h in
     let rest = list_all-filter q t xs p.1 in
-    cond_both (t x) (x ∷ filter t xs) (filter t xs) (λ ys. list_all q ys ≡ true) (λ _. and_from (q x) (list_all q (filter t xs)) p.0 rest) (λ _. rest)
+    cond_both (t x) (x ∷ filter t xs) (filter t xs) (λ ys. list_all q ys ≡ true)
+    (λ _. and_from (q x) (list_all q (filter t xs)) p.0 rest) (λ _. rest)
 
 list_all-passes : {X : Type 0} (t : X → Bool) (xs : List X) → list_all t (filter t xs) ≡ true
 list_all-passes t [] = refl
 list_all-passes t (x ∷ xs) =
     let rest = list_all-passes t xs in
-    cond_both (t x) (x ∷ filter t xs) (filter t xs) (λ ys. list_all t ys ≡ true) (λ h. and_from (t x) (list_all t (filter t xs)) h rest) (λ _. rest)
+    cond_both (t x) (x ∷ filter t xs) (filter t xs) (λ ys. list_all t ys ≡ true)
+    (λ h. and_from (t x) (list_all t (filter t xs)) h rest) (λ _. rest)
 
 pub filter_all : {X : Type 0} (t : X → Bool) (xs : List X) → list_all t xs ≡ true → filter t xs ≡ xs
 filter_all t [] h = refl
@@ -35,23 +37,27 @@ filter_all t (x ∷ xs) h =
     let p = and_parts (t x) (list_all t xs) h in
     cond-true (t x) (x ∷ filter t xs) (filter t xs) p.0 ∙ ap (λ ys. x ∷ ys) (filter_all t xs p.1)
 
-list_all-both : {X : Type 0} (p q : X → Bool) (xs : List X) → list_all p xs ≡ true → list_all q xs ≡ true → list_all (λ x. p x && q x) xs ≡ true
+list_all-both : {X : Type 0} (p q : X → Bool) (xs : List X) → list_all p xs ≡ true → list_all q xs ≡ true
+    → list_all (λ x. p x && q x) xs ≡ true
 list_all-both p q [] g h = refl
 list_all-both p q (x ∷ xs) g h =
     let a = and_parts (p x) (list_all p xs) g in
     let b = and_parts (q x) (list_all q xs) h in
     and_from (p x && q x) (list_all (λ y. p y && q y) xs) (and_from (p x) (q x) a.0 b.0) (list_all-both p q xs a.1 b.1)
 
-pub list_all-weaker : {X : Type 0} (p q : X → Bool) → ((x : X) → p x ≡ true → q x ≡ true) → (xs : List X) → list_all p xs ≡ true → list_all q xs ≡ true
+pub list_all-weaker : {X : Type 0} (p q : X → Bool) → ((x : X) → p x ≡ true → q x ≡ true) → (xs : List X)
+    → list_all p xs ≡ true → list_all q xs ≡ true
 list_all-weaker p q w [] h = refl
 list_all-weaker p q w (x ∷ xs) h =
     let a = and_parts (p x) (list_all p xs) h in
     and_from (q x) (list_all q xs) (w x a.0) (list_all-weaker p q w xs a.1)
 
 -- what holds of each element holds of the one between
-pub list_all-between : {X : Type 0} (p : X → Bool) (before : List X) (x : X) (after : List X) → list_all p (before ++ x ∷ after) ≡ true → p x ≡ true
+pub list_all-between : {X : Type 0} (p : X → Bool) (before : List X) (x : X) (after : List X)
+    → list_all p (before ++ x ∷ after) ≡ true → p x ≡ true
 list_all-between p before x after h =
-    let both = and_parts (list_all p before) (list_all p (x ∷ after)) (sym (list_all-append p before (x ∷ after)) ∙ h) in
+    let both =
+    and_parts (list_all p before) (list_all p (x ∷ after)) (sym (list_all-append p before (x ∷ after)) ∙ h) in
     (and_parts (p x) (list_all p after) both.1).0
 
 -- ---- good paths
@@ -59,7 +65,8 @@ list_all-between p before x after h =
 -- whether no byte is 0 and no component is longer than 255, where this many bytes of the first one came before
 abbrev pub good_from : ℕ → List ℕ → Bool
 good_from run [] = true
-good_from run (b ∷ bs) = not (b == 0) && (if b == 47 then good_from 0 bs else nat_le (run + 1) name_limit && good_from (run + 1) bs)
+good_from run (b ∷ bs) =
+    not (b == 0) && (if b == 47 then good_from 0 bs else nat_le (run + 1) name_limit && good_from (run + 1) bs)
 
 -- each part is short, where this many bytes of the first one came before
 short_after : ℕ → List (List ℕ) → Bool
@@ -81,23 +88,28 @@ short_after-with_first run b (p ∷ ps) =
 short_after-long : (run : ℕ) (ps : List (List ℕ)) → 255 < run → short_after run ps ≡ false
 unfolding short_after
 short_after-long run [] h = lt-leb run 255 h
-short_after-long run (p ∷ ps) h = and_left (nat_le (run + length p) name_limit) (list_all is_short ps) (lt-leb (run + length p) 255 (omega arith))
+short_after-long run (p ∷ ps) h =
+    and_left (nat_le (run + length p) name_limit) (list_all is_short ps) (lt-leb (run + length p) 255 (omega arith))
 
 short_after-slash : (run : ℕ) (ps : List (List ℕ)) → run ≤ 255 → short_after run ([] ∷ ps) ≡ list_all is_short ps
 unfolding short_after
 short_after-slash run ps h = ap (λ v. v && list_all is_short ps) (le-leb (run + 0) 255 (omega arith))
 
-good_from-short : (run : ℕ) (bs : List ℕ) → run ≤ 255 → (list_all is_nonzero bs && short_after run (parts bs)) ≡ good_from run bs
+good_from-short : (run : ℕ) (bs : List ℕ) → run ≤ 255
+    → (list_all is_nonzero bs && short_after run (parts bs)) ≡ good_from run bs
 good_from-short run [] h = ap (short_after run) parts-nil ∙ short_after-slash run [] h
 good_from-short run (b ∷ bs) h =
     elim (cases_Bool (b == 47)) [
       | inl slash ↦
-          let e : short_after run (parts (b ∷ bs)) ≡ short_after 0 (parts bs) = ap (short_after run) (parts-slash b bs slash) ∙ short_after-slash run (parts bs) h ∙ short_after-zero (parts bs) in
+          let e : short_after run (parts (b ∷ bs)) ≡ short_after 0 (parts bs) =
+          ap (short_after run) (parts-slash b bs slash) ∙ short_after-slash run (parts bs) h
+          ∙ short_after-zero (parts bs) in
           ap (λ v. list_all is_nonzero (b ∷ bs) && v) e
           ∙ and_shuffle (is_nonzero b) (list_all is_nonzero bs) (short_after 0 (parts bs)) (good_from 0 bs) (good_from-short 0 bs (omega arith))
           ∙ ap (λ v. is_nonzero b && cond v (good_from 0 bs) (nat_le (run + 1) name_limit && good_from (run + 1) bs)) (sym slash)
       | inr inner ↦
-          let e : short_after run (parts (b ∷ bs)) ≡ short_after (run + 1) (parts bs) = ap (short_after run) (parts-inner b bs inner) ∙ short_after-with_first run b (parts bs) in
+          let e : short_after run (parts (b ∷ bs)) ≡ short_after (run + 1) (parts bs) =
+          ap (short_after run) (parts-inner b bs inner) ∙ short_after-with_first run b (parts bs) in
           let rest : (list_all is_nonzero bs && short_after (run + 1) (parts bs)) ≡ (nat_le (run + 1) name_limit && good_from (run + 1) bs) =
           elim (cases_Bool (nat_le (run + 1) name_limit)) [
             | inl fits ↦ good_from-short (run + 1) bs (leb-true (run + 1) 255 fits) ∙ ap (λ v. v && good_from (run + 1) bs) (sym fits)
@@ -112,33 +124,40 @@ good_from-short run (b ∷ bs) h =
 list_all-short : (ps : List (List ℕ)) → list_all is_short (filter is_nonempty ps) ≡ list_all is_short ps
 list_all-short [] = refl
 list_all-short ([] ∷ ps) = list_all-short ps
-list_all-short ((b ∷ p) ∷ ps) = ap (list_all is_short) (filter-nonempty (b ∷ p) ps (omega arith)) ∙ ap (λ v. is_short (b ∷ p) && v) (list_all-short ps)
+list_all-short ((b ∷ p) ∷ ps) =
+    ap (list_all is_short) (filter-nonempty (b ∷ p) ps (omega arith))
+    ∙ ap (λ v. is_short (b ∷ p) && v) (list_all-short ps)
 
 -- a path is good if it is short enough and good from its first byte on
 pub good_path-from : (path : List ℕ) → is_good_path path ≡ (nat_le (length path) path_limit && good_from 0 path)
 unfolding is_good_path
 good_path-from path =
-    ap (λ v. nat_le (length path) path_limit && (list_all is_nonzero path && v)) (ap (list_all is_short) (components-are path) ∙ list_all-short (parts path) ∙ short_after-zero (parts path))
+    ap (λ v. nat_le (length path) path_limit && (list_all is_nonzero path && v))
+    (ap (list_all is_short) (components-are path) ∙ list_all-short (parts path) ∙ short_after-zero (parts path))
     ∙ ap (λ v. nat_le (length path) path_limit && v) (good_from-short 0 path (omega arith))
 
 bad_from : (path : List ℕ) → good_from 0 path ≡ false → false ≡ is_good_path path
 bad_from path h = sym (good_path-from path ∙ and_right (nat_le (length path) path_limit) (good_from 0 path) h)
 
 pub bad_by_length : (path : List ℕ) → path_limit < length path → false ≡ is_good_path path
-bad_by_length path h = sym (good_path-from path ∙ and_left (nat_le (length path) path_limit) (good_from 0 path) (lt-leb (length path) path_limit h))
+bad_by_length path h =
+    sym (good_path-from path ∙ and_left (nat_le (length path) path_limit) (good_from 0 path) (lt-leb (length path) path_limit h))
 
-pub bad_at_zero : (path : List ℕ) (run i : ℕ) → i < length path → slice_index path i ≡ 0 → good_from run (drop i path) ≡ good_from 0 path → false ≡ is_good_path path
+pub bad_at_zero : (path : List ℕ) (run i : ℕ) → i < length path → slice_index path i ≡ 0
+    → good_from run (drop i path) ≡ good_from 0 path → false ≡ is_good_path path
 bad_at_zero path run i l zero-byte rest =
     bad_from path (sym rest ∙ at_drop_more (good_from run) path i 0 l
     ∙ ap (λ v. not v && (if slice_index path i == 47 then good_from 0 (drop (i + 1) path) else nat_le (run + 1) name_limit && good_from (run + 1) (drop (i + 1) path))) (eq-eqb (slice_index path i) 0 zero-byte))
 
-pub bad_by_component : (path : List ℕ) (run i : ℕ) → i < length path → slice_index path i ≢ 47 → name_limit < run + 1 → good_from run (drop i path) ≡ good_from 0 path → false ≡ is_good_path path
+pub bad_by_component : (path : List ℕ) (run i : ℕ) → i < length path → slice_index path i ≢ 47 → name_limit < run + 1
+    → good_from run (drop i path) ≡ good_from 0 path → false ≡ is_good_path path
 bad_by_component path run i l inner long rest =
     bad_from path (sym rest ∙ at_drop_more (good_from run) path i 0 l
     ∙ ap (λ v. not (slice_index path i == 0) && (if v then good_from 0 (drop (i + 1) path) else nat_le (run + 1) name_limit && good_from (run + 1) (drop (i + 1) path))) (ne_eqb (slice_index path i) 47 inner)
     ∙ and_right (not (slice_index path i == 0)) (nat_le (run + 1) name_limit && good_from (run + 1) (drop (i + 1) path)) (and_left (nat_le (run + 1) name_limit) (good_from (run + 1) (drop (i + 1) path)) (lt-leb (run + 1) name_limit long)))
 
-pub good_to_the_end : (path : List ℕ) (run i : ℕ) → length path ≤ i → length path ≤ path_limit → good_from run (drop i path) ≡ good_from 0 path → true ≡ is_good_path path
+pub good_to_the_end : (path : List ℕ) (run i : ℕ) → length path ≤ i → length path ≤ path_limit
+    → good_from run (drop i path) ≡ good_from 0 path → true ≡ is_good_path path
 good_to_the_end path run i l short rest =
     sym (good_path-from path ∙ and_from (nat_le (length path) path_limit) (good_from 0 path) (le-leb (length path) path_limit short) (sym rest ∙ at_drop_all (good_from run) path i l))
 
@@ -151,7 +170,8 @@ is_good_component part = (is_nonempty part && is_short part) && (list_all is_non
 abbrev pub is_octet : ℕ → Bool
 is_octet b = nat_lt b 256
 
-list_all-with_first : (p : ℕ → Bool) (b : ℕ) (ps : List (List ℕ)) → p b ≡ true → list_all (list_all p) ps ≡ true → list_all (list_all p) (with_first b ps) ≡ true
+list_all-with_first : (p : ℕ → Bool) (b : ℕ) (ps : List (List ℕ)) → p b ≡ true → list_all (list_all p) ps ≡ true
+    → list_all (list_all p) (with_first b ps) ≡ true
 list_all-with_first p b [] h g = and_from (p b && true) true (and_from (p b) true h refl) refl
 list_all-with_first p b (q ∷ ps) h g =
     let a = and_parts (list_all p q) (list_all (list_all p) ps) g in
@@ -177,27 +197,38 @@ list_all-inner-parts (b ∷ bs) =
       | inr inner ↦ ap (list_all (list_all is_inner)) (parts-inner b bs inner) ∙ list_all-with_first is_inner b (parts bs) (not_from_false (b == 47) inner) (list_all-inner-parts bs)
     ]
 
-pub list_all-components : (p : ℕ → Bool) (bs : List ℕ) → list_all p bs ≡ true → list_all (list_all p) (components bs) ≡ true
-list_all-components p bs h = ap (list_all (list_all p)) (components-are bs) ∙ list_all-filter (list_all p) is_nonempty (parts bs) (list_all-parts p bs h)
+pub list_all-components : (p : ℕ → Bool) (bs : List ℕ) → list_all p bs ≡ true
+    → list_all (list_all p) (components bs) ≡ true
+list_all-components p bs h =
+    ap (list_all (list_all p)) (components-are bs)
+    ∙ list_all-filter (list_all p) is_nonempty (parts bs) (list_all-parts p bs h)
 
 -- each component of a good path is nonempty and short, and has no byte 0 and no `/`
 pub components-good : (path : List ℕ) → is_good_path path ≡ true → list_all is_good_component (components path) ≡ true
 unfolding is_good_path
 components-good path h =
-    let a = and_parts (nat_le (length path) path_limit) (list_all is_nonzero path && list_all is_short (components path)) h in
+    let a =
+    and_parts (nat_le (length path) path_limit) (list_all is_nonzero path && list_all is_short (components path)) h in
     let b = and_parts (list_all is_nonzero path) (list_all is_short (components path)) a.1 in
-    let nonempty : list_all is_nonempty (components path) ≡ true = ap (list_all is_nonempty) (components-are path) ∙ list_all-passes is_nonempty (parts path) in
+    let nonempty : list_all is_nonempty (components path) ≡ true =
+    ap (list_all is_nonempty) (components-are path) ∙ list_all-passes is_nonempty (parts path) in
     let nonzero : list_all (list_all is_nonzero) (components path) ≡ true = list_all-components is_nonzero path b.0 in
-    let inner : list_all (list_all is_inner) (components path) ≡ true = ap (list_all (list_all is_inner)) (components-are path) ∙ list_all-filter (list_all is_inner) is_nonempty (parts path) (list_all-inner-parts path) in
-    list_all-both (λ part. is_nonempty part && is_short part) (λ part. list_all is_nonzero part && list_all is_inner part) (components path)
+    let inner : list_all (list_all is_inner) (components path) ≡ true =
+    ap (list_all (list_all is_inner)) (components-are path)
+    ∙ list_all-filter (list_all is_inner) is_nonempty (parts path) (list_all-inner-parts path) in
+    list_all-both (λ part. is_nonempty part && is_short part)
+    (λ part. list_all is_nonzero part && list_all is_inner part) (components path)
     (list_all-both is_nonempty is_short (components path) nonempty b.1)
     (list_all-both (list_all is_nonzero) (list_all is_inner) (components path) nonzero inner)
 
-name_bytes : (c : List ℕ) → list_all is_octet c ≡ true → list_all is_nonzero c ≡ true → list_all is_inner c ≡ true → list_all is_name_byte c ≡ true
-name_bytes c bytes nonzero inner = list_all-both is_octet (λ b. is_nonzero b && is_inner b) c bytes (list_all-both is_nonzero is_inner c nonzero inner)
+name_bytes : (c : List ℕ) → list_all is_octet c ≡ true → list_all is_nonzero c ≡ true → list_all is_inner c ≡ true
+    → list_all is_name_byte c ≡ true
+name_bytes c bytes nonzero inner =
+    list_all-both is_octet (λ b. is_nonzero b && is_inner b) c bytes (list_all-both is_nonzero is_inner c nonzero inner)
 
 -- a good component of bytes is a name, but for `.` and `..`
-pub good_component-is_name : (c : List ℕ) → is_good_component c ≡ true → list_all is_octet c ≡ true → is_dot c ≡ false → is_dot_dot c ≡ false → is_name c ≡ true
+pub good_component-is_name : (c : List ℕ) → is_good_component c ≡ true → list_all is_octet c ≡ true
+    → is_dot c ≡ false → is_dot_dot c ≡ false → is_name c ≡ true
 good_component-is_name c good bytes dot dots =
     let a = and_parts (is_nonempty c && is_short c) (list_all is_nonzero c && list_all is_inner c) good in
     let b = and_parts (list_all is_nonzero c) (list_all is_inner c) a.1 in
@@ -213,7 +244,9 @@ list_all-octets (b ∷ bs) h =
     and_from (is_octet b) (list_all is_octet bs) (lt-ltb b 256 (omega arith)) (list_all-octets bs (λ i. h (suc i)))
 
 -- a component of a good path is a name, but for `.` and `..`
-pub component-is_name : (path : List ℕ) (before : List (List ℕ)) (c : List ℕ) (after : List (List ℕ)) → is_good_path path ≡ true → components path ≡ before ++ c ∷ after → list_all is_octet c ≡ true → is_dot c ≡ false → is_dot_dot c ≡ false → is_name c ≡ true
+pub component-is_name : (path : List ℕ) (before : List (List ℕ)) (c : List ℕ) (after : List (List ℕ))
+    → is_good_path path ≡ true → components path ≡ before ++ c ∷ after → list_all is_octet c ≡ true
+    → is_dot c ≡ false → is_dot_dot c ≡ false → is_name c ≡ true
 component-is_name path before c after good split =
     good_component-is_name c (list_all-between is_good_component before c after (ap (list_all is_good_component) (sym split) ∙ components-good path good))
 
@@ -229,7 +262,8 @@ step c good bytes =
           ]
     ]
 
-steps : (cs : List (List ℕ)) → list_all is_good_component cs ≡ true → list_all (list_all is_octet) cs ≡ true → list_all is_step cs ≡ true
+steps : (cs : List (List ℕ)) → list_all is_good_component cs ≡ true → list_all (list_all is_octet) cs ≡ true
+    → list_all is_step cs ≡ true
 steps [] good bytes = refl
 steps (c ∷ cs) good bytes =
     let g = and_parts (is_good_component c) (list_all is_good_component cs) good in
@@ -237,5 +271,7 @@ steps (c ∷ cs) good bytes =
     and_from (is_step c) (list_all is_step cs) (step c g.0 b.0) (steps cs g.1 b.1)
 
 -- each component of a good path of bytes is `.`, `..` or a name
-pub components-steps : (path : List ℕ) → is_good_path path ≡ true → list_all is_octet path ≡ true → list_all is_step (components path) ≡ true
-components-steps path good bytes = steps (components path) (components-good path good) (list_all-components is_octet path bytes)
+pub components-steps : (path : List ℕ) → is_good_path path ≡ true → list_all is_octet path ≡ true
+    → list_all is_step (components path) ≡ true
+components-steps path good bytes =
+    steps (components path) (components-good path good) (list_all-components is_octet path bytes)

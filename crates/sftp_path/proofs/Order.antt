@@ -1,5 +1,5 @@
 -- Places that begin others, and the orders of keys.
-use Rattle.std.proofs.Common.{◌≡◌, ◌&&◌, ◌-◌, ℕ, suc, Bool, nat_eq, nat_lt, true, false, [], ◌∷◌, ◌++◌, length, take, drop, refl, ap, sym, ◌∙◌, arith}
+use Rattle.std.proofs.Common.{◌≡◌, ◌&&◌, ◌-◌, ℕ, suc, nat_eq, nat_lt, true, [], ◌∷◌, ◌++◌, length, take, drop, refl, ap, sym, ◌∙◌, arith}
 use Rattle.std.specs.Cmp.{IsTotalOrder}
 use Rattle.std.specs.Cmp.Lexicographic.{pointwise, bytes_decides, nat_list_cmp_total, nat_list_eq_equiv, lists_total}
 use Rattle.std.specs.FinMap.{IsAntisymmetric, nat_cmp-IsAntisymmetric, slice_cmp-IsAntisymmetric}
@@ -7,7 +7,7 @@ use Rattle.std.proofs.lemmas.Bool.{and_parts, lt-ltb}
 use Rattle.std.proofs.lemmas.Bool.Decides.{nat_tests}
 use Rattle.std.proofs.Math.Bool.{and_assoc}
 use Rattle.std.proofs.Math.Seq.{take-append_seam}
-use Rattle.std.proofs.lemmas.List.{length-append}
+use Rattle.std.proofs.lemmas.List.{append-nil, length-append}
 use Rattle.sftp_path.specs.Place.{Name, Place, bytes_cmp, place_cmp, same_bytes, begins, is_below, parent}
 
 -- ---- places that begin others
@@ -30,9 +30,8 @@ pub begins-append : (top rest : Place) → begins top (top ++ rest) ≡ true
 begins-append [] rest = refl
 begins-append (m ∷ ms) rest = ap (λ b. b && begins ms (ms ++ rest)) (nat_list_eq_equiv.refl m) ∙ begins-append ms rest
 
-and-false : (b : Bool) → (b && false) ≡ false
-and-false true = refl
-and-false false = refl
+pub begins-itself : (place : Place) → begins place place ≡ true
+begins-itself place = ap (begins place) (sym (append-nil place)) ∙ begins-append place []
 
 shorter-tails : (a b : ℕ) → nat_lt a b ≡ nat_lt (suc a) (suc b)
 shorter-tails a b = grind (arith, nat_tests)
@@ -42,7 +41,8 @@ below-begins [] [] = refl
 below-begins [] (n ∷ ns) = sym (lt-ltb 0 (length (n ∷ ns)) (omega arith))
 below-begins (m ∷ ms) [] = refl
 below-begins (m ∷ ms) (n ∷ ns) =
-    ap (λ b. same_bytes m n && b) (below-begins ms ns) ∙ sym (and_assoc (same_bytes m n) (begins ms ns) (nat_lt (length ms) (length ns)))
+    ap (λ b. same_bytes m n && b) (below-begins ms ns)
+    ∙ sym (and_assoc (same_bytes m n) (begins ms ns) (nat_lt (length ms) (length ns)))
     ∙ ap (λ b. begins (m ∷ ms) (n ∷ ns) && b) (shorter-tails (length ms) (length ns))
 
 -- ---- the parent

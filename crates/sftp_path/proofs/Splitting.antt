@@ -8,7 +8,7 @@ use Rattle.std.proofs.lemmas.Bool.{eq-eqb, eqb-true, ne_eqb, lt-ltb, ltb-true, l
 use Rattle.std.proofs.lemmas.List.{drop_all, length-drop, take_rest}
 use Rattle.std.proofs.lemmas.Option.{cond_some, none-some}
 use Rattle.sftp_path.specs.Place.{is_inner, name_limit, with_first, parts, components, is_nonempty}
-use Rattle.sftp_path.specs.Text.{joined}
+use Rattle.sftp_path.specs.Text.{with_slashes}
 use Rattle.sftp_path.specs.Cut.{begins_at_slash, parts_behind}
 
 -- ---- parts
@@ -37,7 +37,8 @@ pub parts-from_slash : (bs : List ℕ) → parts (47 ∷ bs) ≡ [] ∷ parts bs
 parts-from_slash bs = parts-slash 47 bs refl
 
 -- the first part ends before the first `/`
-pub parts-cut : (bs : List ℕ) (n : ℕ) → ((k : ℕ) → k < n → slice_index bs k ≢ 47) → (n < length bs → slice_index bs n ≡ 47) → parts bs ≡ take n bs ∷ parts_behind (drop n bs)
+pub parts-cut : (bs : List ℕ) (n : ℕ) → ((k : ℕ) → k < n → slice_index bs k ≢ 47)
+    → (n < length bs → slice_index bs n ≡ 47) → parts bs ≡ take n bs ∷ parts_behind (drop n bs)
 parts-cut [] zero before at = parts-nil
 parts-cut [] (suc n) before at = parts-nil
 parts-cut (b ∷ bs) zero before at = parts-slash b bs (eq-eqb b 47 (at (omega arith)))
@@ -88,29 +89,37 @@ components-nil = components-are [] ∙ ap (filter is_nonempty) parts-nil
 pub components-slash : (bs : List ℕ) → components (47 ∷ bs) ≡ components bs
 components-slash bs = components-are (47 ∷ bs) ∙ ap (filter is_nonempty) (parts-from_slash bs) ∙ sym (components-are bs)
 
--- what stands behind a part gives the components that are left
+-- what follows a part gives the components that are left
 pub components-behind : (bs : List ℕ) → begins_at_slash bs ≡ true → components bs ≡ filter is_nonempty (parts_behind bs)
 components-behind [] h = components-nil
 components-behind (b ∷ bs) h = components-are (b ∷ bs) ∙ ap (filter is_nonempty) (parts-slash b bs h)
 
-pub filter-nonempty : (w : List ℕ) (ws : List (List ℕ)) → 0 < length w → filter is_nonempty (w ∷ ws) ≡ w ∷ filter is_nonempty ws
+pub filter-nonempty : (w : List ℕ) (ws : List (List ℕ)) → 0 < length w
+    → filter is_nonempty (w ∷ ws) ≡ w ∷ filter is_nonempty ws
 filter-nonempty [] ws h = absurd (omega arith)
-filter-nonempty (b ∷ w) ws h = cond-true (is_nonempty (b ∷ w)) ((b ∷ w) ∷ filter is_nonempty ws) (filter is_nonempty ws) (lt-ltb 0 (length (b ∷ w)) h)
+filter-nonempty (b ∷ w) ws h =
+    cond-true (is_nonempty (b ∷ w)) ((b ∷ w) ∷ filter is_nonempty ws) (filter is_nonempty ws)
+    (lt-ltb 0 (length (b ∷ w)) h)
 
-pub components-append : (w r : List ℕ) → 0 < length w → list_all is_inner w ≡ true → components (w ++ 47 ∷ r) ≡ w ∷ components r
+pub components-append : (w r : List ℕ) → 0 < length w → list_all is_inner w ≡ true
+    → components (w ++ 47 ∷ r) ≡ w ∷ components r
 components-append w r some h =
-    components-are (w ++ 47 ∷ r) ∙ ap (filter is_nonempty) (parts-append w r h) ∙ filter-nonempty w (parts r) some ∙ ap (λ ws. w ∷ ws) (sym (components-are r))
+    components-are (w ++ 47 ∷ r) ∙ ap (filter is_nonempty) (parts-append w r h) ∙ filter-nonempty w (parts r) some
+    ∙ ap (λ ws. w ∷ ws) (sym (components-are r))
 
 pub components-whole : (w : List ℕ) → 0 < length w → list_all is_inner w ≡ true → components w ≡ w ∷ []
 components-whole w some h =
     components-are w ∙ ap (filter is_nonempty) (parts-whole w h) ∙ filter-nonempty w [] some
 
 -- the first slash-less part of what a `/` or nothing follows, where that part is not empty
-pub components-cut : (bs w r : List ℕ) → parts bs ≡ w ∷ parts_behind r → begins_at_slash r ≡ true → 0 < length w → components bs ≡ w ∷ components r
+pub components-cut : (bs w r : List ℕ) → parts bs ≡ w ∷ parts_behind r → begins_at_slash r ≡ true → 0 < length w
+    → components bs ≡ w ∷ components r
 components-cut bs w r cut behind some =
-    components-are bs ∙ ap (filter is_nonempty) cut ∙ filter-nonempty w (parts_behind r) some ∙ ap (λ ws. w ∷ ws) (sym (components-behind r behind))
+    components-are bs ∙ ap (filter is_nonempty) cut ∙ filter-nonempty w (parts_behind r) some
+    ∙ ap (λ ws. w ∷ ws) (sym (components-behind r behind))
 
-skip-slash : (b : ℕ) (bs : List ℕ) → (b == 47) ≡ true → drop (position_or_len is_inner (b ∷ bs)) (b ∷ bs) ≡ drop (position_or_len is_inner bs) bs
+skip-slash : (b : ℕ) (bs : List ℕ) → (b == 47) ≡ true
+    → drop (position_or_len is_inner (b ∷ bs)) (b ∷ bs) ≡ drop (position_or_len is_inner bs) bs
 skip-slash b bs slash =
     let e : 1 + position_or_len is_inner bs ≡ suc (position_or_len is_inner bs) = omega arith in
     ap (λ v. drop (cond (not (not v)) (1 + position_or_len is_inner bs) 0) (b ∷ bs)) slash ∙ ap (λ k. drop k (b ∷ bs)) e
@@ -129,8 +138,9 @@ components-skip (b ∷ bs) =
       | inr inner ↦ ap components (skip-stop b bs inner)
     ]
 
--- behind them stands nothing, or a byte that is no `/`
-skip-inner : (bs : List ℕ) → begins_at_slash (drop (position_or_len is_inner bs) bs) ≡ true → drop (position_or_len is_inner bs) bs ≡ []
+-- nothing follows them, or a byte that is not `/`
+skip-inner : (bs : List ℕ) → begins_at_slash (drop (position_or_len is_inner bs) bs) ≡ true
+    → drop (position_or_len is_inner bs) bs ≡ []
 skip-inner [] h = refl
 skip-inner (b ∷ bs) h =
     elim (cases_Bool (b == 47)) [
@@ -138,22 +148,29 @@ skip-inner (b ∷ bs) h =
       | inr inner ↦ absurd (false≢true (sym inner ∙ ap begins_at_slash (sym (skip-stop b bs inner)) ∙ h))
     ]
 
-position-some : (bs : List ℕ) (n : ℕ) → position is_inner bs ≡ Some n → (position_or_len is_inner bs < length bs) × (position_or_len is_inner bs ≡ n)
+position-some : (bs : List ℕ) (n : ℕ) → position is_inner bs ≡ Some n
+    → (position_or_len is_inner bs < length bs) × (position_or_len is_inner bs ≡ n)
 position-some bs n h =
     let p = cond_some (nat_lt (position_or_len is_inner bs) (length bs)) (position_or_len is_inner bs) n h in
     (ltb-true (position_or_len is_inner bs) (length bs) p.0, p.1)
 
 -- from the first byte on that is no `/`, the first part is the first component
-pub components-next : (bs w r : List ℕ) (n : ℕ) → position is_inner bs ≡ Some n → take (length bs - n) (drop n bs) ≡ w ++ r → parts (take (length bs - n) (drop n bs)) ≡ w ∷ parts_behind r → begins_at_slash r ≡ true → components bs ≡ w ∷ components r
+pub components-next : (bs w r : List ℕ) (n : ℕ) → position is_inner bs ≡ Some n
+    → take (length bs - n) (drop n bs) ≡ w ++ r → parts (take (length bs - n) (drop n bs)) ≡ w ∷ parts_behind r
+    → begins_at_slash r ≡ true → components bs ≡ w ∷ components r
 components-next bs w r n found whole cut behind =
     let p = position-some bs n found in
-    let skipped : components (drop n bs) ≡ components bs = ap (λ k. components (drop k bs)) (sym p.1) ∙ components-skip bs in
-    sym skipped ∙ components-cut (drop n bs) w r (ap parts (sym (take_rest bs n)) ∙ cut) behind (nonempty w (sym (take_rest bs n) ∙ whole))
+    let skipped : components (drop n bs) ≡ components bs =
+    ap (λ k. components (drop k bs)) (sym p.1) ∙ components-skip bs in
+    sym skipped
+    ∙ components-cut (drop n bs) w r (ap parts (sym (take_rest bs n)) ∙ cut) behind (nonempty w (sym (take_rest bs n) ∙ whole))
   where
     nonempty : (v : List ℕ) → drop n bs ≡ v ++ r → 0 < length v
     nonempty [] e =
         let p = position-some bs n found in
-        let none : drop n bs ≡ [] = subst (λ k. begins_at_slash (drop k bs) ≡ true → drop k bs ≡ []) p.1 (skip-inner bs) (ap begins_at_slash e ∙ behind) in
+        let none : drop n bs ≡ [] =
+        subst (λ k. begins_at_slash (drop k bs) ≡ true → drop k bs ≡ []) p.1 (skip-inner bs)
+        (ap begins_at_slash e ∙ behind) in
         let l : length (drop n bs) ≡ 0 = ap length none in
         absurd (omega (arith, length-drop n bs, p.0, p.1))
     nonempty (b ∷ v) e = omega arith
@@ -174,19 +191,23 @@ components-there [] there = absurd (omega arith)
 components-there (b ∷ bs) there =
     elim (cases_Bool (b == 47)) [
       | inl slash ↦
-          let skipped : components (b ∷ bs) ≡ components bs = ap (λ v. components (v ∷ bs)) (eqb-true b 47 slash) ∙ components-slash bs in
-          let passed : position_or_len is_inner (b ∷ bs) ≡ 1 + position_or_len is_inner bs = ap (λ v. cond (not (not v)) (1 + position_or_len is_inner bs) 0) slash in
+          let skipped : components (b ∷ bs) ≡ components bs =
+          ap (λ v. components (v ∷ bs)) (eqb-true b 47 slash) ∙ components-slash bs in
+          let passed : position_or_len is_inner (b ∷ bs) ≡ 1 + position_or_len is_inner bs =
+          ap (λ v. cond (not (not v)) (1 + position_or_len is_inner bs) 0) slash in
           let further : position_or_len is_inner bs < length bs = omega arith in
           rw skipped (components-there bs further)
       | inr inner ↦
           let rest = parts-first bs in
           let first : components (b ∷ bs) ≡ (b ∷ rest.0) ∷ filter is_nonempty rest.1 =
-          components-are (b ∷ bs) ∙ ap (filter is_nonempty) (parts-inner b bs inner ∙ ap (with_first b) rest.2) ∙ filter-nonempty (b ∷ rest.0) rest.1 (omega arith) in
+          components-are (b ∷ bs) ∙ ap (filter is_nonempty) (parts-inner b bs inner ∙ ap (with_first b) rest.2)
+          ∙ filter-nonempty (b ∷ rest.0) rest.1 (omega arith) in
           omega (arith, ap length first)
     ]
 
 -- whether there is a component, by the first byte that is no `/`
-pub components-none_left : (bs : List ℕ) (found : Option ℕ) (none : Bool) → found ≡ position is_inner bs → is_some found ≡ not none → none ≡ (length (components bs) == 0)
+pub components-none_left : (bs : List ℕ) (found : Option ℕ) (none : Bool) → found ≡ position is_inner bs
+    → is_some found ≡ not none → none ≡ (length (components bs) == 0)
 components-none_left bs None true e h = sym (eq-eqb (length (components bs)) 0 (ap length (components-end bs (sym e))))
 components-none_left bs None false e h = cc
 components-none_left bs (Some n) true e h = cc
@@ -195,33 +216,39 @@ components-none_left bs (Some n) false e h =
     sym (ne_eqb (length (components bs)) 0 (λ z. omega arith))
 
 -- the first place of a `/`, or the end, cuts the first part off
-pub parts-found : (bs : List ℕ) (r : Option ℕ) → IsFirstByte (is_byte 47) bs r → parts bs ≡ take (unwrap_or r (length bs)) bs ∷ parts_behind (drop (unwrap_or r (length bs)) bs)
-parts-found bs None h = parts-cut bs (length bs) (λ k l e. h k (omega arith) l (eq-eqb (slice_index bs k) 47 e)) (λ l. absurd (omega arith))
-parts-found bs (Some n) h = parts-cut bs n (λ k l e. h.0.before k (omega arith) l (eq-eqb (slice_index bs k) 47 e)) (λ l. eqb-true (slice_index bs n) 47 h.1)
+pub parts-found : (bs : List ℕ) (r : Option ℕ) → IsFirstByte (is_byte 47) bs r
+    → parts bs ≡ take (unwrap_or r (length bs)) bs ∷ parts_behind (drop (unwrap_or r (length bs)) bs)
+parts-found bs None h =
+    parts-cut bs (length bs) (λ k l e. h k (omega arith) l (eq-eqb (slice_index bs k) 47 e)) (λ l. absurd (omega arith))
+parts-found bs (Some n) h =
+    parts-cut bs n (λ k l e. h.0.before k (omega arith) l (eq-eqb (slice_index bs k) 47 e))
+    (λ l. eqb-true (slice_index bs n) 47 h.1)
 
 -- ---- the parts make the path
 
-joined-with_first : (b : ℕ) (w : List ℕ) (ws : List (List ℕ)) → joined (with_first b (w ∷ ws)) ≡ b ∷ joined (w ∷ ws)
-joined-with_first b w [] = refl
-joined-with_first b w (v ∷ vs) = refl
+with_slashes-with_first : (b : ℕ) (w : List ℕ) (ws : List (List ℕ))
+    → with_slashes (with_first b (w ∷ ws)) ≡ b ∷ with_slashes (w ∷ ws)
+with_slashes-with_first b w [] = refl
+with_slashes-with_first b w (v ∷ vs) = refl
 
-pub joined-parts : (bs : List ℕ) → joined (parts bs) ≡ bs
-joined-parts [] = ap joined parts-nil
-joined-parts (b ∷ bs) =
+pub with_slashes-parts : (bs : List ℕ) → with_slashes (parts bs) ≡ bs
+with_slashes-parts [] = ap with_slashes parts-nil
+with_slashes-parts (b ∷ bs) =
     let first = parts-first bs in
-    let rest : joined (first.0 ∷ first.1) ≡ bs = ap joined (sym first.2) ∙ joined-parts bs in
+    let rest : with_slashes (first.0 ∷ first.1) ≡ bs = ap with_slashes (sym first.2) ∙ with_slashes-parts bs in
     elim (cases_Bool (b == 47)) [
       | inl slash ↦
-          ap joined (parts-slash b bs slash) ∙ ap (λ ws. joined ([] ∷ ws)) first.2
+          ap with_slashes (parts-slash b bs slash) ∙ ap (λ ws. with_slashes ([] ∷ ws)) first.2
           ∙ ap (λ cs. 47 ∷ cs) rest ∙ ap (λ v. v ∷ bs) (sym (eqb-true b 47 slash))
       | inr inner ↦
-          ap joined (parts-inner b bs inner ∙ ap (with_first b) first.2)
-          ∙ joined-with_first b first.0 first.1 ∙ ap (λ cs. b ∷ cs) rest
+          ap with_slashes (parts-inner b bs inner ∙ ap (with_first b) first.2)
+          ∙ with_slashes-with_first b first.0 first.1 ∙ ap (λ cs. b ∷ cs) rest
     ]
 
 -- lists without a `/`, at least one, are the parts of what they make
-pub parts-joined : (w : List ℕ) (ws : List (List ℕ)) → list_all (list_all is_inner) (w ∷ ws) ≡ true → parts (joined (w ∷ ws)) ≡ w ∷ ws
-parts-joined w [] h = parts-whole w (and_parts (list_all is_inner w) true h).0
-parts-joined w (v ∷ vs) h =
+pub parts-with_slashes : (w : List ℕ) (ws : List (List ℕ)) → list_all (list_all is_inner) (w ∷ ws) ≡ true
+    → parts (with_slashes (w ∷ ws)) ≡ w ∷ ws
+parts-with_slashes w [] h = parts-whole w (and_parts (list_all is_inner w) true h).0
+parts-with_slashes w (v ∷ vs) h =
     let p = and_parts (list_all is_inner w) (list_all (list_all is_inner) (v ∷ vs)) h in
-    parts-append w (joined (v ∷ vs)) p.0 ∙ ap (λ ws. w ∷ ws) (parts-joined v vs p.1)
+    parts-append w (with_slashes (v ∷ vs)) p.0 ∙ ap (λ ws. w ∷ ws) (parts-with_slashes v vs p.1)

@@ -8,7 +8,7 @@ use Rattle.std.specs.BTreeMap.{insert_entry, is_at}
 use Rattle.std.specs.Map.{lookup, remove_entry, keys_of}
 use Rattle.std.specs.List.{AllByRecursion, filter}
 use Rattle.std.specs.List.Sorted.{IsStrictlySortedBy}
-use Rattle.std.specs.Cmp.{IsTotalOrder}
+use Rattle.std.specs.Cmp.{IsTotalOrder, Equal-is}
 use Rattle.std.specs.FinMap.{IsAntisymmetric}
 use Rattle.std.specs.FinMap.Entries as sorted_list
 use Rattle.std.proofs.lemmas.Bool.{cases_Bool}
@@ -18,11 +18,6 @@ use Rattle.std.proofs.lemmas.Map.Keys.{sorted_head, sorted_tail, IsDistinct-from
 use Rattle.sftp_path.specs.Table.{Table, InOrder, get, put, without, retain, from_entries, size, kept}
 
 -- ---- orders
-
-tied : (o : Ordering) → is_eq o ≡ true → o ≡ Equal
-tied Less e = cc
-tied Equal e = refl
-tied Greater e = cc
 
 apart : (o : Ordering) → o ≢ Equal → is_eq o ≡ false
 apart Less e = refl
@@ -61,7 +56,8 @@ module _ {K X : Type 0} (cmp : K → K → Ordering) where
 
   insert-is : (key : K) (value : X) (es : Table K X) → insert_entry cmp es key value ≡ sorted_list.put cmp key value es
   insert-is key value [] = refl
-  insert-is key value (e ∷ es) = turn (cmp key e.0) ((key, value) ∷ e ∷ es) ((e.0, value) ∷ es) _ _ (ap (λ fs. e ∷ fs) (insert-is key value es))
+  insert-is key value (e ∷ es) =
+      turn (cmp key e.0) ((key, value) ∷ e ∷ es) ((e.0, value) ∷ es) _ _ (ap (λ fs. e ∷ fs) (insert-is key value es))
 
   put-is : (key : K) (value : X) (es : Table K X) → put cmp es key value ≡ sorted_list.put cmp key value es
   unfolding put
@@ -75,11 +71,15 @@ module _ {K X : Type 0} (cmp : K → K → Ordering) where
   unfolding get
   get-is = lookup-is
 
-  below-to : (key : K) (es : Table K X) → AllByRecursion (λ k. cmp key k ≡ Less) (keys_of es) → T (sorted_list.below_all cmp key es)
+  below-to : (key : K) (es : Table K X) → AllByRecursion (λ k. cmp key k ≡ Less) (keys_of es)
+      → T (sorted_list.below_all cmp key es)
   below-to key [] h = tt
-  below-to key (e ∷ es) h = both (is_lt (cmp key e.0)) (sorted_list.below_all cmp key es) (subst (λ o. T (is_lt o)) (sym h.0) tt) (below-to key es h.1)
+  below-to key (e ∷ es) h =
+      both (is_lt (cmp key e.0)) (sorted_list.below_all cmp key es) (subst (λ o. T (is_lt o)) (sym h.0) tt)
+      (below-to key es h.1)
 
-  below-from : (key : K) (es : Table K X) → T (sorted_list.below_all cmp key es) → AllByRecursion (λ k. cmp key k ≡ Less) (keys_of es)
+  below-from : (key : K) (es : Table K X) → T (sorted_list.below_all cmp key es)
+      → AllByRecursion (λ k. cmp key k ≡ Less) (keys_of es)
   below-from key [] h = tt
   below-from key (e ∷ es) h =
       (less_from (cmp key e.0) (first (is_lt (cmp key e.0)) (sorted_list.below_all cmp key es) h), below-from key es (second (is_lt (cmp key e.0)) (sorted_list.below_all cmp key es) h))
@@ -87,7 +87,8 @@ module _ {K X : Type 0} (cmp : K → K → Ordering) where
   sorted-to : (es : Table K X) → InOrder cmp es → T (sorted_list.is_sorted cmp es)
   sorted-to [] h = tt
   sorted-to (e ∷ es) h =
-      both (sorted_list.below_all cmp e.0 es) (sorted_list.is_sorted cmp es) (below-to e.0 es (sorted_head cmp e.0 (keys_of es) h)) (sorted-to es (sorted_tail cmp e.0 (keys_of es) h))
+      both (sorted_list.below_all cmp e.0 es) (sorted_list.is_sorted cmp es)
+      (below-to e.0 es (sorted_head cmp e.0 (keys_of es) h)) (sorted-to es (sorted_tail cmp e.0 (keys_of es) h))
 
   sorted-from : (es : Table K X) → T (sorted_list.is_sorted cmp es) → InOrder cmp es
   unfolding IsStrictlySortedBy
@@ -95,59 +96,74 @@ module _ {K X : Type 0} (cmp : K → K → Ordering) where
   sorted-from (e ∷ es) h =
       (below-from e.0 es (first (sorted_list.below_all cmp e.0 es) (sorted_list.is_sorted cmp es) h), sorted-from es (second (sorted_list.below_all cmp e.0 es) (sorted_list.is_sorted cmp es) h))
 
-  -- ---- what stands at a key
+  -- ---- the value of a key
 
   pub get-empty : (key : K) → get {X = X} cmp [] key ≡ None
   unfolding get
   get-empty key = refl
 
   -- the first entry, and the others
-  pub get-cons : (e : K × X) (es : Table K X) (key : K) → get cmp (e ∷ es) key ≡ cond (is_eq (cmp key e.0)) (Some e.1) (get cmp es key)
+  pub get-cons : (e : K × X) (es : Table K X) (key : K)
+      → get cmp (e ∷ es) key ≡ cond (is_eq (cmp key e.0)) (Some e.1) (get cmp es key)
   unfolding get
   get-cons e es key = refl
 
   -- a key below all others has nothing
-  pub get-below : (key : K) (es : Table K X) → AllByRecursion (λ k. cmp key k ≡ Less) (keys_of es) → get cmp es key ≡ None
+  pub get-below : (key : K) (es : Table K X) → AllByRecursion (λ k. cmp key k ≡ Less) (keys_of es)
+      → get cmp es key ≡ None
   get-below key [] h = get-empty key
-  get-below key (e ∷ es) h = get-cons e es key ∙ ap (λ o. cond (is_eq o) (Some e.1) (get cmp es key)) h.0 ∙ get-below key es h.1
+  get-below key (e ∷ es) h =
+      get-cons e es key ∙ ap (λ o. cond (is_eq o) (Some e.1) (get cmp es key)) h.0 ∙ get-below key es h.1
 
   -- ---- how many entries
 
-  size-turn : (key : K) (value : X) (e : K × X) (es more : Table K X) (o : Ordering) → cond (is_eq o) (Some e.1) (lookup (is_at (cmp key)) es) ≡ None → (lookup (is_at (cmp key)) es ≡ None → length more ≡ length es + 1) → length (match_ordering o ((key, value) ∷ e ∷ es) ((e.0, value) ∷ es) (e ∷ more)) ≡ length (e ∷ es) + 1
+  size-turn : (key : K) (value : X) (e : K × X) (es more : Table K X) (o : Ordering)
+      → cond (is_eq o) (Some e.1) (lookup (is_at (cmp key)) es) ≡ None
+      → (lookup (is_at (cmp key)) es ≡ None → length more ≡ length es + 1)
+      → length (match_ordering o ((key, value) ∷ e ∷ es) ((e.0, value) ∷ es) (e ∷ more)) ≡ length (e ∷ es) + 1
   size-turn key value e es more Less absent rest = omega arith
   size-turn key value e es more Equal absent rest = cc
   size-turn key value e es more Greater absent rest = omega (arith, rest absent)
 
-  length-insert : (es : Table K X) (key : K) (value : X) → lookup (is_at (cmp key)) es ≡ None → length (insert_entry cmp es key value) ≡ length es + 1
+  length-insert : (es : Table K X) (key : K) (value : X) → lookup (is_at (cmp key)) es ≡ None
+      → length (insert_entry cmp es key value) ≡ length es + 1
   length-insert [] key value absent = refl
   length-insert (e ∷ es) key value absent =
       size-turn key value e es (insert_entry cmp es key value) (cmp key e.0) absent (length-insert es key value)
 
   -- an absent key makes one more
-  pub size-put : (es : Table K X) (key : K) (value : X) → get cmp es key ≡ None → size (put cmp es key value) ≡ size es + 1
+  pub size-put : (es : Table K X) (key : K) (value : X) → get cmp es key ≡ None
+      → size (put cmp es key value) ≡ size es + 1
   unfolding get put
   size-put = length-insert
 
-  length-remove : (es : Table K X) (key : K) (value : X) → lookup (is_at (cmp key)) es ≡ Some value → length (remove_entry (is_at (cmp key)) es) + 1 ≡ length es
+  length-remove : (es : Table K X) (key : K) (value : X) → lookup (is_at (cmp key)) es ≡ Some value
+      → length (remove_entry (is_at (cmp key)) es) + 1 ≡ length es
   length-remove [] key value there = cc
   length-remove (e ∷ es) key value there = by (is_eq (cmp key e.0)) (length-remove es key value) there
     where
-      by : (b : Bool) → (lookup (is_at (cmp key)) es ≡ Some value → length (remove_entry (is_at (cmp key)) es) + 1 ≡ length es) → cond b (Some e.1) (lookup (is_at (cmp key)) es) ≡ Some value → length (cond b es (e ∷ remove_entry (is_at (cmp key)) es)) + 1 ≡ length (e ∷ es)
+      by : (b : Bool)
+          → (lookup (is_at (cmp key)) es ≡ Some value → length (remove_entry (is_at (cmp key)) es) + 1 ≡ length es)
+          → cond b (Some e.1) (lookup (is_at (cmp key)) es) ≡ Some value
+          → length (cond b es (e ∷ remove_entry (is_at (cmp key)) es)) + 1 ≡ length (e ∷ es)
       by true rest is = omega arith
       by false rest is = omega (arith, rest is)
 
   -- to take away what is there leaves one less
-  pub size-without : (es : Table K X) (key : K) (value : X) → get cmp es key ≡ Some value → size (without cmp es key) + 1 ≡ size es
+  pub size-without : (es : Table K X) (key : K) (value : X) → get cmp es key ≡ Some value
+      → size (without cmp es key) + 1 ≡ size es
   unfolding get without
   size-without = length-remove
 
   -- ---- the order, with entries less
 
-  all-filter : (P : K → Type 0) (keeps : K × X → Bool) (es : Table K X) → AllByRecursion P (keys_of es) → AllByRecursion P (keys_of (filter keeps es))
+  all-filter : (P : K → Type 0) (keeps : K × X → Bool) (es : Table K X) → AllByRecursion P (keys_of es)
+      → AllByRecursion P (keys_of (filter keeps es))
   all-filter P keeps [] h = tt
   all-filter P keeps (e ∷ es) h = by (keeps e) (all-filter P keeps es h.1)
     where
-      by : (b : Bool) → AllByRecursion P (keys_of (filter keeps es)) → AllByRecursion P (keys_of (cond b (e ∷ filter keeps es) (filter keeps es)))
+      by : (b : Bool) → AllByRecursion P (keys_of (filter keeps es))
+          → AllByRecursion P (keys_of (cond b (e ∷ filter keeps es) (filter keeps es)))
       by true rest = (h.0, rest)
       by false rest = rest
 
@@ -164,11 +180,13 @@ module _ {K X : Type 0} (cmp : K → K → Ordering) where
   unfolding retain
   InOrder-retain es keeps = sorted-filter keeps es
 
-  all-remove : (P : K → Type 0) (test : K → Bool) (es : Table K X) → AllByRecursion P (keys_of es) → AllByRecursion P (keys_of (remove_entry test es))
+  all-remove : (P : K → Type 0) (test : K → Bool) (es : Table K X) → AllByRecursion P (keys_of es)
+      → AllByRecursion P (keys_of (remove_entry test es))
   all-remove P test [] h = tt
   all-remove P test (e ∷ es) h = by (test e.0) (all-remove P test es h.1)
     where
-      by : (b : Bool) → AllByRecursion P (keys_of (remove_entry test es)) → AllByRecursion P (keys_of (cond b es (e ∷ remove_entry test es)))
+      by : (b : Bool) → AllByRecursion P (keys_of (remove_entry test es))
+          → AllByRecursion P (keys_of (cond b es (e ∷ remove_entry test es)))
       by true rest = h.1
       by false rest = (h.0, rest)
 
@@ -188,16 +206,19 @@ module _ {K X : Type 0} (cmp : K → K → Ordering) where
   -- ---- by the laws of an order
 
   module _ (total : IsTotalOrder cmp) where
-    pub get-put : (es : Table K X) (key : K) (value : X) (at : K) → get cmp (put cmp es key value) at ≡ cond (is_eq (cmp at key)) (Some value) (get cmp es at)
+    pub get-put : (es : Table K X) (key : K) (value : X) (at : K)
+        → get cmp (put cmp es key value) at ≡ cond (is_eq (cmp at key)) (Some value) (get cmp es at)
     get-put es key value at =
-        get-is at (put cmp es key value) ∙ ap (sorted_list.find cmp at) (put-is key value es) ∙ sorted_list.find-put cmp total at key value es
+        get-is at (put cmp es key value) ∙ ap (sorted_list.find cmp at) (put-is key value es)
+        ∙ sorted_list.find-put cmp total at key value es
         ∙ ap (cond (is_eq (cmp at key)) (Some value)) (sym (get-is at es))
 
     pub get-put_here : (es : Table K X) (key : K) (value : X) → get cmp (put cmp es key value) key ≡ Some value
     get-put_here es key value =
         get-put es key value key ∙ ap (λ o. cond (is_eq o) (Some value) (get cmp es key)) (tied_itself total key)
 
-    pub get-put_elsewhere : (es : Table K X) (key other : K) (value : X) → cmp other key ≢ Equal → get cmp (put cmp es key value) other ≡ get cmp es other
+    pub get-put_elsewhere : (es : Table K X) (key other : K) (value : X) → cmp other key ≢ Equal
+        → get cmp (put cmp es key value) other ≡ get cmp es other
     get-put_elsewhere es key other value differ =
         get-put es key value other ∙ ap (λ b. cond b (Some value) (get cmp es other)) (apart (cmp other key) differ)
 
@@ -205,16 +226,22 @@ module _ {K X : Type 0} (cmp : K → K → Ordering) where
     InOrder-put es key value h =
         sorted-from (put cmp es key value) (subst (λ fs. T (sorted_list.is_sorted cmp fs)) (sym (put-is key value es)) (sorted_list.is_sorted-put cmp total key value es (sorted-to es h)))
 
-    pub size-put_present : (es : Table K X) (key : K) (value old : X) → InOrder cmp es → get cmp es key ≡ Some old → size (put cmp es key value) ≡ size es
+    pub size-put_present : (es : Table K X) (key : K) (value old : X) → InOrder cmp es → get cmp es key ≡ Some old
+        → size (put cmp es key value) ≡ size es
     size-put_present es key value old h there =
         ap length (put-is key value es) ∙ sorted_list.length-put cmp total key value es (sorted-to es h)
         ∙ ap (λ o. cond (is_some o) (length es) (length es + 1)) (sym (get-is key es) ∙ there)
 
-    lookup-without : (es : Table K X) (key at : K) → InOrder cmp es → lookup (is_at (cmp at)) (remove_entry (is_at (cmp key)) es) ≡ cond (is_eq (cmp key at)) None (lookup (is_at (cmp at)) es)
+    lookup-without : (es : Table K X) (key at : K) → InOrder cmp es
+        → lookup (is_at (cmp at)) (remove_entry (is_at (cmp key)) es)
+        ≡ cond (is_eq (cmp key at)) None (lookup (is_at (cmp at)) es)
     lookup-without es key at h =
-        lookup-remove_entry (eq_by_cmp_equiv total) (is_at (cmp key)) (λ x y same. ap is_eq (total.congr key x y (tied (cmp key x) same))) at es (IsDistinct-from_sorted cmp (keys_of es) h)
+        lookup-remove_entry (eq_by_cmp_equiv total) (is_at (cmp key))
+        (λ x y same. ap is_eq (total.congr key x y ((Equal-is (cmp key x)).0 same))) at es
+        (IsDistinct-from_sorted cmp (keys_of es) h)
 
-    pub get-without : (es : Table K X) (key at : K) → InOrder cmp es → get cmp (without cmp es key) at ≡ cond (is_eq (cmp key at)) None (get cmp es at)
+    pub get-without : (es : Table K X) (key at : K) → InOrder cmp es
+        → get cmp (without cmp es key) at ≡ cond (is_eq (cmp key at)) None (get cmp es at)
     unfolding get without
     get-without = lookup-without
 
@@ -222,7 +249,8 @@ module _ {K X : Type 0} (cmp : K → K → Ordering) where
     get-without_here es key h =
         get-without es key key h ∙ ap (λ o. cond (is_eq o) None (get cmp es key)) (tied_itself total key)
 
-    pub get-without_elsewhere : (es : Table K X) (key other : K) → InOrder cmp es → cmp key other ≢ Equal → get cmp (without cmp es key) other ≡ get cmp es other
+    pub get-without_elsewhere : (es : Table K X) (key other : K) → InOrder cmp es → cmp key other ≢ Equal
+        → get cmp (without cmp es key) other ≡ get cmp es other
     get-without_elsewhere es key other h differ =
         get-without es key other h ∙ ap (λ b. cond b None (get cmp es other)) (apart (cmp key other) differ)
 
@@ -230,7 +258,8 @@ module _ {K X : Type 0} (cmp : K → K → Ordering) where
     unfolding from_entries
     get-from_entries [] at = refl
     get-from_entries (e ∷ es) at =
-        get-put (from_entries cmp es) e.0 e.1 at ∙ ap (cond (is_eq (cmp at e.0)) (Some e.1)) (get-from_entries es at) ∙ sym (get-cons e es at)
+        get-put (from_entries cmp es) e.0 e.1 at ∙ ap (cond (is_eq (cmp at e.0)) (Some e.1)) (get-from_entries es at)
+        ∙ sym (get-cons e es at)
 
     pub InOrder-from_entries : (es : List (K × X)) → InOrder cmp (from_entries cmp es)
     unfolding from_entries IsStrictlySortedBy
@@ -240,9 +269,11 @@ module _ {K X : Type 0} (cmp : K → K → Ordering) where
     -- ---- where keys that tie are equal
 
     module _ (same : IsAntisymmetric cmp) where
-      pub same_table : (es fs : Table K X) → InOrder cmp es → InOrder cmp fs → ((key : K) → get cmp es key ≡ get cmp fs key) → es ≡ fs
+      pub same_table : (es fs : Table K X) → InOrder cmp es → InOrder cmp fs
+          → ((key : K) → get cmp es key ≡ get cmp fs key) → es ≡ fs
       same_table es fs g h alike =
-          sorted_list.same_entries cmp total same es fs (sorted-to es g) (sorted-to fs h) (λ key. sym (get-is key es) ∙ alike key ∙ get-is key fs)
+          sorted_list.same_entries cmp total same es fs (sorted-to es g) (sorted-to fs h)
+          (λ key. sym (get-is key es) ∙ alike key ∙ get-is key fs)
 
       pub from_entries-is : (es : Table K X) → InOrder cmp es → from_entries cmp es ≡ es
       from_entries-is es h = same_table (from_entries cmp es) es (InOrder-from_entries es) h (get-from_entries es)
@@ -250,26 +281,33 @@ module _ {K X : Type 0} (cmp : K → K → Ordering) where
       kept-none : (keeps : K × X → Bool) (key : K) (o : Option X) → o ≡ None → kept keeps key o ≡ None
       kept-none keeps key o e = ap (kept keeps key) e
 
-      pub get-retain : (es : Table K X) (keeps : K × X → Bool) (key : K) → InOrder cmp es → get cmp (retain es keeps) key ≡ kept keeps key (get cmp es key)
+      pub get-retain : (es : Table K X) (keeps : K × X → Bool) (key : K) → InOrder cmp es
+          → get cmp (retain es keeps) key ≡ kept keeps key (get cmp es key)
       unfolding get retain
       get-retain [] keeps key h = refl
       get-retain (e ∷ es) keeps key h =
-          let rest : lookup (is_at (cmp key)) (filter keeps es) ≡ kept keeps key (lookup (is_at (cmp key)) es) = get-retain es keeps key (sorted_tail cmp e.0 (keys_of es) h) in
+          let rest : lookup (is_at (cmp key)) (filter keeps es) ≡ kept keeps key (lookup (is_at (cmp key)) es) =
+          get-retain es keeps key (sorted_tail cmp e.0 (keys_of es) h) in
           elim (cases_Bool (is_eq (cmp key e.0))) [
             | inl hit ↦
-                let is : key ≡ e.0 = same key e.0 (tied (cmp key e.0) hit) in
-                let none : lookup (is_at (cmp key)) es ≡ None = ap (λ k. lookup (is_at (cmp k)) es) is ∙ get-below e.0 es (sorted_head cmp e.0 (keys_of es) h) in
+                let is : key ≡ e.0 = same key e.0 ((Equal-is (cmp key e.0)).0 hit) in
+                let none : lookup (is_at (cmp key)) es ≡ None =
+                ap (λ k. lookup (is_at (cmp k)) es) is ∙ get-below e.0 es (sorted_head cmp e.0 (keys_of es) h) in
                 here (keeps e) hit (rest ∙ kept-none keeps key (lookup (is_at (cmp key)) es) none)
                 ∙ ap (λ k. cond (keeps (k, e.1)) (Some e.1) None) (sym is)
                 ∙ ap (λ b. kept keeps key (cond b (Some e.1) (lookup (is_at (cmp key)) es))) (sym hit)
             | inr miss ↦
-                there (keeps e) miss ∙ rest ∙ ap (λ b. kept keeps key (cond b (Some e.1) (lookup (is_at (cmp key)) es))) (sym miss)
+                there (keeps e) miss ∙ rest
+                ∙ ap (λ b. kept keeps key (cond b (Some e.1) (lookup (is_at (cmp key)) es))) (sym miss)
           ]
         where
-          here : (b : Bool) → is_eq (cmp key e.0) ≡ true → lookup (is_at (cmp key)) (filter keeps es) ≡ None → lookup (is_at (cmp key)) (cond b (e ∷ filter keeps es) (filter keeps es)) ≡ cond b (Some e.1) None
+          here : (b : Bool) → is_eq (cmp key e.0) ≡ true → lookup (is_at (cmp key)) (filter keeps es) ≡ None
+              → lookup (is_at (cmp key)) (cond b (e ∷ filter keeps es) (filter keeps es)) ≡ cond b (Some e.1) None
           here true hit none = ap (λ c. cond c (Some e.1) (lookup (is_at (cmp key)) (filter keeps es))) hit
           here false hit none = none
 
-          there : (b : Bool) → is_eq (cmp key e.0) ≡ false → lookup (is_at (cmp key)) (cond b (e ∷ filter keeps es) (filter keeps es)) ≡ lookup (is_at (cmp key)) (filter keeps es)
+          there : (b : Bool) → is_eq (cmp key e.0) ≡ false
+              → lookup (is_at (cmp key)) (cond b (e ∷ filter keeps es) (filter keeps es))
+              ≡ lookup (is_at (cmp key)) (filter keeps es)
           there true miss = ap (λ c. cond c (Some e.1) (lookup (is_at (cmp key)) (filter keeps es))) miss
           there false miss = refl

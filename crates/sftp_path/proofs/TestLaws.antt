@@ -9,7 +9,7 @@ use Rattle.std.specs.Map.{lookup, remove_entry, keys_of}
 use Rattle.std.specs.List.{list_all}
 use Rattle.std.specs.Cmp.{IsTotalOrder}
 use Rattle.std.specs.FinMap.{IsAntisymmetric}
-use Rattle.std.proofs.lemmas.Bool.{and_parts}
+use Rattle.std.proofs.lemmas.Bool.{and_parts, and_from}
 use Rattle.std.proofs.lemmas.Map.{lookup-none}
 use Rattle.std.proofs.lemmas.Map.Entries.{none_below_head}
 use Rattle.std.proofs.lemmas.Map.Keys.{sorted_tail}
@@ -31,61 +31,76 @@ implied true b from = refl
 implied false true from = from refl
 implied false false from = refl
 
-also : (a b : Bool) → IsTrue a → IsTrue b → IsTrue (a && b)
-also a b p q = ap (λ c. c && b) p ∙ q
-
 module _ {K X : Type 0} (cmp : K → K → Ordering) where
   -- ---- a new key
 
   new-turn : (keeps : K × X → Bool) (key : K) (value : X) (e : K × X) (es more : Table K X) (o : Ordering)
       → cond (is_eq o) (Some e.1) (lookup (is_at (cmp key)) es) ≡ None
       → (lookup (is_at (cmp key)) es ≡ None → list_all keeps more ≡ (keeps (key, value) && list_all keeps es))
-      → list_all keeps (match_ordering o ((key, value) ∷ e ∷ es) ((e.0, value) ∷ es) (e ∷ more)) ≡ (keeps (key, value) && list_all keeps (e ∷ es))
+      → list_all keeps (match_ordering o ((key, value) ∷ e ∷ es) ((e.0, value) ∷ es) (e ∷ more))
+      ≡ (keeps (key, value) && list_all keeps (e ∷ es))
   new-turn keeps key value e es more Less absent rest = refl
   new-turn keeps key value e es more Equal absent rest = cc
   new-turn keeps key value e es more Greater absent rest =
       ap (λ b. keeps e && b) (rest absent) ∙ swap-tests (keeps e) (keeps (key, value)) (list_all keeps es)
 
-  all-insert_new : (keeps : K × X → Bool) (es : Table K X) (key : K) (value : X) → lookup (is_at (cmp key)) es ≡ None → list_all keeps (insert_entry cmp es key value) ≡ (keeps (key, value) && list_all keeps es)
+  all-insert_new : (keeps : K × X → Bool) (es : Table K X) (key : K) (value : X) → lookup (is_at (cmp key)) es ≡ None
+      → list_all keeps (insert_entry cmp es key value) ≡ (keeps (key, value) && list_all keeps es)
   all-insert_new keeps [] key value absent = refl
   all-insert_new keeps (e ∷ es) key value absent =
-      new-turn keeps key value e es (insert_entry cmp es key value) (cmp key e.0) absent (all-insert_new keeps es key value)
+      new-turn keeps key value e es (insert_entry cmp es key value) (cmp key e.0) absent
+      (all-insert_new keeps es key value)
 
-  pub all-put_new : (es : Table K X) (key : K) (value : X) (keeps : K × X → Bool) → get cmp es key ≡ None → list_all keeps (put cmp es key value) ≡ (keeps (key, value) && list_all keeps es)
+  pub all-put_new : (es : Table K X) (key : K) (value : X) (keeps : K × X → Bool) → get cmp es key ≡ None
+      → list_all keeps (put cmp es key value) ≡ (keeps (key, value) && list_all keeps es)
   unfolding get put
   all-put_new es key value keeps = all-insert_new keeps es key value
 
   -- ---- a key taken away
 
-  all-remove : (keeps : K × X → Bool) (test : K → Bool) (es : Table K X) → IsTrue (list_all keeps es) → IsTrue (list_all keeps (remove_entry test es))
+  all-remove : (keeps : K × X → Bool) (test : K → Bool) (es : Table K X) → IsTrue (list_all keeps es)
+      → IsTrue (list_all keeps (remove_entry test es))
   all-remove keeps test [] h = refl
   all-remove keeps test (e ∷ es) h =
       let parts = and_parts (keeps e) (list_all keeps es) h in
       by (test e.0) parts.0 parts.1 (all-remove keeps test es parts.1)
     where
-      by : (b : Bool) → IsTrue (keeps e) → IsTrue (list_all keeps es) → IsTrue (list_all keeps (remove_entry test es)) → IsTrue (list_all keeps (cond b es (e ∷ remove_entry test es)))
+      by : (b : Bool) → IsTrue (keeps e) → IsTrue (list_all keeps es)
+          → IsTrue (list_all keeps (remove_entry test es))
+          → IsTrue (list_all keeps (cond b es (e ∷ remove_entry test es)))
       by true first others left = others
-      by false first others left = also (keeps e) (list_all keeps (remove_entry test es)) first left
+      by false first others left = and_from (keeps e) (list_all keeps (remove_entry test es)) first left
 
-  pub all-without : (es : Table K X) (key : K) (keeps : K × X → Bool) → IsTrue (list_all keeps es) → IsTrue (list_all keeps (without cmp es key))
+  pub all-without : (es : Table K X) (key : K) (keeps : K × X → Bool) → IsTrue (list_all keeps es)
+      → IsTrue (list_all keeps (without cmp es key))
   unfolding without
   all-without es key keeps = all-remove keeps (is_at (cmp key)) es
 
   -- ---- any key, where the test is on the values alone
 
-  values-turn : (passes : X → Bool) (key : K) (value : X) (e : K × X) (es more : Table K X) (o : Ordering) → IsTrue (passes e.1) → IsTrue (list_all (λ x. passes x.1) es) → IsTrue (passes value) → IsTrue (list_all (λ x. passes x.1) more) → IsTrue (list_all (λ x. passes x.1) (match_ordering o ((key, value) ∷ e ∷ es) ((e.0, value) ∷ es) (e ∷ more)))
+  values-turn : (passes : X → Bool) (key : K) (value : X) (e : K × X) (es more : Table K X) (o : Ordering)
+      → IsTrue (passes e.1) → IsTrue (list_all (λ x. passes x.1) es) → IsTrue (passes value)
+      → IsTrue (list_all (λ x. passes x.1) more)
+      → IsTrue (list_all (λ x. passes x.1) (match_ordering o ((key, value) ∷ e ∷ es) ((e.0, value) ∷ es) (e ∷ more)))
   values-turn passes key value e es more Less first others passing rest =
-      also (passes value) (list_all (λ x. passes x.1) (e ∷ es)) passing (also (passes e.1) (list_all (λ x. passes x.1) es) first others)
-  values-turn passes key value e es more Equal first others passing rest = also (passes value) (list_all (λ x. passes x.1) es) passing others
-  values-turn passes key value e es more Greater first others passing rest = also (passes e.1) (list_all (λ x. passes x.1) more) first rest
+      and_from (passes value) (list_all (λ x. passes x.1) (e ∷ es)) passing
+      (and_from (passes e.1) (list_all (λ x. passes x.1) es) first others)
+  values-turn passes key value e es more Equal first others passing rest =
+      and_from (passes value) (list_all (λ x. passes x.1) es) passing others
+  values-turn passes key value e es more Greater first others passing rest =
+      and_from (passes e.1) (list_all (λ x. passes x.1) more) first rest
 
-  values-insert : (passes : X → Bool) (es : Table K X) (key : K) (value : X) → IsTrue (list_all (λ e. passes e.1) es) → IsTrue (passes value) → IsTrue (list_all (λ e. passes e.1) (insert_entry cmp es key value))
-  values-insert passes [] key value h passing = also (passes value) true passing refl
+  values-insert : (passes : X → Bool) (es : Table K X) (key : K) (value : X) → IsTrue (list_all (λ e. passes e.1) es)
+      → IsTrue (passes value) → IsTrue (list_all (λ e. passes e.1) (insert_entry cmp es key value))
+  values-insert passes [] key value h passing = and_from (passes value) true passing refl
   values-insert passes (e ∷ es) key value h passing =
       let parts = and_parts (passes e.1) (list_all (λ x. passes x.1) es) h in
-      values-turn passes key value e es (insert_entry cmp es key value) (cmp key e.0) parts.0 parts.1 passing (values-insert passes es key value parts.1 passing)
+      values-turn passes key value e es (insert_entry cmp es key value) (cmp key e.0) parts.0 parts.1 passing
+      (values-insert passes es key value parts.1 passing)
 
-  pub values-put : (es : Table K X) (key : K) (value : X) (passes : X → Bool) → IsTrue (list_all (λ e. passes e.1) es) → IsTrue (passes value) → IsTrue (list_all (λ e. passes e.1) (put cmp es key value))
+  pub values-put : (es : Table K X) (key : K) (value : X) (passes : X → Bool)
+      → IsTrue (list_all (λ e. passes e.1) es) → IsTrue (passes value)
+      → IsTrue (list_all (λ e. passes e.1) (put cmp es key value))
   unfolding put
   values-put es key value passes = values-insert passes es key value
 
@@ -94,29 +109,37 @@ module _ {K X : Type 0} (cmp : K → K → Ordering) where
   keys-turn : (test : K → Bool) (key : K) (value : X) (e : K × X) (es more : Table K X) (o : Ordering)
       → (is_eq o ≡ false → (test key && list_all (λ x. test x.0) (e ∷ es)) ≡ list_all (λ x. test x.0) (e ∷ es))
       → (is_eq o ≡ false → list_all (λ x. test x.0) more ≡ list_all (λ x. test x.0) es)
-      → list_all (λ x. test x.0) (match_ordering o ((key, value) ∷ e ∷ es) ((e.0, value) ∷ es) (e ∷ more)) ≡ list_all (λ x. test x.0) (e ∷ es)
+      → list_all (λ x. test x.0) (match_ordering o ((key, value) ∷ e ∷ es) ((e.0, value) ∷ es) (e ∷ more))
+      ≡ list_all (λ x. test x.0) (e ∷ es)
   keys-turn test key value e es more Less front rest = front refl
   keys-turn test key value e es more Equal front rest = refl
   keys-turn test key value e es more Greater front rest = ap (λ b. test e.0 && b) (rest refl)
 
-  lookup-rest : (b : Bool) (value old : X) (es : Table K X) (key : K) → cond b (Some value) (lookup (is_at (cmp key)) es) ≡ Some old → b ≡ false → lookup (is_at (cmp key)) es ≡ Some old
+  lookup-rest : (b : Bool) (value old : X) (es : Table K X) (key : K)
+      → cond b (Some value) (lookup (is_at (cmp key)) es) ≡ Some old → b ≡ false
+      → lookup (is_at (cmp key)) es ≡ Some old
   lookup-rest true value old es key there miss = cc
   lookup-rest false value old es key there miss = there
 
   module _ (same : IsAntisymmetric cmp) where
     -- the key of what is found passes where all keys do
-    key-passes : (test : K → Bool) (es : Table K X) (key : K) (old : X) → lookup (is_at (cmp key)) es ≡ Some old → list_all (λ x. test x.0) es ≡ true → test key ≡ true
+    key-passes : (test : K → Bool) (es : Table K X) (key : K) (old : X) → lookup (is_at (cmp key)) es ≡ Some old
+        → list_all (λ x. test x.0) es ≡ true → test key ≡ true
     key-passes test [] key old there h = cc
     key-passes test (e ∷ es) key old there h =
         let parts = and_parts (test e.0) (list_all (λ x. test x.0) es) h in
         by (cmp key e.0) refl parts.0 there (λ found. key-passes test es key old found parts.1)
       where
-        by : (o : Ordering) → cmp key e.0 ≡ o → test e.0 ≡ true → cond (is_eq o) (Some e.1) (lookup (is_at (cmp key)) es) ≡ Some old → (lookup (is_at (cmp key)) es ≡ Some old → test key ≡ true) → test key ≡ true
+        by : (o : Ordering) → cmp key e.0 ≡ o → test e.0 ≡ true
+            → cond (is_eq o) (Some e.1) (lookup (is_at (cmp key)) es) ≡ Some old
+            → (lookup (is_at (cmp key)) es ≡ Some old → test key ≡ true) → test key ≡ true
         by Less is first found rest = rest found
         by Equal is first found rest = ap test (same key e.0 is) ∙ first
         by Greater is first found rest = rest found
 
-    keys-insert_again : (test : K → Bool) (es : Table K X) (key : K) (value old : X) → lookup (is_at (cmp key)) es ≡ Some old → list_all (λ e. test e.0) (insert_entry cmp es key value) ≡ list_all (λ e. test e.0) es
+    keys-insert_again : (test : K → Bool) (es : Table K X) (key : K) (value old : X)
+        → lookup (is_at (cmp key)) es ≡ Some old
+        → list_all (λ e. test e.0) (insert_entry cmp es key value) ≡ list_all (λ e. test e.0) es
     keys-insert_again test [] key value old there = cc
     keys-insert_again test (e ∷ es) key value old there =
         keys-turn test key value e es (insert_entry cmp es key value) (cmp key e.0)
@@ -124,12 +147,15 @@ module _ {K X : Type 0} (cmp : K → K → Ordering) where
         (λ miss. keys-insert_again test es key value old (lookup-rest (is_eq (cmp key e.0)) e.1 old es key there miss))
 
     -- in order or not, where keys that tie are equal
-    pub keys-put_again : (es : Table K X) (key : K) (value old : X) (test : K → Bool) → get cmp es key ≡ Some old → list_all (λ e. test e.0) (put cmp es key value) ≡ list_all (λ e. test e.0) es
+    pub keys-put_again : (es : Table K X) (key : K) (value old : X) (test : K → Bool) → get cmp es key ≡ Some old
+        → list_all (λ e. test e.0) (put cmp es key value) ≡ list_all (λ e. test e.0) es
     unfolding get put
     keys-put_again es key value old test = keys-insert_again test es key value old
 
   module _ (total : IsTotalOrder cmp) where
-    keys-insert_in_order : (test : K → Bool) (es : Table K X) (key : K) (value old : X) → InOrder cmp es → lookup (is_at (cmp key)) es ≡ Some old → list_all (λ e. test e.0) (insert_entry cmp es key value) ≡ list_all (λ e. test e.0) es
+    keys-insert_in_order : (test : K → Bool) (es : Table K X) (key : K) (value old : X) → InOrder cmp es
+        → lookup (is_at (cmp key)) es ≡ Some old
+        → list_all (λ e. test e.0) (insert_entry cmp es key value) ≡ list_all (λ e. test e.0) es
     keys-insert_in_order test [] key value old order there = cc
     keys-insert_in_order test (e ∷ es) key value old order there =
         by (cmp key e.0) refl there (λ found. keys-insert_in_order test es key value old (sorted_tail cmp e.0 (keys_of es) order) found)
@@ -138,27 +164,34 @@ module _ {K X : Type 0} (cmp : K → K → Ordering) where
             → (lookup (is_at (cmp key)) es ≡ Some old → list_all (λ x. test x.0) (insert_entry cmp es key value) ≡ list_all (λ x. test x.0) es)
             → list_all (λ x. test x.0) (match_ordering o ((key, value) ∷ e ∷ es) ((e.0, value) ∷ es) (e ∷ insert_entry cmp es key value)) ≡ list_all (λ x. test x.0) (e ∷ es)
         by Less is found rest =
-            let none : lookup (is_at (cmp key)) (e ∷ es) ≡ None = lookup-none (is_at (cmp key)) (e ∷ es) (none_below_head total key e es order is) in
+            let none : lookup (is_at (cmp key)) (e ∷ es) ≡ None =
+            lookup-none (is_at (cmp key)) (e ∷ es) (none_below_head total key e es order is) in
             cc
         by Equal is found rest = refl
         by Greater is found rest = ap (λ b. test e.0 && b) (rest found)
 
     -- in a table in order, for any order of keys
-    pub keys-put_in_order : (es : Table K X) (key : K) (value old : X) (test : K → Bool) → InOrder cmp es → get cmp es key ≡ Some old → list_all (λ e. test e.0) (put cmp es key value) ≡ list_all (λ e. test e.0) es
+    pub keys-put_in_order : (es : Table K X) (key : K) (value old : X) (test : K → Bool) → InOrder cmp es
+        → get cmp es key ≡ Some old → list_all (λ e. test e.0) (put cmp es key value) ≡ list_all (λ e. test e.0) es
     unfolding get put
     keys-put_in_order es key value old test = keys-insert_in_order test es key value old
 
 -- ---- a directory that moves
 
 module _ {X : Type 0} (old new : Place) where
-  all-made : (keeps : Place × X → Bool) (es : Table Place X) → InOrder place_cmp es → NothingFrom es new → list_all keeps (from_entries place_cmp (map (renamed_entry old new) es)) ≡ list_all (λ e. keeps (renamed_entry old new e)) es
+  all-made : (keeps : Place × X → Bool) (es : Table Place X) → InOrder place_cmp es → NothingFrom es new
+      → list_all keeps (from_entries place_cmp (map (renamed_entry old new) es))
+      ≡ list_all (λ e. keeps (renamed_entry old new e)) es
   unfolding from_entries
   all-made keeps [] order nothing = refl
   all-made keeps (e ∷ es) order nothing =
       let others : Table Place X = map (renamed_entry old new) es in
-      all-put_new place_cmp (from_entries place_cmp others) (renamed old new e.0) e.1 keeps (get-from_entries place_cmp place_cmp-total others (renamed old new e.0) ∙ first-alone old new e es order nothing)
+      all-put_new place_cmp (from_entries place_cmp others) (renamed old new e.0) e.1 keeps
+      (get-from_entries place_cmp place_cmp-total others (renamed old new e.0) ∙ first-alone old new e es order nothing)
       ∙ ap (λ b. keeps (renamed_entry old new e) && b) (all-made keeps es (sorted_tail place_cmp e.0 (keys_of es) order) (nothing-behind old new e es nothing))
 
-  pub all-rekeyed : (table : Table Place X) (keeps : Place × X → Bool) → InOrder place_cmp table → NothingFrom table new → list_all keeps (rekeyed old new table) ≡ list_all (λ e. keeps (renamed_entry old new e)) table
+  pub all-rekeyed : (table : Table Place X) (keeps : Place × X → Bool) → InOrder place_cmp table
+      → NothingFrom table new
+      → list_all keeps (rekeyed old new table) ≡ list_all (λ e. keeps (renamed_entry old new e)) table
   unfolding rekeyed
   all-rekeyed table keeps = all-made keeps table

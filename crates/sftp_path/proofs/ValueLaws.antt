@@ -12,23 +12,29 @@ use Rattle.std.proofs.lemmas.Map.Made.{lookup-map_values, keys_of-map_values}
 use Rattle.sftp_path.specs.Table.{Table, InOrder, get, put, without, size, with_values}
 
 module _ {K X Y : Type 0} (f : X → Y) where
-  insert-turn : (key : K) (value : X) (e : K × X) (es more : Table K X) (others : Table K Y) (o : Ordering) → with_values f more ≡ others
+  insert-turn : (key : K) (value : X) (e : K × X) (es more : Table K X) (others : Table K Y) (o : Ordering)
+      → with_values f more ≡ others
       → with_values f (match_ordering o ((key, value) ∷ e ∷ es) ((e.0, value) ∷ es) (e ∷ more))
       ≡ match_ordering o ((key, f value) ∷ (e.0, f e.1) ∷ with_values f es) ((e.0, f value) ∷ with_values f es) ((e.0, f e.1) ∷ others)
   insert-turn key value e es more others Less is = refl
   insert-turn key value e es more others Equal is = refl
   insert-turn key value e es more others Greater is = ap (λ fs. (e.0, f e.1) ∷ fs) is
 
-  with_values-insert : (cmp : K → K → Ordering) (es : Table K X) (key : K) (value : X) → with_values f (insert_entry cmp es key value) ≡ insert_entry cmp (with_values f es) key (f value)
+  with_values-insert : (cmp : K → K → Ordering) (es : Table K X) (key : K) (value : X)
+      → with_values f (insert_entry cmp es key value) ≡ insert_entry cmp (with_values f es) key (f value)
   with_values-insert cmp [] key value = refl
   with_values-insert cmp (e ∷ es) key value =
-      insert-turn key value e es (insert_entry cmp es key value) (insert_entry cmp (with_values f es) key (f value)) (cmp key e.0) (with_values-insert cmp es key value)
+      insert-turn key value e es (insert_entry cmp es key value) (insert_entry cmp (with_values f es) key (f value))
+      (cmp key e.0) (with_values-insert cmp es key value)
 
-  with_values-remove : (test : K → Bool) (es : Table K X) → with_values f (remove_entry test es) ≡ remove_entry test (with_values f es)
+  with_values-remove : (test : K → Bool) (es : Table K X)
+      → with_values f (remove_entry test es) ≡ remove_entry test (with_values f es)
   with_values-remove test [] = refl
   with_values-remove test (e ∷ es) = by (test e.0) (with_values-remove test es)
     where
-      by : (b : Bool) → with_values f (remove_entry test es) ≡ remove_entry test (with_values f es) → with_values f (cond b es (e ∷ remove_entry test es)) ≡ cond b (with_values f es) ((e.0, f e.1) ∷ remove_entry test (with_values f es))
+      by : (b : Bool) → with_values f (remove_entry test es) ≡ remove_entry test (with_values f es)
+          → with_values f (cond b es (e ∷ remove_entry test es))
+          ≡ cond b (with_values f es) ((e.0, f e.1) ∷ remove_entry test (with_values f es))
       by true is = refl
       by false is = ap (λ fs. (e.0, f e.1) ∷ fs) is
 
@@ -42,11 +48,13 @@ module _ {K X Y : Type 0} (cmp : K → K → Ordering) (f : X → Y) where
   unfolding get
   get-with_values es key = lookup-map_values f (is_at (cmp key)) es
 
-  pub with_values-put : (es : Table K X) (key : K) (value : X) → with_values f (put cmp es key value) ≡ put cmp (with_values f es) key (f value)
+  pub with_values-put : (es : Table K X) (key : K) (value : X)
+      → with_values f (put cmp es key value) ≡ put cmp (with_values f es) key (f value)
   unfolding put
   with_values-put = with_values-insert f cmp
 
-  pub with_values-without : (es : Table K X) (key : K) → with_values f (without cmp es key) ≡ without cmp (with_values f es) key
+  pub with_values-without : (es : Table K X) (key : K)
+      → with_values f (without cmp es key) ≡ without cmp (with_values f es) key
   unfolding without
   with_values-without es key = with_values-remove f (is_at (cmp key)) es
 

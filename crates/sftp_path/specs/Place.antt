@@ -23,7 +23,7 @@ is_dot name = same_bytes name (46 ∷ [])
 abbrev pub is_dot_dot : List ℕ → Bool
 is_dot_dot name = same_bytes name (46 ∷ 46 ∷ [])
 
--- whether a byte may stand in a name: a byte, neither 0 nor `/`
+-- whether a name may have this byte: a byte, neither 0 nor `/`
 abbrev pub is_name_byte : ℕ → Bool
 is_name_byte b = nat_lt b 256 && (not (b == 0) && not (b == 47))
 
@@ -64,13 +64,13 @@ place_cmp = slice_cmp name_cmp
 abbrev pub parent : Place → Place
 parent place = take (length place - 1) place
 
--- whether the second place is the first, or stands below it
+-- whether the second place is the first, or is below it
 abbrev pub begins : Place → Place → Bool
 begins [] place = true
 begins (m ∷ ms) [] = false
 begins (m ∷ ms) (n ∷ ns) = same_bytes m n && begins ms ns
 
--- whether the second place stands below the first
+-- whether the second place is below the first
 abbrev pub is_below : Place → Place → Bool
 is_below [] [] = false
 is_below [] (n ∷ ns) = true
@@ -97,7 +97,7 @@ abbrev pub with_first : ℕ → List (List ℕ) → List (List ℕ)
 with_first b [] = (b ∷ []) ∷ []
 with_first b (part ∷ parts) = (b ∷ part) ∷ parts
 
--- what stands before, between and behind the slashes
+-- what is before, between and after the slashes
 unfoldable pub parts : List ℕ → List (List ℕ)
 parts [] = [] ∷ []
 parts (b ∷ bytes) = if b == 47 then [] ∷ parts bytes else with_first b (parts bytes)

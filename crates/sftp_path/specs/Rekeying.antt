@@ -1,9 +1,9 @@
--- A directory that moves in a table of places: it goes to another place, with all that stands below it.
+-- A directory that moves in a table of places: it goes to another place, with all that is below it.
 use Rattle.std.specs.Prelude.{◌≡◌, ◌++◌, if◌then◌else◌, map, drop, length, None}
 use Rattle.sftp_path.specs.Place.{Place, begins, place_cmp}
 use Rattle.sftp_path.specs.Table.{Table, get, from_entries}
 
--- the old place and what stands below it come to the new place and below it; other places stay
+-- the old place and those below it become the new place and those below it; other places stay
 abbrev pub renamed : Place → Place → Place → Place
 renamed old new place = if begins old place then new ++ drop (length old) place else place
 
@@ -16,6 +16,6 @@ module _ {X : Type 0} where
   unfoldable pub rekeyed : Place → Place → Table Place X → Table Place X
   rekeyed old new table = from_entries place_cmp (map (renamed_entry old new) table)
 
-  -- nothing stands at the place or below it
+  -- there is no entry at the place or below it
   abbrev pub NothingFrom : Table Place X → Place → Type 0
   NothingFrom table place = (rest : Place) → get place_cmp table (place ++ rest) ≡ None

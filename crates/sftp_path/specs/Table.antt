@@ -32,7 +32,7 @@ module _ {K X : Type 0} where
     abbrev pub InOrder : Table K X → Type 0
     InOrder table = IsStrictlySortedBy cmp (keys_of table)
 
-    -- what stands at a key
+    -- the value of a key
     unfoldable pub get : Table K X → K → Option X
     get table key = lookup (is_at (cmp key)) table
 

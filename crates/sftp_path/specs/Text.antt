@@ -7,7 +7,7 @@ abbrev pub IsTextOf : List ℕ → Place → Type 0
 IsTextOf text place = IsTrue (are_names place) × (text ≡ absolute place)
 
 -- the parts again, with a `/` between each and the next
-abbrev pub joined : List (List ℕ) → List ℕ
-joined [] = []
-joined (part ∷ []) = part
-joined (part ∷ next ∷ parts) = part ++ 47 ∷ joined (next ∷ parts)
+abbrev pub with_slashes : List (List ℕ) → List ℕ
+with_slashes [] = []
+with_slashes (part ∷ []) = part
+with_slashes (part ∷ next ∷ parts) = part ++ 47 ∷ with_slashes (next ∷ parts)

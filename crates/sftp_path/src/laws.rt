@@ -1,17 +1,16 @@
-//! Laws of paths, texts and places, as theorems on the definitions that the contracts name. The functions do
-//! nothing; each promise is in the contract.
+//! Laws of paths, texts and places. The functions do nothing: each publishes its laws, theorems on the definitions
+//! that other contracts name, in its contract.
 ghost use Rattle.std.specs.Prelude.{◌≡◌, ◌&&◌, ◌++◌, ◌∷◌, nat_lt, true, ℕ, List, [], Option, Some, IsTrue, IfSome, IfNone, length, drop};
 ghost use Rattle.std.specs.List.{list_all};
 ghost use Rattle.sftp_path.specs.Place.{Name, Place, are_names, is_step, is_inner, begins, is_below, parent, absolute, parts, components, is_absolute, is_good_path};
-ghost use Rattle.sftp_path.specs.Text.{IsTextOf, joined};
+ghost use Rattle.sftp_path.specs.Text.{IsTextOf, with_slashes};
 
 /// Two places whose absolute texts are equal are equal.
 pub fn absolute_is_one()
     ensures { (p q : Place) → IsTrue (are_names p) → IsTrue (are_names q) → absolute p ≡ absolute q → p ≡ q }
 {}
 
-/// `canonical` undoes `absolute`: what its contract lets it give for the absolute text of a place is that
-/// place.
+/// `canonical` undoes `absolute`: by its contract it returns, for the absolute text of a place, that place.
 pub fn canonical_undoes_absolute()
     ensures { (place : Place) (found : Option Place) → IsTrue (are_names place) →
         IfSome found (λ p. IsTextOf (absolute place) p) →
@@ -28,9 +27,9 @@ pub fn absolute_leads_there()
 /// such parts makes it.
 pub fn parts_make_the_path()
     ensures inner { (path : List ℕ) → IsTrue (list_all (list_all is_inner) (parts path)) }
-    ensures joined { (path : List ℕ) → joined (parts path) ≡ path }
+    ensures joined { (path : List ℕ) → with_slashes (parts path) ≡ path }
     ensures only { (first : List ℕ) (others : List (List ℕ)) → IsTrue (list_all (list_all is_inner) (first ∷ others)) →
-        parts (joined (first ∷ others)) ≡ first ∷ others }
+        parts (with_slashes (first ∷ others)) ≡ first ∷ others }
 {}
 
 /// Each component of a good path is `.`, `..` or a name.
@@ -39,11 +38,12 @@ pub fn components_are_steps()
         IsTrue (list_all is_step (components path)) }
 {}
 
-/// A place begins those that have its names in front, and what stands below it are those with more names.
+/// A place begins those that start with its names; those with more names are below it.
 pub fn places_in_front()
     ensures front { (top place : Place) → IsTrue (begins top place) → place ≡ top ++ drop (length top) place }
     ensures begins { (top rest : Place) → IsTrue (begins top (top ++ rest)) }
-    ensures below { (top place : Place) → is_below top place ≡ (begins top place && nat_lt (length top) (length place)) }
+    ensures below { (top place : Place) →
+        is_below top place ≡ (begins top place && nat_lt (length top) (length place)) }
 {}
 
 /// The parent of what is entered from a place is that place.

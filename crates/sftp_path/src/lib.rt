@@ -2,13 +2,13 @@
 #![tactic(auto)]
 
 mod errors;
+pub mod examples;
 pub mod laws;
 mod names;
 mod parts;
 mod paths;
 mod places;
 pub mod rekeying;
-pub mod rows;
 pub mod tables;
 mod texts;
 

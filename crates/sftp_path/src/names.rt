@@ -1,4 +1,4 @@
-//! Names: the components that may stand in a place.
+//! Names: the components of which places are made.
 ghost use Rattle.std.specs.Prelude.{◌≡◌, not, false, IfOk, IfSome, IfNone, IsTrue, refl, nat_eq, Some};
 ghost use Rattle.std.specs.List.{list_all};
 ghost use Rattle.std.specs.Ordering.{nat_cmp};
@@ -35,11 +35,11 @@ impl Model for Name {
 }
 
 impl Name {
-    /// A copy of these bytes, where they are a name.
+    /// A copy of these bytes if they are a name, and `None` if they are not.
     ///
     /// # Errors
     ///
-    /// `NoMemory` where memory runs out.
+    /// `NoMemory` if memory runs out.
     pub fn from_slice(alloc: Global, bytes: &[u8]) -> Result<Option<Name>, NoMemory>
         ensures found { IfOk result (λ o. IfSome o (λ name. (name ≡ bytes.now) × IsTrue (spec.is_name bytes.now))) }
         ensures none { IfOk result (λ o. IfNone o (spec.is_name bytes.now ≡ false)) }
@@ -54,7 +54,7 @@ impl Name {
     ///
     /// # Errors
     ///
-    /// `NoMemory` where memory runs out.
+    /// `NoMemory` if memory runs out.
     pub fn from_component(alloc: Global, component: &[u8]) -> Result<Name, NoMemory>
         requires { IsTrue (spec.is_name component.now) }
         ensures { IfOk result (λ name. name ≡ component.now) }
@@ -76,7 +76,7 @@ impl Name {
     ///
     /// # Errors
     ///
-    /// `NoMemory` where memory runs out.
+    /// `NoMemory` if memory runs out.
     pub fn try_clone(&self, alloc: Global) -> Result<Name, NoMemory>
         ensures { IfOk result (λ name. name ≡ self.now) }
     {
@@ -135,14 +135,14 @@ pub fn is_name(component: &[u8]) -> bool
     are_name_bytes(component)
 }
 
-/// Whether each byte may stand in a name.
+/// Whether a name may have each of these bytes.
 fn are_name_bytes(bytes: &[u8]) -> bool
     ensures { result ≡ list_all spec.is_name_byte bytes.now }
 {
     bytes.iter().all(|byte| *byte != NUL && *byte != b'/')
 }
 
-/// Whether the component is `.`, which stays.
+/// Whether the component is `.`, which stays at a place.
 pub fn is_dot(component: &[u8]) -> bool
     ensures { result ≡ spec.is_dot component.now }
 {

@@ -1,15 +1,14 @@
 //! The components of a path, one by one.
-ghost use Rattle.std.specs.Prelude.{◌≡◌, ◌==◌, ◌++◌, ◌∷◌, not, length, IsTrue};
+ghost use Rattle.std.specs.Prelude.{⊤, ◌≡◌, ◌==◌, ◌++◌, ◌∷◌, not, length, IsTrue};
 ghost use Rattle.std.specs.List.{position};
-ghost use Rattle.std.specs.Iterator.{YieldsFirstRef, item_count};
+ghost use Rattle.std.specs.Iterator.{YieldsFirstRef, MakesProgress, item_count};
 ghost use Rattle.sftp_path.specs.Cut.{begins_at_slash, parts_behind};
 ghost use Rattle.sftp_path.specs.Place as spec;
 
 use bstr::ByteSlice;
 use std::marker::Model;
 
-/// The components of a path, those that are `.` and `..` among them, as slices of it. Empty ones are passed
-/// over.
+/// The components of a path, also those that are `.` and `..`, as slices of it. Empty components are skipped.
 #[derive(Debug, Drop)]
 pub struct Parts<'a> {
     /// Whether the path starts at the root.
@@ -52,7 +51,11 @@ impl<'a> Iterator for Parts<'a> {
 
     ghost remaining = { item_count (λ p. p.left) };
 
-    fn next(&mut self) -> Option<&'a [u8]> {
+    fn next(&mut self) -> Option<&'a [u8]>
+        ensures steps { YieldsFirstRef (λ p. p.left) self.old result self.new }
+        ensures goes { MakesProgress (λ _. ⊤) (item_count (λ p. p.left)) self.old result self.new }
+        ensures absolute { self.new.absolute ≡ self.old.absolute }
+    {
         let start = first_inner(self.rest)?;
         let (component, rest) = cut(&self.rest[start..]);
         self.rest = rest;
@@ -67,14 +70,14 @@ pub(crate) fn is_absolute(path: &[u8]) -> bool
     matches!(path, [b'/', ..])
 }
 
-/// The index of the first byte that is no `/`.
+/// The index of the first byte that is not `/`.
 fn first_inner(path: &[u8]) -> Option<usize>
     ensures { result ≡ position (λ b. not (b == 47)) path.now }
 {
     path.iter().position(|byte| *byte != b'/')
 }
 
-/// The bytes before the first `/`, and the rest from that `/` on. All of them where none stands.
+/// The bytes before the first `/`, and the bytes from that `/` on; without a `/`, all bytes and none.
 pub(crate) fn cut(bytes: &[u8]) -> (&[u8], &[u8])
     ensures whole { bytes.now ≡ result.0.now ++ result.1.now }
     ensures parts { spec.parts bytes.now ≡ result.0.now ∷ parts_behind result.1.now }

@@ -14,11 +14,11 @@ const PATH_LIMIT: usize = 4096;
 #[error("bad path")]
 pub struct BadPath;
 
-/// The components of a path, in order, and whether the path is absolute. Empty components are passed over.
+/// The components of a path, in order, and whether the path is absolute. Empty components are skipped.
 ///
 /// # Errors
 ///
-/// `BadPath` where the path is bad.
+/// `BadPath` if the path is bad.
 pub fn components(path: &[u8]) -> Result<Parts<'_>, BadPath>
     ensures good { IfOk result (λ p. IsTrue (spec.is_good_path path.now)) }
     ensures parts { IfOk result

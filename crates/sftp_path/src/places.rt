@@ -1,4 +1,4 @@
-//! Places: where the entries of a tree stand.
+//! Places: where the entries of a tree are.
 ghost use Rattle.std.specs.Prelude.{◌≡◌, ◌++◌, [], ◌∷◌, IfOk, OnOk, OnErr, length, IsTrue, refl, nat_eq, Some};
 ghost use Rattle.std.specs.Ordering.{nat_cmp};
 ghost use Rattle.std.specs.Cmp.{partial_equiv_from_equiv};
@@ -15,7 +15,7 @@ use std::marker::Model;
 /// The most names of a place in a tree. The limit is this profile's own.
 pub const DEPTH_LIMIT: usize = 64;
 
-/// Where an entry of a tree stands: the names that lead to it from the root. The root has none.
+/// Where an entry of a tree is: the names that lead to it from the root. The root has none.
 #[derive(Debug, Drop)]
 pub struct Place {
     names: Vec<Name>,
@@ -33,21 +33,13 @@ impl Model for Place {
 }
 
 impl Place {
-    /// The root. It takes no memory.
+    /// The root. This allocates nothing.
     pub fn root(alloc: Global) -> Place
         ensures { result ≡ [] }
     {
         Place {
             names: Vec::new(alloc),
         }
-    }
-
-    /// The place that these names lead to. It takes no memory.
-    pub fn from_names(names: Vec<Name>) -> Place
-        ensures { result ≡ names.items }
-    {
-        see_names(&names);
-        Place { names }
     }
 
     /// The names that lead here.
@@ -58,7 +50,7 @@ impl Place {
         self.names.as_slice()
     }
 
-    /// The names that lead here. It takes no memory.
+    /// The names that lead here, without a copy.
     pub fn into_names(self) -> Vec<Name>
         ensures names { result.items ≡ self }
         ensures named { IsTrue (spec.are_names self) }
@@ -82,7 +74,7 @@ impl Place {
     ///
     /// # Errors
     ///
-    /// `NoMemory` where memory runs out.
+    /// `NoMemory` if memory runs out.
     pub fn try_clone(&self, alloc: Global) -> Result<Place, NoMemory>
         ensures { IfOk result (λ place. place ≡ self.now) }
     {
@@ -97,12 +89,13 @@ impl Place {
     ///
     /// # Errors
     ///
-    /// `NoMemory` where memory runs out; the place is then as before.
+    /// `NoMemory` if memory runs out; the place is then as before.
     pub fn enter(&mut self, name: Name) -> Result<(), NoMemory>
         ensures ok { OnOk result (self.new ≡ self.old ++ name ∷ []) }
         ensures err { OnErr result (self.new ≡ self.old) }
     {
-        see_name(&name);
+        // `as_slice` promises that the bytes are a name, which is what the place has to keep.
+        prove!(!name.as_slice().is_empty());
         self.names.push(name)?;
         Ok(())
     }
@@ -111,7 +104,7 @@ impl Place {
     ///
     /// # Errors
     ///
-    /// `NoMemory` where memory runs out; the place is then as before.
+    /// `NoMemory` if memory runs out; the place is then as before.
     pub fn enter_component(&mut self, component: &[u8]) -> Result<(), NoMemory>
         requires { IsTrue (spec.is_name component.now) }
         ensures ok { OnOk result (self.new ≡ self.old ++ component.now ∷ []) }
@@ -129,27 +122,11 @@ impl Place {
         self.names.pop();
     }
 
-    /// Whether this place is the other, or stands below it.
+    /// Whether this place is the other one, or is below it.
     pub fn starts_with(&self, top: &Place) -> bool
         ensures { result ≡ spec.begins top.now self.now }
     {
         self.names().starts_with(top.names())
-    }
-}
-
-/// Does nothing. Its contract says what every `Name` keeps.
-fn see_name(name: &Name)
-    ensures { IsTrue (spec.is_name name.now) }
-{
-    let _ = name.as_slice();
-}
-
-/// Does nothing. Its contract says what every list of `Name`s keeps.
-fn see_names(names: &[Name])
-    ensures { IsTrue (spec.are_names names.now) }
-{
-    for name in names {
-        see_name(name);
     }
 }
 

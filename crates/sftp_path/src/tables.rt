@@ -1,5 +1,5 @@
-//! Laws of tables, the finite maps that the definitions of trees and sessions are made of, as theorems on
-//! those definitions. The functions do nothing; each promise is in the contract.
+//! Laws of tables, the finite maps of which the definitions of trees and sessions are made. The functions do nothing:
+//! each publishes its laws in its contract.
 ghost use Rattle.std.specs.Prelude.{◌≡◌, ◌≢◌, ◌+◌, ◌<◌, ◌&&◌, ℕ, Bool, List, [], Some, None, if◌then◌else◌, IsTrue, option_map};
 ghost use Rattle.std.specs.List.{list_all};
 ghost use Rattle.std.specs.Ordering.{nat_cmp};
@@ -7,7 +7,7 @@ ghost use Rattle.std.specs.declared.cmp.Ordering.TheVariants.{Equal};
 ghost use Rattle.sftp_path.specs.Place.{Place, bytes_cmp, place_cmp};
 ghost use Rattle.sftp_path.specs.Table.{Table, InOrder, get, put, without, retain, from_entries, size, count, kept, with_values};
 
-/// What stands at a key after each operation, for keys of any order and any values.
+/// What a key has after each operation, for keys of any order and any values.
 pub fn answers<K: Ord, X>()
     ensures empty { (key : K) → get {X = X} K.cmp [] key ≡ None }
     ensures put_here { (table : Table K X) (key : K) (value : X) →
@@ -22,41 +22,44 @@ pub fn answers<K: Ord, X>()
         get K.cmp (from_entries K.cmp entries) key ≡ get K.cmp entries key }
 {}
 
-/// Each operation leaves the keys in order, and entries that come in no order are put in one.
+/// Each operation leaves the keys in order; entries in any order are sorted.
 pub fn order_stays<K: Ord, X>()
     ensures empty { InOrder {X = X} K.cmp [] }
-    ensures put { (table : Table K X) (key : K) (value : X) → InOrder K.cmp table → InOrder K.cmp (put K.cmp table key value) }
+    ensures put { (table : Table K X) (key : K) (value : X) → InOrder K.cmp table →
+        InOrder K.cmp (put K.cmp table key value) }
     ensures without { (table : Table K X) (key : K) → InOrder K.cmp table → InOrder K.cmp (without K.cmp table key) }
-    ensures retain { (table : Table K X) (keeps : K × X → Bool) → InOrder K.cmp table → InOrder K.cmp (retain table keeps) }
+    ensures retain { (table : Table K X) (keeps : K × X → Bool) → InOrder K.cmp table →
+        InOrder K.cmp (retain table keeps) }
     ensures from_entries { (entries : List (K × X)) → InOrder K.cmp (from_entries K.cmp entries) }
 {}
 
-/// A new key makes one entry more, another value at a key none, and a key taken away one less.
+/// A new key adds one entry, a new value of a key adds none, and removing a key removes one.
 pub fn sizes<K: Ord, X>()
     ensures put_new { (table : Table K X) (key : K) (value : X) → get K.cmp table key ≡ None →
         size (put K.cmp table key value) ≡ size table + 1 }
-    ensures put_again { (table : Table K X) (key : K) (value old : X) → InOrder K.cmp table → get K.cmp table key ≡ Some old →
+    ensures put_again { (table : Table K X) (key : K) (value old : X) → InOrder K.cmp table →
+        get K.cmp table key ≡ Some old →
         size (put K.cmp table key value) ≡ size table }
     ensures without { (table : Table K X) (key : K) (value : X) → get K.cmp table key ≡ Some value →
         size (without K.cmp table key) + 1 ≡ size table }
 {}
 
-/// How many values pass a test: a new key counts its value, another value at a key stops the count of the old
-/// one, a key taken away stops the count of its value, and where a value that passes stands, at least one is
-/// counted.
+/// How many values pass a test: a new key adds its value to the count, a new value of a key takes the place of the
+/// old one, a removed key takes its value from the count, and the count is not 0 where some value passes.
 pub fn counts<K: Ord, X>()
     ensures put_new { (table : Table K X) (key : K) (value : X) (passes : X → Bool) → get K.cmp table key ≡ None →
         count (put K.cmp table key value) passes ≡ count table passes + (if passes value then 1 else 0) }
     ensures put_again { (table : Table K X) (key : K) (value old : X) (passes : X → Bool) →
         InOrder K.cmp table → get K.cmp table key ≡ Some old →
-        count (put K.cmp table key value) passes + (if passes old then 1 else 0) ≡ count table passes + (if passes value then 1 else 0) }
+        count (put K.cmp table key value) passes + (if passes old then 1 else 0)
+        ≡ count table passes + (if passes value then 1 else 0) }
     ensures without { (table : Table K X) (key : K) (value : X) (passes : X → Bool) → get K.cmp table key ≡ Some value →
         count (without K.cmp table key) passes + (if passes value then 1 else 0) ≡ count table passes }
     ensures found { (table : Table K X) (key : K) (value : X) (passes : X → Bool) → get K.cmp table key ≡ Some value →
         IsTrue (passes value) → 0 < count table passes }
 {}
 
-/// To take away what is not there changes nothing.
+/// To remove a key that is absent changes nothing.
 pub fn absent_keys<K: Ord, X>()
     ensures without { (table : Table K X) (key : K) → get K.cmp table key ≡ None → without K.cmp table key ≡ table }
 {}
@@ -73,9 +76,9 @@ pub fn other_values<K: Ord, X, Y>()
     ensures size { (f : X → Y) (table : Table K X) → size (with_values f table) ≡ size table }
 {}
 
-/// A test that all entries pass: a new key asks it of its entry too, a key taken away leaves it passed, as does
-/// another value at a key where the test is on values alone and the value passes it; where it is on keys alone,
-/// another value changes nothing.
+/// A test that all entries pass: a new key asks it of its entry too; removing a key keeps it passed, as does a new
+/// value of a key if the test is on values alone and the value passes it; if the test is on keys alone, a new value
+/// changes nothing.
 pub fn passing_tests<K: Ord, X>()
     ensures put_new { (table : Table K X) (key : K) (value : X) (keeps : K × X → Bool) → get K.cmp table key ≡ None →
         list_all keeps (put K.cmp table key value) ≡ (keeps (key, value) && list_all keeps table) }
@@ -89,21 +92,25 @@ pub fn passing_tests<K: Ord, X>()
         list_all (λ entry. test entry.0) (put K.cmp table key value) ≡ list_all (λ entry. test entry.0) table }
 {}
 
-/// Another value at a key changes no test on keys alone, also in a table that is in no order.
+/// A new value of a key changes no test on keys alone, also in a table that is not in order.
 pub fn passing_keys<X>()
-    ensures places { (table : Table Place X) (place : Place) (value old : X) (test : Place → Bool) → get place_cmp table place ≡ Some old →
+    ensures places { (table : Table Place X) (place : Place) (value old : X) (test : Place → Bool) →
+        get place_cmp table place ≡ Some old →
         list_all (λ entry. test entry.0) (put place_cmp table place value) ≡ list_all (λ entry. test entry.0) table }
-    ensures byte_strings { (table : Table (List ℕ) X) (name : List ℕ) (value old : X) (test : List ℕ → Bool) → get bytes_cmp table name ≡ Some old →
+    ensures byte_strings { (table : Table (List ℕ) X) (name : List ℕ) (value old : X) (test : List ℕ → Bool) →
+        get bytes_cmp table name ≡ Some old →
         list_all (λ entry. test entry.0) (put bytes_cmp table name value) ≡ list_all (λ entry. test entry.0) table }
-    ensures numbers { (table : Table ℕ X) (number : ℕ) (value old : X) (test : ℕ → Bool) → get nat_cmp table number ≡ Some old →
+    ensures numbers { (table : Table ℕ X) (number : ℕ) (value old : X) (test : ℕ → Bool) →
+        get nat_cmp table number ≡ Some old →
         list_all (λ entry. test entry.0) (put nat_cmp table number value) ≡ list_all (λ entry. test entry.0) table }
 {}
 
-/// What is left at a key is what stood there, where it passes the test.
+/// A key keeps its value if that passes the test.
 pub fn answers_after_retain<X>()
     ensures places { (table : Table Place X) (keeps : Place × X → Bool) (place : Place) → InOrder place_cmp table →
         get place_cmp (retain table keeps) place ≡ kept keeps place (get place_cmp table place) }
-    ensures byte_strings { (table : Table (List ℕ) X) (keeps : List ℕ × X → Bool) (name : List ℕ) → InOrder bytes_cmp table →
+    ensures byte_strings { (table : Table (List ℕ) X) (keeps : List ℕ × X → Bool) (name : List ℕ) →
+        InOrder bytes_cmp table →
         get bytes_cmp (retain table keeps) name ≡ kept keeps name (get bytes_cmp table name) }
     ensures numbers { (table : Table ℕ X) (keeps : ℕ × X → Bool) (number : ℕ) → InOrder nat_cmp table →
         get nat_cmp (retain table keeps) number ≡ kept keeps number (get nat_cmp table number) }

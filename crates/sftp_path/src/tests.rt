@@ -75,8 +75,8 @@ fn texts_of_places(rt: HostRuntime) -> Result<(), Fail> {
         b"/..a/b.".as_slice(),
         b"/\x80/\xff".as_slice(),
     ] {
-        let names = canonical(rt.alloc(), text)?.ok_or("the text is a place's")?;
-        let back = absolute(rt.alloc(), &names)?;
+        let place = canonical(rt.alloc(), text)?.ok_or("the text is a place's")?;
+        let back = absolute(rt.alloc(), place.names())?;
         assert_eq!(rt; back.as_slice(), text);
     }
     Ok(())
@@ -105,7 +105,7 @@ fn texts_of_no_place(rt: HostRuntime) -> Result<(), Fail> {
 #[test]
 fn ways_through_places(rt: HostRuntime) -> Result<(), Fail> {
     let alloc = rt.alloc();
-    let a = Place::from_names(canonical(alloc, b"/a")?.ok_or("the text is a place's")?);
+    let a = canonical(alloc, b"/a")?.ok_or("the text is a place's")?;
     let mut place = a.try_clone(alloc)?;
     assert!(rt; place == a);
     let name = Name::from_slice(alloc, b"b")?.ok_or("it is a name")?;
@@ -136,8 +136,8 @@ fn ways_through_places(rt: HostRuntime) -> Result<(), Fail> {
 #[test]
 fn places_in_order(rt: HostRuntime) -> Result<(), Fail> {
     let alloc = rt.alloc();
-    let below = Place::from_names(canonical(alloc, b"/a/z")?.ok_or("the text is a place's")?);
-    let beside = Place::from_names(canonical(alloc, b"/a!")?.ok_or("the text is a place's")?);
+    let below = canonical(alloc, b"/a/z")?.ok_or("the text is a place's")?;
+    let beside = canonical(alloc, b"/a!")?.ok_or("the text is a place's")?;
     assert!(rt; below < beside);
     assert!(rt; !beside.starts_with(&below));
     Ok(())

@@ -4,15 +4,16 @@ ghost use Rattle.sftp_path.specs.Place as spec;
 ghost use Rattle.sftp_path.specs.Text.{IsTextOf};
 
 use crate::errors::NoMemory;
-use crate::names::Name;
+use crate::names::{Name, is_name};
 use crate::parts::{cut, is_absolute};
+use crate::places::Place;
 use std::alloc::Global;
 
 /// The absolute text of a place: a `/` before each name, and `/` alone for the root.
 ///
 /// # Errors
 ///
-/// `NoMemory` where memory runs out.
+/// `NoMemory` if memory runs out.
 pub fn absolute(alloc: Global, names: &[Name]) -> Result<Vec<u8>, NoMemory>
     ensures { IfOk result (λ text. text.items ≡ spec.absolute names.now) }
 {
@@ -28,18 +29,18 @@ pub fn absolute(alloc: Global, names: &[Name]) -> Result<Vec<u8>, NoMemory>
     Ok(text)
 }
 
-/// The names of the place that this text is the absolute text of, if it is one's. No two places have the same.
+/// The place whose absolute text this is, or `None` if there is none. No two places have the same text.
 ///
 /// # Errors
 ///
-/// `NoMemory` where memory runs out.
-pub fn canonical(alloc: Global, text: &[u8]) -> Result<Option<Vec<Name>>, NoMemory>
-    ensures found { IfOk result (λ o. IfSome o (λ names. IsTextOf text.now names.items)) }
+/// `NoMemory` if memory runs out.
+pub fn canonical(alloc: Global, text: &[u8]) -> Result<Option<Place>, NoMemory>
+    ensures found { IfOk result (λ o. IfSome o (λ place. IsTextOf text.now place)) }
     ensures none { IfOk result (λ o. IfNone o ((place : spec.Place) → IsTextOf text.now place → ⊥)) }
 {
-    let mut names = Vec::new(alloc);
+    let mut place = Place::root(alloc);
     if text == b"/".as_slice() {
-        return Ok(Some(names));
+        return Ok(Some(place));
     }
     if !is_absolute(text) {
         return Ok(None);
@@ -47,11 +48,11 @@ pub fn canonical(alloc: Global, text: &[u8]) -> Result<Option<Vec<Name>>, NoMemo
     let mut rest = text;
     while let [_, behind @ ..] = rest {
         let (component, next) = cut(behind);
-        let Some(name) = Name::from_slice(alloc, component)? else {
+        if !is_name(component) {
             return Ok(None);
-        };
-        names.push(name)?;
+        }
+        place.enter_component(component)?;
         rest = next;
     }
-    Ok(Some(names))
+    Ok(Some(place))
 }

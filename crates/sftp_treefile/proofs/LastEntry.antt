@@ -21,13 +21,15 @@ use Rattle.sftp_treefile.specs.TreeFileParts.{IsLast, Follows}
 no_self : (p : Place) → place_cmp p p ≡ Less → ⊥
 no_self p less = let e : Equal ≡ Less = sym (tied_itself place_cmp-total p) ∙ less in cc
 
--- what stands between a place and what it begins is begun by it
-then_both : (o p q : Ordering) → ordering_then o p ≡ Greater → ordering_then o q ≡ Less → (o ≡ Equal) × (p ≡ Greater) × (q ≡ Less)
+-- a place begins what comes between it and a place that it begins
+then_both : (o p q : Ordering) → ordering_then o p ≡ Greater → ordering_then o q ≡ Less
+    → (o ≡ Equal) × (p ≡ Greater) × (q ≡ Less)
 then_both Less p q g l = absurd cc
 then_both Equal p q g l = (refl, g, l)
 then_both Greater p q g l = absurd cc
 
-pub between : (top last rest : Place) → place_cmp last top ≡ Greater → place_cmp last (top ++ rest) ≡ Less → begins top last ≡ true
+pub between : (top last rest : Place) → place_cmp last top ≡ Greater → place_cmp last (top ++ rest) ≡ Less
+    → begins top last ≡ true
 between [] last rest above below = refl
 between (m ∷ ms) [] rest above below = absurd cc
 between (m ∷ ms) (n ∷ ns) rest above below =
@@ -59,14 +61,19 @@ or_left true c d h = refl
 or_left false true d h = refl
 or_left false false d h = absurd (false≢true h)
 
--- no entry before a place stands there
-none_there : (rows : List Row) (place : Place) → AllByRecursion (λ (r : Row). place_cmp (place_of r.path) place ≡ Less) rows → list_any (is_dir_at place) rows ≡ false
+-- no entry before a place is at it
+none_there : (rows : List Row) (place : Place)
+    → AllByRecursion (λ (r : Row). place_cmp (place_of r.path) place ≡ Less) rows
+    → list_any (is_dir_at place) rows ≡ false
 none_there [] place before = refl
 none_there (r ∷ rows) place before =
-    let here : is_dir_at place r ≡ false = and_none (is_dir r.kind) (same_place (place_of r.path) place) (λ h. no_self place (subst (λ (q : Place). place_cmp q place ≡ Less) (same_place_is (place_of r.path) place h) before.0)) in
+    let here : is_dir_at place r ≡ false =
+    and_none (is_dir r.kind) (same_place (place_of r.path) place)
+    (λ h. no_self place (subst (λ (q : Place). place_cmp q place ≡ Less) (same_place_is (place_of r.path) place h) before.0)) in
     ap (λ b. b || list_any (is_dir_at place) rows) here ∙ none_there rows place before.1
 
-pub no_dir : (rows : List Row) (place : Place) → 0 < length place → AllByRecursion (λ (r : Row). place_cmp (place_of r.path) place ≡ Less) rows → has_dir rows place ≡ false
+pub no_dir : (rows : List Row) (place : Place) → 0 < length place
+    → AllByRecursion (λ (r : Row). place_cmp (place_of r.path) place ≡ Less) rows → has_dir rows place ≡ false
 unfolding has_dir
 no_dir rows [] below before = absurd (omega arith)
 no_dir rows (n ∷ ns) below before = none_there rows (n ∷ ns) before
@@ -74,7 +81,8 @@ no_dir rows (n ∷ ns) below before = none_there rows (n ∷ ns) before
 pub still_dir : (rows more : List Row) (place : Place) → has_dir rows place ≡ true → has_dir (rows ++ more) place ≡ true
 unfolding has_dir
 still_dir rows more place h =
-    ap (λ b. is_root place || b) (list_any-append (is_dir_at place) rows more) ∙ or_left (is_root place) (list_any (is_dir_at place) rows) (list_any (is_dir_at place) more) h
+    ap (λ b. is_root place || b) (list_any-append (is_dir_at place) rows more)
+    ∙ or_left (is_root place) (list_any (is_dir_at place) rows) (list_any (is_dir_at place) more) h
 
 pub root_dir : (rows : List Row) → has_dir rows [] ≡ true
 unfolding has_dir
@@ -91,7 +99,8 @@ module _ (rows : List Row) (last : Place) (last_is : Bool) (fits : IsLast rows l
   behind : place_cmp last place ≡ Less
   behind = (fits.later place below).1 before
 
-  begins_by : (o : Ordering) → place_cmp last (parent place) ≡ o → has_dir rows (parent place) ≡ true → begins (parent place) last ≡ true
+  begins_by : (o : Ordering) → place_cmp last (parent place) ≡ o → has_dir rows (parent place) ≡ true
+      → begins (parent place) last ≡ true
   begins_by Less is there =
       elim (cases_lt 0 (length (parent place))) [
         | inl some ↦ absurd (false≢true (sym (no_dir rows (parent place) some ((fits.later (parent place) some).0 is)) ∙ there))
@@ -99,9 +108,11 @@ module _ (rows : List Row) (last : Place) (last_is : Bool) (fits : IsLast rows l
       ]
   begins_by Equal is there =
       let same : last ≡ parent place = place_cmp-same last (parent place) is in
-      subst (λ (q : Place). begins (parent place) q ≡ true) (append-nil (parent place) ∙ sym same) (begins-append (parent place) [])
+      subst (λ (q : Place). begins (parent place) q ≡ true) (append-nil (parent place) ∙ sym same)
+      (begins-append (parent place) [])
   begins_by Greater is there =
-      between (parent place) last (drop (length place - 1) place) is (ap (place_cmp last) (sym (parent_front place)) ∙ behind)
+      between (parent place) last (drop (length place - 1) place) is
+      (ap (place_cmp last) (sym (parent_front place)) ∙ behind)
 
   pub begins_last : has_dir rows (parent place) ≡ true → begins (parent place) last ≡ true
   begins_last there = begins_by (place_cmp last (parent place)) refl there
@@ -110,7 +121,9 @@ module _ (rows : List Row) (last : Place) (last_is : Bool) (fits : IsLast rows l
   front_of_last : (top : Place) → begins top last ≡ true → (top ≡ take (length top) last) × (length top ≤ length last)
   front_of_last top h =
       let whole : last ≡ top ++ drop (length top) last = begins-front top last h in
-      let part : take (length top) (top ++ drop (length top) last) ≡ top = take-append-le (length top) top (drop (length top) last) (omega arith) ∙ take_all (length top) top (omega arith) in
+      let part : take (length top) (top ++ drop (length top) last) ≡ top =
+      take-append-le (length top) top (drop (length top) last) (omega arith)
+      ∙ take_all (length top) top (omega arith) in
       (sym (ap (take (length top)) whole ∙ part), omega (arith, ap length whole, length-append top (drop (length top) last)))
 
   pub not_begun : begins (parent place) last ≡ false → has_dir rows (parent place) ≡ false
@@ -120,27 +133,34 @@ module _ (rows : List Row) (last : Place) (last_is : Bool) (fits : IsLast rows l
         | inr none ↦ none
       ]
 
-  pub begun_above : begins (parent place) last ≡ true → length (parent place) < length last → has_dir rows (parent place) ≡ true
+  pub begun_above : begins (parent place) last ≡ true → length (parent place) < length last
+      → has_dir rows (parent place) ≡ true
   begun_above h shorter =
       let f = front_of_last (parent place) h in
       subst (λ (q : Place). has_dir rows q ≡ true) (sym f.0) (fits.above (length (parent place)) shorter)
 
-  pub begun_whole : begins (parent place) last ≡ true → length last ≤ length (parent place) → has_dir rows (parent place) ≡ last_is
+  pub begun_whole : begins (parent place) last ≡ true → length last ≤ length (parent place)
+      → has_dir rows (parent place) ≡ last_is
   begun_whole h longer =
       let f = front_of_last (parent place) h in
       let same : parent place ≡ last = f.0 ∙ take_all (length (parent place)) last longer in
       ap (has_dir rows) same ∙ fits.itself
 
   -- each place above it is a directory
-  pub above_place : has_dir rows (parent place) ≡ true → (depth : ℕ) → depth < length place → has_dir rows (take depth place) ≡ true
+  pub above_place : has_dir rows (parent place) ≡ true → (depth : ℕ) → depth < length place
+      → has_dir rows (take depth place) ≡ true
   above_place there depth less =
       let f = front_of_last (parent place) (begins_last there) in
       let len : length (parent place) ≡ length place - 1 = omega (arith, length-take (length place - 1) place) in
       elim (cases_lt depth (length (parent place))) [
         | inl shorter ↦
-            let first : take depth place ≡ take depth (parent place) = ap (take depth) (parent_front place) ∙ take-append-le depth (parent place) (drop (length place - 1) place) (omega (arith, shorter)) in
-            let second : take depth (parent place) ≡ take depth last = ap (take depth) f.0 ∙ take-take depth (length (parent place)) last (omega (arith, shorter)) in
-            subst (λ (q : Place). has_dir rows q ≡ true) (sym (first ∙ second)) (fits.above depth (omega (arith, shorter, f.1)))
+            let first : take depth place ≡ take depth (parent place) =
+            ap (take depth) (parent_front place)
+            ∙ take-append-le depth (parent place) (drop (length place - 1) place) (omega (arith, shorter)) in
+            let second : take depth (parent place) ≡ take depth last =
+            ap (take depth) f.0 ∙ take-take depth (length (parent place)) last (omega (arith, shorter)) in
+            subst (λ (q : Place). has_dir rows q ≡ true) (sym (first ∙ second))
+            (fits.above depth (omega (arith, shorter, f.1)))
         | inr longer ↦
             let whole : depth ≡ length place - 1 = omega (arith, longer, len, less) in
             subst (λ (d : ℕ). has_dir rows (take d place) ≡ true) (sym whole) there
@@ -159,11 +179,13 @@ no_last = record {
     root_first [] below = absurd (omega arith)
     root_first (n ∷ ns) below = refl
 
-all_weaker : (P Q : Row → Type 0) (rows : List Row) → ((r : Row) → P r → Q r) → AllByRecursion P rows → AllByRecursion Q rows
+all_weaker : (P Q : Row → Type 0) (rows : List Row) → ((r : Row) → P r → Q r) → AllByRecursion P rows
+    → AllByRecursion Q rows
 all_weaker P Q [] f p = tt
 all_weaker P Q (r ∷ rows) f p = (f r p.0, all_weaker P Q rows f p.1)
 
-all_push : (P : Row → Type 0) (rows : List Row) (row : Row) → AllByRecursion P rows → P row → AllByRecursion P (rows ++ row ∷ [])
+all_push : (P : Row → Type 0) (rows : List Row) (row : Row) → AllByRecursion P rows → P row
+    → AllByRecursion P (rows ++ row ∷ [])
 all_push P [] row p q = (q, tt)
 all_push P (r ∷ rows) row p q = (p.0, all_push P rows row p.1 q)
 
@@ -171,15 +193,19 @@ all_last : (P : Row → Type 0) (rows : List Row) (row : Row) → AllByRecursion
 all_last P [] row p = p.0
 all_last P (r ∷ rows) row p = all_last P rows row p.1
 
-later_more : (rows : List Row) (row : Row) → AllByRecursion (λ (r : Row). place_cmp (place_of r.path) (place_of row.path) ≡ Less) rows
-    → (place : Place) → (place_cmp (place_of row.path) place ≡ Less) ↔ AllByRecursion (λ (r : Row). place_cmp (place_of r.path) place ≡ Less) (rows ++ row ∷ [])
+later_more : (rows : List Row) (row : Row)
+    → AllByRecursion (λ (r : Row). place_cmp (place_of r.path) (place_of row.path) ≡ Less) rows
+    → (place : Place)
+    → (place_cmp (place_of row.path) place ≡ Less) ↔ AllByRecursion (λ (r : Row). place_cmp (place_of r.path) place ≡ Less) (rows ++ row ∷ [])
 later_more rows row before place = (
   λ less. all_push (λ (r : Row). place_cmp (place_of r.path) place ≡ Less) rows row (all_weaker (λ (r : Row). place_cmp (place_of r.path) (place_of row.path) ≡ Less) (λ (r : Row). place_cmp (place_of r.path) place ≡ Less) rows (λ r earlier. place_cmp-total.trans (place_of r.path) (place_of row.path) place earlier less) before) less,
   λ each. all_last (λ (r : Row). place_cmp (place_of r.path) place ≡ Less) rows row each,
 )
 
--- whether the new entry is a directory, since no other stands there
-dir_itself : (rows : List Row) (row : Row) → 0 < length (place_of row.path) → AllByRecursion (λ (r : Row). place_cmp (place_of r.path) (place_of row.path) ≡ Less) rows → has_dir (rows ++ row ∷ []) (place_of row.path) ≡ is_dir row.kind
+-- whether the new entry is a directory, since no other is at its place
+dir_itself : (rows : List Row) (row : Row) → 0 < length (place_of row.path)
+    → AllByRecursion (λ (r : Row). place_cmp (place_of r.path) (place_of row.path) ≡ Less) rows
+    → has_dir (rows ++ row ∷ []) (place_of row.path) ≡ is_dir row.kind
 unfolding has_dir
 dir_itself rows row below before = by (place_of row.path) refl below
   where
@@ -187,14 +213,18 @@ dir_itself rows row below before = by (place_of row.path) refl below
     and_true true c h = ap (λ v. v || false) h
     and_true false c h = refl
 
-    by : (place : Place) → place_of row.path ≡ place → 0 < length place → (is_root place || list_any (is_dir_at place) (rows ++ row ∷ [])) ≡ is_dir row.kind
+    by : (place : Place) → place_of row.path ≡ place → 0 < length place
+        → (is_root place || list_any (is_dir_at place) (rows ++ row ∷ [])) ≡ is_dir row.kind
     by [] is some = absurd (omega arith)
     by (n ∷ ns) is some =
-        let none : list_any (is_dir_at (n ∷ ns)) rows ≡ false = none_there rows (n ∷ ns) (subst (λ (q : Place). AllByRecursion (λ (r : Row). place_cmp (place_of r.path) q ≡ Less) rows) is before) in
-        list_any-append (is_dir_at (n ∷ ns)) rows (row ∷ []) ∙ ap (λ b. b || list_any (is_dir_at (n ∷ ns)) (row ∷ [])) none
+        let none : list_any (is_dir_at (n ∷ ns)) rows ≡ false =
+        none_there rows (n ∷ ns) (subst (λ (q : Place). AllByRecursion (λ (r : Row). place_cmp (place_of r.path) q ≡ Less) rows) is before) in
+        list_any-append (is_dir_at (n ∷ ns)) rows (row ∷ [])
+        ∙ ap (λ b. b || list_any (is_dir_at (n ∷ ns)) (row ∷ [])) none
         ∙ and_true (is_dir row.kind) (same_place (place_of row.path) (n ∷ ns)) (ap (same_place (place_of row.path)) (sym is) ∙ same_place_itself (place_of row.path))
 
-pub last_more : (rows : List Row) (last : Place) (last_is : Bool) (row : Row) → IsLast rows last last_is → Follows rows row.path → IsLast (rows ++ row ∷ []) (place_of row.path) (is_dir row.kind)
+pub last_more : (rows : List Row) (last : Place) (last_is : Bool) (row : Row) → IsLast rows last last_is
+    → Follows rows row.path → IsLast (rows ++ row ∷ []) (place_of row.path) (is_dir row.kind)
 last_more rows last last_is row fits next = record {
   later = λ place below. later_more rows row next.later place;
   above = λ depth less. still_dir rows (row ∷ []) (take depth (place_of row.path)) (above_place rows last last_is fits (place_of row.path) next.below_root next.later next.parent depth less);

@@ -13,27 +13,35 @@ use Rattle.sftp_treefile.proofs.FieldTexts.{path_length, target_length, file_byt
 pub two_pieces : (a b o0 o1 o2 : List ℕ) → o1 ≡ o0 ++ a → o2 ≡ o1 ++ b → o2 ≡ o0 ++ (a ++ b)
 two_pieces a b o0 o1 o2 p q = rw (q, p) (simp append_assoc)
 
-pub three_pieces : (a b c o0 o1 o2 o3 : List ℕ) → o1 ≡ o0 ++ a → o2 ≡ o1 ++ b → o3 ≡ o2 ++ c → o3 ≡ o0 ++ (a ++ (b ++ c))
+pub three_pieces : (a b c o0 o1 o2 o3 : List ℕ) → o1 ≡ o0 ++ a → o2 ≡ o1 ++ b → o3 ≡ o2 ++ c
+    → o3 ≡ o0 ++ (a ++ (b ++ c))
 three_pieces a b c o0 o1 o2 o3 p q r = rw (r, q, p) (simp append_assoc)
 
-pub four_pieces : (a b c d o0 o1 o2 o3 o4 : List ℕ) → o1 ≡ o0 ++ a → o2 ≡ o1 ++ b → o3 ≡ o2 ++ c → o4 ≡ o3 ++ d → o4 ≡ o0 ++ (a ++ (b ++ (c ++ d)))
+pub four_pieces : (a b c d o0 o1 o2 o3 o4 : List ℕ) → o1 ≡ o0 ++ a → o2 ≡ o1 ++ b → o3 ≡ o2 ++ c → o4 ≡ o3 ++ d
+    → o4 ≡ o0 ++ (a ++ (b ++ (c ++ d)))
 four_pieces a b c d o0 o1 o2 o3 o4 p q r s = rw (s, r, q, p) (simp append_assoc)
 
-pub head_pieces : (head : Head) (o0 o1 o2 : List ℕ) → o1 ≡ o0 ++ front_text head.home head.uid head.gid → o2 ≡ o1 ++ root_text head.count head.root → o2 ≡ o0 ++ head_bytes head
-head_pieces head o0 o1 o2 p q = rw (q, p) (by (string head.home) (uint32 head.uid) (uint32 head.gid) (uint32 head.count) (owner_text head.root))
+pub head_pieces : (head : Head) (o0 o1 o2 : List ℕ) → o1 ≡ o0 ++ front_text head.home head.uid head.gid
+    → o2 ≡ o1 ++ root_text head.count head.root → o2 ≡ o0 ++ head_bytes head
+head_pieces head o0 o1 o2 p q =
+    rw (q, p) (by (string head.home) (uint32 head.uid) (uint32 head.gid) (uint32 head.count) (owner_text head.root))
   where
-    by : (a b c d e : List ℕ) → (o0 ++ (tree_opening ++ (a ++ (b ++ c)))) ++ (d ++ e) ≡ o0 ++ (tree_opening ++ (a ++ (b ++ (c ++ (d ++ e)))))
+    by : (a b c d e : List ℕ)
+        → (o0 ++ (tree_opening ++ (a ++ (b ++ c)))) ++ (d ++ e) ≡ o0 ++ (tree_opening ++ (a ++ (b ++ (c ++ (d ++ e)))))
     by a b c d e = simp append_assoc
 
--- the lengths of the strings of an entry that may stand there can be written
-kind_lengths : (limits : TreeLimits) → limits.file_bytes < 2 ^ 32 → (earlier : List Row) (kind : Kind) → IsKind limits earlier kind → KindHasLengths kind
+-- the lengths of the strings of an entry that fits can be written
+kind_lengths : (limits : TreeLimits) → limits.file_bytes < 2 ^ 32 → (earlier : List Row) (kind : Kind)
+    → IsKind limits earlier kind → KindHasLengths kind
 kind_lengths limits bound earlier (Dir owner) fits = tt
 kind_lengths limits bound earlier (First owner bytes) fits = file_bytes_length limits bound bytes (fits.1, fits.2)
 kind_lengths limits bound earlier (Further number) fits = tt
 kind_lengths limits bound earlier (Link target) fits = target_length target fits
 
-pub row_at_place : (limits : TreeLimits) → limits.file_bytes < 2 ^ 32 → (earlier rows : List Row) (i : ℕ) (row : Row) → AreRows limits earlier rows → i < length rows → row ≡ get_or rows i row → HasLengths row
+pub row_at_place : (limits : TreeLimits) → limits.file_bytes < 2 ^ 32 → (earlier rows : List Row) (i : ℕ) (row : Row)
+    → AreRows limits earlier rows → i < length rows → row ≡ get_or rows i row → HasLengths row
 row_at_place limits bound earlier [] i row fits lt is = absurd (omega arith)
 row_at_place limits bound earlier (r ∷ rows) zero row fits lt is =
     subst HasLengths (sym is) (record { path = path_length r.path fits.0.path; kind = kind_lengths limits bound earlier r.kind fits.0.kind })
-row_at_place limits bound earlier (r ∷ rows) (suc i) row fits lt is = row_at_place limits bound (earlier ++ r ∷ []) rows i row fits.1 (omega arith) is
+row_at_place limits bound earlier (r ∷ rows) (suc i) row fits lt is =
+    row_at_place limits bound (earlier ++ r ∷ []) rows i row fits.1 (omega arith) is

@@ -1,4 +1,4 @@
 pub mod Limits
 pub mod TreeFile
 pub mod TreeFileParts
-pub mod Rows
+pub mod Examples

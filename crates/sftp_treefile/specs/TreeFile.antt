@@ -82,7 +82,7 @@ abbrev pub entry_at : List Row → ℕ → Option Row
 entry_at rows zero = None
 entry_at rows (suc n) = slice_get rows n
 
--- what an entry behind these may be: a further name is that of a file whose first name is among them
+-- what an entry after these may be: a further name is that of a file whose first name is among them
 abbrev pub IsKind : TreeLimits → List Row → Kind → Type 0
 IsKind limits earlier (Dir owner) = IsOwner owner
 IsKind limits earlier (First owner bytes) = IsOwner owner × (length bytes ≤ limits.file_bytes) × IsTrue (are_bytes bytes)
@@ -110,7 +110,7 @@ is_dir_at place row = is_dir row.kind && same_place (place_of row.path) place
 unfoldable pub has_dir : List Row → Place → Bool
 has_dir rows place = is_root place || list_any (is_dir_at place) rows
 
--- the row may stand behind these: its place comes after theirs, and its parent is the root or a directory among them
+-- the row may follow these: its place comes after theirs, and its parent is the root or a directory among them
 pub record IsNext (limits : TreeLimits) (earlier : List Row) (row : Row) : Type 0 where
   pub path : IsPlaceText row.path
   pub below_root : 0 < length (place_of row.path)
@@ -118,7 +118,7 @@ pub record IsNext (limits : TreeLimits) (earlier : List Row) (row : Row) : Type 
   pub parent : IsTrue (has_dir earlier (parent (place_of row.path)))
   pub kind : IsKind limits earlier row.kind
 
--- each row may stand behind those before it: the first rows are given, and then the others
+-- each row may follow those before it, the first of which are given apart
 abbrev pub AreRows : TreeLimits → List Row → List Row → Type 0
 AreRows limits earlier [] = Unit {0}
 AreRows limits earlier (row ∷ rows) = IsNext limits earlier row × AreRows limits (earlier ++ row ∷ []) rows

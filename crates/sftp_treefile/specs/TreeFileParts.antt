@@ -18,11 +18,11 @@ use Rattle.sftp_treefile.specs.TreeFile.{tree_opening, owner_text, row_text, pla
 
 -- ---- reading a field
 
--- what is read can be written, and stands in front of the rest
+-- the bytes are the text of this value, which can be written, and the rest
 abbrev pub Reads : {A : Type 0} → (A → Type 0) → (A → List ℕ) → List ℕ → A → List ℕ → Type 0
 Reads Fits text bytes value rest = Fits value × (bytes ≡ text value ++ rest)
 
--- nothing that can be written stands in front
+-- the bytes start with the text of no value that can be written
 abbrev pub ReadsNone : {A : Type 0} → (A → Type 0) → (A → List ℕ) → List ℕ → Type 0
 ReadsNone {A} Fits text bytes = (value : A) (rest : List ℕ) → Fits value → bytes ≡ text value ++ rest → ⊥
 
@@ -85,7 +85,7 @@ front_text home uid gid = tree_opening ++ (string home ++ (uint32 uid ++ uint32 
 abbrev pub root_text : ℕ → Owner → List ℕ
 root_text count root = uint32 count ++ owner_text root
 
--- what stands before the entries
+-- the bytes before the entries
 abbrev pub head_text : TreeFile → List ℕ
 head_text file = front_text file.home file.uid file.gid ++ root_text (length file.rows) file.root
 
@@ -111,7 +111,7 @@ pub record HasLengths (row : Row) : Type 0 where
   pub path : length row.path < 2 ^ 32
   pub kind : KindHasLengths row.kind
 
--- the path may be that of an entry behind these
+-- the path may be that of an entry after these
 pub record Follows (earlier : List Row) (path : List ℕ) : Type 0 where
   pub text : IsPlaceText path
   pub below_root : 0 < length (place_of path)
@@ -122,7 +122,7 @@ pub record Follows (earlier : List Row) (path : List ℕ) : Type 0 where
 pub record IsLast (rows : List Row) (last : Place) (is_dir : Bool) : Type 0 where
   -- what comes after the last comes after each
   pub later : (place : Place) → 0 < length place → (place_cmp last place ≡ Less) ↔ AllByRecursion (λ (r : Row). place_cmp (place_of r.path) place ≡ Less) rows
-  -- what stands above the last is a directory
+  -- each place above the last is a directory
   pub above : (depth : ℕ) → depth < length last → IsTrue (has_dir rows (take depth last))
   -- whether the last is
   pub itself : has_dir rows last ≡ is_dir
@@ -130,9 +130,9 @@ pub record IsLast (rows : List Row) (last : Place) (is_dir : Bool) : Type 0 wher
 -- so many entries are read, and the rest of the bytes is not
 pub record AreRead (limits : TreeLimits) (bytes : List ℕ) (rows : List Row) (count : ℕ) (rest : List ℕ) : Type 0 where
   pub rows_fit : AreRows limits [] rows
-  pub counted : length rows ≡ count
+  pub count_is : length rows ≡ count
   pub bytes_are : bytes ≡ flat_map row_text rows ++ rest
 
--- no so many entries stand in front
+-- the bytes do not start with so many entries
 abbrev pub AreNone : TreeLimits → ℕ → List ℕ → Type 0
 AreNone limits count bytes = (rows : List Row) (rest : List ℕ) → AreRows limits [] rows → length rows ≡ count → bytes ≡ flat_map row_text rows ++ rest → ⊥

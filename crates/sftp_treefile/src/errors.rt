@@ -1,25 +1,25 @@
-//! Why bytes are no tree file.
+//! Why bytes are not a tree file.
 ghost use Rattle.std.specs.Prelude.{◌≡◌};
 
 use sftp_path::NoMemory;
 use std::alloc::{AllocError, AllocFailed};
 use thiserror::Error;
 
-/// What is wrong with bytes that are to be a tree file: the first fault from left to right, and the number
-/// of its entry. Entries count from 1, and what stands before the first entry has the number 0.
+/// The first fault, from left to right, of bytes that are not a tree file, and the number of its entry. Entries count
+/// from 1; a fault before the first entry has the number 0.
 #[derive(Clone, Copy, Debug, PartialEq, Eq, Error)]
 pub enum TreeError {
-    /// The opening is not there whole.
+    /// The bytes do not start with the whole opening.
     #[error("entry {entry}: Magic")]
     Magic { entry: u32 },
     /// The bytes end inside a field.
     #[error("entry {entry}: Short")]
     Short { entry: u32 },
-    /// Bytes stand after the last entry, whose number is one less.
+    /// Bytes follow the last entry, whose number is one less.
     #[error("entry {entry}: Trailing")]
     Trailing { entry: u32 },
-    /// A field is out of its range, a path is no absolute text of a place, a kind is unknown, or the number of a further name
-    /// leads to no first name before it.
+    /// A field is out of its range, a path is not the absolute text of a place, a kind is unknown, or the number of a
+    /// further name is not that of an earlier first name.
     #[error("entry {entry}: Value")]
     Value { entry: u32 },
     /// The path does not come after the one before it.

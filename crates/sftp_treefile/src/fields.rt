@@ -1,4 +1,5 @@
-//! The fields of tree files, read one by one.
+//! The fields of tree files, read one by one. Each function reads what the bytes start with, and returns it and the
+//! bytes after it.
 ghost use Rattle.std.specs.Prelude.{◌≡◌, [], ◌∷◌, IfOk, IfErr, IsTrue};
 ghost use Rattle.sftp_wire.specs.Spelling.{uint32, string};
 ghost use Rattle.sftp_treefile.specs.TreeFile.{place_of, owner_text, kind_text, are_bytes, is_first_row, entry_at, IsPlaceText, IsOwner, IsKind};
@@ -10,12 +11,12 @@ use crate::files::{Kind, Owner, Row};
 use crate::limits::TreeLimits;
 use sftp_path::{DEPTH_LIMIT, Place, canonical, good_path};
 use sftp_wire::{ByteString, take_number, take_string};
-use std::alloc::Global;
+use std::alloc::{AllocError, Global};
 
 /// All the bits of permissions.
 const PERMISSIONS: u32 = 0o7777;
 
-/// The number in front, and what follows it.
+/// Reads a number.
 pub(crate) fn number_at(entry: u32, bytes: &[u8]) -> Result<(u32, &[u8]), TreeError>
     ensures found { IfOk result (λ taken. Reads IsNumber uint32 bytes.now taken.0 taken.1.now) }
     ensures none { IfErr result (λ _. ReadsNone IsNumber uint32 bytes.now) }
@@ -24,7 +25,7 @@ pub(crate) fn number_at(entry: u32, bytes: &[u8]) -> Result<(u32, &[u8]), TreeEr
     take_number(bytes).ok_or(TreeError::Short { entry })
 }
 
-/// The permissions in front, and what follows them.
+/// Reads permissions.
 fn permissions_at(entry: u32, bytes: &[u8]) -> Result<(u32, &[u8]), TreeError>
     ensures found { IfOk result (λ taken. Reads IsPermissions uint32 bytes.now taken.0 taken.1.now) }
     ensures none { IfErr result (λ _. ReadsNone IsPermissions uint32 bytes.now) }
@@ -37,7 +38,7 @@ fn permissions_at(entry: u32, bytes: &[u8]) -> Result<(u32, &[u8]), TreeError>
     Ok((permissions, rest))
 }
 
-/// The owner in front, and what follows it.
+/// Reads an owner.
 pub(crate) fn owner_at(entry: u32, bytes: &[u8]) -> Result<(Owner, &[u8]), TreeError>
     ensures found { IfOk result (λ taken. Reads IsOwner owner_text bytes.now taken.0 taken.1.now) }
     ensures none { IfErr result (λ _. ReadsNone IsOwner owner_text bytes.now) }
@@ -54,7 +55,7 @@ pub(crate) fn owner_at(entry: u32, bytes: &[u8]) -> Result<(Owner, &[u8]), TreeE
     Ok((owner, rest))
 }
 
-/// The string in front that is the absolute text of a place, that place, and what follows the string.
+/// Reads a string that is the absolute text of a place. Returns that place too.
 pub(crate) fn place_at<'a>(
     alloc: Global,
     entry: u32,
@@ -68,24 +69,24 @@ pub(crate) fn place_at<'a>(
     let Some((text, rest)) = take_string(bytes) else {
         return Err(TreeError::Short { entry });
     };
-    let Some(names) = canonical(alloc, text)? else {
+    let Some(place) = canonical(alloc, text)? else {
         return Err(TreeError::Value { entry });
     };
-    let place = Place::from_names(names);
     if place.depth() > DEPTH_LIMIT {
         return Err(TreeError::Value { entry });
     }
     Ok((text, place, rest))
 }
 
-/// Does nothing. Its contract says what every list of bytes keeps.
-fn see_bytes(bytes: &[u8])
-    ensures { IsTrue (are_bytes bytes.now) }
+/// A copy of these bytes, each of which is less than 256.
+fn copy_of(alloc: Global, bytes: &[u8]) -> Result<ByteString, AllocError>
+    ensures copy { IfOk result (λ copy. copy ≡ bytes.now) }
+    ensures bytes { IsTrue (are_bytes bytes.now) }
 {
-    let _ = bytes.len();
+    ByteString::from_slice(alloc, bytes)
 }
 
-/// The target of a link in front, and what follows it.
+/// Reads the target of a link.
 fn target_at(alloc: Global, entry: u32, bytes: &[u8]) -> Result<(ByteString, &[u8]), TreeError>
     ensures found { IfOk result (λ taken. Reads IsTarget string bytes.now taken.0 taken.1.now) }
     ensures none { IfErr result (λ error. OutOfMemoryOr error (ReadsNone IsTarget string bytes.now)) }
@@ -97,11 +98,10 @@ fn target_at(alloc: Global, entry: u32, bytes: &[u8]) -> Result<(ByteString, &[u
     if target.is_empty() || !good_path(target) {
         return Err(TreeError::Value { entry });
     }
-    see_bytes(target);
-    Ok((ByteString::from_slice(alloc, target)?, rest))
+    Ok((copy_of(alloc, target)?, rest))
 }
 
-/// The bytes of a file in front, and what follows them. They are copied once.
+/// Reads the bytes of a file, and copies them once.
 fn file_bytes_at(
     alloc: Global,
     limits: TreeLimits,
@@ -118,11 +118,10 @@ fn file_bytes_at(
     if text.len() > limits.file_bytes as usize {
         return Err(TreeError::Value { entry });
     }
-    see_bytes(text);
-    Ok((ByteString::from_slice(alloc, text)?, rest))
+    Ok((copy_of(alloc, text)?, rest))
 }
 
-/// The owner and the bytes of a file in front, and what follows them.
+/// Reads the owner and the bytes of a file.
 fn file_at(
     alloc: Global,
     limits: TreeLimits,
@@ -158,7 +157,7 @@ fn is_first_at(rows: &[Row], number: u32) -> bool
     }
 }
 
-/// The number in front, which is that of the first name of a file among these rows, and what follows it.
+/// Reads the number of an entry that is the first name of a file among these rows.
 fn first_at<'a>(entry: u32, rows: &[Row], bytes: &'a [u8]) -> Result<(u32, &'a [u8]), TreeError>
     ensures found { IfOk result (λ taken. Reads (IsFirstAmong rows.now) uint32 bytes.now taken.0 taken.1.now) }
     ensures none { IfErr result (λ _. ReadsNone (IsFirstAmong rows.now) uint32 bytes.now) }
@@ -171,7 +170,7 @@ fn first_at<'a>(entry: u32, rows: &[Row], bytes: &'a [u8]) -> Result<(u32, &'a [
     Ok((number, rest))
 }
 
-/// The letter in front, and what follows it.
+/// Reads a letter.
 fn letter_at(entry: u32, bytes: &[u8]) -> Result<(u8, &[u8]), TreeError>
     ensures found { IfOk result (λ taken. bytes.now ≡ taken.0 ∷ taken.1.now) }
     ensures none { IfErr result (λ _. bytes.now ≡ []) }
@@ -181,7 +180,7 @@ fn letter_at(entry: u32, bytes: &[u8]) -> Result<(u8, &[u8]), TreeError>
     Ok((*letter, rest))
 }
 
-/// What the entry in front is, which stands behind these rows, and what follows that.
+/// Reads what an entry after these rows is.
 pub(crate) fn kind_at<'a>(
     alloc: Global,
     limits: TreeLimits,
@@ -190,7 +189,8 @@ pub(crate) fn kind_at<'a>(
     bytes: &'a [u8],
 ) -> Result<(Kind, &'a [u8]), TreeError>
     ensures found { IfOk result (λ taken. Reads (IsKind limits rows.now) kind_text bytes.now taken.0 taken.1.now) }
-    ensures none { IfErr result (λ error. OutOfMemoryOr error (ReadsNone (IsKind limits rows.now) kind_text bytes.now)) }
+    ensures none { IfErr result
+        (λ error. OutOfMemoryOr error (ReadsNone (IsKind limits rows.now) kind_text bytes.now)) }
     ensures number { IfErr result (IsAt entry) }
 {
     let (letter, rest) = letter_at(entry, bytes)?;

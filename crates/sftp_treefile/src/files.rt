@@ -21,7 +21,7 @@ pub struct Owner {
 pub enum Kind {
     /// A directory.
     Dir(Owner),
-    /// The first name of a file, with its bytes, of which the limits say how many there may be.
+    /// The first name of a file, with its bytes, at most as many as the limits allow.
     First(Owner, ByteString),
     /// A further name of a file, with the number of the entry that is its first name. Entries count from 1.
     Further(u32),
@@ -53,7 +53,7 @@ impl Model for Rows {
 }
 
 impl Rows {
-    /// These rows, in this order. It takes no memory.
+    /// These rows, in this order. This allocates nothing.
     pub fn new(rows: Vec<Row>) -> Rows
         ensures { result ≡ rows.items }
     {
@@ -67,7 +67,7 @@ impl Rows {
         self.rows.as_slice()
     }
 
-    /// The rows, given back without a copy.
+    /// The rows, without a copy.
     pub fn into_vec(self) -> Vec<Row>
         ensures { result.items ≡ self }
     {

@@ -1,4 +1,4 @@
-//! What tree files say before their entries.
+//! The heads of tree files: what they say before their entries.
 ghost use Rattle.std.specs.Prelude.{◌≡◌, ◌++◌, ℕ, List, IfOk, IfErr};
 ghost use Rattle.sftp_wire.specs.Spelling.{uint32, string};
 ghost use Rattle.sftp_treefile.specs.TreeFile.{tree_opening, IsPlaceText};
@@ -11,7 +11,7 @@ use crate::limits::{TreeLimits, usual_limits};
 use sftp_wire::ByteString;
 use std::alloc::Global;
 
-/// What a tree file says before its entries.
+/// The head of a tree file: what it says before its entries.
 #[derive(Debug, Drop)]
 pub struct Head {
     /// The limits of the tree: the usual ones, which is what the opening `SFTREE01` says.
@@ -28,7 +28,7 @@ pub struct Head {
     pub root: Owner,
 }
 
-/// What follows the opening.
+/// Reads the opening, and returns the bytes after it.
 fn after_opening(bytes: &[u8]) -> Result<&[u8], TreeError>
     ensures found { IfOk result (λ rest. bytes.now ≡ tree_opening ++ rest.now) }
     ensures none { IfErr result (λ _. (rest : List ℕ) → bytes.now ≡ tree_opening ++ rest → ⊥) }
@@ -39,7 +39,7 @@ fn after_opening(bytes: &[u8]) -> Result<&[u8], TreeError>
         .ok_or(TreeError::Magic { entry: 0 })
 }
 
-/// The home in front, and what follows it.
+/// Reads the home, and returns it and the bytes after it.
 fn home_at(alloc: Global, bytes: &[u8]) -> Result<(ByteString, &[u8]), TreeError>
     ensures found { IfOk result (λ taken. Reads IsPlaceText string bytes.now taken.0 taken.1.now) }
     ensures none { IfErr result (λ error. OutOfMemoryOr error (ReadsNone IsPlaceText string bytes.now)) }
@@ -49,7 +49,7 @@ fn home_at(alloc: Global, bytes: &[u8]) -> Result<(ByteString, &[u8]), TreeError
     Ok((ByteString::from_slice(alloc, text)?, rest))
 }
 
-/// The number of entries in front, and what follows it.
+/// Reads the number of entries, and returns it and the bytes after it.
 fn count_at(limits: TreeLimits, bytes: &[u8]) -> Result<(u32, &[u8]), TreeError>
     ensures found { IfOk result (λ taken. Reads (IsCount limits) uint32 bytes.now taken.0 taken.1.now) }
     ensures none { IfErr result (λ _. ReadsNone (IsCount limits) uint32 bytes.now) }
@@ -62,7 +62,7 @@ fn count_at(limits: TreeLimits, bytes: &[u8]) -> Result<(u32, &[u8]), TreeError>
     Ok((count, rest))
 }
 
-/// What stands before the entries, and what follows it.
+/// Reads the head, and returns it and the bytes after it.
 pub(crate) fn head_at(alloc: Global, bytes: &[u8]) -> Result<(Head, &[u8]), TreeError>
     ensures found { IfOk result (λ taken. Reads IsHead head_bytes bytes.now taken.0 taken.1.now) }
     ensures none { IfErr result (λ error. OutOfMemoryOr error (ReadsNone IsHead head_bytes bytes.now)) }

@@ -3,6 +3,7 @@
 
 mod entries;
 mod errors;
+pub mod examples;
 mod fields;
 mod files;
 mod heads;
@@ -10,7 +11,6 @@ mod laws;
 mod limits;
 mod measuring;
 mod reading;
-pub mod rows;
 mod writing;
 
 pub use errors::TreeError;

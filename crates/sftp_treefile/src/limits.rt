@@ -2,7 +2,7 @@
 ghost use Rattle.std.specs.Prelude.{◌≡◌};
 ghost use Rattle.sftp_treefile.specs.Limits as spec;
 
-/// What a tree sets bounds to. They are this profile's own.
+/// The bounds of a tree. They are this profile's own.
 #[derive(Clone, Copy, Debug, PartialEq, Eq)]
 pub struct TreeLimits {
     /// The most entries below the root.
@@ -15,7 +15,7 @@ pub struct TreeLimits {
     pub open_handles: u32,
 }
 
-/// The limits of every tree, until trees set limits of their own.
+/// The limits of every tree whose file has the opening `SFTREE01`.
 pub fn usual_limits() -> TreeLimits
     ensures { result ≡ spec.usual_limits }
 {

@@ -1,5 +1,5 @@
-//! How many bytes a tree file takes, found before memory is asked for. A number that does not fit is the largest
-//! that does.
+//! How many bytes a tree file takes, computed before memory is allocated. A count that does not fit a `usize` becomes
+//! the largest that does.
 use crate::files::{Kind, Row, TreeFile};
 use sftp_wire::ByteString;
 

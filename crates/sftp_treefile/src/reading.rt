@@ -9,13 +9,13 @@ use crate::files::TreeFile;
 use crate::heads::head_at;
 use std::alloc::Global;
 
-/// What a tree file says.
+/// Reads a tree file.
 ///
 /// # Errors
 ///
-/// `NoMemory` where memory runs out, and otherwise the first fault from left to right with the number of its
-/// entry: `Magic`, `Short`, `Value`, `Order`, `Parent` or `Trailing`. A field is read whole before its value
-/// is judged; of a path `Value` is judged first, then `Order`, then `Parent`, and then the kind is read.
+/// `NoMemory` if memory runs out; otherwise the first fault from left to right, with the number of its entry: `Magic`,
+/// `Short`, `Value`, `Order`, `Parent` or `Trailing`. A field is read whole before its value is checked; a path is
+/// checked for `Value` first, then for `Order`, then for `Parent`, and then the kind is read.
 pub fn read_rows(alloc: Global, bytes: &[u8]) -> Result<TreeFile, TreeError>
     ensures found { IfOk result (λ f. IsSpelled f bytes.now) }
     ensures only { (f : file) → IsSpelled f bytes.now → GivesFile result f }

@@ -1,6 +1,6 @@
-//! Tree files, written piece by piece, and whole. The pieces are written as they are given: that a path is the absolute text of a
-//! place, that entries come in the order of their places, that permissions have twelve bits and that a further name tells the number
-//! of a first one is the caller's.
+//! Tree files, written piece by piece, and whole. Each piece is written as it is given: the caller makes sure that a
+//! path is the absolute text of a place, that entries come in the order of their places, that permissions have twelve
+//! bits, and that a further name has the number of a first name.
 ghost use Rattle.std.specs.Prelude.{◌≡◌, ◌++◌, ◌<◌, ◌^◌, length, IfOk, OnOk};
 ghost use Rattle.sftp_wire.specs.Spelling.{uint32, string};
 ghost use Rattle.sftp_treefile.specs.declared.files.Kind.TheVariants.{Dir, First, Further, Link};
@@ -38,7 +38,7 @@ fn put_owner(out: &mut Vec<u8>, owner: &Owner) -> Result<(), NoMemory>
     Ok(())
 }
 
-/// The opening, the home, and who owns what is made with no owner given.
+/// Appends the opening, the home, and who owns what is made with no owner given.
 fn put_front(out: &mut Vec<u8>, home: &[u8], uid: u32, gid: u32) -> Result<(), NoMemory>
     requires { length home.now < 2 ^ 32 }
     ensures { OnOk result (out.new.items ≡ out.old.items ++ front_text home.now uid gid) }
@@ -50,7 +50,7 @@ fn put_front(out: &mut Vec<u8>, home: &[u8], uid: u32, gid: u32) -> Result<(), N
     Ok(())
 }
 
-/// How many entries there are, and who owns the root.
+/// Appends how many entries there are, and who owns the root.
 fn put_root(out: &mut Vec<u8>, count: u32, root: &Owner) -> Result<(), NoMemory>
     ensures { OnOk result (out.new.items ≡ out.old.items ++ root_text count root.now) }
 {
@@ -59,11 +59,11 @@ fn put_root(out: &mut Vec<u8>, count: u32, root: &Owner) -> Result<(), NoMemory>
     Ok(())
 }
 
-/// Appends what stands before the entries.
+/// Appends a head.
 ///
 /// # Errors
 ///
-/// `NoMemory` where memory runs out; what `out` holds is then of no use.
+/// `NoMemory` if memory runs out; `out` then holds a part of what was to be written.
 pub fn put_head(out: &mut Vec<u8>, head: &Head) -> Result<(), NoMemory>
     requires { length head.now.home < 2 ^ 32 }
     ensures { OnOk result (out.new.items ≡ out.old.items ++ head_bytes head.now) }
@@ -77,7 +77,7 @@ pub fn put_head(out: &mut Vec<u8>, head: &Head) -> Result<(), NoMemory>
 ///
 /// # Errors
 ///
-/// `NoMemory` where memory runs out; what `out` holds is then of no use.
+/// `NoMemory` if memory runs out; `out` then holds a part of what was to be written.
 pub fn put_directory(out: &mut Vec<u8>, path: &[u8], owner: &Owner) -> Result<(), NoMemory>
     requires { length path.now < 2 ^ 32 }
     ensures { OnOk result (out.new.items ≡ out.old.items ++ row_text (record { path = path.now; kind = Dir owner.now })) }
@@ -92,7 +92,7 @@ pub fn put_directory(out: &mut Vec<u8>, path: &[u8], owner: &Owner) -> Result<()
 ///
 /// # Errors
 ///
-/// `NoMemory` where memory runs out; what `out` holds is then of no use.
+/// `NoMemory` if memory runs out; `out` then holds a part of what was to be written.
 pub fn put_file(out: &mut Vec<u8>, path: &[u8], owner: &Owner, bytes: &[u8]) -> Result<(), NoMemory>
     requires path { length path.now < 2 ^ 32 }
     requires bytes { length bytes.now < 2 ^ 32 }
@@ -109,7 +109,7 @@ pub fn put_file(out: &mut Vec<u8>, path: &[u8], owner: &Owner, bytes: &[u8]) -> 
 ///
 /// # Errors
 ///
-/// `NoMemory` where memory runs out; what `out` holds is then of no use.
+/// `NoMemory` if memory runs out; `out` then holds a part of what was to be written.
 pub fn put_further_name(out: &mut Vec<u8>, path: &[u8], number: u32) -> Result<(), NoMemory>
     requires { length path.now < 2 ^ 32 }
     ensures { OnOk result (out.new.items ≡ out.old.items ++ row_text (record { path = path.now; kind = Further number })) }
@@ -124,7 +124,7 @@ pub fn put_further_name(out: &mut Vec<u8>, path: &[u8], number: u32) -> Result<(
 ///
 /// # Errors
 ///
-/// `NoMemory` where memory runs out; what `out` holds is then of no use.
+/// `NoMemory` if memory runs out; `out` then holds a part of what was to be written.
 pub fn put_link(out: &mut Vec<u8>, path: &[u8], target: &[u8]) -> Result<(), NoMemory>
     requires path { length path.now < 2 ^ 32 }
     requires target { length target.now < 2 ^ 32 }
@@ -150,7 +150,7 @@ fn put_row(out: &mut Vec<u8>, row: &Row) -> Result<(), NoMemory>
     Ok(())
 }
 
-/// What stands before the entries.
+/// Appends the head of a file.
 fn put_start(out: &mut Vec<u8>, file: &TreeFile) -> Result<(), NoMemory>
     requires { IsTreeFile file.now }
     ensures { OnOk result (out.new.items ≡ out.old.items ++ head_text file.now) }
@@ -160,11 +160,11 @@ fn put_start(out: &mut Vec<u8>, file: &TreeFile) -> Result<(), NoMemory>
     Ok(())
 }
 
-/// The bytes of the tree file that says this. Memory for them is asked for once.
+/// The bytes of this tree file. They are allocated at once.
 ///
 /// # Errors
 ///
-/// `NoMemory` where memory runs out.
+/// `NoMemory` if memory runs out.
 pub fn write_rows(alloc: Global, file: &TreeFile) -> Result<Vec<u8>, NoMemory>
     requires { IsTreeFile file.now }
     ensures { IfOk result (λ v. v.items ≡ spelled file.now) }

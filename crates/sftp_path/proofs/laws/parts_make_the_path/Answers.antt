@@ -1,4 +1,4 @@
-use Rattle.sftp_path.proofs.Splitting.{joined-parts, parts-joined}
+use Rattle.sftp_path.proofs.Splitting.{with_slashes-parts, parts-with_slashes}
 use Rattle.sftp_path.proofs.GoodPaths.{list_all-inner-parts}
 use Rattle.sftp_path.proofs.laws.parts_make_the_path.Goals as goal
 
@@ -6,7 +6,7 @@ pub returns-clause-inner : goal.returns-clause-inner
 returns-clause-inner c = list_all-inner-parts
 
 pub returns-clause-joined : goal.returns-clause-joined
-returns-clause-joined c = joined-parts
+returns-clause-joined c = with_slashes-parts
 
 pub returns-clause-only : goal.returns-clause-only
-returns-clause-only c = parts-joined
+returns-clause-only c = parts-with_slashes

@@ -9,14 +9,14 @@ use Rattle.sftp_path.proofs.texts.canonical.Goals as goal
 pub loop-rest-init : goal.loop-rest-init
 loop-rest-init c =
     let h = is_absolute-begins c.args.text.now (sym c.if-not-is_absolute.ensures) in
-    rw c.new-names.ensures.items record { names = refl; read = refl; cut = h.1; behind = h.0; some = omega (arith, h.2) }
+    rw c.root-place.ensures record { names = refl; read = refl; cut = h.1; behind = h.0; some = omega (arith, h.2) }
 
-pub returns-in_default-2-clause-none : goal.returns-in_default-2-clause-none
-returns-in_default-2-clause-none c place is =
-    not_absolute c.args.text.now c.loop-rest.names.items c.cut.result.0.now (parts_behind c.cut.result.1.now)
+pub returns-then-not-is_name-clause-none : goal.returns-then-not-is_name-clause-none
+returns-then-not-is_name-clause-none c place is =
+    not_absolute c.args.text.now c.loop-rest.place c.cut.result.0.now (parts_behind c.cut.result.1.now)
     (let slash : c.as_slice.result.now ≡ 47 ∷ [] = cc in
     λ e. false≢true (c.if-eq.ensures ∙ (λ i. pointwise eqb (e i) (slash i))))
     (let behind : parts_behind c.loop-rest.rest.now ≡ c.cut.result.0.now ∷ parts_behind c.cut.result.1.now =
     sym (parts_behind-first c.loop-rest.rest.now (omega arith)) ∙ c.cut.ensures.parts in
-    c.loop-rest.invariant.cut ∙ ap (λ ps. [] ∷ (c.loop-rest.names.items ++ ps)) behind)
-    (rw c.in_default-2.is at c.in_ok-name.ensures.none) place is.0 is.1
+    c.loop-rest.invariant.cut ∙ ap (λ ps. [] ∷ (c.loop-rest.place ++ ps)) behind)
+    (sym c.if-not-is_name.ensures) place is.0 is.1

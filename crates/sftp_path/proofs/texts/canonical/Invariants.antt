@@ -4,14 +4,14 @@ use Rattle.sftp_path.specs.Place.{are_names, parts}
 use Rattle.sftp_path.specs.Cut.{begins_at_slash, parts_behind}
 use Rattle.sftp_path.proofs.texts.canonical.Given as goal
 
--- the names so far are the parts so far
+-- the names of the place so far are the parts so far
 abbrev pub invariant-loop-rest : goal.invariant-loop-rest
 invariant-loop-rest l = record {
-  names : IsTrue (are_names l.names.items);
-  read : l.fn.text ≡ flat_map (λ name. 47 ∷ name) l.names.items ++ l.rest;
-  cut : parts l.fn.text ≡ [] ∷ (l.names.items ++ parts_behind l.rest);
+  names : IsTrue (are_names l.place);
+  read : l.fn.text ≡ flat_map (λ name. 47 ∷ name) l.place ++ l.rest;
+  cut : parts l.fn.text ≡ [] ∷ (l.place ++ parts_behind l.rest);
   behind : IsTrue (begins_at_slash l.rest);
-  some : 0 < length l.names.items + length l.rest;
+  some : 0 < length l.place + length l.rest;
 }
 
 abbrev pub decreases-loop-rest : goal.decreases-loop-rest

@@ -1,4 +1,4 @@
--- A path that stands in front and may not come next: no path that may stands there.
+-- The bytes start with a path that may not come next, and so with none that may.
 use Rattle.std.proofs.Common.{inr, ap, length, ◌∙◌, arith}
 use Rattle.std.proofs.lemmas.Bool.{false≢true}
 use Rattle.std.proofs.lemmas.Result.{err_from_is_err_and}

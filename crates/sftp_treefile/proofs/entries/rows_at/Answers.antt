@@ -1,4 +1,4 @@
--- One entry more, or none that may stand there.
+-- One entry more, or none that may come next.
 use Rattle.std.proofs.Common.{◌≡◌, ◌+◌, ◌-◌, arith}
 use Rattle.std.proofs.lemmas.Result.{err_from_is_err_and}
 use Rattle.sftp_treefile.proofs.EntryTexts.{or_fault, read_none, read_more, row_none}
@@ -25,7 +25,8 @@ returns-in_err-row-clause-number c =
 pub returns-in_err-put_row-clause-number : goal.returns-in_err-put_row-clause-number
 returns-in_err-put_row-clause-number c =
     let p = err_from_is_err_and c.from_residual-in_err-put_row.result c.from_residual-in_err-put_row.ensures.1 in
-    rw (p.1, p.2, c.in_err-put_row.ensures.none) (c.loop-entry.entry, c.loop-entry.invariant.within.0, c.loop-entry-test.true, tt)
+    rw (p.1, p.2, c.in_err-put_row.ensures.none)
+    (c.loop-entry.entry, c.loop-entry.invariant.within.0, c.loop-entry-test.true, tt)
 
 pub loop-entry-preserved : goal.loop-entry-preserved
 loop-entry-preserved c = record {
@@ -38,9 +39,11 @@ pub returns-clause-found : goal.returns-clause-found
 returns-clause-found c =
     elim c.loop-entry-test.branch [
       | else-loop-entry-test w ↦
-          let all : c.loop-entry.entry - 1 ≡ c.args.count = omega (arith, w.loop-entry-test.false, c.loop-entry.invariant.within) in
+          let all : c.loop-entry.entry - 1 ≡ c.args.count =
+          omega (arith, w.loop-entry-test.false, c.loop-entry.invariant.within) in
           rw (c.new.ensures, w.entries-is, w.rest-is, ← all) c.loop-entry.invariant.read
       | then-loop-entry-test+in_ok-row+in_ok-put_row+else-entry-count w ↦
           let all : c.args.count ≡ c.loop-entry.entry - 1 + 1 = omega (arith, c.loop-entry.invariant.within) in
-          rw (c.new.ensures, w.entries-is, w.rest-is) (read_more c.args.limits c.args.bytes.now c.loop-entry.entries.rows.items w.put_row.new.entries.rows.items (c.loop-entry.entry - 1) c.args.count c.loop-entry.rest.now w.in_ok-row.after.now w.in_ok-row.row c.loop-entry.invariant.read w.in_ok-row.ensures.found w.in_ok-put_row.ensures.rows all)
+          rw (c.new.ensures, w.entries-is, w.rest-is)
+          (read_more c.args.limits c.args.bytes.now c.loop-entry.entries.rows.items w.put_row.new.entries.rows.items (c.loop-entry.entry - 1) c.args.count c.loop-entry.rest.now w.in_ok-row.after.now w.in_ok-row.row c.loop-entry.invariant.read w.in_ok-row.ensures.found w.in_ok-put_row.ensures.rows all)
     ]

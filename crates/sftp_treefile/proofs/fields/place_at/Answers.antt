@@ -1,31 +1,32 @@
 -- A string that is no text of a place within the limit leaves nothing to read.
-use Rattle.std.proofs.Common.{inr, ap, length, arith}
+use Rattle.std.proofs.Common.{inr, arith}
 use Rattle.std.proofs.lemmas.Option.{MatchOption-at_none, MatchOption-at_some}
 use Rattle.sftp_treefile.specs.TreeFile.{IsPlaceText}
 use Rattle.sftp_treefile.proofs.FieldTexts.{path_length, string_none_short, string_none, place_is, place_text, too_deep}
 use Rattle.sftp_treefile.proofs.fields.place_at.Goals as goal
 
 pub returns-in_default-clause-none : goal.returns-in_default-clause-none
-returns-in_default-clause-none c = inr (string_none_short IsPlaceText path_length c.args.bytes.now c.in_default.ensures.none)
+returns-in_default-clause-none c =
+    inr (string_none_short IsPlaceText path_length c.args.bytes.now c.in_default.ensures.none)
 
 pub returns-in_default-2-clause-none : goal.returns-in_default-2-clause-none
 returns-in_default-2-clause-none c =
-    let none = MatchOption-at_none _ _ c.in_default-2.is c.in_ok-names.ensures.none in
+    let none = MatchOption-at_none _ _ c.in_default-2.is c.in_ok-place.ensures.none in
     inr (string_none IsPlaceText path_length c.args.bytes.now c.in-Some.text.now c.in-Some.rest.now c.in-Some.ensures.length_fits c.in-Some.ensures.found (λ fits. none _ (fits.names, fits.one)))
 
 pub returns-then-depth-gt-DEPTH_LIMIT-clause-none :
     goal.returns-then-depth-gt-DEPTH_LIMIT-clause-none
 returns-then-depth-gt-DEPTH_LIMIT-clause-none c =
-    let found = MatchOption-at_some _ _ c.in-Some-2.names c.in-Some-2.is c.in_ok-names.ensures.found in
+    let found = MatchOption-at_some _ _ c.in-Some-2.place c.in-Some-2.is c.in_ok-place.ensures.found in
     inr (string_none IsPlaceText path_length c.args.bytes.now c.in-Some.text.now c.in-Some.rest.now c.in-Some.ensures.length_fits c.in-Some.ensures.found
-    (too_deep c.in-Some.text.now c.in-Some-2.names.items found (omega (arith, c.if-depth-gt-DEPTH_LIMIT.true, c.depth.ensures, ap length c.from_names-place.ensures))))
+    (too_deep c.in-Some.text.now c.in-Some-2.place found (omega (arith, c.if-depth-gt-DEPTH_LIMIT.true, c.depth.ensures))))
 
 pub returns-clause-found : goal.returns-clause-found
 returns-clause-found c =
-    let found = MatchOption-at_some _ _ c.in-Some-2.names c.in-Some-2.is c.in_ok-names.ensures.found in
-    (place_text c.in-Some.text.now c.in-Some-2.names.items found (omega (arith, c.if-depth-gt-DEPTH_LIMIT.false, c.depth.ensures, ap length c.from_names-place.ensures)), c.in-Some.ensures.found)
+    let found = MatchOption-at_some _ _ c.in-Some-2.place c.in-Some-2.is c.in_ok-place.ensures.found in
+    (place_text c.in-Some.text.now c.in-Some-2.place found (omega (arith, c.if-depth-gt-DEPTH_LIMIT.false, c.depth.ensures)), c.in-Some.ensures.found)
 
 pub returns-clause-place : goal.returns-clause-place
 returns-clause-place c =
-    let found = MatchOption-at_some _ _ c.in-Some-2.names c.in-Some-2.is c.in_ok-names.ensures.found in
-    rw c.from_names-place.ensures (place_is c.in-Some.text.now c.in-Some-2.names.items found)
+    let found = MatchOption-at_some _ _ c.in-Some-2.place c.in-Some-2.is c.in_ok-place.ensures.found in
+    place_is c.in-Some.text.now c.in-Some-2.place found

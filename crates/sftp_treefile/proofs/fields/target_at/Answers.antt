@@ -6,7 +6,8 @@ use Rattle.sftp_treefile.proofs.fields.target_at.Goals as goal
 use Rattle.sftp_treefile.proofs.fields.target_at.Goals.{then-is_empty-via-then-is_empty, then-is_empty-via-else-is_empty+then-not-good_path}
 
 pub returns-in_default-clause-none : goal.returns-in_default-clause-none
-returns-in_default-clause-none c = inr (string_none_short IsTarget target_length c.args.bytes.now c.in_default.ensures.none)
+returns-in_default-clause-none c =
+    inr (string_none_short IsTarget target_length c.args.bytes.now c.in_default.ensures.none)
 
 pub returns-then-is_empty-clause-none : goal.returns-then-is_empty-clause-none
 returns-then-is_empty-clause-none c =

@@ -24,7 +24,8 @@ returns-then-not-is_empty-clause-only c = λ file is.
 pub returns-clause-found : goal.returns-clause-found
 returns-clause-found c =
     let ended = eqb-true (length c.in_ok-rows.rest.now) 0 (sym c.is_empty.ensures ∙ c.if-not-is_empty.false) in
-    file_read c.args.bytes.now c.in_ok-head.rest.now c.in_ok-rows.rest.now c.in_ok-head.head c.in_ok-rows.rows c.in_ok-head.ensures.found c.in_ok-rows.ensures.found ended
+    file_read c.args.bytes.now c.in_ok-head.rest.now c.in_ok-rows.rest.now c.in_ok-head.head c.in_ok-rows.rows
+    c.in_ok-head.ensures.found c.in_ok-rows.ensures.found ended
 
 pub returns-clause-only : goal.returns-clause-only
 returns-clause-only c = λ file is. one_file _ file c.args.bytes.now (returns-clause-found c) is

@@ -1,4 +1,4 @@
--- The fields, one behind the other.
+-- The fields, one after the other.
 use Rattle.sftp_wire.specs.Spelling.{uint32, string}
 use Rattle.sftp_treefile.specs.TreeFile.{tree_opening}
 use Rattle.sftp_treefile.proofs.Written.{four_pieces}
@@ -6,5 +6,8 @@ use Rattle.sftp_treefile.proofs.writing.put_front.Goals as goal
 
 pub returns : goal.returns
 returns c =
-    four_pieces tree_opening (string c.args.home.now) (uint32 c.args.uid) (uint32 c.args.gid) c.args.out.now.items c.extend_from_slice.new.self.items c.put_string.new.out.items c.put_number.new.out.items c.put_number-2.new.out.items
-    c.in_ok-extend_from_slice.ensures.items c.in_ok-put_string.ensures c.in_ok-put_number.ensures c.in_ok-put_number-2.ensures
+    four_pieces tree_opening (string c.args.home.now) (uint32 c.args.uid) (uint32 c.args.gid) c.args.out.now.items
+    c.extend_from_slice.new.self.items c.put_string.new.out.items c.put_number.new.out.items
+    c.put_number-2.new.out.items
+    c.in_ok-extend_from_slice.ensures.items c.in_ok-put_string.ensures c.in_ok-put_number.ensures
+    c.in_ok-put_number-2.ensures

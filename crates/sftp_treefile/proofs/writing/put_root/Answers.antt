@@ -1,4 +1,4 @@
--- The fields, one behind the other.
+-- The fields, one after the other.
 use Rattle.sftp_wire.specs.Spelling.{uint32}
 use Rattle.sftp_treefile.specs.TreeFile.{owner_text}
 use Rattle.sftp_treefile.proofs.Written.{two_pieces}
@@ -6,5 +6,6 @@ use Rattle.sftp_treefile.proofs.writing.put_root.Goals as goal
 
 pub returns : goal.returns
 returns c =
-    two_pieces (uint32 c.args.count) (owner_text c.args.root.now) c.args.out.now.items c.put_number.new.out.items c.put_owner.new.out.items
+    two_pieces (uint32 c.args.count) (owner_text c.args.root.now) c.args.out.now.items c.put_number.new.out.items
+    c.put_owner.new.out.items
     c.in_ok-put_number.ensures c.in_ok-put_owner.ensures

@@ -6,8 +6,10 @@ use Rattle.sftp_path.proofs.parts.PartsIterator.next.Goals as goal
 
 pub returns-in_err-start-clause-steps : goal.returns-in_err-start-clause-steps
 returns-in_err-start-clause-steps c =
-    let left : c.args.self.now.left ≡ components c.self.inside.rest.now = ap (λ (s : Split). s.left) (sym c.self.view_is) in
-    let none : c.args.self.now.left ≡ [] = left ∙ components-end c.self.inside.rest.now (sym c.first_inner.ensures ∙ c.in_err-start.was) in
+    let left : c.args.self.now.left ≡ components c.self.inside.rest.now =
+    ap (λ (s : Split). s.left) (sym c.self.view_is) in
+    let none : c.args.self.now.left ≡ [] =
+    left ∙ components-end c.self.inside.rest.now (sym c.first_inner.ensures ∙ c.in_err-start.was) in
     rw c.from_residual.ensures (none, none)
 
 pub returns-clause-steps : goal.returns-clause-steps

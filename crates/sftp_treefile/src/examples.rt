@@ -1,8 +1,8 @@
-//! Worked rows of the definitions, computed by the checker. The functions do nothing; each promise is in the
+//! Worked examples of the definitions, computed by the checker. The functions do nothing; each promise is in the
 //! contract.
 ghost use Rattle.std.specs.Prelude.{◌≡◌, ℕ, List, length};
 ghost use Rattle.sftp_treefile.specs.TreeFile.{IsTreeFile, IsSpelled, spelled};
-ghost use Rattle.sftp_treefile.specs.Rows.{blank, blank_bytes, linked, linked_bytes, two_names, two_names_bytes};
+ghost use Rattle.sftp_treefile.specs.Examples.{blank, blank_bytes, linked, linked_bytes, two_names, two_names_bytes};
 
 /// The blank tree: its home is the root, which has uid and gid 0 and permissions 0o755 and no entries, and uid
 /// and gid 0 own what is made with no owner given. Its file has 37 bytes.

@@ -1,4 +1,4 @@
--- What the worked rows speak of.
+-- The tree files of the worked examples.
 use Rattle.std.specs.Prelude.{ℕ, List, [], ◌∷◌, codes}
 use Rattle.sftp_wire.specs.Rows.{hex}
 use Rattle.sftp_treefile.specs.declared.files.Kind.TheVariants.{Dir, First, Further, Link}

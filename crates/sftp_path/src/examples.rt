@@ -1,4 +1,4 @@
-//! Worked rows of the definitions, computed by the checker. The functions do nothing; each promise is in the
+//! Worked examples of the definitions, computed by the checker. The functions do nothing; each promise is in the
 //! contract.
 ghost use Rattle.std.specs.Prelude.{◌≡◌, ℕ, List, [], ◌∷◌, true, false, codes, Some, None};
 ghost use Rattle.std.specs.Ordering.{nat_cmp};
@@ -32,7 +32,7 @@ pub fn good_and_bad_paths()
     ensures zero { is_good_path (97 ∷ 0 ∷ []) ≡ false }
 {}
 
-/// Names, and what is none.
+/// What is a name, and what is not.
 pub fn names()
     ensures letter { is_name (codes "a") ≡ true }
     ensures three_dots { is_name (codes "...") ≡ true }
@@ -51,8 +51,8 @@ pub fn texts()
     ensures below { absolute (codes "a" ∷ codes "b" ∷ []) ≡ codes "/a/b" }
 {}
 
-/// Names are ordered by bytes without sign; a place comes before those that it begins, and what stands below
-/// `a` before `ab`.
+/// Names are ordered by bytes without sign; a place comes before those that it begins, and what is below `a` before
+/// `ab`.
 pub fn orders()
     ensures high { name_cmp (127 ∷ []) (128 ∷ []) ≡ Less }
     ensures longer { name_cmp (codes "a") (codes "aa") ≡ Less }
@@ -75,7 +75,8 @@ pub fn parents_and_places_below()
 /// Tables of numbers: entries come in any order, and of two with one key the first counts.
 #[tactic(auto, unfolding(crate::specs::Table::from_entries, crate::specs::Table::put, crate::specs::Table::without, crate::specs::Table::get))]
 pub fn tables()
-    ensures made { from_entries nat_cmp ((3, codes "c") ∷ (1, codes "a") ∷ (3, codes "d") ∷ []) ≡ (1, codes "a") ∷ (3, codes "c") ∷ [] }
+    ensures made { from_entries nat_cmp ((3, codes "c") ∷ (1, codes "a") ∷ (3, codes "d") ∷ [])
+        ≡ (1, codes "a") ∷ (3, codes "c") ∷ [] }
     ensures put { put nat_cmp ((1, codes "a") ∷ []) 1 (codes "b") ≡ (1, codes "b") ∷ [] }
     ensures without { without nat_cmp ((1, codes "a") ∷ (2, codes "b") ∷ []) 1 ≡ (2, codes "b") ∷ [] }
     ensures there { get nat_cmp ((1, codes "a") ∷ (2, codes "b") ∷ []) 2 ≡ Some (codes "b") }
@@ -85,24 +86,27 @@ pub fn tables()
 /// Renaming turns the names in front alone: `/dd` is no place below `/d`.
 pub fn renamed_places()
     ensures itself { renamed (codes "d" ∷ []) (codes "x" ∷ []) (codes "d" ∷ []) ≡ codes "x" ∷ [] }
-    ensures below { renamed (codes "d" ∷ []) (codes "x" ∷ []) (codes "d" ∷ codes "e" ∷ []) ≡ codes "x" ∷ codes "e" ∷ [] }
+    ensures below { renamed (codes "d" ∷ []) (codes "x" ∷ []) (codes "d" ∷ codes "e" ∷ [])
+        ≡ codes "x" ∷ codes "e" ∷ [] }
     ensures beside { renamed (codes "d" ∷ []) (codes "x" ∷ []) (codes "dd" ∷ []) ≡ codes "dd" ∷ [] }
-    ensures deeper { renamed (codes "d" ∷ []) (codes "x" ∷ codes "y" ∷ []) (codes "d" ∷ codes "e" ∷ []) ≡ codes "x" ∷ codes "y" ∷ codes "e" ∷ [] }
+    ensures deeper { renamed (codes "d" ∷ []) (codes "x" ∷ codes "y" ∷ []) (codes "d" ∷ codes "e" ∷ [])
+        ≡ codes "x" ∷ codes "y" ∷ codes "e" ∷ [] }
 {}
 
-/// `/d` moves to `/x` with what stands below it, and the entries come in their new order; `/dd` and `/f` stay.
+/// `/d` moves to `/x` with what is below it, and the entries come in their new order; `/dd` and `/f` stay.
 #[tactic(auto, unfolding(crate::specs::Rekeying::rekeyed, crate::specs::Table::from_entries, crate::specs::Table::put))]
 pub fn rekeyed_tables()
     ensures moved { rekeyed {X = ℕ} (codes "d" ∷ []) (codes "x" ∷ []) ((codes "d" ∷ [], 1) ∷ (codes "d" ∷ codes "e" ∷ [], 2) ∷ (codes "f" ∷ [], 3) ∷ []) ≡ (codes "f" ∷ [], 3) ∷ (codes "x" ∷ [], 1) ∷ (codes "x" ∷ codes "e" ∷ [], 2) ∷ [] }
     ensures beside { rekeyed {X = ℕ} (codes "d" ∷ []) (codes "x" ∷ []) ((codes "d" ∷ [], 1) ∷ (codes "dd" ∷ [], 2) ∷ []) ≡ (codes "dd" ∷ [], 2) ∷ (codes "x" ∷ [], 1) ∷ [] }
 {}
 
-/// What the premises of the laws keep out. Where something stands at the new place, the entry that moves may be
-/// lost. What moves below itself stands below its old place. What moves up to a place above may come to its old
-/// place again.
+/// What the premises of the laws exclude. If there is an entry at the new place, the entry that moves may be lost. What
+/// moves below itself is still below its old place. What moves up to a place above may come to its old place again.
 #[tactic(auto, unfolding(crate::specs::Rekeying::rekeyed, crate::specs::Table::from_entries, crate::specs::Table::put))]
 pub fn rekeyed_without_premises()
-    ensures taken { rekeyed {X = ℕ} (codes "f" ∷ []) (codes "d" ∷ []) ((codes "d" ∷ [], 1) ∷ (codes "f" ∷ [], 3) ∷ []) ≡ (codes "d" ∷ [], 1) ∷ [] }
-    ensures below_itself { rekeyed {X = ℕ} (codes "d" ∷ []) (codes "d" ∷ codes "e" ∷ []) ((codes "d" ∷ [], 1) ∷ []) ≡ (codes "d" ∷ codes "e" ∷ [], 1) ∷ [] }
+    ensures taken { rekeyed {X = ℕ} (codes "f" ∷ []) (codes "d" ∷ []) ((codes "d" ∷ [], 1) ∷ (codes "f" ∷ [], 3) ∷ [])
+        ≡ (codes "d" ∷ [], 1) ∷ [] }
+    ensures below_itself { rekeyed {X = ℕ} (codes "d" ∷ []) (codes "d" ∷ codes "e" ∷ []) ((codes "d" ∷ [], 1) ∷ [])
+        ≡ (codes "d" ∷ codes "e" ∷ [], 1) ∷ [] }
     ensures up { rekeyed {X = ℕ} (codes "d" ∷ codes "e" ∷ []) (codes "d" ∷ []) ((codes "d" ∷ codes "e" ∷ codes "e" ∷ [], 1) ∷ []) ≡ (codes "d" ∷ codes "e" ∷ [], 1) ∷ [] }
 {}

@@ -2,7 +2,7 @@ use Rattle.std.proofs.Common.{refl, arith}
 use Rattle.sftp_wire.specs.Rows.{hex}
 use Rattle.sftp_path.specs.Place.{components, parts}
 use Rattle.sftp_treefile.specs.TreeFile.{spelled, has_dir}
-use Rattle.sftp_treefile.proofs.rows.file_of_two_names.Goals as goal
+use Rattle.sftp_treefile.proofs.examples.file_of_two_names.Goals as goal
 
 pub returns-clause-length : goal.returns-clause-length
 unfolding hex
