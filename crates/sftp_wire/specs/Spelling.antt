@@ -273,9 +273,9 @@ hides_extension (Version version extensions) = false
 hides_extension (Request request) = asks_known request.ask
 hides_extension (Reply reply) = false
 
--- A packet has a spelling where each field is in range, the whole and a handle are within their limits, and an extension
--- that has a request of its own is written as that. (A whole packet never has fewer than five bytes: its length and its
--- type.)
+-- A packet has a spelling where each field is in range, the whole and a handle are within their limits, and an
+-- extension that has a request of its own is written as that. (A whole packet never has fewer than five bytes: its
+-- length and its type.)
 pub record HasSpelling (packet : Packet) : Type 0 where
   pub fields : FitsFields packet
   pub whole : length (spelling packet) ≤ packet_limit

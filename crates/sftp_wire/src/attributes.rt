@@ -4,7 +4,7 @@ ghost use Rattle.std.specs.Prelude.{⊤, [], ◌∷◌, codes};
 use crate::strings::Pairs;
 use bitflags::{Flag, Flags, bitflag_items};
 
-/// What is said of a file. A field that is `None` is not said.
+/// The attributes of a file. A field that is `None` is absent.
 #[derive(Debug, Drop)]
 pub struct Attrs {
     /// The size in bytes.
@@ -19,7 +19,7 @@ pub struct Attrs {
     pub extended: Option<Pairs>,
 }
 
-/// Which fields of `Attrs` stand on the wire.
+/// Which fields of `Attrs` are present on the wire.
 #[derive(Clone, Copy, Debug, PartialEq, Eq)]
 pub struct AttrFlags(u32);
 
@@ -38,7 +38,8 @@ impl Flags for AttrFlags {
 
     ghost exact = { ⊤ };
 
-    ghost table = { (codes "SIZE", 0x0000_0001) ∷ (codes "OWNER", 0x0000_0002) ∷ (codes "PERMISSIONS", 0x0000_0004) ∷ (codes "TIMES", 0x0000_0008) ∷ (codes "EXTENDED", 0x8000_0000) ∷ [] };
+    ghost table = { (codes "SIZE", 0x0000_0001) ∷ (codes "OWNER", 0x0000_0002)
+        ∷ (codes "PERMISSIONS", 0x0000_0004) ∷ (codes "TIMES", 0x0000_0008) ∷ (codes "EXTENDED", 0x8000_0000) ∷ [] };
 
     ghost set_of = { λ flags. flags.0 };
 

@@ -1,4 +1,4 @@
-//! Why a packet could not be written or read.
+//! Errors of reading and writing packets.
 ghost use Rattle.std.specs.Prelude.{◌≡◌};
 ghost use Rattle.sftp_wire.specs.declared.errors.Fault.TheVariants.{Short};
 ghost use Rattle.sftp_wire.specs.declared.errors.ReadError.TheVariants as reads;
@@ -8,7 +8,7 @@ use bytes::TryGetError;
 use std::alloc::{AllocError, AllocFailed};
 use thiserror::Error;
 
-/// What is wrong with bytes that are to be a packet: the first fault from left to right.
+/// Why bytes are not a packet: the first fault from left to right.
 #[derive(Clone, Copy, Debug, PartialEq, Eq, Error)]
 pub enum Fault {
     /// The length field is 0, or more than a packet may have.
@@ -17,33 +17,33 @@ pub enum Fault {
     /// The type is not one of the packets of that side.
     #[error("Type")]
     WrongType,
-    /// A field passes the packet's end.
+    /// A field goes beyond the packet's end.
     #[error("Short")]
     Short,
-    /// Bytes stand after the last field.
+    /// There are bytes after the last field.
     #[error("Trailing")]
     Trailing,
-    /// Attribute flags with a bit that the protocol does not know.
+    /// An unknown attribute flag is set.
     #[error("Flags")]
     Flags,
-    /// A handle of more bytes than one may have. It is found as soon as its length is there.
+    /// A handle is too long. Its length is checked before its bytes.
     #[error("HandleTooLong")]
     HandleTooLong,
 }
 
-/// Why a packet was not written or read.
+/// Why a packet could not be written or read.
 #[derive(Clone, Copy, Debug, PartialEq, Eq, Error)]
 pub enum WireError {
     /// The packet would have more than `PACKET_LIMIT` bytes, or its handle more than `HANDLE_LIMIT`.
     #[error("TooLong")]
     TooLong,
-    /// The packet is an `Unknown` with the name of an extension that is a request of its own.
+    /// The packet is an `Unknown` with the name of an extension that has a request of its own.
     #[error("NotCanonical")]
     NotCanonical,
     /// Memory ran out.
     #[error("NoMemory")]
     NoMemory,
-    /// The bytes are no packet. The place is that of the packet's first byte.
+    /// The bytes are not a packet. The place is that of the packet's first byte.
     #[error("{fault} at {place}")]
     Unreadable { fault: Fault, place: u64 },
 }

@@ -1,6 +1,8 @@
-//! The fields of packets, read from the front of a packet's body (draft, sections 3 to 5). Each reader
-//! moves the body past what it read. Where it fails, the body may stand anywhere.
-ghost use Rattle.sftp_wire.specs.Reading.{Reads, optional_at, uint32_at, uint64_at, two_uint32_at, bytes_at, string_at, handle_at, rest_at, name_item_at, names_at, pair_at, pairs_at, many_at, counted_pairs_at, attribute_fields_at, attributes_at};
+//! Readers of the fields of packets (draft, sections 3 to 5). Each reader moves `body` past what it read. After an
+//! error `body` may begin anywhere.
+ghost use Rattle.sftp_wire.specs.Reading.{Reads, optional_at, uint32_at, uint64_at, two_uint32_at, bytes_at, string_at};
+ghost use Rattle.sftp_wire.specs.Reading.{handle_at, rest_at, name_item_at, names_at, pair_at, pairs_at, many_at};
+ghost use Rattle.sftp_wire.specs.Reading.{counted_pairs_at, attribute_fields_at, attributes_at};
 
 use crate::attributes::{AttrFlags, Attrs};
 use crate::errors::{Fault, ReadError};
@@ -70,7 +72,7 @@ pub(crate) fn handle(alloc: Global, body: &mut &[u8]) -> Result<ByteString, Read
     bytes(alloc, length, body)
 }
 
-/// All that is left.
+/// All bytes that are left.
 pub(crate) fn rest(alloc: Global, body: &mut &[u8]) -> Result<ByteString, ReadError>
     ensures { Reads result body.new.now (rest_at body.old.now) }
 {
@@ -101,7 +103,7 @@ pub(crate) fn pairs_to_end(alloc: Global, body: &mut &[u8]) -> Result<Pairs, Rea
     Ok(Pairs::new(pairs))
 }
 
-/// So many pairs.
+/// `count` pairs.
 fn pairs(alloc: Global, count: u32, body: &mut &[u8]) -> Result<Pairs, ReadError>
     ensures { Reads result body.new.now (many_at pair_at count body.old.now) }
 {
@@ -113,7 +115,7 @@ fn pairs(alloc: Global, count: u32, body: &mut &[u8]) -> Result<Pairs, ReadError
     Ok(Pairs::new(pairs))
 }
 
-/// The number of pairs, and then the pairs.
+/// Pairs behind their count.
 #[tactic(auto, unfolding(crate::specs::Reading::counted_pairs_at))]
 fn counted_pairs(alloc: Global, body: &mut &[u8]) -> Result<Pairs, ReadError>
     ensures { Reads result body.new.now (counted_pairs_at body.old.now) }
@@ -122,7 +124,7 @@ fn counted_pairs(alloc: Global, body: &mut &[u8]) -> Result<Pairs, ReadError>
     pairs(alloc, count, body)
 }
 
-/// A uint32, where one is said to stand there.
+/// An optional uint32.
 fn optional_number(there: bool, body: &mut &[u8]) -> Result<Option<u32>, ReadError>
     ensures { Reads result body.new.now (optional_at there uint32_at body.old.now) }
 {
@@ -132,7 +134,7 @@ fn optional_number(there: bool, body: &mut &[u8]) -> Result<Option<u32>, ReadErr
     Ok(Some(number(body)?))
 }
 
-/// A uint64, where one is said to stand there.
+/// An optional uint64.
 fn optional_long_number(there: bool, body: &mut &[u8]) -> Result<Option<u64>, ReadError>
     ensures { Reads result body.new.now (optional_at there uint64_at body.old.now) }
 {
@@ -142,7 +144,7 @@ fn optional_long_number(there: bool, body: &mut &[u8]) -> Result<Option<u64>, Re
     Ok(Some(long_number(body)?))
 }
 
-/// Two uint32, where they are said to stand there.
+/// Two optional uint32.
 fn optional_two_numbers(there: bool, body: &mut &[u8]) -> Result<Option<(u32, u32)>, ReadError>
     ensures { Reads result body.new.now (optional_at there two_uint32_at body.old.now) }
 {
@@ -152,7 +154,7 @@ fn optional_two_numbers(there: bool, body: &mut &[u8]) -> Result<Option<(u32, u3
     Ok(Some(two_numbers(body)?))
 }
 
-/// Pairs behind their number, where they are said to stand there.
+/// Optional pairs behind their count.
 fn optional_counted_pairs(
     alloc: Global,
     there: bool,
@@ -185,7 +187,7 @@ fn attribute_fields(alloc: Global, flags: AttrFlags, body: &mut &[u8]) -> Result
     })
 }
 
-/// Attributes: the flags, which have to be known ones, and then the fields that they name.
+/// Attributes: the flags, which must all be known, and the fields that they name.
 #[tactic(auto, unfolding(crate::specs::Reading::attributes_at, bitflags::proofs::OnLiterals::bitflags_on_literals))]
 pub(crate) fn attributes(alloc: Global, body: &mut &[u8]) -> Result<Attrs, ReadError>
     ensures { Reads result body.new.now (attributes_at body.old.now) }
@@ -212,7 +214,7 @@ fn name_item(alloc: Global, body: &mut &[u8]) -> Result<NameItem, ReadError>
     })
 }
 
-/// So many names.
+/// `count` names.
 fn name_items(alloc: Global, count: u32, body: &mut &[u8]) -> Result<Names, ReadError>
     ensures { Reads result body.new.now (many_at name_item_at count body.old.now) }
 {
@@ -224,7 +226,7 @@ fn name_items(alloc: Global, count: u32, body: &mut &[u8]) -> Result<Names, Read
     Ok(Names::new(items))
 }
 
-/// The number of names, and then the names.
+/// Names behind their count.
 #[tactic(auto, unfolding(crate::specs::Reading::names_at))]
 pub(crate) fn names(alloc: Global, body: &mut &[u8]) -> Result<Names, ReadError>
     ensures { Reads result body.new.now (names_at body.old.now) }

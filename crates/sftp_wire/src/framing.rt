@@ -1,12 +1,14 @@
-//! A stream of packets that comes in pieces (draft, section 3): each packet is taken out as soon as it is
-//! there whole.
-ghost use Rattle.std.specs.Prelude.{◌≡◌, ◌⊎◌, ◌+◌, ◌-◌, ◌*◌, ◌<◌, ◌≤◌, List, ℕ, ◌++◌, length, drop, option_copied, Option, Some, None, Result, Ok, Err, IfOk, IfErr, IfSome, IfNone};
+//! A stream of packets that arrives in pieces (draft, section 3): each packet is taken out as soon as all of its bytes
+//! have come.
+ghost use Rattle.std.specs.Prelude.{◌≡◌, ◌⊎◌, ◌+◌, ◌-◌, ◌*◌, ◌<◌, ◌≤◌, List, ℕ, ◌++◌, length, drop, option_copied};
+ghost use Rattle.std.specs.Prelude.{Option, Some, None, Result, Ok, Err, IfOk, IfErr, IfSome, IfNone};
 ghost use Rattle.std.specs.Vec.{vec_len, vec_capacity};
 ghost use Rattle.sftp_wire.specs.declared.errors.Fault.{Fault};
 ghost use Rattle.sftp_wire.specs.declared.packets.Packet.{Packet};
 ghost use Rattle.sftp_wire.specs.declared.packets.Side.{Side};
 ghost use Rattle.sftp_wire.specs.Spelling.{HasSpelling, packet_limit, side_of, spelling};
-ghost use Rattle.sftp_wire.specs.Framing.{Frames, Step, IsStep, AreSteps, no_frames, place_after, room_of, told_of, all_in, all_out, whole_of, lent_of};
+ghost use Rattle.sftp_wire.specs.Framing.{Frames, Step, IsStep, AreSteps, no_frames, place_after, room_of, told_of};
+ghost use Rattle.sftp_wire.specs.Framing.{all_in, all_out, whole_of, lent_of};
 
 use crate::errors::{Fault, WireError};
 use crate::packets::{PACKET_LIMIT, Packet, Side};
@@ -18,10 +20,10 @@ use std::marker::Model;
 /// All the memory that a buffer takes: twice the longest packet.
 const CAPACITY: usize = 2 * PACKET_LIMIT;
 
-/// The buffer of a stream of packets that comes in pieces: what was taken of it and is not yet given out,
-/// the place in the stream of the first byte held, and the fault that was told, if one was.
+/// The buffer of a stream of packets that arrives in pieces: the bytes not yet taken out, the place in the stream of
+/// the first of them, and the fault that was reported, if any.
 ///
-/// At most `PACKET_LIMIT` bytes are held. A place stays at 2^64 - 1 once it is there.
+/// It holds at most `PACKET_LIMIT` bytes. A place is at most 2^64 - 1, and then stays the same.
 #[derive(Debug, Drop)]
 pub struct FrameBuf {
     bytes: Vec<u8>,
@@ -40,10 +42,11 @@ impl Model for FrameBuf {
 
     ghost view = { λ b. record { held = drop b.start b.bytes.items; place = b.place; fault = b.fault } };
 
-    ghost invariant = { λ b. (b.start ≤ vec_len b.bytes) × (vec_len b.bytes ≤ b.start + packet_limit) × (2 * packet_limit ≤ vec_capacity b.bytes) };
+    ghost invariant = { λ b. (b.start ≤ vec_len b.bytes) × (vec_len b.bytes ≤ b.start + packet_limit)
+        × (2 * packet_limit ≤ vec_capacity b.bytes) };
 }
 
-/// Takes the first `count` bytes away. Those that stay move to the front.
+/// Removes the first `count` bytes, and moves the others to the front.
 fn remove_front(store: &mut Vec<u8>, count: usize)
     requires { count ≤ vec_len store.old }
     ensures items { store.new.items ≡ drop count store.old.items }
@@ -55,9 +58,9 @@ fn remove_front(store: &mut Vec<u8>, count: usize)
     store.truncate(len - count);
 }
 
-/// Appends to the bytes from `start` on, without taking memory, and gives the place where they start
-/// then. They move only where the end is too short, so where more than half of the capacity stands before them:
-/// each byte moves once at most.
+/// Appends to the bytes from `start` on, without taking memory, and returns where they start then. They move only where
+/// the room behind them is too short, and so more than half of the capacity is free before them: each byte moves at
+/// most once.
 fn append(store: &mut Vec<u8>, start: usize, more: &[u8]) -> usize
     requires starts_within { start ≤ vec_len store.old }
     requires has_room { vec_len store.old + length more.now ≤ start + packet_limit }
@@ -78,7 +81,7 @@ fn append(store: &mut Vec<u8>, start: usize, more: &[u8]) -> usize
     first
 }
 
-/// The bytes of the packet in front, where its length is in range and all of them are there.
+/// The bytes of the packet in front, where its length is in range and all of them have come.
 #[tactic(auto, unfolding(crate::specs::Framing::whole_of))]
 fn whole(bytes: &[u8]) -> Option<&[u8]>
     ensures { option_copied result ≡ whole_of bytes.now }
@@ -97,7 +100,7 @@ impl FrameBuf {
     ///
     /// # Errors
     ///
-    /// `NoMemory` where memory runs out, and no other.
+    /// `NoMemory` where memory runs out.
     pub fn new(alloc: Global) -> Result<FrameBuf, WireError>
         ensures empty { IfOk result (λ frames. frames ≡ no_frames) }
         ensures err { IfErr result (λ error. error ≡ WireError.NoMemory) }
@@ -117,7 +120,7 @@ impl FrameBuf {
         &self.bytes[self.start..]
     }
 
-    /// How many bytes more are taken: `PACKET_LIMIT` less those held, and 0 once a fault was told.
+    /// How many more bytes `push` takes: `PACKET_LIMIT` less those held, and 0 once a fault was reported.
     pub fn room(&self) -> usize
         ensures exact { result ≡ room_of self.now }
         // No more bytes are held than a packet may have.
@@ -147,8 +150,8 @@ impl FrameBuf {
         taken
     }
 
-    /// The bytes of the packet in front, its length field included, not copied. `None` where its length is
-    /// out of range or not all of them are there, and once a fault was told.
+    /// The bytes of the packet in front, its length field included, without a copy. `None` where its length is out of
+    /// range or not all of them have come, and once a fault was reported.
     pub fn lent(&self) -> Option<&[u8]>
         ensures { option_copied result ≡ lent_of self.now }
     {
@@ -158,23 +161,24 @@ impl FrameBuf {
         whole(self.held())
     }
 
-    /// Takes the packet in front out, of that side; `None` where it is not there whole.
+    /// Takes out the packet in front, of that side. `None` where not all of its bytes have come.
     ///
     /// # Errors
     ///
-    /// `Unreadable` with the first fault from the left and the place in the stream of its packet's first
-    /// byte. It stands for good: each later call gives it again. `NoMemory` where memory runs out: then
-    /// nothing changes. Never `TooLong`.
+    /// `Unreadable` with the first fault from the left and the place in the stream of its packet's first byte. A fault
+    /// is permanent: each later call returns it again. `NoMemory` where memory runs out; then nothing changes. Never
+    /// `TooLong`.
     pub fn next(&mut self, side: Side) -> Result<Option<Packet>, WireError>
         ensures exact { IsStep self.old (Step.Next side result) self.new }
         // Where it returns `None` there is room for more bytes.
         ensures room { IfOk result (λ given. IfNone given (0 < room_of self.new)) }
-        // What is given is spelled out in front, and exactly its bytes are taken out.
+        // A packet that it returns is spelled in front, and exactly its bytes are taken out.
         ensures found { IfOk result (λ given. IfSome given (λ packet.
             HasSpelling packet × (side_of packet ≡ side) × (self.old.held ≡ spelling packet ++ self.new.held)
             × (self.new.place ≡ place_after self.old.place (length (spelling packet))))) }
-        // Where no fault was told, what is spelled out in front is given, unless memory runs out.
-        ensures only { (packet : Packet) (rest : List ℕ) → self.old.fault ≡ None → HasSpelling packet → side_of packet ≡ side → self.old.held ≡ spelling packet ++ rest
+        // Unless a fault was reported, it returns the packet that is spelled in front, or memory runs out.
+        ensures only { (packet : Packet) (rest : List ℕ) → self.old.fault ≡ None → HasSpelling packet
+            → side_of packet ≡ side → self.old.held ≡ spelling packet ++ rest
             → ((result ≡ Ok (Some packet)) × (self.new.held ≡ rest)) ⊎ (result ≡ Err WireError.NoMemory) }
     {
         if let Some(fault) = self.fault {
@@ -203,28 +207,29 @@ impl FrameBuf {
     }
 }
 
-/// The law of streams: after any steps from the empty buffer, the packets that were given, spelled one after
-/// the other, and then the bytes held, are the bytes that were taken, in their order.
+/// The law of streams: after any calls on an empty buffer, the spellings of the packets that it returned, and then the
+/// bytes that it holds, are the bytes that it took, in their order.
 pub fn streams()
-    // What is given out and what is held are what was taken.
-    ensures kept { (steps : List (Step × Frames)) (t : Frames) → AreSteps no_frames steps t → all_out steps ++ t.held ≡ all_in steps }
-    // Nothing is given only where no whole packet and no fault stands in front.
+    // The packets returned and the bytes held are the bytes taken.
+    ensures kept { (steps : List (Step × Frames)) (t : Frames) → AreSteps no_frames steps t
+        → all_out steps ++ t.held ≡ all_in steps }
+    // `next` returns `None` only where there is neither a whole packet nor a fault in front.
     ensures nothing { (side : Side) (s t : Frames) → IsStep s (Step.Next side (Ok None)) t → told_of side s ≡ Ok None }
-    // There nothing is given, unless memory runs out.
-    ensures waits { (side : Side) (s t : Frames) (given : Result (Option Packet) WireError) → IsStep s (Step.Next side given) t → told_of side s ≡ Ok None
+    // There it returns `None`, or memory runs out.
+    ensures waits { (side : Side) (s t : Frames) (given : Result (Option Packet) WireError)
+        → IsStep s (Step.Next side given) t → told_of side s ≡ Ok None
         → (given ≡ Ok None) ⊎ (given ≡ Err WireError.NoMemory) }
-    // A fault that was told is told again for good: nothing changes.
-    ensures fault_stands { (side : Side) (s t : Frames) (fault : Fault) (given : Result (Option Packet) WireError) → s.fault ≡ Some fault → IsStep s (Step.Next side given) t
+    // A fault is permanent: `next` returns it again, and nothing changes.
+    ensures fault_stands { (side : Side) (s t : Frames) (fault : Fault) (given : Result (Option Packet) WireError)
+        → s.fault ≡ Some fault → IsStep s (Step.Next side given) t
         → (given ≡ Err (WireError.Unreadable fault s.place)) × (t ≡ s) }
-    // Then nothing more is taken.
-    ensures fault_takes_none { (s t : Frames) (fault : Fault) (bytes : List ℕ) (taken : ℕ) → s.fault ≡ Some fault → IsStep s (Step.Push bytes taken) t
+    // After a fault `push` takes nothing.
+    ensures fault_takes_none { (s t : Frames) (fault : Fault) (bytes : List ℕ) (taken : ℕ) → s.fault ≡ Some fault
+        → IsStep s (Step.Push bytes taken) t
         → (taken ≡ 0) × (t ≡ s) }
-    // No more bytes are held than a packet may have.
-    ensures within { (steps : List (Step × Frames)) (t : Frames) → AreSteps no_frames steps t → length t.held ≤ packet_limit }
-    // Where `next` returns `None` there is room for more bytes.
-    ensures room { (side : Side) (s t : Frames) → IsStep s (Step.Next side (Ok None)) t → 0 < room_of t }
-    // A packet that is spelled in front is lent as it is spelled.
-    ensures lent { (packet : Packet) (rest : List ℕ) → HasSpelling packet → whole_of (spelling packet ++ rest) ≡ Some (spelling packet) }
+    // `lent` returns the spelling of a packet in front.
+    ensures lent { (packet : Packet) (rest : List ℕ) → HasSpelling packet
+        → whole_of (spelling packet ++ rest) ≡ Some (spelling packet) }
 {}
 
 #[cfg(test)]

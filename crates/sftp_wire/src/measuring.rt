@@ -1,9 +1,12 @@
-//! How many bytes packets take (draft, sections 3 to 8), found before memory is asked for. A number that
-//! does not fit is the largest that does. What takes few enough bytes can be written: each of its numbers and
-//! bytes is in range, by its type, and each of its lengths is, since the whole is.
+//! How many bytes packets take (draft, sections 3 to 8), counted before any memory is taken. A count that does not fit
+//! is the largest that does. A packet whose length fits can be written: its numbers are in range by their types, and
+//! its lengths because the whole is.
 ghost use Rattle.std.specs.Prelude.{◌≡◌, ◌-◌, ◌^◌, ◌<◌, ◌++◌, length, min, IfSome};
 ghost use Rattle.std.specs.List.{flat_map, AllByRecursion};
-ghost use Rattle.sftp_wire.specs.Spelling.{uint32, uint64, two_uint32, string, pair, pairs, counted_pairs, optional, attributes, name_item, names, ask_parts, answer_parts, with_id, contents, AreBytes, FitsString, FitsTwo, FitsPair, FitsPairs, FitsCounted, FitsAttrs, FitsNameItem, FitsNames, FitsAsk, FitsAnswer, FitsFields};
+ghost use Rattle.sftp_wire.specs.Spelling.{uint32, uint64, two_uint32, string, pair, pairs, counted_pairs, optional};
+ghost use Rattle.sftp_wire.specs.Spelling.{attributes, name_item, names, ask_parts, answer_parts, with_id, contents};
+ghost use Rattle.sftp_wire.specs.Spelling.{AreBytes, FitsString, FitsTwo, FitsPair, FitsPairs, FitsCounted, FitsAttrs};
+ghost use Rattle.sftp_wire.specs.Spelling.{FitsNameItem, FitsNames, FitsAsk, FitsAnswer, FitsFields};
 
 use crate::attributes::Attrs;
 use crate::extensions::{FSYNC, HARDLINK, POSIX_RENAME};
@@ -27,7 +30,7 @@ fn long_number_length(number: u64) -> usize
     number.to_be_bytes().len()
 }
 
-/// The bytes behind a string's length, or of all that is left.
+/// The bytes of a string without its length.
 fn text_length(text: &ByteString) -> usize
     ensures exact { result ≡ min (length text.now) (2 ^ 64 - 1) }
     ensures fits { AreBytes text.now }
@@ -123,7 +126,8 @@ fn attributes_length(attrs: &Attrs) -> usize
 
 fn string_and_attributes_length(text: &ByteString, attrs: &Attrs) -> usize
     ensures exact { result ≡ min (length (string text.now ++ attributes attrs.now)) (2 ^ 64 - 1) }
-    ensures fits { length (string text.now ++ attributes attrs.now) < 2 ^ 32 → FitsString text.now × FitsAttrs attrs.now }
+    ensures fits { length (string text.now ++ attributes attrs.now) < 2 ^ 32
+        → FitsString text.now × FitsAttrs attrs.now }
 {
     string_length(text).saturating_add(attributes_length(attrs))
 }

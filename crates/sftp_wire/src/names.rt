@@ -1,4 +1,4 @@
-//! Names of a directory, as a server lists them (draft, section 7).
+//! The names of a NAME reply (draft, section 7).
 ghost use Rattle.std.specs.Prelude.{◌≡◌};
 
 use crate::attributes::Attrs;
@@ -10,7 +10,7 @@ use std::marker::Model;
 pub struct NameItem {
     /// The name within its directory, or a whole path.
     pub filename: ByteString,
-    /// A line about the file for people, as of `ls -l`. Its layout is not fixed.
+    /// A line about the file for people, like one of `ls -l`. Its layout is not fixed.
     pub longname: ByteString,
     /// The attributes of the file.
     pub attrs: Attrs,
@@ -46,7 +46,7 @@ impl Names {
         self.names.as_slice()
     }
 
-    /// The names, given back without a copy.
+    /// The names, without a copy.
     pub fn into_vec(self) -> Vec<NameItem>
         ensures { result.items ≡ self }
     {

@@ -1,10 +1,9 @@
-//! How a file is opened (draft, section 6.3).
+//! The flags of OPEN (draft, section 6.3).
 ghost use Rattle.std.specs.Prelude.{⊤, [], ◌∷◌, codes};
 
 use bitflags::{Flag, Flags, bitflag_items};
 
-/// What a client wants of the file that it opens. On the wire any uint32 may stand for it, also one with bits
-/// that the protocol does not know.
+/// How a client opens a file. On the wire this may be any uint32, with unknown bits too.
 #[derive(Clone, Copy, Debug, PartialEq, Eq)]
 pub struct OpenFlags(u32);
 
@@ -24,7 +23,8 @@ impl Flags for OpenFlags {
 
     ghost exact = { ⊤ };
 
-    ghost table = { (codes "READ", 0x0000_0001) ∷ (codes "WRITE", 0x0000_0002) ∷ (codes "APPEND", 0x0000_0004) ∷ (codes "CREAT", 0x0000_0008) ∷ (codes "TRUNC", 0x0000_0010) ∷ (codes "EXCL", 0x0000_0020) ∷ [] };
+    ghost table = { (codes "READ", 0x0000_0001) ∷ (codes "WRITE", 0x0000_0002) ∷ (codes "APPEND", 0x0000_0004)
+        ∷ (codes "CREAT", 0x0000_0008) ∷ (codes "TRUNC", 0x0000_0010) ∷ (codes "EXCL", 0x0000_0020) ∷ [] };
 
     ghost set_of = { λ flags. flags.0 };
 

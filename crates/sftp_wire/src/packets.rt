@@ -4,10 +4,10 @@ use crate::attributes::Attrs;
 use crate::names::Names;
 use crate::strings::{ByteString, Pairs};
 
-/// The most bytes that a whole packet may have, its length field included. This profile's own.
+/// The most bytes of a whole packet, its length field included. This profile's own.
 pub const PACKET_LIMIT: usize = 34_000;
 
-/// The most bytes that a handle may have (draft, section 7).
+/// The most bytes of a handle (draft, section 7).
 pub const HANDLE_LIMIT: usize = 256;
 
 // The types of the packets (draft, section 3).
@@ -72,17 +72,17 @@ pub enum Side {
     Server,
 }
 
-/// What a client asks for. A path is any bytes; a handle is one that a HANDLE reply gave, of at most
-/// `HANDLE_LIMIT` bytes; offsets and lengths are in bytes.
+/// What a client asks for. A path is any bytes; a handle comes from a HANDLE reply and has at most `HANDLE_LIMIT`
+/// bytes; offsets and lengths are in bytes.
 #[derive(Debug, Drop)]
 pub enum Ask {
-    /// Open a file, or make it (draft, section 6.3). The flags are those of `OpenFlags`, as they stand on the wire.
+    /// Open a file, or create it (draft, section 6.3). The flags are the bits of `OpenFlags`.
     Open {
         path: ByteString,
         pflags: u32,
         attrs: Attrs,
     },
-    /// Give a handle back (draft, section 6.3).
+    /// Close a handle (draft, section 6.3).
     Close {
         handle: ByteString,
     },
@@ -98,7 +98,7 @@ pub enum Ask {
         offset: u64,
         bytes: ByteString,
     },
-    /// The attributes of what a path names, a link itself (draft, section 6.8).
+    /// The attributes of what a path names; a last link is not followed (draft, section 6.8).
     Lstat {
         path: ByteString,
     },
@@ -116,7 +116,7 @@ pub enum Ask {
         handle: ByteString,
         attrs: Attrs,
     },
-    /// Open a directory to list it (draft, section 6.7).
+    /// Open a directory to read its names (draft, section 6.7).
     Opendir {
         path: ByteString,
     },
@@ -124,7 +124,7 @@ pub enum Ask {
     Readdir {
         handle: ByteString,
     },
-    /// Remove a file's name (draft, section 6.5).
+    /// Remove a name of a file or a link (draft, section 6.5).
     Remove {
         path: ByteString,
     },
@@ -141,11 +141,11 @@ pub enum Ask {
     Realpath {
         path: ByteString,
     },
-    /// The attributes of what a path names, links followed (draft, section 6.8).
+    /// The attributes of what a path names; links are followed (draft, section 6.8).
     Stat {
         path: ByteString,
     },
-    /// Give what a path names another name that is free (draft, section 6.5).
+    /// Rename; the new name must not exist (draft, section 6.5).
     Rename {
         oldpath: ByteString,
         newpath: ByteString,
@@ -160,28 +160,28 @@ pub enum Ask {
         targetpath: ByteString,
         linkpath: ByteString,
     },
-    /// Give what a path names another name, as POSIX's rename does (OpenSSH's PROTOCOL, section 4.3).
+    /// Rename as POSIX does: the new name may exist (OpenSSH's PROTOCOL, section 4.3).
     PosixRename {
         oldpath: ByteString,
         newpath: ByteString,
     },
-    /// Give a file a further name (OpenSSH's PROTOCOL, section 4.5).
+    /// Make another name for a file (OpenSSH's PROTOCOL, section 4.5).
     Hardlink {
         oldpath: ByteString,
         newpath: ByteString,
     },
-    /// Have an open file's bytes kept for good (OpenSSH's PROTOCOL, section 4.6).
+    /// Flush an open file to storage (OpenSSH's PROTOCOL, section 4.6).
     Fsync {
         handle: ByteString,
     },
-    /// Any other extension: its name, and whatever follows (draft, section 8).
+    /// Any other extension: its name, and the bytes behind it (draft, section 8).
     Unknown {
         name: ByteString,
         rest: ByteString,
     },
 }
 
-/// A request, with the number that its reply has to carry (draft, section 6.1).
+/// A request, with the id that its reply must have (draft, section 6.1).
 #[derive(Debug, Drop)]
 pub struct Request {
     pub id: u32,
@@ -200,7 +200,7 @@ pub enum Answer {
     },
     /// The handle of a file or directory that was opened: at most `HANDLE_LIMIT` bytes (draft, section 7).
     Handle(ByteString),
-    /// Bytes of a file (draft, section 7).
+    /// Data of a file (draft, section 7).
     Data(ByteString),
     /// Names with their attributes (draft, section 7).
     Name(Names),
@@ -210,7 +210,7 @@ pub enum Answer {
     Extended(ByteString),
 }
 
-/// A reply, with the number of the request that it answers.
+/// A reply, with the id of its request.
 #[derive(Debug, Drop)]
 pub struct Reply {
     pub id: u32,
@@ -220,7 +220,7 @@ pub struct Reply {
 /// A packet of either side.
 #[derive(Debug, Drop)]
 pub enum Packet {
-    /// The client's first packet: the highest version that it knows, and extensions (draft, section 4).
+    /// The client's first packet: the highest version that it supports, and extensions (draft, section 4).
     Init { version: u32, extensions: Pairs },
     /// The server's first packet: the version of the session, and extensions (draft, section 4).
     Version { version: u32, extensions: Pairs },

@@ -1,9 +1,11 @@
-//! Packets, read from bytes (draft, sections 3 to 7). Each is read from left to right, up to its first
-//! fault.
+//! Readers of packets (draft, sections 3 to 8): each reads from left to right, up to the first fault.
 ghost use Rattle.std.specs.Prelude.{◌≡◌, ◌⊎◌, List, ℕ, ◌++◌, length, IfOk, IfSome};
 ghost use Rattle.sftp_wire.specs.declared.packets.Packet.{Packet};
 ghost use Rattle.sftp_wire.specs.Spelling.{HasSpelling, side_of, spelling};
-ghost use Rattle.sftp_wire.specs.Reading.{Reads, Gives, IsReading, StandsInFront, one, two, three, uint32_at, uint64_at, string_at, handle_at, rest_at, pairs_at, attributes_at, names_at, request_at, reply_at, extension_data_at, extension_at, client_packet_at, server_packet_at, packet_at, packet_of, front_of};
+ghost use Rattle.sftp_wire.specs.Reading.{Reads, Gives, IsReading, StandsInFront, one, two, three, uint32_at};
+ghost use Rattle.sftp_wire.specs.Reading.{uint64_at, string_at, handle_at, rest_at, pairs_at, attributes_at, names_at};
+ghost use Rattle.sftp_wire.specs.Reading.{request_at, reply_at, extension_data_at, extension_at, client_packet_at};
+ghost use Rattle.sftp_wire.specs.Reading.{server_packet_at, packet_at, packet_of, front_of};
 
 use crate::errors::{Fault, ReadError, WireError};
 use crate::extensions::{FSYNC, HARDLINK, POSIX_RENAME};
@@ -348,8 +350,8 @@ fn extended_reply(alloc: Global, body: &mut &[u8]) -> Result<Packet, ReadError>
     Ok(reply(id, Answer::Extended(bytes)))
 }
 
-/// What follows the type in a client's packet. Inlined, it would have the packet copied field by field at each
-/// caller above it.
+/// The fields behind the type of a client's packet. Inlined, it would have each caller above it copy the packet field
+/// by field.
 #[tactic(auto, unfolding(crate::specs::Reading::client_packet_at))]
 #[inline(never)]
 fn client_packet(alloc: Global, kind: u8, body: &mut &[u8]) -> Result<Packet, ReadError>
@@ -380,7 +382,7 @@ fn client_packet(alloc: Global, kind: u8, body: &mut &[u8]) -> Result<Packet, Re
     }
 }
 
-/// What follows the type in a server's packet. It is not inlined either.
+/// The fields behind the type of a server's packet. It is not inlined either.
 #[tactic(auto, unfolding(crate::specs::Reading::server_packet_at))]
 #[inline(never)]
 fn server_packet(alloc: Global, kind: u8, body: &mut &[u8]) -> Result<Packet, ReadError>
@@ -398,7 +400,7 @@ fn server_packet(alloc: Global, kind: u8, body: &mut &[u8]) -> Result<Packet, Re
     }
 }
 
-/// What follows the type in a packet of that side.
+/// The fields behind the type of a packet of that side.
 fn packet(alloc: Global, side: Side, kind: u8, body: &mut &[u8]) -> Result<Packet, ReadError>
     ensures { Reads result body.new.now (packet_at side kind body.old.now) }
 {
@@ -408,7 +410,7 @@ fn packet(alloc: Global, side: Side, kind: u8, body: &mut &[u8]) -> Result<Packe
     }
 }
 
-/// The packet that these bytes are, its length field left out.
+/// The packet behind a length.
 #[tactic(auto, unfolding(crate::specs::Reading::packet_of))]
 fn whole_packet(alloc: Global, side: Side, bytes: &[u8]) -> Result<Packet, ReadError>
     ensures { Gives result (packet_of side bytes.now) }
@@ -460,22 +462,21 @@ fn placed_front(
     }
 }
 
-/// The packet in front of `bytes`, of that side, and how many bytes it takes; `None` where it is not
-/// there whole.
+/// The packet in front of `bytes`, of that side, and how many bytes it takes; `None` where not all of them have come.
 ///
 /// # Errors
 ///
-/// `Unreadable` with the first fault from the left, at place 0, as soon as it can be told: a length field
-/// out of range before the packet is there, and any other fault once it is there whole. `NoMemory` where
-/// memory runs out. Never `TooLong`.
+/// `Unreadable` with the first fault from the left, at place 0: a length field out of range as soon as its four bytes
+/// have come, any other fault once the whole packet has. `NoMemory` where memory runs out. Never `TooLong`.
 pub fn front(alloc: Global, bytes: &[u8], side: Side) -> Result<Option<(Packet, usize)>, WireError>
-    // The packet, or the first fault, is what reading from left to right gives.
+    // It returns what reading from left to right gives: the packet, or the first fault.
     ensures exact { IsReading result (front_of side bytes.now) }
-    // What is given is spelled out in front.
+    // A packet that it returns is spelled in front.
     ensures found { IfOk result
         (λ front. IfSome front (λ f. StandsInFront side bytes.now f.0 f.1)) }
-    // What is spelled out in front is given, unless memory runs out.
-    ensures only { (packet : Packet) (rest : List ℕ) → HasSpelling packet → side_of packet ≡ side → bytes.now ≡ spelling packet ++ rest
+    // It returns the packet that is spelled in front, or memory runs out.
+    ensures only { (packet : Packet) (rest : List ℕ) → HasSpelling packet → side_of packet ≡ side
+        → bytes.now ≡ spelling packet ++ rest
         → (result ≡ Ok (Some (packet, length (spelling packet)))) ⊎ (result ≡ Err WireError.NoMemory) }
 {
     placed_front(alloc, bytes, side)

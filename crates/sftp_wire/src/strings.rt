@@ -1,5 +1,4 @@
-//! Byte strings, and pairs of them, as values of their own: two of them are equal where their bytes
-//! are, wherever those lie in memory.
+//! Byte strings, and pairs of them: contracts compare their bytes, not where they are in memory.
 ghost use Rattle.std.specs.Prelude.{◌≡◌, IfOk};
 
 use std::alloc::{AllocError, Global};
@@ -36,7 +35,7 @@ impl ByteString {
     pub fn from_slice(alloc: Global, bytes: &[u8]) -> Result<ByteString, AllocError>
         ensures { IfOk result (λ string. string ≡ bytes.now) }
     {
-        // A copy of no bytes would be a call all the same.
+        // A copy of no bytes would still be a call.
         if bytes.is_empty() {
             return Ok(ByteString::new(Vec::new(alloc)));
         }
@@ -52,7 +51,7 @@ impl ByteString {
         self.bytes.as_slice()
     }
 
-    /// The bytes, given back without a copy.
+    /// The bytes, without a copy.
     pub fn into_vec(self) -> Vec<u8>
         ensures { result.items ≡ self }
     {
@@ -90,7 +89,7 @@ impl Pairs {
         self.pairs.as_slice()
     }
 
-    /// The pairs, given back without a copy.
+    /// The pairs, without a copy.
     pub fn into_vec(self) -> Vec<(ByteString, ByteString)>
         ensures { result.items ≡ self }
     {

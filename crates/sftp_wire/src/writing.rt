@@ -1,8 +1,10 @@
-//! Packets as bytes (draft, sections 3 to 8). A private function may leave part of what it writes behind
-//! after an error: `encode` takes it away.
+//! Packets as bytes (draft, sections 3 to 8). After an error a private function may leave part of what it wrote:
+//! `encode` removes it.
 ghost use Rattle.std.specs.Prelude.{◌≡◌, ◌∷◌, ◌++◌, ◌<◌, ◌^◌, ◌↔◌, ◌⊎◌, length, OnOk, OnErr, IfErr, IsErrOf};
 ghost use Rattle.std.specs.List.{flat_map};
-ghost use Rattle.sftp_wire.specs.Spelling.{uint32, uint64, two_uint32, string, pair, pairs, counted_pairs, optional, attribute_flags, attribute_fields, attributes, name_item, names, ask_parts, answer_parts, with_id, contents, spelling, HasSpelling};
+ghost use Rattle.sftp_wire.specs.Spelling.{uint32, uint64, two_uint32, string, pair, pairs, counted_pairs, optional};
+ghost use Rattle.sftp_wire.specs.Spelling.{attribute_flags, attribute_fields, attributes, name_item, names, ask_parts};
+ghost use Rattle.sftp_wire.specs.Spelling.{answer_parts, with_id, contents, spelling, HasSpelling};
 ghost use Rattle.sftp_wire.specs.Writing.{Extends, IsTooLong, IsNotCanonical};
 
 use crate::attributes::{AttrFlags, Attrs};
@@ -553,10 +555,10 @@ fn put_packet(out: &mut Vec<u8>, size: u32, packet: &Packet) -> Result<(), Alloc
 ///
 /// # Errors
 ///
-/// In this order: `TooLong` exactly where the whole packet would have more than `PACKET_LIMIT` bytes or its handle
-/// has more than `HANDLE_LIMIT`; `NotCanonical` exactly where an `Unknown` has the name of an extension that is a
-/// request of its own; `NoMemory` where memory runs out. Both of the first are judged before any memory is asked for,
-/// and `NoMemory` comes only for a packet that has a spelling.
+/// In this order: `TooLong` exactly where the whole packet would have more than `PACKET_LIMIT` bytes or its handle has
+/// more than `HANDLE_LIMIT`; `NotCanonical` exactly where an `Unknown` has the name of an extension that has a request
+/// of its own; `NoMemory` where memory runs out. The first two are checked before any memory is taken, so `NoMemory`
+/// comes only for a packet that has a spelling.
 #[tactic(auto, unfolding(crate::specs::Spelling::spelling))]
 pub fn encode(packet: &Packet, out: &mut Vec<u8>) -> Result<(), WireError>
     ensures ok { OnOk result (out.new.items ≡ out.old.items ++ spelling packet.now) }
@@ -565,7 +567,8 @@ pub fn encode(packet: &Packet, out: &mut Vec<u8>) -> Result<(), WireError>
     ensures not_canonical { IsErrOf result WireError.NotCanonical ↔ IsNotCanonical packet.now }
     ensures no_memory { IsErrOf result WireError.NoMemory → HasSpelling packet.now }
     ensures err { OnErr result (out.new.items ≡ out.old.items) }
-    ensures kinds { IfErr result (λ e. (e ≡ WireError.TooLong) ⊎ (e ≡ WireError.NotCanonical) ⊎ (e ≡ WireError.NoMemory)) }
+    ensures kinds { IfErr result (λ e. (e ≡ WireError.TooLong) ⊎ (e ≡ WireError.NotCanonical)
+        ⊎ (e ≡ WireError.NoMemory)) }
 {
     let size = contents_length(packet);
     if size > PACKET_LIMIT - 4 || has_long_handle(packet) {

@@ -1,8 +1,7 @@
 -- A stream of packets that comes in pieces: what a step takes in and gives out.
-use Rattle.std.proofs.Common.{◌≡◌, ℕ, ◌-◌, ◌<◌, ◌≤◌, ◌⊎◌, inl, inr, Bool, true, false, List, [], ◌∷◌, ◌++◌, length, take, drop, Option, Some, None, Result, Ok, Err, refl, sym, ap, subst, ◌∙◌, append_assoc, append-nil, arith}
+use Rattle.std.proofs.Common.{◌≡◌, ℕ, ◌-◌, ◌<◌, ◌⊎◌, inl, inr, List, [], ◌∷◌, ◌++◌, length, take, drop, Option, Some, None, Result, Ok, Err, refl, sym, ap, subst, ◌∙◌, append_assoc, append-nil, arith}
 use Rattle.std.specs.Prelude.{min, if◌then◌else◌, is_some}
 use Rattle.std.proofs.Math.Nat.{zero-min}
-use Rattle.std.proofs.lemmas.List.{length-append, length-take, length-drop}
 use Rattle.sftp_wire.specs.declared.errors.Fault.{Fault}
 use Rattle.sftp_wire.specs.declared.errors.WireError.{WireError}
 use Rattle.sftp_wire.specs.declared.errors.WireError.TheVariants.{Unreadable, NoMemory}
@@ -119,47 +118,8 @@ spelled_is_lent packet rest has =
     let b = begins_with packet rest has in
     rw (b.has_length, b.size, b.not_zero, b.within, b.is_whole, b.whole) refl
 
--- ---- no more is held than a packet may have
-
-room-most : (faulty : Bool) (n : ℕ) → (if faulty then 0 else n) ≤ n
-room-most true n = omega arith
-room-most false n = omega arith
-
-step_within : (s : Frames) (step : Step) (t : Frames) → length s.held ≤ packet_limit → IsStep s step t → length t.held ≤ packet_limit
-step_within s (Push bytes taken) t within leads =
-    let held : t.held ≡ s.held ++ take (push_of s bytes).0 bytes = ap (λ (p : ℕ × Frames). p.1.held) leads.1 in
-    omega (arith, ap length held, length-append s.held (take (push_of s bytes).0 bytes), length-take (push_of s bytes).0 bytes, room-most (is_some s.fault) (packet_limit - length s.held), within)
-step_within s (Next side given) t within (inl e) = outcome_within s (told_of side s) given t within e
-  where
-    outcome_within : (s : Frames) (told : Result (Option (Packet × ℕ)) Fault) (given : Result (Option Packet) WireError) (t : Frames) → length s.held ≤ packet_limit → (given, t) ≡ outcome_of s told → length t.held ≤ packet_limit
-    outcome_within s (Ok None) given t within e = rw (ap (λ (p : Result (Option Packet) WireError × Frames). p.1.held) e) within
-    outcome_within s (Ok (Some front)) given t within e =
-        let held : t.held ≡ drop front.1 s.held = ap (λ (p : Result (Option Packet) WireError × Frames). p.1.held) e in
-        omega (arith, ap length held, length-drop front.1 s.held, within)
-    outcome_within s (Err fault) given t within e = rw (ap (λ (p : Result (Option Packet) WireError × Frames). p.1.held) e) within
-step_within s (Next side given) t within (inr refused) = rw (ap (λ (u : Frames). u.held) refused.unchanged) within
-
-steps_within : (s : Frames) (steps : List (Step × Frames)) (t : Frames) → length s.held ≤ packet_limit → AreSteps s steps t → length t.held ≤ packet_limit
-steps_within s [] t within same = rw (ap (λ (u : Frames). u.held) (sym same)) within
-steps_within s (step ∷ steps) t within leads = steps_within step.1 steps t (step_within s step.0 step.1 within leads.0) leads.1
-
-pub held_within : (steps : List (Step × Frames)) (t : Frames) → AreSteps no_frames steps t → length t.held ≤ packet_limit
-held_within steps t leads = steps_within no_frames steps t (omega arith) leads
-
--- where `next` returns `None` there is room
+-- where no packet is found there is room
 pub room-left : (side : Side) (s : Frames) → s.fault ≡ None → front_of side s.held ≡ Ok None → 0 < room_of s
 room-left side s no_fault e =
     let room : room_of s ≡ packet_limit - length s.held = ap (λ (f : Option Fault). if is_some f then 0 else packet_limit - length s.held) no_fault in
     omega (arith, room, none-leaves_room side s.held e)
-
-unless_none : (fault : Option Fault) (front : Result (Option (Packet × ℕ)) Fault) → front_unless fault front ≡ Ok None → (fault ≡ None) × (front ≡ Ok None)
-unless_none None front e = (refl, e)
-unless_none (Some fault) front e = absurd cc
-
-pub waiting_has_room : (side : Side) (s t : Frames) → IsStep s (Next side (Ok None)) t → 0 < room_of t
-waiting_has_room side s t (inl e) =
-    let none = none_told s (told_of side s) t e in
-    let same : t ≡ s = ap (λ (p : Result (Option Packet) WireError × Frames). p.1) e ∙ ap (λ (r : Result (Option (Packet × ℕ)) Fault). (outcome_of s r).1) none in
-    let parts = unless_none s.fault (front_of side s.held) none in
-    subst (λ (u : Frames). 0 < room_of u) (sym same) (room-left side s parts.0 parts.1)
-waiting_has_room side s t (inr refused) = absurd (let e = refused.no_memory in cc)
