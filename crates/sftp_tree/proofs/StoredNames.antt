@@ -34,6 +34,10 @@ module _ {X : Type 0} (P : ℕ → X → Type 0) where
   pub at-entries : (es : Table ℕ X) → InOrder nat_cmp es → ((number : ℕ) (x : X) → get nat_cmp es number ≡ Some x → P number x) → AllByRecursion (λ e. P e.0 e.1) es
   at-entries es order each = get-each nat_cmp nat_cmp-IsAntisymmetric nat_cmp_total (λ e. P e.0 e.1) es order each
 
+-- each count is that of the file's names
+pub count-at : (names : Names) (files : Table ℕ Stored) → AreCounted names files → (number : ℕ) (s : Stored) → get nat_cmp files number ≡ Some s → s.names ≡ times_named names number
+count-at names = at-number (λ number (s : Stored). s.names ≡ times_named names number)
+
 -- ---- names of a file, place by place
 
 -- 1 where what stands there is a name of the file
@@ -84,7 +88,7 @@ same-contents files after order ordered alike =
 -- counts stay right where as many entries as before are names of each file
 pub counted-again : (names others : Names) (files : Table ℕ Stored) → InOrder nat_cmp files → ((number : ℕ) → times_named others number ≡ times_named names number) → AreCounted names files → AreCounted others files
 counted-again names others files order alike counted =
-    at-entries (λ number (s : Stored). s.names ≡ times_named others number) files order (λ number s there. at-number (λ number (s : Stored). s.names ≡ times_named names number) files counted number s there ∙ sym (alike number))
+    at-entries (λ number (s : Stored). s.names ≡ times_named others number) files order (λ number s there. count-at names files counted number s there ∙ sym (alike number))
 
 module _ (names others : Names) (files : Table ℕ Stored) where
   raised-file : (number : ℕ) → ((other : ℕ) → times_named others other ≡ times_named names other + one_name (Some (File number)) other) → (after : Table ℕ Stored) → InOrder nat_cmp files → AreCounted names files → IsChanged with_a_name number files after → (contents after ≡ contents files) × AreCounted others after
@@ -99,22 +103,19 @@ module _ (names others : Names) (files : Table ℕ Stored) where
           ∙ ap (λ k. option_map (λ (s : Stored). s.content) (get nat_cmp files k)) (sym is))
           (λ differ. ap (option_map (λ (s : Stored). s.content)) (changed.others other differ))
 
-      was : (other : ℕ) (s : Stored) → get nat_cmp files other ≡ Some s → s.names ≡ times_named names other
-      was = at-number (λ other (s : Stored). s.names ≡ times_named names other) files counted
-
       names-of : (other : ℕ) (s : Stored) → get nat_cmp after other ≡ Some s → s.names ≡ times_named others other
       names-of other s there =
           by-number number other
           (λ is.
           let one = one-here number in
           let at_number = more number in
-          let n = more-names (get nat_cmp files number) s (times_named names number) (sym changed.here ∙ ap (get nat_cmp after) (sym is) ∙ there) (was number) in
+          let n = more-names (get nat_cmp files number) s (times_named names number) (sym changed.here ∙ ap (get nat_cmp after) (sym is) ∙ there) (count-at names files counted number) in
           let here : s.names ≡ times_named others number = omega arith in
           here ∙ ap (times_named others) (sym is))
           (λ differ.
           let none = one-elsewhere number other differ in
           let at_other = more other in
-          let n = was other s (sym (changed.others other differ) ∙ there) in
+          let n = count-at names files counted other s (sym (changed.others other differ) ∙ there) in
           omega arith)
 
   unnamed : (after : Table ℕ Stored) → InOrder nat_cmp files → ((other : ℕ) → times_named others other ≡ times_named names other) → AreCounted names files → after ≡ files → (contents after ≡ contents files) × AreCounted others after
@@ -176,9 +177,6 @@ module _ (names others : Names) (files : Table ℕ Stored) where
       ∙ sym (get-retain nat_cmp nat_cmp_total nat_cmp-IsAntisymmetric (contents files) (keeps_a_name others) number were))
 
   module _ (order : InOrder nat_cmp files) (counted : AreCounted names files) (trimmed : AllByRecursion (λ e. IsTrue (is_named names e.0)) (contents files)) where
-    count-was : (number : ℕ) (s : Stored) → get nat_cmp files number ≡ Some s → s.names ≡ times_named names number
-    count-was = at-number (λ number (s : Stored). s.names ≡ times_named names number) files counted
-
     was-named : (number : ℕ) (s : Stored) → get nat_cmp files number ≡ Some s → is_named names number ≡ true
     was-named number s there =
         at-number (λ number (content : Content). is_named names number ≡ true) (contents files) trimmed number s.content
@@ -196,7 +194,7 @@ module _ (names others : Names) (files : Table ℕ Stored) where
         last s there =
             let one = one-here number in
             let l = less number in
-            let n = count-was number s there in
+            let n = count-at names files counted number s there in
             let more : s.names ≡ times_named others number + 1 = omega arith in
             last-name s.names (times_named others number) more
 
@@ -221,10 +219,10 @@ module _ (names others : Names) (files : Table ℕ Stored) where
             (λ is.
             let one = one-here number in
             let l = less number in
-            let n = fewer-names (get nat_cmp files number) s (times_named names number) (sym changed.here ∙ ap (get nat_cmp after) (sym is) ∙ there) (count-was number) in
+            let n = fewer-names (get nat_cmp files number) s (times_named names number) (sym changed.here ∙ ap (get nat_cmp after) (sym is) ∙ there) (count-at names files counted number) in
             let here : s.names ≡ times_named others number = omega arith in
             here ∙ ap (times_named others) (sym is))
-            (λ differ. count-was other s (sym (changed.others other differ) ∙ there) ∙ sym (alike other differ))
+            (λ differ. count-at names files counted other s (sym (changed.others other differ) ∙ there) ∙ sym (alike other differ))
 
     lost-none : (after : Table ℕ Stored) → ((other : ℕ) → times_named others other ≡ times_named names other) → after ≡ files → (contents after ≡ retain (contents files) (keeps_a_name others)) × AreCounted others after
     lost-none after alike same = (
@@ -253,12 +251,9 @@ module _ (names : Names) (files : Table ℕ Stored) (attrs : Attrs) (number : �
       at-entries (λ other (s : Stored). s.names ≡ times_named names other) after changed.ordered (λ other s there.
       by-number number other
       (λ is.
-      changed-names attrs (get nat_cmp files number) s (times_named names number) (sym changed.here ∙ ap (get nat_cmp after) (sym is) ∙ there) (was number)
+      changed-names attrs (get nat_cmp files number) s (times_named names number) (sym changed.here ∙ ap (get nat_cmp after) (sym is) ∙ there) (count-at names files counted number)
       ∙ ap (times_named names) (sym is))
-      (λ differ. was other s (sym (changed.others other differ) ∙ there)))
-    where
-      was : (other : ℕ) (s : Stored) → get nat_cmp files other ≡ Some s → s.names ≡ times_named names other
-      was = at-number (λ other (s : Stored). s.names ≡ times_named names other) files counted
+      (λ differ. count-at names files counted other s (sym (changed.others other differ) ∙ there)))
 
   -- the file has its new content
   pub contents-changed : InOrder nat_cmp files → IsChanged (with_attributes_set attrs) number files after → (s : Stored) → get nat_cmp files number ≡ Some s → contents after ≡ with_content (contents files) number (changed_content attrs s.content)

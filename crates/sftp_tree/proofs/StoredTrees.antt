@@ -28,7 +28,7 @@ use Rattle.sftp_tree.specs.Steps.{with_changed_file}
 use Rattle.sftp_tree.specs.Stored.{contents, seen, AreCounted, file_named, IsChanged, IsChangedWhereNamed, with_a_name, without_a_name, with_attributes_set}
 use Rattle.sftp_tree.proofs.KeepTables.{each-weaker}
 use Rattle.sftp_tree.proofs.KeepValues.{times_named-owner}
-use Rattle.sftp_tree.proofs.StoredNames.{at-number, one_name, named-put, raised, lowered, counted-again, counted-changed, contents-changed, contents-unchanged}
+use Rattle.sftp_tree.proofs.StoredNames.{at-number, count-at, one_name, named-put, raised, lowered, counted-again, counted-changed, contents-changed, contents-unchanged}
 
 -- the files are in order where their contents are
 pub files-in_order : (files : Table ℕ Stored) → InOrder nat_cmp (contents files) → InOrder nat_cmp files
@@ -76,7 +76,7 @@ pub room-to-count : (t : Tree) (files : Table ℕ Stored) → IsKept t → AreCo
 room-to-count t files kept counted named =
     each-some (λ number. IfSome (get nat_cmp files number) (λ s. s.names + 1 < 2 ^ 32)) named (λ number is.
     each-some (λ (s : Stored). s.names + 1 < 2 ^ 32) (get nat_cmp files number) (λ s there.
-    let n : s.names ≡ times_named t.names number = at-number (λ number (s : Stored). s.names ≡ times_named t.names number) files counted number s there in
+    let n : s.names ≡ times_named t.names number = count-at t.names files counted number s there in
     let most = named-at_most t.names number in
     let few = few-entries t kept in
     omega arith))
@@ -86,7 +86,7 @@ pub name-to-lose : (t : Tree) (files : Table ℕ Stored) → IsTrimmed t → t.p
 name-to-lose t files trimmed none same counted named =
     each-some (λ number. IfSome (get nat_cmp files number) (λ s. 0 < s.names)) named (λ number is.
     each-some (λ (s : Stored). 0 < s.names) (get nat_cmp files number) (λ s there.
-    let n : s.names ≡ times_named t.names number = at-number (λ number (s : Stored). s.names ≡ times_named t.names number) files counted number s there in
+    let n : s.names ≡ times_named t.names number = count-at t.names files counted number s there in
     let found : get nat_cmp t.files number ≡ Some s.content = ap (λ fs. get nat_cmp fs number) same ∙ get-with_values nat_cmp (λ (s : Stored). s.content) files number ∙ ap (option_map (λ (s : Stored). s.content)) there in
     let named : is_named t.names number ≡ true =
     at-number (λ number (content : Content). is_named t.names number ≡ true) t.files (all-named t.names t.files (subst (λ pins. AllByRecursion (λ e. IsTrue (is_named t.names e.0 || is_pinned pins e.0)) t.files) none trimmed)) number s.content found in

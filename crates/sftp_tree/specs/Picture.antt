@@ -18,7 +18,8 @@ use Rattle.sftp_tree.specs.Tree.{Names, Files, Tree, WellFormed, IsTrimmed, fits
 
 -- ---- what the tree file of a tree says
 
--- the number of the first entry that is a name of the file of this number; the root, which is none, stands in front with the number 0
+-- the number of the first entry that is a name of the file of this number; the root, which is none, comes first with
+-- the number 0
 abbrev pub entry_naming : ℕ → Names → Option ℕ
 entry_naming number [] = None
 entry_naming number (e ∷ es) = if names_file number e.1 then Some 0 else option_map suc (entry_naming number es)
@@ -38,7 +39,7 @@ kind_of files earlier (Dir owner) = kinds.Dir owner
 kind_of files earlier (File number) = naming (entry_naming number earlier) (content_at files number)
 kind_of files earlier (Link target) = kinds.Link target
 
--- the rows of an entry: the root has none, since its owner stands in the head
+-- the rows of an entry: the root has none, since its owner is in the head
 abbrev pub rows_of : Files → Names → Place × Node → List Row
 rows_of files earlier ([], standing) = []
 rows_of files earlier (n ∷ ns, standing) = record { path = absolute (n ∷ ns); kind = kind_of files earlier standing } ∷ []
@@ -48,7 +49,7 @@ abbrev pub rows_behind : Files → Names → Names → List Row
 rows_behind files earlier [] = []
 rows_behind files earlier (e ∷ es) = rows_of files earlier e ++ rows_behind files (earlier ++ e ∷ []) es
 
--- the owner of what stands at the root, which is a directory in every tree
+-- the owner of the root, which is a directory in every tree
 abbrev pub root_owner : Option Node → Owner
 root_owner (Some (Dir owner)) = owner
 root_owner (Some (File number)) = no_owner

@@ -49,7 +49,7 @@ entries_behind earlier (row ∷ rows) = entry_of earlier row ∷ entries_behind 
 abbrev pub only_root : Owner → Names
 only_root root = ([], Dir root) ∷ []
 
--- the root, and what stands below it
+-- the root, and the entries below it
 abbrev pub names_of : Owner → List Row → Names
 names_of root rows = only_root root ++ entries_behind [] rows
 
@@ -82,7 +82,7 @@ numbers_from number (row ∷ rows) = number ∷ numbers_from (number + length (c
 abbrev pub known_number : List ℕ → ℕ → ℕ
 known_number numbers entry = slice_index numbers (entry - 1)
 
--- what stands there, by the numbers of the entries before it and the number of the next file
+-- the node of an entry, by the numbers of the entries before it and the number of the next file
 abbrev pub known_node : List ℕ → ℕ → Kind → Node
 known_node numbers next (kinds.Dir owner) = Dir owner
 known_node numbers next (kinds.First owner bytes) = File next
@@ -116,7 +116,7 @@ stores_with stores numbers next (kinds.First owner bytes) = put nat_cmp stores n
 stores_with stores numbers next (kinds.Further entry) = with_name stores (known_number numbers entry) (get nat_cmp stores (known_number numbers entry))
 stores_with stores numbers next (kinds.Link target) = stores
 
--- these stand at their places, and these are the files, where a tree file has these rows
+-- these are the entries and the files where a tree file has these rows
 pub record IsGrown (root : Owner) (rows : List Row) (names : Names) (stores : Stores) : Type 0 where
   pub names_are : names ≡ names_of root rows
   pub contents_are : contents stores ≡ numbered_from 0 (contents_of rows)
@@ -124,7 +124,7 @@ pub record IsGrown (root : Owner) (rows : List Row) (names : Names) (stores : St
 
 -- ---- on the way to the tree file
 
--- what stands before the entries
+-- what comes before the entries
 abbrev pub head_of : Tree → Head
 head_of t = record { limits = t.limits; home = absolute t.home; uid = t.uid; gid = t.gid; count = length t.names - 1; root = root_owner (node_at t.names []) }
 

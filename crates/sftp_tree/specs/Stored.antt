@@ -24,7 +24,7 @@ seen names stored made limits home uid gid = record { names = names; files = con
 abbrev pub AreCounted : Names → Table ℕ Stored → Type 0
 AreCounted names stored = AllByRecursion (λ e. e.1.names ≡ times_named names e.0) stored
 
--- the file that what stands at a place is a name of
+-- the file that the node is a name of
 abbrev pub file_named : Option Node → Option ℕ
 file_named None = None
 file_named (Some (Dir owner)) = None

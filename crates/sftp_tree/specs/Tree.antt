@@ -1,5 +1,5 @@
--- The tree: what stands at each place, the files that have names there or are pinned, where relative paths start, who owns what is
--- made with no owner given, and how much the tree may hold. The limits are this profile's own.
+-- The tree: the node at each place, the files that have names there or are pinned, where relative paths start, who owns
+-- what is made with no owner given, and how much the tree may hold. The limits are this profile's own.
 use Rattle.std.specs.Prelude.{◌≡◌, ◌&&◌, ◌||◌, ◌==◌, nat_lt, nat_le, ℕ, ◌-◌, ◌<◌, ◌^◌, Bool, true, false, [], length, Option, Some, None, is_some, unwrap_or, IsTrue}
 use Rattle.std.specs.Ordering.{nat_cmp}
 use Rattle.std.specs.List.{list_any, list_all, AllByRecursion}
@@ -12,12 +12,12 @@ use Rattle.sftp_tree.specs.declared.contents.Content.{Content}
 use Rattle.sftp_tree.specs.declared.nodes.Node.{Node}
 use Rattle.sftp_tree.specs.declared.nodes.Node.TheVariants.{Dir, File, Link}
 
--- ---- what stands where
+-- ---- entries
 
 abbrev pub Names : Type 0
 Names = Table Place Node
 
--- what stands at a place
+-- the node at a place
 abbrev pub node_at : Names → Place → Option Node
 node_at names place = get place_cmp names place
 
@@ -51,7 +51,7 @@ is_link (Some (Dir owner)) = false
 is_link (Some (File number)) = false
 is_link (Some (Link target)) = true
 
--- whether anything stands below a place
+-- whether a place has entries below it
 unfoldable pub has_entries : Names → Place → Bool
 has_entries names place = list_any (λ e. is_below place e.0) names
 
@@ -98,7 +98,7 @@ is_pinned pins number = nat_lt 0 (times_pinned pins number)
 -- ---- a tree
 
 pub record Tree : Type 0 where
-  -- what stands at each place; the root is one of them
+  -- the node at each place; the root is one of them
   pub names : Names
   -- the files
   pub files : Files
@@ -135,8 +135,8 @@ IsNode files (Link target) = IsTrue (are_bytes target)
 abbrev pub IsContent : Content → Type 0
 IsContent content = IsOwner content.owner × IsTrue (are_bytes content.bytes)
 
--- What makes it a tree: its places are lists of names, in order and each but once, the root is a directory, each
--- other place's parent is one, names of files are names of files that are there, the numbers of files were given, and each
+-- What makes it a tree: its places are lists of names, in order and each but once, the root is a directory, each other
+-- place's parent is one, names of files are names of files that are there, the numbers of files were given, and each
 -- number fits its field. Today the limits are the usual ones.
 pub record WellFormed (t : Tree) : Type 0 where
   pub ordered : InOrder place_cmp t.names
@@ -162,7 +162,7 @@ IsTrimmed t = AllByRecursion (λ e. IsTrue (is_held t e.0)) t.files
 abbrev pub limits : Tree → TreeLimits
 limits t = t.limits
 
--- how many entries stand below the root, which is one of the places
+-- how many entries are below the root, which is one of the places
 abbrev pub entry_count : Tree → ℕ
 entry_count t = length t.names - 1
 

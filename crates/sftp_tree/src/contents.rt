@@ -39,8 +39,8 @@ impl FileBytes {
         self.bytes.as_slice()
     }
 
-    /// Cuts the bytes behind so many of them, or fills them with zeros to so many. Bytes that stay are not moved but where the
-    /// allocator has to.
+    /// Cuts the bytes behind so many of them, or fills them with zeros to so many. Bytes that stay are not moved but
+    /// where the allocator has to.
     ///
     /// # Errors
     ///
@@ -72,7 +72,8 @@ pub struct Stored {
     pub names: u32,
 }
 
-/// Sets the attributes of a file: its size, its owner and the low twelve bits of its permissions, each where it is given.
+/// Sets the attributes of a file: its size, its owner and the low twelve bits of its permissions, each where it is
+/// given.
 ///
 /// # Errors
 ///

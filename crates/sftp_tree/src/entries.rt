@@ -1,4 +1,4 @@
-//! What stands at each place of a tree. Nothing outside knows how it is kept.
+//! The entries of a tree: its places, each with its node. Nothing outside knows how they are kept.
 ghost use Rattle.std.specs.Prelude.{◌≡◌, length, false, None, IfOk, OnOk, OnErr, IsTrue, option_copied};
 ghost use Rattle.std.specs.Iterator.{item_count};
 ghost use Rattle.std.specs.Map.Iter.{TakesFirst, deref_pair};
@@ -21,7 +21,7 @@ use std::alloc::Global;
 use std::collections::{BTreeMap, btree_map};
 use std::marker::Model;
 
-/// What stands at each place, the root among them, in the places' order.
+/// The entries, the root among them, in the places' order.
 #[derive(Debug, Drop)]
 pub(crate) struct Entries {
     places: BTreeMap<Place, Node>,
@@ -50,7 +50,7 @@ impl Entries {
         Ok(Entries { places })
     }
 
-    /// What stands at a place.
+    /// The node at a place.
     #[tactic(auto, unfolding(sftp_path::specs::Table::get))]
     pub(crate) fn get(&self, place: &Place) -> Option<&Node>
         ensures { option_copied result ≡ tree.node_at self.now place.now }
@@ -74,7 +74,7 @@ impl Entries {
         }
     }
 
-    /// Whether anything stands below a place.
+    /// Whether a place has entries below it.
     pub(crate) fn has_entries(&self, place: &Place) -> bool
         ensures { result ≡ tree.has_entries self.now place.now }
     {
@@ -88,11 +88,11 @@ impl Entries {
         below::reaches_at_most(&self.places, top, room)
     }
 
-    /// Puts a node at a place where nothing stands, in a directory.
+    /// Puts a node at a free place in a directory.
     ///
     /// # Errors
     ///
-    /// `NoMemory` where memory runs out; everything then stands as before.
+    /// `NoMemory` where memory runs out; the entries are then as before.
     #[tactic(auto, unfolding(sftp_path::specs::Table::put))]
     pub(crate) fn put(&mut self, place: Place, node: Node) -> Result<(), NoMemory>
         requires absent { tree.node_at self.old place ≡ None }
@@ -104,7 +104,7 @@ impl Entries {
         Ok(())
     }
 
-    /// Removes what stands at a place that is not the root, and below which nothing stands, and gives it back.
+    /// Removes the node at a place that is not the root and has no entries below it, and returns it.
     #[tactic(auto, unfolding(sftp_path::specs::Table::get, sftp_path::specs::Table::without))]
     pub(crate) fn remove(&mut self, place: &Place) -> Option<Node>
         requires below_root { is_root place.now ≡ false }
@@ -123,12 +123,12 @@ impl Entries {
         moving::replace(&mut self.places, place, Node::Dir(owner));
     }
 
-    /// Moves what stands at the old place, with all below it, to the new one, and gives back what stood there. Neither place is the
-    /// root, the new one is not below the old one, and nothing stands below it.
+    /// Moves the node at the old place, with all below it, to the new one, and returns the node that was there. Neither
+    /// place is the root, and the new one is not below the old one and has no entries below it.
     ///
     /// # Errors
     ///
-    /// `NoMemory` where memory runs out; everything then stands as before.
+    /// `NoMemory` where memory runs out; the entries are then as before.
     pub(crate) fn move_node(&mut self, old: &Place, new: Place) -> Result<Option<Node>, NoMemory>
         requires taken { IsTrue (tree.is_taken (tree.node_at self.old old.now)) }
         requires old_below_root { is_root old.now ≡ false }

@@ -15,19 +15,19 @@ pub fn trimmed_already()
     ensures { (t : Tree) → IsTrimmed t → trim t ≡ t }
 {}
 
-/// Nothing stands below what is no directory.
+/// Only a directory has entries below it.
 pub fn nothing_below()
     ensures { (t : Tree) (place : Place) → IsKept t → is_directory (node_at t.names place) ≡ false → has_entries t.names place ≡ false }
 {}
 
-/// Where nothing stands below a place, no place that it begins but itself is taken.
+/// Where a place has no entries below it, no place that it begins but itself is taken.
 pub fn alone_there()
     ensures { (t : Tree) (place : Place) → IsKept t → has_entries t.names place ≡ false →
         (n : Name) (ns : List Name) → node_at t.names (place ++ n ∷ ns) ≡ None }
 {}
 
-/// A new place that is not the old one, and whose parent is a directory, is not below the old one, where no directory would go
-/// inside itself.
+/// A new place that is not the old one, and whose parent is a directory, is not below the old one, where no directory
+/// would go inside itself.
 pub fn places_apart()
     ensures { (t : Tree) (old new : Place) → IsKept t → IsTrue (is_taken (node_at t.names old)) → goes_inside t.names old new ≡ false →
         same_place old new ≡ false → IsTrue (is_directory (node_at t.names (parent new))) → begins old new ≡ false }

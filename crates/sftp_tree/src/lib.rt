@@ -1,5 +1,5 @@
-//! The tree that a session asks of: directories, files and symbolic links, where paths lead, why requests are refused and
-//! what they do (draft-ietf-secsh-filexfer-02, section 6).
+//! The tree that a session asks of: directories, files and symbolic links, where paths lead, why requests are refused
+//! and what they do (draft-ietf-secsh-filexfer-02, section 6).
 #![tactic(auto)]
 
 mod attributes;

@@ -1,6 +1,6 @@
 //! How each change of a tree bears on each of its limits, as theorems on the definitions that the contracts name. The
-//! functions do nothing; each promise is in the contract. A limit that a law does not name holds after the change just where
-//! it held before.
+//! functions do nothing; each promise is in the contract. A limit that a law does not name holds after the change just
+//! where it held before.
 ghost use Rattle.std.specs.Prelude.{◌≡◌, ◌&&◌, nat_le, ℕ, Some, None, length, IsTrue};
 ghost use Rattle.std.specs.List.{list_all};
 ghost use Rattle.sftp_path.specs.Place.{Place, place_cmp};
@@ -23,7 +23,7 @@ pub fn limits_are_six()
         IsTrue (numbers_fit t) → IsTrue (fits t) }
 {}
 
-/// With an entry at a place where nothing stood.
+/// With an entry at a place that was free.
 pub fn limits_with_an_entry()
     ensures entries { (t : Tree) (place : Place) (it : Node) → node_at t.names place ≡ None →
         entries_fit (record t { names = with_node t.names place it }) ≡ nat_le (length t.names) (limits t).entries }
@@ -50,7 +50,7 @@ pub fn limits_without_an_entry()
     ensures links { (t : Tree) (place : Place) → IsTrue (links_fit t) → IsTrue (links_fit (record t { names = without_node t.names place })) }
 {}
 
-/// With all from one place on moved to another, where nothing stood.
+/// With all from one place on moved to another that was free.
 pub fn limits_after_a_move()
     ensures entries { (t : Tree) (old new : Place) → InOrder place_cmp t.names → NothingFrom t.names new → entries_fit (moved t old new) ≡ entries_fit t }
     ensures depths { (t : Tree) (old new : Place) → InOrder place_cmp t.names → NothingFrom t.names new →

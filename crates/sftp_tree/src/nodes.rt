@@ -1,4 +1,4 @@
-//! What stands at a place.
+//! The nodes of a tree.
 ghost use Rattle.std.specs.Prelude.{◌≡◌, option_copied};
 ghost use Rattle.sftp_tree.specs.Stored.{file_named};
 
@@ -6,7 +6,7 @@ use crate::file_numbers::FileNo;
 use sftp_treefile::Owner;
 use sftp_wire::ByteString;
 
-/// What stands at a place.
+/// What is at a place.
 #[derive(Debug, Drop)]
 pub enum Node {
     /// A directory.
@@ -17,7 +17,7 @@ pub enum Node {
     Link(ByteString),
 }
 
-/// The number of the file that what stands at a place is a name of.
+/// The number of the file that the node is a name of.
 pub(crate) fn file_named(standing: Option<&Node>) -> Option<FileNo>
     ensures { result ≡ file_named (option_copied standing.entry) }
 {

@@ -14,8 +14,8 @@ pub fn starts_are_one()
     ensures { (t u : Tree) (bytes : List ℕ) → IsStart t bytes → IsStart u bytes → t ≡ u }
 {}
 
-/// The tree file of a tree within the limits is that of the same tree with its files numbered from 0 in the order of their first
-/// names, without those that have none.
+/// The tree file of a tree within the limits is that of the same tree with its files numbered from 0 in the order of
+/// their first names, without those that have none.
 pub fn pictures_are_starts()
     ensures { (t : Tree) → WellFormed t → IsTrue (fits t) → IsStart (tree_of (file_of t)) (picture t) }
 {}
@@ -40,7 +40,7 @@ pub fn file_of_a_directory_and_a_link()
     ensures bytes { picture linked ≡ linked_front ++ (linked_root ++ (linked_directory ++ linked_link)) }
 {}
 
-/// The blank tree with a file of two names: its tree file has 74 bytes, in which the file's bytes stand once.
+/// The blank tree with a file of two names: its tree file has 74 bytes, with the file's bytes once.
 pub fn file_of_two_names()
     ensures length { length two_names_bytes ≡ 74 }
     ensures start { IsStart two_names two_names_bytes }

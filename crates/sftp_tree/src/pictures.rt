@@ -19,8 +19,8 @@ use std::alloc::Global;
 use writing::picture_of;
 
 impl Tree {
-    /// The tree of nothing but a root: it is the home, it has permissions 0o755, and the user and the group 0 own it and
-    /// what is made with no owner given.
+    /// The tree of nothing but a root: it is the home, it has permissions 0o755, and the user and the group 0 own it
+    /// and what is made with no owner given.
     ///
     /// # Errors
     ///
@@ -43,7 +43,8 @@ impl Tree {
     ///
     /// # Errors
     ///
-    /// `NoMemory` where memory runs out, and otherwise the fault of the tree file, as `sftp_treefile::read_rows` has it.
+    /// `NoMemory` where memory runs out, and otherwise the fault of the tree file, as `sftp_treefile::read_rows` has
+    /// it.
     pub fn read(alloc: Global, bytes: &[u8]) -> Result<Tree, TreeError>
         ensures found { IfOk result (λ t. IsStart t bytes.now) }
         ensures only { (t : tree) → IsStart t bytes.now → GivesTree result t }

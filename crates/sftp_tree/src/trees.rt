@@ -68,7 +68,7 @@ impl Tree {
         }
     }
 
-    /// What stands at each place, the root among them, in the places' order.
+    /// The entries, the root among them, in the places' order.
     pub(crate) fn names(&self) -> &Entries
         ensures names { result.now ≡ self.now.names }
         ensures kept { tree.IsKept self.now }
@@ -118,7 +118,7 @@ impl Tree {
         self.limits
     }
 
-    /// Puts a node at a place where nothing stands, in a directory.
+    /// Puts a node at a free place in a directory.
     ///
     /// # Errors
     ///
@@ -139,8 +139,8 @@ impl Tree {
         Ok(())
     }
 
-    /// Removes what stands at a place: a link, a name of a file, or an empty directory that is not the root. A file goes with its
-    /// last name.
+    /// Removes the node at a place: a link, a name of a file, or an empty directory that is not the root. A file goes
+    /// with its last name.
     pub(crate) fn remove_at(&mut self, place: &Place)
         requires taken { IsTrue (tree.is_taken (tree.node_at self.old.names place.now)) }
         requires below_root { is_root place.now ≡ false }
@@ -151,8 +151,8 @@ impl Tree {
         self.files.forget_name(file_named(gone.as_ref()));
     }
 
-    /// Moves what stands at the old place, with all below it, to the new one, in the stead of what stands there; a file goes with
-    /// its last name. Neither place is the root, and no directory goes inside itself.
+    /// Moves the node at the old place, with all below it, to the new one, and replaces the node there; a file goes
+    /// with its last name. Neither place is the root, and no directory goes inside itself.
     ///
     /// # Errors
     ///
@@ -184,8 +184,8 @@ impl Tree {
         self.names.set_owner(place, owner);
     }
 
-    /// Sets the attributes of a file: its size, which cuts the bytes or fills them with zeros, its owner and the low twelve bits of
-    /// its permissions, each where it is given. The limits allow the size.
+    /// Sets the attributes of a file: its size, which cuts the bytes or fills them with zeros, its owner and the low
+    /// twelve bits of its permissions, each where it is given. The limits allow the size.
     ///
     /// # Errors
     ///

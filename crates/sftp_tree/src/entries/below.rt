@@ -1,4 +1,4 @@
-//! What stands below a place, by the order of the places.
+//! The entries below a place, by the order of the places.
 ghost use Rattle.std.specs.Prelude.{◌≡◌};
 ghost use Rattle.sftp_path.specs.Place as places;
 ghost use Rattle.sftp_tree.specs.Tree as tree;
@@ -9,14 +9,14 @@ use sftp_path::Place;
 use std::collections::BTreeMap;
 use std::ops::Bound;
 
-/// Whether the second place stands below the first.
+/// Whether the second place is below the first.
 pub(crate) fn is_below(place: &Place, other: &Place) -> bool
     ensures { result ≡ places.is_below place.now other.now }
 {
     other.starts_with(place) && place.depth() < other.depth()
 }
 
-/// Whether anything stands below a place: the next place in order would.
+/// Whether a place has entries below it: the next place in order would be below it.
 pub(crate) fn has_entries(names: &BTreeMap<Place, Node>, place: &Place) -> bool
     ensures { result ≡ tree.has_entries names.now.entries place.now }
 {
@@ -29,7 +29,8 @@ pub(crate) fn has_entries(names: &BTreeMap<Place, Node>, place: &Place) -> bool
     }
 }
 
-/// Whether no place that begins with one has more names than so many behind it. They stand in a row.
+/// Whether no place that begins with one has more names than so many behind it. Such places follow one another in
+/// order.
 pub(crate) fn reaches_at_most(names: &BTreeMap<Place, Node>, top: &Place, room: usize) -> bool
     ensures { result ≡ judged.reaches_at_most names.now.entries top.now room }
 {

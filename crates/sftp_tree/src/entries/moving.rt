@@ -1,4 +1,4 @@
-//! What stands at a place gets another owner, or moves to another place.
+//! The node at a place is replaced, or moves to another place.
 ghost use Rattle.std.specs.Prelude.{◌≡◌, ◌∷◌, ◌++◌, List, Some, None, false, if◌then◌else◌, IfOk, OnOk, OnErr, IsTrue};
 ghost use Rattle.sftp_path.specs.Place.{Name, begins};
 ghost use Rattle.sftp_path.specs.Rekeying.{renamed, rekeyed};
@@ -12,7 +12,7 @@ use sftp_wire::ByteString;
 use std::alloc::Global;
 use std::collections::BTreeMap;
 
-/// Puts a node at a place in the stead of what stands there.
+/// Replaces the node at a place.
 pub(crate) fn replace(names: &mut BTreeMap<Place, Node>, place: &Place, node: Node)
     requires { IsTrue (is_taken (node_at names.old.entries place.now)) }
     ensures { names.new.entries ≡ with_node names.old.entries place.now node }
@@ -22,11 +22,11 @@ pub(crate) fn replace(names: &mut BTreeMap<Place, Node>, place: &Place, node: No
     }
 }
 
-/// Moves what stands at the old place, with all below it, to the new one, and gives back what stood there.
+/// Moves the node at the old place, with all below it, to the new one, and returns the node that was there.
 ///
 /// # Errors
 ///
-/// `NoMemory` where memory runs out; everything then stands as before.
+/// `NoMemory` where memory runs out; the entries are then as before.
 pub(crate) fn move_node(
     names: &mut BTreeMap<Place, Node>,
     old: &Place,
@@ -47,7 +47,7 @@ pub(crate) fn move_node(
     }
 }
 
-/// Moves what stands at the old place, where nothing stands below it.
+/// Moves the node at the old place, which has no entries below it.
 fn move_alone(
     names: &mut BTreeMap<Place, Node>,
     old: &Place,
@@ -71,7 +71,7 @@ fn move_alone(
     Ok(gone)
 }
 
-/// Moves what stands at the old place, with all below it, by a table of its own.
+/// Moves the node at the old place, with all below it, by a table of its own.
 #[tactic(auto, unfolding(sftp_path::specs::Table::get))]
 fn move_all(
     names: &mut BTreeMap<Place, Node>,
@@ -90,8 +90,7 @@ fn move_all(
     Ok(gone)
 }
 
-/// What stands at each place once what stands at the old one, with all below it, is at the new one, in the stead of what stands
-/// there alone.
+/// The entries once the node at the old place, with all below it, is at the new one and replaces the node there.
 fn moved(
     alloc: Global,
     names: &BTreeMap<Place, Node>,
@@ -109,7 +108,7 @@ fn moved(
     Ok(moved)
 }
 
-/// Puts what stands at a place where it comes to, and leaves out what stands at the new place.
+/// Puts a node at the place that it moves to, and leaves out the node at the new place.
 fn put_moved(
     moved: &mut BTreeMap<Place, Node>,
     old: &Place,
@@ -130,7 +129,8 @@ fn put_moved(
     Ok(())
 }
 
-/// Where what stands at a place comes to: at the old place and below it the names of the new one stand for those of the old.
+/// The place that the node at a place moves to: at the old place and below it, the names of the new one replace those
+/// of the old.
 fn renamed(alloc: Global, old: &Place, new: &Place, place: &Place) -> Result<Place, NoMemory>
     ensures { IfOk result (λ to. to ≡ renamed old.now new.now place.now) }
 {
@@ -145,7 +145,7 @@ fn renamed(alloc: Global, old: &Place, new: &Place, place: &Place) -> Result<Pla
     Ok(to)
 }
 
-/// A copy of what stands at a place.
+/// A copy of a node.
 fn copied(alloc: Global, node: &Node) -> Result<Node, NoMemory>
     ensures { IfOk result (λ copy. copy ≡ node.now) }
 {

@@ -1,5 +1,5 @@
-//! How many bytes a tree file takes, at most, found before memory is asked for. A number that does not fit is the largest that
-//! does.
+//! How many bytes a tree file takes, at most, found before memory is asked for. A number that does not fit is the
+//! largest that does.
 use crate::nodes::Node;
 use crate::trees::Tree;
 use sftp_path::Place;

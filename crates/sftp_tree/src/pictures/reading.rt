@@ -25,7 +25,7 @@ fn place_of(alloc: Global, text: &[u8]) -> Result<Place, NoMemory>
     }
 }
 
-/// What an entry is, as what stands at a place. A file that comes with it is put among the others, and a further name is counted:
+/// What an entry is, as a node. A file that comes with it is put among the others, and a further name is counted:
 /// `numbers` has for each entry before it the number that its file has, if it comes with one.
 fn node_of(
     files: &mut Files,
@@ -55,14 +55,14 @@ fn node_of(
     }
 }
 
-/// What stands at each place, and the files.
+/// The entries of a tree, and its files.
 #[derive(Drop)]
 struct Grown {
     names: Entries,
     files: Files,
 }
 
-/// What stands at each place, and the files: the root, and what entries say.
+/// The entries of a tree, and its files: the root, and what the entries of a tree file say.
 fn grow(alloc: Global, root: Owner, rows: Vec<Row>) -> Result<Grown, NoMemory>
     requires root { IsOwner root }
     requires rows { AreRows usual_limits [] rows.items }

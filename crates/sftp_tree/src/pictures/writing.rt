@@ -40,7 +40,7 @@ fn root_owner(alloc: Global, names: &Entries) -> Owner
     }
 }
 
-/// Appends what stands before the entries.
+/// Appends the head, which comes before the entries.
 fn put_front(out: &mut Vec<u8>, tree: &Tree) -> Result<(), NoMemory>
     ensures { OnOk result (out.new.items ≡ out.old.items ++ head_bytes (parts.head_of tree.now)) }
 {
