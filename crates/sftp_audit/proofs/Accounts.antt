@@ -19,7 +19,7 @@ use Rattle.sftp_audit.specs.Transcript.{IsRecord}
 use Rattle.sftp_audit.specs.Explained.{Matching, in_window, exchanges_of, leading_pairs, Run}
 use Rattle.sftp_audit.specs.Ledger.{IsComplete}
 use Rattle.sftp_audit.specs.Exchanges.{ledger_of}
-use Rattle.sftp_audit.specs.Audit.{Accounts, HasStart, IsReason, tree_refused, transcript_refused, session_refused}
+use Rattle.sftp_audit.specs.Audit.{Accounts, HasStart, IsReason, error_of_tree, error_of_transcript, error_of_session}
 
 -- no run is accounted for
 abbrev pub HasNoRun : List ℕ → List ℕ → Type 0
@@ -38,15 +38,15 @@ reason_by tree transcript r of e is why =
     let p = err_from_is_err_and r is in
     rw (p.1, p.2) why
 
-pub tree_reason : (tree transcript : List ℕ) (error : TreeError) → ((start : Tree) → IsStart start tree → error ≡ tree_errors.NoMemory) → IsReason tree transcript (tree_refused error)
+pub tree_reason : (tree transcript : List ℕ) (error : TreeError) → ((start : Tree) → IsStart start tree → error ≡ tree_errors.NoMemory) → IsReason tree transcript (error_of_tree error)
 tree_reason tree transcript tree_errors.NoMemory only = tt
 tree_reason tree transcript other only = λ start. let e = only start.0 start.1 in cc
 
-pub transcript_reason : (tree transcript : List ℕ) (error : TranscriptError) → HasStart tree → ((events : List Event) → IsRecord events transcript → error ≡ transcript_errors.NoMemory) → IsReason tree transcript (transcript_refused error)
+pub transcript_reason : (tree transcript : List ℕ) (error : TranscriptError) → HasStart tree → ((events : List Event) → IsRecord events transcript → error ≡ transcript_errors.NoMemory) → IsReason tree transcript (error_of_transcript error)
 transcript_reason tree transcript transcript_errors.NoMemory start only = tt
 transcript_reason tree transcript other start only = (start, λ events are. let e = only events are in cc)
 
-pub session_reason : (tree transcript : List ℕ) (refusal : Refusal) → HasStart tree → IsReason tree transcript (session_refused refusal)
+pub session_reason : (tree transcript : List ℕ) (refusal : Refusal) → HasStart tree → IsReason tree transcript (error_of_session refusal)
 session_reason tree transcript refusals.NoMemory start = tt
 session_reason tree transcript other start = start
 

@@ -27,17 +27,17 @@ abbrev pub request_count : List Event → ℕ
 request_count events = min (length (exchanges_of events)) (2 ^ 64 - 1)
 
 -- the error of an audit, by the error of its part: `NoMemory` is the same everywhere
-abbrev pub tree_refused : TreeError → AuditError
-tree_refused tree_errors.NoMemory = audit_errors.NoMemory
-tree_refused error = audit_errors.Tree error
+abbrev pub error_of_tree : TreeError → AuditError
+error_of_tree tree_errors.NoMemory = audit_errors.NoMemory
+error_of_tree error = audit_errors.Tree error
 
-abbrev pub transcript_refused : TranscriptError → AuditError
-transcript_refused transcript_errors.NoMemory = audit_errors.NoMemory
-transcript_refused error = audit_errors.Transcript error
+abbrev pub error_of_transcript : TranscriptError → AuditError
+error_of_transcript transcript_errors.NoMemory = audit_errors.NoMemory
+error_of_transcript error = audit_errors.Transcript error
 
-abbrev pub session_refused : Refusal → AuditError
-session_refused refusals.NoMemory = audit_errors.NoMemory
-session_refused refusal = audit_errors.Refused refusal
+abbrev pub error_of_session : Refusal → AuditError
+error_of_session refusals.NoMemory = audit_errors.NoMemory
+error_of_session refusal = audit_errors.Refused refusal
 
 -- the bytes are the tree file of a tree
 abbrev pub HasStart : List ℕ → Type 0

@@ -101,20 +101,20 @@ with_no_permissions size = record no_attributes { size = Some size; owner = Some
 -- ---- sessions
 
 -- three requests on one path and its parent
-abbrev pub three_asked : List Event
-three_asked = mkdir 1 (codes "/a") ∷ mkdir 2 (codes "/a/b") ∷ rmdir 3 (codes "/a") ∷ []
+abbrev pub three_requests : List Event
+three_requests = mkdir 1 (codes "/a") ∷ mkdir 2 (codes "/a/b") ∷ rmdir 3 (codes "/a") ∷ []
 
 -- their replies come in the opposite order, and the last request is refused with this code
 abbrev pub backward_replies : ℕ → List Event
-backward_replies code = three_asked ++ status 3 code ∷ status 2 0 ∷ status 1 0 ∷ []
+backward_replies code = three_requests ++ status 3 code ∷ status 2 0 ∷ status 1 0 ∷ []
 
 -- the second request has no reply
 abbrev pub one_unanswered : List Event
-one_unanswered = three_asked ++ status 3 4 ∷ status 1 0 ∷ []
+one_unanswered = three_requests ++ status 3 4 ∷ status 1 0 ∷ []
 
 -- the first request has two replies
 abbrev pub one_answered_twice : List Event
-one_answered_twice = three_asked ++ status 3 4 ∷ status 2 0 ∷ status 1 0 ∷ status 1 0 ∷ []
+one_answered_twice = three_requests ++ status 3 4 ∷ status 2 0 ∷ status 1 0 ∷ status 1 0 ∷ []
 
 -- the same directory, asked for twice and in two spellings; the second is refused with this code
 abbrev pub same_directory_twice : ℕ → List Event

@@ -1,5 +1,5 @@
 -- Reading the records of a transcript one after the other.
-use Rattle.std.proofs.Common.{◌≡◌, ℕ, ◌<◌, List, [], ◌∷◌, ◌++◌, length, refl, sym, ap, subst, ◌∙◌, append_assoc, arith, length-append}
+use Rattle.std.proofs.Common.{eqb-true, ◌≡◌, ℕ, ◌<◌, List, [], ◌∷◌, ◌++◌, length, refl, sym, ap, subst, ◌∙◌, append_assoc, arith, length-append}
 use Rattle.std.specs.List.{flat_map, AllByRecursion}
 use Rattle.std.proofs.lemmas.Grind.{flat_map-append}
 use Rattle.std.proofs.lemmas.List.{append-nil, nil_from_length, append_cancel_left}
@@ -135,8 +135,8 @@ handshake_by (Init version asked) (Version three told) opened middle records hig
   told = told;
   high_enough = high;
   init = first.spelled;
-  answer = subst (λ (n : ℕ). HasSpelling (Version n told)) is second.spelled;
-  bytes_are = first.bytes_are ∙ ap (λ (x : List ℕ). record_text (Init version asked) ++ x) (second.bytes_are ∙ ap (λ (n : ℕ). record_text (Version n told) ++ records) is);
+  answer = subst (λ (n : ℕ). HasSpelling (Version n told)) (eqb-true three 3 is) second.spelled;
+  bytes_are = first.bytes_are ∙ ap (λ (x : List ℕ). record_text (Init version asked) ++ x) (second.bytes_are ∙ ap (λ (n : ℕ). record_text (Version n told) ++ records) (eqb-true three 3 is));
 }
 handshake_by (Init version asked) other opened middle records high first is second = absurd is
 handshake_by other q opened middle records high first is second = absurd high
