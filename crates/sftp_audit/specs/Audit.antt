@@ -43,10 +43,12 @@ error_of_session refusal = audit_errors.Refused refusal
 abbrev pub HasStart : List ℕ → Type 0
 HasStart tree = (start : Tree) × IsStart start tree
 
--- the reason for an error of an audit: no tree, or a tree but no events, or a tree, and then a session that it does not explain
+-- the reason for an error of an audit: no tree, or a tree but no events, or a tree, and then a session that it does not
+-- explain
 abbrev pub IsReason : List ℕ → List ℕ → AuditError → Type 0
 IsReason tree transcript (audit_errors.Tree error) = HasStart tree → ⊥
-IsReason tree transcript (audit_errors.Transcript error) = HasStart tree × ((events : List Event) → IsRecord events transcript → ⊥)
+IsReason tree transcript (audit_errors.Transcript error) =
+    HasStart tree × ((events : List Event) → IsRecord events transcript → ⊥)
 IsReason tree transcript (audit_errors.Refused refusal) = HasStart tree
 IsReason tree transcript audit_errors.NoMemory = Unit {0}
 
@@ -57,7 +59,11 @@ IsPlain (audit_errors.Transcript transcript_errors.NoMemory) = ⊥
 IsPlain (audit_errors.Refused refusals.NoMemory) = ⊥
 IsPlain _ = Unit {0}
 
--- the tree file of the blank tree: `SFTREE01`, the home `/`, uid and gid 0, no entries, and the root with uid and gid 0 and
+-- the tree file of the blank tree: `SFTREE01`, the home `/`, uid and gid 0, no entries, and the root with uid and gid 0
+-- and
 -- permissions 0o755
 abbrev pub blank_bytes : List ℕ
-blank_bytes = 0x53 ∷ 0x46 ∷ 0x54 ∷ 0x52 ∷ 0x45 ∷ 0x45 ∷ 0x30 ∷ 0x31 ∷ 0x00 ∷ 0x00 ∷ 0x00 ∷ 0x01 ∷ 0x2f ∷ 0x00 ∷ 0x00 ∷ 0x00 ∷ 0x00 ∷ 0x00 ∷ 0x00 ∷ 0x00 ∷ 0x00 ∷ 0x00 ∷ 0x00 ∷ 0x00 ∷ 0x00 ∷ 0x00 ∷ 0x00 ∷ 0x00 ∷ 0x00 ∷ 0x00 ∷ 0x00 ∷ 0x00 ∷ 0x00 ∷ 0x00 ∷ 0x00 ∷ 0x01 ∷ 0xed ∷ []
+blank_bytes =
+    0x53 ∷ 0x46 ∷ 0x54 ∷ 0x52 ∷ 0x45 ∷ 0x45 ∷ 0x30 ∷ 0x31 ∷ 0x00 ∷ 0x00 ∷ 0x00 ∷ 0x01 ∷ 0x2f ∷ 0x00 ∷ 0x00 ∷ 0x00
+    ∷ 0x00 ∷ 0x00 ∷ 0x00 ∷ 0x00 ∷ 0x00 ∷ 0x00 ∷ 0x00 ∷ 0x00 ∷ 0x00 ∷ 0x00 ∷ 0x00 ∷ 0x00 ∷ 0x00 ∷ 0x00 ∷ 0x00 ∷ 0x00
+    ∷ 0x00 ∷ 0x00 ∷ 0x00 ∷ 0x01 ∷ 0xed ∷ []

@@ -7,7 +7,8 @@ use Rattle.sftp_audit.specs.Explained.{Matching, leading_pairs, Run}
 use Rattle.sftp_audit.specs.Ledger.{IsComplete}
 use Rattle.sftp_audit.specs.Exchanges.{exchange_of, ledger_of}
 use Rattle.sftp_audit.specs.Audit.{error_of_tree, error_of_transcript, error_of_session}
-use Rattle.sftp_audit.proofs.Accounts.{refused_by, reason_by, tree_reason, transcript_reason, session_reason, turns_made, run_made, accounts_made}
+use Rattle.sftp_audit.proofs.Accounts.{refused_by, reason_by, tree_reason, transcript_reason, session_reason}
+use Rattle.sftp_audit.proofs.Accounts.{turns_made, run_made, accounts_made}
 use Rattle.sftp_audit.proofs.auditor.audit.Goals as goal
 
 pub returns-in_err-events-clause-refused : goal.returns-in_err-events-clause-refused
@@ -19,8 +20,10 @@ pub returns-in_err-exchanges-clause-refused : goal.returns-in_err-exchanges-clau
 returns-in_err-exchanges-clause-refused c =
     refused_by c.args.tree.now c.args.transcript.now c.from_residual-in_err-exchanges.result error_of_session refusals.NoMemory c.in_err-exchanges.field-0.0 c.from_residual-in_err-exchanges.ensures.1 refl
     (λ other start events end told.
-    let turns = turns_made c.args.tree.now c.args.transcript.now start events c.in_ok-events.events.items end (c.in_ok-events.ensures.only events told.events_are) told in
-    c.in_err-exchanges.ensures.refused other (subst Matching (sym c.as_slice.ensures.value) turns.0) (rw c.as_slice.ensures.value turns.1))
+    let turns = turns_made c.args.tree.now c.args.transcript.now start events c.in_ok-events.events.items end
+    (c.in_ok-events.ensures.only events told.events_are) told in
+    c.in_err-exchanges.ensures.refused other (subst Matching (sym c.as_slice.ensures.value) turns.0)
+    (rw c.as_slice.ensures.value turns.1))
 
 pub returns-in_err-run-clause-refused : goal.returns-in_err-run-clause-refused
 returns-in_err-run-clause-refused c =
@@ -32,8 +35,10 @@ returns-in_err-run-clause-refused c =
 pub returns-clause-accepted : goal.returns-clause-accepted
 returns-clause-accepted c =
     let exchanges = c.in_ok-exchanges.exchanges.items in
-    let paired : IsComplete (ledger_of exchanges) c.in_ok-events.events.items = rw c.as_slice.ensures.value at c.in_ok-exchanges.ensures.paired in
-    let run : Run Allowed c.in_ok-state.state (leading_pairs (ledger_of exchanges)) c.run.new.tree = rw c.as_slice-2.ensures.value at c.in_ok-run.ensures.ran in (
+    let paired : IsComplete (ledger_of exchanges) c.in_ok-events.events.items =
+    rw c.as_slice.ensures.value at c.in_ok-exchanges.ensures.paired in
+    let run : Run Allowed c.in_ok-state.state (leading_pairs (ledger_of exchanges)) c.run.new.tree =
+    rw c.as_slice-2.ensures.value at c.in_ok-run.ensures.ran in (
       c.in_ok-state.state,
       c.in_ok-events.events.items,
       c.run.new.tree,
