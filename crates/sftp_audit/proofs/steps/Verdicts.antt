@@ -1,7 +1,8 @@
 -- What the code finds out of a request and an answer says whether the tree allows them.
 use Rattle.std.proofs.Common.{◌≡◌, ◌==◌, ◌&&◌, ℕ, Bool, true, false, List, [], ◌∷◌, Option, Some, None, Result, Ok, Err}
-use Rattle.std.proofs.Common.{refl, sym, ap, ◌∙◌, inl, inr}
+use Rattle.std.proofs.Common.{IsTrue, refl, sym, ap, ◌∙◌, inl, inr}
 use Rattle.std.proofs.lemmas.Bool.{and_parts}
+use Rattle.std.specs.Result.{IfOk}
 use Rattle.std.specs.List.{list_any, AllByRecursion}
 use Rattle.sftp_wire.specs.declared.attributes.Attrs.{Attrs}
 use Rattle.sftp_wire.specs.declared.names.NameItem.{NameItem}
@@ -92,6 +93,12 @@ verdict-done t ask false after message language d = record {
 
 -- ---- requests that change nothing
 
+-- what two facts of a result imply
+pub both_ok : {E : Type 0} (r : Result Bool E) (P Q R : Bool → Type 0) → ((ok : Bool) → P ok → Q ok → R ok)
+    → IfOk r P → IfOk r Q → IfOk r R
+both_ok (Ok ok) P Q R both p q = both ok p q
+both_ok (Err e) P Q R both p q = tt
+
 led_to-same : (t : Tree) (route : Option (Result Place Cause)) → led_to t route (λ place. t) ≡ t
 led_to-same t None = refl
 led_to-same t (Some (Ok place)) = refl
@@ -111,13 +118,13 @@ target-still t (Symlink linktarget link) still = cc
 target-still t other still = led_to-same t (led t other)
 
 -- an answer that is no status, to a request that changes nothing if the answer is its
-verdict-still : (t : Tree) (ask : Ask) (answer : Answer) (ok : Bool) → trim t ≡ t
+verdict-still : (t : Tree) (ask : Ask) (answer : Answer) (ok : Bool) → (IsTrue ok → trim t ≡ t)
     → refuses (causes t ask) answer ≡ false → (answers t ask answer ≡ true → changes ask ≡ false)
     → ok ≡ is_answer t ask answer → IsVerdict t ask answer ok t
 verdict-still t ask answer ok trimmed unlike still is = record {
   allowed =
       λ h. let parts = and_parts (is_none (causes t ask)) (answers t ask answer) (sym is ∙ h) in inr
-      (record { free = parts.0; answered = parts.1; changed = sym (ap trim (target-still t ask (still parts.1)) ∙ trimmed) });
+      (record { free = parts.0; answered = parts.1; changed = sym (ap trim (target-still t ask (still parts.1)) ∙ trimmed h) });
   refused = λ h after step. elim step [ inl w ↦ no_refusal w.cause | inr w ↦ no_answer h w.free w.answered ];
   kept = λ _. refl;
 }
@@ -153,12 +160,12 @@ still-names t (Hardlink oldpath newpath) names is = cc
 still-names t (Symlink linktarget link) names is = cc
 still-names t other names is = refl
 
-pub verdict-attributes : (t : Tree) (ask : Ask) (attrs : Attrs) (ok : Bool) → trim t ≡ t
+pub verdict-attributes : (t : Tree) (ask : Ask) (attrs : Attrs) (ok : Bool) → (IsTrue ok → trim t ≡ t)
     → ok ≡ is_answer t ask (replies.Attrs attrs) → IsVerdict t ask (replies.Attrs attrs) ok t
 verdict-attributes t ask attrs ok trimmed is =
     verdict-still t ask (replies.Attrs attrs) ok trimmed refl (still-attrs t ask attrs) is
 
-pub verdict-names : (t : Tree) (ask : Ask) (names : List NameItem) (ok : Bool) → trim t ≡ t
+pub verdict-names : (t : Tree) (ask : Ask) (names : List NameItem) (ok : Bool) → (IsTrue ok → trim t ≡ t)
     → ok ≡ is_answer t ask (replies.Name names) → IsVerdict t ask (replies.Name names) ok t
 verdict-names t ask names ok trimmed is =
     verdict-still t ask (replies.Name names) ok trimmed refl (still-names t ask names) is
