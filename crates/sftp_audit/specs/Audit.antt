@@ -27,26 +27,28 @@ abbrev pub request_count : List Event → ℕ
 request_count events = min (length (exchanges_of events)) (2 ^ 64 - 1)
 
 -- the error of an audit, by the error of its part: `NoMemory` is the same everywhere
-abbrev pub tree_refused : TreeError → AuditError
-tree_refused tree_errors.NoMemory = audit_errors.NoMemory
-tree_refused error = audit_errors.Tree error
+abbrev pub error_of_tree : TreeError → AuditError
+error_of_tree tree_errors.NoMemory = audit_errors.NoMemory
+error_of_tree error = audit_errors.Tree error
 
-abbrev pub transcript_refused : TranscriptError → AuditError
-transcript_refused transcript_errors.NoMemory = audit_errors.NoMemory
-transcript_refused error = audit_errors.Transcript error
+abbrev pub error_of_transcript : TranscriptError → AuditError
+error_of_transcript transcript_errors.NoMemory = audit_errors.NoMemory
+error_of_transcript error = audit_errors.Transcript error
 
-abbrev pub session_refused : Refusal → AuditError
-session_refused refusals.NoMemory = audit_errors.NoMemory
-session_refused refusal = audit_errors.Refused refusal
+abbrev pub error_of_session : Refusal → AuditError
+error_of_session refusals.NoMemory = audit_errors.NoMemory
+error_of_session refusal = audit_errors.Refused refusal
 
 -- the bytes are the tree file of a tree
 abbrev pub HasStart : List ℕ → Type 0
 HasStart tree = (start : Tree) × IsStart start tree
 
--- the reason for an error of an audit: no tree, or a tree but no events, or a tree, and then a session that it does not explain
+-- the reason for an error of an audit: no tree, or a tree but no events, or a tree, and then a session that it does not
+-- explain
 abbrev pub IsReason : List ℕ → List ℕ → AuditError → Type 0
 IsReason tree transcript (audit_errors.Tree error) = HasStart tree → ⊥
-IsReason tree transcript (audit_errors.Transcript error) = HasStart tree × ((events : List Event) → IsRecord events transcript → ⊥)
+IsReason tree transcript (audit_errors.Transcript error) =
+    HasStart tree × ((events : List Event) → IsRecord events transcript → ⊥)
 IsReason tree transcript (audit_errors.Refused refusal) = HasStart tree
 IsReason tree transcript audit_errors.NoMemory = Unit {0}
 
@@ -57,7 +59,11 @@ IsPlain (audit_errors.Transcript transcript_errors.NoMemory) = ⊥
 IsPlain (audit_errors.Refused refusals.NoMemory) = ⊥
 IsPlain _ = Unit {0}
 
--- the tree file of the blank tree: `SFTREE01`, the home `/`, uid and gid 0, no entries, and the root with uid and gid 0 and
+-- the tree file of the blank tree: `SFTREE01`, the home `/`, uid and gid 0, no entries, and the root with uid and gid 0
+-- and
 -- permissions 0o755
 abbrev pub blank_bytes : List ℕ
-blank_bytes = 0x53 ∷ 0x46 ∷ 0x54 ∷ 0x52 ∷ 0x45 ∷ 0x45 ∷ 0x30 ∷ 0x31 ∷ 0x00 ∷ 0x00 ∷ 0x00 ∷ 0x01 ∷ 0x2f ∷ 0x00 ∷ 0x00 ∷ 0x00 ∷ 0x00 ∷ 0x00 ∷ 0x00 ∷ 0x00 ∷ 0x00 ∷ 0x00 ∷ 0x00 ∷ 0x00 ∷ 0x00 ∷ 0x00 ∷ 0x00 ∷ 0x00 ∷ 0x00 ∷ 0x00 ∷ 0x00 ∷ 0x00 ∷ 0x00 ∷ 0x00 ∷ 0x00 ∷ 0x01 ∷ 0xed ∷ []
+blank_bytes =
+    0x53 ∷ 0x46 ∷ 0x54 ∷ 0x52 ∷ 0x45 ∷ 0x45 ∷ 0x30 ∷ 0x31 ∷ 0x00 ∷ 0x00 ∷ 0x00 ∷ 0x01 ∷ 0x2f ∷ 0x00 ∷ 0x00 ∷ 0x00
+    ∷ 0x00 ∷ 0x00 ∷ 0x00 ∷ 0x00 ∷ 0x00 ∷ 0x00 ∷ 0x00 ∷ 0x00 ∷ 0x00 ∷ 0x00 ∷ 0x00 ∷ 0x00 ∷ 0x00 ∷ 0x00 ∷ 0x00 ∷ 0x00
+    ∷ 0x00 ∷ 0x00 ∷ 0x00 ∷ 0x01 ∷ 0xed ∷ []

@@ -2,7 +2,8 @@
 use Rattle.std.specs.Prelude.{ℕ, List, [], ◌∷◌, ◌++◌, map, codes, Some}
 use Rattle.sftp_wire.specs.declared.attributes.Attrs.{Attrs}
 use Rattle.sftp_wire.specs.declared.names.NameItem.{NameItem}
-use Rattle.sftp_wire.specs.declared.packets.Ask.TheVariants.{Opendir, Mkdir, Rmdir, Stat, Lstat, Realpath, Readlink, Symlink}
+use Rattle.sftp_wire.specs.declared.packets.Ask.TheVariants.{Opendir, Mkdir, Rmdir, Stat, Lstat, Realpath, Readlink}
+use Rattle.sftp_wire.specs.declared.packets.Ask.TheVariants.{Symlink}
 use Rattle.sftp_wire.specs.declared.packets.Answer.TheVariants.{Status, Data, Name, Attrs as attributes}
 use Rattle.sftp_wire.specs.Rows.{hex, no_attributes, version_bytes}
 use Rattle.sftp_audit.specs.declared.events.Event.{Event}
@@ -31,11 +32,13 @@ with_a = tree_of (([], plain_directory) ∷ (codes "a" ∷ [], plain_directory) 
 
 -- with the directories `/a` and `/a/b`
 abbrev pub with_a_and_b : Tree
-with_a_and_b = tree_of (([], plain_directory) ∷ (codes "a" ∷ [], plain_directory) ∷ (codes "a" ∷ codes "b" ∷ [], plain_directory) ∷ [])
+with_a_and_b = tree_of (with_a.names ++ (codes "a" ∷ codes "b" ∷ [], plain_directory) ∷ [])
 
 -- its tree file
 abbrev pub with_a_and_b_bytes : List ℕ
-with_a_and_b_bytes = hex (codes "5346545245453031 00000001 2f 00000000 00000000 00000002 00000000 00000000 000001ed 00000002 2f61 44 00000000 00000000 000001ed 00000004 2f612f62 44 00000000 00000000 000001ed")
+with_a_and_b_bytes =
+    hex (codes "5346545245453031 00000001 2f 00000000 00000000 00000002 00000000 00000000 000001ed") ++
+    hex (codes "00000002 2f61 44 00000000 00000000 000001ed 00000004 2f612f62 44 00000000 00000000 000001ed")
 
 -- with the link `/l` to `x y`
 abbrev pub with_link : Tree
@@ -101,20 +104,20 @@ with_no_permissions size = record no_attributes { size = Some size; owner = Some
 -- ---- sessions
 
 -- three requests on one path and its parent
-abbrev pub three_asked : List Event
-three_asked = mkdir 1 (codes "/a") ∷ mkdir 2 (codes "/a/b") ∷ rmdir 3 (codes "/a") ∷ []
+abbrev pub three_requests : List Event
+three_requests = mkdir 1 (codes "/a") ∷ mkdir 2 (codes "/a/b") ∷ rmdir 3 (codes "/a") ∷ []
 
 -- their replies come in the opposite order, and the last request is refused with this code
 abbrev pub backward_replies : ℕ → List Event
-backward_replies code = three_asked ++ status 3 code ∷ status 2 0 ∷ status 1 0 ∷ []
+backward_replies code = three_requests ++ status 3 code ∷ status 2 0 ∷ status 1 0 ∷ []
 
 -- the second request has no reply
 abbrev pub one_unanswered : List Event
-one_unanswered = three_asked ++ status 3 4 ∷ status 1 0 ∷ []
+one_unanswered = three_requests ++ status 3 4 ∷ status 1 0 ∷ []
 
 -- the first request has two replies
 abbrev pub one_answered_twice : List Event
-one_answered_twice = three_asked ++ status 3 4 ∷ status 2 0 ∷ status 1 0 ∷ status 1 0 ∷ []
+one_answered_twice = three_requests ++ status 3 4 ∷ status 2 0 ∷ status 1 0 ∷ status 1 0 ∷ []
 
 -- the same directory, asked for twice and in two spellings; the second is refused with this code
 abbrev pub same_directory_twice : ℕ → List Event
@@ -128,11 +131,13 @@ data_for_mkdir = mkdir 1 (codes "/a") ∷ data_reply 1 (codes "a") ∷ []
 abbrev pub opendir_of_nothing : List Event
 opendir_of_nothing = open_directory 1 (codes "/a") ∷ status 1 2 ∷ []
 
--- the link `/l` to `x y` is made and looked at: READLINK is answered with these names, STAT says that there is no such file, and LSTAT
+-- the link `/l` to `x y` is made and looked at: READLINK is answered with these names, STAT says that there is no such
+-- file, and LSTAT
 -- is answered with these attributes
 abbrev pub link_session : List (List ℕ) → Attrs → List Event
 link_session names attrs =
-    symlink 1 (codes "x y") (codes "/l") ∷ status 1 0 ∷ read_link 2 (codes "/l") ∷ name_reply 2 names ∷ stat 3 (codes "/l") ∷ status 3 2 ∷ lstat 4 (codes "/l") ∷ attributes_reply 4 attrs ∷ []
+    symlink 1 (codes "x y") (codes "/l") ∷ status 1 0 ∷ read_link 2 (codes "/l") ∷ name_reply 2 names
+    ∷ stat 3 (codes "/l") ∷ status 3 2 ∷ lstat 4 (codes "/l") ∷ attributes_reply 4 attrs ∷ []
 
 -- the parent of the root's parent is asked for
 abbrev pub above_the_root : List Event

@@ -1,7 +1,8 @@
 -- When a session is explained: each reply answers one earlier request, each request is answered within the
 -- window, and doing the requests one at a time in the order asked makes every reply one that is allowed
 -- (draft-ietf-secsh-filexfer-02, section 6.1). The window is this profile's own.
-use Rattle.std.specs.Prelude.{◌≡◌, ◌==◌, ◌&&◌, nat_lt, ℕ, suc, Bool, true, if◌then◌else◌, List, [], ◌∷◌, Option, Some, None, IsTrue}
+use Rattle.std.specs.Prelude.{◌≡◌, ◌==◌, ◌&&◌, nat_lt, ℕ, suc, Bool, true, if◌then◌else◌, List, [], ◌∷◌, Option, Some}
+use Rattle.std.specs.Prelude.{None, IsTrue}
 use Rattle.sftp_wire.specs.declared.packets.Request.{Request}
 use Rattle.sftp_wire.specs.declared.packets.Reply.{Reply}
 use Rattle.sftp_audit.specs.declared.events.Event.{Event}

@@ -1,12 +1,15 @@
--- The ledger of a session: each request so far in the order asked, with its reply if there is one. It says of the events
+-- The ledger of a session: each request so far in the order asked, with its reply if there is one. It says of the
+-- events
 -- so far all that matters for what comes later.
-use Rattle.std.specs.Prelude.{◌≡◌, ◌==◌, ◌&&◌, ◌||◌, nat_lt, ℕ, ◌+◌, ◌<◌, ◌≤◌, Bool, true, false, if◌then◌else◌, List, [], ◌∷◌, ◌++◌, Option, Some, None, IsTrue, length, take, slice_get, nat_eq}
+use Rattle.std.specs.Prelude.{◌≡◌, ◌==◌, ◌&&◌, ◌||◌, nat_lt, ℕ, ◌+◌, ◌<◌, ◌≤◌, Bool, true, false, if◌then◌else◌, List}
+use Rattle.std.specs.Prelude.{[], ◌∷◌, ◌++◌, Option, Some, None, IsTrue, length, take, slice_get, nat_eq}
 use Rattle.std.specs.List.{AllByRecursion}
 use Rattle.std.specs.Map.{lookup}
 use Rattle.sftp_wire.specs.declared.packets.Request.{Request}
 use Rattle.sftp_wire.specs.declared.packets.Reply.{Reply}
 use Rattle.sftp_audit.specs.declared.events.Event.{Event}
-use Rattle.sftp_audit.specs.Explained.{Turn, closed, waiting, turn_after, Matching, next_reply, exchanges_of, requests_before_reply, in_window, window}
+use Rattle.sftp_audit.specs.Explained.{Turn, closed, waiting, turn_after, Matching, next_reply, exchanges_of}
+use Rattle.sftp_audit.specs.Explained.{requests_before_reply, in_window, window}
 
 -- a request, and its reply if there is one
 abbrev pub Exchange : Type 0
@@ -37,13 +40,15 @@ AreApart ((request, Some reply) ∷ others) = AreApart others
 -- each request that waits is answered in the window, with the events to come
 unfoldable pub keeps_window : List Exchange → List Event → Bool
 keeps_window [] events = true
-keeps_window ((request, None) ∷ others) events = nat_lt (length others + requests_before_reply request.id events) window && keeps_window others events
+keeps_window ((request, None) ∷ others) events =
+    nat_lt (length others + requests_before_reply request.id events) window && keeps_window others events
 keeps_window ((request, Some reply) ∷ others) events = keeps_window others events
 
 -- the ledger stands for the events so far
 pub record StandsFor (ledger : List Exchange) (seen : List Event) : Type 0 where
   pub exchanges_are : (more : List Event) → exchanges_of (seen ++ more) ≡ with_replies ledger more ++ exchanges_of more
-  pub turns_are : (id : ℕ) (more : List Event) → turn_after id closed (seen ++ more) ≡ turn_after id (turn_of ledger id) more
+  pub turns_are : (id : ℕ) (more : List Event)
+      → turn_after id closed (seen ++ more) ≡ turn_after id (turn_of ledger id) more
   pub window_is : (more : List Event) → in_window (seen ++ more) ≡ (keeps_window ledger more && in_window more)
   pub apart : AreApart ledger
   pub in_time : IsTrue (keeps_window ledger [])
@@ -71,7 +76,8 @@ pub record HasAnswer (old : List Exchange) (reply : Reply) (new : List Exchange)
 -- The index of a ledger: the place of each request that waits, by its id; and the place of the oldest one.
 pub record IsIndexed (ledger : List Exchange) (index : List (ℕ × ℕ)) (oldest : ℕ) : Type 0 where
   -- what the index finds is a request of that id that waits
-  pub found : (id place : ℕ) → lookup (nat_eq id) index ≡ Some place → (request : Request) × (slice_get ledger place ≡ Some (request, None)) × (request.id ≡ id)
+  pub found : (id place : ℕ) → lookup (nat_eq id) index ≡ Some place
+      → (request : Request) × (slice_get ledger place ≡ Some (request, None)) × (request.id ≡ id)
   -- where it finds none, none waits
   pub absent : (id : ℕ) → lookup (nat_eq id) index ≡ None → is_open id ledger ≡ false
   pub apart : AreApart ledger

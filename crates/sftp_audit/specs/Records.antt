@@ -1,8 +1,10 @@
 -- The steps by which a transcript file is read from left to right. This profile's own.
-use Rattle.std.specs.Prelude.{◌≡◌, ◌==◌, ℕ, ◌≤◌, List, ◌++◌, Option, Some, None, Result, MatchResult, if◌then◌else◌}
+use Rattle.std.specs.Prelude.{◌≡◌, ◌==◌, ℕ, ◌≤◌, List, ◌++◌, Option, Some, None}
+use Rattle.std.specs.Prelude.{Result, MatchResult, IsTrue, if◌then◌else◌}
 use Rattle.sftp_wire.specs.declared.errors.Fault.TheVariants.{Length, WrongType}
 use Rattle.sftp_wire.specs.declared.errors.WireError.{WireError}
-use Rattle.sftp_wire.specs.declared.errors.WireError.TheVariants.{TooLong, NotCanonical, Unreadable, NoMemory as wire_no_memory}
+use Rattle.sftp_wire.specs.declared.errors.WireError.TheVariants.{TooLong, NotCanonical, Unreadable}
+use Rattle.sftp_wire.specs.declared.errors.WireError.TheVariants.{NoMemory as wire_no_memory}
 use Rattle.sftp_wire.specs.declared.packets.Packet.{Packet}
 use Rattle.sftp_wire.specs.declared.packets.Packet.TheVariants.{Init, Version}
 use Rattle.sftp_wire.specs.declared.packets.Side.{Side}
@@ -34,7 +36,7 @@ pub record BeginsInit (bytes rest : List ℕ) : Type 0 where
 
 -- a VERSION 3
 abbrev pub IsVersion : Packet → Type 0
-IsVersion (Version version extensions) = version ≡ 3
+IsVersion (Version version extensions) = IsTrue (version == 3)
 IsVersion other = ⊥
 
 -- the bytes begin with the record of one

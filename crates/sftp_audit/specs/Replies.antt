@@ -4,7 +4,8 @@ use Rattle.std.specs.Prelude.{◌≡◌, ◌==◌, ◌&&◌, ℕ, Bool, false, L
 use Rattle.sftp_wire.specs.declared.attributes.Attrs.{Attrs}
 use Rattle.sftp_wire.specs.declared.names.NameItem.{NameItem}
 use Rattle.sftp_wire.specs.declared.packets.Ask.{Ask}
-use Rattle.sftp_wire.specs.declared.packets.Ask.TheVariants.{Lstat, Setstat, Remove, Mkdir, Rmdir, Realpath, Stat, Rename, Readlink, Symlink, PosixRename, Hardlink}
+use Rattle.sftp_wire.specs.declared.packets.Ask.TheVariants.{Lstat, Setstat, Remove, Mkdir, Rmdir, Realpath, Stat}
+use Rattle.sftp_wire.specs.declared.packets.Ask.TheVariants.{Rename, Readlink, Symlink, PosixRename, Hardlink}
 use Rattle.sftp_wire.specs.declared.packets.Answer.{Answer}
 use Rattle.sftp_wire.specs.declared.packets.Answer.TheVariants as replies
 use Rattle.sftp_wire.specs.declared.packets.Request.{Request}
@@ -33,9 +34,11 @@ abbrev pub same_numbers : Option (ℕ × ℕ) → Option (ℕ × ℕ) → Bool
 same_numbers (Some a) (Some b) = a.0 == b.0 && a.1 == b.1
 same_numbers _ _ = false
 
--- whether both attributes have the size, the owner and the permissions, and the same ones; times and extended pairs are free
+-- whether both attributes have the size, the owner and the permissions, and the same ones; times and extended pairs are
+-- free
 abbrev pub same_attributes : Attrs → Attrs → Bool
-same_attributes a b = same_number a.size b.size && (same_numbers a.owner b.owner && same_number a.permissions b.permissions)
+same_attributes a b =
+    same_number a.size b.size && (same_numbers a.owner b.owner && same_number a.permissions b.permissions)
 
 -- the attributes of what was asked for
 abbrev pub is_shown : Option Attrs → Answer → Bool

@@ -4,7 +4,8 @@ use Rattle.std.specs.Prelude.{◌≡◌, ℕ, ◌≤◌, Bool, true, List, ◌�
 use Rattle.std.specs.Global.{Vec}
 use Rattle.std.specs.List.{flat_map, AllByRecursion}
 use Rattle.sftp_wire.specs.declared.packets.Packet.{Packet}
-use Rattle.sftp_wire.specs.declared.packets.Packet.TheVariants.{Init, Version, Request as request_packet, Reply as reply_packet}
+use Rattle.sftp_wire.specs.declared.packets.Packet.TheVariants.{Init, Version, Request as request_packet}
+use Rattle.sftp_wire.specs.declared.packets.Packet.TheVariants.{Reply as reply_packet}
 use Rattle.sftp_wire.specs.declared.packets.Side.{Side}
 use Rattle.sftp_wire.specs.declared.packets.Side.TheVariants.{Client, Server}
 use Rattle.sftp_wire.specs.Spelling.{spelling, HasSpelling, side_of}
@@ -72,4 +73,5 @@ pub record IsRecord (events : List Event) (bytes : List ℕ) : Type 0 where
 
 -- where the bytes record events, these are the result, unless memory ran out
 abbrev pub GivesRecorded : Result (Vec Event) TranscriptError → List ℕ → Type 0
-GivesRecorded result bytes = (events : List Event) → IsRecord events bytes → MatchResult result (λ v. v.items ≡ events) (λ e. e ≡ NoMemory)
+GivesRecorded result bytes =
+    (events : List Event) → IsRecord events bytes → MatchResult result (λ v. v.items ≡ events) (λ e. e ≡ NoMemory)

@@ -142,9 +142,9 @@ impl From<NoMemory> for AuditError {
 }
 
 impl From<TreeError> for AuditError {
-    ghost use Rattle.sftp_audit.specs.Audit.{tree_refused};
+    ghost use Rattle.sftp_audit.specs.Audit.{error_of_tree};
 
-    ghost from_gives = { λ error e. e ≡ tree_refused error };
+    ghost from_gives = { λ error e. e ≡ error_of_tree error };
 
     fn from(error: TreeError) -> AuditError {
         match error {
@@ -155,9 +155,9 @@ impl From<TreeError> for AuditError {
 }
 
 impl From<TranscriptError> for AuditError {
-    ghost use Rattle.sftp_audit.specs.Audit.{transcript_refused};
+    ghost use Rattle.sftp_audit.specs.Audit.{error_of_transcript};
 
-    ghost from_gives = { λ error e. e ≡ transcript_refused error };
+    ghost from_gives = { λ error e. e ≡ error_of_transcript error };
 
     fn from(error: TranscriptError) -> AuditError {
         match error {
@@ -168,9 +168,9 @@ impl From<TranscriptError> for AuditError {
 }
 
 impl From<Refusal> for AuditError {
-    ghost use Rattle.sftp_audit.specs.Audit.{session_refused};
+    ghost use Rattle.sftp_audit.specs.Audit.{error_of_session};
 
-    ghost from_gives = { λ refusal e. e ≡ session_refused refusal };
+    ghost from_gives = { λ refusal e. e ≡ error_of_session refusal };
 
     fn from(refusal: Refusal) -> AuditError {
         match refusal {

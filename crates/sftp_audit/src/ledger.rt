@@ -1,5 +1,6 @@
 //! The ledger of a session, which pairs each request with its reply.
-ghost use Rattle.std.specs.Prelude.{◌≡◌, ◌≢◌, ◌⊎◌, ◌++◌, ◌<◌, ◌≤◌, [], ◌∷◌, None, Some, length, take, slice_get, IsTrue, IfOk, IfErr, OnOk, true, false, List};
+ghost use Rattle.std.specs.Prelude.{◌≡◌, ◌≢◌, ◌⊎◌, ◌++◌, ◌<◌, ◌≤◌, [], ◌∷◌, None, Some, length, take};
+ghost use Rattle.std.specs.Prelude.{slice_get, IsTrue, IfOk, IfErr, OnOk, true, false, List};
 ghost use Rattle.std.specs.List.{AllByRecursion};
 ghost use Rattle.sftp_audit.specs.declared.errors.Refusal.TheVariants.{NoMemory};
 ghost use Rattle.sftp_audit.specs.Explained.{Matching, in_window};

@@ -37,7 +37,6 @@ fn judge(tree: &mut Tree, ask: &Ask, answer: &Answer) -> Result<bool, NoMemory>
     ensures ok { IfOk result (λ ok. IsVerdict tree.old ask.now answer.now ok tree.new) }
     ensures err { OnErr result (tree.new ≡ tree.old) }
 {
-    tree.see();
     match answer {
         Answer::Status { code, .. } => judge_status(tree, ask, *code),
         Answer::Attrs(attrs) => shows(tree, ask, attrs),
@@ -112,7 +111,8 @@ fn is_done(outcome: Result<(), Refused>) -> Result<bool, NoMemory>
 
 /// Whether attributes answer the request: it is STAT or LSTAT, and its path leads to what has these.
 fn shows(tree: &Tree, ask: &Ask, attrs: &Attrs) -> Result<bool, NoMemory>
-    ensures { IfOk result (λ ok. ok ≡ is_answer tree.now ask.now (answers.Attrs attrs.now)) }
+    ensures answered { IfOk result (λ ok. ok ≡ is_answer tree.now ask.now (answers.Attrs attrs.now)) }
+    ensures kept { IfOk result (λ ok. IsTrue ok → trees.IsKept tree.now) }
 {
     match ask {
         Ask::Stat { path } => shows_at(tree, path, true, attrs),
@@ -142,8 +142,10 @@ fn shows(tree: &Tree, ask: &Ask, attrs: &Attrs) -> Result<bool, NoMemory>
 
 /// Whether a path leads to what has these attributes.
 fn shows_at(tree: &Tree, path: &ByteString, follow: bool, attrs: &Attrs) -> Result<bool, NoMemory>
-    ensures { IfOk result (λ ok. ok ≡ is_answer tree.now (stat_ask follow path.now) (answers.Attrs attrs.now)) }
+    ensures answered { IfOk result (λ ok. ok ≡ is_answer tree.now (stat_ask follow path.now) (answers.Attrs attrs.now)) }
+    ensures kept { IfOk result (λ ok. IsTrue ok → trees.IsKept tree.now) }
 {
+    tree.see();
     match value_of(tree.stat(path.as_slice(), follow))? {
         Some(shown) => Ok(same_attributes(&shown, attrs)),
         None => Ok(false),
@@ -152,7 +154,8 @@ fn shows_at(tree: &Tree, path: &ByteString, follow: bool, attrs: &Attrs) -> Resu
 
 /// Whether names answer the request: it is REALPATH or READLINK, and the only name is the text that it asks for.
 fn tells(tree: &Tree, ask: &Ask, names: &Names) -> Result<bool, NoMemory>
-    ensures { IfOk result (λ ok. ok ≡ is_answer tree.now ask.now (answers.Name names.now)) }
+    ensures answered { IfOk result (λ ok. ok ≡ is_answer tree.now ask.now (answers.Name names.now)) }
+    ensures kept { IfOk result (λ ok. IsTrue ok → trees.IsKept tree.now) }
 {
     match ask {
         Ask::Realpath { path } => tells_place(tree, path, names),
@@ -182,8 +185,10 @@ fn tells(tree: &Tree, ask: &Ask, names: &Names) -> Result<bool, NoMemory>
 
 /// Whether the only name is the text of the place where a path leads.
 fn tells_place(tree: &Tree, path: &ByteString, names: &Names) -> Result<bool, NoMemory>
-    ensures { IfOk result (λ ok. ok ≡ is_answer tree.now (Realpath path.now) (answers.Name names.now)) }
+    ensures answered { IfOk result (λ ok. ok ≡ is_answer tree.now (Realpath path.now) (answers.Name names.now)) }
+    ensures kept { IfOk result (λ ok. IsTrue ok → trees.IsKept tree.now) }
 {
+    tree.see();
     match value_of(tree.real_path(path.as_slice()))? {
         Some(text) => Ok(is_one_name(text.as_slice(), names)),
         None => Ok(false),
@@ -192,8 +197,10 @@ fn tells_place(tree: &Tree, path: &ByteString, names: &Names) -> Result<bool, No
 
 /// Whether the only name is the target of the link where a path leads.
 fn tells_target(tree: &Tree, path: &ByteString, names: &Names) -> Result<bool, NoMemory>
-    ensures { IfOk result (λ ok. ok ≡ is_answer tree.now (Readlink path.now) (answers.Name names.now)) }
+    ensures answered { IfOk result (λ ok. ok ≡ is_answer tree.now (Readlink path.now) (answers.Name names.now)) }
+    ensures kept { IfOk result (λ ok. IsTrue ok → trees.IsKept tree.now) }
 {
+    tree.see();
     match value_of(tree.read_link(path.as_slice()))? {
         Some(target) => Ok(is_one_name(target.as_slice(), names)),
         None => Ok(false),
@@ -262,28 +269,28 @@ pub fn has_step(ask: &Ask) -> bool
     ensures { result ≡ steps.has_step ask.now }
 {
     match ask {
-        Ask::Lstat { .. }
-        | Ask::Setstat { .. }
-        | Ask::Remove { .. }
-        | Ask::Mkdir { .. }
-        | Ask::Rmdir { .. }
-        | Ask::Realpath { .. }
-        | Ask::Stat { .. }
-        | Ask::Rename { .. }
-        | Ask::Readlink { .. }
-        | Ask::Symlink { .. }
-        | Ask::PosixRename { .. }
-        | Ask::Hardlink { .. } => true,
-        Ask::Open { .. }
-        | Ask::Close { .. }
-        | Ask::Read { .. }
-        | Ask::Write { .. }
-        | Ask::Fstat { .. }
-        | Ask::Fsetstat { .. }
-        | Ask::Opendir { .. }
-        | Ask::Readdir { .. }
-        | Ask::Fsync { .. }
-        | Ask::Unknown { .. } => false,
+        Ask::Open { .. } => false,
+        Ask::Close { .. } => false,
+        Ask::Read { .. } => false,
+        Ask::Write { .. } => false,
+        Ask::Lstat { .. } => true,
+        Ask::Fstat { .. } => false,
+        Ask::Setstat { .. } => true,
+        Ask::Fsetstat { .. } => false,
+        Ask::Opendir { .. } => false,
+        Ask::Readdir { .. } => false,
+        Ask::Remove { .. } => true,
+        Ask::Mkdir { .. } => true,
+        Ask::Rmdir { .. } => true,
+        Ask::Realpath { .. } => true,
+        Ask::Stat { .. } => true,
+        Ask::Rename { .. } => true,
+        Ask::Readlink { .. } => true,
+        Ask::Symlink { .. } => true,
+        Ask::PosixRename { .. } => true,
+        Ask::Hardlink { .. } => true,
+        Ask::Fsync { .. } => false,
+        Ask::Unknown { .. } => false,
     }
 }
 

@@ -1,5 +1,7 @@
 -- How long the text of a place is, and that it is bytes.
-use Rattle.std.proofs.Common.{◌≡◌, ◌&&◌, not, nat_lt, nat_le, ◌==◌, ℕ, ◌+◌, ◌-◌, ◌*◌, ◌≤◌, Bool, true, false, List, [], ◌∷◌, ◌++◌, length, Option, Some, None, refl, sym, subst, arith, cond, ltb-true, leb-true, lit<}
+use Rattle.std.proofs.Common.{◌≡◌, ◌&&◌, not, nat_lt, nat_le, ◌==◌, ℕ, ◌+◌, ◌-◌, ◌*◌, ◌≤◌, Bool, true, false, List, []}
+use Rattle.std.proofs.Common.{◌∷◌, ◌++◌, length, Option, Some, None, refl, sym, subst, arith, cond, ltb-true, leb-true}
+use Rattle.std.proofs.Common.{lit<}
 use Rattle.std.proofs.lemmas.Bool.{and_parts}
 use Rattle.std.specs.List.{list_all, flat_map}
 use Rattle.std.specs.Map.{lookup}
@@ -9,7 +11,8 @@ use Rattle.std.specs.declared.cmp.Ordering.{Ordering}
 use Rattle.std.specs.declared.cmp.Ordering.TheVariants.{Less, Equal, Greater}
 use Rattle.std.proofs.lemmas.List.{length-append, length-take}
 use Rattle.sftp_wire.specs.Spelling.{AreBytes, FitsString}
-use Rattle.sftp_path.specs.Place.{Name, Place, place_cmp, parent, absolute, are_names, is_name, is_name_byte, is_dot, is_dot_dot}
+use Rattle.sftp_path.specs.Place.{Name, Place, place_cmp, parent, absolute, are_names, is_name, is_name_byte, is_dot}
+use Rattle.sftp_path.specs.Place.{is_dot_dot}
 use Rattle.sftp_path.specs.Table.{get}
 use Rattle.sftp_path.proofs.Order.{place_cmp-same}
 use Rattle.sftp_treefile.specs.TreeFile.{are_bytes}
@@ -41,7 +44,8 @@ name_bytes (b ∷ name) is =
 
 name_parts : (name : Name) → is_name name ≡ true → (length name ≤ 255) × AreBytes name
 name_parts name is =
-    let halves = and_parts (nat_lt 0 (length name) && nat_le (length name) 255) (list_all is_name_byte name && (not (is_dot name) && not (is_dot_dot name))) is in
+    let halves = and_parts (nat_lt 0 (length name) && nat_le (length name) 255)
+    (list_all is_name_byte name && (not (is_dot name) && not (is_dot_dot name))) is in
     let sizes = and_parts (nat_lt 0 (length name)) (nat_le (length name) 255) halves.0 in
     let inner = and_parts (list_all is_name_byte name) (not (is_dot name) && not (is_dot_dot name)) halves.1 in
     (leb-true (length name) 255 sizes.1, name_bytes name inner.0)
@@ -49,7 +53,8 @@ name_parts name is =
 abbrev behind_slash : Name → List ℕ
 behind_slash name = 47 ∷ name
 
-names_text : (place : Place) → are_names place ≡ true → (length (flat_map behind_slash place) ≤ 256 * length place) × AreBytes (flat_map behind_slash place)
+names_text : (place : Place) → are_names place ≡ true
+    → (length (flat_map behind_slash place) ≤ 256 * length place) × AreBytes (flat_map behind_slash place)
 names_text [] are = (omega arith, tt)
 names_text (name ∷ place) are =
     let parts = and_parts (is_name name) (are_names place) are in
@@ -59,7 +64,8 @@ names_text (name ∷ place) are =
       append_bytes (behind_slash name) (flat_map behind_slash place) (lit< tt, here.1) rest.1,
     )
 
-text_parts : (place : Place) → are_names place ≡ true → (length (absolute place) ≤ 256 * length place + 1) × AreBytes (absolute place)
+text_parts : (place : Place) → are_names place ≡ true
+    → (length (absolute place) ≤ 256 * length place + 1) × AreBytes (absolute place)
 text_parts [] are = (omega arith, (lit< tt, tt))
 text_parts (name ∷ place) are = let all = names_text (name ∷ place) are in (omega (arith, all.0), all.1)
 
@@ -70,27 +76,36 @@ equal_by Less e = cc
 equal_by Equal e = refl
 equal_by Greater e = cc
 
-depth_found : (names : Names) (place : Place) (node : Node) → list_all (λ e. depth_fits e.0) names ≡ true → lookup (is_at (place_cmp place)) names ≡ Some node → depth_fits place ≡ true
+depth_found : (names : Names) (place : Place) (node : Node) → list_all (λ e. depth_fits e.0) names ≡ true
+    → lookup (is_at (place_cmp place)) names ≡ Some node → depth_fits place ≡ true
 depth_found [] place node all is = cc
 depth_found (e ∷ names) place node all is =
     let parts = and_parts (depth_fits e.0) (list_all (λ x. depth_fits x.0) names) all in
     by (depth_found names place node parts.1) parts.0 (is_eq (place_cmp place e.0)) refl
   where
-    by : (lookup (is_at (place_cmp place)) names ≡ Some node → depth_fits place ≡ true) → depth_fits e.0 ≡ true → (b : Bool) → is_eq (place_cmp place e.0) ≡ b → depth_fits place ≡ true
-    by rest here true hit = subst (λ (p : Place). depth_fits p ≡ true) (sym (place_cmp-same place e.0 (equal_by (place_cmp place e.0) hit))) here
-    by rest here false miss = rest (let f : cond false (Some e.1) (lookup (is_at (place_cmp place)) names) ≡ Some node = rw miss at is in f)
+    by : (lookup (is_at (place_cmp place)) names ≡ Some node → depth_fits place ≡ true) → depth_fits e.0 ≡ true
+        → (b : Bool) → is_eq (place_cmp place e.0) ≡ b → depth_fits place ≡ true
+    by rest here true hit =
+        subst (λ (p : Place). depth_fits p ≡ true)
+        (sym (place_cmp-same place e.0 (equal_by (place_cmp place e.0) hit))) here
+    by rest here false miss =
+        rest (let f : cond false (Some e.1) (lookup (is_at (place_cmp place)) names) ≡ Some node = rw miss at is in f)
 
-directory_depth : (t : Tree) (place : Place) → IsKept t → is_directory (node_at t.names place) ≡ true → length place ≤ 64
+directory_depth : (t : Tree) (place : Place) → IsKept t → is_directory (node_at t.names place) ≡ true
+    → length place ≤ 64
 unfolding get
 directory_depth t place kept there =
     by (node_at t.names place) refl there (limits_of t kept).depths
   where
-    by : (found : Option Node) → node_at t.names place ≡ found → is_directory found ≡ true → depths_fit t ≡ true → length place ≤ 64
+    by : (found : Option Node) → node_at t.names place ≡ found → is_directory found ≡ true → depths_fit t ≡ true
+        → length place ≤ 64
     by None is e deep = absurd cc
     by (Some node) is e deep = leb-true (length place) 64 (depth_found t.names place node deep is)
 
 -- the text of a place whose parent is a directory can be written
-pub text_fits : (t : Tree) (place : Place) → IsKept t → are_names place ≡ true → is_directory (node_at t.names (parent place)) ≡ true → FitsString (absolute place) × (length (absolute place) ≤ 33000)
+pub text_fits : (t : Tree) (place : Place) → IsKept t → are_names place ≡ true
+    → is_directory (node_at t.names (parent place)) ≡ true
+    → FitsString (absolute place) × (length (absolute place) ≤ 33000)
 text_fits t place kept are there =
     let deep = directory_depth t (parent place) kept there in
     let all = text_parts place are in

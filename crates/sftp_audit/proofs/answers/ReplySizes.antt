@@ -19,13 +19,15 @@ status_reply id code = record { id = id; answer = replies.Status code [] [] }
 
 pub status_spelled : (id code : ℕ) → id < 2 ^ 32 → code < 2 ^ 32 → HasSpelling (reply_packet (status_reply id code))
 unfolding spelling
-status_spelled id code small code_small = record { fields = (small, (code_small, empty, empty)); whole = lit≤ tt; handle = tt; canonical = refl }
+status_spelled id code small code_small =
+    record { fields = (small, (code_small, empty, empty)); whole = lit≤ tt; handle = tt; canonical = refl }
 
 -- size, owner and permissions
 abbrev pub attributes_reply : ℕ → Attrs → Reply
 attributes_reply id attrs = record { id = id; answer = replies.Attrs attrs }
 
-pub attributes_spelled : (id size uid gid permissions : ℕ) → id < 2 ^ 32 → size < 2 ^ 64 → uid < 2 ^ 32 → gid < 2 ^ 32 → permissions < 2 ^ 32 → HasSpelling (reply_packet (attributes_reply id (said size uid gid permissions)))
+pub attributes_spelled : (id size uid gid permissions : ℕ) → id < 2 ^ 32 → size < 2 ^ 64 → uid < 2 ^ 32 → gid < 2 ^ 32
+    → permissions < 2 ^ 32 → HasSpelling (reply_packet (attributes_reply id (said size uid gid permissions)))
 unfolding spelling
 attributes_spelled id size uid gid permissions small size_small uid_small gid_small permissions_small = record {
   fields = (
@@ -49,14 +51,17 @@ behind : (text : List ℕ) → length ((text ++ (string [] ++ attributes no_attr
 behind text =
     omega (arith, length-append (text ++ (string [] ++ attributes no_attributes)) [], length-append text (string [] ++ attributes no_attributes))
 
-name-length : (id : ℕ) (text : List ℕ) → length (spelling (reply_packet (name_reply id text))) ≡ 17 + length ((text ++ (string [] ++ attributes no_attributes)) ++ [])
+name-length : (id : ℕ) (text : List ℕ)
+    → length (spelling (reply_packet (name_reply id text))) ≡ 17 + length
+    ((text ++ (string [] ++ attributes no_attributes)) ++ [])
 unfolding spelling
 name-length id text = omega arith
 
 nothing_fits : FitsAttrs no_attributes
 nothing_fits = record { size = tt; owner = tt; permissions = tt; times = tt; extended = tt }
 
-pub name_spelled : (id : ℕ) (text : List ℕ) → id < 2 ^ 32 → FitsString text → length text ≤ 33000 → HasSpelling (reply_packet (name_reply id text))
+pub name_spelled : (id : ℕ) (text : List ℕ) → id < 2 ^ 32 → FitsString text → length text ≤ 33000
+    → HasSpelling (reply_packet (name_reply id text))
 name_spelled id text small fits short = record {
   fields = (small, (lit< tt, (record { filename = fits; longname = empty; attrs = nothing_fits }, tt)));
   whole = omega (arith, name-length id text, behind text, short);

@@ -21,7 +21,8 @@ other_event id (Asked request) turn other = rw other refl
 other_event id (Replied reply) turn other = rw other refl
 
 -- so do events that are all of other ids
-pub turn_after-others : (id : ℕ) (turn : Turn) (events : List Event) → list_any (λ i. i == id) (ids_of events) ≡ false → turn_after id turn events ≡ turn
+pub turn_after-others : (id : ℕ) (turn : Turn) (events : List Event) → list_any (λ i. i == id) (ids_of events) ≡ false
+    → turn_after id turn events ≡ turn
 unfolding turn_after
 turn_after-others id turn [] others = refl
 turn_after-others id turn (event ∷ events) others =
@@ -38,7 +39,8 @@ of_one P id (i ∷ ids) all occurs = by (of_one P id ids all.1) (i == id) refl
     by others false is = others (let e : (false || list_any (λ j. j == id) ids) ≡ true = rw is at occurs in e)
 
 -- where the turns of the ids that occur are closed, those of all are
-pub Matching-from_ids : (events : List Event) → AllByRecursion (λ id. turn_after id closed events ≡ closed) (ids_of events) → Matching events
+pub Matching-from_ids : (events : List Event)
+    → AllByRecursion (λ id. turn_after id closed events ≡ closed) (ids_of events) → Matching events
 Matching-from_ids events all id = by (list_any (λ i. i == id) (ids_of events)) refl
   where
     by : (b : Bool) → list_any (λ i. i == id) (ids_of events) ≡ b → turn_after id closed events ≡ closed

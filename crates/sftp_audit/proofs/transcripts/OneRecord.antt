@@ -29,27 +29,36 @@ same_cons a b x y e = (cc, cc)
 
 module _ (apart : (p q : Packet) (x y : List ℕ) → HasSpelling p → HasSpelling q → side_of p ≡ side_of q → spelling p ++ x ≡ spelling q ++ y → (p ≡ q) × (x ≡ y)) where
   -- one record begins the bytes at most
-  pub Begins-one : (bytes : List ℕ) (p q : Packet) (x y : List ℕ) → Begins bytes p x → Begins bytes q y → (p ≡ q) × (x ≡ y)
+  pub Begins-one : (bytes : List ℕ) (p q : Packet) (x y : List ℕ) → Begins bytes p x → Begins bytes q y
+      → (p ≡ q) × (x ≡ y)
   Begins-one bytes p q x y one other =
-      let parts = same_cons (direction_of (side_of p)) (direction_of (side_of q)) (spelling p ++ x) (spelling q ++ y) (sym one.bytes_are ∙ other.bytes_are) in
+      let parts = same_cons (direction_of (side_of p)) (direction_of (side_of q)) (spelling p ++ x) (spelling q ++ y)
+      (sym one.bytes_are ∙ other.bytes_are) in
       apart p q x y one.spelled other.spelled (side_from_direction (side_of p) (side_of q) parts.0) parts.1
 
   -- one list of events stands in the bytes at most
-  pub AreRecords-one : (events others : List Event) (bytes : List ℕ) → AreRecords events bytes → AreRecords others bytes → events ≡ others
+  pub AreRecords-one : (events others : List Event) (bytes : List ℕ) → AreRecords events bytes
+      → AreRecords others bytes → events ≡ others
   AreRecords-one [] others bytes are same = sym (no_events others bytes (ap length are.bytes_are) same)
   AreRecords-one (e ∷ es) [] bytes are same = no_events (e ∷ es) bytes (ap length same.bytes_are) are
   AreRecords-one (e ∷ es) (o ∷ os) bytes are same =
-      let first : Begins bytes (packet_of e) (flat_map event_record es) = record { spelled = are.spelled.0.spelled; bytes_are = are.bytes_are ∙ flat_map-cons event_record e es } in
-      let second : Begins bytes (packet_of o) (flat_map event_record os) = record { spelled = same.spelled.0.spelled; bytes_are = same.bytes_are ∙ flat_map-cons event_record o os } in
-      let one = Begins-one bytes (packet_of e) (packet_of o) (flat_map event_record es) (flat_map event_record os) first second in
-      let rest = AreRecords-one es os (flat_map event_record es) (record { spelled = are.spelled.1; bytes_are = refl }) (record { spelled = same.spelled.1; bytes_are = one.1 }) in
+      let first : Begins bytes (packet_of e) (flat_map event_record es) =
+      record { spelled = are.spelled.0.spelled; bytes_are = are.bytes_are ∙ flat_map-cons event_record e es } in
+      let second : Begins bytes (packet_of o) (flat_map event_record os) =
+      record { spelled = same.spelled.0.spelled; bytes_are = same.bytes_are ∙ flat_map-cons event_record o os } in
+      let one = Begins-one bytes (packet_of e) (packet_of o) (flat_map event_record es)
+      (flat_map event_record os) first second in
+      let rest = AreRecords-one es os (flat_map event_record es)
+      (record { spelled = are.spelled.1; bytes_are = refl }) (record { spelled = same.spelled.1; bytes_are = one.1 }) in
       let head = event_from_packet e o one.0 in
       cc
 
-  pub records_are_one_lem : (events others : List Event) (bytes : List ℕ) → IsRecord events bytes → IsRecord others bytes → events ≡ others
+  pub records_are_one_lem : (events others : List Event) (bytes : List ℕ) → IsRecord events bytes
+      → IsRecord others bytes → events ≡ others
   records_are_one_lem events others bytes is same =
       let p = record_parts events bytes is.opened is.opening is in
       let q = record_parts others bytes is.opened is.opening same in
       let middle = Begins-one is.opened p.init.packet q.init.packet p.middle q.middle p.init.begins q.init.begins in
-      let records = Begins-one p.middle p.version.packet q.version.packet p.records q.records p.version.begins (rw middle.1 q.version.begins) in
+      let records = Begins-one p.middle p.version.packet q.version.packet p.records q.records p.version.begins
+      (rw middle.1 q.version.begins) in
       AreRecords-one events others p.records p.recorded (rw records.1 q.recorded)

@@ -1,5 +1,6 @@
 -- A worked example: the bytes of a transcript file record its events.
-use Rattle.std.proofs.Common.{◌≡◌, ◌&&◌, nat_lt, Bool, true, false, ℕ, ◌^◌, ◌<◌, ◌≤◌, ◌++◌, length, codes, List, [], ◌∷◌, IsTrue, refl, lit<, lit≤, ltb-true}
+use Rattle.std.proofs.Common.{◌≡◌, ◌&&◌, nat_lt, Bool, true, false, ℕ, ◌^◌, ◌<◌, ◌≤◌, ◌++◌, length, codes, List, []}
+use Rattle.std.proofs.Common.{◌∷◌, IsTrue, refl, lit<, lit≤, ltb-true}
 use Rattle.std.proofs.lemmas.Bool.{and_parts}
 use Rattle.std.specs.List.{list_all, flat_map, AllByRecursion}
 use Rattle.sftp_wire.specs.declared.packets.Packet.TheVariants.{Init, Version}
@@ -16,17 +17,23 @@ string_by bytes is short = record { bytes_fit = bytes_by bytes is; length_fits =
 nothing_fits : FitsAttrs no_attributes
 nothing_fits = record { size = tt; owner = tt; permissions = tt; times = tt; extended = tt }
 
-mkdir_spelled : (id : ℕ) (path : List ℕ) → id < 2 ^ 32 → FitsString path → length (spelling (packet_of (mkdir id path))) ≤ 34000 → IsEvent (mkdir id path)
-mkdir_spelled id path small fits whole = record { spelled = record { fields = (small, (fits, nothing_fits)); whole = whole; handle = tt; canonical = refl }; judged = refl }
+mkdir_spelled : (id : ℕ) (path : List ℕ) → id < 2 ^ 32 → FitsString path
+    → length (spelling (packet_of (mkdir id path))) ≤ 34000 → IsEvent (mkdir id path)
+mkdir_spelled id path small fits whole =
+    record { spelled = record { fields = (small, (fits, nothing_fits)); whole = whole; handle = tt; canonical = refl }; judged = refl }
 
-rmdir_spelled : (id : ℕ) (path : List ℕ) → id < 2 ^ 32 → FitsString path → length (spelling (packet_of (rmdir id path))) ≤ 34000 → IsEvent (rmdir id path)
-rmdir_spelled id path small fits whole = record { spelled = record { fields = (small, fits); whole = whole; handle = tt; canonical = refl }; judged = refl }
+rmdir_spelled : (id : ℕ) (path : List ℕ) → id < 2 ^ 32 → FitsString path
+    → length (spelling (packet_of (rmdir id path))) ≤ 34000 → IsEvent (rmdir id path)
+rmdir_spelled id path small fits whole =
+    record { spelled = record { fields = (small, fits); whole = whole; handle = tt; canonical = refl }; judged = refl }
 
 empty : FitsString []
 empty = record { bytes_fit = tt; length_fits = lit< tt }
 
-status_spelled : (id code : ℕ) → id < 2 ^ 32 → code < 2 ^ 32 → length (spelling (packet_of (status id code))) ≤ 34000 → IsEvent (status id code)
-status_spelled id code small code_small whole = record { spelled = record { fields = (small, (code_small, empty, empty)); whole = whole; handle = tt; canonical = refl }; judged = refl }
+status_spelled : (id code : ℕ) → id < 2 ^ 32 → code < 2 ^ 32 → length (spelling (packet_of (status id code))) ≤ 34000
+    → IsEvent (status id code)
+status_spelled id code small code_small whole =
+    record { spelled = record { fields = (small, (code_small, empty, empty)); whole = whole; handle = tt; canonical = refl }; judged = refl }
 
 one : FitsString (codes "1")
 one = string_by (codes "1") refl (lit< tt)
@@ -74,7 +81,8 @@ abbrev opened_with : List ℕ → List ℕ
 opened_with records = (67 ∷ spelling (Init 3 [])) ++ ((83 ∷ spelling (Version 3 server_extensions)) ++ records)
 
 -- the events of this handshake
-recorded_by : (events : List Event) (bytes : List ℕ) → AllByRecursion IsEvent events → bytes ≡ transcript_opening ++ opened_with (flat_map event_record events) → IsRecord events bytes
+recorded_by : (events : List Event) (bytes : List ℕ) → AllByRecursion IsEvent events
+    → bytes ≡ transcript_opening ++ opened_with (flat_map event_record events) → IsRecord events bytes
 recorded_by events bytes spelled are = record {
   opened = opened_with (flat_map event_record events);
   records = flat_map event_record events;

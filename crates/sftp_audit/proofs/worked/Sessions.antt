@@ -9,8 +9,11 @@ use Rattle.sftp_tree.specs.Walk.{meets, walk, walk_parts, reached}
 use Rattle.sftp_tree.specs.Steps.{led, plain_causes, causes, target}
 use Rattle.sftp_tree.specs.Picture.{picture, blank}
 use Rattle.sftp_audit.specs.Replies.{Allowed}
-use Rattle.sftp_audit.specs.Explained.{closed, waiting, broken, turn_after, next_reply, exchanges_of, leading_pairs, requests_before_reply, in_window, Explained}
-use Rattle.sftp_audit.specs.Examples.{with_a, with_a_and_b, with_a_and_b_bytes, backward_replies, one_unanswered, one_answered_twice, same_directory_twice, data_for_mkdir, opendir_of_nothing, Unexplained}
+use Rattle.sftp_audit.specs.Explained.{closed, waiting, broken, turn_after, next_reply, exchanges_of, leading_pairs}
+use Rattle.sftp_audit.specs.Explained.{requests_before_reply, in_window, Explained}
+use Rattle.sftp_audit.specs.Examples.{with_a, with_a_and_b, with_a_and_b_bytes, backward_replies, one_unanswered}
+use Rattle.sftp_audit.specs.Examples.{one_answered_twice, same_directory_twice, data_for_mkdir, opendir_of_nothing}
+use Rattle.sftp_audit.specs.Examples.{Unexplained}
 use Rattle.sftp_audit.proofs.pairing.Turns.{Matching-from_ids}
 use Rattle.sftp_audit.proofs.steps.RunEnds.{run_end, run-of_run_end, no_run-of_run_end}
 
@@ -52,7 +55,8 @@ unfolding leading_pairs exchanges_of next_reply causes plain_causes led target r
 arrival_end = refl
 
 pub in_order_of_arrival : Unexplained (backward_replies 2)
-in_order_of_arrival end e = no_run-of_run_end blank (leading_pairs (exchanges_of (backward_replies 2))) arrival_end end e.run
+in_order_of_arrival end e =
+    no_run-of_run_end blank (leading_pairs (exchanges_of (backward_replies 2))) arrival_end end e.run
 
 -- ---- turns that do not close
 

@@ -10,4 +10,6 @@ returns-clause-refused c =
     let t = c.args.tree.now in
     let request = c.args.request.now in
     let reply = c.args.reply.now in
-    IfOk-weaker c.judge.result (λ ok. IsVerdict t request.ask reply.answer ok c.judge.new.tree) (λ ok. ok ≡ false → (after : Tree) → Allowed t request reply after → ⊥) (λ ok judged none after allowed. judged.refused none after allowed.step) c.judge.ensures.ok
+    IfOk-weaker c.judge.result (λ ok. IsVerdict t request.ask reply.answer ok c.judge.new.tree)
+    (λ ok. ok ≡ false → (after : Tree) → Allowed t request reply after → ⊥)
+    (λ ok judged none after allowed. judged.refused none after allowed.step) c.judge.ensures.ok

@@ -10,4 +10,6 @@ returns-then-code-eq0-clause-ok c =
     let t = c.args.tree.now in
     let ask = c.args.ask.now in
     let after = c.perform.new.tree in
-    IfOk-weaker c.perform.result (λ ok. IsDone t ask ok after) (λ ok. (message language : List ℕ) → IsVerdict t ask (replies.Status c.args.code message language) ok after) (λ ok done message language. subst (λ (code : ℕ). IsVerdict t ask (replies.Status code message language) ok after) (sym c.if-code-eq0.true) (verdict-done t ask ok after message language done)) c.perform.ensures.ok
+    IfOk-weaker c.perform.result (λ ok. IsDone t ask ok after)
+    (λ ok. (message language : List ℕ) → IsVerdict t ask (replies.Status c.args.code message language) ok after)
+    (λ ok done message language. subst (λ (code : ℕ). IsVerdict t ask (replies.Status code message language) ok after) (sym c.if-code-eq0.true) (verdict-done t ask ok after message language done)) c.perform.ensures.ok

@@ -19,14 +19,21 @@ returns-then-place-self-ge-WINDOW-clause-refused c =
 pub returns-clause-in_time : goal.returns-clause-in_time
 returns-clause-in_time c =
     let old = c.self.inside in
-    rw (← c.self.view_is) (soon_enough (ledger_of old.exchanges.items) old.unanswered.entries old.oldest c.args.request.now c.self.invariant (omega (arith, length-map old.exchanges.items exchange_of, old.exchanges.ok.0)))
+    rw (← c.self.view_is)
+    (soon_enough (ledger_of old.exchanges.items) old.unanswered.entries old.oldest c.args.request.now c.self.invariant (omega (arith, length-map old.exchanges.items exchange_of, old.exchanges.ok.0)))
 
 pub invariant_of-self-2 : goal.invariant_of-self-2
 invariant_of-self-2 c =
     let old = c.self.inside in
     let ledger = ledger_of old.exchanges.items in
-    let free : is_open c.args.request.now.id ledger ≡ false = not_in_use ledger old.unanswered.entries old.oldest c.args.request.now.id c.self.invariant (sym c.contains_key.ensures ∙ c.if-contains_key.false) in
-    let place : c.len-place.result ≡ length ledger = omega (arith, length-map old.exchanges.items exchange_of, old.exchanges.ok.0) in
-    let changed : (id : ℕ) → lookup (nat_eq id) c.insert.new.self.entries ≡ cond (nat_eq c.args.request.now.id id) (Some (length ledger)) (lookup (nat_eq id) old.unanswered.entries) =
-    λ id. c.in_ok-insert.ensures.updates.0 id ∙ ap (λ (k : ℕ). cond (nat_eq c.args.request.now.id id) (Some k) (lookup (nat_eq id) old.unanswered.entries)) place in
-    rw (c.push_reserved.ensures.items, c.reserve.ensures.items, map_push exchange_of old.exchanges.items _) (indexed_asked ledger old.unanswered.entries c.insert.new.self.entries old.oldest c.args.request.now c.self.invariant free changed)
+    let free : is_open c.args.request.now.id ledger ≡ false =
+    not_in_use ledger old.unanswered.entries old.oldest c.args.request.now.id c.self.invariant
+    (sym c.contains_key.ensures ∙ c.if-contains_key.false) in
+    let place : c.len-place.result ≡ length ledger =
+    omega (arith, length-map old.exchanges.items exchange_of, old.exchanges.ok.0) in
+    let changed : (id : ℕ) → lookup (nat_eq id) c.insert.new.self.entries
+    ≡ cond (nat_eq c.args.request.now.id id) (Some (length ledger)) (lookup (nat_eq id) old.unanswered.entries) =
+    λ id. c.in_ok-insert.ensures.updates.0 id
+    ∙ ap (λ (k : ℕ). cond (nat_eq c.args.request.now.id id) (Some k) (lookup (nat_eq id) old.unanswered.entries)) place in
+    rw (c.push_reserved.ensures.items, c.reserve.ensures.items, map_push exchange_of old.exchanges.items _)
+    (indexed_asked ledger old.unanswered.entries c.insert.new.self.entries old.oldest c.args.request.now c.self.invariant free changed)
