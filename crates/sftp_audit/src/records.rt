@@ -203,6 +203,3 @@ fn unreadable(error: WireError, number: u64) -> TranscriptError
 pub fn records_are_one()
     ensures { (events others : List Event) (bytes : List ℕ) → IsRecord events bytes → IsRecord others bytes → events ≡ others }
 {}
-
-#[cfg(test)]
-mod tests;

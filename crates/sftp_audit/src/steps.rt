@@ -228,6 +228,3 @@ pub fn has_step(ask: &Ask) -> bool
             | Ask::Symlink { .. }
     )
 }
-
-#[cfg(test)]
-mod tests;

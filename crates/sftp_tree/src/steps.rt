@@ -396,6 +396,3 @@ fn see_attributes(attrs: &Attrs)
         },
     );
 }
-
-#[cfg(test)]
-mod tests;

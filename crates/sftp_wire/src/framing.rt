@@ -204,6 +204,3 @@ pub fn streams()
     // A packet that is spelled in front is lent as it is spelled.
     ensures lent { (packet : Packet) (rest : List ℕ) → HasSpelling packet → whole_of (spelling packet ++ rest) ≡ Some (spelling packet) }
 {}
-
-#[cfg(test)]
-mod tests;
