@@ -59,10 +59,3 @@ pub fn audit(alloc: Global, tree: &[u8], transcript: &[u8]) -> Result<Accepted, 
     let tree = state.write()?;
     Ok(Accepted { tree, requests })
 }
-
-#[cfg(test)]
-mod files;
-#[cfg(test)]
-mod links;
-#[cfg(test)]
-mod tests;

@@ -241,6 +241,3 @@ pub fn records_are_one()
     ensures { (events others : List Event) (bytes : List ℕ) →
         IsRecord events bytes → IsRecord others bytes → events ≡ others }
 {}
-
-#[cfg(test)]
-mod tests;

@@ -293,6 +293,3 @@ pub fn has_step(ask: &Ask) -> bool
         Ask::Unknown { .. } => false,
     }
 }
-
-#[cfg(test)]
-mod tests;

@@ -18,6 +18,3 @@ pub use parts::Parts;
 pub use paths::{BadPath, components, good_path};
 pub use places::{DEPTH_LIMIT, Place};
 pub use texts::{absolute, canonical};
-
-#[cfg(test)]
-mod tests;

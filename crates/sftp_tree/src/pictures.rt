@@ -5,8 +5,6 @@ ghost use Rattle.sftp_tree.specs.Picture.{IsStart, GivesTree, picture, blank};
 
 mod measuring;
 mod reading;
-#[cfg(test)]
-mod tests;
 mod writing;
 
 use crate::entries::Entries;

@@ -341,6 +341,3 @@ fn see_place(place: &Place)
 {
     let _ = place.names();
 }
-
-#[cfg(test)]
-mod tests;

@@ -21,6 +21,3 @@ pub use limits::{TreeLimits, usual_limits};
 pub use reading::read_rows;
 pub use sftp_path::NoMemory;
 pub use writing::{put_directory, put_file, put_further_name, put_head, put_link, write_rows};
-
-#[cfg(test)]
-mod tests;

@@ -231,6 +231,3 @@ pub fn streams()
     ensures lent { (packet : Packet) (rest : List ℕ) → HasSpelling packet
         → whole_of (spelling packet ++ rest) ≡ Some (spelling packet) }
 {}
-
-#[cfg(test)]
-mod tests;

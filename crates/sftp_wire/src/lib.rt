@@ -30,6 +30,3 @@ pub use reading::front;
 pub use slices::{take_number, take_string};
 pub use strings::{ByteString, Pairs};
 pub use writing::encode;
-
-#[cfg(test)]
-mod tests;

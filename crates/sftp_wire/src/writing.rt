@@ -586,6 +586,3 @@ pub fn encode(packet: &Packet, out: &mut Vec<u8>) -> Result<(), WireError>
         }
     }
 }
-
-#[cfg(test)]
-mod tests;

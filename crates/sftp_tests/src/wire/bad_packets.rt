@@ -1,7 +1,8 @@
 //! Bytes that are no packet: the first fault from left to right (draft, sections 3 to 8).
-use super::*;
-use crate::Fault;
-use std::test::*;
+use super::{MORE, joined, long, read};
+use sftp_wire::{Fault, Side};
+use std::alloc::{AllocError, Global};
+use std::test::Fail;
 
 /// Whether these bytes are refused with that fault, whatever follows them.
 fn is_fault(alloc: Global, side: Side, bytes: &[u8], fault: Fault) -> Result<bool, AllocError> {
@@ -285,22 +286,20 @@ const ROWS: &[(Side, &[u8], Fault)] = &[
     (Side::Client, b"\0\0\0\x05\x02\0\0\0\x03", Fault::WrongType),
 ];
 
-#[test]
-fn rows(rt: HostRuntime) -> Result<(), Fail> {
-    let handle = long(rt.alloc(), 257)?;
+/// Whether CLOSE of a handle of 257 bytes, which are there, is refused.
+fn refuses_long_handle(alloc: Global) -> Result<bool, AllocError> {
+    let handle = long(alloc, 257)?;
     let close = joined(
-        rt.alloc(),
+        alloc,
         b"\0\0\x01\x0a\x04\0\0\0\x01\0\0\x01\x01",
         handle.as_slice(),
     )?;
-    assert!(rt;
-        is_fault(
-            rt.alloc(),
-            Side::Client,
-            close.as_slice(),
-            Fault::HandleTooLong
-        )?
-    );
+    is_fault(alloc, Side::Client, close.as_slice(), Fault::HandleTooLong)
+}
+
+#[test]
+fn rows(rt: HostRuntime) -> Result<(), Fail> {
+    assert!(rt; refuses_long_handle(rt.alloc())?);
     for (side, bytes, fault) in ROWS {
         assert!(rt;
             is_fault(rt.alloc(), *side, bytes, *fault)?,

@@ -1,7 +1,7 @@
 //! Streams that are written out by hand.
-use super::*;
-use std::alloc::AllocError;
-use std::test::*;
+use sftp_wire::{FrameBuf, Side};
+use std::alloc::{AllocError, Global};
+use std::test::Fail;
 
 /// INIT of version 3, with no extensions.
 const INIT: &[u8] = b"\0\0\0\x05\x01\0\0\0\x03";
@@ -226,18 +226,7 @@ fn is_emptied(alloc: Global, frames: &mut FrameBuf, first: u32) -> Result<bool, 
     Ok(true)
 }
 
-/// Five bytes of INIT go into the full buffer, and the others once it is empty.
-#[test]
-fn no_more_is_held_than_the_limit(rt: HostRuntime) -> Result<(), Fail> {
-    let alloc = rt.alloc();
-    let mut frames = FrameBuf::new(alloc)?;
-    assert!(rt; is_filled(&mut frames));
-    let full = [Call::Push(INIT, 5), Call::Room(0), Call::Push(INIT, 0)];
-    assert!(rt; first_wrong(alloc, &mut frames, &full)?.is_none());
-    assert!(rt; is_emptied(alloc, &mut frames, 0)?);
-    assert!(rt; first_wrong(alloc, &mut frames, REST_OF_INIT)?.is_none());
-    Ok(())
-}
+const FULL: &[Call] = &[Call::Push(INIT, 5), Call::Room(0), Call::Push(INIT, 0)];
 
 const REST_OF_INIT: &[Call] = &[
     Call::Next(WAITING),
@@ -246,6 +235,16 @@ const REST_OF_INIT: &[Call] = &[
     Call::Next(INIT_WORDS),
     Call::Room(34_000),
 ];
+
+/// Five bytes of INIT go into the full buffer, and the others once it is empty.
+fn holds_no_more(alloc: Global, frames: &mut FrameBuf) -> Result<bool, AllocError> {
+    Ok(
+        is_filled(frames)
+            && first_wrong(alloc, frames, FULL)?.is_none()
+            && is_emptied(alloc, frames, 0)?
+            && first_wrong(alloc, frames, REST_OF_INIT)?.is_none(),
+    )
+}
 
 /// Whether CLOSE with that id comes out of the full buffer, and one with a later id goes in behind the others.
 fn passes_close(alloc: Global, frames: &mut FrameBuf, id: u32) -> Result<bool, AllocError> {
@@ -256,6 +255,16 @@ fn passes_close(alloc: Global, frames: &mut FrameBuf, id: u32) -> Result<bool, A
     )
 }
 
+/// Whether 20,000 of them pass.
+fn passes_all(alloc: Global, frames: &mut FrameBuf) -> Result<bool, AllocError> {
+    for id in 0..20_000_u32 {
+        if !passes_close(alloc, frames, id)? {
+            return Ok(false);
+        }
+    }
+    Ok(true)
+}
+
 /// The fault stands behind 22,615 packets of 13 bytes.
 const FAULT_BEHIND_ALL: &[Call] = &[
     Call::Room(34_000),
@@ -264,15 +273,20 @@ const FAULT_BEHIND_ALL: &[Call] = &[
 ];
 
 /// The bytes move to the front many times, and then the rest comes out.
+fn keeps_their_order(alloc: Global, frames: &mut FrameBuf) -> Result<bool, AllocError> {
+    Ok(
+        is_filled(frames)
+            && passes_all(alloc, frames)?
+            && is_emptied(alloc, frames, 20_000)?
+            && first_wrong(alloc, frames, FAULT_BEHIND_ALL)?.is_none(),
+    )
+}
+
 #[test]
-fn packets_come_in_order_through_a_full_buffer(rt: HostRuntime) -> Result<(), Fail> {
-    let alloc = rt.alloc();
-    let mut frames = FrameBuf::new(alloc)?;
-    assert!(rt; is_filled(&mut frames));
-    for id in 0..20_000_u32 {
-        assert!(rt; passes_close(alloc, &mut frames, id)?, "packet {id}");
-    }
-    assert!(rt; is_emptied(alloc, &mut frames, 20_000)?);
-    assert!(rt; first_wrong(alloc, &mut frames, FAULT_BEHIND_ALL)?.is_none());
+fn full_buffers(rt: HostRuntime) -> Result<(), Fail> {
+    let mut frames = FrameBuf::new(rt.alloc())?;
+    assert!(rt; holds_no_more(rt.alloc(), &mut frames)?);
+    let mut frames = FrameBuf::new(rt.alloc())?;
+    assert!(rt; keeps_their_order(rt.alloc(), &mut frames)?);
     Ok(())
 }

@@ -1,7 +1,8 @@
 //! Packets that are not written, and the texts of errors.
-use super::*;
-use crate::Fault;
-use std::test::*;
+use super::{long, no_attributes, reply, request, text, written};
+use sftp_wire::{Answer, Ask, ByteString, Fault, Packet, WireError};
+use std::alloc::{AllocError, Global};
+use std::test::Fail;
 
 /// The bytes in front of which a refused packet leaves nothing.
 const KEPT: &[u8] = b"kept";
@@ -40,24 +41,34 @@ fn with_handle(alloc: Global, kind: u8, handle: ByteString) -> Ask {
     }
 }
 
+/// Whether a request of that type with a handle of 257 bytes is too long.
+fn is_too_long(alloc: Global, kind: u8) -> Result<bool, AllocError> {
+    let before = kept(alloc)?;
+    let ask = with_handle(alloc, kind, long(alloc, 257)?);
+    Ok(is_refused(before, request(1, ask), WireError::TooLong))
+}
+
+/// Whether HANDLE of so many bytes is too long.
+fn is_too_long_a_handle(alloc: Global, length: usize) -> Result<bool, AllocError> {
+    let before = kept(alloc)?;
+    let answer = Answer::Handle(long(alloc, length)?);
+    Ok(is_refused(before, reply(1, answer), WireError::TooLong))
+}
+
+/// Whether DATA of so many bytes is.
+fn is_too_much_data(alloc: Global, length: usize) -> Result<bool, AllocError> {
+    let before = kept(alloc)?;
+    let answer = Answer::Data(long(alloc, length)?);
+    Ok(is_refused(before, reply(1, answer), WireError::TooLong))
+}
+
 /// Handles of 257 bytes, and a packet of 34,001.
 #[test]
 fn too_long(rt: HostRuntime) -> Result<(), Fail> {
-    let alloc = rt.alloc();
     for kind in [4, 5, 6, 8, 10, 12, 200_u8] {
-        let before = kept(alloc)?;
-        let ask = with_handle(alloc, kind, long(alloc, 257)?);
-        assert!(rt;
-            is_refused(before, request(1, ask), WireError::TooLong),
-            "type {kind}"
-        );
+        assert!(rt; is_too_long(rt.alloc(), kind)?, "type {kind}");
     }
-    let before = kept(alloc)?;
-    let answer = Answer::Handle(long(alloc, 257)?);
-    assert!(rt; is_refused(before, reply(1, answer), WireError::TooLong));
-    let before = kept(alloc)?;
-    let answer = Answer::Data(long(alloc, 33_988)?);
-    assert!(rt; is_refused(before, reply(1, answer), WireError::TooLong));
+    assert!(rt; is_too_long_a_handle(rt.alloc(), 257)? && is_too_much_data(rt.alloc(), 33_988)?);
     Ok(())
 }
 

@@ -3,25 +3,27 @@
 //!
 //! A packet is let go by `drop` alone: where it goes at the end of its block, all of its kinds are taken apart there
 //! anew, which is slow to prove.
-use crate::{
-    Answer, Ask, Attrs, ByteString, Packet, Pairs, Reply, Request, Side, WireError, encode, front,
-};
 use extensions::EXTENSIONS;
 use first_packets::FIRST_PACKETS;
 use replies::REPLIES;
 use requests_on_handles::REQUESTS_ON_HANDLES;
 use requests_on_paths::REQUESTS_ON_PATHS;
+use sftp_wire::{
+    Answer, Ask, Attrs, ByteString, Packet, Pairs, Reply, Request, Side, WireError, encode, front,
+};
 use std::alloc::{AllocError, Global};
 use std::test::Fail;
 
 mod bad_packets;
 mod extensions;
 mod first_packets;
+mod framing;
 mod longest_packets;
 mod refusals;
 mod replies;
 mod requests_on_handles;
 mod requests_on_paths;
+mod writing;
 
 /// The first bytes of a further packet.
 const MORE: &[u8] = b"\0\0\0\x05\x01";
@@ -34,11 +36,7 @@ fn joined(alloc: Global, front: &[u8], back: &[u8]) -> Result<Vec<u8>, AllocErro
 }
 
 /// What `front` gives, in the words of `{:?}`, and the bytes of the packet in it, written again.
-pub(crate) fn read(
-    alloc: Global,
-    side: Side,
-    bytes: &[u8],
-) -> Result<(String, Vec<u8>), AllocError> {
+fn read(alloc: Global, side: Side, bytes: &[u8]) -> Result<(String, Vec<u8>), AllocError> {
     let front = front(alloc, bytes, side);
     let words = format!(in alloc; "{front:?}");
     let mut again = Vec::new(alloc);
@@ -90,19 +88,19 @@ fn rows(rt: HostRuntime) -> Result<(), Fail> {
 }
 
 /// What writing a packet behind these bytes says, and the bytes then.
-pub(crate) fn written(mut out: Vec<u8>, packet: Packet) -> (Result<(), WireError>, Vec<u8>) {
+fn written(mut out: Vec<u8>, packet: Packet) -> (Result<(), WireError>, Vec<u8>) {
     let said = encode(&packet, &mut out);
     drop(packet);
     (said, out)
 }
 
 /// Whether a packet is written as these bytes.
-pub(crate) fn is_written(alloc: Global, packet: Packet, bytes: &[u8]) -> bool {
+fn is_written(alloc: Global, packet: Packet, bytes: &[u8]) -> bool {
     let (said, out) = written(Vec::new(alloc), packet);
     said.is_ok() && out.as_slice() == bytes
 }
 
-pub(crate) fn text(alloc: Global, bytes: &[u8]) -> Result<ByteString, AllocError> {
+fn text(alloc: Global, bytes: &[u8]) -> Result<ByteString, AllocError> {
     ByteString::from_slice(alloc, bytes)
 }
 
@@ -111,7 +109,7 @@ fn long(alloc: Global, length: usize) -> Result<ByteString, AllocError> {
     Ok(ByteString::new(vec![in alloc; b'h'; length]?))
 }
 
-pub(crate) fn pairs(alloc: Global, texts: &[(&[u8], &[u8])]) -> Result<Pairs, AllocError> {
+fn pairs(alloc: Global, texts: &[(&[u8], &[u8])]) -> Result<Pairs, AllocError> {
     let mut pairs = Vec::new(alloc);
     for (name, data) in texts {
         pairs.push((text(alloc, name)?, text(alloc, data)?))?;
@@ -119,7 +117,7 @@ pub(crate) fn pairs(alloc: Global, texts: &[(&[u8], &[u8])]) -> Result<Pairs, Al
     Ok(Pairs::new(pairs))
 }
 
-pub(crate) fn no_attributes() -> Attrs {
+fn no_attributes() -> Attrs {
     Attrs {
         size: None,
         owner: None,
@@ -129,10 +127,10 @@ pub(crate) fn no_attributes() -> Attrs {
     }
 }
 
-pub(crate) fn request(id: u32, ask: Ask) -> Packet {
+fn request(id: u32, ask: Ask) -> Packet {
     Packet::Request(Request { id, ask })
 }
 
-pub(crate) fn reply(id: u32, answer: Answer) -> Packet {
+fn reply(id: u32, answer: Answer) -> Packet {
     Packet::Reply(Reply { id, answer })
 }

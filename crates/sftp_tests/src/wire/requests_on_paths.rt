@@ -1,6 +1,6 @@
 //! Requests that name what they mean by a path (draft, section 6).
 use super::Row;
-use crate::Side;
+use sftp_wire::Side;
 
 /// In SYMLINK the target stands first.
 pub(super) const REQUESTS_ON_PATHS: &[Row] = &[

@@ -1,6 +1,6 @@
 //! Replies (draft, sections 7 and 8).
 use super::Row;
-use crate::Side;
+use sftp_wire::Side;
 
 /// Any code may stand in STATUS. Extended attributes that are there without a pair are written again as the same
 /// bytes.
@@ -11,7 +11,8 @@ pub(super) const REPLIES: &[Row] = &[
         \0\0\0\x04\
         \0\0\0\x07Failure\
         \0\0\0\x02en",
-        "Reply(Reply { id: 16, answer: Status { code: 4, message: ByteString { bytes: [70, 97, 105, 108, 117, 114, 101] }, \
+        "Reply(Reply { id: 16, answer: Status { code: 4, message: ByteString { bytes: \
+        [70, 97, 105, 108, 117, 114, 101] }, \
         language: ByteString { bytes: [101, 110] } } })",
     ),
     (
@@ -57,7 +58,8 @@ pub(super) const REPLIES: &[Row] = &[
         \0\0\x41\xed\
         \xff\xff\xff\xff\0\0\0\x03\
         \0\0\0\x01\0\0\0\x01t\0\0\0\x01d",
-        "Reply(Reply { id: 20, answer: Attrs(Attrs { size: Some(9223372036854775809), owner: Some((1, 2)), permissions: Some(16877), \
+        "Reply(Reply { id: 20, answer: Attrs(Attrs { size: Some(9223372036854775809), owner: Some((1, 2)), \
+        permissions: Some(16877), \
         times: Some((4294967295, 3)), \
         extended: Some(Pairs { pairs: [(ByteString { bytes: [116] }, ByteString { bytes: [100] })] }) }) })",
     ),

@@ -1,6 +1,6 @@
 //! Requests that name what they mean by a handle (draft, section 6).
 use super::Row;
-use crate::Side;
+use sftp_wire::Side;
 
 /// The handle of FSTAT is empty.
 pub(super) const REQUESTS_ON_HANDLES: &[Row] = &[
@@ -15,7 +15,8 @@ pub(super) const REQUESTS_ON_HANDLES: &[Row] = &[
         \0\0\0\x02h1\
         \x01\x02\x03\x04\x05\x06\x07\x08\
         \0\0\x80\0",
-        "Request(Request { id: 2, ask: Read { handle: ByteString { bytes: [104, 49] }, offset: 72623859790382856, len: 32768 } })",
+        "Request(Request { id: 2, ask: Read { handle: ByteString { bytes: [104, 49] }, \
+        offset: 72623859790382856, len: 32768 } })",
     ),
     (
         Side::Client,
@@ -37,7 +38,8 @@ pub(super) const REQUESTS_ON_HANDLES: &[Row] = &[
         \0\0\0\x0cabcdefghijkl\
         \x80\0\0\x01\0\0\0\0\0\0\0\0\
         \0\0\0\x02\0\0\0\x01k\0\0\0\x01v\0\0\0\0\0\0\0\0",
-        "Request(Request { id: 5, ask: Fsetstat { handle: ByteString { bytes: [97, 98, 99, 100, 101, 102, 103, 104, 105, 106, 107, 108] }, \
+        "Request(Request { id: 5, ask: Fsetstat { handle: ByteString { bytes: \
+        [97, 98, 99, 100, 101, 102, 103, 104, 105, 106, 107, 108] }, \
         attrs: Attrs { size: Some(0), owner: None, permissions: None, times: None, \
         extended: Some(Pairs { pairs: [\
         (ByteString { bytes: [107] }, ByteString { bytes: [118] }), \

@@ -1,6 +1,6 @@
 //! INIT and VERSION (draft, section 4).
 use super::Row;
-use crate::Side;
+use sftp_wire::Side;
 
 /// An extension is a pair of any two byte strings.
 pub(super) const FIRST_PACKETS: &[Row] = &[

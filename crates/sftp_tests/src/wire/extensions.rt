@@ -1,6 +1,6 @@
 //! Extensions (draft, section 8; OpenSSH's PROTOCOL, sections 4.3, 4.5 and 4.6).
 use super::Row;
-use crate::Side;
+use sftp_wire::Side;
 
 /// One that is no request of its own keeps its name and all of its bytes; a name that only begins as a known one is
 /// such a name, also where nothing follows it.

@@ -1,0 +1,17 @@
+//! Tests of the public calls of all libraries of this repository, in modules by crate. A crate with tests is
+//! proved twice, so they stand here, and the libraries have none.
+//!
+//! A test goes over a table of cases, each with what it has to give, worked out by hand. The assertion names the
+//! case that fails.
+#![tactic(auto)]
+
+#[cfg(test)]
+mod audit;
+#[cfg(test)]
+mod path;
+#[cfg(test)]
+mod tree;
+#[cfg(test)]
+mod treefile;
+#[cfg(test)]
+mod wire;
