@@ -59,7 +59,7 @@ bare_at names place = get-with_values place_cmp bare names place
 taken_bare : (names : Names) (place : Place) → is_taken (node_at (bared names) place) ≡ is_taken (node_at names place)
 taken_bare names place = ap is_taken (bare_at names place) ∙ bare_taken (node_at names place)
 
-directory_bare : (names : Names) (place : Place) → is_directory (node_at (bared names) place) ≡ is_directory (node_at names place)
+pub directory_bare : (names : Names) (place : Place) → is_directory (node_at (bared names) place) ≡ is_directory (node_at names place)
 directory_bare names place = ap is_directory (bare_at names place) ∙ bare_directory (node_at names place)
 
 all_bare : (names : Names) → AllByRecursion (λ e. IsFitNode e.1) names → AllByRecursion (λ e. IsFitNode e.1) (bared names)

@@ -1,12 +1,12 @@
 -- The files of the rows so far, as the code keeps them: each with the count of its names.
-use Rattle.std.proofs.Common.{◌≡◌, ◌≢◌, ℕ, zero, suc, ◌+◌, ◌-◌, ◌<◌, ◌≤◌, ◌==◌, Bool, true, false, cond, if◌then◌else◌, List, [], ◌∷◌, ◌++◌, length, take, Option, Some, None, refl, sym, ap, subst, ◌∙◌, arith}
+use Rattle.std.proofs.Common.{◌≡◌, ◌≢◌, ℕ, zero, suc, ◌+◌, ◌-◌, ◌^◌, ◌<◌, ◌≤◌, ◌==◌, Bool, true, false, cond, if◌then◌else◌, List, [], ◌∷◌, ◌++◌, length, take, Option, Some, None, refl, sym, ap, subst, ◌∙◌, arith}
 use Rattle.std.specs.Prelude.{IsTrue, is_some, not, slice_index}
 use Rattle.std.specs.BTreeMap.{insert_entry, is_at}
 use Rattle.std.specs.List.{filter, AllByRecursion}
 use Rattle.std.specs.List.Sorted.{IsStrictlySortedBy}
 use Rattle.std.specs.Map.{keys_of, lookup, set_value}
 use Rattle.std.specs.Option.{option_map}
-use Rattle.std.specs.Ordering.{nat_cmp, is_eq}
+use Rattle.std.specs.Ordering.{nat_cmp, is_eq, ordering_reverse}
 use Rattle.std.specs.declared.cmp.Ordering.TheVariants.{Less}
 use Rattle.std.specs.Cmp.{nat_cmp_total, nat_cmp_is}
 use Rattle.std.proofs.lemmas.Bool.{eqb-true, eq-eqb, ne_eqb}
@@ -16,40 +16,42 @@ use Rattle.std.proofs.lemmas.List.Elements.{filter-append}
 use Rattle.std.proofs.lemmas.List.Filters.{length-filter_both}
 use Rattle.std.proofs.lemmas.Map.Made.{keys_of-map_values}
 use Rattle.std.proofs.lemmas.Map.Keys.{sorted_head, sorted_tail}
-use Rattle.sftp_path.specs.Place.{Place, place_cmp}
+use Rattle.sftp_path.specs.Place.{Place, place_cmp, parent}
 use Rattle.sftp_path.specs.Table.{InOrder, get, put, retain}
 use Rattle.sftp_path.proofs.Order.{place_cmp-total}
+use Rattle.sftp_path.proofs.TableLaws.{get-empty, get-cons}
 use Rattle.sftp_path.proofs.ValueLaws.{get-with_values, with_values-put}
 use Rattle.sftp_treefile.specs.declared.files.Owner.{Owner}
 use Rattle.sftp_treefile.specs.declared.files.Kind.{Kind}
 use Rattle.sftp_treefile.specs.declared.files.Kind.TheVariants as kinds
 use Rattle.sftp_treefile.specs.declared.files.Row.{Row}
 use Rattle.sftp_treefile.specs.declared.files.TreeFile.{TreeFile}
-use Rattle.sftp_treefile.specs.TreeFile.{place_of, IsKind, IsNext, AreRows}
+use Rattle.sftp_treefile.specs.Limits.{usual_limits}
+use Rattle.sftp_treefile.specs.TreeFile.{place_of, IsOwner, IsKind, IsNext, AreRows}
 use Rattle.sftp_tree.specs.declared.contents.Content.{Content}
 use Rattle.sftp_tree.specs.declared.contents.Stored.{Stored}
 use Rattle.sftp_tree.specs.declared.nodes.Node.{Node}
 use Rattle.sftp_tree.specs.declared.nodes.Node.TheVariants.{Dir, File, Link}
-use Rattle.sftp_tree.specs.Tree.{Names, Files, content_at, names_file, times_named}
-use Rattle.sftp_tree.specs.Stored.{contents, AreCounted}
-use Rattle.sftp_tree.specs.PictureParts.{content_of, contents_of, node_of, names_of, numbered_from, numbers_from, known_number, known_node, IsKnown, Stores, HaveRoom, with_name, stores_with, IsGrown, tree_of}
+use Rattle.sftp_tree.specs.Tree.{Names, Files, node_at, with_node, is_directory, content_at, names_file, times_named}
+use Rattle.sftp_tree.specs.Stored.{contents, seen, AreCounted}
+use Rattle.sftp_tree.specs.PictureParts.{content_of, contents_of, node_of, only_root, names_of, numbered_from, numbers_from, known_number, known_node, IsKnown, Stores, HaveRoom, with_name, stores_with, IsGrown, tree_of}
 use Rattle.sftp_tree.proofs.PictureLists.{all_both, all_from_map, insert_last}
-use Rattle.sftp_tree.proofs.PictureTables.{later_than_all, bare_names}
-use Rattle.sftp_tree.proofs.PictureShapes.{bare, names_bare}
+use Rattle.sftp_tree.proofs.PictureTables.{later_than_all, row_parent, bare_names}
+use Rattle.sftp_tree.proofs.PictureShapes.{bare, directory_bare, names_bare}
 use Rattle.sftp_tree.proofs.PictureNumbers.{made_by, made_few, contents_split, FirstAt, first_at, made_front, front_taken, names_push, length-entries, IsBelow, AreBelow, all_below}
 use Rattle.sftp_tree.proofs.PictureContents.{number_is, numbered_there, each_number, numbered_order}
 
 -- ---- room for a name more
 
-pub room_at : (stores : Stores) (number : ℕ) (s : Stored) → HaveRoom stores → Some s ≡ lookup (is_at (nat_cmp number)) stores → s.names ≤ 65537
+pub room_at : (stores : Stores) (number : ℕ) (s : Stored) → HaveRoom stores → Some s ≡ lookup (is_at (nat_cmp number)) stores → s.names + 1 < 2 ^ 32
 room_at [] number s room is = absurd cc
 room_at (e ∷ stores) number s room is = by (is_eq (nat_cmp number e.0)) is (room_at stores number s room.1)
   where
-    by : (b : Bool) → Some s ≡ cond b (Some e.1) (lookup (is_at (nat_cmp number)) stores) → (Some s ≡ lookup (is_at (nat_cmp number)) stores → s.names ≤ 65537) → s.names ≤ 65537
+    by : (b : Bool) → Some s ≡ cond b (Some e.1) (lookup (is_at (nat_cmp number)) stores) → (Some s ≡ lookup (is_at (nat_cmp number)) stores → s.names + 1 < 2 ^ 32) → s.names + 1 < 2 ^ 32
     by true is more = let same : s ≡ e.1 = cc in omega (arith, room.0, ap (λ (x : Stored). x.names) same)
     by false is more = more is
 
-counted_room : (names : Names) (stores : Stores) → AreCounted names stores → length names ≤ 65537 → HaveRoom stores
+counted_room : (names : Names) (stores : Stores) → AreCounted names stores → length names + 1 < 2 ^ 32 → HaveRoom stores
 unfolding retain
 counted_room names [] counted few = tt
 counted_room names (e ∷ stores) counted few =
@@ -76,7 +78,7 @@ numbers_push number (r ∷ rows) row =
 within : (rows : List Row) (entry : ℕ) → FirstAt rows entry → (1 ≤ entry) × (entry ≤ length rows)
 within rows entry f = (omega (arith, f.entry_is), omega (arith, f.entry_is, ap length f.rows_are, length-append f.front (f.row ∷ f.rest)))
 
-pub kind_known : (rows : List Row) (kind : Kind) → IsKind rows kind → IsKnown (numbers_from 0 rows) kind
+pub kind_known : (rows : List Row) (kind : Kind) → IsKind usual_limits rows kind → IsKnown (numbers_from 0 rows) kind
 kind_known rows (kinds.Dir owner) fits = tt
 kind_known rows (kinds.First owner bytes) fits = tt
 kind_known rows (kinds.Further entry) fits =
@@ -89,7 +91,7 @@ number_known rows entry f =
     let w = within rows entry f in
     number_at 0 rows (entry - 1) (omega (arith, w.0, w.1)) ∙ omega arith
 
-pub node_known : (rows : List Row) (kind : Kind) → IsKind rows kind → known_node (numbers_from 0 rows) (made_by rows) kind ≡ node_of rows kind
+pub node_known : (rows : List Row) (kind : Kind) → IsKind usual_limits rows kind → known_node (numbers_from 0 rows) (made_by rows) kind ≡ node_of rows kind
 node_known rows (kinds.Dir owner) fits = refl
 node_known rows (kinds.First owner bytes) fits = refl
 node_known rows (kinds.Further entry) fits = ap (λ n. File n) (number_known rows entry (first_at rows entry fits.1))
@@ -252,7 +254,7 @@ pushed_further root rows place number stores (Some s) same counted below found-i
       again_counted (names_of root rows) place number stores s new refl (stores_order stores (contents_of rows) same) found-is counted,
     )
 
-pushed : (root : Owner) (rows : List Row) (place : Place) (kind : Kind) (stores : Stores) → AreRows [] rows → IsKind rows kind → contents stores ≡ numbered_from 0 (contents_of rows) → AreCounted (names_of root rows) stores
+pushed : (root : Owner) (rows : List Row) (place : Place) (kind : Kind) (stores : Stores) → AreRows usual_limits [] rows → IsKind usual_limits rows kind → contents stores ≡ numbered_from 0 (contents_of rows) → AreCounted (names_of root rows) stores
     → Pushed root rows place kind (stores_with stores (numbers_from 0 rows) (made_by rows) kind)
 pushed root rows place (kinds.Dir owner) stores fit fits same counted = record {
   contents_are = same ∙ ap (numbered_from 0) (sym (append-nil (contents_of rows)));
@@ -279,17 +281,40 @@ pushed root rows place (kinds.Link target) stores fit fits same counted = record
   counted = counted_same (names_of root rows) (place, Link target) stores (no_names stores (Link target) (λ n. refl)) counted;
 }
 
-entry_put : (root : Owner) (rows : List Row) (row : Row) (names new : Names) (place : Place) (standing : Node) → IsNext rows row → names ≡ names_of root rows
-    → place ≡ place_of row.path → standing ≡ node_of rows row.kind → new ≡ insert_entry place_cmp names place standing → new ≡ names_of root (rows ++ row ∷ [])
-entry_put root rows row names new place standing next names-are place-is node-is put =
+-- the place of the next row is free
+later_absent : (names : Names) (place : Place) → AllByRecursion (λ q. place_cmp q place ≡ Less) (keys_of names) → node_at names place ≡ None
+later_absent [] place later = get-empty place_cmp place
+later_absent (e ∷ es) place later =
+    let differ : is_eq (place_cmp place e.0) ≡ false = ap is_eq (place_cmp-total.antisymm place e.0 ∙ ap ordering_reverse later.0) in
+    get-cons place_cmp e es place ∙ ap (λ b. cond b (Some e.1) (node_at es place)) differ ∙ later_absent es place later.1
+
+keys_before : (root : Owner) (rows : List Row) (row : Row) → IsNext usual_limits rows row → AllByRecursion (λ q. place_cmp q (place_of row.path) ≡ Less) (keys_of (names_of root rows))
+keys_before root rows row next =
     let keys : keys_of (bare_names root rows) ≡ keys_of (names_of root rows) = ap keys_of (sym (names_bare root rows)) ∙ keys_of-map_values bare (names_of root rows) in
-    put ∙ (λ i. insert_entry place_cmp (names-are i) (place-is i) (node-is i))
-    ∙ insert_last place_cmp-total (names_of root rows) (place_of row.path) (node_of rows row.kind) (subst (λ (ks : List Place). AllByRecursion (λ q. place_cmp q (place_of row.path) ≡ Less) ks) keys (later_than_all root rows row next))
+    subst (λ (ks : List Place). AllByRecursion (λ q. place_cmp q (place_of row.path) ≡ Less) ks) keys (later_than_all root rows row next)
+
+pub row_absent : (root : Owner) (rows : List Row) (row : Row) (names : Names) (place : Place) → IsNext usual_limits rows row → names ≡ names_of root rows → place ≡ place_of row.path → node_at names place ≡ None
+row_absent root rows row names place next names-are place-is =
+    (λ i. node_at (names-are i) (place-is i)) ∙ later_absent (names_of root rows) (place_of row.path) (keys_before root rows row next)
+
+-- and its parent is a directory
+pub row_in_directory : (root : Owner) (rows : List Row) (row : Row) (names : Names) (place : Place) → IsOwner root → AreRows usual_limits [] rows → IsNext usual_limits rows row → names ≡ names_of root rows → place ≡ place_of row.path
+    → IsTrue (is_directory (node_at names (parent place)))
+row_in_directory root rows row names place owner fit next names-are place-is =
+    (λ i. is_directory (node_at (names-are i) (parent (place-is i)))) ∙ sym (directory_bare (names_of root rows) (parent (place_of row.path)))
+    ∙ ap (λ (ns : Names). is_directory (node_at ns (parent (place_of row.path)))) (names_bare root rows) ∙ row_parent root rows row owner fit next
+
+entry_put : (root : Owner) (rows : List Row) (row : Row) (names new : Names) (place : Place) (standing : Node) → IsNext usual_limits rows row → names ≡ names_of root rows
+    → place ≡ place_of row.path → standing ≡ node_of rows row.kind → new ≡ with_node names place standing → new ≡ names_of root (rows ++ row ∷ [])
+unfolding put
+entry_put root rows row names new place standing next names-are place-is node-is put-is =
+    put-is ∙ (λ i. with_node (names-are i) (place-is i) (node-is i))
+    ∙ insert_last place_cmp-total (names_of root rows) (place_of row.path) (node_of rows row.kind) (keys_before root rows row next)
     ∙ sym (names_push root rows row)
 
 pub grown_push : (root : Owner) (rows : List Row) (row : Row) (names new-names : Names) (stores new-stores : Stores) (numbers : List ℕ) (next : ℕ) (place : Place) (standing : Node)
-    → AreRows [] rows → IsNext rows row → IsGrown root rows names stores → numbers ≡ numbers_from 0 rows → next ≡ made_by rows
-    → place ≡ place_of row.path → standing ≡ known_node numbers next row.kind → new-names ≡ insert_entry place_cmp names place standing → new-stores ≡ stores_with stores numbers next row.kind
+    → AreRows usual_limits [] rows → IsNext usual_limits rows row → IsGrown root rows names stores → numbers ≡ numbers_from 0 rows → next ≡ made_by rows
+    → place ≡ place_of row.path → standing ≡ known_node numbers next row.kind → new-names ≡ with_node names place standing → new-stores ≡ stores_with stores numbers next row.kind
     → IsGrown root (rows ++ row ∷ []) new-names new-stores
 grown_push root rows row names new-names stores new-stores numbers next place standing fit is-next grown numbers-are next-is place-is node-is names-put stores-put =
     let node : standing ≡ node_of rows row.kind = node-is ∙ (λ i. known_node (numbers-are i) (next-is i) row.kind) ∙ node_known rows row.kind is-next.kind in
@@ -314,20 +339,20 @@ many_files root rows names stores grown =
     length-numbered s [] = refl
     length-numbered s (c ∷ cs) = ap suc (length-numbered (suc s) cs)
 
-pub grown_room : (root : Owner) (rows : List Row) (names : Names) (stores : Stores) → IsGrown root rows names stores → length rows ≤ 65536 → HaveRoom stores
+pub grown_room : (root : Owner) (rows : List Row) (names : Names) (stores : Stores) → IsGrown root rows names stores → length rows ≤ usual_limits.entries → HaveRoom stores
 grown_room root rows names stores grown few =
     counted_room names stores grown.counted (omega (arith, ap length grown.names_are, length-entries [] rows))
 
 -- nothing but the root
-pub grown_root : (root : Owner) (names new : Names) (stores : Stores) (place : Place) → names ≡ [] → place ≡ [] → new ≡ insert_entry place_cmp names place (Dir root) → stores ≡ [] → IsGrown root [] new stores
-grown_root root names new stores place empty at put none = record {
-  names_are = put ∙ (λ i. insert_entry place_cmp (empty i) (at i) (Dir root));
+pub grown_root : (root : Owner) (names : Names) (stores : Stores) → names ≡ only_root root → stores ≡ [] → IsGrown root [] names stores
+grown_root root names stores alone none = record {
+  names_are = alone;
   contents_are = ap contents none;
-  counted = subst (AreCounted new) (sym none) tt;
+  counted = subst (AreCounted names) (sym none) tt;
 }
 
 -- the number of the next file fits its field
-pub next_fits : (root : Owner) (rows rest : List Row) (names : Names) (stores : Stores) → IsGrown root rows names stores → length (rows ++ rest) ≤ 65536 → length stores ≤ 65536
+pub next_fits : (root : Owner) (rows rest : List Row) (names : Names) (stores : Stores) → IsGrown root rows names stores → length (rows ++ rest) ≤ usual_limits.entries → length stores ≤ usual_limits.entries
 next_fits root rows rest names stores grown few =
     omega (arith, many_files root rows names stores grown, made_few rows, length-append rows rest)
 
@@ -339,8 +364,8 @@ numbers_grow rows row numbers new next put are is =
 -- ---- the tree
 
 pub tree_grown : (file : TreeFile) (rows : List Row) (names : Names) (stores : Stores) (made : ℕ) (home : Place) → rows ≡ file.rows → IsGrown file.root rows names stores → made ≡ length stores → home ≡ place_of file.home
-    → (record { names = names; files = contents stores; made = made; home = home; uid = file.uid; gid = file.gid }) ≡ tree_of file
+    → seen names stores made file.limits home file.uid file.gid ≡ tree_of file
 tree_grown file rows names stores made home rows-are grown made-is home-is =
     let g : IsGrown file.root file.rows names stores = subst (λ (rs : List Row). IsGrown file.root rs names stores) rows-are grown in
     let many = made-is ∙ many_files file.root file.rows names stores g in
-    λ i. record { names = g.names_are i; files = g.contents_are i; made = many i; home = home-is i; uid = file.uid; gid = file.gid }
+    λ i. record { names = g.names_are i; files = g.contents_are i; made = many i; pins = []; limits = file.limits; home = home-is i; uid = file.uid; gid = file.gid }

@@ -6,15 +6,13 @@ ghost use Rattle.sftp_tree.specs.Attributes as spec;
 ghost use Rattle.sftp_tree.specs.Tree as tree;
 
 use crate::nodes::Node;
+use crate::owners::changed_owner;
 use crate::trees::Tree;
 use sftp_treefile::Owner;
 use sftp_wire::Attrs;
 
 /// The permissions of a directory that is made with none given. This profile's own.
 const DEFAULT_PERMISSIONS: u32 = 0o755;
-
-/// Permissions have twelve bits.
-const PERMISSION_BITS: u32 = 0o7777;
 
 /// The type bits of a directory, as POSIX has them.
 const DIRECTORY_BITS: u32 = 0o040000;
@@ -76,25 +74,6 @@ impl Tree {
             ),
             None => unreachable!(),
         }
-    }
-}
-
-/// The owner of what is there already, where attributes are set: that given, else as it was; of permissions the low
-/// twelve bits.
-pub(crate) fn changed_owner(attrs: &Attrs, owner: Owner) -> Owner
-    requires { IsOwner owner }
-    ensures owner { result ≡ spec.changed_owner attrs.now owner }
-    ensures fits { IsOwner result }
-{
-    let (uid, gid) = attrs.owner.unwrap_or((owner.uid, owner.gid));
-    let permissions = match attrs.permissions {
-        Some(permissions) => permissions & PERMISSION_BITS,
-        None => owner.permissions,
-    };
-    Owner {
-        uid,
-        gid,
-        permissions,
     }
 }
 

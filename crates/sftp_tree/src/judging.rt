@@ -1,7 +1,6 @@
 //! Which causes hold of a request.
 ghost use Rattle.std.specs.Prelude.{◌≡◌, ℕ, List, IfOk, true, false, option_copied};
 ghost use Rattle.sftp_wire.specs.declared.packets.Ask.TheVariants.{Setstat, Remove, Rename, PosixRename, Hardlink};
-ghost use Rattle.sftp_path.specs.Place as places;
 ghost use Rattle.sftp_treefile.specs.TreeFile.{is_root, is_target};
 ghost use Rattle.sftp_tree.specs.declared.causes.Cause.{Cause as cause};
 ghost use Rattle.sftp_tree.specs.Tree as tree;
@@ -11,13 +10,12 @@ ghost use Rattle.sftp_tree.specs.Walk.{reached};
 ghost use Rattle.sftp_tree.specs.Judged as judged;
 
 use crate::causes::{Cause, Causes};
+use crate::entries::is_below;
 use crate::keeping::{alone_there, nothing_below, places_apart};
 use crate::nodes::Node;
 use crate::trees::Tree;
 use sftp_path::{DEPTH_LIMIT, NoMemory, Place, good_path};
 use sftp_wire::{Ask, Attrs};
-use std::collections::BTreeMap;
-use std::ops::Bound;
 
 impl Tree {
     /// Every cause that holds of a request for what a path names. There is none of a request on a handle, and none of
@@ -207,7 +205,7 @@ impl Tree {
         let mut causes = Causes::none();
         causes.root = is_root(place);
         match self.names().get(place) {
-            Some(Node::Dir(_)) => causes.not_empty = has_entries(self.names(), place),
+            Some(Node::Dir(_)) => causes.not_empty = self.names().has_entries(place),
             Some(Node::File(_) | Node::Link(_)) => causes.not_dir = true,
             None => causes.no_entry = true,
         }
@@ -220,7 +218,7 @@ impl Tree {
         ensures { result ≡ judged.needing (tree.node_at self.now.names place.now) }
     {
         let mut causes = Causes::none();
-        causes.no_entry = !self.names().contains_key(place);
+        causes.no_entry = self.names().get(place).is_none();
         causes
     }
 
@@ -355,7 +353,7 @@ impl Tree {
         if is_directory(goes) {
             causes.inside = is_below(old, new);
             causes.not_dir = is_taken(stays) & !is_directory(stays);
-            causes.not_empty = is_directory(stays) & has_entries(self.names(), new);
+            causes.not_empty = is_directory(stays) & self.names().has_entries(new);
         } else {
             causes.is_dir = is_taken(goes) & is_directory(stays);
         }
@@ -382,14 +380,14 @@ impl Tree {
     fn has_room(&self, place: &Place) -> bool
         ensures { result ≡ judged.has_room self.now place.now }
     {
-        self.names().len() <= self.limits().entries as usize && place.depth() <= DEPTH_LIMIT
+        self.names().len() <= self.tree_limits().entries as usize && place.depth() <= DEPTH_LIMIT
     }
 
     /// Whether what stands at the old place, with all below it, keeps to the most names of a place at the new one.
     fn move_fits(&self, old: &Place, new: &Place) -> bool
         ensures { result ≡ judged.move_fits self.now.names old.now new.now }
     {
-        new.depth() <= DEPTH_LIMIT && reaches_at_most(self.names(), old, DEPTH_LIMIT - new.depth())
+        new.depth() <= DEPTH_LIMIT && self.names().reaches_at_most(old, DEPTH_LIMIT - new.depth())
     }
 
     /// Whether a file may have the size that is given, where one is.
@@ -397,7 +395,7 @@ impl Tree {
         ensures { result ≡ judged.size_fits (tree.limits self.now) attrs.now.size }
     {
         match attrs.size {
-            Some(size) => size <= u64::from(self.limits().file_bytes),
+            Some(size) => size <= u64::from(self.tree_limits().file_bytes),
             None => true,
         }
     }
@@ -469,39 +467,4 @@ fn giving(new: &Place) -> Causes
     let mut causes = Causes::none();
     causes.root = is_root(new);
     causes
-}
-
-/// Whether the second place stands below the first.
-fn is_below(place: &Place, other: &Place) -> bool
-    ensures { result ≡ places.is_below place.now other.now }
-{
-    other.starts_with(place) && place.depth() < other.depth()
-}
-
-/// Whether anything stands below a place: the next place in order would.
-pub(crate) fn has_entries(names: &BTreeMap<Place, Node>, place: &Place) -> bool
-    ensures { result ≡ tree.has_entries names.now.entries place.now }
-{
-    match names
-        .range((Bound::Excluded(place), Bound::Unbounded))
-        .next()
-    {
-        Some((next, _)) => is_below(place, next),
-        None => false,
-    }
-}
-
-/// Whether no place that begins with one has more names than so many behind it. They stand in a row.
-fn reaches_at_most(names: &BTreeMap<Place, Node>, top: &Place, room: usize) -> bool
-    ensures { result ≡ judged.reaches_at_most names.now.entries top.now room }
-{
-    for (place, _) in names.range((Bound::Included(top), Bound::Unbounded)) {
-        if !place.starts_with(top) {
-            return true;
-        }
-        if place.depth().saturating_sub(top.depth()) > room {
-            return false;
-        }
-    }
-    true
 }

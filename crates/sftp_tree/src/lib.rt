@@ -5,13 +5,14 @@
 mod attributes;
 mod causes;
 mod contents;
+mod entries;
 mod judging;
 pub mod keeping;
 pub mod laws;
 mod led;
 pub mod limit_laws;
-mod moving;
 mod nodes;
+mod owners;
 pub mod picture_laws;
 mod pictures;
 mod route;

@@ -9,11 +9,11 @@ mod reading;
 mod tests;
 mod writing;
 
-use crate::nodes::Node;
+use crate::entries::Entries;
 use crate::trees::Tree;
 use reading::tree_of;
 use sftp_path::{NoMemory, Place};
-use sftp_treefile::{Owner, TreeError, read_rows};
+use sftp_treefile::{Owner, TreeError, read_rows, usual_limits};
 use std::alloc::Global;
 use std::collections::BTreeMap;
 use writing::picture_of;
@@ -33,10 +33,10 @@ impl Tree {
             gid: 0,
             permissions: 0o755,
         };
-        let mut names = BTreeMap::new(alloc);
-        names.insert(Place::root(alloc), Node::Dir(owner))?;
+        let names = Entries::root(alloc, owner)?;
         let files = BTreeMap::new(alloc);
-        Ok(Tree::from_parts(names, files, 0, Place::root(alloc), (0, 0)))
+        let home = Place::root(alloc);
+        Ok(Tree::from_parts(names, files, 0, usual_limits(), home, (0, 0)))
     }
 
     /// The tree of a tree file.

@@ -2,31 +2,24 @@
 //! 4.5). A bad path has the cause `BadPath`, and one that leads nowhere the walk's: `NoEntry`, `NotDir` or `Loop`.
 ghost use Rattle.std.specs.Prelude.{◌≡◌, false, Some, None, Ok, IfOk, IfErr, IsTrue, OnOk, OnErr, option_copied};
 ghost use Rattle.sftp_path.specs.Place.{are_names, parent};
-ghost use Rattle.sftp_treefile.specs.declared.files.Owner.{Owner};
-ghost use Rattle.sftp_treefile.specs.TreeFile.{IsOwner, is_root, same_place};
 ghost use Rattle.sftp_wire.specs.declared.packets.Ask.TheVariants.{Setstat, Remove, Mkdir, Rmdir, Realpath, Rename, Readlink, Symlink, PosixRename, Hardlink};
 ghost use Rattle.sftp_wire.specs.declared.packets.Ask.{Ask};
 ghost use Rattle.sftp_tree.specs.declared.causes.Cause as declared;
 ghost use Rattle.sftp_tree.specs.declared.nodes.Node.TheVariants.{File};
 ghost use Rattle.sftp_tree.specs.Tree as tree;
 ghost use Rattle.sftp_tree.specs.Walk.{reached};
-ghost use Rattle.sftp_tree.specs.Attributes.{changed_owner};
 ghost use Rattle.sftp_tree.specs.Steps as steps;
 ghost use Rattle.sftp_tree.specs.Sets.{IsFree, IsRefusal, stat_ask};
 ghost use Rattle.sftp_tree.specs.Judged as judged;
 
-use crate::attributes::changed_owner;
 use crate::causes::{Cause, Refused};
 use crate::judging::is_target;
-use crate::keeping::{
-    alone_there, kept_after_move, kept_with_content, kept_with_entry, kept_with_owner,
-    kept_without_entry, nothing_below, places_apart, trimmed_already,
-};
+use crate::keeping::{nothing_below, trimmed_already};
 use crate::led::{causes_where_led, causes_where_lost};
 use crate::nodes::Node;
+use crate::owners::changed_owner;
 use crate::trees::Tree;
 use sftp_path::{NoMemory, Place, absolute, good_path};
-use sftp_treefile::Owner;
 use sftp_wire::{Attrs, ByteString};
 
 impl Tree {
@@ -46,8 +39,6 @@ impl Tree {
         let place = self.lead(false, path)?;
         self.making(&place).refuse()?;
         let owner = self.directory_owner(attrs);
-        kept_with_entry();
-        trimmed_already();
         self.put(place, Node::Dir(owner))?;
         Ok(())
     }
@@ -66,7 +57,6 @@ impl Tree {
     {
         let place = self.lead(false, path)?;
         self.removing(&place).refuse()?;
-        kept_without_entry();
         self.remove_at(&place);
         Ok(())
     }
@@ -86,7 +76,6 @@ impl Tree {
         let place = self.lead(false, path)?;
         self.unlinking(&place).refuse()?;
         nothing_below();
-        kept_without_entry();
         self.remove_at(&place);
         Ok(())
     }
@@ -106,10 +95,6 @@ impl Tree {
     {
         let place = self.lead(true, path)?;
         self.setting(&place, attrs).refuse()?;
-        kept_with_owner();
-        kept_with_content();
-        see_attributes(attrs);
-        trimmed_already();
         self.change_at(&place, attrs)?;
         Ok(())
     }
@@ -129,7 +114,7 @@ impl Tree {
         let (from, to) = self.lead_both(old, new)?;
         self.renaming(&from, &to).refuse()?;
         nothing_below();
-        self.move_node(&from, to)?;
+        self.move_to(&from, to)?;
         Ok(())
     }
 
@@ -154,7 +139,7 @@ impl Tree {
             return Ok(());
         }
         nothing_below();
-        self.move_node(&from, to)?;
+        self.move_to(&from, to)?;
         Ok(())
     }
 
@@ -173,8 +158,6 @@ impl Tree {
         let (from, to) = self.lead_both(old, new)?;
         self.linking(&from, &to).refuse()?;
         let number = self.file_at(&from);
-        kept_with_entry();
-        trimmed_already();
         self.put(to, Node::File(number))?;
         Ok(())
     }
@@ -197,8 +180,6 @@ impl Tree {
         let place = self.lead(false, link)?;
         self.making(&place).refuse()?;
         let target = ByteString::from_slice(self.home().allocator(), target)?;
-        kept_with_entry();
-        trimmed_already();
         self.put(place, Node::Link(target))?;
         Ok(())
     }
@@ -332,8 +313,9 @@ impl Tree {
     /// `NoMemory` where memory runs out; the tree is then as before.
     #[tactic(auto, unfolding(sftp_path::specs::Table::get))]
     fn change_at(&mut self, place: &Place, attrs: &Attrs) -> Result<(), NoMemory>
-        requires { tree.IsKept (steps.with_attributes self.old attrs.now place.now (tree.node_at self.old.names place.now)) }
-        ensures ok { OnOk result (self.new ≡ steps.with_attributes self.old attrs.now place.now (tree.node_at self.old.names place.now)) }
+        requires { IsTrue (tree.fits (steps.with_attributes self.old attrs.now place.now (tree.node_at self.old.names place.now))) }
+        ensures ok { OnOk result
+            (self.new ≡ tree.trim (steps.with_attributes self.old attrs.now place.now (tree.node_at self.old.names place.now))) }
         ensures err { OnErr result (self.new ≡ self.old) }
     {
         match self.names().get(place) {
@@ -346,33 +328,9 @@ impl Tree {
                 let number = *number;
                 self.change_file(number, attrs)
             }
-            Some(Node::Link(_)) | None => Ok(()),
+            Some(Node::Link(_)) => Ok(()),
+            None => Ok(()),
         }
-    }
-
-    /// Moves what stands at the old place, with all below it, to the new one, in the stead of what stands there.
-    ///
-    /// # Errors
-    ///
-    /// `NoMemory` where memory runs out; the tree is then as before.
-    fn move_node(&mut self, old: &Place, new: Place) -> Result<(), NoMemory>
-        requires taken { IsTrue (tree.is_taken (tree.node_at self.old.names old.now)) }
-        requires old_below_root { is_root old.now ≡ false }
-        requires new_below_root { is_root new ≡ false }
-        requires outside { steps.goes_inside self.old.names old.now new ≡ false }
-        requires elsewhere { same_place old.now new ≡ false }
-        requires named { IsTrue (are_names new) }
-        requires parent { IsTrue (tree.is_directory (tree.node_at self.old.names (parent new))) }
-        requires alone { tree.has_entries self.old.names new ≡ false }
-        requires fits { IsTrue (tree.fits (steps.put_in_its_stead self.old old.now new)) }
-        ensures ok { OnOk result (self.new ≡ tree.trim (steps.put_in_its_stead self.old old.now new)) }
-        ensures err { OnErr result (self.new ≡ self.old) }
-    {
-        self.see();
-        places_apart();
-        alone_there();
-        kept_after_move();
-        self.move_to(old, new)
     }
 }
 
@@ -381,20 +339,6 @@ fn see_place(place: &Place)
     ensures { IsTrue (are_names place.now) }
 {
     let _ = place.names();
-}
-
-/// Does nothing. Its contract says that attributes leave an owner one.
-fn see_attributes(attrs: &Attrs)
-    ensures { (owner : Owner) → IsOwner owner → IsOwner (changed_owner attrs.now owner) }
-{
-    let _ = changed_owner(
-        attrs,
-        Owner {
-            uid: 0,
-            gid: 0,
-            permissions: 0,
-        },
-    );
 }
 
 #[cfg(test)]

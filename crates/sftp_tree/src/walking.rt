@@ -7,11 +7,11 @@ ghost use Rattle.sftp_tree.specs.Walk as walks;
 ghost use Rattle.sftp_tree.specs.Walking.{meeting, StaysAtLink};
 
 use crate::causes::Cause;
+use crate::entries::Entries;
 use crate::nodes::Node;
 use crate::route::Route;
 use crate::trees::Tree;
 use sftp_path::{NoMemory, Parts, Place, components, is_dot, is_dot_dot};
-use std::collections::BTreeMap;
 
 /// The most links that one walk follows. The limit is this profile's own.
 const LINK_LIMIT: usize = 40;
@@ -37,7 +37,7 @@ pub(crate) enum Met<'a> {
 /// `NoMemory` where memory runs out.
 #[tactic(auto, unfolding(crate::specs::Walk::meets, sftp_path::specs::Table::get))]
 fn meet<'a>(
-    names: &'a BTreeMap<Place, Node>,
+    names: &'a Entries,
     at: &mut Place,
     component: &[u8],
     is_last: bool,
@@ -45,7 +45,7 @@ fn meet<'a>(
 ) -> Result<Met<'a>, NoMemory>
     requires { IsTrue (is_step component.now) }
     ensures meets { IfOk result
-        (λ met. walks.meets names.now.entries follow at.old component.now is_last ≡ meeting met at.new) }
+        (λ met. walks.meets names.now follow at.old component.now is_last ≡ meeting met at.new) }
     ensures stays { IfOk result (λ met. StaysAtLink met at.old at.new) }
 {
     if is_dot(component) {

@@ -1,18 +1,7 @@
-pub mod Appending
-pub mod AttributeLaws
-pub mod CountedLaws
-pub mod ExtensionLaws
+-- Lemmas by subject, each folder citing those above it alone. Beside them each function of `src` has its own proof, at
+-- its module's path.
+pub mod Bytes
+pub mod Readers
 pub mod FieldLaws
-pub mod FlagBits
-pub mod Flags
-pub mod FramingLaws
-pub mod FrontLaws
-pub mod Loops
-pub mod NameLaws
-pub mod Numbers
-pub mod PacketAgain
 pub mod PacketLaws
-pub mod PacketRows
-pub mod PairLaws
-pub mod ReaderLaws
-pub mod Steps
+pub mod StreamLaws

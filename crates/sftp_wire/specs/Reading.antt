@@ -1,6 +1,7 @@
--- Packets are read from left to right, up to the first fault (draft-ietf-secsh-filexfer-02, sections 3 to 8).
--- This is a second account of the packets beside their spelling; that the two agree is proved.
-use Rattle.std.specs.Prelude.{◌≡◌, ◌==◌, ◌||◌, nat_lt, ℕ, zero, suc, ◌+◌, Bool, if◌then◌else◌, List, [], ◌∷◌, ◌++◌, length, take, drop, bytes_eq, Option, Some, None, Result, Ok, Err}
+-- How packets are read, from left to right and up to the first fault (draft-ietf-secsh-filexfer-02, sections 3 to 8).
+-- This is a second definition of the format beside the spelling; that the two agree is proved.
+use Rattle.std.specs.Prelude.{◌≡◌, ◌==◌, ◌||◌, nat_lt, ℕ, zero, suc, ◌+◌, Bool, if◌then◌else◌}
+use Rattle.std.specs.Prelude.{List, [], ◌∷◌, ◌++◌, length, take, drop, bytes_eq, Option, Some, None, Result, Ok, Err}
 use Rattle.std.specs.Int.{w32, w64, Width, byte_len, from_be_bytes}
 use Rattle.std.specs.Int.RustNames.{bit_and}
 use Rattle.sftp_wire.specs.declared.errors.Fault.{Fault}
@@ -19,9 +20,10 @@ use Rattle.sftp_wire.specs.declared.packets.Packet.{Packet}
 use Rattle.sftp_wire.specs.declared.packets.Packet.TheVariants.{Init, Version, Request, Reply}
 use Rattle.sftp_wire.specs.declared.packets.Side.{Side}
 use Rattle.sftp_wire.specs.declared.packets.Side.TheVariants.{Client, Server}
-use Rattle.sftp_wire.specs.Spelling.{packet_limit, handle_limit, posix_rename_name, hardlink_name, fsync_name, spelling, side_of, HasSpelling}
+use Rattle.sftp_wire.specs.Spelling.{packet_limit, handle_limit, posix_rename_name, hardlink_name, fsync_name}
+use Rattle.sftp_wire.specs.Spelling.{spelling, side_of, HasSpelling}
 
--- A reader takes a value from the front of the bytes and leaves the rest, or names the first fault.
+-- A reader takes a value from the front of the bytes and returns it with the rest, or the first fault.
 abbrev pub Reader : Type 0 → Type 0
 Reader A = List ℕ → Result (A × List ℕ) Fault
 
@@ -30,9 +32,9 @@ abbrev pub ◌>>=◌ : {A B : Type 0} → Result A Fault → (A → Result B Fau
 (Ok x) >>= f = f x
 (Err e) >>= f = Err e
 
--- ---- how a row of the packet table is read: its fields in their order, and what they make
+-- ---- readers of fields in their order, and what they make
 
--- nothing is read here
+-- a reader that always fails
 abbrev pub refuse : {A : Type 0} → Fault → Reader A
 refuse fault bytes = Err fault
 
@@ -54,11 +56,11 @@ three first second third make bytes = do
   c ← third b.1
   Ok (make a.0 b.0 c.0, c.1)
 
--- a field that stands there only where it is said to
+-- an optional field, by whether it is present
 abbrev pub optional_at : {A : Type 0} → Bool → Reader A → Reader (Option A)
 optional_at there read bytes = if there then one read Some bytes else Ok (None, bytes)
 
--- a value, read again so many times
+-- `count` values, one after the other
 abbrev pub many_at : {A : Type 0} → Reader A → ℕ → Reader (List A)
 many_at read zero bytes = Ok ([], bytes)
 many_at read (suc count) bytes = do
@@ -66,7 +68,7 @@ many_at read (suc count) bytes = do
   others ← many_at read count first.1
   Ok (first.0 ∷ others.0, others.1)
 
--- a value, read again up to the end, at most so many times
+-- values up to the end of the bytes, at most so many
 abbrev pub up_to_end : {A : Type 0} → Reader A → ℕ → Reader (List A)
 up_to_end read zero bytes = Ok ([], bytes)
 up_to_end read (suc most) [] = Ok ([], [])
@@ -78,7 +80,9 @@ up_to_end read (suc most) (b ∷ bytes) = do
 -- ---- fields (draft, section 3)
 
 abbrev pub number_at : Width → Reader ℕ
-number_at w bytes = if nat_lt (length bytes) (byte_len w) then Err Short else Ok (from_be_bytes w (take (byte_len w) bytes), drop (byte_len w) bytes)
+number_at w bytes =
+    if nat_lt (length bytes) (byte_len w) then Err Short else
+    Ok (from_be_bytes w (take (byte_len w) bytes), drop (byte_len w) bytes)
 
 unfoldable pub uint32_at : Reader ℕ
 uint32_at = number_at w32
@@ -86,18 +90,22 @@ uint32_at = number_at w32
 unfoldable pub uint64_at : Reader ℕ
 uint64_at = number_at w64
 
+-- as many bytes as a length says
+abbrev pub bytes_at : ℕ → Reader (List ℕ)
+bytes_at n bytes = if nat_lt (length bytes) n then Err Short else Ok (take n bytes, drop n bytes)
+
 unfoldable pub string_at : Reader (List ℕ)
 string_at bytes = do
   n ← uint32_at bytes
-  if nat_lt (length n.1) n.0 then Err Short else Ok (take n.0 n.1, drop n.0 n.1)
+  bytes_at n.0 n.1
 
--- a handle, whose length is judged before its bytes are looked for (draft, section 7)
+-- a handle: its length is checked before its bytes (draft, section 7)
 unfoldable pub handle_at : Reader (List ℕ)
 handle_at bytes = do
   n ← uint32_at bytes
-  if nat_lt handle_limit n.0 then Err HandleTooLong else (if nat_lt (length n.1) n.0 then Err Short else Ok (take n.0 n.1, drop n.0 n.1))
+  if nat_lt handle_limit n.0 then Err HandleTooLong else bytes_at n.0 n.1
 
--- all that is left
+-- all bytes that are left
 abbrev pub rest_at : Reader (List ℕ)
 rest_at bytes = Ok (bytes, [])
 
@@ -107,11 +115,11 @@ two_uint32_at = two uint32_at uint32_at (λ a b. (a, b))
 unfoldable pub pair_at : Reader (List ℕ × List ℕ)
 pair_at = two string_at string_at (λ name text. (name, text))
 
--- pairs up to the end (draft, section 4): each takes a byte at least
+-- pairs up to the end (draft, section 4); each takes at least a byte
 unfoldable pub pairs_at : Reader (List (List ℕ × List ℕ))
 pairs_at bytes = up_to_end pair_at (length bytes) bytes
 
--- as many pairs as are said (draft, section 5)
+-- pairs behind their count (draft, section 5)
 unfoldable pub counted_pairs_at : Reader (List (List ℕ × List ℕ))
 counted_pairs_at bytes = do
   n ← uint32_at bytes
@@ -123,7 +131,7 @@ counted_pairs_at bytes = do
 abbrev pub has_flag : ℕ → ℕ → Bool
 has_flag flags flag = bit_and flags flag == flag
 
--- no flags but those of the fields
+-- whether the flags are all known
 abbrev pub are_known : ℕ → Bool
 are_known flags = bit_and flags 0x8000000f == flags
 
@@ -135,9 +143,18 @@ attribute_fields_at flags bytes = do
   permissions ← optional_at (has_flag flags 0x00000004) uint32_at owner.1
   times ← optional_at (has_flag flags 0x00000008) two_uint32_at permissions.1
   extended ← optional_at (has_flag flags 0x80000000) counted_pairs_at times.1
-  Ok (record { size = size.0; owner = owner.0; permissions = permissions.0; times = times.0; extended = extended.0 }, extended.1)
+  Ok (
+    record {
+      size = size.0;
+      owner = owner.0;
+      permissions = permissions.0;
+      times = times.0;
+      extended = extended.0;
+    },
+    extended.1,
+  )
 
--- a flag that is not known is found as soon as the flags are read
+-- an unknown flag is a fault before any field behind the flags
 unfoldable pub attributes_at : Reader Attrs
 attributes_at bytes = do
   flags ← uint32_at bytes
@@ -146,9 +163,11 @@ attributes_at bytes = do
 -- ---- names of a directory (draft, section 7)
 
 unfoldable pub name_item_at : Reader NameItem
-name_item_at = three string_at string_at attributes_at (λ filename longname attrs. record { filename = filename; longname = longname; attrs = attrs })
+name_item_at =
+    three string_at string_at attributes_at
+    (λ filename longname attrs. record { filename = filename; longname = longname; attrs = attrs })
 
--- as many names as are said
+-- names behind their count
 unfoldable pub names_at : Reader (List NameItem)
 names_at bytes = do
   n ← uint32_at bytes
@@ -156,7 +175,7 @@ names_at bytes = do
 
 -- ---- packets
 
--- a request: its id, and what is asked
+-- a request: its id, and what it asks for
 abbrev pub request_at : Reader Ask → Reader Packet
 request_at ask = two uint32_at ask (λ id a. Request (record { id = id; ask = a }))
 
@@ -178,7 +197,7 @@ extension_at bytes = do
   name ← string_at bytes
   extension_data_at name.0 name.1
 
--- what follows the type in a client's packet (draft, sections 4, 6 and 8)
+-- the fields behind the type of a client's packet (draft, sections 4, 6 and 8)
 unfoldable pub client_packet_at : ℕ → Reader Packet
 client_packet_at kind =
     if kind == 1 then two uint32_at pairs_at Init else
@@ -203,7 +222,7 @@ client_packet_at kind =
     if kind == 200 then request_at extension_at else
     refuse WrongType
 
--- what follows the type in a server's packet (draft, sections 4, 7 and 8)
+-- the fields behind the type of a server's packet (draft, sections 4, 7 and 8)
 unfoldable pub server_packet_at : ℕ → Reader Packet
 server_packet_at kind =
     if kind == 2 then two uint32_at pairs_at Version else
@@ -220,15 +239,15 @@ abbrev pub packet_at : Side → ℕ → Reader Packet
 packet_at Client kind = client_packet_at kind
 packet_at Server kind = server_packet_at kind
 
--- the bytes behind a packet's length: a type, its fields, and nothing else
+-- the packet behind a length: its type, its fields, and nothing else
 unfoldable pub packet_of : Side → List ℕ → Result Packet Fault
 packet_of side [] = Err Short
 packet_of side (kind ∷ body) = do
   packet ← packet_at side kind body
   if length packet.1 == 0 then Ok packet.0 else Err Trailing
 
--- the packet in front of the bytes of a stream, and how many bytes it takes; nothing where it is not there
--- whole. A length out of range is found as soon as it is there.
+-- The packet in front of the bytes of a stream, and how many bytes it takes; `None` where not all of them have come. A
+-- length out of range is a fault as soon as its four bytes have come.
 unfoldable pub front_of : Side → List ℕ → Result (Option (Packet × ℕ)) Fault
 front_of side bytes =
     if nat_lt (length bytes) 4 then Ok None else
@@ -237,21 +256,21 @@ front_of side bytes =
     if nat_lt (length bytes) (size + 4) then Ok None else
     (packet_of side (take size (drop 4 bytes)) >>= λ packet. Ok (Some (packet, size + 4))))
 
--- ---- what the code gives, and what it has to do with the readers above
+-- ---- what the code returns, beside the readers above
 
--- what a reader of the program gives, and the bytes that it leaves, are what `read` gives, unless memory ran out
+-- the code returns what `read` does, and leaves the same rest, unless memory runs out
 abbrev pub Reads : {A : Type 0} → Result A ReadError → List ℕ → Result (A × List ℕ) Fault → Type 0
 Reads (Ok x) rest read = read ≡ Ok (x, rest)
 Reads (Err reads.NoMemory) rest read = Unit {0}
 Reads (Err (reads.Fault f)) rest read = read ≡ Err f
 
--- the same where no rest is given
+-- the same without a rest
 abbrev pub Gives : {A : Type 0} → Result A ReadError → Result A Fault → Type 0
 Gives (Ok x) read = read ≡ Ok x
 Gives (Err reads.NoMemory) read = Unit {0}
 Gives (Err (reads.Fault f)) read = read ≡ Err f
 
--- the same to a caller: a fault is at the place of the packet's first byte, which is the first of all
+-- the same, with a fault at the place of the packet's first byte, which is 0
 abbrev pub IsReading : {A : Type 0} → Result A WireError → Result A Fault → Type 0
 IsReading (Ok x) read = read ≡ Ok x
 IsReading (Err (wires.Unreadable fault place)) read = (read ≡ Err fault) × (place ≡ 0)
@@ -259,7 +278,7 @@ IsReading (Err wires.NoMemory) read = Unit {0}
 IsReading (Err wires.TooLong) read = ⊥
 IsReading (Err wires.NotCanonical) read = ⊥
 
--- a packet of that side stands in front of the bytes, spelled out, and takes so many of them
+-- the bytes begin with the spelling of a packet of that side, which takes so many of them
 pub record StandsInFront (side : Side) (bytes : List ℕ) (packet : Packet) (taken : ℕ) : Type 0 where
   pub has_spelling : HasSpelling packet
   pub is_sent : side_of packet ≡ side

@@ -1,6 +1,7 @@
--- What the worked rows name: bytes written in hexadecimal, packets that are exactly such bytes, attributes that say
--- nothing, and the extensions that the server tells of.
-use Rattle.std.specs.Prelude.{◌≡◌, ◌==◌, nat_lt, not, ℕ, ◌+◌, ◌-◌, ◌*◌, if◌then◌else◌, List, [], ◌∷◌, length, filter, codes, Some, None, Ok}
+-- Words of the worked rows: bytes in hexadecimal, packets with their bytes, attributes without a field, and the
+-- extensions that the server offers.
+use Rattle.std.specs.Prelude.{◌≡◌, ◌==◌, nat_lt, not, ℕ, ◌+◌, ◌-◌, ◌*◌, if◌then◌else◌}
+use Rattle.std.specs.Prelude.{List, [], ◌∷◌, length, filter, codes, Some, None, Ok}
 use Rattle.sftp_wire.specs.declared.attributes.Attrs.{Attrs}
 use Rattle.sftp_wire.specs.declared.packets.Answer.{Answer}
 use Rattle.sftp_wire.specs.declared.packets.Ask.{Ask}
@@ -11,7 +12,7 @@ use Rattle.sftp_wire.specs.declared.packets.Side.TheVariants.{Client, Server}
 use Rattle.sftp_wire.specs.Spelling.{spelling}
 use Rattle.sftp_wire.specs.Reading.{front_of}
 
--- the worth of a hexadecimal digit, `0` to `9` or `a` to `f`
+-- the value of a hexadecimal digit, `0` to `9` or `a` to `f`
 abbrev pub digit_worth : ℕ → ℕ
 digit_worth code = if nat_lt code 58 then code - 48 else code - 87
 
@@ -21,30 +22,32 @@ bytes_of_digits [] = []
 bytes_of_digits (high ∷ []) = []
 bytes_of_digits (high ∷ low ∷ others) = (digit_worth high * 16 + digit_worth low) ∷ bytes_of_digits others
 
--- the bytes of a text in hexadecimal digits; its spaces only group them
+-- the bytes of a text in hexadecimal digits; spaces only group them
 unfoldable pub hex : List ℕ → List ℕ
 hex text = bytes_of_digits (filter (λ code. not (code == 32)) text)
 
--- the bytes and the packet are one another's: they are read as it and all of them, and it is spelled as them
+-- all of the bytes are read as the packet, and the packet is spelled as the bytes
 pub record IsRow (side : Side) (bytes : List ℕ) (packet : Packet) : Type 0 where
   pub read : front_of side bytes ≡ Ok (Some (packet, length bytes))
   pub spelled : spelling packet ≡ bytes
 
--- the same of a request with an id, its bytes in hexadecimal
+-- the same for a request with an id, its bytes in hexadecimal
 abbrev pub IsAsked : List ℕ → ℕ → Ask → Type 0
 IsAsked text id ask = IsRow Client (hex text) (Request (record { id = id; ask = ask }))
 
--- and of a reply with the id of its request
+-- and for a reply with the id of its request
 abbrev pub IsAnswered : List ℕ → ℕ → Answer → Type 0
 IsAnswered text id answer = IsRow Server (hex text) (Reply (record { id = id; answer = answer }))
 
--- nothing is said of a file
+-- attributes without a field
 abbrev pub no_attributes : Attrs
 no_attributes = record { size = None; owner = None; permissions = None; times = None; extended = None }
 
--- the extensions that the server tells of, each in its version `1`
+-- the extensions that the server offers, each in its version `1`
 abbrev pub server_extensions : List (List ℕ × List ℕ)
-server_extensions = (codes "posix-rename@openssh.com", codes "1") ∷ (codes "hardlink@openssh.com", codes "1") ∷ (codes "fsync@openssh.com", codes "1") ∷ []
+server_extensions =
+    (codes "posix-rename@openssh.com", codes "1") ∷ (codes "hardlink@openssh.com", codes "1")
+    ∷ (codes "fsync@openssh.com", codes "1") ∷ []
 
 -- the 97 bytes of the server's VERSION
 abbrev pub version_bytes : List ℕ

@@ -1,5 +1,6 @@
 -- How packets are spelled in bytes (draft-ietf-secsh-filexfer-02, sections 3 to 8).
-use Rattle.std.specs.Prelude.{◌≡◌, ℕ, ◌+◌, ◌^◌, ◌<◌, ◌≤◌, Bool, true, false, List, [], ◌∷◌, ◌++◌, length, codes, bytes_eq, Option, Some, None, IfSome}
+use Rattle.std.specs.Prelude.{◌≡◌, ℕ, ◌+◌, ◌^◌, ◌<◌, ◌≤◌, Bool, false, List, [], ◌∷◌, ◌++◌, length}
+use Rattle.std.specs.Prelude.{codes, bytes_eq, Option, Some, None, IfSome}
 use Rattle.std.specs.Int.{w32, w64, to_be_bytes}
 use Rattle.std.specs.List.{flat_map, list_any, AllByRecursion}
 use Rattle.sftp_wire.specs.declared.attributes.Attrs.{Attrs}
@@ -15,11 +16,11 @@ use Rattle.sftp_wire.specs.declared.packets.Side.TheVariants.{Client, Server}
 
 -- ---- fields (draft, section 3)
 
--- a number of four bytes, the highest first
+-- a number of four bytes, the most significant first
 abbrev pub uint32 : ℕ → List ℕ
 uint32 n = to_be_bytes w32 n
 
--- a number of eight bytes, the highest first
+-- a number of eight bytes, the most significant first
 abbrev pub uint64 : ℕ → List ℕ
 uint64 n = to_be_bytes w64 n
 
@@ -43,25 +44,29 @@ pairs ps = flat_map pair ps
 abbrev pub counted_pairs : List (List ℕ × List ℕ) → List ℕ
 counted_pairs ps = uint32 (length ps) ++ pairs ps
 
--- a field that may be left out
+-- an optional field
 abbrev pub optional : {A : Type 0} → (A → List ℕ) → Option A → List ℕ
 optional spell None = []
 optional spell (Some a) = spell a
 
 -- ---- file attributes (draft, section 5)
 
--- the flag of a field that is there
+-- the flag of an optional field
 abbrev pub flag : {A : Type 0} → ℕ → Option A → ℕ
 flag bit None = 0
 flag bit (Some a) = bit
 
--- the flags say which fields are there
+-- the flags say which fields are present
 abbrev pub attribute_flags : Attrs → ℕ
-attribute_flags a = flag 0x00000001 a.size + flag 0x00000002 a.owner + flag 0x00000004 a.permissions + flag 0x00000008 a.times + flag 0x80000000 a.extended
+attribute_flags a =
+    flag 0x00000001 a.size + flag 0x00000002 a.owner + flag 0x00000004 a.permissions + flag 0x00000008 a.times
+    + flag 0x80000000 a.extended
 
 -- the fields in their order
 abbrev pub attribute_fields : Attrs → List ℕ
-attribute_fields a = optional uint64 a.size ++ (optional two_uint32 a.owner ++ (optional uint32 a.permissions ++ (optional two_uint32 a.times ++ optional counted_pairs a.extended)))
+attribute_fields a =
+    optional uint64 a.size ++ (optional two_uint32 a.owner ++ (optional uint32 a.permissions
+    ++ (optional two_uint32 a.times ++ optional counted_pairs a.extended)))
 
 abbrev pub attributes : Attrs → List ℕ
 attributes a = uint32 (attribute_flags a) ++ attribute_fields a
@@ -75,7 +80,7 @@ name_item n = string n.filename ++ (string n.longname ++ attributes n.attrs)
 abbrev pub names : List NameItem → List ℕ
 names ns = uint32 (length ns) ++ flat_map name_item ns
 
--- ---- the names of the extensions that are requests of their own (OpenSSH's PROTOCOL, section 4)
+-- ---- the names of the extensions that have requests of their own (OpenSSH's PROTOCOL, section 4)
 
 abbrev pub posix_rename_name : List ℕ
 posix_rename_name = codes "posix-rename@openssh.com"
@@ -92,52 +97,52 @@ is_known_extension name = list_any (bytes_eq name) (posix_rename_name ∷ hardli
 
 -- ---- packets
 
--- requests (draft, sections 6 and 8; OpenSSH's PROTOCOL, section 4, for the order of a symbolic link's fields and
--- for the data of the known extensions): the type, and the fields behind the id
-abbrev pub asked : Ask → ℕ × List ℕ
-asked (asks.Open path pflags attrs) = (3, string path ++ (uint32 pflags ++ attributes attrs))
-asked (asks.Close handle) = (4, string handle)
-asked (asks.Read handle offset len) = (5, string handle ++ (uint64 offset ++ uint32 len))
-asked (asks.Write handle offset bytes) = (6, string handle ++ (uint64 offset ++ string bytes))
-asked (asks.Lstat path) = (7, string path)
-asked (asks.Fstat handle) = (8, string handle)
-asked (asks.Setstat path attrs) = (9, string path ++ attributes attrs)
-asked (asks.Fsetstat handle attrs) = (10, string handle ++ attributes attrs)
-asked (asks.Opendir path) = (11, string path)
-asked (asks.Readdir handle) = (12, string handle)
-asked (asks.Remove path) = (13, string path)
-asked (asks.Mkdir path attrs) = (14, string path ++ attributes attrs)
-asked (asks.Rmdir path) = (15, string path)
-asked (asks.Realpath path) = (16, string path)
-asked (asks.Stat path) = (17, string path)
-asked (asks.Rename oldpath newpath) = (18, string oldpath ++ string newpath)
-asked (asks.Readlink path) = (19, string path)
-asked (asks.Symlink targetpath linkpath) = (20, string targetpath ++ string linkpath)
-asked (asks.PosixRename oldpath newpath) = (200, string posix_rename_name ++ (string oldpath ++ string newpath))
-asked (asks.Hardlink oldpath newpath) = (200, string hardlink_name ++ (string oldpath ++ string newpath))
-asked (asks.Fsync handle) = (200, string fsync_name ++ string handle)
-asked (asks.Unknown name rest) = (200, string name ++ rest)
+-- The type of a request's packet, and the fields behind its id (draft, sections 6 and 8; OpenSSH's PROTOCOL, section 4,
+-- for the order of SYMLINK's fields and for the data of the known extensions).
+abbrev pub ask_parts : Ask → ℕ × List ℕ
+ask_parts (asks.Open path pflags attrs) = (3, string path ++ (uint32 pflags ++ attributes attrs))
+ask_parts (asks.Close handle) = (4, string handle)
+ask_parts (asks.Read handle offset len) = (5, string handle ++ (uint64 offset ++ uint32 len))
+ask_parts (asks.Write handle offset bytes) = (6, string handle ++ (uint64 offset ++ string bytes))
+ask_parts (asks.Lstat path) = (7, string path)
+ask_parts (asks.Fstat handle) = (8, string handle)
+ask_parts (asks.Setstat path attrs) = (9, string path ++ attributes attrs)
+ask_parts (asks.Fsetstat handle attrs) = (10, string handle ++ attributes attrs)
+ask_parts (asks.Opendir path) = (11, string path)
+ask_parts (asks.Readdir handle) = (12, string handle)
+ask_parts (asks.Remove path) = (13, string path)
+ask_parts (asks.Mkdir path attrs) = (14, string path ++ attributes attrs)
+ask_parts (asks.Rmdir path) = (15, string path)
+ask_parts (asks.Realpath path) = (16, string path)
+ask_parts (asks.Stat path) = (17, string path)
+ask_parts (asks.Rename oldpath newpath) = (18, string oldpath ++ string newpath)
+ask_parts (asks.Readlink path) = (19, string path)
+ask_parts (asks.Symlink targetpath linkpath) = (20, string targetpath ++ string linkpath)
+ask_parts (asks.PosixRename oldpath newpath) = (200, string posix_rename_name ++ (string oldpath ++ string newpath))
+ask_parts (asks.Hardlink oldpath newpath) = (200, string hardlink_name ++ (string oldpath ++ string newpath))
+ask_parts (asks.Fsync handle) = (200, string fsync_name ++ string handle)
+ask_parts (asks.Unknown name rest) = (200, string name ++ rest)
 
--- replies (draft, sections 7 and 8): the type, and the fields behind the id
-abbrev pub answered : Answer → ℕ × List ℕ
-answered (answers.Status code message language) = (101, uint32 code ++ (string message ++ string language))
-answered (answers.Handle handle) = (102, string handle)
-answered (answers.Data bytes) = (103, string bytes)
-answered (answers.Name items) = (104, names items)
-answered (answers.Attrs attrs) = (105, attributes attrs)
-answered (answers.Extended bytes) = (201, bytes)
+-- the type of a reply's packet, and the fields behind its id (draft, sections 7 and 8)
+abbrev pub answer_parts : Answer → ℕ × List ℕ
+answer_parts (answers.Status code message language) = (101, uint32 code ++ (string message ++ string language))
+answer_parts (answers.Handle handle) = (102, string handle)
+answer_parts (answers.Data bytes) = (103, string bytes)
+answer_parts (answers.Name items) = (104, names items)
+answer_parts (answers.Attrs attrs) = (105, attributes attrs)
+answer_parts (answers.Extended bytes) = (201, bytes)
 
--- a type, then an id, and then the fields in their order (draft, section 3)
+-- a type, an id, and the fields in their order (draft, section 3)
 abbrev pub with_id : ℕ → ℕ × List ℕ → List ℕ
 with_id id row = row.0 ∷ uint32 id ++ row.1
 
--- What stands behind a packet's length (draft, sections 3 and 4). A request has an id of its own, and a reply has
--- that of its request.
+-- The bytes behind a packet's length (draft, sections 3 and 4). A request has an id of its own, and a reply has that of
+-- its request.
 abbrev pub contents : Packet → List ℕ
 contents (Init version extensions) = 1 ∷ uint32 version ++ pairs extensions
 contents (Version version extensions) = 2 ∷ uint32 version ++ pairs extensions
-contents (Request request) = with_id request.id (asked request.ask)
-contents (Reply reply) = with_id reply.id (answered reply.answer)
+contents (Request request) = with_id request.id (ask_parts request.ask)
+contents (Reply reply) = with_id reply.id (answer_parts reply.answer)
 
 -- a packet is its length, which does not count itself, and that many bytes (draft, section 3)
 unfoldable pub spelling : Packet → List ℕ
@@ -150,13 +155,13 @@ side_of (Version version extensions) = Server
 side_of (Request request) = Client
 side_of (Reply reply) = Server
 
--- ---- what has a spelling
+-- ---- which packets have a spelling
 
--- each byte is one
+-- each number is a byte
 abbrev pub AreBytes : List ℕ → Type 0
 AreBytes bytes = AllByRecursion (λ b. b < 256) bytes
 
--- bytes that are few enough for their length to be written
+-- a string whose length fits its field
 pub record FitsString (bytes : List ℕ) : Type 0 where
   pub bytes_fit : AreBytes bytes
   pub length_fits : length bytes < 2 ^ 32
@@ -220,7 +225,7 @@ FitsAnswer (answers.Name items) = FitsNames items
 FitsAnswer (answers.Attrs attrs) = FitsAttrs attrs
 FitsAnswer (answers.Extended bytes) = AreBytes bytes
 
--- each number is in its field's range, and each byte is one
+-- each number is in its field's range, and each string is of bytes
 abbrev pub FitsFields : Packet → Type 0
 FitsFields (Init version extensions) = (version < 2 ^ 32) × FitsPairs extensions
 FitsFields (Version version extensions) = (version < 2 ^ 32) × FitsPairs extensions
@@ -257,7 +262,7 @@ handle_of (Version version extensions) = None
 handle_of (Request request) = asked_handle request.ask
 handle_of (Reply reply) = answered_handle reply.answer
 
--- an extension that is a request of its own, asked for as if it were not
+-- an extension that has a request of its own, written as an unknown one
 abbrev pub asks_known : Ask → Bool
 asks_known (asks.Unknown name rest) = is_known_extension name
 asks_known other = false
@@ -268,9 +273,9 @@ hides_extension (Version version extensions) = false
 hides_extension (Request request) = asks_known request.ask
 hides_extension (Reply reply) = false
 
--- A packet has a spelling where each field can be written, the whole and a handle are within their limits, and
--- an extension that is a request of its own is asked for as that. (A whole packet never has fewer than five bytes:
--- its length and its type.)
+-- A packet has a spelling where each field is in range, the whole and a handle are within their limits, and an extension
+-- that has a request of its own is written as that. (A whole packet never has fewer than five bytes: its length and its
+-- type.)
 pub record HasSpelling (packet : Packet) : Type 0 where
   pub fields : FitsFields packet
   pub whole : length (spelling packet) ≤ packet_limit

@@ -1,6 +1,8 @@
-//! The extensions that are requests of their own (OpenSSH's PROTOCOL, sections 4.3, 4.5 and 4.6), by their names.
+//! The extensions that have requests of their own (OpenSSH's PROTOCOL, sections 4.3, 4.5 and 4.6), by their names.
 ghost use Rattle.std.specs.Prelude.{◌≡◌};
-ghost use Rattle.sftp_wire.specs.Spelling.{is_known_extension};
+ghost use Rattle.sftp_wire.specs.Spelling.{is_known_extension, asks_known, hides_extension};
+
+use crate::packets::{Ask, Packet};
 
 pub(crate) const POSIX_RENAME: &[u8] = b"posix-rename@openssh.com";
 
@@ -9,8 +11,47 @@ pub(crate) const HARDLINK: &[u8] = b"hardlink@openssh.com";
 pub(crate) const FSYNC: &[u8] = b"fsync@openssh.com";
 
 /// Whether a name is that of such an extension.
-pub(crate) fn is_known(name: &[u8]) -> bool
+fn is_known(name: &[u8]) -> bool
     ensures { result ≡ is_known_extension name.now }
 {
     name == POSIX_RENAME || name == HARDLINK || name == FSYNC
+}
+
+fn asks_known(ask: &Ask) -> bool
+    ensures { result ≡ asks_known ask.now }
+{
+    match ask {
+        Ask::Unknown { name, .. } => is_known(name.as_slice()),
+        Ask::Open { .. }
+        | Ask::Close { .. }
+        | Ask::Read { .. }
+        | Ask::Write { .. }
+        | Ask::Lstat { .. }
+        | Ask::Fstat { .. }
+        | Ask::Setstat { .. }
+        | Ask::Fsetstat { .. }
+        | Ask::Opendir { .. }
+        | Ask::Readdir { .. }
+        | Ask::Remove { .. }
+        | Ask::Mkdir { .. }
+        | Ask::Rmdir { .. }
+        | Ask::Realpath { .. }
+        | Ask::Stat { .. }
+        | Ask::Rename { .. }
+        | Ask::Readlink { .. }
+        | Ask::Symlink { .. }
+        | Ask::PosixRename { .. }
+        | Ask::Hardlink { .. }
+        | Ask::Fsync { .. } => false,
+    }
+}
+
+/// Whether a packet is an `Unknown` with the name of an extension that has a request of its own.
+pub(crate) fn hides_extension(packet: &Packet) -> bool
+    ensures { result ≡ hides_extension packet.now }
+{
+    match packet {
+        Packet::Request(request) => asks_known(&request.ask),
+        Packet::Init { .. } | Packet::Version { .. } | Packet::Reply(_) => false,
+    }
 }

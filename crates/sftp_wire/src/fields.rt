@@ -1,6 +1,6 @@
 //! The fields of packets, read from the front of a packet's body (draft, sections 3 to 5). Each reader
 //! moves the body past what it read. Where it fails, the body may stand anywhere.
-ghost use Rattle.sftp_wire.specs.Reading.{Reads, optional_at, uint32_at, uint64_at, two_uint32_at, string_at, handle_at, rest_at, name_item_at, names_at, pair_at, pairs_at, many_at, counted_pairs_at, attribute_fields_at, attributes_at};
+ghost use Rattle.sftp_wire.specs.Reading.{Reads, optional_at, uint32_at, uint64_at, two_uint32_at, bytes_at, string_at, handle_at, rest_at, name_item_at, names_at, pair_at, pairs_at, many_at, counted_pairs_at, attribute_fields_at, attributes_at};
 
 use crate::attributes::{AttrFlags, Attrs};
 use crate::errors::{Fault, ReadError};
@@ -37,21 +37,28 @@ fn two_numbers(body: &mut &[u8]) -> Result<(u32, u32), ReadError>
     Ok((first, second))
 }
 
+/// `length` bytes.
+fn bytes(alloc: Global, length: usize, body: &mut &[u8]) -> Result<ByteString, ReadError>
+    ensures { Reads result body.new.now (bytes_at length body.old.now) }
+{
+    if body.len() < length {
+        return Err(ReadError::Fault(Fault::Short));
+    }
+    let (front, rest) = body.split_at(length);
+    *body = rest;
+    Ok(ByteString::from_slice(alloc, front)?)
+}
+
 /// A string.
 #[tactic(auto, unfolding(crate::specs::Reading::string_at))]
 pub(crate) fn string(alloc: Global, body: &mut &[u8]) -> Result<ByteString, ReadError>
     ensures { Reads result body.new.now (string_at body.old.now) }
 {
-    let length = number(body)? as usize;
-    if body.len() < length {
-        return Err(ReadError::Fault(Fault::Short));
-    }
-    let (text, rest) = body.split_at(length);
-    *body = rest;
-    Ok(ByteString::from_slice(alloc, text)?)
+    let length = number(body)?;
+    bytes(alloc, length as usize, body)
 }
 
-/// A handle. Its length is judged before its bytes are looked for.
+/// A handle. Its length is checked before its bytes.
 #[tactic(auto, unfolding(crate::specs::Reading::handle_at))]
 pub(crate) fn handle(alloc: Global, body: &mut &[u8]) -> Result<ByteString, ReadError>
     ensures { Reads result body.new.now (handle_at body.old.now) }
@@ -60,12 +67,7 @@ pub(crate) fn handle(alloc: Global, body: &mut &[u8]) -> Result<ByteString, Read
     if length > HANDLE_LIMIT {
         return Err(ReadError::Fault(Fault::HandleTooLong));
     }
-    if body.len() < length {
-        return Err(ReadError::Fault(Fault::Short));
-    }
-    let (name, rest) = body.split_at(length);
-    *body = rest;
-    Ok(ByteString::from_slice(alloc, name)?)
+    bytes(alloc, length, body)
 }
 
 /// All that is left.

@@ -1,6 +1,6 @@
 //! A stream of packets that comes in pieces (draft, section 3): each packet is taken out as soon as it is
 //! there whole.
-ghost use Rattle.std.specs.Prelude.{◌≡◌, ◌⊎◌, ◌+◌, ◌-◌, ◌*◌, ◌≤◌, List, ℕ, ◌++◌, length, drop, option_copied, Option, Some, None, Result, Ok, Err, IfOk, IfErr, IfSome};
+ghost use Rattle.std.specs.Prelude.{◌≡◌, ◌⊎◌, ◌+◌, ◌-◌, ◌*◌, ◌<◌, ◌≤◌, List, ℕ, ◌++◌, length, drop, option_copied, Option, Some, None, Result, Ok, Err, IfOk, IfErr, IfSome, IfNone};
 ghost use Rattle.std.specs.Vec.{vec_len, vec_capacity};
 ghost use Rattle.sftp_wire.specs.declared.errors.Fault.{Fault};
 ghost use Rattle.sftp_wire.specs.declared.packets.Packet.{Packet};
@@ -110,6 +110,13 @@ impl FrameBuf {
         })
     }
 
+    /// The bytes held.
+    fn held(&self) -> &[u8]
+        ensures { result.now ≡ self.now.held }
+    {
+        &self.bytes[self.start..]
+    }
+
     /// How many bytes more are taken: `PACKET_LIMIT` less those held, and 0 once a fault was told.
     pub fn room(&self) -> usize
         ensures exact { result ≡ room_of self.now }
@@ -122,9 +129,18 @@ impl FrameBuf {
         PACKET_LIMIT - (self.bytes.len() - self.start)
     }
 
-    /// Takes as many of the bytes as there is room for, and says how many. It takes no memory.
+    /// The place in the stream of the first byte held: how many bytes were taken out, at most 2^64 - 1.
+    pub fn place(&self) -> u64
+        ensures { result ≡ self.now.place }
+    {
+        self.place
+    }
+
+    /// Takes as many of the bytes as there is room for, and returns how many. It takes no memory.
     pub fn push(&mut self, bytes: &[u8]) -> usize
         ensures exact { IsStep self.old (Step.Push bytes.now result) self.new }
+        // No more bytes are held than a packet may have.
+        ensures within { length self.new.held ≤ packet_limit }
     {
         let taken = self.room().min(bytes.len());
         self.start = append(&mut self.bytes, self.start, &bytes[..taken]);
@@ -139,7 +155,7 @@ impl FrameBuf {
         if self.fault.is_some() {
             return None;
         }
-        whole(&self.bytes[self.start..])
+        whole(self.held())
     }
 
     /// Takes the packet in front out, of that side; `None` where it is not there whole.
@@ -151,6 +167,8 @@ impl FrameBuf {
     /// nothing changes. Never `TooLong`.
     pub fn next(&mut self, side: Side) -> Result<Option<Packet>, WireError>
         ensures exact { IsStep self.old (Step.Next side result) self.new }
+        // Where it returns `None` there is room for more bytes.
+        ensures room { IfOk result (λ given. IfNone given (0 < room_of self.new)) }
         // What is given is spelled out in front, and exactly its bytes are taken out.
         ensures found { IfOk result (λ given. IfSome given (λ packet.
             HasSpelling packet × (side_of packet ≡ side) × (self.old.held ≡ spelling packet ++ self.new.held)
@@ -166,7 +184,7 @@ impl FrameBuf {
             });
         }
         let alloc = *self.bytes.allocator();
-        match front(alloc, &self.bytes[self.start..], side) {
+        match front(alloc, self.held(), side) {
             Ok(None) => Ok(None),
             Ok(Some((packet, taken))) => {
                 self.start += taken;
@@ -201,6 +219,10 @@ pub fn streams()
     // Then nothing more is taken.
     ensures fault_takes_none { (s t : Frames) (fault : Fault) (bytes : List ℕ) (taken : ℕ) → s.fault ≡ Some fault → IsStep s (Step.Push bytes taken) t
         → (taken ≡ 0) × (t ≡ s) }
+    // No more bytes are held than a packet may have.
+    ensures within { (steps : List (Step × Frames)) (t : Frames) → AreSteps no_frames steps t → length t.held ≤ packet_limit }
+    // Where `next` returns `None` there is room for more bytes.
+    ensures room { (side : Side) (s t : Frames) → IsStep s (Step.Next side (Ok None)) t → 0 < room_of t }
     // A packet that is spelled in front is lent as it is spelled.
     ensures lent { (packet : Packet) (rest : List ℕ) → HasSpelling packet → whole_of (spelling packet ++ rest) ≡ Some (spelling packet) }
 {}

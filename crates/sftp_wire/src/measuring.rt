@@ -1,9 +1,9 @@
 //! How many bytes packets take (draft, sections 3 to 8), found before memory is asked for. A number that
 //! does not fit is the largest that does. What takes few enough bytes can be written: each of its numbers and
 //! bytes is in range, by its type, and each of its lengths is, since the whole is.
-ghost use Rattle.std.specs.Prelude.{◌≡◌, ◌-◌, ◌^◌, ◌<◌, ◌++◌, length, min, IsSome, IfSome};
+ghost use Rattle.std.specs.Prelude.{◌≡◌, ◌-◌, ◌^◌, ◌<◌, ◌++◌, length, min, IfSome};
 ghost use Rattle.std.specs.List.{flat_map, AllByRecursion};
-ghost use Rattle.sftp_wire.specs.Spelling.{uint32, uint64, two_uint32, string, pair, pairs, counted_pairs, optional, attributes, name_item, names, asked, asked_handle, answered, with_id, contents, AreBytes, FitsString, FitsTwo, FitsPair, FitsPairs, FitsCounted, FitsAttrs, FitsNameItem, FitsNames, FitsAsk, FitsAnswer, FitsFields};
+ghost use Rattle.sftp_wire.specs.Spelling.{uint32, uint64, two_uint32, string, pair, pairs, counted_pairs, optional, attributes, name_item, names, ask_parts, answer_parts, with_id, contents, AreBytes, FitsString, FitsTwo, FitsPair, FitsPairs, FitsCounted, FitsAttrs, FitsNameItem, FitsNames, FitsAsk, FitsAnswer, FitsFields};
 
 use crate::attributes::Attrs;
 use crate::extensions::{FSYNC, HARDLINK, POSIX_RENAME};
@@ -61,7 +61,7 @@ fn pairs_length(extensions: &Pairs) -> usize
     total
 }
 
-#[tactic(auto, using(crate::proofs::Appending::length_pairs))]
+#[tactic(auto, using(crate::proofs::FieldLaws::Lengths::length_pairs))]
 fn counted_pairs_length(extensions: &Pairs) -> usize
     ensures exact { result ≡ min (length (counted_pairs extensions.now)) (2 ^ 64 - 1) }
     ensures fits { length (counted_pairs extensions.now) < 2 ^ 32 → FitsCounted extensions.now }
@@ -149,7 +149,7 @@ fn name_items_length(items: &Names) -> usize
     total
 }
 
-#[tactic(auto, using(crate::proofs::Appending::length_names))]
+#[tactic(auto, using(crate::proofs::FieldLaws::Lengths::length_names))]
 fn names_length(items: &Names) -> usize
     ensures exact { result ≡ min (length (names items.now)) (2 ^ 64 - 1) }
     ensures fits { length (names items.now) < 2 ^ 32 → FitsNames items.now }
@@ -157,16 +157,33 @@ fn names_length(items: &Names) -> usize
     name_items_length(items).saturating_add(4)
 }
 
-/// The bytes of what is asked through a handle, behind the request's id.
-fn asked_on_handle_length(ask: &Ask) -> usize
-    requires { IsSome (asked_handle ask.now) }
-    ensures exact { result ≡ min (length ((asked ask.now).1)) (2 ^ 64 - 1) }
-    ensures fits { length ((asked ask.now).1) < 2 ^ 32 → FitsAsk ask.now }
+/// The bytes of the fields behind the id of a request.
+fn asked_length(ask: &Ask) -> usize
+    ensures exact { result ≡ min (length ((ask_parts ask.now).1)) (2 ^ 64 - 1) }
+    ensures fits { length ((ask_parts ask.now).1) < 2 ^ 32 → FitsAsk ask.now }
 {
     match ask {
-        Ask::Close { handle } | Ask::Fstat { handle } | Ask::Readdir { handle } => {
-            string_length(handle)
-        }
+        Ask::Lstat { path: text }
+        | Ask::Opendir { path: text }
+        | Ask::Remove { path: text }
+        | Ask::Rmdir { path: text }
+        | Ask::Realpath { path: text }
+        | Ask::Stat { path: text }
+        | Ask::Readlink { path: text }
+        | Ask::Close { handle: text }
+        | Ask::Fstat { handle: text }
+        | Ask::Readdir { handle: text } => string_length(text),
+        Ask::Setstat { path: text, attrs }
+        | Ask::Mkdir { path: text, attrs }
+        | Ask::Fsetstat {
+            handle: text,
+            attrs,
+        } => string_and_attributes_length(text, attrs),
+        Ask::Open {
+            path,
+            pflags,
+            attrs,
+        } => string_and_attributes_length(path, attrs).saturating_add(number_length(*pflags)),
         Ask::Read {
             handle,
             offset,
@@ -179,33 +196,6 @@ fn asked_on_handle_length(ask: &Ask) -> usize
             offset,
             bytes,
         } => two_strings_length(handle, bytes).saturating_add(long_number_length(*offset)),
-        Ask::Fsetstat { handle, attrs } => string_and_attributes_length(handle, attrs),
-        Ask::Fsync { handle } => string_length(handle).saturating_add(4 + FSYNC.len()),
-        _ => unreachable!(),
-    }
-}
-
-/// The bytes of what is asked, behind the request's id.
-fn asked_length(ask: &Ask) -> usize
-    ensures exact { result ≡ min (length ((asked ask.now).1)) (2 ^ 64 - 1) }
-    ensures fits { length ((asked ask.now).1) < 2 ^ 32 → FitsAsk ask.now }
-{
-    match ask {
-        Ask::Lstat { path }
-        | Ask::Opendir { path }
-        | Ask::Remove { path }
-        | Ask::Rmdir { path }
-        | Ask::Realpath { path }
-        | Ask::Stat { path }
-        | Ask::Readlink { path } => string_length(path),
-        Ask::Open {
-            path,
-            pflags,
-            attrs,
-        } => string_and_attributes_length(path, attrs).saturating_add(number_length(*pflags)),
-        Ask::Setstat { path, attrs } | Ask::Mkdir { path, attrs } => {
-            string_and_attributes_length(path, attrs)
-        }
         Ask::Rename { oldpath, newpath } => two_strings_length(oldpath, newpath),
         Ask::Symlink {
             targetpath,
@@ -217,15 +207,15 @@ fn asked_length(ask: &Ask) -> usize
         Ask::Hardlink { oldpath, newpath } => {
             two_strings_length(oldpath, newpath).saturating_add(4 + HARDLINK.len())
         }
+        Ask::Fsync { handle } => string_length(handle).saturating_add(4 + FSYNC.len()),
         Ask::Unknown { name, rest } => string_length(name).saturating_add(text_length(rest)),
-        _ => asked_on_handle_length(ask),
     }
 }
 
-/// The bytes of what is answered, behind the id.
+/// The bytes of the fields behind the id of a reply.
 fn answered_length(answer: &Answer) -> usize
-    ensures exact { result ≡ min (length ((answered answer.now).1)) (2 ^ 64 - 1) }
-    ensures fits { length ((answered answer.now).1) < 2 ^ 32 → FitsAnswer answer.now }
+    ensures exact { result ≡ min (length ((answer_parts answer.now).1)) (2 ^ 64 - 1) }
+    ensures fits { length ((answer_parts answer.now).1) < 2 ^ 32 → FitsAnswer answer.now }
 {
     match answer {
         Answer::Status {

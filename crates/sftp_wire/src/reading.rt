@@ -419,6 +419,7 @@ fn whole_packet(alloc: Global, side: Side, bytes: &[u8]) -> Result<Packet, ReadE
     let mut body = rest;
     let packet = packet(alloc, side, *kind, &mut body)?;
     if !body.is_empty() {
+        drop(packet);
         return Err(ReadError::Fault(Fault::Trailing));
     }
     Ok(packet)

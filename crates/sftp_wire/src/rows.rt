@@ -6,6 +6,7 @@ ghost use Rattle.sftp_wire.specs.Reading.{front_of};
 ghost use Rattle.sftp_wire.specs.Rows.{hex, IsRow, IsAsked, IsAnswered, no_attributes, server_extensions, version_bytes};
 
 use crate::errors::Fault;
+use crate::open_flags::OpenFlags;
 use crate::packets::{Answer, Ask, Packet, Side};
 
 /// The first packets of a session: the nine bytes of an INIT of version 3 without extensions, and the 97
@@ -39,6 +40,16 @@ pub fn requests_on_paths()
     ensures readlink { IsAsked (codes "0000000b 13 0000000e 00000002 2f6c") 14 (Ask.Readlink (codes "/l")) }
     // The target of the link stands first.
     ensures symlink { IsAsked (codes "00000012 14 0000000f 00000003 2e2e74 00000002 2f6c") 15 (Ask.Symlink (codes "..t") (codes "/l")) }
+{}
+
+/// The flags of OPEN (draft, section 6.3).
+pub fn open_flags()
+    ensures read { OpenFlags.READ.0 ≡ 0x0000_0001 }
+    ensures write { OpenFlags.WRITE.0 ≡ 0x0000_0002 }
+    ensures append { OpenFlags.APPEND.0 ≡ 0x0000_0004 }
+    ensures creat { OpenFlags.CREAT.0 ≡ 0x0000_0008 }
+    ensures trunc { OpenFlags.TRUNC.0 ≡ 0x0000_0010 }
+    ensures excl { OpenFlags.EXCL.0 ≡ 0x0000_0020 }
 {}
 
 /// The requests that name what they mean by a handle (draft, section 6). A handle is any bytes, also none.

@@ -1,13 +1,14 @@
 //! Packets as bytes (draft, sections 3 to 8). A private function may leave part of what it writes behind
 //! after an error: `encode` takes it away.
-ghost use Rattle.std.specs.Prelude.{◌≡◌, ◌∷◌, ◌++◌, ◌<◌, ◌^◌, ◌↔◌, ◌⊎◌, length, IsSome, OnOk, OnErr, IfErr, IsErrOf};
+ghost use Rattle.std.specs.Prelude.{◌≡◌, ◌∷◌, ◌++◌, ◌<◌, ◌^◌, ◌↔◌, ◌⊎◌, length, OnOk, OnErr, IfErr, IsErrOf};
 ghost use Rattle.std.specs.List.{flat_map};
-ghost use Rattle.sftp_wire.specs.Spelling.{uint32, uint64, two_uint32, string, pair, pairs, counted_pairs, optional, attribute_flags, attribute_fields, attributes, name_item, names, asked, asked_handle, answered, with_id, contents, spelling, HasSpelling};
+ghost use Rattle.sftp_wire.specs.Spelling.{uint32, uint64, two_uint32, string, pair, pairs, counted_pairs, optional, attribute_flags, attribute_fields, attributes, name_item, names, ask_parts, answer_parts, with_id, contents, spelling, HasSpelling};
 ghost use Rattle.sftp_wire.specs.Writing.{Extends, IsTooLong, IsNotCanonical};
 
 use crate::attributes::{AttrFlags, Attrs};
 use crate::errors::WireError;
-use crate::extensions::{FSYNC, HARDLINK, POSIX_RENAME};
+use crate::extensions::{FSYNC, HARDLINK, POSIX_RENAME, hides_extension};
+use crate::handles::has_long_handle;
 use crate::measuring::contents_length;
 use crate::names::{NameItem, Names};
 use crate::packets::{
@@ -15,24 +16,31 @@ use crate::packets::{
     LSTAT, MKDIR, NAME, OPEN, OPENDIR, PACKET_LIMIT, Packet, READ, READDIR, READLINK, REALPATH,
     REMOVE, RENAME, RMDIR, SETSTAT, STAT, STATUS, SYMLINK, VERSION, WRITE,
 };
-use crate::refusing::{has_long_handle, hides_extension};
 use crate::strings::{ByteString, Pairs};
 use bitflags::Flags;
 use bytes::BufMut;
 use std::alloc::AllocError;
+
+/// The length of a string, and its bytes.
+fn put_bytes(out: &mut Vec<u8>, bytes: &[u8]) -> Result<(), AllocError>
+    requires { length (string bytes.now) < 2 ^ 32 }
+    ensures ok { OnOk result (out.new.items ≡ out.old.items ++ string bytes.now) }
+    ensures err { OnErr result (Extends out.old.items out.new.items) }
+{
+    out.put_u32(bytes.len() as u32)?;
+    // A copy of no bytes would still be a call.
+    if !bytes.is_empty() {
+        out.put_slice(bytes)?;
+    }
+    Ok(())
+}
 
 fn put_string(out: &mut Vec<u8>, text: &ByteString) -> Result<(), AllocError>
     requires { length (string text.now) < 2 ^ 32 }
     ensures ok { OnOk result (out.new.items ≡ out.old.items ++ string text.now) }
     ensures err { OnErr result (Extends out.old.items out.new.items) }
 {
-    let bytes = text.as_slice();
-    out.put_u32(bytes.len() as u32)?;
-    // A copy of no bytes would be a call all the same.
-    if !bytes.is_empty() {
-        out.put_slice(bytes)?;
-    }
-    Ok(())
+    put_bytes(out, text.as_slice())
 }
 
 fn put_two_strings(
@@ -60,7 +68,7 @@ fn put_pairs(out: &mut Vec<u8>, extensions: &Pairs) -> Result<(), AllocError>
     Ok(())
 }
 
-#[tactic(auto, using(crate::proofs::Appending::length_pairs))]
+#[tactic(auto, using(crate::proofs::FieldLaws::Lengths::length_pairs))]
 fn put_counted_pairs(out: &mut Vec<u8>, extended: &Pairs) -> Result<(), AllocError>
     requires { length (counted_pairs extended.now) < 2 ^ 32 }
     ensures ok { OnOk result (out.new.items ≡ out.old.items ++ counted_pairs extended.now) }
@@ -174,36 +182,30 @@ fn put_attributes(out: &mut Vec<u8>, attrs: &Attrs) -> Result<(), AllocError>
     Ok(())
 }
 
-fn put_init(out: &mut Vec<u8>, version: u32, extensions: &Pairs) -> Result<(), AllocError>
-    requires { length (contents (Packet.Init version extensions.now)) < 2 ^ 32 }
-    ensures ok { OnOk result (out.new.items
-        ≡ out.old.items ++ contents (Packet.Init version extensions.now)) }
-    ensures err { OnErr result (Extends out.old.items out.new.items) }
-{
-    out.put_u8(INIT)?;
-    out.put_u32(version)?;
-    put_pairs(out, extensions)?;
-    Ok(())
-}
-
-fn put_version(out: &mut Vec<u8>, version: u32, extensions: &Pairs) -> Result<(), AllocError>
-    requires { length (contents (Packet.Version version extensions.now)) < 2 ^ 32 }
-    ensures ok { OnOk result (out.new.items
-        ≡ out.old.items ++ contents (Packet.Version version extensions.now)) }
-    ensures err { OnErr result (Extends out.old.items out.new.items) }
-{
-    out.put_u8(VERSION)?;
-    out.put_u32(version)?;
-    put_pairs(out, extensions)?;
-    Ok(())
-}
-
-fn put_type_and_id(out: &mut Vec<u8>, kind: u8, id: u32) -> Result<(), AllocError>
-    ensures ok { OnOk result (out.new.items ≡ out.old.items ++ (kind ∷ uint32 id)) }
+/// The type of a packet, and the number behind it: a version or an id.
+fn put_type_and_number(out: &mut Vec<u8>, kind: u8, number: u32) -> Result<(), AllocError>
+    ensures ok { OnOk result (out.new.items ≡ out.old.items ++ (kind ∷ uint32 number)) }
     ensures err { OnErr result (Extends out.old.items out.new.items) }
 {
     out.put_u8(kind)?;
-    out.put_u32(id)?;
+    out.put_u32(number)?;
+    Ok(())
+}
+
+/// INIT or VERSION.
+fn put_first_packet(
+    out: &mut Vec<u8>,
+    kind: u8,
+    version: u32,
+    extensions: &Pairs,
+) -> Result<(), AllocError>
+    requires { length (kind ∷ uint32 version ++ pairs extensions.now) < 2 ^ 32 }
+    ensures ok { OnOk result (out.new.items
+        ≡ out.old.items ++ (kind ∷ uint32 version ++ pairs extensions.now)) }
+    ensures err { OnErr result (Extends out.old.items out.new.items) }
+{
+    put_type_and_number(out, kind, version)?;
+    put_pairs(out, extensions)?;
     Ok(())
 }
 
@@ -327,7 +329,7 @@ fn put_name_items(out: &mut Vec<u8>, items: &Names) -> Result<(), AllocError>
     Ok(())
 }
 
-#[tactic(auto, using(crate::proofs::Appending::length_names))]
+#[tactic(auto, using(crate::proofs::FieldLaws::Lengths::length_names))]
 fn put_names(out: &mut Vec<u8>, items: &Names) -> Result<(), AllocError>
     requires { length (names items.now) < 2 ^ 32 }
     ensures ok { OnOk result (out.new.items ≡ out.old.items ++ names items.now) }
@@ -335,17 +337,6 @@ fn put_names(out: &mut Vec<u8>, items: &Names) -> Result<(), AllocError>
 {
     out.put_u32(items.as_slice().len() as u32)?;
     put_name_items(out, items)?;
-    Ok(())
-}
-
-/// The name of an extension.
-fn put_extension_name(out: &mut Vec<u8>, name: &[u8]) -> Result<(), AllocError>
-    requires { length name.now < 2 ^ 32 }
-    ensures ok { OnOk result (out.new.items ≡ out.old.items ++ string name.now) }
-    ensures err { OnErr result (Extends out.old.items out.new.items) }
-{
-    out.put_u32(name.len() as u32)?;
-    out.put_slice(name)?;
     Ok(())
 }
 
@@ -360,7 +351,7 @@ fn put_two_paths_extension(
         ≡ out.old.items ++ (string name.now ++ pair (oldpath.now, newpath.now))) }
     ensures err { OnErr result (Extends out.old.items out.new.items) }
 {
-    put_extension_name(out, name)?;
+    put_bytes(out, name)?;
     put_two_strings(out, oldpath, newpath)?;
     Ok(())
 }
@@ -374,7 +365,7 @@ fn put_handle_extension(
     ensures ok { OnOk result (out.new.items ≡ out.old.items ++ (string name.now ++ string handle.now)) }
     ensures err { OnErr result (Extends out.old.items out.new.items) }
 {
-    put_extension_name(out, name)?;
+    put_bytes(out, name)?;
     put_string(out, handle)?;
     Ok(())
 }
@@ -391,7 +382,7 @@ fn put_unknown(out: &mut Vec<u8>, name: &ByteString, rest: &ByteString) -> Resul
 
 /// The type of a request's packet.
 fn asked_type(ask: &Ask) -> u8
-    ensures { result ≡ (asked ask.now).0 }
+    ensures { result ≡ (ask_parts ask.now).0 }
 {
     match ask {
         Ask::Open { .. } => OPEN,
@@ -417,17 +408,34 @@ fn asked_type(ask: &Ask) -> u8
     }
 }
 
-/// What is asked through a handle, behind the request's id.
-fn put_fields_on_handle(out: &mut Vec<u8>, ask: &Ask) -> Result<(), AllocError>
-    requires on_handle { IsSome (asked_handle ask.now) }
-    requires within { length ((asked ask.now).1) < 2 ^ 32 }
-    ensures ok { OnOk result (out.new.items ≡ out.old.items ++ (asked ask.now).1) }
+/// The fields behind the id of a request.
+fn put_ask_fields(out: &mut Vec<u8>, ask: &Ask) -> Result<(), AllocError>
+    requires { length ((ask_parts ask.now).1) < 2 ^ 32 }
+    ensures ok { OnOk result (out.new.items ≡ out.old.items ++ (ask_parts ask.now).1) }
     ensures err { OnErr result (Extends out.old.items out.new.items) }
 {
     match ask {
-        Ask::Close { handle } | Ask::Fstat { handle } | Ask::Readdir { handle } => {
-            put_string(out, handle)
-        }
+        Ask::Lstat { path: text }
+        | Ask::Opendir { path: text }
+        | Ask::Remove { path: text }
+        | Ask::Rmdir { path: text }
+        | Ask::Realpath { path: text }
+        | Ask::Stat { path: text }
+        | Ask::Readlink { path: text }
+        | Ask::Close { handle: text }
+        | Ask::Fstat { handle: text }
+        | Ask::Readdir { handle: text } => put_string(out, text),
+        Ask::Setstat { path: text, attrs }
+        | Ask::Mkdir { path: text, attrs }
+        | Ask::Fsetstat {
+            handle: text,
+            attrs,
+        } => put_string_and_attributes(out, text, attrs),
+        Ask::Open {
+            path,
+            pflags,
+            attrs,
+        } => put_open_fields(out, path, *pflags, attrs),
         Ask::Read {
             handle,
             offset,
@@ -438,34 +446,6 @@ fn put_fields_on_handle(out: &mut Vec<u8>, ask: &Ask) -> Result<(), AllocError>
             offset,
             bytes,
         } => put_write_fields(out, handle, *offset, bytes),
-        Ask::Fsetstat { handle, attrs } => put_string_and_attributes(out, handle, attrs),
-        Ask::Fsync { handle } => put_handle_extension(out, FSYNC, handle),
-        _ => unreachable!(),
-    }
-}
-
-/// What is asked, behind the request's id.
-fn put_ask_fields(out: &mut Vec<u8>, ask: &Ask) -> Result<(), AllocError>
-    requires { length ((asked ask.now).1) < 2 ^ 32 }
-    ensures ok { OnOk result (out.new.items ≡ out.old.items ++ (asked ask.now).1) }
-    ensures err { OnErr result (Extends out.old.items out.new.items) }
-{
-    match ask {
-        Ask::Lstat { path }
-        | Ask::Opendir { path }
-        | Ask::Remove { path }
-        | Ask::Rmdir { path }
-        | Ask::Realpath { path }
-        | Ask::Stat { path }
-        | Ask::Readlink { path } => put_string(out, path),
-        Ask::Open {
-            path,
-            pflags,
-            attrs,
-        } => put_open_fields(out, path, *pflags, attrs),
-        Ask::Setstat { path, attrs } | Ask::Mkdir { path, attrs } => {
-            put_string_and_attributes(out, path, attrs)
-        }
         Ask::Rename { oldpath, newpath } => put_two_strings(out, oldpath, newpath),
         Ask::Symlink {
             targetpath,
@@ -477,24 +457,24 @@ fn put_ask_fields(out: &mut Vec<u8>, ask: &Ask) -> Result<(), AllocError>
         Ask::Hardlink { oldpath, newpath } => {
             put_two_paths_extension(out, HARDLINK, oldpath, newpath)
         }
+        Ask::Fsync { handle } => put_handle_extension(out, FSYNC, handle),
         Ask::Unknown { name, rest } => put_unknown(out, name, rest),
-        _ => put_fields_on_handle(out, ask),
     }
 }
 
 fn put_asked(out: &mut Vec<u8>, id: u32, ask: &Ask) -> Result<(), AllocError>
-    requires { length (with_id id (asked ask.now)) < 2 ^ 32 }
-    ensures ok { OnOk result (out.new.items ≡ out.old.items ++ with_id id (asked ask.now)) }
+    requires { length (with_id id (ask_parts ask.now)) < 2 ^ 32 }
+    ensures ok { OnOk result (out.new.items ≡ out.old.items ++ with_id id (ask_parts ask.now)) }
     ensures err { OnErr result (Extends out.old.items out.new.items) }
 {
-    put_type_and_id(out, asked_type(ask), id)?;
+    put_type_and_number(out, asked_type(ask), id)?;
     put_ask_fields(out, ask)?;
     Ok(())
 }
 
 /// The type of a reply's packet.
 fn answered_type(answer: &Answer) -> u8
-    ensures { result ≡ (answered answer.now).0 }
+    ensures { result ≡ (answer_parts answer.now).0 }
 {
     match answer {
         Answer::Status { .. } => STATUS,
@@ -506,10 +486,10 @@ fn answered_type(answer: &Answer) -> u8
     }
 }
 
-/// What is answered, behind the id.
+/// The fields behind the id of a reply.
 fn put_answer_fields(out: &mut Vec<u8>, answer: &Answer) -> Result<(), AllocError>
-    requires { length ((answered answer.now).1) < 2 ^ 32 }
-    ensures ok { OnOk result (out.new.items ≡ out.old.items ++ (answered answer.now).1) }
+    requires { length ((answer_parts answer.now).1) < 2 ^ 32 }
+    ensures ok { OnOk result (out.new.items ≡ out.old.items ++ (answer_parts answer.now).1) }
     ensures err { OnErr result (Extends out.old.items out.new.items) }
 {
     match answer {
@@ -530,11 +510,11 @@ fn put_answer_fields(out: &mut Vec<u8>, answer: &Answer) -> Result<(), AllocErro
 }
 
 fn put_answered(out: &mut Vec<u8>, id: u32, answer: &Answer) -> Result<(), AllocError>
-    requires { length (with_id id (answered answer.now)) < 2 ^ 32 }
-    ensures ok { OnOk result (out.new.items ≡ out.old.items ++ with_id id (answered answer.now)) }
+    requires { length (with_id id (answer_parts answer.now)) < 2 ^ 32 }
+    ensures ok { OnOk result (out.new.items ≡ out.old.items ++ with_id id (answer_parts answer.now)) }
     ensures err { OnErr result (Extends out.old.items out.new.items) }
 {
-    put_type_and_id(out, answered_type(answer), id)?;
+    put_type_and_number(out, answered_type(answer), id)?;
     put_answer_fields(out, answer)?;
     Ok(())
 }
@@ -548,11 +528,11 @@ fn put_contents(out: &mut Vec<u8>, packet: &Packet) -> Result<(), AllocError>
         Packet::Init {
             version,
             extensions,
-        } => put_init(out, *version, extensions),
+        } => put_first_packet(out, INIT, *version, extensions),
         Packet::Version {
             version,
             extensions,
-        } => put_version(out, *version, extensions),
+        } => put_first_packet(out, VERSION, *version, extensions),
         Packet::Request(request) => put_asked(out, request.id, &request.ask),
         Packet::Reply(reply) => put_answered(out, reply.id, &reply.answer),
     }

@@ -47,7 +47,7 @@ pub(super) fn file_size(tree: &Tree) -> usize {
     let mut size = bytes_size(tree.files())
         .saturating_add(HEAD)
         .saturating_add(path_size(tree.home()));
-    for (place, node) in tree.names() {
+    for (place, node) in tree.names().iter() {
         size = size
             .saturating_add(path_size(place))
             .saturating_add(node_size(node));

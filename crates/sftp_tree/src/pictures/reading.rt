@@ -7,6 +7,7 @@ ghost use Rattle.sftp_treefile.specs.TreeFile.{place_of, IsPlaceText, IsOwner, A
 ghost use Rattle.sftp_tree.specs.PictureParts as parts;
 
 use crate::contents::{Content, FileBytes, Stored};
+use crate::entries::Entries;
 use crate::nodes::Node;
 use crate::trees::Tree;
 use sftp_path::{NoMemory, Place, canonical};
@@ -70,18 +71,18 @@ fn node_of(
 /// What stands at each place, and the files.
 #[derive(Drop)]
 struct Grown {
-    names: BTreeMap<Place, Node>,
+    names: Entries,
     files: BTreeMap<u32, Stored>,
 }
 
 /// What stands at each place, and the files: the root, and what entries say.
 fn grow(alloc: Global, root: Owner, rows: Vec<Row>) -> Result<Grown, NoMemory>
-    requires rows { AreRows [] rows.items }
+    requires root { IsOwner root }
+    requires rows { AreRows usual_limits [] rows.items }
     requires count { length rows.items ≤ usual_limits.entries }
-    ensures { IfOk result (λ g. parts.IsGrown root rows.items g.names.entries g.files.entries) }
+    ensures { IfOk result (λ g. parts.IsGrown root rows.items g.names g.files.entries) }
 {
-    let mut names = BTreeMap::new(alloc);
-    names.insert(Place::root(alloc), Node::Dir(root))?;
+    let mut names = Entries::root(alloc, root)?;
     let mut files = BTreeMap::new(alloc);
     let mut numbers = Vec::new(alloc);
     for row in rows {
@@ -89,7 +90,7 @@ fn grow(alloc: Global, root: Owner, rows: Vec<Row>) -> Result<Grown, NoMemory>
         let next = files.len() as u32;
         let node = node_of(&mut files, &numbers, next, row.kind)?;
         numbers.push(next)?;
-        names.insert(place, node)?;
+        names.put(place, node)?;
     }
     Ok(Grown { names, files })
 }
@@ -103,5 +104,5 @@ pub(super) fn tree_of(alloc: Global, file: TreeFile) -> Result<Tree, NoMemory>
     let Grown { names, files } = grow(alloc, file.root, file.rows.into_vec())?;
     let made = files.len() as u32;
     let owner = (file.uid, file.gid);
-    Ok(Tree::from_parts(names, files, made, home, owner))
+    Ok(Tree::from_parts(names, files, made, file.limits, home, owner))
 }

@@ -12,6 +12,7 @@ ghost use Rattle.sftp_tree.specs.Picture as spec;
 ghost use Rattle.sftp_tree.specs.PictureParts as parts;
 
 use super::measuring::file_size;
+use crate::entries::Entries;
 use crate::nodes::Node;
 use crate::trees::Tree;
 use sftp_path::{NoMemory, Place, absolute};
@@ -29,8 +30,8 @@ const NO_OWNER: Owner = Owner {
 
 /// The owner of the root, which is a directory in every tree.
 #[tactic(auto, unfolding(sftp_path::specs::Table::get))]
-fn root_owner(alloc: Global, names: &BTreeMap<Place, Node>) -> Owner
-    ensures { result ≡ spec.root_owner (node_at names.now.entries []) }
+fn root_owner(alloc: Global, names: &Entries) -> Owner
+    ensures { result ≡ spec.root_owner (node_at names.now []) }
 {
     match names.get(&Place::root(alloc)) {
         Some(Node::Dir(owner)) => *owner,
@@ -45,6 +46,7 @@ fn put_front(out: &mut Vec<u8>, tree: &Tree) -> Result<(), NoMemory>
     let alloc = tree.home().allocator();
     let home = absolute(alloc, tree.home().names())?;
     let head = Head {
+        limits: tree.tree_limits(),
         home: ByteString::new(home),
         uid: tree.uid(),
         gid: tree.gid(),

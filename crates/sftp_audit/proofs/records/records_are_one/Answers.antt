@@ -1,4 +1,4 @@
-use Rattle.sftp_wire.proofs.FrontLaws.{spellings-apart}
+use Rattle.sftp_wire.proofs.StreamLaws.Front.{spellings-apart}
 use Rattle.sftp_audit.proofs.OneRecord.{records_are_one_lem}
 use Rattle.sftp_audit.proofs.records.records_are_one.Goals as goal
 

@@ -1,6 +1,6 @@
 use Rattle.std.proofs.Common.{◌≡◌, ◌-◌}
 use Rattle.sftp_wire.specs.Reading.{name_item_at, many_at}
-use Rattle.sftp_wire.proofs.Loops.{with_front}
+use Rattle.sftp_wire.proofs.Readers.Loops.{with_front}
 use Rattle.sftp_wire.proofs.fields.name_items.Given as goal
 
 abbrev pub invariant-items : goal.invariant-items

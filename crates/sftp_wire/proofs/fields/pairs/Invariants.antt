@@ -1,6 +1,6 @@
 use Rattle.std.proofs.Common.{◌≡◌, ◌-◌}
 use Rattle.sftp_wire.specs.Reading.{pair_at, many_at}
-use Rattle.sftp_wire.proofs.Loops.{with_front}
+use Rattle.sftp_wire.proofs.Readers.Loops.{with_front}
 use Rattle.sftp_wire.proofs.fields.pairs.Given as goal
 
 abbrev pub invariant-pairs : goal.invariant-pairs

@@ -1,6 +1,6 @@
 use Rattle.sftp_wire.specs.Reading.{pair_at, pairs_at}
-use Rattle.sftp_wire.proofs.Loops.{ReadsOn-start, ReadsOn-goes_on}
-use Rattle.sftp_wire.proofs.FieldLaws.{pair-shortens}
+use Rattle.sftp_wire.proofs.Readers.Loops.{ReadsOn-start, ReadsOn-goes_on}
+use Rattle.sftp_wire.proofs.FieldLaws.Strings.{pair-shortens}
 use Rattle.sftp_wire.proofs.fields.pairs_to_end.Goals as goal
 
 pub pairs-init : goal.pairs-init

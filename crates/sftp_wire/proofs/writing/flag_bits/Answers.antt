@@ -1,4 +1,4 @@
-use Rattle.sftp_wire.proofs.FlagBits.{attribute_flags-is}
+use Rattle.sftp_wire.proofs.FieldLaws.FlagBits.{attribute_flags-is}
 use Rattle.sftp_wire.proofs.writing.flag_bits.Goals as goal
 
 pub returns : goal.returns

@@ -1,7 +1,7 @@
 use Rattle.std.proofs.Common.{◌^◌, rules}
 use Rattle.sftp_wire.specs.Spelling.{name_item}
 use Rattle.sftp_wire.specs.Writing.{Extends}
-use Rattle.sftp_wire.proofs.Appending.{Extends-after, part_is_short}
+use Rattle.sftp_wire.proofs.Bytes.Appending.{Extends-after, part_is_short}
 use Rattle.sftp_wire.proofs.writing.put_name_items.Goals as goal
 
 pub put_name_item-requires : goal.put_name_item-requires

@@ -1,7 +1,7 @@
 use Rattle.std.proofs.Common.{◌^◌, rules}
 use Rattle.sftp_wire.specs.Spelling.{pair}
 use Rattle.sftp_wire.specs.Writing.{Extends}
-use Rattle.sftp_wire.proofs.Appending.{Extends-after, part_is_short}
+use Rattle.sftp_wire.proofs.Bytes.Appending.{Extends-after, part_is_short}
 use Rattle.sftp_wire.proofs.writing.put_pairs.Goals as goal
 
 pub put_two_strings-requires : goal.put_two_strings-requires

@@ -2,10 +2,11 @@
 use Rattle.std.proofs.Common.{◌≡◌, [], ◌∷◌, length, ap, sym, subst, ◌∙◌, append_assoc, append-nil, arith, refl}
 use Rattle.std.specs.Vec.Iter.{into_iter_items}
 use Rattle.std.proofs.lemmas.List.{nil_from_length, length-append}
+use Rattle.sftp_treefile.specs.Limits.{usual_limits}
 use Rattle.sftp_treefile.specs.TreeFile.{place_of, IsPlaceText, AreRows}
 use Rattle.sftp_tree.specs.PictureParts.{IsKnown, IsGrown}
 use Rattle.sftp_tree.proofs.PictureNumbers.{rows_join}
-use Rattle.sftp_tree.proofs.PictureStores.{kind_known, numbers_grow, grown_push, grown_room, grown_root, many_files, next_fits}
+use Rattle.sftp_tree.proofs.PictureStores.{kind_known, numbers_grow, grown_push, grown_room, grown_root, many_files, next_fits, row_absent, row_in_directory}
 use Rattle.sftp_tree.proofs.pictures.reading.grow.Goals as goal
 
 pub loop-row-init : goal.loop-row-init
@@ -16,47 +17,59 @@ loop-row-init c =
       count = rw (gives.0, gives.1) c.args.rows.ok.0;
       few = rw gives.0 c.requires.count;
       before = tt;
-      rows = subst (AreRows []) (sym gives.0) c.requires.rows;
-      grown = grown_root c.args.root c.new-names.result.entries c.insert.new.self.entries c.new-files.result.entries c.root.result c.new-names.ensures.empty c.root.ensures c.in_ok-insert.ensures.entries c.new-files.ensures.empty;
+      rows = subst (AreRows usual_limits []) (sym gives.0) c.requires.rows;
+      grown = grown_root c.args.root c.in_ok-names.names c.new-files.result.entries c.in_ok-names.ensures c.new-files.ensures.empty;
       numbers = c.new-numbers.ensures.items;
     }
 
 pub place_of-requires : goal.place_of-requires
 place_of-requires c =
-    let left = subst (AreRows c.loop-row.yielded) c.in-Some.ensures.steps.0 c.loop-row.invariant.rows in
+    let left = subst (AreRows usual_limits c.loop-row.yielded) c.in-Some.ensures.steps.0 c.loop-row.invariant.rows in
     subst IsPlaceText (sym c.as_slice.ensures) left.0.path
 
 pub overflow_cast-next : goal.overflow_cast-next
 overflow_cast-next c =
     let at = c.loop-row in
-    omega (arith, c.len-next.ensures.len, next_fits c.args.root at.yielded (into_iter_items at.row-iterator) at.names.entries at.files.entries at.invariant.grown at.invariant.few)
+    omega (arith, c.len-next.ensures.len, next_fits c.args.root at.yielded (into_iter_items at.row-iterator) at.names at.files.entries at.invariant.grown at.invariant.few)
 
 pub node_of-requires-clause-known : goal.node_of-requires-clause-known
 node_of-requires-clause-known c =
-    let left = subst (AreRows c.loop-row.yielded) c.in-Some.ensures.steps.0 c.loop-row.invariant.rows in
+    let left = subst (AreRows usual_limits c.loop-row.yielded) c.in-Some.ensures.steps.0 c.loop-row.invariant.rows in
     subst (λ ns. IsKnown ns c.in-Some.row.kind) (sym (c.deref.ensures.value ∙ c.loop-row.invariant.numbers)) (kind_known c.loop-row.yielded c.in-Some.row.kind left.0.kind)
 
 pub node_of-requires-clause-room : goal.node_of-requires-clause-room
 node_of-requires-clause-room c =
     let at = c.loop-row in
-    grown_room c.args.root at.yielded at.names.entries at.files.entries at.invariant.grown (omega (arith, at.invariant.few, length-append at.yielded (into_iter_items at.row-iterator)))
+    grown_room c.args.root at.yielded at.names at.files.entries at.invariant.grown (omega (arith, at.invariant.few, length-append at.yielded (into_iter_items at.row-iterator)))
+
+pub put-requires-clause-absent : goal.put-requires-clause-absent
+put-requires-clause-absent c =
+    let at = c.loop-row in
+    let left = subst (AreRows usual_limits at.yielded) c.in-Some.ensures.steps.0 at.invariant.rows in
+    row_absent c.args.root at.yielded c.in-Some.row at.names c.in_ok-place.place left.0 at.invariant.grown.names_are (c.in_ok-place.ensures ∙ ap place_of c.as_slice.ensures)
+
+pub put-requires-clause-parent : goal.put-requires-clause-parent
+put-requires-clause-parent c =
+    let at = c.loop-row in
+    let left = subst (AreRows usual_limits at.yielded) c.in-Some.ensures.steps.0 at.invariant.rows in
+    row_in_directory c.args.root at.yielded c.in-Some.row at.names c.in_ok-place.place c.requires.root at.invariant.before left.0 at.invariant.grown.names_are (c.in_ok-place.ensures ∙ ap place_of c.as_slice.ensures)
 
 pub loop-row-preserved : goal.loop-row-preserved
 loop-row-preserved c =
     let at = c.loop-row in
     let row = c.in-Some.row in
     let steps : into_iter_items at.row-iterator ≡ row ∷ into_iter_items c.next.new.self = c.in-Some.ensures.steps.0 in
-    let left : AreRows at.yielded (row ∷ into_iter_items c.next.new.self) = subst (AreRows at.yielded) steps at.invariant.rows in
+    let left : AreRows usual_limits at.yielded (row ∷ into_iter_items c.next.new.self) = subst (AreRows usual_limits at.yielded) steps at.invariant.rows in
     let numbers = c.deref.ensures.value ∙ at.invariant.numbers in
-    let next = c.len-next.ensures.len ∙ many_files c.args.root at.yielded at.names.entries at.files.entries at.invariant.grown in
+    let next = c.len-next.ensures.len ∙ many_files c.args.root at.yielded at.names at.files.entries at.invariant.grown in
     record {
       items = append_assoc at.yielded (row ∷ []) (into_iter_items c.next.new.self) ∙ rw (← steps) at.invariant.items;
       count = let gone = c.in-Some.ensures.steps.1 in let short = ap length steps in let was = at.invariant.count in omega arith;
       few = rw append_assoc (rw (← steps) at.invariant.few);
       before = rows_join [] at.yielded (row ∷ []) at.invariant.before (left.0, tt);
       rows = left.1;
-      grown = grown_push c.args.root at.yielded row at.names.entries c.insert-in-loop-row.new.self.entries at.files.entries c.node_of.new.files.entries c.deref.result.now c.len-next.result c.in_ok-place.place c.in_ok-node.node
-          at.invariant.before left.0 at.invariant.grown numbers next (c.in_ok-place.ensures ∙ ap place_of c.as_slice.ensures) c.in_ok-node.ensures.node c.in_ok-insert-2.ensures.entries c.in_ok-node.ensures.files;
+      grown = grown_push c.args.root at.yielded row at.names c.put.new.self at.files.entries c.node_of.new.files.entries c.deref.result.now c.len-next.result c.in_ok-place.place c.in_ok-node.node
+          at.invariant.before left.0 at.invariant.grown numbers next (c.in_ok-place.ensures ∙ ap place_of c.as_slice.ensures) c.in_ok-node.ensures.node c.in_ok-put.ensures.ok c.in_ok-node.ensures.files;
       numbers = numbers_grow at.yielded row at.numbers.items c.push.new.self.items c.len-next.result c.in_ok-push.ensures.items at.invariant.numbers next;
     }
 
@@ -65,4 +78,4 @@ returns c =
     let at = c.loop-row in
     let none : into_iter_items at.row-iterator ≡ [] = nil_from_length (into_iter_items at.row-iterator) (sym at.invariant.count ∙ c.in-None.ensures.steps.0) in
     let all = sym (append-nil at.yielded) ∙ rw none at at.invariant.items ∙ c.into_iter-row-iterator.ensures.into_iter_gives.0 in
-    subst (λ rs. IsGrown c.args.root rs at.names.entries at.files.entries) all at.invariant.grown
+    subst (λ rs. IsGrown c.args.root rs at.names at.files.entries) all at.invariant.grown

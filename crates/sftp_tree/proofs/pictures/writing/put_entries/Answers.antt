@@ -7,7 +7,7 @@ use Rattle.sftp_tree.proofs.pictures.writing.put_entries.Goals as goal
 
 pub loop-place-init : goal.loop-place-init
 loop-place-init c = record {
-  rest = ap (drop 1) (sym (c.iter-entries.ensures.rest ∙ c.names.ensures.names)) ∙ passed_over deref_pair _ _ _ c.next.ensures.steps ∙ sym c.into_iter-place-iterator.ensures.into_iter_gives;
+  rest = ap (drop 1) (sym (c.iter-entries.ensures ∙ c.names.ensures.names)) ∙ passed_over deref_pair _ _ _ c.next.ensures.steps ∙ sym c.into_iter-place-iterator.ensures.into_iter_gives;
   below_root = omega arith;
   written = written_start c.args.tree.now c.names.ensures.kept c.args.out.now.items c.new-firsts.result.entries c.new-firsts.ensures.empty;
 }

@@ -5,10 +5,10 @@ use Rattle.sftp_tree.proofs.PictureWritten.{names_count, home_short}
 use Rattle.sftp_tree.proofs.pictures.writing.put_front.Goals as goal
 
 pub overflow_sub-head : goal.overflow_sub-head
-overflow_sub-head c = omega (arith, c.len.ensures.len, ap length c.names-2.ensures.names, (names_count c.args.tree.now c.names-2.ensures.kept).0)
+overflow_sub-head c = omega (arith, c.len.ensures, ap length c.names-2.ensures.names, (names_count c.args.tree.now c.names-2.ensures.kept).0)
 
 pub overflow_cast-head : goal.overflow_cast-head
-overflow_cast-head c = omega (arith, c.len.ensures.len, ap length c.names-2.ensures.names, (names_count c.args.tree.now c.names-2.ensures.kept).1)
+overflow_cast-head c = omega (arith, c.len.ensures, ap length c.names-2.ensures.names, (names_count c.args.tree.now c.names-2.ensures.kept).1)
 
 pub put_head-requires : goal.put_head-requires
 put_head-requires c =

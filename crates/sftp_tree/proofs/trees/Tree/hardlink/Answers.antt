@@ -25,11 +25,13 @@ pub put-requires-clause-absent : goal.put-requires-clause-absent
 put-requires-clause-absent c =
     further-absent c.args.self.now c.in_ok-from.from c.in_ok-from.to c.args.old.now c.args.new.now (none-of-set c.linking.result (causes_at_places c.args.self.now (Hardlink c.args.old.now c.args.new.now) c.in_ok-from.from c.in_ok-from.to) (c.linking.ensures c.args.old.now c.args.new.now) c.in_ok-refuse.ensures.free)
 
-pub put-requires-clause-kept : goal.put-requires-clause-kept
-put-requires-clause-kept c =
+pub put-requires-clause-node : goal.put-requires-clause-node
+put-requires-clause-node c = node-kept c.args.self.now c.in_ok-from.from (File c.file_at-number.result) c.lead_both.ensures.kept c.file_at-number.ensures
+
+pub put-requires-clause-fits : goal.put-requires-clause-fits
+put-requires-clause-fits c =
     let none = (none-of-set c.linking.result (causes_at_places c.args.self.now (Hardlink c.args.old.now c.args.new.now) c.in_ok-from.from c.in_ok-from.to) (c.linking.ensures c.args.old.now c.args.new.now) c.in_ok-refuse.ensures.free) in
-    let absent = further-absent c.args.self.now c.in_ok-from.from c.in_ok-from.to c.args.old.now c.args.new.now none in
-    c.kept_with_entry.ensures c.args.self.now c.in_ok-from.to (File c.file_at-number.result) c.lead_both.ensures.kept c.in_ok-from.ensures.named absent c.in_ok-from.ensures.parent (node-kept c.args.self.now c.in_ok-from.from (File c.file_at-number.result) c.lead_both.ensures.kept c.file_at-number.ensures) (further-fits c.args.self.now c.in_ok-from.from c.in_ok-from.to c.args.old.now c.args.new.now c.file_at-number.result none c.file_at-number.ensures)
+    further-fits c.args.self.now c.in_ok-from.from c.in_ok-from.to c.args.old.now c.args.new.now c.file_at-number.result none c.file_at-number.ensures
 
 pub returns-clause-free : goal.returns-clause-free
 returns-clause-free c =
@@ -37,8 +39,5 @@ returns-clause-free c =
 
 pub returns-clause-done : goal.returns-clause-done
 returns-clause-done c =
-    let none = (none-of-set c.linking.result (causes_at_places c.args.self.now (Hardlink c.args.old.now c.args.new.now) c.in_ok-from.from c.in_ok-from.to) (c.linking.ensures c.args.old.now c.args.new.now) c.in_ok-refuse.ensures.free) in
-    let absent = further-absent c.args.self.now c.in_ok-from.from c.in_ok-from.to c.args.old.now c.args.new.now none in
-    let kept = c.kept_with_entry.ensures c.args.self.now c.in_ok-from.to (File c.file_at-number.result) c.lead_both.ensures.kept c.in_ok-from.ensures.named absent c.in_ok-from.ensures.parent (node-kept c.args.self.now c.in_ok-from.from (File c.file_at-number.result) c.lead_both.ensures.kept c.file_at-number.ensures) (further-fits c.args.self.now c.in_ok-from.from c.in_ok-from.to c.args.old.now c.args.new.now c.file_at-number.result none c.file_at-number.ensures) in
     let asked = (target-two c.args.self.now (Hardlink c.args.old.now c.args.new.now) c.in_ok-from.from c.in_ok-from.to (led-is c.args.self.now (Hardlink c.args.old.now c.args.new.now) false c.args.old.now _ refl refl c.in_ok-from.ensures.reached) (new-led-is c.args.self.now (Hardlink c.args.old.now c.args.new.now) c.args.new.now _ refl c.in_ok-from.ensures.reached_new)) ∙ ap (λ found. with_further_name c.args.self.now found c.in_ok-from.to) c.file_at-number.ensures in
-    c.in_ok-put.ensures.ok ∙ sym (ap trim asked ∙ c.trimmed_already.ensures _ kept.trimmed)
+    c.in_ok-put.ensures.ok ∙ sym (ap trim asked)

@@ -22,12 +22,10 @@ pub put-requires-clause-absent : goal.put-requires-clause-absent
 put-requires-clause-absent c =
     making-absent c.args.self.now c.in_ok-place.place (target_at c.args.self.now (Mkdir c.args.path.now c.args.attrs.now) c.in_ok-place.place) (none-of-set c.making.result (causes_at_place c.args.self.now (Mkdir c.args.path.now c.args.attrs.now) c.in_ok-place.place) (making-set c.args.self.now c.in_ok-place.place (Dir (directory_owner c.args.self.now c.args.attrs.now)) c.making.result c.lead.ensures.kept refl c.making.ensures) c.in_ok-refuse.ensures.free)
 
-pub put-requires-clause-kept : goal.put-requires-clause-kept
-put-requires-clause-kept c =
+pub put-requires-clause-fits : goal.put-requires-clause-fits
+put-requires-clause-fits c =
     let none = none-of-set c.making.result (causes_at_place c.args.self.now (Mkdir c.args.path.now c.args.attrs.now) c.in_ok-place.place) (making-set c.args.self.now c.in_ok-place.place (Dir (directory_owner c.args.self.now c.args.attrs.now)) c.making.result c.lead.ensures.kept refl c.making.ensures) c.in_ok-refuse.ensures.free in
-    let fit = ap (λ owner. fits (record c.args.self.now { names = with_node c.args.self.now.names c.in_ok-place.place (Dir owner) })) c.directory_owner-owner.ensures.owner ∙ making-fits c.args.self.now c.in_ok-place.place (target_at c.args.self.now (Mkdir c.args.path.now c.args.attrs.now) c.in_ok-place.place) none in
-    let kept = c.kept_with_entry.ensures c.args.self.now c.in_ok-place.place (Dir c.directory_owner-owner.result) c.lead.ensures.kept c.in_ok-place.ensures.named (making-absent c.args.self.now c.in_ok-place.place (target_at c.args.self.now (Mkdir c.args.path.now c.args.attrs.now) c.in_ok-place.place) none) c.in_ok-place.ensures.parent c.directory_owner-owner.ensures.fits fit in
-    kept
+    ap (λ owner. fits (record c.args.self.now { names = with_node c.args.self.now.names c.in_ok-place.place (Dir owner) })) c.directory_owner-owner.ensures.owner ∙ making-fits c.args.self.now c.in_ok-place.place (target_at c.args.self.now (Mkdir c.args.path.now c.args.attrs.now) c.in_ok-place.place) none
 
 pub returns-clause-free : goal.returns-clause-free
 returns-clause-free c =
@@ -35,8 +33,5 @@ returns-clause-free c =
 
 pub returns-clause-done : goal.returns-clause-done
 returns-clause-done c =
-    let none = none-of-set c.making.result (causes_at_place c.args.self.now (Mkdir c.args.path.now c.args.attrs.now) c.in_ok-place.place) (making-set c.args.self.now c.in_ok-place.place (Dir (directory_owner c.args.self.now c.args.attrs.now)) c.making.result c.lead.ensures.kept refl c.making.ensures) c.in_ok-refuse.ensures.free in
-    let fit = ap (λ owner. fits (record c.args.self.now { names = with_node c.args.self.now.names c.in_ok-place.place (Dir owner) })) c.directory_owner-owner.ensures.owner ∙ making-fits c.args.self.now c.in_ok-place.place (target_at c.args.self.now (Mkdir c.args.path.now c.args.attrs.now) c.in_ok-place.place) none in
-    let kept = c.kept_with_entry.ensures c.args.self.now c.in_ok-place.place (Dir c.directory_owner-owner.result) c.lead.ensures.kept c.in_ok-place.ensures.named (making-absent c.args.self.now c.in_ok-place.place (target_at c.args.self.now (Mkdir c.args.path.now c.args.attrs.now) c.in_ok-place.place) none) c.in_ok-place.ensures.parent c.directory_owner-owner.ensures.fits fit in
     let asked = target-one c.args.self.now (Mkdir c.args.path.now c.args.attrs.now) c.in_ok-place.place (led-is c.args.self.now (Mkdir c.args.path.now c.args.attrs.now) false c.args.path.now _ refl refl c.in_ok-place.ensures.reached) refl ∙ ap (λ owner. (record c.args.self.now { names = with_node c.args.self.now.names c.in_ok-place.place (Dir owner) })) (sym c.directory_owner-owner.ensures.owner) in
-    c.in_ok-put.ensures.ok ∙ sym (ap trim asked ∙ c.trimmed_already.ensures _ kept.trimmed)
+    c.in_ok-put.ensures.ok ∙ sym (ap trim asked)

@@ -25,8 +25,8 @@ returns-then-are_one-clause-done c =
     let same = (target-two c.args.self.now (PosixRename c.args.old.now c.args.new.now) c.in_ok-from.from c.in_ok-from.to (led-is c.args.self.now (PosixRename c.args.old.now c.args.new.now) false c.args.old.now _ refl refl c.in_ok-from.ensures.reached) (new-led-is c.args.self.now (PosixRename c.args.old.now c.args.new.now) c.args.new.now _ refl c.in_ok-from.ensures.reached_new)) ∙ ap (λ b. if b then c.args.self.now else put_in_its_stead c.args.self.now c.in_ok-from.from c.in_ok-from.to) one in
     sym (ap trim same ∙ c.trimmed_already.ensures c.args.self.now c.lead_both.ensures.kept.trimmed)
 
-pub move_node-requires : goal.move_node-requires
-move_node-requires c =
+pub move_to-requires : goal.move_to-requires
+move_to-requires c =
     let none = (none-of-set c.replacing.result (causes_at_places c.args.self.now (PosixRename c.args.old.now c.args.new.now) c.in_ok-from.from c.in_ok-from.to) (c.replacing.ensures c.args.old.now c.args.new.now) c.in_ok-refuse.ensures.free) in
     let apart = sym c.are_one.ensures ∙ c.if-are_one.false in
     let may = replace-may c.args.self.now c.in_ok-from.from c.in_ok-from.to c.args.old.now c.args.new.now none apart in
@@ -50,4 +50,4 @@ pub returns-clause-done : goal.returns-clause-done
 returns-clause-done c =
     let apart = sym c.are_one.ensures ∙ c.if-are_one.false in
     let same = (target-two c.args.self.now (PosixRename c.args.old.now c.args.new.now) c.in_ok-from.from c.in_ok-from.to (led-is c.args.self.now (PosixRename c.args.old.now c.args.new.now) false c.args.old.now _ refl refl c.in_ok-from.ensures.reached) (new-led-is c.args.self.now (PosixRename c.args.old.now c.args.new.now) c.args.new.now _ refl c.in_ok-from.ensures.reached_new)) ∙ ap (λ b. if b then c.args.self.now else put_in_its_stead c.args.self.now c.in_ok-from.from c.in_ok-from.to) apart in
-    c.in_ok-move_node.ensures.ok ∙ ap trim (sym same)
+    c.in_ok-move_to.ensures.ok ∙ ap trim (sym same)

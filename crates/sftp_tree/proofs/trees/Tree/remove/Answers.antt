@@ -22,7 +22,11 @@ remove_at-requires c =
     let none = none-of-set c.unlinking.result (causes_at_place c.args.self.now (Remove c.args.path.now) c.in_ok-place.place) (c.unlinking.ensures c.args.path.now) c.in_ok-refuse.ensures.free in
     let each = none-each (causes_at_place c.args.self.now (Remove c.args.path.now) c.in_ok-place.place) none in
     let no_directory : is_directory (node_at c.args.self.now.names c.in_ok-place.place) ≡ false = each IsDir in
-    c.kept_without_entry.ensures c.args.self.now c.in_ok-place.place c.lead.ensures.kept (not-false (is_taken (node_at c.args.self.now.names c.in_ok-place.place)) (each NoEntry)) (below-root c.args.self.now c.in_ok-place.place c.lead.ensures.kept no_directory) (c.nothing_below.ensures c.args.self.now c.in_ok-place.place c.lead.ensures.kept no_directory)
+    record {
+      taken = not-false (is_taken (node_at c.args.self.now.names c.in_ok-place.place)) (each NoEntry);
+      below_root = below-root c.args.self.now c.in_ok-place.place c.lead.ensures.kept no_directory;
+      empty = c.nothing_below.ensures c.args.self.now c.in_ok-place.place c.lead.ensures.kept no_directory;
+    }
 
 pub returns-clause-free : goal.returns-clause-free
 returns-clause-free c =

@@ -15,8 +15,8 @@ pub returns-in_err-refuse-clause-refused : goal.returns-in_err-refuse-clause-ref
 returns-in_err-refuse-clause-refused c =
     refused-by c.args.self.now (Rename c.args.old.now c.args.new.now) (causes_at_places c.args.self.now (Rename c.args.old.now c.args.new.now) c.in_ok-from.from c.in_ok-from.to) c.renaming.result _ _ (c.in_ok-from.ensures.led (Rename c.args.old.now c.args.new.now) refl refl refl (λ cause. refl)) (c.renaming.ensures c.args.old.now c.args.new.now) c.from_residual-in_err-refuse.ensures.1 c.in_err-refuse.ensures.cause
 
-pub move_node-requires : goal.move_node-requires
-move_node-requires c =
+pub move_to-requires : goal.move_to-requires
+move_to-requires c =
     let none = (none-of-set c.renaming.result (causes_at_places c.args.self.now (Rename c.args.old.now c.args.new.now) c.in_ok-from.from c.in_ok-from.to) (c.renaming.ensures c.args.old.now c.args.new.now) c.in_ok-refuse.ensures.free) in
     let may = rename-may c.args.self.now c.in_ok-from.from c.in_ok-from.to c.args.old.now c.args.new.now c.lead_both.ensures.kept none in
     record {
@@ -39,4 +39,4 @@ pub returns-clause-done : goal.returns-clause-done
 returns-clause-done c =
     let none = (none-of-set c.renaming.result (causes_at_places c.args.self.now (Rename c.args.old.now c.args.new.now) c.in_ok-from.from c.in_ok-from.to) (c.renaming.ensures c.args.old.now c.args.new.now) c.in_ok-refuse.ensures.free) in
     let free = rename-absent c.args.self.now c.in_ok-from.from c.in_ok-from.to c.args.old.now c.args.new.now none in
-    c.in_ok-move_node.ensures.ok ∙ ap trim (sym (moved-is c.args.self.now c.in_ok-from.from c.in_ok-from.to free) ∙ sym (target-two c.args.self.now (Rename c.args.old.now c.args.new.now) c.in_ok-from.from c.in_ok-from.to (led-is c.args.self.now (Rename c.args.old.now c.args.new.now) false c.args.old.now _ refl refl c.in_ok-from.ensures.reached) (new-led-is c.args.self.now (Rename c.args.old.now c.args.new.now) c.args.new.now _ refl c.in_ok-from.ensures.reached_new)))
+    c.in_ok-move_to.ensures.ok ∙ ap trim (sym (moved-is c.args.self.now c.in_ok-from.from c.in_ok-from.to free) ∙ sym (target-two c.args.self.now (Rename c.args.old.now c.args.new.now) c.in_ok-from.from c.in_ok-from.to (led-is c.args.self.now (Rename c.args.old.now c.args.new.now) false c.args.old.now _ refl refl c.in_ok-from.ensures.reached) (new-led-is c.args.self.now (Rename c.args.old.now c.args.new.now) c.args.new.now _ refl c.in_ok-from.ensures.reached_new)))

@@ -18,7 +18,7 @@ returns-in_err-refuse-clause-refused c =
 pub remove_at-requires : goal.remove_at-requires
 remove_at-requires c =
     let parts = removing-parts c.args.self.now c.in_ok-place.place c.args.path.now (none-of-set c.removing.result (causes_at_place c.args.self.now (Rmdir c.args.path.now) c.in_ok-place.place) (removing-set c.args.self.now c.in_ok-place.place c.removing.result c.lead.ensures.kept c.removing.ensures) c.in_ok-refuse.ensures.free) in
-    c.kept_without_entry.ensures c.args.self.now c.in_ok-place.place c.lead.ensures.kept parts.0 parts.1 parts.2
+    record { taken = parts.0; below_root = parts.1; empty = parts.2 }
 
 pub returns-clause-free : goal.returns-clause-free
 returns-clause-free c =

@@ -27,13 +27,13 @@ pub put-requires-clause-absent : goal.put-requires-clause-absent
 put-requires-clause-absent c =
     making-absent c.args.self.now c.in_ok-place.place (target_at c.args.self.now (Symlink c.args.target.now c.args.link.now) c.in_ok-place.place) (none-of-set c.making.result (causes_at_place c.args.self.now (Symlink c.args.target.now c.args.link.now) c.in_ok-place.place) (making-set c.args.self.now c.in_ok-place.place (Link c.args.target.now) c.making.result c.lead.ensures.kept (sym c.is_target.ensures ∙ c.if-not-is_target.false) c.making.ensures) c.in_ok-refuse.ensures.free)
 
-pub put-requires-clause-kept : goal.put-requires-clause-kept
-put-requires-clause-kept c =
+pub put-requires-clause-fits : goal.put-requires-clause-fits
+put-requires-clause-fits c =
     let none = none-of-set c.making.result (causes_at_place c.args.self.now (Symlink c.args.target.now c.args.link.now) c.in_ok-place.place) (making-set c.args.self.now c.in_ok-place.place (Link c.args.target.now) c.making.result c.lead.ensures.kept (sym c.is_target.ensures ∙ c.if-not-is_target.false) c.making.ensures) c.in_ok-refuse.ensures.free in
-    let fit = ap (λ goal. fits (record c.args.self.now { names = with_node c.args.self.now.names c.in_ok-place.place (Link goal) })) c.in_ok-target.ensures ∙ making-fits c.args.self.now c.in_ok-place.place (target_at c.args.self.now (Symlink c.args.target.now c.args.link.now) c.in_ok-place.place) none in
-    let bytes = ap are_bytes c.in_ok-target.ensures ∙ bytes-are c.args.target.now (λ i. omega (arith, c.type_inv.target i)) in
-    let kept = c.kept_with_entry.ensures c.args.self.now c.in_ok-place.place (Link c.in_ok-target.target) c.lead.ensures.kept c.in_ok-place.ensures.named (making-absent c.args.self.now c.in_ok-place.place (target_at c.args.self.now (Symlink c.args.target.now c.args.link.now) c.in_ok-place.place) none) c.in_ok-place.ensures.parent bytes fit in
-    kept
+    ap (λ goal. fits (record c.args.self.now { names = with_node c.args.self.now.names c.in_ok-place.place (Link goal) })) c.in_ok-target.ensures ∙ making-fits c.args.self.now c.in_ok-place.place (target_at c.args.self.now (Symlink c.args.target.now c.args.link.now) c.in_ok-place.place) none
+
+pub put-requires-clause-node : goal.put-requires-clause-node
+put-requires-clause-node c = ap are_bytes c.in_ok-target.ensures ∙ bytes-are c.args.target.now (λ i. omega (arith, c.type_inv.target i))
 
 pub returns-clause-free : goal.returns-clause-free
 returns-clause-free c =
@@ -41,9 +41,5 @@ returns-clause-free c =
 
 pub returns-clause-done : goal.returns-clause-done
 returns-clause-done c =
-    let none = none-of-set c.making.result (causes_at_place c.args.self.now (Symlink c.args.target.now c.args.link.now) c.in_ok-place.place) (making-set c.args.self.now c.in_ok-place.place (Link c.args.target.now) c.making.result c.lead.ensures.kept (sym c.is_target.ensures ∙ c.if-not-is_target.false) c.making.ensures) c.in_ok-refuse.ensures.free in
-    let fit = ap (λ goal. fits (record c.args.self.now { names = with_node c.args.self.now.names c.in_ok-place.place (Link goal) })) c.in_ok-target.ensures ∙ making-fits c.args.self.now c.in_ok-place.place (target_at c.args.self.now (Symlink c.args.target.now c.args.link.now) c.in_ok-place.place) none in
-    let bytes = ap are_bytes c.in_ok-target.ensures ∙ bytes-are c.args.target.now (λ i. omega (arith, c.type_inv.target i)) in
-    let kept = c.kept_with_entry.ensures c.args.self.now c.in_ok-place.place (Link c.in_ok-target.target) c.lead.ensures.kept c.in_ok-place.ensures.named (making-absent c.args.self.now c.in_ok-place.place (target_at c.args.self.now (Symlink c.args.target.now c.args.link.now) c.in_ok-place.place) none) c.in_ok-place.ensures.parent bytes fit in
     let asked = target-one c.args.self.now (Symlink c.args.target.now c.args.link.now) c.in_ok-place.place (led-is c.args.self.now (Symlink c.args.target.now c.args.link.now) false c.args.link.now _ refl refl c.in_ok-place.ensures.reached) refl ∙ ap (λ goal. (record c.args.self.now { names = with_node c.args.self.now.names c.in_ok-place.place (Link goal) })) (sym c.in_ok-target.ensures) in
-    c.in_ok-put.ensures.ok ∙ sym (ap trim asked ∙ c.trimmed_already.ensures _ kept.trimmed)
+    c.in_ok-put.ensures.ok ∙ sym (ap trim asked)

@@ -12,21 +12,21 @@ use Rattle.sftp_tree.proofs.trees.Tree.walk.Goals as goal
 
 pub loop-component-smaller-in-Enters : goal.loop-component-smaller-in-Enters
 loop-component-smaller-in-Enters c =
-    below _ _ (looked-turn c.args.self.now.names c.names-names.result.now.entries c.args.follow c.loop-component.links_left c.loop-component.at c.meet.new.at c.loop-component.route c.in-Some.component.now c.next_component.new.self c.is_done.result c.in_ok-meet.field-0 _ c.names-names.ensures.names c.in-Some.ensures c.is_done.ensures c.in_ok-meet.ensures.meets c.in-Enters.is)
+    below _ _ (looked-turn c.args.self.now.names c.names-names.result.now c.args.follow c.loop-component.links_left c.loop-component.at c.meet.new.at c.loop-component.route c.in-Some.component.now c.next_component.new.self c.is_done.result c.in_ok-meet.field-0 _ c.names-names.ensures.names c.in-Some.ensures c.is_done.ensures c.in_ok-meet.ensures.meets c.in-Enters.is)
 
 pub loop-component-preserved-in-Enters : goal.loop-component-preserved-in-Enters
 loop-component-preserved-in-Enters c = record {
   steps = (and_parts (is_step c.in-Some.component.now) (list_all is_step c.next_component.new.self) (ap (list_all is_step) (sym c.in-Some.ensures) ∙ c.loop-component.invariant.steps)).1;
-  same = walk-turn c.args.self.now.names c.names-names.result.now.entries c.args.follow c.loop-component.links_left c.loop-component.at c.meet.new.at c.loop-component.route c.in-Some.component.now c.next_component.new.self c.is_done.result c.in_ok-meet.field-0 _ _ c.names-names.ensures.names c.loop-component.invariant.same c.in-Some.ensures c.is_done.ensures c.in_ok-meet.ensures.meets c.in-Enters.is;
+  same = walk-turn c.args.self.now.names c.names-names.result.now c.args.follow c.loop-component.links_left c.loop-component.at c.meet.new.at c.loop-component.route c.in-Some.component.now c.next_component.new.self c.is_done.result c.in_ok-meet.field-0 _ _ c.names-names.ensures.names c.loop-component.invariant.same c.in-Some.ensures c.is_done.ensures c.in_ok-meet.ensures.meets c.in-Enters.is;
 }
 
 pub returns-in-Ends-clause-reached : goal.returns-in-Ends-clause-reached
 returns-in-Ends-clause-reached c =
-    sym (walk-turn c.args.self.now.names c.names-names.result.now.entries c.args.follow c.loop-component.links_left c.loop-component.at c.meet.new.at c.loop-component.route c.in-Some.component.now c.next_component.new.self c.is_done.result c.in_ok-meet.field-0 _ _ c.names-names.ensures.names c.loop-component.invariant.same c.in-Some.ensures c.is_done.ensures c.in_ok-meet.ensures.meets c.in-Ends.is)
+    sym (walk-turn c.args.self.now.names c.names-names.result.now c.args.follow c.loop-component.links_left c.loop-component.at c.meet.new.at c.loop-component.route c.in-Some.component.now c.next_component.new.self c.is_done.result c.in_ok-meet.field-0 _ _ c.names-names.ensures.names c.loop-component.invariant.same c.in-Some.ensures c.is_done.ensures c.in_ok-meet.ensures.meets c.in-Ends.is)
 
 pub returns-in-Fails-clause-reached : goal.returns-in-Fails-clause-reached
 returns-in-Fails-clause-reached c =
-    sym (walk-turn c.args.self.now.names c.names-names.result.now.entries c.args.follow c.loop-component.links_left c.loop-component.at c.meet.new.at c.loop-component.route c.in-Some.component.now c.next_component.new.self c.is_done.result c.in_ok-meet.field-0 _ _ c.names-names.ensures.names c.loop-component.invariant.same c.in-Some.ensures c.is_done.ensures c.in_ok-meet.ensures.meets c.in-Fails.is)
+    sym (walk-turn c.args.self.now.names c.names-names.result.now c.args.follow c.loop-component.links_left c.loop-component.at c.meet.new.at c.loop-component.route c.in-Some.component.now c.next_component.new.self c.is_done.result c.in_ok-meet.field-0 _ _ c.names-names.ensures.names c.loop-component.invariant.same c.in-Some.ensures c.is_done.ensures c.in_ok-meet.ensures.meets c.in-Fails.is)
 
 pub returns-clause-reached : goal.returns-clause-reached
 returns-clause-reached c =
@@ -34,7 +34,7 @@ returns-clause-reached c =
 
 pub returns-in-Ends-clause-parent : goal.returns-in-Ends-clause-parent
 returns-in-Ends-clause-parent c =
-    let answer = sym (walk-turn c.args.self.now.names c.names-names.result.now.entries c.args.follow c.loop-component.links_left c.loop-component.at c.meet.new.at c.loop-component.route c.in-Some.component.now c.next_component.new.self c.is_done.result c.in_ok-meet.field-0 _ _ c.names-names.ensures.names c.loop-component.invariant.same c.in-Some.ensures c.is_done.ensures c.in_ok-meet.ensures.meets c.in-Ends.is) in
+    let answer = sym (walk-turn c.args.self.now.names c.names-names.result.now c.args.follow c.loop-component.links_left c.loop-component.at c.meet.new.at c.loop-component.route c.in-Some.component.now c.next_component.new.self c.is_done.result c.in_ok-meet.field-0 _ _ c.names-names.ensures.names c.loop-component.invariant.same c.in-Some.ensures c.is_done.ensures c.in_ok-meet.ensures.meets c.in-Ends.is) in
     (found-at c.args.self.now c.args.follow 40 [] c.args.route c.meet.new.at c.names-names.ensures.kept (root-stands c.args.self.now c.names-names.ensures.kept) c.requires answer).parent_stands
 
 pub returns-clause-parent : goal.returns-clause-parent
@@ -44,7 +44,7 @@ returns-clause-parent c =
 
 pub returns-in-Through-clause-reached : goal.returns-in-Through-clause-reached
 returns-in-Through-clause-reached c =
-    sym (walk-turn c.args.self.now.names c.names-names.result.now.entries c.args.follow c.loop-component.links_left c.loop-component.at c.meet.new.at c.loop-component.route c.in-Some.component.now c.next_component.new.self c.is_done.result c.in_ok-meet.field-0 _ _ c.names-names.ensures.names c.loop-component.invariant.same c.in-Some.ensures c.is_done.ensures c.in_ok-meet.ensures.meets c.in-Through.is
+    sym (walk-turn c.args.self.now.names c.names-names.result.now c.args.follow c.loop-component.links_left c.loop-component.at c.meet.new.at c.loop-component.route c.in-Some.component.now c.next_component.new.self c.is_done.result c.in_ok-meet.field-0 _ _ c.names-names.ensures.names c.loop-component.invariant.same c.in-Some.ensures c.is_done.ensures c.in_ok-meet.ensures.meets c.in-Through.is
     ∙ behind_link-none c.args.self.now.names c.args.follow c.loop-component.links_left c.loop-component.at c.in-Through.field-0.now c.next_component.new.self c.if-links_left-eq0.true)
 
 -- behind a link the walk starts where its target does
@@ -62,7 +62,7 @@ left c = omega arith
 
 pub loop-component-smaller : goal.loop-component-smaller
 loop-component-smaller c =
-    below _ _ (looked-turn c.args.self.now.names c.names-names.result.now.entries c.args.follow c.loop-component.links_left c.loop-component.at c.meet.new.at c.loop-component.route c.in-Some.component.now c.next_component.new.self c.is_done.result c.in_ok-meet.field-0 _ c.names-names.ensures.names c.in-Some.ensures c.is_done.ensures c.in_ok-meet.ensures.meets c.in-Through.is
+    below _ _ (looked-turn c.args.self.now.names c.names-names.result.now c.args.follow c.loop-component.links_left c.loop-component.at c.meet.new.at c.loop-component.route c.in-Some.component.now c.next_component.new.self c.is_done.result c.in_ok-meet.field-0 _ c.names-names.ensures.names c.in-Some.ensures c.is_done.ensures c.in_ok-meet.ensures.meets c.in-Through.is
     ∙ ap (λ n. suc n) (looked_behind-some c.args.self.now.names c.args.follow c.loop-component.links_left (c.loop-component.links_left - 1) c.loop-component.at c.go_to_start.new.at c.in-Through.field-0.now c.next_component.new.self c.go_through.new.self (left c) (start c) (goes c)))
 
 pub loop-component-preserved : goal.loop-component-preserved
@@ -77,6 +77,6 @@ loop-component-preserved c =
     record {
       steps = ap (list_all is_step) (goes c) ∙ steps-behind c.args.self.now c.names-names.ensures.kept (c.loop-component.at ++ c.in-Some.component.now ∷ []) c.in-Through.field-0.now c.next_component.new.self there rest;
       same =
-          walk-turn c.args.self.now.names c.names-names.result.now.entries c.args.follow c.loop-component.links_left c.loop-component.at c.meet.new.at c.loop-component.route c.in-Some.component.now c.next_component.new.self c.is_done.result c.in_ok-meet.field-0 _ _ c.names-names.ensures.names c.loop-component.invariant.same c.in-Some.ensures c.is_done.ensures c.in_ok-meet.ensures.meets c.in-Through.is
+          walk-turn c.args.self.now.names c.names-names.result.now c.args.follow c.loop-component.links_left c.loop-component.at c.meet.new.at c.loop-component.route c.in-Some.component.now c.next_component.new.self c.is_done.result c.in_ok-meet.field-0 _ _ c.names-names.ensures.names c.loop-component.invariant.same c.in-Some.ensures c.is_done.ensures c.in_ok-meet.ensures.meets c.in-Through.is
           ∙ behind_link-some c.args.self.now.names c.args.follow c.loop-component.links_left (c.loop-component.links_left - 1) c.loop-component.at c.go_to_start.new.at c.in-Through.field-0.now c.next_component.new.self c.go_through.new.self (left c) (start c) (goes c);
     }

@@ -1,0 +1,19 @@
+use Rattle.std.proofs.Common.{◌≡◌, false, sym, ap, ◌∙◌, None, is_some}
+use Rattle.std.specs.Option.{option_copied_mut}
+use Rattle.sftp_path.specs.Place.{place_cmp}
+use Rattle.sftp_path.specs.Table.{get}
+use Rattle.sftp_path.proofs.Order.{place_cmp-total, place_cmp-same}
+use Rattle.sftp_tree.specs.Tree.{node_at, is_taken}
+use Rattle.sftp_tree.proofs.StoredFiles.{written-put}
+use Rattle.sftp_tree.proofs.entries.moving.replace.Goals as goal
+
+pub returns-in-Some : goal.returns-in-Some
+returns-in-Some c =
+    written-put place_cmp place_cmp-total place_cmp-same c.args.names.now (c.get_mut.follows.lender c.args.node) c.args.place.now c.args.node c.get_mut.ensures.ordered (ap is_some (sym c.in-Some.ensures.value)) (c.get_mut.follows.holds c.args.node)
+
+pub returns-in_default : goal.returns-in_default
+unfolding get
+returns-in_default c =
+    let none : node_at c.args.names.now.entries c.args.place.now ≡ None = sym c.get_mut.ensures.value ∙ ap option_copied_mut c.in_default.is in
+    let free : is_taken (node_at c.args.names.now.entries c.args.place.now) ≡ false = ap is_taken none in
+    absurd cc

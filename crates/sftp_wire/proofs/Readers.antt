@@ -1,0 +1,4 @@
+-- Readers and the ways to combine them; loops that read.
+pub mod Steps
+pub mod Combined
+pub mod Loops
