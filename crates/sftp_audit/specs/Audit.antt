@@ -1,6 +1,6 @@
--- What an auditor accepts: the bytes of a starting tree and of a recorded session that account for a run.
+-- Which files an auditor accepts: those of a starting tree and of a recorded session that account for a run.
 use Rattle.std.specs.Prelude.{ℕ, ◌^◌, ◌-◌, min, List, [], ◌∷◌, length}
-use Rattle.sftp_audit.specs.declared.transcripts.Event.{Event}
+use Rattle.sftp_audit.specs.declared.events.Event.{Event}
 use Rattle.sftp_treefile.specs.declared.errors.TreeError.{TreeError}
 use Rattle.sftp_treefile.specs.declared.errors.TreeError.TheVariants as tree_errors
 use Rattle.sftp_audit.specs.declared.errors.TranscriptError.{TranscriptError}
@@ -11,9 +11,9 @@ use Rattle.sftp_audit.specs.declared.errors.AuditError.{AuditError}
 use Rattle.sftp_audit.specs.declared.errors.AuditError.TheVariants as audit_errors
 use Rattle.sftp_tree.specs.Tree.{Tree}
 use Rattle.sftp_tree.specs.Picture.{IsStart}
-use Rattle.sftp_audit.specs.Steps.{Allowed}
+use Rattle.sftp_audit.specs.Replies.{Allowed}
 use Rattle.sftp_audit.specs.Transcript.{IsRecord}
-use Rattle.sftp_audit.specs.Explained.{Explained, entries}
+use Rattle.sftp_audit.specs.Explained.{Explained, exchanges_of}
 
 -- the tree file is the start, the transcript records the events, and these are explained from the start to
 -- the end
@@ -22,11 +22,11 @@ pub record Accounts (tree transcript : List ℕ) (start : Tree) (events : List E
   pub events_are : IsRecord events transcript
   pub explained : Explained Allowed start events end
 
--- how many requests were asked, up to what a number of 64 bits can say
+-- the number of requests, capped at 2^64 - 1
 abbrev pub request_count : List Event → ℕ
-request_count events = min (length (entries events)) (2 ^ 64 - 1)
+request_count events = min (length (exchanges_of events)) (2 ^ 64 - 1)
 
--- the refusal of an audit, whose part was refused: want of memory is told as such, wherever it was
+-- the error of an audit, by the error of its part: `NoMemory` is the same everywhere
 abbrev pub tree_refused : TreeError → AuditError
 tree_refused tree_errors.NoMemory = audit_errors.NoMemory
 tree_refused error = audit_errors.Tree error
@@ -39,7 +39,18 @@ abbrev pub session_refused : Refusal → AuditError
 session_refused refusals.NoMemory = audit_errors.NoMemory
 session_refused refusal = audit_errors.Refused refusal
 
--- no refusal carries a want of memory inside
+-- the bytes are the tree file of a tree
+abbrev pub HasStart : List ℕ → Type 0
+HasStart tree = (start : Tree) × IsStart start tree
+
+-- the reason for an error of an audit: no tree, or a tree but no events, or a tree, and then a session that it does not explain
+abbrev pub IsReason : List ℕ → List ℕ → AuditError → Type 0
+IsReason tree transcript (audit_errors.Tree error) = HasStart tree → ⊥
+IsReason tree transcript (audit_errors.Transcript error) = HasStart tree × ((events : List Event) → IsRecord events transcript → ⊥)
+IsReason tree transcript (audit_errors.Refused refusal) = HasStart tree
+IsReason tree transcript audit_errors.NoMemory = Unit {0}
+
+-- no other error has `NoMemory` inside
 abbrev pub IsPlain : AuditError → Type 0
 IsPlain (audit_errors.Tree tree_errors.NoMemory) = ⊥
 IsPlain (audit_errors.Transcript transcript_errors.NoMemory) = ⊥

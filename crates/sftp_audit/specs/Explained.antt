@@ -4,8 +4,8 @@
 use Rattle.std.specs.Prelude.{◌≡◌, ◌==◌, ◌&&◌, nat_lt, ℕ, suc, Bool, true, if◌then◌else◌, List, [], ◌∷◌, Option, Some, None, IsTrue}
 use Rattle.sftp_wire.specs.declared.packets.Request.{Request}
 use Rattle.sftp_wire.specs.declared.packets.Reply.{Reply}
-use Rattle.sftp_audit.specs.declared.transcripts.Event.{Event}
-use Rattle.sftp_audit.specs.declared.transcripts.Event.TheVariants.{Asked, Replied}
+use Rattle.sftp_audit.specs.declared.events.Event.{Event}
+use Rattle.sftp_audit.specs.declared.events.Event.TheVariants.{Asked, Replied}
 
 -- ---- turns: of each id, requests and replies take turns, beginning with a request and ending with a reply
 
@@ -17,20 +17,20 @@ pub data Turn : Type 0 where
   -- one came out of turn
   broken : Turn
 
-abbrev pub after_asked : Turn → Turn
-after_asked closed = waiting
-after_asked waiting = broken
-after_asked broken = broken
+abbrev pub after_request : Turn → Turn
+after_request closed = waiting
+after_request waiting = broken
+after_request broken = broken
 
-abbrev pub after_replied : Turn → Turn
-after_replied closed = broken
-after_replied waiting = closed
-after_replied broken = broken
+abbrev pub after_reply : Turn → Turn
+after_reply closed = broken
+after_reply waiting = closed
+after_reply broken = broken
 
--- what an event does to the turn of an id
+-- the turn of an id after an event
 abbrev pub after_event : ℕ → Event → Turn → Turn
-after_event id (Asked request) turn = if request.id == id then after_asked turn else turn
-after_event id (Replied reply) turn = if reply.id == id then after_replied turn else turn
+after_event id (Asked request) turn = if request.id == id then after_request turn else turn
+after_event id (Replied reply) turn = if reply.id == id then after_reply turn else turn
 
 -- whose turn it is after the events
 unfoldable pub turn_after : ℕ → Turn → List Event → Turn
@@ -48,16 +48,16 @@ next_reply id (Asked request ∷ events) = next_reply id events
 next_reply id (Replied reply ∷ events) = if reply.id == id then Some reply else next_reply id events
 
 -- each request in the order asked, with its reply where it has one
-unfoldable pub entries : List Event → List (Request × Option Reply)
-entries [] = []
-entries (Asked request ∷ events) = (request, next_reply request.id events) ∷ entries events
-entries (Replied reply ∷ events) = entries events
+unfoldable pub exchanges_of : List Event → List (Request × Option Reply)
+exchanges_of [] = []
+exchanges_of (Asked request ∷ events) = (request, next_reply request.id events) ∷ exchanges_of events
+exchanges_of (Replied reply ∷ events) = exchanges_of events
 
--- those up to the first that has no reply
-unfoldable pub settled : List (Request × Option Reply) → List (Request × Reply)
-settled [] = []
-settled ((request, None) ∷ others) = []
-settled ((request, Some reply) ∷ others) = (request, reply) ∷ settled others
+-- the pairs of request and reply up to the first request that has no reply
+unfoldable pub leading_pairs : List (Request × Option Reply) → List (Request × Reply)
+leading_pairs [] = []
+leading_pairs ((request, None) ∷ others) = []
+leading_pairs ((request, Some reply) ∷ others) = (request, reply) ∷ leading_pairs others
 
 -- ---- the window: after each request fewer than this many are asked before its reply
 
@@ -65,14 +65,14 @@ abbrev pub window : ℕ
 window = 1024
 
 -- how many requests are asked before the next reply to an id, or before the end
-unfoldable pub asked_before_reply : ℕ → List Event → ℕ
-asked_before_reply id [] = 0
-asked_before_reply id (Asked request ∷ events) = suc (asked_before_reply id events)
-asked_before_reply id (Replied reply ∷ events) = if reply.id == id then 0 else asked_before_reply id events
+unfoldable pub requests_before_reply : ℕ → List Event → ℕ
+requests_before_reply id [] = 0
+requests_before_reply id (Asked request ∷ events) = suc (requests_before_reply id events)
+requests_before_reply id (Replied reply ∷ events) = if reply.id == id then 0 else requests_before_reply id events
 
 unfoldable pub in_window : List Event → Bool
 in_window [] = true
-in_window (Asked request ∷ events) = nat_lt (asked_before_reply request.id events) window && in_window events
+in_window (Asked request ∷ events) = nat_lt (requests_before_reply request.id events) window && in_window events
 in_window (Replied reply ∷ events) = in_window events
 
 -- ---- runs, of any machine whose step says which replies it allows and where it then is
@@ -87,4 +87,4 @@ Run {S} step start (pair ∷ pairs) end = (mid : S) × step start pair.0 pair.1 
 pub record Explained {S : Type 0} (step : StepOf S) (start : S) (events : List Event) (end : S) : Type 0 where
   pub matching : Matching events
   pub within_window : IsTrue (in_window events)
-  pub run : Run step start (settled (entries events)) end
+  pub run : Run step start (leading_pairs (exchanges_of events)) end

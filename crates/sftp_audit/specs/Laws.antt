@@ -6,7 +6,7 @@ use Rattle.sftp_wire.specs.declared.packets.Reply.{Reply}
 use Rattle.sftp_wire.specs.Spelling.{HasSpelling}
 use Rattle.sftp_tree.specs.Tree.{Tree}
 use Rattle.sftp_tree.specs.Steps.{has_step}
-use Rattle.sftp_audit.specs.Steps.{Allowed}
+use Rattle.sftp_audit.specs.Replies.{Allowed}
 
 -- the request's step has come, and it can be written
 pub record IsAskable (request : Request) : Type 0 where

@@ -1,10 +1,10 @@
-pub mod Steps
-pub mod Judging
+pub mod Replies
+pub mod Verdicts
 pub mod Transcript
 pub mod Records
 pub mod Explained
 pub mod Audit
-pub mod Rows
+pub mod Examples
 pub mod Laws
 pub mod Ledger
-pub mod Exchange
+pub mod Exchanges

@@ -5,11 +5,13 @@ use Rattle.std.specs.Global.{Vec}
 use Rattle.std.specs.List.{flat_map, AllByRecursion}
 use Rattle.sftp_wire.specs.declared.packets.Packet.{Packet}
 use Rattle.sftp_wire.specs.declared.packets.Packet.TheVariants.{Init, Version, Request as request_packet, Reply as reply_packet}
-use Rattle.sftp_wire.specs.Spelling.{spelling, HasSpelling}
+use Rattle.sftp_wire.specs.declared.packets.Side.{Side}
+use Rattle.sftp_wire.specs.declared.packets.Side.TheVariants.{Client, Server}
+use Rattle.sftp_wire.specs.Spelling.{spelling, HasSpelling, side_of}
 use Rattle.sftp_audit.specs.declared.errors.TranscriptError.{TranscriptError}
 use Rattle.sftp_audit.specs.declared.errors.TranscriptError.TheVariants.{NoMemory}
-use Rattle.sftp_audit.specs.declared.transcripts.Event.{Event}
-use Rattle.sftp_audit.specs.declared.transcripts.Event.TheVariants.{Asked, Replied}
+use Rattle.sftp_audit.specs.declared.events.Event.{Event}
+use Rattle.sftp_audit.specs.declared.events.Event.TheVariants.{Asked, Replied}
 use Rattle.sftp_tree.specs.Steps.{has_step}
 
 -- `SFTPTR01`
@@ -22,16 +24,24 @@ packet_of (Asked request) = request_packet request
 packet_of (Replied reply) = reply_packet reply
 
 -- `C` before a client's packet, `S` before a server's
-abbrev pub event_text : Event → List ℕ
-event_text (Asked request) = 67 ∷ spelling (request_packet request)
-event_text (Replied reply) = 83 ∷ spelling (reply_packet reply)
+abbrev pub direction_of : Side → ℕ
+direction_of Client = 67
+direction_of Server = 83
 
--- a reply, or a request whose step has come
+-- a record: the direction, and then the packet
+abbrev pub record_text : Packet → List ℕ
+record_text packet = direction_of (side_of packet) ∷ spelling packet
+
+-- the record of an event
+abbrev pub event_record : Event → List ℕ
+event_record event = record_text (packet_of event)
+
+-- a reply, or a request that can be judged
 abbrev pub is_judged : Event → Bool
 is_judged (Asked request) = has_step request.ask
 is_judged (Replied reply) = true
 
--- what an event of a transcript file may be; the other requests are not read yet
+-- what an event of a transcript file may be; the other requests cannot be judged yet, and are not read
 pub record IsEvent (event : Event) : Type 0 where
   pub spelled : HasSpelling (packet_of event)
   pub judged : IsTrue (is_judged event)
@@ -39,10 +49,10 @@ pub record IsEvent (event : Event) : Type 0 where
 -- the events, one record after the other
 pub record AreRecords (events : List Event) (bytes : List ℕ) : Type 0 where
   pub spelled : AllByRecursion IsEvent events
-  pub bytes_are : bytes ≡ flat_map event_text events
+  pub bytes_are : bytes ≡ flat_map event_record events
 
--- an INIT of version 3 or more from the client, and then a VERSION 3 from the server; extensions are not
--- looked at (draft, section 4)
+-- an INIT of version 3 or more from the client, and then a VERSION 3 from the server, with any extensions
+-- (draft, section 4)
 pub record IsHandshake (bytes rest : List ℕ) : Type 0 where
   pub version : ℕ
   pub asked : List (List ℕ × List ℕ)
@@ -50,7 +60,7 @@ pub record IsHandshake (bytes rest : List ℕ) : Type 0 where
   pub high_enough : 3 ≤ version
   pub init : HasSpelling (Init version asked)
   pub answer : HasSpelling (Version 3 told)
-  pub bytes_are : bytes ≡ (67 ∷ spelling (Init version asked)) ++ ((83 ∷ spelling (Version 3 told)) ++ rest)
+  pub bytes_are : bytes ≡ record_text (Init version asked) ++ (record_text (Version 3 told) ++ rest)
 
 -- the bytes record the events
 pub record IsRecord (events : List Event) (bytes : List ℕ) : Type 0 where
@@ -60,6 +70,6 @@ pub record IsRecord (events : List Event) (bytes : List ℕ) : Type 0 where
   pub handshake : IsHandshake opened records
   pub recorded : AreRecords events records
 
--- where the bytes record events, these are what reading gave, unless memory ran out
+-- where the bytes record events, these are the result, unless memory ran out
 abbrev pub GivesRecorded : Result (Vec Event) TranscriptError → List ℕ → Type 0
 GivesRecorded result bytes = (events : List Event) → IsRecord events bytes → MatchResult result (λ v. v.items ≡ events) (λ e. e ≡ NoMemory)

@@ -1,10 +1,10 @@
 //! The blank tree's file.
 ghost use Rattle.std.specs.Prelude.{◌≡◌, IfOk};
-ghost use Rattle.sftp_tree.specs.Tree.{Tree as tree};
-ghost use Rattle.sftp_tree.specs.Picture.{IsStart};
+ghost use Rattle.sftp_tree.specs.Picture.{picture, blank, IsStart};
 ghost use Rattle.sftp_audit.specs.Audit.{blank_bytes};
 
 use sftp_tree::NoMemory;
+use sftp_tree::picture_laws::blank_is_a_start;
 use std::alloc::Global;
 
 /// The bytes of the blank tree's file.
@@ -19,13 +19,17 @@ const BLANK: [u8; 37] = [
 /// # Errors
 ///
 /// `NoMemory` where memory runs out.
+#[tactic(auto, unfolding(sftp_tree::specs::Picture::picture, sftp_treefile::specs::TreeFile::spelled, sftp_path::specs::Table::get))]
 pub fn blank_tree(alloc: Global) -> Result<Vec<u8>, NoMemory>
-    ensures { IfOk result (λ v. v.items ≡ blank_bytes) }
+    ensures bytes { IfOk result (λ v. v.items ≡ blank_bytes) }
+    ensures picture { IfOk result (λ v. v.items ≡ picture blank) }
 {
     Ok(Vec::from_slice(alloc, &BLANK)?)
 }
 
-/// The blank tree's bytes are the tree file of a tree.
+/// The bytes of `blank_tree` are the tree file of the blank tree.
 pub fn blank_tree_is_a_start()
-    ensures { (t : tree) × IsStart t blank_bytes }
-{}
+    ensures { IsStart blank blank_bytes }
+{
+    blank_is_a_start();
+}

@@ -1,37 +1,37 @@
-//! Why a tree, a transcript or a session was refused.
+//! The errors of the auditor: of a tree file, of a transcript file, and of a session.
 ghost use Rattle.std.specs.Prelude.{◌≡◌};
 
 use sftp_tree::{NoMemory, TreeError};
 use std::alloc::{AllocError, AllocFailed};
 use thiserror::Error;
 
-/// What is wrong with bytes that are to be a transcript file: the first fault from left to right, and the
-/// number of its record. Records count from 1, and the opening has the number 0.
+/// The first fault of a transcript file from left to right, and the number of its record. Records count from 1, the
+/// opening has the number 0, and a number is capped at 2^64 - 1.
 #[derive(Clone, Copy, Debug, PartialEq, Eq, Error)]
 pub enum TranscriptError {
-    /// The opening is not there whole.
+    /// The file does not begin with `SFTPTR01`.
     #[error("record {record}: Magic")]
     Magic {
         record: u64,
     },
-    /// The byte before the packet names neither side.
+    /// The byte before the packet is neither `C` nor `S`.
     #[error("record {record}: Direction")]
     Direction {
         record: u64,
     },
-    /// The first record is no INIT of version 3 or more from the client, the second no VERSION 3 from the
-    /// server, or a later one is an INIT or a VERSION.
+    /// The first record is missing or is not an INIT of version 3 or more from the client, the second is missing or is
+    /// not a VERSION 3 from the server, or a later one is an INIT or a VERSION (draft, section 4).
     #[error("record {record}: Start")]
     Start {
         record: u64,
     },
-    /// The packet cannot be read, or is a request that cannot be judged yet.
+    /// The packet cannot be read, or is a request that cannot be judged yet (`WrongType`).
     #[error("record {record}: Wire {fault}")]
     Wire {
         fault: sftp_wire::Fault,
         record: u64,
     },
-    /// The bytes end inside a record.
+    /// The file ends inside a record.
     #[error("record {record}: Truncated")]
     Truncated {
         record: u64,
@@ -61,22 +61,22 @@ impl<T: Drop> From<AllocFailed<T>> for TranscriptError {
     }
 }
 
-/// Why a session was refused, and the number of the record that shows it.
+/// Why the tree does not explain a session, and the number of the record that shows it (draft, section 6.1).
 #[derive(Clone, Copy, Debug, PartialEq, Eq, Error)]
 pub enum Refusal {
-    /// A reply whose id no unanswered request has.
+    /// A reply whose id is not that of an unanswered request.
     #[error("record {record}: UnknownReply")]
     UnknownReply { record: u64 },
     /// A request with the id of an unanswered one.
     #[error("record {record}: IdInUse")]
     IdInUse { record: u64 },
-    /// A request that comes too long after one that is unanswered.
+    /// A request that comes 1,024 requests or more after one that is unanswered. This limit is this profile's own.
     #[error("record {record}: Window")]
     Window { record: u64 },
-    /// A reply that the tree does not allow.
+    /// A reply that the tree does not allow, where the requests are done one at a time in the order asked.
     #[error("record {record}: NotAllowed")]
     NotAllowed { record: u64 },
-    /// A request that has no reply.
+    /// A request that has no reply: the oldest one.
     #[error("record {record}: Unanswered")]
     Unanswered { record: u64 },
     /// Memory ran out.
@@ -114,19 +114,19 @@ impl From<NoMemory> for Refusal {
     }
 }
 
-/// Why `audit` refused.
+/// Why `audit` does not accept a session.
 #[derive(Clone, Copy, Debug, PartialEq, Eq, Error)]
 pub enum AuditError {
-    /// The bytes are no tree file.
+    /// The bytes are not a tree file.
     #[error("tree: {0}")]
     Tree(TreeError),
-    /// The bytes are no transcript file.
+    /// The bytes are not a transcript file, or record a request that cannot be judged yet.
     #[error("transcript: {0}")]
     Transcript(TranscriptError),
-    /// The session is not explained by the tree.
+    /// The tree does not explain the session.
     #[error("refused {0}")]
     Refused(Refusal),
-    /// Memory ran out, wherever it was.
+    /// Memory ran out. The other errors never have `NoMemory` inside.
     #[error("out of memory")]
     NoMemory,
 }

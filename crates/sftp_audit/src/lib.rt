@@ -2,20 +2,21 @@
 //! whether the tree allows every reply, in whatever order the replies came.
 #![tactic(auto)]
 
-mod auditing;
+mod auditor;
 mod blank;
 mod errors;
+mod events;
+pub mod examples;
+mod exchanges;
 pub mod laws;
-mod pairing;
+mod ledger;
 mod records;
-pub mod rows;
-mod running;
-mod steps;
-mod transcripts;
+mod replies;
+mod runs;
 
-pub use auditing::{Accepted, audit};
+pub use auditor::{Accepted, audit};
 pub use blank::{blank_tree, blank_tree_is_a_start};
 pub use errors::{AuditError, Refusal, TranscriptError};
+pub use events::Event;
 pub use records::records_are_one;
 pub use sftp_tree::{NoMemory, TreeError};
-pub use transcripts::Event;

@@ -3,36 +3,38 @@
 ghost use Rattle.std.specs.Prelude.{◌≡◌, ℕ, List, ◌++◌, ◌<◌, length, IfOk, IfErr, IsTrue, false};
 ghost use Rattle.sftp_wire.specs.declared.packets.Packet.{Packet};
 ghost use Rattle.sftp_wire.specs.Spelling.{spelling, HasSpelling, side_of};
-ghost use Rattle.sftp_audit.specs.declared.transcripts.Event.{Event};
-ghost use Rattle.sftp_audit.specs.declared.transcripts.Event.TheVariants.{Asked};
+ghost use Rattle.sftp_audit.specs.declared.events.Event.{Event};
+ghost use Rattle.sftp_audit.specs.declared.events.Event.TheVariants.{Asked};
 ghost use Rattle.sftp_tree.specs.Steps.{has_step};
-ghost use Rattle.sftp_audit.specs.Transcript.{transcript_opening, event_text, is_judged, IsEvent, AreRecords, IsRecord, GivesRecorded};
-ghost use Rattle.sftp_audit.specs.Records.{side_named, unreadable_at, Begins, BeginsInit, BeginsVersion, GivesOnly};
+ghost use Rattle.sftp_audit.specs.Transcript.{transcript_opening, packet_of, event_record, is_judged};
+ghost use Rattle.sftp_audit.specs.Transcript.{IsEvent, AreRecords, IsRecord, GivesRecorded};
+ghost use Rattle.sftp_audit.specs.Records.{side_of_direction, read_fault, Begins, GivesOnly};
+ghost use Rattle.sftp_audit.specs.Records.{IsInit, BeginsInit, IsVersion, BeginsVersion};
 
 use crate::errors::TranscriptError;
-use crate::steps::has_step;
-use crate::transcripts::Event;
+use crate::events::Event;
+use crate::replies::has_step;
 use sftp_wire::{Fault, Packet, Request, Side, WireError, front};
 use std::alloc::Global;
 
 /// What a transcript file begins with.
 const OPENING: [u8; 8] = *b"SFTPTR01";
 
-/// The version of the protocol that a session has to agree on.
+/// The version of the protocol (draft, section 4).
 const PROTOCOL_VERSION: u32 = 3;
 
 /// The events that a transcript file records.
 ///
 /// The file is `SFTPTR01` and then the records: a byte `C` or `S` that names the side, and one whole packet
-/// of that side. The first two records are an INIT of version 3 or more and a VERSION 3, whose extensions are
-/// not looked at; the later ones, requests and replies, are the events. The time is linear in the bytes.
+/// of that side. The first two records are an INIT of version 3 or more and a VERSION 3, with any extensions;
+/// the later ones, requests and replies, are the events. The time is linear in the bytes.
 ///
 /// # Errors
 ///
 /// The first fault from left to right, with the number of its record. Records count from 1, the opening has
 /// the number 0, and a number is capped at 2^64 - 1.
 ///
-/// - `Magic` where the opening is not there whole.
+/// - `Magic` where the file does not begin with `SFTPTR01`.
 /// - `Start` where the first record is no INIT of version 3 or more from the client, or the second is no
 ///   VERSION 3 from the server, or the file ends before one of them begins, or a later record is an INIT or
 ///   a VERSION.
@@ -42,9 +44,9 @@ const PROTOCOL_VERSION: u32 = 3;
 /// - `Truncated` where the file ends inside a record.
 /// - `NoMemory` where memory runs out.
 pub fn read_events(alloc: Global, bytes: &[u8]) -> Result<Vec<Event>, TranscriptError>
-    // What is given is what the bytes record.
+    // The result is what the bytes record.
     ensures found { IfOk result (λ events. IsRecord events.items bytes.now) }
-    // What the bytes record is given, unless memory runs out.
+    // What the bytes record is the result, unless memory runs out.
     ensures only { GivesRecorded result bytes.now }
 {
     let records = take_opening(bytes)?;
@@ -53,7 +55,7 @@ pub fn read_events(alloc: Global, bytes: &[u8]) -> Result<Vec<Event>, Transcript
     take_events(alloc, records)
 }
 
-/// What stands behind the opening.
+/// The bytes behind the opening.
 fn take_opening(bytes: &[u8]) -> Result<&[u8], TranscriptError>
     ensures found { IfOk result (λ rest. bytes.now ≡ transcript_opening ++ rest.now) }
     ensures only { (rest : List ℕ) → bytes.now ≡ transcript_opening ++ rest → GivesOnly (λ r. r.now ≡ rest) result }
@@ -63,30 +65,51 @@ fn take_opening(bytes: &[u8]) -> Result<&[u8], TranscriptError>
         .ok_or(TranscriptError::Magic { record: 0 })
 }
 
-/// What stands behind the client's INIT, which is the first record.
+/// The bytes behind the client's INIT, which is the first record.
 fn take_init(alloc: Global, bytes: &[u8]) -> Result<&[u8], TranscriptError>
     ensures found { IfOk result (λ rest. BeginsInit bytes.now rest.now) }
     ensures only { (rest : List ℕ) → BeginsInit bytes.now rest → GivesOnly (λ r. r.now ≡ rest) result }
 {
     let (packet, rest) = take_record(alloc, bytes, 1)?;
-    match packet {
-        Packet::Init { version, .. } if version >= PROTOCOL_VERSION => Ok(rest),
-        _ => Err(TranscriptError::Start { record: 1 }),
+    if is_init(packet) {
+        Ok(rest)
+    } else {
+        Err(TranscriptError::Start { record: 1 })
     }
 }
 
-/// What stands behind the server's VERSION, which is the second record.
+/// Whether the packet is an INIT of version 3 or more. It takes the packet, so that no caller drops it.
+fn is_init(packet: Packet) -> bool
+    ensures yes { IsTrue result → IsInit packet }
+    ensures no { result ≡ false → IsInit packet → ⊥ }
+{
+    match packet {
+        Packet::Init { version, .. } => version >= PROTOCOL_VERSION,
+        Packet::Version { .. } | Packet::Request(_) | Packet::Reply(_) => false,
+    }
+}
+
+/// The bytes behind the server's VERSION, which is the second record.
 fn take_version(alloc: Global, bytes: &[u8]) -> Result<&[u8], TranscriptError>
     ensures found { IfOk result (λ rest. BeginsVersion bytes.now rest.now) }
     ensures only { (rest : List ℕ) → BeginsVersion bytes.now rest → GivesOnly (λ r. r.now ≡ rest) result }
 {
     let (packet, rest) = take_record(alloc, bytes, 2)?;
+    if is_version(packet) {
+        Ok(rest)
+    } else {
+        Err(TranscriptError::Start { record: 2 })
+    }
+}
+
+/// Whether the packet is a VERSION 3. It takes the packet, so that no caller drops it.
+fn is_version(packet: Packet) -> bool
+    ensures yes { IsTrue result → IsVersion packet }
+    ensures no { result ≡ false → IsVersion packet → ⊥ }
+{
     match packet {
-        Packet::Version {
-            version: PROTOCOL_VERSION,
-            ..
-        } => Ok(rest),
-        _ => Err(TranscriptError::Start { record: 2 }),
+        Packet::Version { version, .. } => version == PROTOCOL_VERSION,
+        Packet::Init { .. } | Packet::Request(_) | Packet::Reply(_) => false,
     }
 }
 
@@ -107,22 +130,33 @@ fn take_events(alloc: Global, bytes: &[u8]) -> Result<Vec<Event>, TranscriptErro
     Ok(events)
 }
 
-/// The event of the record in front, and what stands behind it.
+/// The event of the record in front, and the bytes behind it.
 fn take_event(alloc: Global, bytes: &[u8], number: u64) -> Result<(Event, &[u8]), TranscriptError>
-    ensures found { IfOk result (λ taken. IsEvent taken.0 × (bytes.now ≡ event_text taken.0 ++ taken.1.now)) }
-    ensures only { (event : Event) (rest : List ℕ) → IsEvent event → bytes.now ≡ event_text event ++ rest → GivesOnly (λ taken. (taken.0 ≡ event) × (taken.1.now ≡ rest)) result }
+    ensures found { IfOk result (λ taken. IsEvent taken.0 × (bytes.now ≡ event_record taken.0 ++ taken.1.now)) }
+    ensures only { (event : Event) (rest : List ℕ) → IsEvent event → bytes.now ≡ event_record event ++ rest →
+        GivesOnly (λ taken. (taken.0 ≡ event) × (taken.1.now ≡ rest)) result }
     ensures shorter { IfOk result (λ taken. length taken.1.now < length bytes.now) }
 {
     let (packet, rest) = take_record(alloc, bytes, number)?;
+    let event = event_of(packet, number)?;
+    Ok((event, rest))
+}
+
+/// The event of a packet: `Start` where the packet is an INIT or a VERSION.
+fn event_of(packet: Packet, number: u64) -> Result<Event, TranscriptError>
+    ensures found { IfOk result (λ event. (packet ≡ packet_of event) × IsTrue (is_judged event)) }
+    ensures none { IfErr result (λ _. (event : Event) → packet ≡ packet_of event → IsTrue (is_judged event) → ⊥) }
+{
     match packet {
-        Packet::Request(request) => Ok((asked(request, number)?, rest)),
-        Packet::Reply(reply) => Ok((Event::Replied(reply), rest)),
-        _ => Err(TranscriptError::Start { record: number }),
+        Packet::Request(request) => event_of_request(request, number),
+        Packet::Reply(reply) => Ok(Event::Replied(reply)),
+        Packet::Init { .. } => Err(TranscriptError::Start { record: number }),
+        Packet::Version { .. } => Err(TranscriptError::Start { record: number }),
     }
 }
 
-/// The event of a request, which cannot be read where its step has not come.
-fn asked(request: Request, number: u64) -> Result<Event, TranscriptError>
+/// The event of a request: `WrongType` where the request cannot be judged yet.
+fn event_of_request(request: Request, number: u64) -> Result<Event, TranscriptError>
     ensures found { IfOk result (λ event. (event ≡ Asked request) × IsTrue (is_judged event)) }
     ensures none { IfErr result (λ _. has_step request.ask ≡ false) }
 {
@@ -135,10 +169,11 @@ fn asked(request: Request, number: u64) -> Result<Event, TranscriptError>
     Ok(Event::Asked(request))
 }
 
-/// The packet of the record in front, and what stands behind it. `Start` where no byte is left.
+/// The packet of the record in front, and the bytes behind it. `Start` where no byte is left.
 fn take_record(alloc: Global, bytes: &[u8], number: u64) -> Result<(Packet, &[u8]), TranscriptError>
     ensures found { IfOk result (λ taken. Begins bytes.now taken.0 taken.1.now) }
-    ensures only { (packet : Packet) (rest : List ℕ) → Begins bytes.now packet rest → GivesOnly (λ taken. (taken.0 ≡ packet) × (taken.1.now ≡ rest)) result }
+    ensures only { (packet : Packet) (rest : List ℕ) → Begins bytes.now packet rest →
+        GivesOnly (λ taken. (taken.0 ≡ packet) × (taken.1.now ≡ rest)) result }
 {
     match bytes {
         [] => Err(TranscriptError::Start { record: number }),
@@ -151,7 +186,7 @@ fn take_record(alloc: Global, bytes: &[u8], number: u64) -> Result<(Packet, &[u8
 
 /// The side that sent the packet behind this byte.
 fn side_of_direction(direction: u8) -> Option<Side>
-    ensures { result ≡ side_named direction }
+    ensures { result ≡ side_of_direction direction }
 {
     match direction {
         b'C' => Some(Side::Client),
@@ -160,27 +195,29 @@ fn side_of_direction(direction: u8) -> Option<Side>
     }
 }
 
-/// The packet in front, and what stands behind it.
+/// The packet in front, and the bytes behind it.
 fn take_packet(
     alloc: Global,
     bytes: &[u8],
     side: Side,
     number: u64,
 ) -> Result<(Packet, &[u8]), TranscriptError>
-    ensures found { IfOk result (λ taken. HasSpelling taken.0 × (side_of taken.0 ≡ side) × (bytes.now ≡ spelling taken.0 ++ taken.1.now)) }
-    ensures only { (packet : Packet) (rest : List ℕ) → HasSpelling packet → side_of packet ≡ side → bytes.now ≡ spelling packet ++ rest → GivesOnly (λ taken. (taken.0 ≡ packet) × (taken.1.now ≡ rest)) result }
+    ensures found { IfOk result (λ taken. HasSpelling taken.0 × (side_of taken.0 ≡ side)
+        × (bytes.now ≡ spelling taken.0 ++ taken.1.now)) }
+    ensures only { (packet : Packet) (rest : List ℕ) → HasSpelling packet → side_of packet ≡ side →
+        bytes.now ≡ spelling packet ++ rest → GivesOnly (λ taken. (taken.0 ≡ packet) × (taken.1.now ≡ rest)) result }
 {
     match front(alloc, bytes, side) {
         Ok(Some((packet, length))) => Ok((packet, &bytes[length..])),
         Ok(None) => Err(TranscriptError::Truncated { record: number }),
-        Err(error) => Err(unreadable(error, number)),
+        Err(error) => Err(read_fault(error, number)),
     }
 }
 
-/// Why the packet of a record could not be read. `front` never says `TooLong` or `NotCanonical`, which would be
+/// The fault of a record whose packet cannot be read. `front` never returns `TooLong` or `NotCanonical`, which would be
 /// faults of the packet's length and of its type.
-fn unreadable(error: WireError, number: u64) -> TranscriptError
-    ensures { result ≡ unreadable_at number error }
+fn read_fault(error: WireError, number: u64) -> TranscriptError
+    ensures { result ≡ read_fault number error }
 {
     match error {
         WireError::NoMemory => TranscriptError::NoMemory,
@@ -199,9 +236,10 @@ fn unreadable(error: WireError, number: u64) -> TranscriptError
     }
 }
 
-/// Bytes record one list of events at most. It does nothing: its contract is what it says.
+/// Bytes record one list of events at most. The function does nothing; the promise is in the contract.
 pub fn records_are_one()
-    ensures { (events others : List Event) (bytes : List ℕ) → IsRecord events bytes → IsRecord others bytes → events ≡ others }
+    ensures { (events others : List Event) (bytes : List ℕ) →
+        IsRecord events bytes → IsRecord others bytes → events ≡ others }
 {}
 
 #[cfg(test)]

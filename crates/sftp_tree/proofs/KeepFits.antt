@@ -1,7 +1,15 @@
--- The parts of the test whether a tree is within the limits.
+-- Trees within the limits, and the parts of the test whether a tree is.
 use Rattle.std.proofs.Common.{◌≡◌, true, ◌&&◌, IsTrue}
 use Rattle.std.proofs.lemmas.Bool.{and_parts, and_from}
-use Rattle.sftp_tree.specs.Tree.{Tree, fits, entries_fit, depths_fit, home_fits, links_fit, files_fit, numbers_fit}
+use Rattle.sftp_tree.specs.Tree.{Tree, WellFormed, IsKept, fits, entries_fit, depths_fit, home_fits, links_fit, files_fit, numbers_fit}
+
+-- a tree within the limits, which may have files that have no name and are not pinned
+pub record Stands (t : Tree) : Type 0 where
+  pub well_formed : WellFormed t
+  pub within_limits : IsTrue (fits t)
+
+pub stands-of : (t : Tree) → IsKept t → Stands t
+stands-of t kept = record { well_formed = kept.well_formed; within_limits = kept.within_limits }
 
 pub record Fits (t : Tree) : Type 0 where
   pub entries : entries_fit t ≡ true

@@ -22,7 +22,7 @@ use Rattle.sftp_treefile.proofs.FileTexts.{one_file}
 use Rattle.sftp_tree.specs.declared.contents.Content.{Content}
 use Rattle.sftp_tree.specs.declared.nodes.Node.{Node}
 use Rattle.sftp_tree.specs.declared.nodes.Node.TheVariants.{Dir, File, Link}
-use Rattle.sftp_tree.specs.Tree.{Names, Files, Tree, IsKept, IsNode, IsContent, limits, node_at, content_at, names_file, times_named, is_named, is_pinned, fits, depths_fit, depth_fits, home_fits, links_fit, link_fits, files_fit, content_fits}
+use Rattle.sftp_tree.specs.Tree.{Names, Files, Tree, WellFormed, IsKept, IsNode, IsContent, limits, node_at, content_at, names_file, times_named, is_named, is_pinned, fits, depths_fit, depth_fits, home_fits, links_fit, link_fits, files_fit, content_fits}
 use Rattle.sftp_tree.specs.Picture.{rows_behind, root_owner, is_numbered, file_of, picture, IsStart, blank}
 use Rattle.sftp_tree.specs.PictureParts.{content_of, contents_of, node_of, entry_of, entries_behind, only_root, names_of, numbered_from, tree_of}
 use Rattle.sftp_tree.proofs.PictureLists.{all_both, all_together, all_right}
@@ -33,7 +33,7 @@ use Rattle.sftp_tree.proofs.PictureContents.{numbered_contents, numbered_there, 
 use Rattle.sftp_tree.proofs.PictureNamed.{IsBelowRoot, IsFitContent, length-rows, place_text, entry_texts, rows_bare, kinds_fit}
 use Rattle.sftp_tree.proofs.PictureAgain.{rows_again, rows_numbered, entries_again}
 use Rattle.sftp_tree.proofs.KeepTables.{each-all, all-each, each-weaker}
-use Rattle.sftp_tree.proofs.KeepFits.{fits-parts, fits-from}
+use Rattle.sftp_tree.proofs.KeepFits.{Stands, fits-parts, fits-from}
 
 -- ---- the limits, entry by entry
 
@@ -54,7 +54,7 @@ pub limits_fit : (t : Tree) → Limits t → IsTrue (fits t)
 limits_fit t l =
     fits-from t (record { entries = le-leb (length t.names - 1) t.limits.entries (omega (arith, l.entries)); depths = l.depths; home = l.home; links = l.links; files = l.files; numbers = lt-ltb t.made (2 ^ 32) l.numbers })
 
-pub usual-entries : (t : Tree) → IsKept t → t.limits.entries ≡ usual_limits.entries
+pub usual-entries : (t : Tree) → Stands t → t.limits.entries ≡ usual_limits.entries
 usual-entries t kept = ap (λ (bounds : TreeLimits). bounds.entries) kept.well_formed.limits
 
 -- ---- what the files of rows keep
@@ -169,7 +169,7 @@ pub record Split (t : Tree) : Type 0 where
   pub nodes : AllByRecursion (λ e. IsNode t.files e.1) entries
   pub few : length entries ≤ t.limits.entries
 
-split_by : (t : Tree) → IsKept t → (root : Owner) (entries : Names) → t.names ≡ only_root root ++ entries → IsTable root (only_root root ++ entries) → Split t
+split_by : (t : Tree) → Stands t → (root : Owner) (entries : Names) → t.names ≡ only_root root ++ entries → IsTable root (only_root root ++ entries) → Split t
 split_by t kept root entries names_are table = record {
   root = root;
   entries = entries;
@@ -189,8 +189,8 @@ nodes_fit : (files : Files) (names : Names) → AllByRecursion (λ e. IsNode fil
 nodes_fit files [] are fit = tt
 nodes_fit files (e ∷ es) are fit = (node_fits files e.1 are.0 fit.0, nodes_fit files es are.1 fit.1)
 
-table_of_kept : (t : Tree) → IsKept t → (root : Owner) → node_at t.names [] ≡ Some (Dir root) → IsTable root t.names
-table_of_kept t kept root root_is =
+table_of_tree : (t : Tree) → Stands t → (root : Owner) → node_at t.names [] ≡ Some (Dir root) → IsTable root t.names
+table_of_tree t kept root root_is =
     let w = kept.well_formed in
     let l = limits_from t kept.within_limits in
     record {
@@ -201,10 +201,10 @@ table_of_kept t kept root root_is =
       parents = w.parents;
     }
 
-pub split_kept : (t : Tree) → IsKept t → Split t
-split_kept t kept =
+pub split_tree : (t : Tree) → Stands t → Split t
+split_tree t kept =
     let f = root_first t.names kept.well_formed.ordered kept.well_formed.root in
-    let table = table_of_kept t kept f.0 (ap (λ (n : Names). node_at n []) f.2 ∙ root_at f.0 f.1) in
+    let table = table_of_tree t kept f.0 (ap (λ (n : Names). node_at n []) f.2 ∙ root_at f.0 f.1) in
     split_by t kept f.0 f.1 f.2 (subst (IsTable f.0) f.2 table)
 
 pub root_of_split : (t : Tree) (s : Split t) → root_owner (node_at t.names []) ≡ s.root
@@ -214,12 +214,12 @@ content_fit : (files : Files) → AllByRecursion (λ e. IsContent e.1) files →
 content_fit [] are fit = tt
 content_fit (e ∷ files) are fit = ((are.0.0, leb-true (length e.1.bytes) usual_limits.file_bytes fit.0, are.0.1), content_fit files are.1 fit.1)
 
-pub fit_files : (t : Tree) → IsKept t → AllByRecursion (λ e. IsFitContent e.1) t.files
+pub fit_files : (t : Tree) → Stands t → AllByRecursion (λ e. IsFitContent e.1) t.files
 fit_files t kept =
     let fit = each-all (λ (e : ℕ × Content). content_fits (limits t) e.1) t.files (limits_from t kept.within_limits).files in
     content_fit t.files kept.well_formed.contents (subst (λ (bounds : TreeLimits). AllByRecursion (λ (e : ℕ × Content). IsTrue (content_fits bounds e.1)) t.files) kept.well_formed.limits fit)
 
-rows_of_split : (t : Tree) → IsKept t → (s : Split t) → AreRows usual_limits [] (rows_behind t.files (only_root s.root) s.entries)
+rows_of_split : (t : Tree) → Stands t → (s : Split t) → AreRows usual_limits [] (rows_behind t.files (only_root s.root) s.entries)
 rows_of_split t kept s =
     let rows = rows_behind t.files (only_root s.root) s.entries in
     let table : IsTable s.root (bare_names s.root rows) =
@@ -228,9 +228,9 @@ rows_of_split t kept s =
     rows_of_table s.root [] rows table (entry_texts t.files (only_root s.root) s.entries s.below)
     (kinds_fit t.files s.root [] s.entries fit s.nodes (fit_files t kept) tt s.below (omega (arith, s.few, usual-entries t kept)))
 
-pub file_of_kept : (t : Tree) → IsKept t → IsTreeFile (file_of t)
-file_of_kept t kept =
-    let s = split_kept t kept in
+pub file_of_tree : (t : Tree) → Stands t → IsTreeFile (file_of t)
+file_of_tree t kept =
+    let s = split_tree t kept in
     let l = limits_from t kept.within_limits in
     let rows : rows_behind t.files [] t.names ≡ rows_behind t.files (only_root s.root) s.entries = ap (rows_behind t.files []) s.names_are in
     record {
@@ -243,9 +243,9 @@ file_of_kept t kept =
       rows = subst (λ (bounds : TreeLimits). AreRows bounds [] (rows_behind t.files [] t.names)) (sym kept.well_formed.limits) (subst (AreRows usual_limits []) (sym rows) (rows_of_split t kept s));
     }
 
-pub tree_again : (t : Tree) → IsKept t → t.pins ≡ [] → IsTrue (is_numbered 0 t.names t.made) → tree_of (file_of t) ≡ t
+pub tree_again : (t : Tree) → Stands t → t.pins ≡ [] → IsTrue (is_numbered 0 t.names t.made) → tree_of (file_of t) ≡ t
 tree_again t kept unpinned numbered =
-    let s = split_kept t kept in
+    let s = split_tree t kept in
     let fit = rows_of_split t kept s in
     let rows : rows_behind t.files [] t.names ≡ rows_behind t.files (only_root s.root) s.entries = ap (rows_behind t.files []) s.names_are in
     let a = entries_again s.root t.files [] (only_root s.root) s.entries t.made refl tt fit s.below s.nodes (subst (λ (names : Names). IsTrue (is_numbered 0 names t.made)) s.names_are numbered) in
@@ -288,12 +288,12 @@ blank_kept =
 
 -- ---- starts
 
-pub kept_of_start : (t : Tree) (bytes : List ℕ) → IsStart t bytes → IsKept t
-kept_of_start t bytes start = record { well_formed = start.well_formed; within_limits = start.within_limits; trimmed = start.trimmed }
+pub stands_of_start : (t : Tree) (bytes : List ℕ) → IsStart t bytes → Stands t
+stands_of_start t bytes start = record { well_formed = start.well_formed; within_limits = start.within_limits }
 
 pub spelled_of_start : (t : Tree) (bytes : List ℕ) → IsStart t bytes → IsSpelled (file_of t) bytes
 unfolding picture
-spelled_of_start t bytes start = record { may_be = file_of_kept t (kept_of_start t bytes start); bytes_are = start.picture_is }
+spelled_of_start t bytes start = record { may_be = file_of_tree t (stands_of_start t bytes start); bytes_are = start.picture_is }
 
 pub start_of_spelled : (file : TreeFile) (bytes : List ℕ) → IsSpelled file bytes → IsStart (tree_of file) bytes
 unfolding picture
@@ -309,13 +309,14 @@ start_of_spelled file bytes is =
     }
 
 -- the tree file of a tree is that of the tree whose files are numbered anew
-pub start_of_picture : (t : Tree) → IsKept t → IsStart (tree_of (file_of t)) (picture t)
+pub start_of_picture : (t : Tree) → WellFormed t → IsTrue (fits t) → IsStart (tree_of (file_of t)) (picture t)
 unfolding picture
-start_of_picture t kept = start_of_spelled (file_of t) (picture t) (record { may_be = file_of_kept t kept; bytes_are = refl })
+start_of_picture t well within =
+    start_of_spelled (file_of t) (picture t) (record { may_be = file_of_tree t (record { well_formed = well; within_limits = within }); bytes_are = refl })
 
 -- bytes are the tree file of one tree
 pub one_start : (t u : Tree) (bytes : List ℕ) → IsStart t bytes → IsStart u bytes → t ≡ u
 one_start t u bytes t-start u-start =
-    sym (tree_again t (kept_of_start t bytes t-start) t-start.unpinned t-start.numbered)
+    sym (tree_again t (stands_of_start t bytes t-start) t-start.unpinned t-start.numbered)
     ∙ ap tree_of (one_file (file_of t) (file_of u) bytes (spelled_of_start t bytes t-start) (spelled_of_start u bytes u-start))
-    ∙ tree_again u (kept_of_start u bytes u-start) u-start.unpinned u-start.numbered
+    ∙ tree_again u (stands_of_start u bytes u-start) u-start.unpinned u-start.numbered

@@ -3,12 +3,13 @@ use Rattle.std.proofs.Common.{◌≡◌, ℕ, zero, suc, ◌+◌, ◌^◌, ◌<�
 use Rattle.std.specs.Prelude.{IsTrue, is_some}
 use Rattle.std.specs.List.{slice_get, AllByRecursion}
 use Rattle.std.specs.Option.{option_map}
-use Rattle.std.specs.Ordering.{nat_cmp, is_eq}
+use Rattle.std.specs.FinMap.{nat_cmp-IsAntisymmetric}
+use Rattle.std.specs.Ordering.{nat_cmp}
 use Rattle.std.proofs.lemmas.Bool.{eqb-true, leb-true}
 use Rattle.std.proofs.lemmas.List.{append-nil, length-append}
 use Rattle.sftp_path.specs.Place.{Place, are_names, absolute, components}
 use Rattle.sftp_path.proofs.AbsoluteTexts.{components-absolute}
-use Rattle.sftp_path.proofs.TableLaws.{get-empty, get-cons}
+use Rattle.sftp_tree.proofs.KeepTables.{each-get}
 use Rattle.sftp_treefile.specs.declared.files.Owner.{Owner}
 use Rattle.sftp_treefile.specs.declared.files.Row.{Row}
 use Rattle.sftp_treefile.specs.Limits.{usual_limits}
@@ -141,12 +142,7 @@ abbrev pub IsFitContent : Content → Type 0
 IsFitContent content = IsOwner content.owner × (length content.bytes ≤ usual_limits.file_bytes) × IsTrue (are_bytes content.bytes)
 
 pub all_at : (P : Content → Type 0) (files : Files) (number : ℕ) (content : Content) → AllByRecursion (λ e. P e.1) files → content_at files number ≡ Some content → P content
-all_at P [] number content all is = absurd (let none : None ≡ Some content = sym (get-empty nat_cmp number) ∙ is in cc)
-all_at P (e ∷ files) number content all is = by (is_eq (nat_cmp number e.0)) (sym (get-cons nat_cmp e files number) ∙ is) (λ more. all_at P files number content all.1 more)
-  where
-    by : (b : Bool) → cond b (Some e.1) (content_at files number) ≡ Some content → (content_at files number ≡ Some content → P content) → P content
-    by true is more = let same : e.1 ≡ content = cc in subst P same all.0
-    by false is more = more is
+all_at P files number content all is = each-get nat_cmp nat_cmp-IsAntisymmetric (λ e. P e.1) files number content all is
 
 -- the rows of the entries behind the root
 abbrev pub rows_below : Files → Owner → Names → List Row

@@ -1,16 +1,36 @@
 -- Worked trees are such that the program may have.
-use Rattle.std.proofs.Common.{[], ◌∷◌, refl, arith}
+use Rattle.std.proofs.Common.{◌≡◌, [], ◌∷◌, refl, sym, arith}
 use Rattle.std.specs.Prelude.{codes}
 use Rattle.sftp_wire.specs.Rows.{hex}
 use Rattle.sftp_path.specs.Place.{components, parts, is_good_path}
+use Rattle.sftp_path.specs.Table.{get}
 use Rattle.sftp_treefile.specs.declared.files.Kind.TheVariants as kinds
 use Rattle.sftp_treefile.specs.declared.files.TreeFile.{TreeFile}
 use Rattle.sftp_treefile.specs.Limits.{usual_limits}
+use Rattle.sftp_treefile.specs.Rows.{blank_bytes}
 use Rattle.sftp_treefile.specs.TreeFile.{has_dir, spelled, IsPlaceText, IsTreeFile, IsSpelled}
 use Rattle.sftp_tree.specs.Tree.{IsKept}
-use Rattle.sftp_tree.specs.Picture.{IsStart}
+use Rattle.sftp_tree.specs.Picture.{IsStart, picture, blank}
 use Rattle.sftp_tree.specs.PictureRows.{user_owner, linked, two_names, two_names_bytes}
-use Rattle.sftp_tree.proofs.PictureFiles.{kept_of_file, start_of_spelled}
+use Rattle.sftp_tree.proofs.PictureFiles.{blank_kept, kept_of_file, start_of_spelled}
+
+-- ---- the root alone
+
+pub blank_picture : picture blank ≡ blank_bytes
+unfolding picture spelled get hex
+blank_picture = refl
+
+pub blank_start : IsStart blank blank_bytes
+blank_start = record {
+  well_formed = blank_kept.well_formed;
+  within_limits = blank_kept.within_limits;
+  trimmed = blank_kept.trimmed;
+  unpinned = refl;
+  numbered = refl;
+  picture_is = sym blank_picture;
+}
+
+-- ---- a directory and a link
 
 linked_file : TreeFile
 linked_file = record {

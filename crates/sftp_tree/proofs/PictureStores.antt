@@ -9,6 +9,7 @@ use Rattle.std.specs.Option.{option_map}
 use Rattle.std.specs.Ordering.{nat_cmp, is_eq, ordering_reverse}
 use Rattle.std.specs.declared.cmp.Ordering.TheVariants.{Less}
 use Rattle.std.specs.Cmp.{nat_cmp_total, nat_cmp_is}
+use Rattle.std.specs.FinMap.{nat_cmp-IsAntisymmetric}
 use Rattle.std.proofs.lemmas.Bool.{eqb-true, eq-eqb, ne_eqb}
 use Rattle.std.proofs.lemmas.Cmp.{ranked}
 use Rattle.std.proofs.lemmas.List.{length-append, append-nil, length-map}
@@ -35,6 +36,7 @@ use Rattle.sftp_tree.specs.declared.nodes.Node.TheVariants.{Dir, File, Link}
 use Rattle.sftp_tree.specs.Tree.{Names, Files, node_at, with_node, is_directory, content_at, names_file, times_named}
 use Rattle.sftp_tree.specs.Stored.{contents, seen, AreCounted}
 use Rattle.sftp_tree.specs.PictureParts.{content_of, contents_of, node_of, only_root, names_of, numbered_from, numbers_from, known_number, known_node, IsKnown, Stores, HaveRoom, with_name, stores_with, IsGrown, tree_of}
+use Rattle.sftp_tree.proofs.KeepTables.{each-get}
 use Rattle.sftp_tree.proofs.PictureLists.{all_both, all_from_map, insert_last}
 use Rattle.sftp_tree.proofs.PictureTables.{later_than_all, row_parent, bare_names}
 use Rattle.sftp_tree.proofs.PictureShapes.{bare, directory_bare, names_bare}
@@ -44,12 +46,8 @@ use Rattle.sftp_tree.proofs.PictureContents.{number_is, numbered_there, each_num
 -- ---- room for a name more
 
 pub room_at : (stores : Stores) (number : ℕ) (s : Stored) → HaveRoom stores → Some s ≡ lookup (is_at (nat_cmp number)) stores → s.names + 1 < 2 ^ 32
-room_at [] number s room is = absurd cc
-room_at (e ∷ stores) number s room is = by (is_eq (nat_cmp number e.0)) is (room_at stores number s room.1)
-  where
-    by : (b : Bool) → Some s ≡ cond b (Some e.1) (lookup (is_at (nat_cmp number)) stores) → (Some s ≡ lookup (is_at (nat_cmp number)) stores → s.names + 1 < 2 ^ 32) → s.names + 1 < 2 ^ 32
-    by true is more = let same : s ≡ e.1 = cc in omega (arith, room.0, ap (λ (x : Stored). x.names) same)
-    by false is more = more is
+unfolding get
+room_at stores number s room is = each-get nat_cmp nat_cmp-IsAntisymmetric (λ e. e.1.names + 1 < 2 ^ 32) stores number s room (sym is)
 
 counted_room : (names : Names) (stores : Stores) → AreCounted names stores → length names + 1 < 2 ^ 32 → HaveRoom stores
 unfolding retain

@@ -26,7 +26,8 @@ use Rattle.sftp_tree.specs.PictureParts.{only_root, head_of, Firsts, with_first,
 use Rattle.sftp_tree.proofs.PictureTables.{IsPlace, IsFitNode}
 use Rattle.sftp_tree.proofs.PictureContents.{number_is}
 use Rattle.sftp_tree.proofs.PictureNamed.{place_text, row_of, one_row, rows_push, IsBelowRoot, IsFitContent, all_at, length-rows}
-use Rattle.sftp_tree.proofs.PictureFiles.{limits_from, usual-entries, split_kept, fit_files}
+use Rattle.sftp_tree.proofs.KeepFits.{stands-of}
+use Rattle.sftp_tree.proofs.PictureFiles.{limits_from, usual-entries, split_tree, fit_files}
 
 -- ---- lengths
 
@@ -39,7 +40,7 @@ bytes_short files number (Some content) fit is = omega (arith, (all_at IsFitCont
 
 pub node_short : (t : Tree) → IsKept t → (standing : Node) → IsFitNode standing → IsShort t.files standing
 node_short t kept (Dir owner) fits = tt
-node_short t kept (File number) fits = bytes_short t.files number (content_at t.files number) (fit_files t kept) refl
+node_short t kept (File number) fits = bytes_short t.files number (content_at t.files number) (fit_files t (stands-of t kept)) refl
 node_short t kept (Link target) fits = target_length target (fits.1, fits.0)
 
 -- ---- one entry more
@@ -77,13 +78,13 @@ pub record Entry (t : Tree) (i : ℕ) (e : Place × Node) : Type 0 where
 
 pub entry_there : (t : Tree) → IsKept t → (i : ℕ) (e : Place × Node) (rest : Names) → drop (suc i) t.names ≡ e ∷ rest → Entry t (suc i) e
 entry_there t kept i e rest is =
-    let s = split_kept t kept in
+    let s = split_tree t (stands-of t kept) in
     let there : drop i s.entries ≡ e ∷ rest = ap (drop (suc i)) (sym s.names_are) ∙ is in
     record {
       below = all_drop IsBelowRoot i s.entries e rest s.below there;
       node = all_drop (λ (q : Place × Node). IsFitNode q.1) i s.entries e rest s.table.nodes.1 there;
       within = drop_within (suc i) t.names e rest is;
-      few = omega (arith, (limits_from t kept.within_limits).entries, usual-entries t kept);
+      few = omega (arith, (limits_from t kept.within_limits).entries, usual-entries t (stands-of t kept));
     }
 
 -- ---- the first names that were met
@@ -175,7 +176,7 @@ written_push t kept start out more firsts new i e rest there w put met =
 -- at its start the root was met, which has no entry
 pub written_start : (t : Tree) → IsKept t → (start : List ℕ) (firsts : Firsts) → firsts ≡ [] → Written t start start firsts 1
 written_start t kept start firsts none =
-    let s = split_kept t kept in
+    let s = split_tree t (stands-of t kept) in
     let root : take 1 t.names ≡ only_root s.root = ap (take 1) s.names_are in
     record {
       out_is = sym (append-nil start) ∙ ap (λ (ns : Names). start ++ flat_map row_text (rows_behind t.files [] ns)) (sym root);
@@ -192,8 +193,8 @@ written_all t start out firsts entry w none =
 -- the root is one of the places
 pub names_count : (t : Tree) → IsKept t → (1 ≤ length t.names) × (length t.names ≤ usual_limits.entries + 1)
 names_count t kept =
-    let s = split_kept t kept in
-    (omega (arith, ap length s.names_are), omega (arith, ap length s.names_are, s.few, usual-entries t kept))
+    let s = split_tree t (stands-of t kept) in
+    (omega (arith, ap length s.names_are), omega (arith, ap length s.names_are, s.few, usual-entries t (stands-of t kept)))
 
 pub home_short : (t : Tree) → IsKept t → length (absolute t.home) < 2 ^ 32
 home_short t kept = path_short t.home (kept.well_formed.home, (limits_from t kept.within_limits).home)
@@ -201,7 +202,7 @@ home_short t kept = path_short t.home (kept.well_formed.home, (limits_from t kep
 pub picture_written : (t : Tree) → IsKept t → picture t ≡ head_bytes (head_of t) ++ flat_map row_text (rows_behind t.files [] t.names)
 unfolding picture
 picture_written t kept =
-    let s = split_kept t kept in
+    let s = split_tree t (stands-of t kept) in
     let count : length (rows_behind t.files [] t.names) ≡ length t.names - 1 =
     omega (arith, ap length (ap (rows_behind t.files []) s.names_are), length-rows t.files (only_root s.root) s.entries s.below, ap length s.names_are) in
     spelled_head (file_of t)

@@ -30,6 +30,7 @@ use Rattle.sftp_tree.proofs.KeepPlaces.{apart-from, nothing-below, alone-there, 
 use Rattle.sftp_tree.proofs.KeepNames.{names-of, names-put, names-owner, names-without, well-formed-names}
 use Rattle.sftp_tree.proofs.KeepValues.{well-formed-content}
 use Rattle.sftp_tree.proofs.KeepMoves.{well-formed-moved, well-formed-in-stead}
+use Rattle.sftp_tree.proofs.KeepFits.{Stands}
 use Rattle.sftp_tree.proofs.KeepTrim.{kept-trim}
 use Rattle.sftp_tree.proofs.CallPlaces.{absent-of}
 use Rattle.sftp_tree.proofs.CauseLed.{target-led}
@@ -186,11 +187,6 @@ well-between t (Hardlink oldpath newpath) old new well leads at_old at_new betwe
 well-between t other old new well leads at_old at_new between = well
 
 -- ---- every request
-
--- a tree within the limits, which may have files with no name
-pub record Stands (t : Tree) : Type 0 where
-  pub well_formed : WellFormed t
-  pub within_limits : IsTrue (fits t)
 
 target-stands-by : (t : Tree) (ask : Ask) (l n : Option (Result Place Cause)) → led t ask ≡ l → new_led t ask ≡ n → LeadsWell t → Stands t → FitsAsk ask → IsFree t ask → Stands (target t ask)
 target-stands-by t ask None n e f leads stands fit free = subst Stands (sym (target-led t ask None n e f)) stands

@@ -23,12 +23,11 @@ use Rattle.sftp_treefile.specs.declared.files.Owner.{Owner}
 use Rattle.sftp_treefile.specs.declared.limits.TreeLimits.{TreeLimits}
 use Rattle.sftp_treefile.specs.Limits.{usual_limits}
 use Rattle.sftp_treefile.specs.TreeFile.{IsOwner}
-use Rattle.sftp_path.proofs.Order.{place_cmp-total}
-use Rattle.sftp_path.proofs.CountLaws.{count-put_again}
 use Rattle.sftp_tree.specs.Attributes.{changed_owner}
 use Rattle.sftp_tree.specs.Steps.{with_changed_file}
 use Rattle.sftp_tree.specs.Stored.{contents, seen, AreCounted, file_named, IsChanged, IsChangedWhereNamed, with_a_name, without_a_name, with_attributes_set}
 use Rattle.sftp_tree.proofs.KeepTables.{each-weaker}
+use Rattle.sftp_tree.proofs.KeepValues.{times_named-owner}
 use Rattle.sftp_tree.proofs.StoredNames.{at-number, one_name, named-put, raised, lowered, counted-again, counted-changed, contents-changed, contents-unchanged}
 
 -- the files are in order where their contents are
@@ -126,9 +125,7 @@ module _ (names : Names) (files : Table ℕ Stored) (made : ℕ) (limits : TreeL
     where
       by : (standing : Option Node) → node_at names place ≡ standing → is_directory standing ≡ true → (number : ℕ) → times_named (with_node names place (Dir owner)) number ≡ times_named names number
       by None there directory number = cc
-      by (Some (Dir before)) there directory number =
-          let n = count-put_again place_cmp place_cmp-total names place (Dir owner) (Dir before) (names_file number) kept.well_formed.ordered there in
-          omega arith
+      by (Some (Dir before)) there directory number = times_named-owner names place before owner number kept.well_formed.ordered there
       by (Some (File other)) there directory number = cc
       by (Some (Link target)) there directory number = cc
 

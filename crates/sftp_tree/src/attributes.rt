@@ -5,6 +5,7 @@ ghost use Rattle.sftp_treefile.specs.TreeFile.{IsOwner};
 ghost use Rattle.sftp_tree.specs.Attributes as spec;
 ghost use Rattle.sftp_tree.specs.Tree as tree;
 
+use crate::file_numbers::FileNo;
 use crate::nodes::Node;
 use crate::owners::changed_owner;
 use crate::trees::Tree;
@@ -60,7 +61,7 @@ impl Tree {
     }
 
     /// What is shown of the file of a number.
-    fn shown_file(&self, number: u32) -> Attrs
+    fn shown_file(&self, number: FileNo) -> Attrs
         requires { IsTrue (is_some (tree.content_at self.now.files number)) }
         ensures { option_map spec.shown_content (tree.content_at self.now.files number) ≡ Some result }
     {

@@ -1,17 +1,12 @@
-//! What files hold, and the files of a tree by their numbers.
-ghost use Rattle.std.specs.Prelude.{◌≡◌, ◌+◌, ◌<◌, ◌^◌, OnOk, OnErr, IfSome, option_copied};
-ghost use Rattle.std.specs.Ordering.{nat_cmp};
-ghost use Rattle.sftp_path.specs.Table.{get};
+//! What files hold.
+ghost use Rattle.std.specs.Prelude.{◌≡◌, OnOk, OnErr};
 ghost use Rattle.sftp_treefile.specs.TreeFile.{IsOwner};
 ghost use Rattle.sftp_tree.specs.Attributes.{resized, changed_owner, changed_content};
-ghost use Rattle.sftp_tree.specs.Stored.{IsChanged, IsChangedWhereNamed, file_named, with_a_name, without_a_name, with_attributes_set};
 
-use crate::nodes::Node;
 use crate::owners::changed_owner;
 use sftp_path::NoMemory;
 use sftp_treefile::Owner;
 use sftp_wire::Attrs;
-use std::collections::BTreeMap;
 use std::marker::Model;
 
 /// The bytes of a file.
@@ -77,66 +72,12 @@ pub struct Stored {
     pub names: u32,
 }
 
-/// The number of the file that what stands at a place is a name of.
-pub(crate) fn file_named(standing: Option<&Node>) -> Option<u32>
-    ensures { result ≡ file_named (option_copied standing.entry) }
-{
-    match standing {
-        Some(Node::File(number)) => Some(*number),
-        _ => None,
-    }
-}
-
-/// Counts a further name of a file, where one is named.
-pub(crate) fn count_name(files: &mut BTreeMap<u32, Stored>, named: Option<u32>)
-    requires { IfSome named (λ number. IfSome (get nat_cmp files.old.entries number) (λ s. s.names + 1 < 2 ^ 32)) }
-    ensures { IsChangedWhereNamed with_a_name named files.old.entries files.new.entries }
-{
-    if let Some(number) = named {
-        raise(files, number);
-    }
-}
-
-/// Counts a name less of a file, where one is named. The file goes with its last name.
-pub(crate) fn forget_name(files: &mut BTreeMap<u32, Stored>, named: Option<u32>)
-    requires { IfSome named (λ number. IfSome (get nat_cmp files.old.entries number) (λ s. 0 < s.names)) }
-    ensures { IsChangedWhereNamed without_a_name named files.old.entries files.new.entries }
-{
-    if let Some(number) = named {
-        lower(files, number);
-    }
-}
-
-/// A file gets a further name.
-fn raise(files: &mut BTreeMap<u32, Stored>, number: u32)
-    requires { IfSome (get nat_cmp files.old.entries number) (λ s. s.names + 1 < 2 ^ 32) }
-    ensures { IsChanged with_a_name number files.old.entries files.new.entries }
-{
-    if let Some(stored) = files.get_mut(&number) {
-        stored.names += 1;
-    }
-}
-
-/// A file loses a name, and goes with the last one.
-fn lower(files: &mut BTreeMap<u32, Stored>, number: u32)
-    requires { IfSome (get nat_cmp files.old.entries number) (λ s. 0 < s.names) }
-    ensures { IsChanged without_a_name number files.old.entries files.new.entries }
-{
-    let Some(stored) = files.get_mut(&number) else {
-        return;
-    };
-    stored.names -= 1;
-    if stored.names == 0 {
-        files.remove(&number);
-    }
-}
-
 /// Sets the attributes of a file: its size, its owner and the low twelve bits of its permissions, each where it is given.
 ///
 /// # Errors
 ///
 /// `NoMemory` where memory runs out; the file is then as before.
-fn change(content: &mut Content, attrs: &Attrs) -> Result<(), NoMemory>
+pub(crate) fn change(content: &mut Content, attrs: &Attrs) -> Result<(), NoMemory>
     requires { IsOwner content.old.owner }
     ensures ok { OnOk result (content.new ≡ changed_content attrs.now content.old) }
     ensures owned { OnOk result (IsOwner (changed_owner attrs.now content.old.owner)) }
@@ -146,28 +87,5 @@ fn change(content: &mut Content, attrs: &Attrs) -> Result<(), NoMemory>
         content.bytes.resize(size as usize)?;
     }
     content.owner = changed_owner(attrs, content.owner);
-    Ok(())
-}
-
-/// Sets the attributes of the file of a number, where there is one.
-///
-/// # Errors
-///
-/// `NoMemory` where memory runs out; the files are then as before.
-pub(crate) fn change_at(
-    files: &mut BTreeMap<u32, Stored>,
-    number: u32,
-    attrs: &Attrs,
-) -> Result<(), NoMemory>
-    requires { IfSome (get nat_cmp files.old.entries number) (λ s. IsOwner s.content.owner) }
-    ensures ok { OnOk result
-        (IsChanged (with_attributes_set attrs.now) number files.old.entries files.new.entries) }
-    ensures owned { OnOk result
-        (IfSome (get nat_cmp files.old.entries number) (λ s. IsOwner (changed_owner attrs.now s.content.owner))) }
-    ensures err { OnErr result (files.new.entries ≡ files.old.entries) }
-{
-    if let Some(stored) = files.get_mut(&number) {
-        change(&mut stored.content, attrs)?;
-    }
     Ok(())
 }

@@ -6,6 +6,8 @@ mod attributes;
 mod causes;
 mod contents;
 mod entries;
+mod file_numbers;
+mod files;
 mod judging;
 pub mod keeping;
 pub mod laws;
@@ -23,5 +25,6 @@ pub mod walk_rows;
 mod walking;
 
 pub use causes::{Cause, Causes, Refused};
+pub use file_numbers::FileNo;
 pub use sftp_treefile::{NoMemory, TreeError, TreeLimits};
 pub use trees::Tree;

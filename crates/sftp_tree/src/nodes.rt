@@ -1,4 +1,8 @@
 //! What stands at a place.
+ghost use Rattle.std.specs.Prelude.{◌≡◌, option_copied};
+ghost use Rattle.sftp_tree.specs.Stored.{file_named};
+
+use crate::file_numbers::FileNo;
 use sftp_treefile::Owner;
 use sftp_wire::ByteString;
 
@@ -8,7 +12,17 @@ pub enum Node {
     /// A directory.
     Dir(Owner),
     /// A name of the file of this number.
-    File(u32),
+    File(FileNo),
     /// A symbolic link, with its target.
     Link(ByteString),
+}
+
+/// The number of the file that what stands at a place is a name of.
+pub(crate) fn file_named(standing: Option<&Node>) -> Option<FileNo>
+    ensures { result ≡ file_named (option_copied standing.entry) }
+{
+    match standing {
+        Some(Node::File(number)) => Some(*number),
+        _ => None,
+    }
 }

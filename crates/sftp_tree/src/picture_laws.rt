@@ -1,27 +1,36 @@
 //! Laws of trees and their tree files, as theorems on the definitions that the contracts name. The functions do
 //! nothing; each promise is in the contract.
-ghost use Rattle.std.specs.Prelude.{◌≡◌, ◌++◌, ℕ, List, length};
-ghost use Rattle.sftp_tree.specs.Tree.{Tree, IsKept};
+ghost use Rattle.std.specs.Prelude.{◌≡◌, ◌++◌, ℕ, List, length, IsTrue};
+ghost use Rattle.sftp_treefile.specs.Rows.{blank_bytes};
+ghost use Rattle.sftp_treefile.specs.TreeFile.{IsSpelled};
+ghost use Rattle.sftp_treefile.specs.declared.files.TreeFile.{TreeFile};
+ghost use Rattle.sftp_tree.specs.Tree.{Tree, WellFormed, IsKept, fits};
 ghost use Rattle.sftp_tree.specs.Picture.{IsStart, file_of, picture, blank};
 ghost use Rattle.sftp_tree.specs.PictureParts.{tree_of};
-ghost use Rattle.sftp_tree.specs.PictureRows.{blank_bytes, linked, linked_front, linked_root, linked_directory, linked_link, two_names, two_names_bytes};
+ghost use Rattle.sftp_tree.specs.PictureRows.{linked, linked_front, linked_root, linked_directory, linked_link, two_names, two_names_bytes};
 
 /// Bytes are the tree file of one tree.
 pub fn starts_are_one()
     ensures { (t u : Tree) (bytes : List ℕ) → IsStart t bytes → IsStart u bytes → t ≡ u }
 {}
 
-/// The tree file of a tree that the program may have is that of the same tree with its files numbered from 0 in the order of
-/// their first names.
+/// The tree file of a tree within the limits is that of the same tree with its files numbered from 0 in the order of their first
+/// names, without those that have none.
 pub fn pictures_are_starts()
-    ensures { (t : Tree) → IsKept t → IsStart (tree_of (file_of t)) (picture t) }
+    ensures { (t : Tree) → WellFormed t → IsTrue (fits t) → IsStart (tree_of (file_of t)) (picture t) }
+{}
+
+/// The tree of a tree file by the grammar is a start, and the tree file of a start is one by the grammar.
+pub fn starts_have_tree_files()
+    ensures start { (file : TreeFile) (bytes : List ℕ) → IsSpelled file bytes → IsStart (tree_of file) bytes }
+    ensures file { (t : Tree) (bytes : List ℕ) → IsStart t bytes → IsSpelled (file_of t) bytes }
 {}
 
 /// The tree of nothing but a root is one that the program may have, and these 37 bytes are its tree file.
-#[tactic(auto, unfolding(crate::specs::Picture::picture, sftp_treefile::specs::TreeFile::spelled, sftp_path::specs::Table::get))]
 pub fn blank_is_a_start()
     ensures kept { IsKept blank }
     ensures bytes { picture blank ≡ blank_bytes }
+    ensures start { IsStart blank blank_bytes }
 {}
 
 /// A tree with a directory and a link to it is one that the program may have, and these 69 bytes are its tree file.

@@ -10,12 +10,12 @@ mod tests;
 mod writing;
 
 use crate::entries::Entries;
+use crate::files::Files;
 use crate::trees::Tree;
 use reading::tree_of;
 use sftp_path::{NoMemory, Place};
 use sftp_treefile::{Owner, TreeError, read_rows, usual_limits};
 use std::alloc::Global;
-use std::collections::BTreeMap;
 use writing::picture_of;
 
 impl Tree {
@@ -34,7 +34,7 @@ impl Tree {
             permissions: 0o755,
         };
         let names = Entries::root(alloc, owner)?;
-        let files = BTreeMap::new(alloc);
+        let files = Files::new(alloc);
         let home = Place::root(alloc);
         Ok(Tree::from_parts(names, files, 0, usual_limits(), home, (0, 0)))
     }

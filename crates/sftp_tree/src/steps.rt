@@ -13,6 +13,7 @@ ghost use Rattle.sftp_tree.specs.Sets.{IsFree, IsRefusal, stat_ask};
 ghost use Rattle.sftp_tree.specs.Judged as judged;
 
 use crate::causes::{Cause, Refused};
+use crate::file_numbers::FileNo;
 use crate::judging::is_target;
 use crate::keeping::{nothing_below, trimmed_already};
 use crate::led::{causes_where_led, causes_where_lost};
@@ -296,7 +297,7 @@ impl Tree {
 
     /// The number of the file that a place is a name of.
     #[tactic(auto, unfolding(sftp_path::specs::Table::get))]
-    fn file_at(&self, place: &Place) -> u32
+    fn file_at(&self, place: &Place) -> FileNo
         requires { IsTrue (tree.is_file (tree.node_at self.now.names place.now)) }
         ensures { tree.node_at self.now.names place.now ≡ Some (File result) }
     {

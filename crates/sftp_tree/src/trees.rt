@@ -3,20 +3,21 @@ ghost use Rattle.std.specs.Prelude.{◌≡◌, false, None, option_copied, OnOk,
 ghost use Rattle.sftp_path.specs.Place.{are_names, parent};
 ghost use Rattle.sftp_treefile.specs.TreeFile.{IsOwner, is_root, same_place};
 
-use crate::contents::{Content, Stored, change_at, count_name, file_named, forget_name};
+use crate::contents::Content;
 use crate::entries::Entries;
-use crate::nodes::Node;
+use crate::file_numbers::FileNo;
+use crate::files::Files;
+use crate::nodes::{Node, file_named};
 use sftp_path::{NoMemory, Place};
 use sftp_treefile::{Owner, TreeLimits};
 use sftp_wire::Attrs;
-use std::collections::BTreeMap;
 use std::marker::Model;
 
 /// A tree of directories, files and symbolic links, within the limits.
 #[derive(Debug, Drop)]
 pub struct Tree {
     names: Entries,
-    files: BTreeMap<u32, Stored>,
+    files: Files,
     made: u32,
     limits: TreeLimits,
     home: Place,
@@ -30,10 +31,10 @@ impl Model for Tree {
 
     ghost Value = { tree.Tree };
 
-    ghost view = { λ t. stored.seen t.names t.files.entries t.made t.limits t.home t.uid t.gid };
+    ghost view = { λ t. stored.seen t.names t.files t.made t.limits t.home t.uid t.gid };
 
-    ghost invariant = { λ t. tree.IsKept (stored.seen t.names t.files.entries t.made t.limits t.home t.uid t.gid)
-        × stored.AreCounted t.names t.files.entries };
+    ghost invariant = { λ t. tree.IsKept (stored.seen t.names t.files t.made t.limits t.home t.uid t.gid)
+        × stored.AreCounted t.names t.files };
 }
 
 impl Tree {
@@ -45,15 +46,15 @@ impl Tree {
     /// A tree of these parts. It takes no memory.
     pub(crate) fn from_parts(
         names: Entries,
-        files: BTreeMap<u32, Stored>,
+        files: Files,
         made: u32,
         limits: TreeLimits,
         home: Place,
         owner: (u32, u32),
     ) -> Tree
-        requires kept { tree.IsKept (stored.seen names files.entries made limits home owner.0 owner.1) }
-        requires counted { stored.AreCounted names files.entries }
-        ensures { result ≡ stored.seen names files.entries made limits home owner.0 owner.1 }
+        requires kept { tree.IsKept (stored.seen names files made limits home owner.0 owner.1) }
+        requires counted { stored.AreCounted names files }
+        ensures { result ≡ stored.seen names files made limits home owner.0 owner.1 }
     {
         let (uid, gid) = owner;
         Tree {
@@ -76,16 +77,15 @@ impl Tree {
     }
 
     /// The file of a number.
-    pub(crate) fn content(&self, number: u32) -> Option<&Content>
+    pub(crate) fn content(&self, number: FileNo) -> Option<&Content>
         ensures { option_copied result ≡ tree.content_at self.now.files number }
     {
-        let stored = self.files.get(&number)?;
-        Some(&stored.content)
+        self.files.get(number)
     }
 
     /// The files, by their numbers.
-    pub(crate) fn files(&self) -> &BTreeMap<u32, Stored>
-        ensures { stored.contents result.now.entries ≡ self.now.files }
+    pub(crate) fn files(&self) -> &Files
+        ensures { stored.contents result.now ≡ self.now.files }
     {
         &self.files
     }
@@ -135,7 +135,7 @@ impl Tree {
     {
         let named = file_named(Some(&node));
         self.names.put(place, node)?;
-        count_name(&mut self.files, named);
+        self.files.count_name(named);
         Ok(())
     }
 
@@ -148,7 +148,7 @@ impl Tree {
         ensures { self.new ≡ tree.trim (record self.old { names = tree.without_node self.old.names place.now }) }
     {
         let gone = self.names.remove(place);
-        forget_name(&mut self.files, file_named(gone.as_ref()));
+        self.files.forget_name(file_named(gone.as_ref()));
     }
 
     /// Moves what stands at the old place, with all below it, to the new one, in the stead of what stands there; a file goes with
@@ -171,7 +171,7 @@ impl Tree {
         ensures err { OnErr result (self.new ≡ self.old) }
     {
         let gone = self.names.move_node(old, new)?;
-        forget_name(&mut self.files, file_named(gone.as_ref()));
+        self.files.forget_name(file_named(gone.as_ref()));
         Ok(())
     }
 
@@ -190,13 +190,13 @@ impl Tree {
     /// # Errors
     ///
     /// `NoMemory` where memory runs out; the tree is then as before.
-    pub(crate) fn change_file(&mut self, number: u32, attrs: &Attrs) -> Result<(), NoMemory>
+    pub(crate) fn change_file(&mut self, number: FileNo, attrs: &Attrs) -> Result<(), NoMemory>
         requires { IsTrue (tree.fits (steps.with_changed_file self.old attrs.now number (tree.content_at self.old.files number))) }
         ensures ok { OnOk result
             (self.new ≡ tree.trim (steps.with_changed_file self.old attrs.now number (tree.content_at self.old.files number))) }
         ensures err { OnErr result (self.new ≡ self.old) }
     {
-        change_at(&mut self.files, number, attrs)?;
+        self.files.change_at(number, attrs)?;
         Ok(())
     }
 }

@@ -1,10 +1,8 @@
 //! How many bytes a tree file takes, at most, found before memory is asked for. A number that does not fit is the largest that
 //! does.
-use crate::contents::Stored;
 use crate::nodes::Node;
 use crate::trees::Tree;
 use sftp_path::Place;
-use std::collections::BTreeMap;
 
 /// The opening, the user, the group, the count, and the owner of the root.
 const HEAD: usize = 32;
@@ -33,18 +31,11 @@ fn node_size(node: &Node) -> usize {
     }
 }
 
-/// The bytes of the files.
-fn bytes_size(files: &BTreeMap<u32, Stored>) -> usize {
-    let mut size: usize = 0;
-    for stored in files.values() {
-        size = size.saturating_add(stored.content.bytes.as_slice().len());
-    }
-    size
-}
-
 /// How many bytes the tree file takes, at most.
 pub(super) fn file_size(tree: &Tree) -> usize {
-    let mut size = bytes_size(tree.files())
+    let mut size = tree
+        .files()
+        .size()
         .saturating_add(HEAD)
         .saturating_add(path_size(tree.home()));
     for (place, node) in tree.names().iter() {

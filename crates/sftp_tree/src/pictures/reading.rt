@@ -1,19 +1,18 @@
 //! From what a tree file says to its tree.
 ghost use Rattle.std.specs.Prelude.{◌≡◌, ◌≤◌, [], length, IfOk, OnOk};
-ghost use Rattle.std.specs.Ordering.{nat_cmp};
-ghost use Rattle.sftp_path.specs.Table.{get};
 ghost use Rattle.sftp_treefile.specs.Limits.{usual_limits};
 ghost use Rattle.sftp_treefile.specs.TreeFile.{place_of, IsPlaceText, IsOwner, AreRows, IsTreeFile};
 ghost use Rattle.sftp_tree.specs.PictureParts as parts;
 
-use crate::contents::{Content, FileBytes, Stored};
+use crate::contents::{Content, FileBytes};
 use crate::entries::Entries;
+use crate::file_numbers::FileNo;
+use crate::files::Files;
 use crate::nodes::Node;
 use crate::trees::Tree;
 use sftp_path::{NoMemory, Place, canonical};
 use sftp_treefile::{Kind, Owner, Row, TreeFile};
 use std::alloc::Global;
-use std::collections::BTreeMap;
 
 /// The place that this is the absolute text of.
 fn place_of(alloc: Global, text: &[u8]) -> Result<Place, NoMemory>
@@ -26,42 +25,30 @@ fn place_of(alloc: Global, text: &[u8]) -> Result<Place, NoMemory>
     }
 }
 
-/// Counts a name more of a file.
-#[tactic(auto, unfolding(sftp_path::specs::Table::get))]
-fn count_further_name(files: &mut BTreeMap<u32, Stored>, number: u32)
-    requires { parts.HaveRoom files.old.entries }
-    ensures { files.new.entries ≡ parts.with_name files.old.entries number (get nat_cmp files.old.entries number) }
-{
-    if let Some(stored) = files.get_mut(&number) {
-        stored.names += 1;
-    }
-}
-
 /// What an entry is, as what stands at a place. A file that comes with it is put among the others, and a further name is counted:
 /// `numbers` has for each entry before it the number that its file has, if it comes with one.
-#[tactic(auto, unfolding(sftp_path::specs::Table::put))]
 fn node_of(
-    files: &mut BTreeMap<u32, Stored>,
-    numbers: &[u32],
-    next: u32,
+    files: &mut Files,
+    numbers: &[FileNo],
+    next: FileNo,
     kind: Kind,
 ) -> Result<Node, NoMemory>
     requires known { parts.IsKnown numbers.now kind }
-    requires room { parts.HaveRoom files.old.entries }
+    requires room { parts.HaveRoom files.old }
     ensures node { IfOk result (λ node. node ≡ parts.known_node numbers.now next kind) }
-    ensures files { OnOk result (files.new.entries ≡ parts.stores_with files.old.entries numbers.now next kind) }
+    ensures files { OnOk result (files.new ≡ parts.stores_with files.old numbers.now next kind) }
 {
     match kind {
         Kind::Dir(owner) => Ok(Node::Dir(owner)),
         Kind::First(owner, bytes) => {
             let bytes = FileBytes::new(bytes.into_vec());
             let content = Content { owner, bytes };
-            files.insert(next, Stored { content, names: 1 })?;
+            files.put(next, content)?;
             Ok(Node::File(next))
         }
         Kind::Further(entry) => {
             let number = numbers[entry as usize - 1];
-            count_further_name(files, number);
+            files.count_further_name(number);
             Ok(Node::File(number))
         }
         Kind::Link(target) => Ok(Node::Link(target)),
@@ -72,7 +59,7 @@ fn node_of(
 #[derive(Drop)]
 struct Grown {
     names: Entries,
-    files: BTreeMap<u32, Stored>,
+    files: Files,
 }
 
 /// What stands at each place, and the files: the root, and what entries say.
@@ -80,14 +67,15 @@ fn grow(alloc: Global, root: Owner, rows: Vec<Row>) -> Result<Grown, NoMemory>
     requires root { IsOwner root }
     requires rows { AreRows usual_limits [] rows.items }
     requires count { length rows.items ≤ usual_limits.entries }
-    ensures { IfOk result (λ g. parts.IsGrown root rows.items g.names g.files.entries) }
+    ensures { IfOk result (λ g. parts.IsGrown root rows.items g.names g.files) }
 {
     let mut names = Entries::root(alloc, root)?;
-    let mut files = BTreeMap::new(alloc);
+    let mut files = Files::new(alloc);
     let mut numbers = Vec::new(alloc);
     for row in rows {
         let place = place_of(alloc, row.path.as_slice())?;
-        let next = files.len() as u32;
+        let made = files.len() as u32;
+        let next = FileNo::new(made);
         let node = node_of(&mut files, &numbers, next, row.kind)?;
         numbers.push(next)?;
         names.put(place, node)?;

@@ -13,6 +13,7 @@ ghost use Rattle.sftp_tree.specs.PictureParts as parts;
 
 use super::measuring::file_size;
 use crate::entries::Entries;
+use crate::file_numbers::FileNo;
 use crate::nodes::Node;
 use crate::trees::Tree;
 use sftp_path::{NoMemory, Place, absolute};
@@ -61,11 +62,11 @@ fn put_front(out: &mut Vec<u8>, tree: &Tree) -> Result<(), NoMemory>
 #[tactic(auto, unfolding(sftp_path::specs::Table::get, sftp_path::specs::Table::put))]
 fn put_name(
     out: &mut Vec<u8>,
-    firsts: &mut BTreeMap<u32, u32>,
+    firsts: &mut BTreeMap<FileNo, u32>,
     tree: &Tree,
     path: &[u8],
     entry: u32,
-    number: u32,
+    number: FileNo,
 ) -> Result<(), NoMemory>
     requires path { length path.now < 2 ^ 32 }
     requires file { IfSome (content_at tree.now.files number) (λ (c : content). length c.bytes < 2 ^ 32) }
@@ -89,7 +90,7 @@ fn put_name(
 /// Appends an entry below the root.
 fn put_entry(
     out: &mut Vec<u8>,
-    firsts: &mut BTreeMap<u32, u32>,
+    firsts: &mut BTreeMap<FileNo, u32>,
     tree: &Tree,
     entry: u32,
     place: &Place,

@@ -1,7 +1,13 @@
--- The root alone.
-use Rattle.sftp_tree.specs.Picture.{blank}
-use Rattle.sftp_audit.proofs.BlankTree.{blank_start}
+use Rattle.std.proofs.Common.{refl, sym}
 use Rattle.sftp_audit.proofs.blank.blank_tree_is_a_start.Goals as goal
 
 pub returns : goal.returns
-returns c = (blank, blank_start)
+returns c =
+    let kept = c.blank_is_a_start.ensures.kept in
+    record {
+      well_formed = kept.well_formed;
+      within_limits = kept.within_limits;
+      trimmed = kept.trimmed;
+      numbered = refl;
+      picture_is = sym c.blank_is_a_start.ensures.bytes;
+    }

@@ -1,4 +1,4 @@
-use Rattle.sftp_audit.proofs.StepLaws.{allowed-one_end, explained-one_end}
+use Rattle.sftp_audit.proofs.steps.StepLaws.{allowed-one_end, explained-one_end}
 use Rattle.sftp_audit.proofs.laws.one_end.Goals as goal
 
 pub returns : goal.returns

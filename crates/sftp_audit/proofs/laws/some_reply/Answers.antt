@@ -1,4 +1,4 @@
-use Rattle.sftp_audit.proofs.Answerable.{some_allowed}
+use Rattle.sftp_audit.proofs.answers.AllowedReplies.{some_allowed}
 use Rattle.sftp_audit.proofs.laws.some_reply.Goals as goal
 
 pub returns : goal.returns

@@ -1,5 +1,5 @@
 use Rattle.sftp_wire.proofs.StreamLaws.Front.{spellings-apart}
-use Rattle.sftp_audit.proofs.OneRecord.{records_are_one_lem}
+use Rattle.sftp_audit.proofs.transcripts.OneRecord.{records_are_one_lem}
 use Rattle.sftp_audit.proofs.records.records_are_one.Goals as goal
 
 pub returns : goal.returns

@@ -1,7 +1,7 @@
 -- Each turn reads the one event that can be in front.
 use Rattle.std.proofs.Common.{arith}
 use Rattle.std.proofs.lemmas.Result.{err_from_is_err_and}
-use Rattle.sftp_audit.proofs.RecordLaws.{IsRead-next, IsRead-refused, IsRead-only}
+use Rattle.sftp_audit.proofs.transcripts.Reading.{IsRead-next, IsRead-refused, IsRead-only}
 use Rattle.sftp_audit.proofs.records.take_events.Goals as goal
 
 pub returns-in_err-event-clause-only : goal.returns-in_err-event-clause-only

@@ -1,5 +1,5 @@
 use Rattle.std.proofs.Common.{length}
-use Rattle.sftp_audit.proofs.RecordLaws.{IsRead}
+use Rattle.sftp_audit.proofs.transcripts.Reading.{IsRead}
 use Rattle.sftp_audit.proofs.records.take_events.Given as goal
 
 abbrev pub invariant-records : goal.invariant-records

@@ -1,5 +1,6 @@
 use Rattle.sftp_tree.proofs.PictureFiles.{blank_kept}
+use Rattle.sftp_tree.proofs.PictureRows.{blank_picture, blank_start}
 use Rattle.sftp_tree.proofs.picture_laws.blank_is_a_start.Goals as goal
 
-pub returns-clause-kept : goal.returns-clause-kept
-returns-clause-kept c = blank_kept
+pub returns : goal.returns
+returns c = record { kept = blank_kept; bytes = blank_picture; start = blank_start }

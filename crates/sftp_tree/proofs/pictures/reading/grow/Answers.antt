@@ -18,7 +18,7 @@ loop-row-init c =
       few = rw gives.0 c.requires.count;
       before = tt;
       rows = subst (AreRows usual_limits []) (sym gives.0) c.requires.rows;
-      grown = grown_root c.args.root c.in_ok-names.names c.new-files.result.entries c.in_ok-names.ensures c.new-files.ensures.empty;
+      grown = grown_root c.args.root c.in_ok-names.names c.new-files.result c.in_ok-names.ensures c.new-files.ensures;
       numbers = c.new-numbers.ensures.items;
     }
 
@@ -27,10 +27,10 @@ place_of-requires c =
     let left = subst (AreRows usual_limits c.loop-row.yielded) c.in-Some.ensures.steps.0 c.loop-row.invariant.rows in
     subst IsPlaceText (sym c.as_slice.ensures) left.0.path
 
-pub overflow_cast-next : goal.overflow_cast-next
-overflow_cast-next c =
+pub overflow_cast-made : goal.overflow_cast-made
+overflow_cast-made c =
     let at = c.loop-row in
-    omega (arith, c.len-next.ensures.len, next_fits c.args.root at.yielded (into_iter_items at.row-iterator) at.names at.files.entries at.invariant.grown at.invariant.few)
+    omega (arith, c.len-made.ensures, next_fits c.args.root at.yielded (into_iter_items at.row-iterator) at.names at.files at.invariant.grown at.invariant.few)
 
 pub node_of-requires-clause-known : goal.node_of-requires-clause-known
 node_of-requires-clause-known c =
@@ -40,7 +40,7 @@ node_of-requires-clause-known c =
 pub node_of-requires-clause-room : goal.node_of-requires-clause-room
 node_of-requires-clause-room c =
     let at = c.loop-row in
-    grown_room c.args.root at.yielded at.names at.files.entries at.invariant.grown (omega (arith, at.invariant.few, length-append at.yielded (into_iter_items at.row-iterator)))
+    grown_room c.args.root at.yielded at.names at.files at.invariant.grown (omega (arith, at.invariant.few, length-append at.yielded (into_iter_items at.row-iterator)))
 
 pub put-requires-clause-absent : goal.put-requires-clause-absent
 put-requires-clause-absent c =
@@ -61,16 +61,16 @@ loop-row-preserved c =
     let steps : into_iter_items at.row-iterator ≡ row ∷ into_iter_items c.next.new.self = c.in-Some.ensures.steps.0 in
     let left : AreRows usual_limits at.yielded (row ∷ into_iter_items c.next.new.self) = subst (AreRows usual_limits at.yielded) steps at.invariant.rows in
     let numbers = c.deref.ensures.value ∙ at.invariant.numbers in
-    let next = c.len-next.ensures.len ∙ many_files c.args.root at.yielded at.names at.files.entries at.invariant.grown in
+    let next = c.new-next.ensures ∙ c.len-made.ensures ∙ many_files c.args.root at.yielded at.names at.files at.invariant.grown in
     record {
       items = append_assoc at.yielded (row ∷ []) (into_iter_items c.next.new.self) ∙ rw (← steps) at.invariant.items;
       count = let gone = c.in-Some.ensures.steps.1 in let short = ap length steps in let was = at.invariant.count in omega arith;
       few = rw append_assoc (rw (← steps) at.invariant.few);
       before = rows_join [] at.yielded (row ∷ []) at.invariant.before (left.0, tt);
       rows = left.1;
-      grown = grown_push c.args.root at.yielded row at.names c.put.new.self at.files.entries c.node_of.new.files.entries c.deref.result.now c.len-next.result c.in_ok-place.place c.in_ok-node.node
+      grown = grown_push c.args.root at.yielded row at.names c.put.new.self at.files c.node_of.new.files c.deref.result.now c.new-next.result c.in_ok-place.place c.in_ok-node.node
           at.invariant.before left.0 at.invariant.grown numbers next (c.in_ok-place.ensures ∙ ap place_of c.as_slice.ensures) c.in_ok-node.ensures.node c.in_ok-put.ensures.ok c.in_ok-node.ensures.files;
-      numbers = numbers_grow at.yielded row at.numbers.items c.push.new.self.items c.len-next.result c.in_ok-push.ensures.items at.invariant.numbers next;
+      numbers = numbers_grow at.yielded row at.numbers.items c.push.new.self.items c.new-next.result c.in_ok-push.ensures.items at.invariant.numbers next;
     }
 
 pub returns : goal.returns
@@ -78,4 +78,4 @@ returns c =
     let at = c.loop-row in
     let none : into_iter_items at.row-iterator ≡ [] = nil_from_length (into_iter_items at.row-iterator) (sym at.invariant.count ∙ c.in-None.ensures.steps.0) in
     let all = sym (append-nil at.yielded) ∙ rw none at at.invariant.items ∙ c.into_iter-row-iterator.ensures.into_iter_gives.0 in
-    subst (λ rs. IsGrown c.args.root rs at.names at.files.entries) all at.invariant.grown
+    subst (λ rs. IsGrown c.args.root rs at.names at.files) all at.invariant.grown

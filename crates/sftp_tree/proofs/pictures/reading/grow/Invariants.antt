@@ -13,6 +13,6 @@ invariant-loop-row l = record {
   few : length (l.yielded ++ into_iter_items l.row-iterator) ≤ usual_limits.entries;
   before : AreRows usual_limits [] l.yielded;
   rows : AreRows usual_limits l.yielded (into_iter_items l.row-iterator);
-  grown : parts.IsGrown l.fn.root l.yielded l.names l.files.entries;
+  grown : parts.IsGrown l.fn.root l.yielded l.names l.files;
   numbers : l.numbers.items ≡ parts.numbers_from 0 l.yielded;
 }

@@ -10,13 +10,13 @@ use Rattle.sftp_tree.proofs.pictures.reading.tree_of.Goals as goal
 pub overflow_cast-made : goal.overflow_cast-made
 overflow_cast-made c =
     let rows = c.into_vec.result.items in
-    omega (arith, c.len-made.ensures.len, many_files c.args.file.root rows c.in_ok-names.field-0.names c.in_ok-names.field-0.files.entries c.in_ok-names.ensures, made_few rows, ap length c.into_vec.ensures, c.requires.count)
+    omega (arith, c.len-made.ensures, many_files c.args.file.root rows c.in_ok-names.field-0.names c.in_ok-names.field-0.files c.in_ok-names.ensures, made_few rows, ap length c.into_vec.ensures, c.requires.count)
 
 pub from_parts-requires-clause-kept : goal.from_parts-requires-clause-kept
 from_parts-requires-clause-kept c =
-    let same = tree_grown c.args.file c.into_vec.result.items c.in_ok-names.field-0.names c.in_ok-names.field-0.files.entries c.len-made.result c.in_ok-home.home c.into_vec.ensures c.in_ok-names.ensures c.len-made.ensures.len (c.in_ok-home.ensures ∙ ap place_of c.as_slice.ensures) in
+    let same = tree_grown c.args.file c.into_vec.result.items c.in_ok-names.field-0.names c.in_ok-names.field-0.files c.len-made.result c.in_ok-home.home c.into_vec.ensures c.in_ok-names.ensures c.len-made.ensures (c.in_ok-home.ensures ∙ ap place_of c.as_slice.ensures) in
     subst IsKept (sym same) (kept_of_file c.args.file c.requires)
 
 pub returns : goal.returns
 returns c =
-    c.from_parts.ensures ∙ tree_grown c.args.file c.into_vec.result.items c.in_ok-names.field-0.names c.in_ok-names.field-0.files.entries c.len-made.result c.in_ok-home.home c.into_vec.ensures c.in_ok-names.ensures c.len-made.ensures.len (c.in_ok-home.ensures ∙ ap place_of c.as_slice.ensures)
+    c.from_parts.ensures ∙ tree_grown c.args.file c.into_vec.result.items c.in_ok-names.field-0.names c.in_ok-names.field-0.files c.len-made.result c.in_ok-home.home c.into_vec.ensures c.in_ok-names.ensures c.len-made.ensures (c.in_ok-home.ensures ∙ ap place_of c.as_slice.ensures)

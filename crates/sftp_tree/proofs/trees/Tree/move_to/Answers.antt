@@ -25,10 +25,10 @@ move_node-requires-clause-apart c =
 
 pub forget_name-requires : goal.forget_name-requires
 forget_name-requires c =
-    name-to-lose (seen c.self.inside.names c.self.inside.files.entries c.self.inside.made c.self.inside.limits c.self.inside.home c.self.inside.uid c.self.inside.gid) c.self.inside.files.entries c.self.invariant.0.trimmed refl refl c.self.invariant.1 c.file_named.result
+    name-to-lose (seen c.self.inside.names c.self.inside.files c.self.inside.made c.self.inside.limits c.self.inside.home c.self.inside.uid c.self.inside.gid) c.self.inside.files c.self.invariant.0.trimmed refl refl c.self.invariant.1 c.file_named.result
 
 -- the tree afterwards, and its counts
-parts : (c : goal.Joined-gone) → (seen c.move_node.new.self c.forget_name.new.files.entries c.self.inside.made c.self.inside.limits c.self.inside.home c.self.inside.uid c.self.inside.gid ≡ trim (put_in_its_stead c.args.self.now c.args.old.now c.args.new)) × AreCounted c.move_node.new.self c.forget_name.new.files.entries
+parts : (c : goal.Joined-gone) → (seen c.move_node.new.self c.forget_name.new.self c.self.inside.made c.self.inside.limits c.self.inside.home c.self.inside.uid c.self.inside.gid ≡ trim (put_in_its_stead c.args.self.now c.args.old.now c.args.new)) × AreCounted c.move_node.new.self c.forget_name.new.self
 parts c =
     let names = c.self.inside.names in
     let old = c.args.old.now in
@@ -38,9 +38,9 @@ parts c =
     let less : (number : ℕ) → times_named c.move_node.new.self number + one_name gone number ≡ times_named names number =
     λ number. ap (λ ns. times_named ns number + one_name gone number) is ∙ named-moved names old new c.self.invariant.0.well_formed.ordered (alone _ c.args.self.now new c.self.view_is c.requires.alone) gone refl number in
     let named : c.file_named.result ≡ file_named gone = c.file_named.ensures ∙ ap file_named (c.as_ref.ensures.value ∙ c.in_ok-gone.ensures.gone) in
-    let changed = subst (λ named. IsChangedWhereNamed without_a_name named c.self.inside.files.entries c.forget_name.new.files.entries) named c.forget_name.ensures in
-    let both = left-parts names c.self.inside.files.entries c.self.inside.made c.self.inside.limits c.self.inside.home c.self.inside.uid c.self.inside.gid c.self.invariant.0 c.self.invariant.1 gone c.move_node.new.self c.forget_name.new.files.entries less changed in (
-      both.0 ∙ ap (λ ns. trim (seen ns c.self.inside.files.entries c.self.inside.made c.self.inside.limits c.self.inside.home c.self.inside.uid c.self.inside.gid)) is
+    let changed = subst (λ named. IsChangedWhereNamed without_a_name named c.self.inside.files c.forget_name.new.self) named c.forget_name.ensures in
+    let both = left-parts names c.self.inside.files c.self.inside.made c.self.inside.limits c.self.inside.home c.self.inside.uid c.self.inside.gid c.self.invariant.0 c.self.invariant.1 gone c.move_node.new.self c.forget_name.new.self less changed in (
+      both.0 ∙ ap (λ ns. trim (seen ns c.self.inside.files c.self.inside.made c.self.inside.limits c.self.inside.home c.self.inside.uid c.self.inside.gid)) is
           ∙ ap (λ (t : Tree). trim (put_in_its_stead t old new)) c.self.view_is,
       both.1,
     )

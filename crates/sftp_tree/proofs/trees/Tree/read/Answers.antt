@@ -4,7 +4,7 @@ use Rattle.std.proofs.lemmas.Result.{err_from_is_err_and}
 use Rattle.sftp_tree.specs.Tree.{Tree}
 use Rattle.sftp_tree.specs.Picture.{IsStart, file_of}
 use Rattle.sftp_tree.specs.PictureParts.{tree_of}
-use Rattle.sftp_tree.proofs.PictureFiles.{kept_of_start, tree_again, spelled_of_start, start_of_spelled}
+use Rattle.sftp_tree.proofs.PictureFiles.{stands_of_start, tree_again, spelled_of_start, start_of_spelled}
 use Rattle.sftp_tree.proofs.trees.Tree.read.Goals as goal
 
 pub returns-in_err-file-clause-only : goal.returns-in_err-file-clause-only
@@ -18,4 +18,4 @@ returns-clause-found c =
 
 pub returns-clause-only : goal.returns-clause-only
 returns-clause-only c = λ t start.
-    c.in_ok-tree.ensures ∙ ap tree_of (c.in_ok-file.ensures.only (file_of t) (spelled_of_start t c.args.bytes.now start)) ∙ tree_again t (kept_of_start t c.args.bytes.now start) start.unpinned start.numbered
+    c.in_ok-tree.ensures ∙ ap tree_of (c.in_ok-file.ensures.only (file_of t) (spelled_of_start t c.args.bytes.now start)) ∙ tree_again t (stands_of_start t c.args.bytes.now start) start.unpinned start.numbered

@@ -8,10 +8,10 @@ use Rattle.sftp_tree.proofs.trees.Tree.remove_at.Goals as goal
 
 pub forget_name-requires : goal.forget_name-requires
 forget_name-requires c =
-    name-to-lose (seen c.self.inside.names c.self.inside.files.entries c.self.inside.made c.self.inside.limits c.self.inside.home c.self.inside.uid c.self.inside.gid) c.self.inside.files.entries c.self.invariant.0.trimmed refl refl c.self.invariant.1 c.file_named.result
+    name-to-lose (seen c.self.inside.names c.self.inside.files c.self.inside.made c.self.inside.limits c.self.inside.home c.self.inside.uid c.self.inside.gid) c.self.inside.files c.self.invariant.0.trimmed refl refl c.self.invariant.1 c.file_named.result
 
 -- the tree afterwards, and its counts
-parts : (c : goal.Joined-gone) → (seen c.remove-gone.new.self c.forget_name.new.files.entries c.self.inside.made c.self.inside.limits c.self.inside.home c.self.inside.uid c.self.inside.gid ≡ trim (record c.args.self.now { names = without_node c.args.self.now.names c.args.place.now })) × AreCounted c.remove-gone.new.self c.forget_name.new.files.entries
+parts : (c : goal.Joined-gone) → (seen c.remove-gone.new.self c.forget_name.new.self c.self.inside.made c.self.inside.limits c.self.inside.home c.self.inside.uid c.self.inside.gid ≡ trim (record c.args.self.now { names = without_node c.args.self.now.names c.args.place.now })) × AreCounted c.remove-gone.new.self c.forget_name.new.self
 parts c =
     let names = c.self.inside.names in
     let gone = node_at names c.args.place.now in
@@ -19,9 +19,9 @@ parts c =
     let less : (number : ℕ) → times_named c.remove-gone.new.self number + one_name gone number ≡ times_named names number =
     λ number. ap (λ ns. times_named ns number + one_name gone number) is ∙ named-without names c.args.place.now gone refl number in
     let named : c.file_named.result ≡ file_named gone = c.file_named.ensures ∙ ap file_named (c.as_ref.ensures.value ∙ c.remove-gone.ensures.gone) in
-    let changed = subst (λ named. IsChangedWhereNamed without_a_name named c.self.inside.files.entries c.forget_name.new.files.entries) named c.forget_name.ensures in
-    let both = left-parts names c.self.inside.files.entries c.self.inside.made c.self.inside.limits c.self.inside.home c.self.inside.uid c.self.inside.gid c.self.invariant.0 c.self.invariant.1 gone c.remove-gone.new.self c.forget_name.new.files.entries less changed in (
-      both.0 ∙ ap (λ ns. trim (seen ns c.self.inside.files.entries c.self.inside.made c.self.inside.limits c.self.inside.home c.self.inside.uid c.self.inside.gid)) is
+    let changed = subst (λ named. IsChangedWhereNamed without_a_name named c.self.inside.files c.forget_name.new.self) named c.forget_name.ensures in
+    let both = left-parts names c.self.inside.files c.self.inside.made c.self.inside.limits c.self.inside.home c.self.inside.uid c.self.inside.gid c.self.invariant.0 c.self.invariant.1 gone c.remove-gone.new.self c.forget_name.new.self less changed in (
+      both.0 ∙ ap (λ ns. trim (seen ns c.self.inside.files c.self.inside.made c.self.inside.limits c.self.inside.home c.self.inside.uid c.self.inside.gid)) is
           ∙ ap (λ (t : Tree). trim (record t { names = without_node t.names c.args.place.now })) c.self.view_is,
       both.1,
     )

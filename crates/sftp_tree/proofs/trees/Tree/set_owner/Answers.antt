@@ -8,16 +8,16 @@ use Rattle.sftp_tree.proofs.StoredTrees.{owner-parts}
 use Rattle.sftp_tree.proofs.trees.Tree.set_owner.Goals as goal
 
 -- the tree afterwards
-tree : (c : goal.After-set_owner) → seen c.set_owner.new.self c.self.inside.files.entries c.self.inside.made c.self.inside.limits c.self.inside.home c.self.inside.uid c.self.inside.gid ≡ record c.args.self.now { names = with_node c.args.self.now.names c.args.place.now (Dir c.args.owner) }
+tree : (c : goal.After-set_owner) → seen c.set_owner.new.self c.self.inside.files c.self.inside.made c.self.inside.limits c.self.inside.home c.self.inside.uid c.self.inside.gid ≡ record c.args.self.now { names = with_node c.args.self.now.names c.args.place.now (Dir c.args.owner) }
 tree c =
-    (λ i. seen (c.set_owner.ensures i) c.self.inside.files.entries c.self.inside.made c.self.inside.limits c.self.inside.home c.self.inside.uid c.self.inside.gid)
+    (λ i. seen (c.set_owner.ensures i) c.self.inside.files c.self.inside.made c.self.inside.limits c.self.inside.home c.self.inside.uid c.self.inside.gid)
     ∙ ap (λ (t : Tree). record t { names = with_node t.names c.args.place.now (Dir c.args.owner) }) c.self.view_is
 
 -- its counts
-counts : (c : goal.After-set_owner) → AreCounted c.set_owner.new.self c.self.inside.files.entries
+counts : (c : goal.After-set_owner) → AreCounted c.set_owner.new.self c.self.inside.files
 counts c =
     let directory : IsTrue (is_directory (node_at c.self.inside.names c.args.place.now)) = ap (λ (t : Tree). is_directory (node_at t.names c.args.place.now)) c.self.view_is ∙ c.requires.directory in
-    owner-parts c.self.inside.names c.self.inside.files.entries c.self.inside.made c.self.inside.limits c.self.inside.home c.self.inside.uid c.self.inside.gid c.self.invariant.0 c.self.invariant.1 c.args.place.now c.args.owner directory c.set_owner.new.self c.set_owner.ensures
+    owner-parts c.self.inside.names c.self.inside.files c.self.inside.made c.self.inside.limits c.self.inside.home c.self.inside.uid c.self.inside.gid c.self.invariant.0 c.self.invariant.1 c.args.place.now c.args.owner directory c.set_owner.new.self c.set_owner.ensures
 
 kept : (c : goal.After-set_owner) → IsKept (record c.args.self.now { names = with_node c.args.self.now.names c.args.place.now (Dir c.args.owner) })
 kept c = kept-owner-there c.args.self.now c.args.place.now c.args.owner (subst IsKept c.self.view_is c.self.invariant.0) c.requires.directory c.requires.owner

@@ -1,0 +1,75 @@
+-- What the parts of an audit say of the whole.
+use Rattle.std.proofs.Common.{◌≡◌, ◌≢◌, ℕ, List, Result, IsTrue, sym, ap, subst, ◌∙◌}
+use Rattle.std.specs.Result.{IfErr, IsErrAnd}
+use Rattle.std.proofs.lemmas.Result.{err_from_is_err_and}
+use Rattle.sftp_audit.specs.declared.events.Event.{Event}
+use Rattle.sftp_treefile.specs.declared.errors.TreeError.{TreeError}
+use Rattle.sftp_treefile.specs.declared.errors.TreeError.TheVariants as tree_errors
+use Rattle.sftp_audit.specs.declared.errors.TranscriptError.{TranscriptError}
+use Rattle.sftp_audit.specs.declared.errors.TranscriptError.TheVariants as transcript_errors
+use Rattle.sftp_audit.specs.declared.errors.Refusal.{Refusal}
+use Rattle.sftp_audit.specs.declared.errors.Refusal.TheVariants as refusals
+use Rattle.sftp_audit.specs.declared.errors.AuditError.{AuditError}
+use Rattle.sftp_audit.specs.declared.errors.AuditError.TheVariants as audit_errors
+use Rattle.sftp_audit.specs.declared.exchanges.Exchange.{Exchange as RecordedExchange}
+use Rattle.sftp_tree.specs.Tree.{Tree}
+use Rattle.sftp_audit.specs.Replies.{Allowed}
+use Rattle.sftp_tree.specs.Picture.{IsStart}
+use Rattle.sftp_audit.specs.Transcript.{IsRecord}
+use Rattle.sftp_audit.specs.Explained.{Matching, in_window, exchanges_of, leading_pairs, Run}
+use Rattle.sftp_audit.specs.Ledger.{IsComplete}
+use Rattle.sftp_audit.specs.Exchanges.{ledger_of}
+use Rattle.sftp_audit.specs.Audit.{Accounts, HasStart, IsReason, tree_refused, transcript_refused, session_refused}
+
+-- no run is accounted for
+abbrev pub HasNoRun : List ℕ → List ℕ → Type 0
+HasNoRun tree transcript = (start : Tree) (events : List Event) (end : Tree) → Accounts tree transcript start events end → ⊥
+
+-- a part that was refused, for another reason than memory, refuses the whole
+pub refused_by : {T E : Type 0} (tree transcript : List ℕ) (r : Result T AuditError) (of : E → AuditError) (memory e : E) → IsErrAnd r (λ y. y ≡ of e) → of memory ≡ audit_errors.NoMemory → ((e ≡ memory → ⊥) → HasNoRun tree transcript)
+    → IfErr r (λ y. y ≢ audit_errors.NoMemory → HasNoRun tree transcript)
+refused_by tree transcript r of memory e told wanting nothing =
+    let p = err_from_is_err_and r told in
+    rw (p.1, p.2) (λ other. nothing (λ is. other (ap of is ∙ wanting)))
+
+-- the reason for the error of a part is that for the error of the whole
+pub reason_by : {T E : Type 0} (tree transcript : List ℕ) (r : Result T AuditError) (of : E → AuditError) (e : E) → IsErrAnd r (λ y. y ≡ of e) → IsReason tree transcript (of e) → IfErr r (IsReason tree transcript)
+reason_by tree transcript r of e is why =
+    let p = err_from_is_err_and r is in
+    rw (p.1, p.2) why
+
+pub tree_reason : (tree transcript : List ℕ) (error : TreeError) → ((start : Tree) → IsStart start tree → error ≡ tree_errors.NoMemory) → IsReason tree transcript (tree_refused error)
+tree_reason tree transcript tree_errors.NoMemory only = tt
+tree_reason tree transcript other only = λ start. let e = only start.0 start.1 in cc
+
+pub transcript_reason : (tree transcript : List ℕ) (error : TranscriptError) → HasStart tree → ((events : List Event) → IsRecord events transcript → error ≡ transcript_errors.NoMemory) → IsReason tree transcript (transcript_refused error)
+transcript_reason tree transcript transcript_errors.NoMemory start only = tt
+transcript_reason tree transcript other start only = (start, λ events are. let e = only events are in cc)
+
+pub session_reason : (tree transcript : List ℕ) (refusal : Refusal) → HasStart tree → IsReason tree transcript (session_refused refusal)
+session_reason tree transcript refusals.NoMemory start = tt
+session_reason tree transcript other start = start
+
+-- the exchanges of a session that is accounted for are in turn and in time
+pub turns_made : (tree transcript : List ℕ) (start : Tree) (events made : List Event) (end : Tree) → made ≡ events → Accounts tree transcript start events end → Matching made × IsTrue (in_window made)
+turns_made tree transcript start events made end same told = (subst Matching (sym same) told.explained.matching, rw same told.explained.within_window)
+
+-- and so is its run
+pub run_made : (tree transcript : List ℕ) (start state : Tree) (events made : List Event) (end : Tree) (exchanges : List RecordedExchange) → made ≡ events → state ≡ start → exchanges_of made ≡ ledger_of exchanges → Accounts tree transcript start events end
+    → Run Allowed state (leading_pairs (ledger_of exchanges)) end
+run_made tree transcript start state events made end exchanges same is paired told =
+    let pairs : leading_pairs (ledger_of exchanges) ≡ leading_pairs (exchanges_of events) = ap leading_pairs (sym paired ∙ ap exchanges_of same) in
+    rw (is, pairs) told.explained.run
+
+-- a run is accounted for by its parts
+pub accounts_made : (tree transcript : List ℕ) (start : Tree) (events : List Event) (end : Tree) (exchanges : List RecordedExchange) → IsStart start tree → IsRecord events transcript → IsComplete (ledger_of exchanges) events → Run Allowed start (leading_pairs (ledger_of exchanges)) end
+    → Accounts tree transcript start events end
+accounts_made tree transcript start events end exchanges is_start recorded complete run = record {
+  start_is = is_start;
+  events_are = recorded;
+  explained = record {
+    matching = complete.matching;
+    within_window = complete.within_window;
+    run = rw complete.exchanges_are run;
+  };
+}

@@ -1,0 +1,6 @@
+pub mod WalkFailures
+pub mod FreeRequests
+pub mod KeptNodes
+pub mod PlaceTexts
+pub mod ReplySizes
+pub mod AllowedReplies

@@ -1,0 +1,5 @@
+pub mod Turns
+pub mod Standing
+pub mod Notes
+pub mod Index
+pub mod Places

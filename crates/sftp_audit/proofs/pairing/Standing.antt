@@ -1,0 +1,366 @@
+-- The ledger goes on with each event, and an event out of turn or out of time ends every explanation.
+use Rattle.std.proofs.Common.{◌≡◌, ◌==◌, ◌&&◌, ◌||◌, nat_lt, ℕ, suc, ◌+◌, ◌<◌, ◌≤◌, Bool, true, false, cond, List, [], ◌∷◌, ◌++◌, Some, None, length, refl, sym, ap, ◌∙◌, append_assoc, arith, inl, inr, zero-add}
+use Rattle.std.specs.List.{AllByRecursion}
+use Rattle.std.proofs.lemmas.Bool.{and_parts, and_from, or_parts, or_from, eqb-true, eqb-false, eq-eqb, ne_eqb, lt-ltb, le-ltb, ltb-true, cases_Bool, both_ways}
+use Rattle.std.proofs.lemmas.List.{length-append, append-nil}
+use Rattle.sftp_wire.specs.declared.packets.Request.{Request}
+use Rattle.sftp_wire.specs.declared.packets.Reply.{Reply}
+use Rattle.sftp_audit.specs.declared.events.Event.{Event}
+use Rattle.sftp_audit.specs.declared.events.Event.TheVariants.{Asked, Replied}
+use Rattle.sftp_audit.specs.Explained.{Turn, closed, waiting, broken, after_event, turn_after, Matching, next_reply, exchanges_of, requests_before_reply, in_window, window}
+use Rattle.sftp_audit.specs.Ledger.{Exchange, with_replies, is_open, turn_of, AreApart, keeps_window, StandsFor, IsAnswered, IsComplete}
+
+-- ---- tests
+
+flipped : (a b : ℕ) → (a == b) ≡ false → (b == a) ≡ false
+flipped a b other = ne_eqb b a (λ e. eqb-false a b other (sym e))
+
+cond_alike : (b : Bool) → cond b broken broken ≡ broken
+cond_alike true = refl
+cond_alike false = refl
+
+-- ---- how each word goes over two parts of a ledger
+
+with_replies-append : (xs ys : List Exchange) (more : List Event) → with_replies (xs ++ ys) more ≡ with_replies xs more ++ with_replies ys more
+unfolding with_replies
+with_replies-append [] ys more = refl
+with_replies-append ((request, None) ∷ xs) ys more = ap (λ (l : List Exchange). (request, next_reply request.id more) ∷ l) (with_replies-append xs ys more)
+with_replies-append ((request, Some reply) ∷ xs) ys more = ap (λ (l : List Exchange). (request, Some reply) ∷ l) (with_replies-append xs ys more)
+
+or_assoc : (a b c : Bool) → (a || (b || c)) ≡ ((a || b) || c)
+or_assoc true b c = refl
+or_assoc false b c = refl
+
+and_assoc : (a b c : Bool) → (a && (b && c)) ≡ ((a && b) && c)
+and_assoc true b c = refl
+and_assoc false b c = refl
+
+pub or_none : (a : Bool) → (a || false) ≡ a
+or_none true = refl
+or_none false = refl
+
+and_all : (a : Bool) → (a && true) ≡ a
+and_all true = refl
+and_all false = refl
+
+pub is_open-append : (id : ℕ) (xs ys : List Exchange) → is_open id (xs ++ ys) ≡ (is_open id xs || is_open id ys)
+unfolding is_open
+is_open-append id [] ys = refl
+is_open-append id ((request, None) ∷ xs) ys = ap (λ (b : Bool). (request.id == id) || b) (is_open-append id xs ys) ∙ or_assoc (request.id == id) (is_open id xs) (is_open id ys)
+is_open-append id ((request, Some reply) ∷ xs) ys = is_open-append id xs ys
+
+-- whose turn it is, by whether a request waits
+turn_if : Bool → Turn
+turn_if true = waiting
+turn_if false = closed
+
+turn_of-open : (ledger : List Exchange) (id : ℕ) → is_open id ledger ≡ true → turn_of ledger id ≡ waiting
+turn_of-open ledger id e = ap (λ (b : Bool). cond b waiting closed) e
+
+turn_of-closed : (ledger : List Exchange) (id : ℕ) → is_open id ledger ≡ false → turn_of ledger id ≡ closed
+turn_of-closed ledger id e = ap (λ (b : Bool). cond b waiting closed) e
+
+-- ---- nothing yet
+
+pub stands_from_start : StandsFor [] []
+unfolding with_replies is_open AreApart keeps_window
+stands_from_start = record {
+  exchanges_are = λ more. refl;
+  turns_are = λ id more. refl;
+  window_is = λ more. refl;
+  apart = tt;
+  in_time = refl;
+}
+
+-- ---- one request more
+
+with_replies-asked : (ledger : List Exchange) (request : Request) (more : List Event) → with_replies ledger (Asked request ∷ more) ≡ with_replies ledger more
+unfolding with_replies next_reply
+with_replies-asked [] request more = refl
+with_replies-asked ((first, None) ∷ ledger) request more = ap (λ (l : List Exchange). (first, next_reply first.id more) ∷ l) (with_replies-asked ledger request more)
+with_replies-asked ((first, Some reply) ∷ ledger) request more = ap (λ (l : List Exchange). (first, Some reply) ∷ l) (with_replies-asked ledger request more)
+
+asked_turn : (ledger : List Exchange) (request : Request) (id : ℕ) → is_open request.id ledger ≡ false → after_event id (Asked request) (turn_of ledger id) ≡ turn_of (ledger ++ (request, None) ∷ []) id
+unfolding is_open
+asked_turn ledger request id none =
+    elim (cases_Bool (request.id == id)) [
+      | inl same_id ↦
+          let same : request.id ≡ id = eqb-true _ _ same_id in
+          let shut : is_open id ledger ≡ false = rw same at none in
+          let opened : is_open id (ledger ++ (request, None) ∷ []) ≡ true = rw (is_open-append id ledger ((request, None) ∷ []), shut, same_id) refl in
+          rw (same_id, turn_of-closed ledger id shut, turn_of-open (ledger ++ (request, None) ∷ []) id opened) refl
+      | inr other_id ↦
+          let kept : is_open id (ledger ++ (request, None) ∷ []) ≡ is_open id ledger = rw (is_open-append id ledger ((request, None) ∷ []), other_id) (or_none (is_open id ledger)) in
+          rw (other_id, kept) refl
+    ]
+
+keeps_window-asked : (ledger : List Exchange) (request : Request) (more : List Event) → keeps_window (ledger ++ (request, None) ∷ []) more ≡ (keeps_window ledger (Asked request ∷ more) && nat_lt (requests_before_reply request.id more) window)
+unfolding keeps_window requests_before_reply
+keeps_window-asked [] request more = rw zero-add (and_all (nat_lt (requests_before_reply request.id more) window))
+keeps_window-asked ((first, None) ∷ ledger) request more =
+    let later : length (ledger ++ (request, None) ∷ []) + requests_before_reply first.id more ≡ length ledger + suc (requests_before_reply first.id more) = omega (arith, length-append ledger ((request, None) ∷ [])) in
+    rw (later, keeps_window-asked ledger request more) (and_assoc (nat_lt (length ledger + suc (requests_before_reply first.id more)) window) (keeps_window ledger (Asked request ∷ more)) (nat_lt (requests_before_reply request.id more) window))
+keeps_window-asked ((first, Some reply) ∷ ledger) request more = keeps_window-asked ledger request more
+
+pub AreApart-asked : (ledger : List Exchange) (request : Request) → AreApart ledger → is_open request.id ledger ≡ false → AreApart (ledger ++ (request, None) ∷ [])
+unfolding AreApart is_open
+AreApart-asked [] request apart none = (refl, tt)
+AreApart-asked ((first, None) ∷ ledger) request apart none =
+    let parts = or_parts (first.id == request.id) (is_open request.id ledger) none in
+    let others : is_open first.id (ledger ++ (request, None) ∷ []) ≡ false = rw (is_open-append first.id ledger ((request, None) ∷ []), apart.0, flipped first.id request.id parts.0) refl in
+    (others, AreApart-asked ledger request apart.1 parts.1)
+AreApart-asked ((first, Some reply) ∷ ledger) request apart none = AreApart-asked ledger request apart none
+
+pub stands_asked : (ledger : List Exchange) (seen : List Event) (request : Request) → StandsFor ledger seen → is_open request.id ledger ≡ false → keeps_window (ledger ++ (request, None) ∷ []) [] ≡ true → StandsFor (ledger ++ (request, None) ∷ []) (seen ++ Asked request ∷ [])
+unfolding with_replies exchanges_of turn_after in_window
+stands_asked ledger seen request stands none kept = record {
+  exchanges_are = λ more.
+      rw (append_assoc seen (Asked request ∷ []) more, stands.exchanges_are (Asked request ∷ more), with_replies-asked ledger request more, with_replies-append ledger ((request, None) ∷ []) more)
+      (sym (append_assoc (with_replies ledger more) ((request, next_reply request.id more) ∷ []) (exchanges_of more)));
+  turns_are = λ id more.
+      rw (append_assoc seen (Asked request ∷ []) more, stands.turns_are id (Asked request ∷ more), asked_turn ledger request id none) refl;
+  window_is = λ more.
+      rw (append_assoc seen (Asked request ∷ []) more, stands.window_is (Asked request ∷ more), keeps_window-asked ledger request more)
+      (and_assoc (keeps_window ledger (Asked request ∷ more)) (nat_lt (requests_before_reply request.id more) window) (in_window more));
+  apart = AreApart-asked ledger request stands.apart none;
+  in_time = kept;
+}
+
+-- ---- one reply more
+
+-- what comes for another id changes nothing
+with_replies-other : (ledger : List Exchange) (reply : Reply) (more : List Event) → is_open reply.id ledger ≡ false → with_replies ledger (Replied reply ∷ more) ≡ with_replies ledger more
+unfolding with_replies is_open next_reply
+with_replies-other [] reply more none = refl
+with_replies-other ((first, None) ∷ ledger) reply more none =
+    let parts = or_parts (first.id == reply.id) (is_open reply.id ledger) none in
+    let other = flipped first.id reply.id parts.0 in
+    rw (other, with_replies-other ledger reply more parts.1) refl
+with_replies-other ((first, Some given) ∷ ledger) reply more none = ap (λ (l : List Exchange). (first, Some given) ∷ l) (with_replies-other ledger reply more none)
+
+keeps_window-other : (ledger : List Exchange) (reply : Reply) (more : List Event) → is_open reply.id ledger ≡ false → keeps_window ledger (Replied reply ∷ more) ≡ keeps_window ledger more
+unfolding keeps_window is_open requests_before_reply
+keeps_window-other [] reply more none = refl
+keeps_window-other ((first, None) ∷ ledger) reply more none =
+    let parts = or_parts (first.id == reply.id) (is_open reply.id ledger) none in
+    let other = flipped first.id reply.id parts.0 in
+    rw (other, keeps_window-other ledger reply more parts.1) refl
+keeps_window-other ((first, Some given) ∷ ledger) reply more none = keeps_window-other ledger reply more none
+
+length-answered : (front : List Exchange) (request : Request) (reply : Reply) (back : List Exchange) → length (front ++ (request, None) ∷ back) ≡ length (front ++ (request, Some reply) ∷ back)
+length-answered front request reply back = omega (arith, length-append front ((request, None) ∷ back), length-append front ((request, Some reply) ∷ back))
+
+broken_after : (id : ℕ) (event : Event) → after_event id event broken ≡ broken
+broken_after id (Asked request) = cond_alike (request.id == id)
+broken_after id (Replied reply) = cond_alike (reply.id == id)
+
+-- of requests that are apart, one that waits is the only one of its id
+pub record Alone (front : List Exchange) (request : Request) (back : List Exchange) : Type 0 where
+  pub not_before : is_open request.id front ≡ false
+  pub not_after : is_open request.id back ≡ false
+
+pub alone : (front : List Exchange) (request : Request) (back : List Exchange) → AreApart (front ++ (request, None) ∷ back) → Alone front request back
+unfolding AreApart is_open
+alone [] request back apart = record { not_before = refl; not_after = apart.0 }
+alone ((first, None) ∷ front) request back apart =
+    let later = alone front request back apart.1 in
+    let joined : (is_open first.id front || ((request.id == first.id) || is_open first.id back)) ≡ false = sym (is_open-append first.id front ((request, None) ∷ back)) ∙ apart.0 in
+    let split = or_parts (is_open first.id front) ((request.id == first.id) || is_open first.id back) joined in
+    let other = or_parts (request.id == first.id) (is_open first.id back) split.1 in
+    record { not_before = or_from (first.id == request.id) (is_open request.id front) (flipped request.id first.id other.0) later.not_before; not_after = later.not_after }
+alone ((first, Some given) ∷ front) request back apart =
+    let later = alone front request back apart in
+    record { not_before = later.not_before; not_after = later.not_after }
+
+is_open-answered : (id : ℕ) (front : List Exchange) (request : Request) (reply : Reply) (back : List Exchange) → is_open id (front ++ (request, Some reply) ∷ back) ≡ (is_open id front || is_open id back)
+unfolding is_open
+is_open-answered id front request reply back = is_open-append id front ((request, Some reply) ∷ back)
+
+-- an answer opens nothing
+pub still_shut : (id : ℕ) (front : List Exchange) (request : Request) (reply : Reply) (back : List Exchange) → is_open id (front ++ (request, None) ∷ back) ≡ false → is_open id (front ++ (request, Some reply) ∷ back) ≡ false
+unfolding is_open
+still_shut id front request reply back none =
+    let joined : (is_open id front || ((request.id == id) || is_open id back)) ≡ false = sym (is_open-append id front ((request, None) ∷ back)) ∙ none in
+    let split = or_parts (is_open id front) ((request.id == id) || is_open id back) joined in
+    let behind = or_parts (request.id == id) (is_open id back) split.1 in
+    is_open-answered id front request reply back ∙ or_from (is_open id front) (is_open id back) split.0 behind.1
+
+pub AreApart-answered : (front : List Exchange) (request : Request) (reply : Reply) (back : List Exchange) → AreApart (front ++ (request, None) ∷ back) → AreApart (front ++ (request, Some reply) ∷ back)
+unfolding AreApart
+AreApart-answered [] request reply back apart = apart.1
+AreApart-answered ((first, None) ∷ front) request reply back apart = (still_shut first.id front request reply back apart.0, AreApart-answered front request reply back apart.1)
+AreApart-answered ((first, Some given) ∷ front) request reply back apart = AreApart-answered front request reply back apart
+
+with_replies-replied : (front : List Exchange) (request : Request) (reply : Reply) (back : List Exchange) (more : List Event) → request.id ≡ reply.id → Alone front request back
+    → with_replies (front ++ (request, None) ∷ back) (Replied reply ∷ more) ≡ with_replies (front ++ (request, Some reply) ∷ back) more
+unfolding with_replies next_reply
+with_replies-replied front request reply back more same lone =
+    let before : is_open reply.id front ≡ false = rw same at lone.not_before in
+    let after : is_open reply.id back ≡ false = rw same at lone.not_after in
+    let hit : (reply.id == request.id) ≡ true = eq-eqb reply.id request.id (sym same) in
+    rw (with_replies-append front ((request, None) ∷ back) (Replied reply ∷ more), with_replies-append front ((request, Some reply) ∷ back) more, hit, with_replies-other front reply more before, with_replies-other back reply more after) refl
+
+replied_turn : (front : List Exchange) (request : Request) (reply : Reply) (back : List Exchange) (id : ℕ) → request.id ≡ reply.id → Alone front request back
+    → after_event id (Replied reply) (turn_of (front ++ (request, None) ∷ back) id) ≡ turn_of (front ++ (request, Some reply) ∷ back) id
+unfolding is_open
+replied_turn front request reply back id same lone =
+    elim (cases_Bool (reply.id == id)) [
+      | inl same_id ↦
+          let is : request.id ≡ id = same ∙ eqb-true _ _ same_id in
+          let before : is_open id front ≡ false = rw is at lone.not_before in
+          let after : is_open id back ≡ false = rw is at lone.not_after in
+          let opened : is_open id (front ++ (request, None) ∷ back) ≡ true = rw (is_open-append id front ((request, None) ∷ back), before, eq-eqb request.id id is) refl in
+          let shut : is_open id (front ++ (request, Some reply) ∷ back) ≡ false = rw (is_open-answered id front request reply back, before, after) refl in
+          rw (same_id, turn_of-open (front ++ (request, None) ∷ back) id opened, turn_of-closed (front ++ (request, Some reply) ∷ back) id shut) refl
+      | inr other_id ↦
+          let miss : (request.id == id) ≡ false = rw (← same) at other_id in
+          let kept : is_open id (front ++ (request, None) ∷ back) ≡ is_open id (front ++ (request, Some reply) ∷ back) = rw (is_open-append id front ((request, None) ∷ back), is_open-answered id front request reply back, miss) refl in
+          rw (other_id, kept) refl
+    ]
+
+keeps_window-replied : (front : List Exchange) (request : Request) (reply : Reply) (back : List Exchange) (more : List Event) → request.id ≡ reply.id → Alone front request back → keeps_window (front ++ (request, None) ∷ back) [] ≡ true
+    → keeps_window (front ++ (request, None) ∷ back) (Replied reply ∷ more) ≡ keeps_window (front ++ (request, Some reply) ∷ back) more
+unfolding keeps_window requests_before_reply is_open
+keeps_window-replied [] request reply back more same lone kept =
+    let after : is_open reply.id back ≡ false = rw same at lone.not_after in
+    let hit : (reply.id == request.id) ≡ true = eq-eqb reply.id request.id (sym same) in
+    let now : nat_lt (length back + 0) window ≡ true = (and_parts (nat_lt (length back + 0) window) (keeps_window back []) kept).0 in
+    rw (hit, now) (keeps_window-other back reply more after)
+keeps_window-replied ((first, None) ∷ front) request reply back more same lone kept =
+    let parts = or_parts (first.id == request.id) (is_open request.id front) lone.not_before in
+    let miss : (reply.id == first.id) ≡ false = rw (← same) (flipped first.id request.id parts.0) in
+    let as_long : length (front ++ (request, None) ∷ back) ≡ length (front ++ (request, Some reply) ∷ back) = length-answered front request reply back in
+    let later = and_parts (nat_lt (length (front ++ (request, None) ∷ back) + 0) window) (keeps_window (front ++ (request, None) ∷ back) []) kept in
+    rw (miss, as_long, keeps_window-replied front request reply back more same (record { not_before = parts.1; not_after = lone.not_after }) later.1) refl
+keeps_window-replied ((first, Some given) ∷ front) request reply back more same lone kept =
+    keeps_window-replied front request reply back more same (record { not_before = lone.not_before; not_after = lone.not_after }) kept
+
+in_time-replied : (front : List Exchange) (request : Request) (reply : Reply) (back : List Exchange) → keeps_window (front ++ (request, None) ∷ back) [] ≡ true → keeps_window (front ++ (request, Some reply) ∷ back) [] ≡ true
+unfolding keeps_window
+in_time-replied [] request reply back kept = (and_parts (nat_lt (length back + requests_before_reply request.id []) window) (keeps_window back []) kept).1
+in_time-replied ((first, None) ∷ front) request reply back kept =
+    let as_long : length (front ++ (request, None) ∷ back) ≡ length (front ++ (request, Some reply) ∷ back) = length-answered front request reply back in
+    let parts = and_parts (nat_lt (length (front ++ (request, None) ∷ back) + requests_before_reply first.id []) window) (keeps_window (front ++ (request, None) ∷ back) []) kept in
+    and_from (nat_lt (length (front ++ (request, Some reply) ∷ back) + requests_before_reply first.id []) window) (keeps_window (front ++ (request, Some reply) ∷ back) []) (rw (← as_long) parts.0) (in_time-replied front request reply back parts.1)
+in_time-replied ((first, Some given) ∷ front) request reply back kept = in_time-replied front request reply back kept
+
+pub stands_replied : (front : List Exchange) (request : Request) (reply : Reply) (back : List Exchange) (seen : List Event) → StandsFor (front ++ (request, None) ∷ back) seen → request.id ≡ reply.id
+    → StandsFor (front ++ (request, Some reply) ∷ back) (seen ++ Replied reply ∷ [])
+unfolding exchanges_of turn_after in_window
+stands_replied front request reply back seen stands same =
+    let lone = alone front request back stands.apart in
+    record {
+      exchanges_are = λ more.
+          rw (append_assoc seen (Replied reply ∷ []) more, stands.exchanges_are (Replied reply ∷ more), with_replies-replied front request reply back more same lone) refl;
+      turns_are = λ id more.
+          rw (append_assoc seen (Replied reply ∷ []) more, stands.turns_are id (Replied reply ∷ more), replied_turn front request reply back id same lone) refl;
+      window_is = λ more.
+          rw (append_assoc seen (Replied reply ∷ []) more, stands.window_is (Replied reply ∷ more), keeps_window-replied front request reply back more same lone stands.in_time) refl;
+      apart = AreApart-answered front request reply back stands.apart;
+      in_time = in_time-replied front request reply back stands.in_time;
+    }
+
+-- ---- what ends every explanation
+
+stays_broken : (id : ℕ) (events : List Event) → turn_after id broken events ≡ broken
+unfolding turn_after
+stays_broken id [] = refl
+stays_broken id (Asked request ∷ events) = rw (broken_after id (Asked request)) (stays_broken id events)
+stays_broken id (Replied reply ∷ events) = rw (broken_after id (Replied reply)) (stays_broken id events)
+
+-- a request of an id that waits
+pub no_second_request : (ledger : List Exchange) (seen : List Event) (request : Request) (more : List Event) → StandsFor ledger seen → is_open request.id ledger ≡ true → Matching (seen ++ Asked request ∷ more) → ⊥
+unfolding turn_after
+no_second_request ledger seen request more stands opened matching =
+    let turn : turn_of ledger request.id ≡ waiting = turn_of-open ledger request.id opened in
+    let hit : (request.id == request.id) ≡ true = eq-eqb request.id request.id refl in
+    let all : turn_after request.id closed (seen ++ Asked request ∷ more) ≡ closed = matching request.id in
+    let rest : turn_after request.id (turn_of ledger request.id) (Asked request ∷ more) ≡ closed = sym (stands.turns_are request.id (Asked request ∷ more)) ∙ all in
+    let ends : turn_after request.id broken more ≡ closed = rw (turn, hit) at rest in
+    let same : broken ≡ closed = sym (stays_broken request.id more) ∙ ends in
+    absurd cc
+
+-- a reply of an id that does not wait
+pub no_reply_unasked : (ledger : List Exchange) (seen : List Event) (reply : Reply) (more : List Event) → StandsFor ledger seen → is_open reply.id ledger ≡ false → Matching (seen ++ Replied reply ∷ more) → ⊥
+unfolding turn_after
+no_reply_unasked ledger seen reply more stands none matching =
+    let turn : turn_of ledger reply.id ≡ closed = turn_of-closed ledger reply.id none in
+    let hit : (reply.id == reply.id) ≡ true = eq-eqb reply.id reply.id refl in
+    let all : turn_after reply.id closed (seen ++ Replied reply ∷ more) ≡ closed = matching reply.id in
+    let rest : turn_after reply.id (turn_of ledger reply.id) (Replied reply ∷ more) ≡ closed = sym (stands.turns_are reply.id (Replied reply ∷ more)) ∙ all in
+    let ends : turn_after reply.id broken more ≡ closed = rw (turn, hit) at rest in
+    let same : broken ≡ closed = sym (stays_broken reply.id more) ∙ ends in
+    absurd cc
+
+-- a request that waits at the end
+pub no_end_unanswered : (ledger : List Exchange) (seen : List Event) (id : ℕ) → StandsFor ledger seen → is_open id ledger ≡ true → Matching seen → ⊥
+unfolding turn_after
+no_end_unanswered ledger seen id stands opened matching =
+    let turn : turn_of ledger id ≡ waiting = turn_of-open ledger id opened in
+    let ends : turn_after id (turn_of ledger id) [] ≡ closed = sym (stands.turns_are id []) ∙ ap (turn_after id closed) (append-nil seen) ∙ matching id in
+    let same : waiting ≡ closed = sym turn ∙ ends in
+    absurd cc
+
+-- what was in time with a request to come is in time with that request
+keeps_window-later : (ledger : List Exchange) (request : Request) (more : List Event) → keeps_window ledger (Asked request ∷ more) ≡ true → keeps_window (ledger ++ (request, None) ∷ []) [] ≡ true
+unfolding keeps_window requests_before_reply
+keeps_window-later [] request more kept = refl
+keeps_window-later ((first, None) ∷ ledger) request more kept =
+    let parts = and_parts (nat_lt (length ledger + suc (requests_before_reply first.id more)) window) (keeps_window ledger (Asked request ∷ more)) kept in
+    let near : length (ledger ++ (request, None) ∷ []) + 0 < window = omega (arith, ltb-true _ _ parts.0, length-append ledger ((request, None) ∷ [])) in
+    and_from (nat_lt (length (ledger ++ (request, None) ∷ []) + 0) window) (keeps_window (ledger ++ (request, None) ∷ []) []) (lt-ltb _ _ near) (keeps_window-later ledger request more parts.1)
+keeps_window-later ((first, Some given) ∷ ledger) request more kept = keeps_window-later ledger request more kept
+
+-- a request that comes too late for one that waits
+pub no_late_request : (ledger : List Exchange) (seen : List Event) (request : Request) (more : List Event) → StandsFor ledger seen → keeps_window (ledger ++ (request, None) ∷ []) [] ≡ false → in_window (seen ++ Asked request ∷ more) ≡ true → ⊥
+no_late_request ledger seen request more stands late inside =
+    let both : (keeps_window ledger (Asked request ∷ more) && in_window (Asked request ∷ more)) ≡ true = sym (stands.window_is (Asked request ∷ more)) ∙ inside in
+    let kept = (and_parts (keeps_window ledger (Asked request ∷ more)) (in_window (Asked request ∷ more)) both).0 in
+    both_ways (keeps_window (ledger ++ (request, None) ∷ []) []) late (keeps_window-later ledger request more kept)
+
+-- ---- the end
+
+none_open : (ledger : List Exchange) (id : ℕ) → AllByRecursion IsAnswered ledger → is_open id ledger ≡ false
+unfolding is_open
+none_open [] id answered = refl
+none_open ((first, None) ∷ ledger) id answered = absurd answered.0
+none_open ((first, Some given) ∷ ledger) id answered = none_open ledger id answered.1
+
+with_replies-answered : (ledger : List Exchange) (more : List Event) → AllByRecursion IsAnswered ledger → with_replies ledger more ≡ ledger
+unfolding with_replies
+with_replies-answered [] more answered = refl
+with_replies-answered ((first, None) ∷ ledger) more answered = absurd answered.0
+with_replies-answered ((first, Some given) ∷ ledger) more answered = ap (λ (l : List Exchange). (first, Some given) ∷ l) (with_replies-answered ledger more answered.1)
+
+-- where each request is answered, the ledger is all that there is to say
+pub complete : (ledger : List Exchange) (seen : List Event) → StandsFor ledger seen → AllByRecursion IsAnswered ledger → IsComplete ledger seen
+unfolding turn_after in_window exchanges_of
+complete ledger seen stands answered = record {
+  matching = λ id. ap (turn_after id closed) (sym (append-nil seen)) ∙ stands.turns_are id [] ∙ turn_of-closed ledger id (none_open ledger id answered);
+  within_window = ap in_window (sym (append-nil seen)) ∙ stands.window_is [] ∙ rw stands.in_time refl;
+  exchanges_are = ap exchanges_of (sym (append-nil seen)) ∙ stands.exchanges_are [] ∙ append-nil (with_replies ledger []) ∙ with_replies-answered ledger [] answered;
+}
+
+-- ---- the window, by the oldest request that waits
+
+pub keeps_window-answered : (front back : List Exchange) (more : List Event) → AllByRecursion IsAnswered front → keeps_window (front ++ back) more ≡ keeps_window back more
+unfolding keeps_window
+keeps_window-answered [] back more answered = refl
+keeps_window-answered ((first, None) ∷ front) back more answered = absurd answered.0
+keeps_window-answered ((first, Some given) ∷ front) back more answered = keeps_window-answered front back more answered.1
+
+-- few enough are in time, whoever waits
+pub keeps_window-few : (ledger : List Exchange) → length ledger ≤ window → keeps_window ledger [] ≡ true
+unfolding keeps_window requests_before_reply
+keeps_window-few [] few = refl
+keeps_window-few ((first, None) ∷ ledger) few =
+    let near : length ledger + 0 < window = omega arith in
+    and_from (nat_lt (length ledger + 0) window) (keeps_window ledger []) (lt-ltb _ _ near) (keeps_window-few ledger (omega arith))
+keeps_window-few ((first, Some given) ∷ ledger) few = keeps_window-few ledger (omega arith)
+
+-- one that waits has too many behind it
+pub keeps_window-many : (first : Request) (ledger : List Exchange) → window ≤ length ledger → keeps_window ((first, None) ∷ ledger) [] ≡ false
+unfolding keeps_window requests_before_reply
+keeps_window-many first ledger many =
+    let far : nat_lt (length ledger + 0) window ≡ false = le-ltb (length ledger + 0) window (omega arith) in
+    rw far refl

@@ -1,5 +1,0 @@
-use Rattle.sftp_audit.proofs.WorkedRows.{taken, not_absent}
-use Rattle.sftp_audit.proofs.rows.made_twice_refused.Goals as goal
-
-pub returns : goal.returns
-returns c = record { taken = taken; not_absent = not_absent }

@@ -1,6 +1,0 @@
-use Rattle.sftp_audit.proofs.WorkedRows.{backwards, backwards_picture}
-use Rattle.sftp_audit.proofs.RecordRows.{backwards_recorded}
-use Rattle.sftp_audit.proofs.rows.out_of_order_run.Goals as goal
-
-pub returns : goal.returns
-returns c = record { explained = backwards; pictured = backwards_picture; recorded = backwards_recorded }

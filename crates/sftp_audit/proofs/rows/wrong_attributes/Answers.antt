@@ -1,5 +1,0 @@
-use Rattle.sftp_audit.proofs.LinkRows.{other_size, no_permissions}
-use Rattle.sftp_audit.proofs.rows.wrong_attributes.Goals as goal
-
-pub returns : goal.returns
-returns c = record { other_size = other_size; no_permissions = no_permissions }

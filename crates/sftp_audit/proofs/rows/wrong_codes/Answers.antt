@@ -1,5 +1,0 @@
-use Rattle.sftp_audit.proofs.WorkedRows.{removed, in_order_of_arrival}
-use Rattle.sftp_audit.proofs.rows.wrong_codes.Goals as goal
-
-pub returns : goal.returns
-returns c = record { removed = removed; in_order_of_arrival = in_order_of_arrival }

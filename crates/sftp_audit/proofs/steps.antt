@@ -1,0 +1,4 @@
+pub mod Verdicts
+pub mod RunEnds
+pub mod ExchangeRuns
+pub mod StepLaws

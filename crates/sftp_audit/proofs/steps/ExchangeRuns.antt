@@ -1,0 +1,52 @@
+-- A run over exchanges, one step after the other.
+use Rattle.std.proofs.Common.{◌≡◌, ℕ, ◌+◌, ◌<◌, ◌≤◌, List, ◌∷◌, Option, Some, None, length, drop, get_or, refl, sym, ap, ◌∙◌}
+use Rattle.std.specs.Option.{option_map}
+use Rattle.std.proofs.lemmas.List.{drop_more, drop_all}
+use Rattle.sftp_wire.specs.declared.packets.Request.{Request}
+use Rattle.sftp_wire.specs.declared.packets.Reply.{Reply}
+use Rattle.sftp_audit.specs.declared.exchanges.Exchange.{Exchange as RecordedExchange}
+use Rattle.sftp_audit.specs.declared.exchanges.RecordedReply.{RecordedReply}
+use Rattle.sftp_tree.specs.Tree.{Tree}
+use Rattle.sftp_audit.specs.Replies.{Allowed}
+use Rattle.sftp_audit.specs.Explained.{leading_pairs}
+use Rattle.sftp_audit.specs.Exchanges.{reply_of, ledger_of}
+use Rattle.sftp_audit.proofs.steps.RunEnds.{step_end, go_on, run_end, step_end-of_allowed, allowed-of_step_end}
+
+-- what is left of the exchanges begins with the one that was read
+rest_is : (exchanges : List RecordedExchange) (i : ℕ) (x : RecordedExchange) (r : Option RecordedReply) → i < length exchanges → x ≡ get_or exchanges i x → x.reply ≡ r
+    → leading_pairs (ledger_of (drop i exchanges)) ≡ leading_pairs ((x.request.now, option_map reply_of r) ∷ ledger_of (drop (i + 1) exchanges))
+rest_is exchanges i x r lt is given =
+    let front : drop i exchanges ≡ x ∷ drop (i + 1) exchanges = drop_more exchanges i x lt ∙ ap (λ (y : RecordedExchange). y ∷ drop (i + 1) exchanges) (sym is) in
+    ap (λ (xs : List RecordedExchange). leading_pairs (ledger_of xs)) front ∙ ap (λ (q : Option RecordedReply). leading_pairs ((x.request.now, option_map reply_of q) ∷ ledger_of (drop (i + 1) exchanges))) given
+
+-- a reply that is allowed takes the run on
+pub run_on : (exchanges : List RecordedExchange) (i : ℕ) (x : RecordedExchange) (answer : RecordedReply) (t new : Tree) (whole : Option Tree) → i < length exchanges → x ≡ get_or exchanges i x → x.reply ≡ Some answer → Allowed t x.request.now answer.reply.now new
+    → run_end t (leading_pairs (ledger_of (drop i exchanges))) ≡ whole → run_end new (leading_pairs (ledger_of (drop (i + 1) exchanges))) ≡ whole
+unfolding leading_pairs
+run_on exchanges i x answer t new whole lt is given allowed so_far =
+    let step : step_end t x.request.now answer.reply.now ≡ Some new = step_end-of_allowed t x.request.now answer.reply.now new allowed in
+    sym (ap (run_end t) (rest_is exchanges i x (Some answer) lt is given) ∙ ap (λ (o : Option Tree). go_on o (λ mid. run_end mid (leading_pairs (ledger_of (drop (i + 1) exchanges))))) step) ∙ so_far
+
+no_step : (t : Tree) (request : Request) (reply : Reply) → ((after : Tree) → Allowed t request reply after → ⊥) → step_end t request reply ≡ None
+no_step t request reply never = by (step_end t request reply) refl
+  where
+    by : (o : Option Tree) → step_end t request reply ≡ o → o ≡ None
+    by None e = refl
+    by (Some after) e = absurd (never after (allowed-of_step_end t request reply after e))
+
+-- one that is not ends every run
+pub run_fails : (exchanges : List RecordedExchange) (i : ℕ) (x : RecordedExchange) (answer : RecordedReply) (t : Tree) (whole : Option Tree) → i < length exchanges → x ≡ get_or exchanges i x → x.reply ≡ Some answer → ((after : Tree) → Allowed t x.request.now answer.reply.now after → ⊥)
+    → run_end t (leading_pairs (ledger_of (drop i exchanges))) ≡ whole → whole ≡ None
+unfolding leading_pairs
+run_fails exchanges i x answer t whole lt is given never so_far =
+    sym so_far ∙ ap (run_end t) (rest_is exchanges i x (Some answer) lt is given) ∙ ap (λ (o : Option Tree). go_on o (λ mid. run_end mid (leading_pairs (ledger_of (drop (i + 1) exchanges))))) (no_step t x.request.now answer.reply.now never)
+
+-- at a request without a reply the run is over
+pub run_stops : (exchanges : List RecordedExchange) (i : ℕ) (x : RecordedExchange) (t : Tree) (whole : Option Tree) → i < length exchanges → x ≡ get_or exchanges i x → x.reply ≡ None → run_end t (leading_pairs (ledger_of (drop i exchanges))) ≡ whole → whole ≡ Some t
+unfolding leading_pairs
+run_stops exchanges i x t whole lt is given so_far = sym so_far ∙ ap (run_end t) (rest_is exchanges i x None lt is given)
+
+-- and so it is at the end
+pub run_ends : (exchanges : List RecordedExchange) (i : ℕ) (t : Tree) (whole : Option Tree) → length exchanges ≤ i → run_end t (leading_pairs (ledger_of (drop i exchanges))) ≡ whole → whole ≡ Some t
+unfolding leading_pairs
+run_ends exchanges i t whole le so_far = sym so_far ∙ ap (λ (xs : List RecordedExchange). run_end t (leading_pairs (ledger_of xs))) (drop_all i exchanges le)

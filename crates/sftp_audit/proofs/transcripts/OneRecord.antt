@@ -1,0 +1,55 @@
+-- Bytes record one list of events.
+use Rattle.std.proofs.Common.{◌≡◌, ℕ, List, [], ◌∷◌, ◌++◌, length, refl, sym, ap, ◌∙◌, arith}
+use Rattle.std.specs.List.{flat_map}
+use Rattle.std.proofs.lemmas.List.Concat.{flat_map-cons}
+use Rattle.sftp_wire.specs.declared.packets.Packet.{Packet}
+use Rattle.sftp_wire.specs.declared.packets.Side.{Side}
+use Rattle.sftp_wire.specs.declared.packets.Side.TheVariants.{Client, Server}
+use Rattle.sftp_wire.specs.Spelling.{spelling, HasSpelling, side_of}
+use Rattle.sftp_audit.specs.declared.events.Event.{Event}
+use Rattle.sftp_audit.specs.declared.events.Event.TheVariants.{Asked, Replied}
+use Rattle.sftp_audit.specs.Transcript.{direction_of, packet_of, event_record, AreRecords, IsRecord}
+use Rattle.sftp_audit.specs.Records.{Begins}
+use Rattle.sftp_audit.proofs.transcripts.Reading.{record_parts, no_events}
+
+side_from_direction : (s t : Side) → direction_of s ≡ direction_of t → s ≡ t
+side_from_direction Client Client e = refl
+side_from_direction Client Server e = absurd (omega arith)
+side_from_direction Server Client e = absurd (omega arith)
+side_from_direction Server Server e = refl
+
+event_from_packet : (event other : Event) → packet_of event ≡ packet_of other → event ≡ other
+event_from_packet (Asked x) (Asked y) e = cc
+event_from_packet (Asked x) (Replied y) e = cc
+event_from_packet (Replied x) (Asked y) e = cc
+event_from_packet (Replied x) (Replied y) e = cc
+
+same_cons : (a b : ℕ) (x y : List ℕ) → a ∷ x ≡ b ∷ y → (a ≡ b) × (x ≡ y)
+same_cons a b x y e = (cc, cc)
+
+module _ (apart : (p q : Packet) (x y : List ℕ) → HasSpelling p → HasSpelling q → side_of p ≡ side_of q → spelling p ++ x ≡ spelling q ++ y → (p ≡ q) × (x ≡ y)) where
+  -- one record begins the bytes at most
+  pub Begins-one : (bytes : List ℕ) (p q : Packet) (x y : List ℕ) → Begins bytes p x → Begins bytes q y → (p ≡ q) × (x ≡ y)
+  Begins-one bytes p q x y one other =
+      let parts = same_cons (direction_of (side_of p)) (direction_of (side_of q)) (spelling p ++ x) (spelling q ++ y) (sym one.bytes_are ∙ other.bytes_are) in
+      apart p q x y one.spelled other.spelled (side_from_direction (side_of p) (side_of q) parts.0) parts.1
+
+  -- one list of events stands in the bytes at most
+  pub AreRecords-one : (events others : List Event) (bytes : List ℕ) → AreRecords events bytes → AreRecords others bytes → events ≡ others
+  AreRecords-one [] others bytes are same = sym (no_events others bytes (ap length are.bytes_are) same)
+  AreRecords-one (e ∷ es) [] bytes are same = no_events (e ∷ es) bytes (ap length same.bytes_are) are
+  AreRecords-one (e ∷ es) (o ∷ os) bytes are same =
+      let first : Begins bytes (packet_of e) (flat_map event_record es) = record { spelled = are.spelled.0.spelled; bytes_are = are.bytes_are ∙ flat_map-cons event_record e es } in
+      let second : Begins bytes (packet_of o) (flat_map event_record os) = record { spelled = same.spelled.0.spelled; bytes_are = same.bytes_are ∙ flat_map-cons event_record o os } in
+      let one = Begins-one bytes (packet_of e) (packet_of o) (flat_map event_record es) (flat_map event_record os) first second in
+      let rest = AreRecords-one es os (flat_map event_record es) (record { spelled = are.spelled.1; bytes_are = refl }) (record { spelled = same.spelled.1; bytes_are = one.1 }) in
+      let head = event_from_packet e o one.0 in
+      cc
+
+  pub records_are_one_lem : (events others : List Event) (bytes : List ℕ) → IsRecord events bytes → IsRecord others bytes → events ≡ others
+  records_are_one_lem events others bytes is same =
+      let p = record_parts events bytes is.opened is.opening is in
+      let q = record_parts others bytes is.opened is.opening same in
+      let middle = Begins-one is.opened p.init.packet q.init.packet p.middle q.middle p.init.begins q.init.begins in
+      let records = Begins-one p.middle p.version.packet q.version.packet p.records q.records p.version.begins (rw middle.1 q.version.begins) in
+      AreRecords-one events others p.records p.recorded (rw records.1 q.recorded)

@@ -1,0 +1,106 @@
+-- A worked example: the bytes of a transcript file record its events.
+use Rattle.std.proofs.Common.{◌≡◌, ◌&&◌, nat_lt, Bool, true, false, ℕ, ◌^◌, ◌<◌, ◌≤◌, ◌++◌, length, codes, List, [], ◌∷◌, IsTrue, refl, lit<, lit≤, ltb-true}
+use Rattle.std.proofs.lemmas.Bool.{and_parts}
+use Rattle.std.specs.List.{list_all, flat_map, AllByRecursion}
+use Rattle.sftp_wire.specs.declared.packets.Packet.TheVariants.{Init, Version}
+use Rattle.sftp_wire.specs.Spelling.{spelling, AreBytes, FitsString, FitsPair, FitsAttrs, HasSpelling}
+use Rattle.sftp_wire.specs.Rows.{hex, no_attributes, server_extensions}
+use Rattle.sftp_audit.specs.declared.events.Event.{Event}
+use Rattle.sftp_audit.specs.Transcript.{IsEvent, IsRecord, event_record, transcript_opening, packet_of}
+use Rattle.sftp_audit.proofs.answers.PlaceTexts.{bytes_by}
+use Rattle.sftp_audit.specs.Examples.{mkdir, rmdir, status, handshake_bytes, backward_replies, backward_replies_bytes}
+
+string_by : (bytes : List ℕ) → IsTrue (list_all (λ b. nat_lt b 256) bytes) → length bytes < 2 ^ 32 → FitsString bytes
+string_by bytes is short = record { bytes_fit = bytes_by bytes is; length_fits = short }
+
+nothing_fits : FitsAttrs no_attributes
+nothing_fits = record { size = tt; owner = tt; permissions = tt; times = tt; extended = tt }
+
+mkdir_spelled : (id : ℕ) (path : List ℕ) → id < 2 ^ 32 → FitsString path → length (spelling (packet_of (mkdir id path))) ≤ 34000 → IsEvent (mkdir id path)
+mkdir_spelled id path small fits whole = record { spelled = record { fields = (small, (fits, nothing_fits)); whole = whole; handle = tt; canonical = refl }; judged = refl }
+
+rmdir_spelled : (id : ℕ) (path : List ℕ) → id < 2 ^ 32 → FitsString path → length (spelling (packet_of (rmdir id path))) ≤ 34000 → IsEvent (rmdir id path)
+rmdir_spelled id path small fits whole = record { spelled = record { fields = (small, fits); whole = whole; handle = tt; canonical = refl }; judged = refl }
+
+empty : FitsString []
+empty = record { bytes_fit = tt; length_fits = lit< tt }
+
+status_spelled : (id code : ℕ) → id < 2 ^ 32 → code < 2 ^ 32 → length (spelling (packet_of (status id code))) ≤ 34000 → IsEvent (status id code)
+status_spelled id code small code_small whole = record { spelled = record { fields = (small, (code_small, empty, empty)); whole = whole; handle = tt; canonical = refl }; judged = refl }
+
+one : FitsString (codes "1")
+one = string_by (codes "1") refl (lit< tt)
+
+extensions_fit : AllByRecursion FitsPair server_extensions
+extensions_fit = (
+  (string_by (codes "posix-rename@openssh.com") refl (lit< tt), one),
+  (
+    (string_by (codes "hardlink@openssh.com") refl (lit< tt), one),
+    ((string_by (codes "fsync@openssh.com") refl (lit< tt), one), tt),
+  ),
+)
+
+init_spelled : HasSpelling (Init 3 [])
+unfolding spelling
+init_spelled = record { fields = (lit< tt, tt); whole = lit≤ tt; handle = tt; canonical = refl }
+
+version_spelled : HasSpelling (Version 3 server_extensions)
+unfolding spelling
+version_spelled = record { fields = (lit< tt, extensions_fit); whole = lit≤ tt; handle = tt; canonical = refl }
+
+events_spelled : AllByRecursion IsEvent (backward_replies 4)
+unfolding spelling
+events_spelled = (
+  mkdir_spelled 1 (codes "/a") (lit< tt) (string_by (codes "/a") refl (lit< tt)) (lit≤ tt),
+  (
+    mkdir_spelled 2 (codes "/a/b") (lit< tt) (string_by (codes "/a/b") refl (lit< tt)) (lit≤ tt),
+    (
+      rmdir_spelled 3 (codes "/a") (lit< tt) (string_by (codes "/a") refl (lit< tt)) (lit≤ tt),
+      (
+        status_spelled 3 4 (lit< tt) (lit< tt) (lit≤ tt),
+        (
+          status_spelled 2 0 (lit< tt) (lit< tt) (lit≤ tt),
+          (status_spelled 1 0 (lit< tt) (lit< tt) (lit≤ tt), tt),
+        ),
+      ),
+    ),
+  ),
+)
+
+-- ---- the bytes
+
+-- the bytes behind the opening
+abbrev opened_with : List ℕ → List ℕ
+opened_with records = (67 ∷ spelling (Init 3 [])) ++ ((83 ∷ spelling (Version 3 server_extensions)) ++ records)
+
+-- the events of this handshake
+recorded_by : (events : List Event) (bytes : List ℕ) → AllByRecursion IsEvent events → bytes ≡ transcript_opening ++ opened_with (flat_map event_record events) → IsRecord events bytes
+recorded_by events bytes spelled are = record {
+  opened = opened_with (flat_map event_record events);
+  records = flat_map event_record events;
+  opening = are;
+  handshake = record {
+    version = 3;
+    asked = [];
+    told = server_extensions;
+    high_enough = lit≤ tt;
+    init = init_spelled;
+    answer = version_spelled;
+    bytes_are = refl;
+  };
+  recorded = record { spelled = spelled; bytes_are = refl };
+}
+
+handshake_is : handshake_bytes ≡ transcript_opening ++ opened_with []
+unfolding spelling hex
+handshake_is = refl
+
+pub handshake_recorded : IsRecord [] handshake_bytes
+handshake_recorded = recorded_by [] handshake_bytes tt handshake_is
+
+backwards_are : backward_replies_bytes ≡ transcript_opening ++ opened_with (flat_map event_record (backward_replies 4))
+unfolding spelling hex
+backwards_are = refl
+
+pub backwards_recorded : IsRecord (backward_replies 4) backward_replies_bytes
+backwards_recorded = recorded_by (backward_replies 4) backward_replies_bytes events_spelled backwards_are

@@ -1,0 +1,158 @@
+-- What the worked examples name: trees, events, and the sessions made of them.
+use Rattle.std.specs.Prelude.{ℕ, List, [], ◌∷◌, ◌++◌, map, codes, Some}
+use Rattle.sftp_wire.specs.declared.attributes.Attrs.{Attrs}
+use Rattle.sftp_wire.specs.declared.names.NameItem.{NameItem}
+use Rattle.sftp_wire.specs.declared.packets.Ask.TheVariants.{Opendir, Mkdir, Rmdir, Stat, Lstat, Realpath, Readlink, Symlink}
+use Rattle.sftp_wire.specs.declared.packets.Answer.TheVariants.{Status, Data, Name, Attrs as attributes}
+use Rattle.sftp_wire.specs.Rows.{hex, no_attributes, version_bytes}
+use Rattle.sftp_audit.specs.declared.events.Event.{Event}
+use Rattle.sftp_audit.specs.declared.events.Event.TheVariants.{Asked, Replied}
+use Rattle.sftp_path.specs.Place.{Place}
+use Rattle.sftp_tree.specs.declared.nodes.Node.{Node}
+use Rattle.sftp_tree.specs.declared.nodes.Node.TheVariants.{Dir, Link}
+use Rattle.sftp_tree.specs.Tree.{Tree}
+use Rattle.sftp_tree.specs.Picture.{blank}
+use Rattle.sftp_audit.specs.Replies.{Allowed}
+use Rattle.sftp_audit.specs.Explained.{Explained}
+
+-- ---- trees
+
+-- a directory of user 0 and group 0 that its owner may write
+abbrev pub plain_directory : Node
+plain_directory = Dir (record { uid = 0; gid = 0; permissions = 0o755 })
+
+-- the blank tree with other entries
+abbrev pub tree_of : List (Place × Node) → Tree
+tree_of names = record blank { names = names }
+
+-- with the directory `/a`
+abbrev pub with_a : Tree
+with_a = tree_of (([], plain_directory) ∷ (codes "a" ∷ [], plain_directory) ∷ [])
+
+-- with the directories `/a` and `/a/b`
+abbrev pub with_a_and_b : Tree
+with_a_and_b = tree_of (([], plain_directory) ∷ (codes "a" ∷ [], plain_directory) ∷ (codes "a" ∷ codes "b" ∷ [], plain_directory) ∷ [])
+
+-- its tree file
+abbrev pub with_a_and_b_bytes : List ℕ
+with_a_and_b_bytes = hex (codes "5346545245453031 00000001 2f 00000000 00000000 00000002 00000000 00000000 000001ed 00000002 2f61 44 00000000 00000000 000001ed 00000004 2f612f62 44 00000000 00000000 000001ed")
+
+-- with the link `/l` to `x y`
+abbrev pub with_link : Tree
+with_link = tree_of (([], plain_directory) ∷ (codes "l" ∷ [], Link (codes "x y")) ∷ [])
+
+-- ---- events
+
+-- a request for a directory of the tree's own owner
+abbrev pub mkdir : ℕ → List ℕ → Event
+mkdir id path = Asked (record { id = id; ask = Mkdir path no_attributes })
+
+abbrev pub rmdir : ℕ → List ℕ → Event
+rmdir id path = Asked (record { id = id; ask = Rmdir path })
+
+-- a request that cannot be judged yet
+abbrev pub open_directory : ℕ → List ℕ → Event
+open_directory id path = Asked (record { id = id; ask = Opendir path })
+
+abbrev pub stat : ℕ → List ℕ → Event
+stat id path = Asked (record { id = id; ask = Stat path })
+
+abbrev pub lstat : ℕ → List ℕ → Event
+lstat id path = Asked (record { id = id; ask = Lstat path })
+
+abbrev pub real_path : ℕ → List ℕ → Event
+real_path id path = Asked (record { id = id; ask = Realpath path })
+
+abbrev pub read_link : ℕ → List ℕ → Event
+read_link id path = Asked (record { id = id; ask = Readlink path })
+
+-- a request for a link with this target
+abbrev pub symlink : ℕ → List ℕ → List ℕ → Event
+symlink id linktarget link = Asked (record { id = id; ask = Symlink linktarget link })
+
+-- a reply with a code, and no texts
+abbrev pub status : ℕ → ℕ → Event
+status id code = Replied (record { id = id; answer = Status code [] [] })
+
+-- a reply with bytes of a file
+abbrev pub data_reply : ℕ → List ℕ → Event
+data_reply id bytes = Replied (record { id = id; answer = Data bytes })
+
+-- a name of which nothing else is said
+abbrev pub bare_name : List ℕ → NameItem
+bare_name name = record { filename = name; longname = []; attrs = no_attributes }
+
+-- a reply with these names
+abbrev pub name_reply : ℕ → List (List ℕ) → Event
+name_reply id names = Replied (record { id = id; answer = Name (map bare_name names) })
+
+-- a reply with these attributes
+abbrev pub attributes_reply : ℕ → Attrs → Event
+attributes_reply id attrs = Replied (record { id = id; answer = attributes attrs })
+
+-- those of a link of user 0 and group 0, whose target has so many bytes
+abbrev pub of_link : ℕ → Attrs
+of_link size = record no_attributes { size = Some size; owner = Some (0, 0); permissions = Some 0o120777 }
+
+-- the same, but for the permissions
+abbrev pub with_no_permissions : ℕ → Attrs
+with_no_permissions size = record no_attributes { size = Some size; owner = Some (0, 0) }
+
+-- ---- sessions
+
+-- three requests on one path and its parent
+abbrev pub three_asked : List Event
+three_asked = mkdir 1 (codes "/a") ∷ mkdir 2 (codes "/a/b") ∷ rmdir 3 (codes "/a") ∷ []
+
+-- their replies come in the opposite order, and the last request is refused with this code
+abbrev pub backward_replies : ℕ → List Event
+backward_replies code = three_asked ++ status 3 code ∷ status 2 0 ∷ status 1 0 ∷ []
+
+-- the second request has no reply
+abbrev pub one_unanswered : List Event
+one_unanswered = three_asked ++ status 3 4 ∷ status 1 0 ∷ []
+
+-- the first request has two replies
+abbrev pub one_answered_twice : List Event
+one_answered_twice = three_asked ++ status 3 4 ∷ status 2 0 ∷ status 1 0 ∷ status 1 0 ∷ []
+
+-- the same directory, asked for twice and in two spellings; the second is refused with this code
+abbrev pub same_directory_twice : ℕ → List Event
+same_directory_twice code = mkdir 1 (codes "/a") ∷ mkdir 2 (codes "a/.") ∷ status 2 code ∷ status 1 0 ∷ []
+
+-- a directory is asked for, and the reply has bytes of a file
+abbrev pub data_for_mkdir : List Event
+data_for_mkdir = mkdir 1 (codes "/a") ∷ data_reply 1 (codes "a") ∷ []
+
+-- a request that cannot be judged yet, for a directory that does not exist, with the code that says so
+abbrev pub opendir_of_nothing : List Event
+opendir_of_nothing = open_directory 1 (codes "/a") ∷ status 1 2 ∷ []
+
+-- the link `/l` to `x y` is made and looked at: READLINK is answered with these names, STAT says that there is no such file, and LSTAT
+-- is answered with these attributes
+abbrev pub link_session : List (List ℕ) → Attrs → List Event
+link_session names attrs =
+    symlink 1 (codes "x y") (codes "/l") ∷ status 1 0 ∷ read_link 2 (codes "/l") ∷ name_reply 2 names ∷ stat 3 (codes "/l") ∷ status 3 2 ∷ lstat 4 (codes "/l") ∷ attributes_reply 4 attrs ∷ []
+
+-- the parent of the root's parent is asked for
+abbrev pub above_the_root : List Event
+above_the_root = real_path 1 (codes "/../..") ∷ name_reply 1 (codes "/" ∷ []) ∷ []
+
+-- the transcript file of a session without a request: the opening, an INIT of version 3, and the VERSION
+abbrev pub handshake_bytes : List ℕ
+handshake_bytes = hex (codes "5346545054523031 43 00000005 01 00000003 53") ++ version_bytes
+
+-- the transcript file of the replies that come backwards, the removal being refused
+abbrev pub backward_replies_bytes : List ℕ
+backward_replies_bytes =
+    handshake_bytes ++
+    hex (codes "43 0000000f 0e 00000001 00000002 2f61 00000000") ++
+    hex (codes "43 00000011 0e 00000002 00000004 2f612f62 00000000") ++
+    hex (codes "43 0000000b 0f 00000003 00000002 2f61") ++
+    hex (codes "53 00000011 65 00000003 00000004 00000000 00000000") ++
+    hex (codes "53 00000011 65 00000002 00000000 00000000 00000000") ++
+    hex (codes "53 00000011 65 00000001 00000000 00000000 00000000")
+
+-- no run from the blank tree explains the events, whatever the end
+abbrev pub Unexplained : List Event → Type 0
+Unexplained events = (end : Tree) → ¬ Explained Allowed blank events end

@@ -1,0 +1,68 @@
+//! The auditor, from bytes to bytes.
+ghost use Rattle.std.specs.Prelude.{◌≡◌, ◌≢◌, List, IfOk, IfErr};
+ghost use Rattle.sftp_audit.specs.declared.errors.AuditError.TheVariants.{NoMemory};
+ghost use Rattle.sftp_tree.specs.Tree as values;
+ghost use Rattle.sftp_tree.specs.Picture.{picture};
+ghost use Rattle.sftp_audit.specs.Audit.{Accounts, IsReason, IsPlain, request_count};
+
+use crate::errors::AuditError;
+use crate::ledger::pair;
+use crate::records::read_events;
+use crate::runs::run;
+use sftp_tree::Tree;
+use std::alloc::Global;
+
+/// The result of an accepted session.
+#[derive(Debug, Drop)]
+pub struct Accepted {
+    /// The tree file of the tree after the last request.
+    pub tree: Vec<u8>,
+    /// How many requests there were, up to 2^64 - 1.
+    pub requests: u64,
+}
+
+/// Says whether a tree allows every reply of a recorded session, in whatever order the replies came, and what
+/// tree the session ends in.
+///
+/// It accepts exactly where the bytes of the tree file are a tree, those of the transcript file record a
+/// session, each reply answers one earlier request, each request is answered before 1,024 more are asked, and
+/// doing the requests one at a time in the order asked makes every reply one that the tree allows
+/// (draft-ietf-secsh-filexfer-02, section 6.1).
+///
+/// # Errors
+///
+/// The tree file is judged first, then the transcript file, then the session.
+///
+/// - `Tree` where the bytes are not a tree file; the fault is the first one from left to right.
+/// - `Transcript` where the tree file is good, but the bytes are not a transcript file or record a request that cannot
+///   be judged yet; the fault is the first one from left to right.
+/// - `Refused` where both files are good and the tree does not explain the session.
+/// - `NoMemory` where memory ran out. The other errors never have `NoMemory` inside.
+pub fn audit(alloc: Global, tree: &[u8], transcript: &[u8]) -> Result<Accepted, AuditError>
+    // An accepted session accounts for a run, and the result is the tree where it ends.
+    ensures accepted { IfOk result (λ accepted. (start : values.Tree) × (events : List _) × (end : values.Tree)
+        × Accounts tree.now transcript.now start events end
+        × (accepted.tree.items ≡ picture end)
+        × (accepted.requests ≡ request_count events)) }
+    // A refused session accounts for no run, unless memory ran out.
+    ensures refused { IfErr result (λ e. e ≢ NoMemory → (start : values.Tree) (events : List _) (end : values.Tree)
+        → Accounts tree.now transcript.now start events end → ⊥) }
+    // Each kind of error has its reason.
+    ensures reasons { IfErr result (IsReason tree.now transcript.now) }
+    ensures plain { IfErr result IsPlain }
+{
+    let mut state = Tree::read(alloc, tree)?;
+    let events = read_events(alloc, transcript)?;
+    let exchanges = pair(alloc, events.as_slice())?;
+    run(&mut state, exchanges.as_slice())?;
+    let requests = exchanges.len() as u64;
+    let tree = state.write()?;
+    Ok(Accepted { tree, requests })
+}
+
+#[cfg(test)]
+mod files;
+#[cfg(test)]
+mod links;
+#[cfg(test)]
+mod tests;

@@ -1,0 +1,77 @@
+//! Worked examples: sessions that the definitions explain, and sessions that they do not, as theorems on the
+//! definitions that the auditor's contract names. The functions do nothing; each promise is in the contract.
+ghost use Rattle.std.specs.Prelude.{◌≡◌, List, [], ◌∷◌, codes};
+ghost use Rattle.sftp_tree.specs.Picture.{picture, blank};
+ghost use Rattle.sftp_audit.specs.Transcript.{IsRecord};
+ghost use Rattle.sftp_audit.specs.Replies.{Allowed};
+ghost use Rattle.sftp_audit.specs.Explained.{Explained};
+ghost use Rattle.sftp_audit.specs.Examples.{with_a, with_a_and_b, with_a_and_b_bytes, with_link, handshake_bytes};
+ghost use Rattle.sftp_audit.specs.Examples.{backward_replies, backward_replies_bytes, one_unanswered, one_answered_twice};
+ghost use Rattle.sftp_audit.specs.Examples.{same_directory_twice, data_for_mkdir, opendir_of_nothing, link_session};
+ghost use Rattle.sftp_audit.specs.Examples.{of_link, with_no_permissions, above_the_root, Unexplained};
+
+/// A session without a request ends where it starts.
+pub fn nothing_asked()
+    ensures explained { Explained Allowed blank [] blank }
+    ensures recorded { IsRecord [] handshake_bytes }
+{}
+
+/// Three requests are asked before any is answered: to make `/a`, to make `/a/b`, and to remove `/a`. The
+/// replies come in the opposite order, and the removal is refused with FAILURE. That is explained by doing
+/// the requests in the order asked, where `/a` is not empty; the end has both directories, and 77 bytes as a
+/// tree file.
+pub fn out_of_order_run()
+    ensures explained { Explained Allowed blank (backward_replies 4) with_a_and_b }
+    ensures pictured { picture with_a_and_b ≡ with_a_and_b_bytes }
+    ensures recorded { IsRecord (backward_replies 4) backward_replies_bytes }
+{}
+
+/// The same session is not explained where the removal says OK, nor where it says NO_SUCH_FILE, which would
+/// be right only in the order in which the replies came.
+pub fn wrong_codes()
+    ensures removed { Unexplained (backward_replies 0) }
+    ensures in_order_of_arrival { Unexplained (backward_replies 2) }
+{}
+
+/// The same session is not explained where a request has no reply, nor where one has two.
+pub fn wrong_turns()
+    ensures unanswered { Unexplained one_unanswered }
+    ensures answered_twice { Unexplained one_answered_twice }
+{}
+
+/// `/a` and `a/.` lead to one place, so that the second request to make it is refused with FAILURE and not
+/// with NO_SUCH_FILE.
+pub fn made_twice_refused()
+    ensures taken { Explained Allowed blank (same_directory_twice 4) with_a }
+    ensures not_absent { Unexplained (same_directory_twice 2) }
+{}
+
+/// A reply of another kind does not explain a request to make a directory, and no reply explains a request that cannot
+/// be judged yet.
+pub fn other_kinds()
+    ensures other_reply { Unexplained data_for_mkdir }
+    ensures other_request { Unexplained opendir_of_nothing }
+{}
+
+/// The link `/l` to `x y` is made; READLINK gives its target, STAT finds no such file, since the target does not
+/// exist, and LSTAT gives the target's length as the size, the tree's owner, and the permissions of a link.
+pub fn link_is_made()
+    ensures { Explained Allowed blank (link_session (codes "x y" ∷ []) (of_link 3)) with_link }
+{}
+
+/// The same session is not explained where LSTAT gives another size, or leaves the permissions out.
+pub fn wrong_attributes()
+    ensures other_size { Unexplained (link_session (codes "x y" ∷ []) (of_link 4)) }
+    ensures no_permissions { Unexplained (link_session (codes "x y" ∷ []) (with_no_permissions 3)) }
+{}
+
+/// The same session is not explained where READLINK gives another text, or two names.
+pub fn wrong_names()
+    ensures other_text { Unexplained (link_session (codes "x" ∷ []) (of_link 3)) }
+    ensures two_names { Unexplained (link_session (codes "x y" ∷ codes "x y" ∷ []) (of_link 3)) }
+{}
+
+/// The parent of the root is the root: REALPATH gives `/`.
+pub fn root_is_its_parent()
+    ensures { Explained Allowed blank above_the_root blank }
+{}

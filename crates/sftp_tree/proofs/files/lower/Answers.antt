@@ -1,0 +1,30 @@
+use Rattle.std.proofs.Common.{◌-◌, ◌<◌, sym, ap, ◌∙◌, arith}
+use Rattle.std.specs.Option.{option_copied_mut}
+use Rattle.std.proofs.lemmas.Option.{MatchOption-at_some}
+use Rattle.sftp_path.specs.Table.{get}
+use Rattle.sftp_tree.specs.declared.contents.Stored.{Stored}
+use Rattle.sftp_tree.specs.Stored.{without_a_name}
+use Rattle.sftp_tree.proofs.StoredFiles.{changed-nowhere, changed-written, changed-removed, without_a_name-last, without_a_name-other}
+use Rattle.sftp_tree.proofs.files.lower.Goals as goal
+
+pub returns-in_default : goal.returns-in_default
+returns-in_default c =
+    changed-nowhere without_a_name c.args.number c.args.files.now c.get_mut.follows.lender-at-none c.get_mut.ensures.ordered (sym c.get_mut.ensures.value ∙ ap option_copied_mut c.in_default.is) c.get_mut.follows.holds-at-none
+
+pub overflow_sub-stored : goal.overflow_sub-stored
+unfolding get
+overflow_sub-stored c =
+    let some : 0 < c.in-Some.stored.now.names = MatchOption-at_some _ (λ (s : Stored). 0 < s.names) c.in-Some.stored.now (sym c.in-Some.ensures.value) c.requires in
+    omega arith
+
+pub returns-then-stored-eq0 : goal.returns-then-stored-eq0
+returns-then-stored-eq0 c =
+    let s : Stored = c.in-Some.stored.now in
+    let w : Stored = record s { names = s.names - 1 } in
+    changed-removed without_a_name c.args.number c.args.files.now (c.get_mut.follows.lender w) c.remove.new.self s w (sym c.in-Some.ensures.value) (without_a_name-last s c.if-stored-eq0.true) (c.get_mut.follows.holds w) c.remove.ensures.updates c.remove.ensures.ordered
+
+pub returns-else-stored-eq0 : goal.returns-else-stored-eq0
+returns-else-stored-eq0 c =
+    let s : Stored = c.in-Some.stored.now in
+    let w : Stored = record s { names = s.names - 1 } in
+    changed-written without_a_name c.args.number c.args.files.now (c.get_mut.follows.lender w) s w (sym c.in-Some.ensures.value) (without_a_name-other s c.if-stored-eq0.false) (c.get_mut.follows.holds w)

@@ -1,0 +1,198 @@
+//! The files of a tree, by their numbers. Nothing outside knows how they are kept.
+ghost use Rattle.std.specs.Prelude.{◌≡◌, ◌+◌, ◌<◌, ◌^◌, [], length, OnOk, OnErr, IfSome, option_copied};
+ghost use Rattle.std.specs.Ordering.{nat_cmp};
+ghost use Rattle.sftp_path.specs.Table.{get, put};
+ghost use Rattle.sftp_treefile.specs.TreeFile.{IsOwner};
+ghost use Rattle.sftp_tree.specs.Tree.{content_at};
+ghost use Rattle.sftp_tree.specs.Attributes.{changed_owner};
+ghost use Rattle.sftp_tree.specs.PictureParts.{HaveRoom, with_name};
+ghost use Rattle.sftp_tree.specs.Stored.{IsChanged, IsChangedWhereNamed, contents, with_a_name, without_a_name, with_attributes_set};
+
+use crate::contents::{Content, Stored, change};
+use crate::file_numbers::FileNo;
+use sftp_path::NoMemory;
+use sftp_wire::Attrs;
+use std::alloc::Global;
+use std::collections::BTreeMap;
+use std::marker::Model;
+
+/// The files of a tree, each with the count of its names.
+#[derive(Debug, Drop)]
+pub(crate) struct Files {
+    by_number: BTreeMap<FileNo, Stored>,
+}
+
+impl Model for Files {
+    ghost use Rattle.sftp_tree.specs.PictureParts.{Stores};
+
+    ghost Value = { Stores };
+
+    ghost view = { λ files. files.by_number.entries };
+}
+
+impl Files {
+    /// No files. It takes no memory.
+    pub(crate) fn new(alloc: Global) -> Files
+        ensures { result ≡ [] }
+    {
+        Files {
+            by_number: BTreeMap::new(alloc),
+        }
+    }
+
+    /// How many files there are.
+    pub(crate) fn len(&self) -> usize
+        ensures { result ≡ length self.now }
+    {
+        self.by_number.len()
+    }
+
+    /// The file of a number.
+    pub(crate) fn get(&self, number: FileNo) -> Option<&Content>
+        ensures { option_copied result ≡ content_at (contents self.now) number }
+    {
+        let stored = self.by_number.get(&number)?;
+        Some(&stored.content)
+    }
+
+    /// How many bytes the files have, at most: a number that does not fit is the largest that does.
+    pub(crate) fn size(&self) -> usize {
+        let mut size: usize = 0;
+        for stored in self.by_number.values() {
+            size = size.saturating_add(stored.content.bytes.as_slice().len());
+        }
+        size
+    }
+
+    /// Puts a file of one name at a number.
+    ///
+    /// # Errors
+    ///
+    /// `NoMemory` where memory runs out; the files are then as before.
+    #[tactic(auto, unfolding(sftp_path::specs::Table::put))]
+    pub(crate) fn put(&mut self, number: FileNo, content: Content) -> Result<(), NoMemory>
+        ensures ok { OnOk result (self.new ≡ put nat_cmp self.old number (record { content = content; names = 1 })) }
+        ensures err { OnErr result (self.new ≡ self.old) }
+    {
+        self.by_number.insert(number, Stored { content, names: 1 })?;
+        Ok(())
+    }
+
+    /// Counts a further name of a file, where one is named.
+    pub(crate) fn count_name(&mut self, named: Option<FileNo>)
+        requires { IfSome named (λ number. IfSome (get nat_cmp self.old number) (λ s. s.names + 1 < 2 ^ 32)) }
+        ensures { IsChangedWhereNamed with_a_name named self.old self.new }
+    {
+        count_name(&mut self.by_number, named);
+    }
+
+    /// Counts a further name of the file of a number, where there is one.
+    pub(crate) fn count_further_name(&mut self, number: FileNo)
+        requires { HaveRoom self.old }
+        ensures { self.new ≡ with_name self.old number (get nat_cmp self.old number) }
+    {
+        count_further_name(&mut self.by_number, number);
+    }
+
+    /// Counts a name less of a file, where one is named. The file goes with its last name.
+    pub(crate) fn forget_name(&mut self, named: Option<FileNo>)
+        requires { IfSome named (λ number. IfSome (get nat_cmp self.old number) (λ s. 0 < s.names)) }
+        ensures { IsChangedWhereNamed without_a_name named self.old self.new }
+    {
+        forget_name(&mut self.by_number, named);
+    }
+
+    /// Sets the attributes of the file of a number, where there is one.
+    ///
+    /// # Errors
+    ///
+    /// `NoMemory` where memory runs out; the files are then as before.
+    pub(crate) fn change_at(&mut self, number: FileNo, attrs: &Attrs) -> Result<(), NoMemory>
+        requires { IfSome (get nat_cmp self.old number) (λ s. IsOwner s.content.owner) }
+        ensures ok { OnOk result (IsChanged (with_attributes_set attrs.now) number self.old self.new) }
+        ensures owned { OnOk result
+            (IfSome (get nat_cmp self.old number) (λ s. IsOwner (changed_owner attrs.now s.content.owner))) }
+        ensures err { OnErr result (self.new ≡ self.old) }
+    {
+        change_at(&mut self.by_number, number, attrs)?;
+        Ok(())
+    }
+}
+
+/// Counts a further name of a file, where one is named.
+fn count_name(files: &mut BTreeMap<FileNo, Stored>, named: Option<FileNo>)
+    requires { IfSome named (λ number. IfSome (get nat_cmp files.old.entries number) (λ s. s.names + 1 < 2 ^ 32)) }
+    ensures { IsChangedWhereNamed with_a_name named files.old.entries files.new.entries }
+{
+    if let Some(number) = named {
+        raise(files, number);
+    }
+}
+
+/// Counts a name less of a file, where one is named. The file goes with its last name.
+fn forget_name(files: &mut BTreeMap<FileNo, Stored>, named: Option<FileNo>)
+    requires { IfSome named (λ number. IfSome (get nat_cmp files.old.entries number) (λ s. 0 < s.names)) }
+    ensures { IsChangedWhereNamed without_a_name named files.old.entries files.new.entries }
+{
+    if let Some(number) = named {
+        lower(files, number);
+    }
+}
+
+/// A file gets a further name.
+fn raise(files: &mut BTreeMap<FileNo, Stored>, number: FileNo)
+    requires { IfSome (get nat_cmp files.old.entries number) (λ s. s.names + 1 < 2 ^ 32) }
+    ensures { IsChanged with_a_name number files.old.entries files.new.entries }
+{
+    if let Some(stored) = files.get_mut(&number) {
+        stored.names += 1;
+    }
+}
+
+/// A file loses a name, and goes with the last one.
+fn lower(files: &mut BTreeMap<FileNo, Stored>, number: FileNo)
+    requires { IfSome (get nat_cmp files.old.entries number) (λ s. 0 < s.names) }
+    ensures { IsChanged without_a_name number files.old.entries files.new.entries }
+{
+    let Some(stored) = files.get_mut(&number) else {
+        return;
+    };
+    stored.names -= 1;
+    if stored.names == 0 {
+        files.remove(&number);
+    }
+}
+
+/// Sets the attributes of the file of a number, where there is one.
+///
+/// # Errors
+///
+/// `NoMemory` where memory runs out; the files are then as before.
+fn change_at(
+    files: &mut BTreeMap<FileNo, Stored>,
+    number: FileNo,
+    attrs: &Attrs,
+) -> Result<(), NoMemory>
+    requires { IfSome (get nat_cmp files.old.entries number) (λ s. IsOwner s.content.owner) }
+    ensures ok { OnOk result
+        (IsChanged (with_attributes_set attrs.now) number files.old.entries files.new.entries) }
+    ensures owned { OnOk result
+        (IfSome (get nat_cmp files.old.entries number) (λ s. IsOwner (changed_owner attrs.now s.content.owner))) }
+    ensures err { OnErr result (files.new.entries ≡ files.old.entries) }
+{
+    if let Some(stored) = files.get_mut(&number) {
+        change(&mut stored.content, attrs)?;
+    }
+    Ok(())
+}
+
+/// Counts a name more of a file.
+#[tactic(auto, unfolding(sftp_path::specs::Table::get))]
+fn count_further_name(files: &mut BTreeMap<FileNo, Stored>, number: FileNo)
+    requires { HaveRoom files.old.entries }
+    ensures { files.new.entries ≡ with_name files.old.entries number (get nat_cmp files.old.entries number) }
+{
+    if let Some(stored) = files.get_mut(&number) {
+        stored.names += 1;
+    }
+}
