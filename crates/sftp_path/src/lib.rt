@@ -17,4 +17,4 @@ pub use names::{Name, is_dot, is_dot_dot, is_name};
 pub use parts::Parts;
 pub use paths::{BadPath, components, good_path};
 pub use places::{DEPTH_LIMIT, Place};
-pub use texts::{absolute, canonical};
+pub use texts::{absolute, canonical, place_of_text};

@@ -29,12 +29,27 @@ pub fn absolute(alloc: Global, names: &[Name]) -> Result<Vec<u8>, NoMemory>
     Ok(text)
 }
 
-/// The place whose absolute text this is, or `None` if there is none. No two places have the same text.
+/// The names of the place whose absolute text this is, or `None` if there is none. No two places have the same text.
 ///
 /// # Errors
 ///
 /// `NoMemory` if memory runs out.
-pub fn canonical(alloc: Global, text: &[u8]) -> Result<Option<Place>, NoMemory>
+pub fn canonical(alloc: Global, text: &[u8]) -> Result<Option<Vec<Name>>, NoMemory>
+    ensures found { IfOk result (λ o. IfSome o (λ names. IsTextOf text.now names.items)) }
+    ensures none { IfOk result (λ o. IfNone o ((place : spec.Place) → IsTextOf text.now place → ⊥)) }
+{
+    match place_of_text(alloc, text)? {
+        Some(place) => Ok(Some(place.into_names())),
+        None => Ok(None),
+    }
+}
+
+/// The place whose absolute text this is, or `None` if there is none: `canonical`, with the names as a place.
+///
+/// # Errors
+///
+/// `NoMemory` if memory runs out.
+pub fn place_of_text(alloc: Global, text: &[u8]) -> Result<Option<Place>, NoMemory>
     ensures found { IfOk result (λ o. IfSome o (λ place. IsTextOf text.now place)) }
     ensures none { IfOk result (λ o. IfNone o ((place : spec.Place) → IsTextOf text.now place → ⊥)) }
 {

@@ -1,7 +1,7 @@
 //! Names, paths and places.
 use sftp_path::{
     Name, NoMemory, Parts, Place, absolute, canonical, components, good_path, is_dot, is_dot_dot,
-    is_name,
+    is_name, place_of_text,
 };
 use std::alloc::Global;
 use std::test::Fail;
@@ -195,8 +195,8 @@ enum Step<'a> {
 
 /// The place of a text, or the root where it is empty or no place's.
 fn place_of(alloc: Global, text: &[u8]) -> Result<Place, NoMemory> {
-    Ok(match canonical(alloc, text)? {
-        Some(names) => Place::from_names(names),
+    Ok(match place_of_text(alloc, text)? {
+        Some(place) => place,
         None => Place::root(alloc),
     })
 }

@@ -9,7 +9,7 @@ ghost use Rattle.sftp_treefile.specs.TreeFileParts.{Reads, ReadsNone, OutOfMemor
 use crate::errors::TreeError;
 use crate::files::{Kind, Owner, Row};
 use crate::limits::TreeLimits;
-use sftp_path::{DEPTH_LIMIT, Place, canonical, good_path};
+use sftp_path::{DEPTH_LIMIT, Place, good_path, place_of_text};
 use sftp_wire::{ByteString, take_number, take_string};
 use std::alloc::{AllocError, Global};
 
@@ -69,7 +69,7 @@ pub(crate) fn place_at<'a>(
     let Some((text, rest)) = take_string(bytes) else {
         return Err(TreeError::Short { entry });
     };
-    let Some(place) = canonical(alloc, text)? else {
+    let Some(place) = place_of_text(alloc, text)? else {
         return Err(TreeError::Value { entry });
     };
     if place.depth() > DEPTH_LIMIT {

@@ -10,7 +10,7 @@ use crate::file_numbers::FileNo;
 use crate::files::Files;
 use crate::nodes::Node;
 use crate::trees::Tree;
-use sftp_path::{NoMemory, Place, canonical};
+use sftp_path::{NoMemory, Place, place_of_text};
 use sftp_treefile::{Kind, Owner, Row, TreeFile};
 use std::alloc::Global;
 
@@ -19,8 +19,8 @@ fn place_of(alloc: Global, text: &[u8]) -> Result<Place, NoMemory>
     requires { IsPlaceText text.now }
     ensures { IfOk result (λ place. place ≡ place_of text.now) }
 {
-    match canonical(alloc, text)? {
-        Some(names) => Ok(Place::from_names(names)),
+    match place_of_text(alloc, text)? {
+        Some(place) => Ok(place),
         None => unreachable!(),
     }
 }

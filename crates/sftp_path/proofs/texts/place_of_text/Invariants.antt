@@ -2,7 +2,7 @@ use Rattle.std.proofs.Common.{◌≡◌, ◌+◌, ◌<◌, ◌++◌, [], ◌∷�
 use Rattle.std.specs.List.{flat_map}
 use Rattle.sftp_path.specs.Place.{are_names, parts}
 use Rattle.sftp_path.specs.Cut.{begins_at_slash, parts_behind}
-use Rattle.sftp_path.proofs.texts.canonical.Given as goal
+use Rattle.sftp_path.proofs.texts.place_of_text.Given as goal
 
 -- the names of the place so far are the parts so far
 abbrev pub invariant-loop-rest : goal.invariant-loop-rest

@@ -4,7 +4,7 @@ use Rattle.std.specs.Cmp.Lexicographic.{pointwise}
 use Rattle.sftp_path.specs.Cut.{parts_behind}
 use Rattle.sftp_path.proofs.AbsoluteTexts.{is_absolute-begins, not_absolute}
 use Rattle.sftp_path.proofs.Splitting.{parts_behind-first}
-use Rattle.sftp_path.proofs.texts.canonical.Goals as goal
+use Rattle.sftp_path.proofs.texts.place_of_text.Goals as goal
 
 pub loop-rest-init : goal.loop-rest-init
 loop-rest-init c =
