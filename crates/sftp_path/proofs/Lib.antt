@@ -1,11 +1,4 @@
-pub mod Splitting
-pub mod GoodPaths
-pub mod AbsoluteTexts
+pub mod PathTexts
 pub mod Order
-pub mod TableLaws
-pub mod EntryLaws
-pub mod RekeyingLaws
-pub mod CountLaws
-pub mod MoveLaws
-pub mod ValueLaws
-pub mod TestLaws
+pub mod Table
+pub mod Move

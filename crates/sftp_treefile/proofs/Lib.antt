@@ -1,6 +1,2 @@
-pub mod FieldTexts
-pub mod HeadTexts
-pub mod LastEntry
-pub mod EntryTexts
-pub mod FileTexts
-pub mod Written
+pub mod Texts
+pub mod Order

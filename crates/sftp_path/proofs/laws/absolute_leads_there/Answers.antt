@@ -1,4 +1,4 @@
-use Rattle.sftp_path.proofs.AbsoluteTexts.{is_absolute-absolute, components-absolute}
+use Rattle.sftp_path.proofs.PathTexts.AbsoluteTexts.{is_absolute-absolute, components-absolute}
 use Rattle.sftp_path.proofs.laws.absolute_leads_there.Goals as goal
 
 pub returns-clause-absolute : goal.returns-clause-absolute

@@ -1,4 +1,4 @@
-use Rattle.sftp_path.proofs.AbsoluteTexts.{found-absolute}
+use Rattle.sftp_path.proofs.PathTexts.AbsoluteTexts.{found-absolute}
 use Rattle.sftp_path.proofs.laws.canonical_undoes_absolute.Goals as goal
 
 pub returns : goal.returns

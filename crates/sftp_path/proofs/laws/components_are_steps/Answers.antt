@@ -1,4 +1,4 @@
-use Rattle.sftp_path.proofs.GoodPaths.{components-steps}
+use Rattle.sftp_path.proofs.PathTexts.GoodPaths.{components-steps}
 use Rattle.sftp_path.proofs.laws.components_are_steps.Goals as goal
 
 pub returns : goal.returns

@@ -1,5 +1,5 @@
-use Rattle.sftp_path.proofs.Splitting.{with_slashes-parts, parts-with_slashes}
-use Rattle.sftp_path.proofs.GoodPaths.{list_all-inner-parts}
+use Rattle.sftp_path.proofs.PathTexts.Splitting.{with_slashes-parts, parts-with_slashes}
+use Rattle.sftp_path.proofs.PathTexts.GoodPaths.{list_all-inner-parts}
 use Rattle.sftp_path.proofs.laws.parts_make_the_path.Goals as goal
 
 pub returns-clause-inner : goal.returns-clause-inner

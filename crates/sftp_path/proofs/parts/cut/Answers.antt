@@ -1,4 +1,4 @@
-use Rattle.sftp_path.proofs.Splitting.{parts-found}
+use Rattle.sftp_path.proofs.PathTexts.Splitting.{parts-found}
 use Rattle.sftp_path.proofs.parts.cut.Goals as goal
 
 pub returns-clause-parts : goal.returns-clause-parts

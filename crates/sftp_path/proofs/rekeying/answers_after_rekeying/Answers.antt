@@ -1,4 +1,4 @@
-use Rattle.sftp_path.proofs.RekeyingLaws.{get-rekeyed_moved, get-rekeyed_left, get-rekeyed_behind, get-rekeyed_elsewhere}
+use Rattle.sftp_path.proofs.Move.Laws.{get-rekeyed_moved, get-rekeyed_left, get-rekeyed_behind, get-rekeyed_elsewhere}
 use Rattle.sftp_path.proofs.rekeying.answers_after_rekeying.Goals as goal
 
 pub returns-clause-moved : goal.returns-clause-moved

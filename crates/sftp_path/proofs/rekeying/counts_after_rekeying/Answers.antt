@@ -1,4 +1,4 @@
-use Rattle.sftp_path.proofs.MoveLaws.{count-rekeyed}
+use Rattle.sftp_path.proofs.Move.Entries.{count-rekeyed}
 use Rattle.sftp_path.proofs.rekeying.counts_after_rekeying.Goals as goal
 
 pub returns : goal.returns

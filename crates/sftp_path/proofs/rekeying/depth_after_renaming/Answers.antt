@@ -1,4 +1,4 @@
-use Rattle.sftp_path.proofs.RekeyingLaws.{length-renamed}
+use Rattle.sftp_path.proofs.Move.Laws.{length-renamed}
 use Rattle.sftp_path.proofs.rekeying.depth_after_renaming.Goals as goal
 
 pub returns : goal.returns

@@ -1,4 +1,4 @@
-use Rattle.sftp_path.proofs.MoveLaws.{rekeyed-empty, rekeyed-last, rekeyed-free, rekeyed-last_of, rekeyed-free_of}
+use Rattle.sftp_path.proofs.Move.Entries.{rekeyed-empty, rekeyed-last, rekeyed-free, rekeyed-last_of, rekeyed-free_of}
 use Rattle.sftp_path.proofs.rekeying.moving_entry_by_entry.Goals as goal
 
 pub returns-clause-none : goal.returns-clause-none

@@ -1,4 +1,4 @@
-use Rattle.sftp_path.proofs.MoveLaws.{rekeyed-alone, rekeyed-alone_put_first}
+use Rattle.sftp_path.proofs.Move.Entries.{rekeyed-alone, rekeyed-alone_put_first}
 use Rattle.sftp_path.proofs.rekeying.moving_what_stands_alone.Goals as goal
 
 pub returns-clause-away_first : goal.returns-clause-away_first

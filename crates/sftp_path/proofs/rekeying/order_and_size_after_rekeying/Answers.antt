@@ -1,4 +1,4 @@
-use Rattle.sftp_path.proofs.RekeyingLaws.{InOrder-rekeyed, size-rekeyed}
+use Rattle.sftp_path.proofs.Move.Laws.{InOrder-rekeyed, size-rekeyed}
 use Rattle.sftp_path.proofs.rekeying.order_and_size_after_rekeying.Goals as goal
 
 pub returns-clause-order : goal.returns-clause-order

@@ -1,4 +1,4 @@
-use Rattle.sftp_path.proofs.RekeyingLaws.{rekeyed-unique, nothing-at}
+use Rattle.sftp_path.proofs.Move.Laws.{rekeyed-unique, nothing-at}
 use Rattle.sftp_path.proofs.rekeying.rekeyed_is_one.Goals as goal
 
 pub returns-clause-left : goal.returns-clause-left

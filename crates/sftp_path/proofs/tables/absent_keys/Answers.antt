@@ -1,4 +1,4 @@
-use Rattle.sftp_path.proofs.EntryLaws.{without-absent}
+use Rattle.sftp_path.proofs.Table.Entries.{without-absent}
 use Rattle.sftp_path.proofs.tables.absent_keys.Goals as goal
 
 pub returns : goal.returns

@@ -1,4 +1,4 @@
-use Rattle.sftp_path.proofs.CountLaws.{count-put_new, count-put_again, count-without, count-found}
+use Rattle.sftp_path.proofs.Table.Counts.{count-put_new, count-put_again, count-without, count-found}
 use Rattle.sftp_path.proofs.tables.counts.Goals as goal
 
 pub returns-clause-put_new : goal.returns-clause-put_new

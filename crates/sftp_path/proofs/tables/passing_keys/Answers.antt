@@ -2,7 +2,7 @@ use Rattle.std.specs.Ordering.{nat_cmp}
 use Rattle.std.specs.FinMap.{nat_cmp-IsAntisymmetric}
 use Rattle.sftp_path.specs.Place.{place_cmp, bytes_cmp}
 use Rattle.sftp_path.proofs.Order.{place_cmp-same, bytes_cmp-same}
-use Rattle.sftp_path.proofs.TestLaws.{keys-put_again}
+use Rattle.sftp_path.proofs.Table.Tests.{keys-put_again}
 use Rattle.sftp_path.proofs.tables.passing_keys.Goals as goal
 
 pub returns-clause-places : goal.returns-clause-places

@@ -1,4 +1,4 @@
-use Rattle.sftp_path.proofs.TestLaws.{all-put_new, all-without, values-put, keys-put_in_order}
+use Rattle.sftp_path.proofs.Table.Tests.{all-put_new, all-without, values-put, keys-put_in_order}
 use Rattle.sftp_path.proofs.tables.passing_tests.Goals as goal
 
 pub returns-clause-put_new : goal.returns-clause-put_new

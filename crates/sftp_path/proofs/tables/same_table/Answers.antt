@@ -4,7 +4,7 @@ use Rattle.std.specs.Cmp.Lexicographic.{nat_list_cmp_total}
 use Rattle.std.specs.FinMap.{nat_cmp-IsAntisymmetric}
 use Rattle.sftp_path.specs.Place.{place_cmp, bytes_cmp}
 use Rattle.sftp_path.proofs.Order.{place_cmp-total, place_cmp-same, bytes_cmp-same}
-use Rattle.sftp_path.proofs.TableLaws.{same_table}
+use Rattle.sftp_path.proofs.Table.Laws.{same_table}
 use Rattle.sftp_path.proofs.tables.same_table.Goals as goal
 
 pub returns-clause-places : goal.returns-clause-places

@@ -1,4 +1,4 @@
-use Rattle.sftp_path.proofs.TableLaws.{size-put, size-put_present, size-without}
+use Rattle.sftp_path.proofs.Table.Laws.{size-put, size-put_present, size-without}
 use Rattle.sftp_path.proofs.tables.sizes.Goals as goal
 
 pub returns-clause-put_new : goal.returns-clause-put_new

@@ -2,7 +2,7 @@
 use Rattle.std.proofs.Common.{inr, ap, length, ◌∙◌, arith}
 use Rattle.std.proofs.lemmas.Bool.{false≢true}
 use Rattle.std.proofs.lemmas.Result.{err_from_is_err_and}
-use Rattle.sftp_treefile.proofs.EntryTexts.{or_fault, path_unfit, path_absent}
+use Rattle.sftp_treefile.proofs.Texts.Entries.{or_fault, path_unfit, path_absent}
 use Rattle.sftp_treefile.proofs.entries.path_at.Goals as goal
 
 pub returns-in_err-text-clause-none : goal.returns-in_err-text-clause-none

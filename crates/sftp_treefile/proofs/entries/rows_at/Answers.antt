@@ -1,7 +1,7 @@
 -- One entry more, or none that may come next.
 use Rattle.std.proofs.Common.{◌≡◌, ◌+◌, ◌-◌, arith}
 use Rattle.std.proofs.lemmas.Result.{err_from_is_err_and}
-use Rattle.sftp_treefile.proofs.EntryTexts.{or_fault, read_none, read_more, row_none}
+use Rattle.sftp_treefile.proofs.Texts.Entries.{or_fault, read_none, read_more, row_none}
 use Rattle.sftp_treefile.proofs.entries.rows_at.Goals as goal
 use Rattle.sftp_treefile.proofs.entries.rows_at.Goals.{else-loop-entry-test, then-loop-entry-test+in_ok-row+in_ok-put_row+else-entry-count}
 

@@ -1,7 +1,7 @@
 -- The fields, one after the other.
 use Rattle.std.proofs.Common.{◌≡◌, ◌++◌, List, ℕ, ap, ◌∙◌}
 use Rattle.sftp_treefile.specs.TreeFileParts.{front_text}
-use Rattle.sftp_treefile.proofs.Written.{head_pieces}
+use Rattle.sftp_treefile.proofs.Texts.Pieces.{head_pieces}
 use Rattle.sftp_treefile.proofs.writing.put_head.Goals as goal
 
 pub returns : goal.returns

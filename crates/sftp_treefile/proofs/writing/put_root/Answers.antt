@@ -1,7 +1,7 @@
 -- The fields, one after the other.
 use Rattle.sftp_wire.specs.Spelling.{uint32}
 use Rattle.sftp_treefile.specs.TreeFile.{owner_text}
-use Rattle.sftp_treefile.proofs.Written.{two_pieces}
+use Rattle.sftp_treefile.proofs.Texts.Pieces.{two_pieces}
 use Rattle.sftp_treefile.proofs.writing.put_root.Goals as goal
 
 pub returns : goal.returns

@@ -2,8 +2,8 @@
 use Rattle.std.proofs.Common.{◌≡◌, ◌++◌, List, ℕ, length, ap, ◌∙◌}
 use Rattle.sftp_treefile.specs.declared.files.Row.{Row}
 use Rattle.sftp_treefile.specs.TreeFileParts.{front_text, root_text}
-use Rattle.sftp_treefile.proofs.FieldTexts.{path_length}
-use Rattle.sftp_treefile.proofs.Written.{two_pieces}
+use Rattle.sftp_treefile.proofs.Texts.Fields.{path_length}
+use Rattle.sftp_treefile.proofs.Texts.Pieces.{two_pieces}
 use Rattle.sftp_treefile.proofs.writing.put_start.Goals as goal
 
 pub put_front-requires : goal.put_front-requires

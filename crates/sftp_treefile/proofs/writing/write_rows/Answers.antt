@@ -5,9 +5,9 @@ use Rattle.std.proofs.lemmas.List.{take_all}
 use Rattle.sftp_treefile.specs.declared.files.Row.{Row}
 use Rattle.sftp_treefile.specs.TreeFile.{row_text, AreRows}
 use Rattle.sftp_treefile.specs.TreeFileParts.{head_text}
-use Rattle.sftp_treefile.proofs.FieldTexts.{usual_file_bytes}
-use Rattle.sftp_treefile.proofs.FileTexts.{head_written}
-use Rattle.sftp_treefile.proofs.Written.{row_at_place}
+use Rattle.sftp_treefile.proofs.Texts.Fields.{usual_file_bytes}
+use Rattle.sftp_treefile.proofs.Texts.Files.{head_written}
+use Rattle.sftp_treefile.proofs.Texts.Pieces.{row_at_place}
 use Rattle.sftp_treefile.proofs.writing.write_rows.Goals as goal
 
 pub put_row-requires : goal.put_row-requires

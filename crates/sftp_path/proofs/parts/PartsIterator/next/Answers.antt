@@ -1,7 +1,7 @@
 use Rattle.std.proofs.Common.{◌≡◌, [], ◌∷◌, length, ap, sym, ◌∙◌, arith}
 use Rattle.sftp_path.specs.Split.{Split}
 use Rattle.sftp_path.specs.Place.{components}
-use Rattle.sftp_path.proofs.Splitting.{components-next, components-end}
+use Rattle.sftp_path.proofs.PathTexts.Splitting.{components-next, components-end}
 use Rattle.sftp_path.proofs.parts.PartsIterator.next.Goals as goal
 
 pub returns-in_err-start-clause-steps : goal.returns-in_err-start-clause-steps

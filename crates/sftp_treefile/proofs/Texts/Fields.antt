@@ -9,7 +9,7 @@ use Rattle.std.proofs.lemmas.Nat.{from_be_bytes-to_be_bytes_4}
 use Rattle.sftp_wire.specs.Spelling.{uint32, string}
 use Rattle.sftp_path.specs.Place.{Place, is_name, is_name_byte, is_dot, is_dot_dot, are_names, absolute, components, depth_limit, path_limit, name_limit, is_good_path}
 use Rattle.sftp_path.specs.Text.{IsTextOf}
-use Rattle.sftp_path.proofs.AbsoluteTexts.{components-absolute}
+use Rattle.sftp_path.proofs.PathTexts.AbsoluteTexts.{components-absolute}
 use Rattle.sftp_treefile.specs.declared.files.Owner.{Owner}
 use Rattle.sftp_treefile.specs.declared.files.Kind.{Kind}
 use Rattle.sftp_treefile.specs.declared.files.Kind.TheVariants.{Dir, First, Further, Link}

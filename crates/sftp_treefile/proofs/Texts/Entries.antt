@@ -10,7 +10,7 @@ use Rattle.sftp_treefile.specs.declared.files.Row.{Row}
 use Rattle.sftp_treefile.specs.declared.limits.TreeLimits.{TreeLimits}
 use Rattle.sftp_treefile.specs.TreeFile.{row_text, kind_text, IsPlaceText, IsKind, IsNext, AreRows}
 use Rattle.sftp_treefile.specs.TreeFileParts.{Reads, ReadsNone, OutOfMemoryOr, Follows, AreRead, AreNone}
-use Rattle.sftp_treefile.proofs.FieldTexts.{path_front, kind_front}
+use Rattle.sftp_treefile.proofs.Texts.Fields.{path_front, kind_front}
 
 -- ---- an entry
 

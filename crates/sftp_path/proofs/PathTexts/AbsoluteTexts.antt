@@ -8,8 +8,8 @@ use Rattle.std.proofs.lemmas.List.{append-nil}
 use Rattle.sftp_path.specs.Place.{is_inner, is_dot, is_dot_dot, is_name_byte, is_name, name_limit, are_names, absolute, parts, components, is_nonempty, is_absolute, Name, Place}
 use Rattle.sftp_path.specs.Text.{IsTextOf}
 use Rattle.sftp_path.specs.Cut.{begins_at_slash, parts_behind}
-use Rattle.sftp_path.proofs.Splitting.{is_nonzero, parts-whole, parts-append, parts-from_slash, parts-slash, components-slash, components-nil, components-are}
-use Rattle.sftp_path.proofs.GoodPaths.{is_octet, list_all-weaker, list_all-between, filter_all}
+use Rattle.sftp_path.proofs.PathTexts.Splitting.{is_nonzero, parts-whole, parts-append, parts-from_slash, parts-slash, components-slash, components-nil, components-are}
+use Rattle.sftp_path.proofs.PathTexts.GoodPaths.{is_octet, list_all-weaker, list_all-between, filter_all}
 
 -- ---- absolute texts
 

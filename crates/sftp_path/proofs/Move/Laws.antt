@@ -12,8 +12,8 @@ use Rattle.sftp_path.specs.Place.{Place, place_cmp, same_bytes, begins}
 use Rattle.sftp_path.specs.Table.{Table, InOrder, get, from_entries, size}
 use Rattle.sftp_path.specs.Rekeying.{renamed, renamed_entry, rekeyed, NothingFrom}
 use Rattle.sftp_path.proofs.Order.{begins-front, begins-append, place_cmp-total, place_cmp-same}
-use Rattle.sftp_path.proofs.EntryLaws.{get-none}
-use Rattle.sftp_path.proofs.TableLaws.{get-empty, get-cons, get-below, get-from_entries, InOrder-from_entries, size-put, same_table}
+use Rattle.sftp_path.proofs.Table.Entries.{get-none}
+use Rattle.sftp_path.proofs.Table.Laws.{get-empty, get-cons, get-below, get-from_entries, InOrder-from_entries, size-put, same_table}
 
 -- ---- places
 

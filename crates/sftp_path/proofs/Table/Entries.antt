@@ -12,7 +12,7 @@ use Rattle.std.specs.FinMap.{IsAntisymmetric}
 use Rattle.std.proofs.lemmas.Bool.{false_from_ne_true}
 use Rattle.std.proofs.lemmas.Cmp.{tied_itself}
 use Rattle.sftp_path.specs.Table.{Table, InOrder, get, put, without, from_entries}
-use Rattle.sftp_path.proofs.TableLaws.{get-empty, get-cons, get-put, get-without, get-from_entries, InOrder-put, InOrder-without, InOrder-from_entries, same_table}
+use Rattle.sftp_path.proofs.Table.Laws.{get-empty, get-cons, get-put, get-without, get-from_entries, InOrder-put, InOrder-without, InOrder-from_entries, same_table}
 
 none-parts : {X : Type 0} (b : Bool) (value : X) (o : Option X) → cond b (Some value) o ≡ None
     → (b ≡ false) × (o ≡ None)

@@ -7,7 +7,7 @@ use Rattle.sftp_treefile.specs.declared.limits.TreeLimits.{TreeLimits}
 use Rattle.sftp_treefile.specs.Limits.{usual_limits}
 use Rattle.sftp_treefile.specs.TreeFile.{tree_opening, owner_text, IsPlaceText, IsOwner}
 use Rattle.sftp_treefile.specs.TreeFileParts.{Reads, ReadsNone, IsNumber, IsCount, head_bytes, IsHead}
-use Rattle.sftp_treefile.proofs.FieldTexts.{number_front, owner_front, path_front}
+use Rattle.sftp_treefile.proofs.Texts.Fields.{number_front, owner_front, path_front}
 
 -- what follows the gid, the uid, and the home
 behind_gid : Head → List ℕ → List ℕ

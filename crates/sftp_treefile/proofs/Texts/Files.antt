@@ -11,9 +11,9 @@ use Rattle.sftp_treefile.specs.declared.heads.Head.{Head}
 use Rattle.sftp_treefile.specs.declared.limits.TreeLimits.{TreeLimits}
 use Rattle.sftp_treefile.specs.TreeFile.{tree_opening, owner_text, row_text, spelled, AreRows, IsTreeFile, IsSpelled}
 use Rattle.sftp_treefile.specs.TreeFileParts.{Reads, ReadsNone, OutOfMemoryOr, head_bytes, IsHead, head_text, AreRead, AreNone}
-use Rattle.sftp_treefile.proofs.FieldTexts.{usual_file_bytes}
-use Rattle.sftp_treefile.proofs.HeadTexts.{head_front}
-use Rattle.sftp_treefile.proofs.EntryTexts.{entries_are_one}
+use Rattle.sftp_treefile.proofs.Texts.Fields.{usual_file_bytes}
+use Rattle.sftp_treefile.proofs.Texts.Heads.{head_front}
+use Rattle.sftp_treefile.proofs.Texts.Entries.{entries_are_one}
 
 -- ---- a head and entries
 

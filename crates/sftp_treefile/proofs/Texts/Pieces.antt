@@ -8,7 +8,7 @@ use Rattle.sftp_treefile.specs.declared.heads.Head.{Head}
 use Rattle.sftp_treefile.specs.declared.limits.TreeLimits.{TreeLimits}
 use Rattle.sftp_treefile.specs.TreeFile.{tree_opening, owner_text, IsKind, AreRows}
 use Rattle.sftp_treefile.specs.TreeFileParts.{front_text, root_text, head_bytes, KindHasLengths, HasLengths}
-use Rattle.sftp_treefile.proofs.FieldTexts.{path_length, target_length, file_bytes_length}
+use Rattle.sftp_treefile.proofs.Texts.Fields.{path_length, target_length, file_bytes_length}
 
 pub two_pieces : (a b o0 o1 o2 : List ℕ) → o1 ≡ o0 ++ a → o2 ≡ o1 ++ b → o2 ≡ o0 ++ (a ++ b)
 two_pieces a b o0 o1 o2 p q = rw (q, p) (simp append_assoc)

@@ -1,5 +1,5 @@
 -- Laws of a test that all entries of a table pass, after each operation.
-use Rattle.std.proofs.Common.{◌≡◌, Bool, true, false, cond, ◌&&◌, [], ◌∷◌, map, refl, ap, ◌∙◌, Some, None}
+use Rattle.std.proofs.Common.{◌≡◌, Bool, true, false, cond, ◌&&◌, [], ◌∷◌, refl, ap, ◌∙◌, Some, None}
 use Rattle.std.specs.Bool.{IsTrue}
 use Rattle.std.specs.Ordering.{is_eq, match_ordering}
 use Rattle.std.specs.declared.cmp.Ordering.{Ordering}
@@ -13,12 +13,7 @@ use Rattle.std.proofs.lemmas.Bool.{and_parts, and_from}
 use Rattle.std.proofs.lemmas.Map.{lookup-none}
 use Rattle.std.proofs.lemmas.Map.Entries.{none_below_head}
 use Rattle.std.proofs.lemmas.Map.Keys.{sorted_tail}
-use Rattle.sftp_path.specs.Place.{Place, place_cmp}
-use Rattle.sftp_path.specs.Table.{Table, InOrder, get, put, without, from_entries}
-use Rattle.sftp_path.specs.Rekeying.{renamed, renamed_entry, rekeyed, NothingFrom}
-use Rattle.sftp_path.proofs.Order.{place_cmp-total}
-use Rattle.sftp_path.proofs.TableLaws.{get-from_entries}
-use Rattle.sftp_path.proofs.RekeyingLaws.{nothing-behind, first-alone}
+use Rattle.sftp_path.specs.Table.{Table, InOrder, get, put, without}
 
 swap-tests : (a b c : Bool) → (a && (b && c)) ≡ (b && (a && c))
 swap-tests true b c = refl
@@ -175,23 +170,3 @@ module _ {K X : Type 0} (cmp : K → K → Ordering) where
         → get cmp es key ≡ Some old → list_all (λ e. test e.0) (put cmp es key value) ≡ list_all (λ e. test e.0) es
     unfolding get put
     keys-put_in_order es key value old test = keys-insert_in_order test es key value old
-
--- ---- a directory that moves
-
-module _ {X : Type 0} (old new : Place) where
-  all-made : (keeps : Place × X → Bool) (es : Table Place X) → InOrder place_cmp es → NothingFrom es new
-      → list_all keeps (from_entries place_cmp (map (renamed_entry old new) es))
-      ≡ list_all (λ e. keeps (renamed_entry old new e)) es
-  unfolding from_entries
-  all-made keeps [] order nothing = refl
-  all-made keeps (e ∷ es) order nothing =
-      let others : Table Place X = map (renamed_entry old new) es in
-      all-put_new place_cmp (from_entries place_cmp others) (renamed old new e.0) e.1 keeps
-      (get-from_entries place_cmp place_cmp-total others (renamed old new e.0) ∙ first-alone old new e es order nothing)
-      ∙ ap (λ b. keeps (renamed_entry old new e) && b) (all-made keeps es (sorted_tail place_cmp e.0 (keys_of es) order) (nothing-behind old new e es nothing))
-
-  pub all-rekeyed : (table : Table Place X) (keeps : Place × X → Bool) → InOrder place_cmp table
-      → NothingFrom table new
-      → list_all keeps (rekeyed old new table) ≡ list_all (λ e. keeps (renamed_entry old new e)) table
-  unfolding rekeyed
-  all-rekeyed table keeps = all-made keeps table

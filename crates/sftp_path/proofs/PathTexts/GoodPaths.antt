@@ -8,7 +8,7 @@ use Rattle.std.proofs.lemmas.Bool.{eq-eqb, ne_eqb, leb-true, le-leb, lt-leb, lt-
 use Rattle.std.proofs.lemmas.List.{at_drop_more, at_drop_all}
 use Rattle.std.proofs.lemmas.List.Folds.{list_all-append}
 use Rattle.sftp_path.specs.Place.{is_step, is_inner, is_dot, is_dot_dot, is_name_byte, is_name, name_limit, path_limit, with_first, parts, components, is_nonempty, is_good_path}
-use Rattle.sftp_path.proofs.Splitting.{is_nonzero, is_short, parts-nil, parts-slash, parts-inner, components-are, filter-nonempty}
+use Rattle.sftp_path.proofs.PathTexts.Splitting.{is_nonzero, is_short, parts-nil, parts-slash, parts-inner, components-are, filter-nonempty}
 
 -- ---- tests of each element
 

@@ -1,0 +1,2 @@
+-- The order of entries.
+pub mod LastEntry
