@@ -8,7 +8,7 @@ use Rattle.std.specs.Cmp.Lexicographic.{pointwise, same_text}
 use Rattle.sftp_path.specs.Place.{Place, place_cmp}
 use Rattle.sftp_path.specs.Rekeying.{rekeyed}
 use Rattle.sftp_path.specs.Table.{Table, get}
-use Rattle.sftp_path.proofs.EntryLaws.{without-absent}
+use Rattle.sftp_path.proofs.Table.Entries.{without-absent}
 use Rattle.sftp_treefile.specs.TreeFile.{is_root, same_place}
 use Rattle.sftp_tree.specs.declared.nodes.Node.{Node}
 use Rattle.sftp_tree.specs.declared.nodes.Node.TheVariants.{Dir, File, Link}

@@ -13,11 +13,11 @@ use Rattle.sftp_path.specs.Place.{Name, Place, place_cmp, begins, depth_limit}
 use Rattle.sftp_path.specs.Table.{get, without}
 use Rattle.sftp_path.specs.Rekeying.{renamed, rekeyed, NothingFrom}
 use Rattle.sftp_path.proofs.Order.{place_cmp-same, begins-front, begins-append}
-use Rattle.sftp_path.proofs.TableLaws.{InOrder-without}
-use Rattle.sftp_path.proofs.TestLaws.{all-without}
-use Rattle.sftp_path.proofs.TestLaws as tests
-use Rattle.sftp_path.proofs.RekeyingLaws.{renamed-outside, length-renamed, size-rekeyed}
-use Rattle.sftp_path.proofs.EntryLaws.{without-absent}
+use Rattle.sftp_path.proofs.Table.Laws.{InOrder-without}
+use Rattle.sftp_path.proofs.Table.Tests.{all-without}
+use Rattle.sftp_path.proofs.Move.Tests as tests
+use Rattle.sftp_path.proofs.Move.Laws.{renamed-outside, length-renamed, size-rekeyed}
+use Rattle.sftp_path.proofs.Table.Entries.{without-absent}
 use Rattle.sftp_tree.specs.declared.nodes.Node.{Node}
 use Rattle.sftp_tree.specs.Tree.{Names, Tree, IsKept, limits, fits, depth_fits, link_fits, node_at, without_node, is_taken}
 use Rattle.sftp_tree.specs.Judged.{reaches_at_most, move_fits}

@@ -12,7 +12,7 @@ use Rattle.sftp_path.specs.Place.{Place, place_cmp}
 use Rattle.sftp_path.specs.Table.{InOrder, kept}
 use Rattle.sftp_path.specs.Rekeying.{rekeyed}
 use Rattle.sftp_path.proofs.Order.{place_cmp-same}
-use Rattle.sftp_path.proofs.TableLaws.{InOrder-put, get-retain}
+use Rattle.sftp_path.proofs.Table.Laws.{InOrder-put, get-retain}
 use Rattle.sftp_tree.specs.declared.contents.Content.{Content}
 use Rattle.sftp_tree.specs.declared.nodes.Node.{Node}
 use Rattle.sftp_tree.specs.declared.nodes.Node.TheVariants.{Dir, File, Link}

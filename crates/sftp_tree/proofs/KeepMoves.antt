@@ -10,7 +10,7 @@ use Rattle.sftp_path.specs.Place.{Name, Place, place_cmp, parent, begins, is_nam
 use Rattle.sftp_path.specs.Table.{InOrder}
 use Rattle.sftp_path.specs.Rekeying.{rekeyed, NothingFrom}
 use Rattle.sftp_path.proofs.Order.{begins-front, place_cmp-total, place_cmp-same}
-use Rattle.sftp_path.proofs.RekeyingLaws.{nothing-at, get-rekeyed_moved, get-rekeyed_elsewhere, get-rekeyed_behind, InOrder-rekeyed}
+use Rattle.sftp_path.proofs.Move.Laws.{nothing-at, get-rekeyed_moved, get-rekeyed_elsewhere, get-rekeyed_behind, InOrder-rekeyed}
 use Rattle.sftp_treefile.specs.TreeFile.{is_root}
 use Rattle.sftp_tree.specs.declared.nodes.Node.{Node}
 use Rattle.sftp_tree.specs.Tree.{Names, Files, Tree, WellFormed, IsKept, IsNode, fits, node_at, without_node, is_taken, is_directory, has_entries, trim}

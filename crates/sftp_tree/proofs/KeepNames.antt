@@ -7,7 +7,7 @@ use Rattle.std.specs.List.{AllByRecursion}
 use Rattle.sftp_path.specs.Place.{Place, place_cmp, parent, are_names}
 use Rattle.sftp_path.specs.Table.{InOrder}
 use Rattle.sftp_path.proofs.Order.{place_cmp-total, place_cmp-same}
-use Rattle.sftp_path.proofs.TableLaws.{get-put, get-put_elsewhere, get-without, get-without_elsewhere, InOrder-put, InOrder-without}
+use Rattle.sftp_path.proofs.Table.Laws.{get-put, get-put_elsewhere, get-without, get-without_elsewhere, InOrder-put, InOrder-without}
 use Rattle.sftp_treefile.specs.TreeFile.{IsOwner, is_root}
 use Rattle.sftp_treefile.specs.declared.files.Owner.{Owner}
 use Rattle.sftp_tree.specs.declared.nodes.Node.{Node}

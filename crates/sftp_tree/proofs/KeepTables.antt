@@ -10,7 +10,7 @@ use Rattle.std.proofs.lemmas.Bool.{and_parts, and_from}
 use Rattle.std.proofs.lemmas.Cmp.{tied_itself}
 use Rattle.std.proofs.lemmas.Map.Keys.{sorted_head, sorted_tail}
 use Rattle.sftp_path.specs.Table.{Table, InOrder, get, put, retain}
-use Rattle.sftp_path.proofs.TableLaws.{get-empty, get-cons, get-below, get-put, InOrder-put}
+use Rattle.sftp_path.proofs.Table.Laws.{get-empty, get-cons, get-below, get-put, InOrder-put}
 
 -- ---- each entry of a list
 

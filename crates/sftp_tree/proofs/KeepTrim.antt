@@ -8,9 +8,9 @@ use Rattle.std.proofs.lemmas.Cmp.{nat_cmp_total}
 use Rattle.sftp_path.specs.Place.{Place, place_cmp}
 use Rattle.sftp_path.specs.Table.{retain, kept}
 use Rattle.sftp_path.proofs.Order.{place_cmp-total, place_cmp-same}
-use Rattle.sftp_path.proofs.GoodPaths.{filter_all}
-use Rattle.sftp_path.proofs.TableLaws.{InOrder-retain, get-retain}
-use Rattle.sftp_path.proofs.CountLaws.{count-found}
+use Rattle.sftp_path.proofs.PathTexts.GoodPaths.{filter_all}
+use Rattle.sftp_path.proofs.Table.Laws.{InOrder-retain, get-retain}
+use Rattle.sftp_path.proofs.Table.Counts.{count-found}
 use Rattle.sftp_tree.specs.declared.contents.Content.{Content}
 use Rattle.sftp_tree.specs.declared.nodes.Node.{Node}
 use Rattle.sftp_tree.specs.declared.nodes.Node.TheVariants.{Dir, File, Link}

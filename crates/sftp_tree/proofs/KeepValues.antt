@@ -7,8 +7,8 @@ use Rattle.sftp_wire.specs.declared.attributes.Attrs.{Attrs}
 use Rattle.sftp_path.specs.Place.{Place, place_cmp}
 use Rattle.sftp_path.specs.Table.{InOrder}
 use Rattle.sftp_path.proofs.Order.{place_cmp-total}
-use Rattle.sftp_path.proofs.TableLaws.{get-put, InOrder-put}
-use Rattle.sftp_path.proofs.CountLaws.{count-put_again}
+use Rattle.sftp_path.proofs.Table.Laws.{get-put, InOrder-put}
+use Rattle.sftp_path.proofs.Table.Counts.{count-put_again}
 use Rattle.sftp_treefile.specs.declared.files.Owner.{Owner}
 use Rattle.sftp_treefile.specs.TreeFile.{IsOwner}
 use Rattle.sftp_tree.specs.declared.contents.Content.{Content}

@@ -5,7 +5,7 @@ use Rattle.std.specs.List.{AllByRecursion}
 use Rattle.std.proofs.lemmas.Bool.{eqb-true, leb-true, le-leb, eq-eqb, ne_eqb, cases_lt, cond-true, cond-false, and_parts, and_from}
 use Rattle.std.proofs.lemmas.List.{append-nil}
 use Rattle.sftp_path.specs.Place.{Place}
-use Rattle.sftp_path.proofs.AbsoluteTexts.{components-absolute}
+use Rattle.sftp_path.proofs.PathTexts.AbsoluteTexts.{components-absolute}
 use Rattle.sftp_treefile.specs.declared.files.Owner.{Owner}
 use Rattle.sftp_treefile.specs.declared.files.Kind.{Kind}
 use Rattle.sftp_treefile.specs.declared.files.Kind.TheVariants as kinds

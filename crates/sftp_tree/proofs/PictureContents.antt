@@ -12,7 +12,7 @@ use Rattle.std.proofs.lemmas.Bool.{cases_eq, cond-true, cond-false, eq-eqb, ne_e
 use Rattle.std.proofs.lemmas.Bool.Decides.{nat_tests}
 use Rattle.std.proofs.lemmas.List.{length-append}
 use Rattle.sftp_path.specs.Table.{InOrder}
-use Rattle.sftp_path.proofs.TableLaws.{get-empty, get-cons, same_table}
+use Rattle.sftp_path.proofs.Table.Laws.{get-empty, get-cons, same_table}
 use Rattle.sftp_tree.specs.declared.contents.Content.{Content}
 use Rattle.sftp_tree.specs.Tree.{Files, content_at}
 use Rattle.sftp_tree.specs.PictureParts.{numbered_from}

@@ -9,7 +9,7 @@ use Rattle.std.proofs.lemmas.List.Elements.{filter-append}
 use Rattle.sftp_path.specs.Place.{Place, are_names, components}
 use Rattle.sftp_path.specs.Table.{retain}
 use Rattle.sftp_path.specs.Text.{IsTextOf}
-use Rattle.sftp_path.proofs.AbsoluteTexts.{components-absolute}
+use Rattle.sftp_path.proofs.PathTexts.AbsoluteTexts.{components-absolute}
 use Rattle.sftp_treefile.specs.declared.files.Owner.{Owner}
 use Rattle.sftp_treefile.specs.declared.files.Kind.{Kind}
 use Rattle.sftp_treefile.specs.declared.files.Kind.TheVariants as kinds
@@ -18,7 +18,7 @@ use Rattle.sftp_treefile.specs.declared.files.TreeFile.{TreeFile}
 use Rattle.sftp_treefile.specs.declared.limits.TreeLimits.{TreeLimits}
 use Rattle.sftp_treefile.specs.Limits.{usual_limits}
 use Rattle.sftp_treefile.specs.TreeFile.{place_of, IsOwner, IsKind, AreRows, IsTreeFile, spelled, IsSpelled}
-use Rattle.sftp_treefile.proofs.FileTexts.{one_file}
+use Rattle.sftp_treefile.proofs.Texts.Files.{one_file}
 use Rattle.sftp_tree.specs.declared.contents.Content.{Content}
 use Rattle.sftp_tree.specs.declared.nodes.Node.{Node}
 use Rattle.sftp_tree.specs.declared.nodes.Node.TheVariants.{Dir, File, Link}

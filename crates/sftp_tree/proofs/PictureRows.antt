@@ -7,7 +7,7 @@ use Rattle.sftp_path.specs.Table.{get}
 use Rattle.sftp_treefile.specs.declared.files.Kind.TheVariants as kinds
 use Rattle.sftp_treefile.specs.declared.files.TreeFile.{TreeFile}
 use Rattle.sftp_treefile.specs.Limits.{usual_limits}
-use Rattle.sftp_treefile.specs.Rows.{blank_bytes}
+use Rattle.sftp_treefile.specs.Examples.{blank_bytes}
 use Rattle.sftp_treefile.specs.TreeFile.{has_dir, spelled, IsPlaceText, IsTreeFile, IsSpelled}
 use Rattle.sftp_tree.specs.Tree.{IsKept}
 use Rattle.sftp_tree.specs.Picture.{IsStart, picture, blank}

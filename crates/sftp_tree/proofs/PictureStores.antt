@@ -20,8 +20,8 @@ use Rattle.std.proofs.lemmas.Map.Keys.{sorted_head, sorted_tail}
 use Rattle.sftp_path.specs.Place.{Place, place_cmp, parent}
 use Rattle.sftp_path.specs.Table.{InOrder, get, put, retain}
 use Rattle.sftp_path.proofs.Order.{place_cmp-total}
-use Rattle.sftp_path.proofs.TableLaws.{get-empty, get-cons}
-use Rattle.sftp_path.proofs.ValueLaws.{get-with_values, with_values-put}
+use Rattle.sftp_path.proofs.Table.Laws.{get-empty, get-cons}
+use Rattle.sftp_path.proofs.Table.Values.{get-with_values, with_values-put}
 use Rattle.sftp_treefile.specs.declared.files.Owner.{Owner}
 use Rattle.sftp_treefile.specs.declared.files.Kind.{Kind}
 use Rattle.sftp_treefile.specs.declared.files.Kind.TheVariants as kinds

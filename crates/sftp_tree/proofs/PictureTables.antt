@@ -20,7 +20,7 @@ use Rattle.std.specs.Cmp.{Equal-is}
 use Rattle.sftp_path.specs.Place.{Place, place_cmp, parent, are_names}
 use Rattle.sftp_path.specs.Table.{InOrder, get}
 use Rattle.sftp_path.proofs.Order.{place_cmp-total, place_cmp-same}
-use Rattle.sftp_path.proofs.TableLaws.{get-below}
+use Rattle.sftp_path.proofs.Table.Laws.{get-below}
 use Rattle.sftp_treefile.specs.declared.files.Owner.{Owner}
 use Rattle.sftp_treefile.specs.declared.files.Kind.{Kind}
 use Rattle.sftp_treefile.specs.declared.files.Kind.TheVariants as kinds

@@ -10,13 +10,13 @@ use Rattle.std.proofs.lemmas.Bool.{eqb-true, eq-eqb}
 use Rattle.std.proofs.lemmas.List.{append-nil, length-take-le, take-append-drop, flat_map_more}
 use Rattle.sftp_path.specs.Place.{Place, absolute}
 use Rattle.sftp_path.specs.Table.{get, put}
-use Rattle.sftp_path.proofs.TableLaws.{get-empty, get-put}
+use Rattle.sftp_path.proofs.Table.Laws.{get-empty, get-put}
 use Rattle.sftp_treefile.specs.declared.files.Row.{Row}
 use Rattle.sftp_treefile.specs.Limits.{usual_limits}
 use Rattle.sftp_treefile.specs.TreeFile.{row_text}
 use Rattle.sftp_treefile.specs.TreeFileParts.{head_bytes}
-use Rattle.sftp_treefile.proofs.FieldTexts.{path_length, target_length}
-use Rattle.sftp_treefile.proofs.FileTexts.{spelled_head}
+use Rattle.sftp_treefile.proofs.Texts.Fields.{path_length, target_length}
+use Rattle.sftp_treefile.proofs.Texts.Files.{spelled_head}
 use Rattle.sftp_tree.specs.declared.contents.Content.{Content}
 use Rattle.sftp_tree.specs.declared.nodes.Node.{Node}
 use Rattle.sftp_tree.specs.declared.nodes.Node.TheVariants.{Dir, File, Link}

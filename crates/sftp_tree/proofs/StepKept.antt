@@ -2,7 +2,7 @@
 use Rattle.std.proofs.Common.{◌≡◌, ◌<◌, ℕ, ◌+◌, Bool, true, false, ◌||◌, refl, if◌then◌else◌, arith, None, IsTrue}
 use Rattle.std.proofs.lemmas.Bool.{lt-ltb, ltb-true, or_left, or_right}
 use Rattle.sftp_path.specs.Place.{Place, place_cmp, parent, are_names}
-use Rattle.sftp_path.proofs.CountLaws.{count-put_new}
+use Rattle.sftp_path.proofs.Table.Counts.{count-put_new}
 use Rattle.sftp_treefile.specs.TreeFile.{is_root}
 use Rattle.sftp_tree.specs.declared.nodes.Node.{Node}
 use Rattle.sftp_tree.specs.Tree.{Names, Tree, IsKept, IsNode, fits, node_at, with_node, without_node, is_directory, has_entries, names_file, times_named, is_named, is_pinned, is_held, trim}

@@ -8,7 +8,7 @@ use Rattle.std.specs.Cmp.{IsTotalOrder, Equal-is}
 use Rattle.std.specs.FinMap.{IsAntisymmetric, nat_cmp-IsAntisymmetric}
 use Rattle.std.specs.BTreeMap.{BTreeMap, IsOrdered, UpdatesBy, WritesThrough, get_by}
 use Rattle.sftp_path.specs.Table.{get, put}
-use Rattle.sftp_path.proofs.TableLaws.{get-put, InOrder-put, same_table}
+use Rattle.sftp_path.proofs.Table.Laws.{get-put, InOrder-put, same_table}
 use Rattle.sftp_tree.specs.declared.contents.Stored.{Stored}
 use Rattle.sftp_tree.specs.Stored.{IsChanged, without_a_name}
 

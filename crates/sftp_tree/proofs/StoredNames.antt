@@ -9,10 +9,10 @@ use Rattle.std.proofs.lemmas.Bool.Decides.{nat_tests}
 use Rattle.std.proofs.lemmas.Option.{same_Some}
 use Rattle.sftp_path.specs.Place.{Place, place_cmp}
 use Rattle.sftp_path.specs.Table.{Table, InOrder, get, retain, kept}
-use Rattle.sftp_path.proofs.TableLaws.{get-put_here, get-put_elsewhere, get-retain, InOrder-put, InOrder-retain, same_table}
-use Rattle.sftp_path.proofs.CountLaws.{count-put_new, count-without}
-use Rattle.sftp_path.proofs.EntryLaws.{without-absent}
-use Rattle.sftp_path.proofs.ValueLaws.{get-with_values, InOrder-with_values}
+use Rattle.sftp_path.proofs.Table.Laws.{get-put_here, get-put_elsewhere, get-retain, InOrder-put, InOrder-retain, same_table}
+use Rattle.sftp_path.proofs.Table.Counts.{count-put_new, count-without}
+use Rattle.sftp_path.proofs.Table.Entries.{without-absent}
+use Rattle.sftp_path.proofs.Table.Values.{get-with_values, InOrder-with_values}
 use Rattle.sftp_tree.specs.declared.contents.Content.{Content}
 use Rattle.sftp_tree.specs.declared.contents.Stored.{Stored}
 use Rattle.sftp_tree.specs.declared.nodes.Node.{Node}

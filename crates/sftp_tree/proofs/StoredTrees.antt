@@ -11,8 +11,8 @@ use Rattle.std.proofs.Math.Bool.{or-false}
 use Rattle.std.proofs.lemmas.Map.Made.{keys_of-map_values}
 use Rattle.sftp_path.specs.Place.{Place, place_cmp}
 use Rattle.sftp_path.specs.Table.{Table, InOrder, get, retain}
-use Rattle.sftp_path.proofs.TableLaws.{get-empty}
-use Rattle.sftp_path.proofs.ValueLaws.{get-with_values}
+use Rattle.sftp_path.proofs.Table.Laws.{get-empty}
+use Rattle.sftp_path.proofs.Table.Values.{get-with_values}
 use Rattle.sftp_tree.specs.declared.contents.Content.{Content}
 use Rattle.sftp_tree.specs.declared.contents.Stored.{Stored}
 use Rattle.sftp_tree.specs.declared.nodes.Node.{Node}

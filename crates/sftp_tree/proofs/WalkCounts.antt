@@ -4,7 +4,7 @@ use Rattle.std.specs.List.{list_all}
 use Rattle.std.proofs.lemmas.Bool.{and_parts, leb-true, cases_Bool}
 use Rattle.std.proofs.lemmas.List.{length-append}
 use Rattle.sftp_path.specs.Place.{Name, Place, parent, path_limit, name_limit, with_first, parts, components, is_nonempty, is_absolute, is_good_path}
-use Rattle.sftp_path.proofs.Splitting.{parts-nil, parts-slash, parts-inner, components-are, filter-nonempty}
+use Rattle.sftp_path.proofs.PathTexts.Splitting.{parts-nil, parts-slash, parts-inner, components-are, filter-nonempty}
 use Rattle.sftp_tree.specs.declared.nodes.Node.TheVariants.{Link}
 use Rattle.sftp_tree.specs.Tree.{node_at, Tree, IsKept}
 use Rattle.sftp_tree.specs.Walk.{Meeting, is_last, start_of, meets, looked, steps_of, looked_limit}

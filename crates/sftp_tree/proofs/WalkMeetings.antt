@@ -7,7 +7,7 @@ use Rattle.std.proofs.lemmas.Bool.{and_parts, and_from, and_right, false≢true}
 use Rattle.std.proofs.lemmas.List.Folds.{list_all-append}
 use Rattle.sftp_path.specs.Place.{Name, Place, place_cmp, parent, is_dot, is_dot_dot, is_name, is_step, is_good_path, components}
 use Rattle.sftp_path.specs.Table.{get}
-use Rattle.sftp_path.proofs.GoodPaths.{components-steps}
+use Rattle.sftp_path.proofs.PathTexts.GoodPaths.{components-steps}
 use Rattle.sftp_treefile.specs.declared.files.Owner.{Owner}
 use Rattle.sftp_treefile.specs.TreeFile.{are_bytes}
 use Rattle.sftp_tree.specs.declared.nodes.Node.{Node}

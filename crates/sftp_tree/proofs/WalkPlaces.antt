@@ -4,7 +4,7 @@ use Rattle.std.specs.List.{list_all}
 use Rattle.std.proofs.lemmas.Bool.{and_parts, and_from}
 use Rattle.std.proofs.lemmas.List.Folds.{list_all-append}
 use Rattle.sftp_path.specs.Place.{Name, Place, parent, is_name, is_step, is_dot, is_dot_dot, are_names, components, is_absolute, is_good_path}
-use Rattle.sftp_path.proofs.GoodPaths.{components-steps, list_all-weaker}
+use Rattle.sftp_path.proofs.PathTexts.GoodPaths.{components-steps, list_all-weaker}
 use Rattle.sftp_path.proofs.Order.{parent-entered}
 use Rattle.sftp_treefile.specs.TreeFile.{are_bytes}
 use Rattle.sftp_tree.specs.declared.nodes.Node.TheVariants.{Link}

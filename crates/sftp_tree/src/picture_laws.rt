@@ -1,7 +1,7 @@
 //! Laws of trees and their tree files, as theorems on the definitions that the contracts name. The functions do
 //! nothing; each promise is in the contract.
 ghost use Rattle.std.specs.Prelude.{◌≡◌, ◌++◌, ℕ, List, length, IsTrue};
-ghost use Rattle.sftp_treefile.specs.Rows.{blank_bytes};
+ghost use Rattle.sftp_treefile.specs.Examples.{blank_bytes};
 ghost use Rattle.sftp_treefile.specs.TreeFile.{IsSpelled};
 ghost use Rattle.sftp_treefile.specs.declared.files.TreeFile.{TreeFile};
 ghost use Rattle.sftp_tree.specs.Tree.{Tree, WellFormed, IsKept, fits};

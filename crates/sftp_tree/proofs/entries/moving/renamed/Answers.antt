@@ -1,6 +1,6 @@
 use Rattle.std.proofs.Common.{◌≡◌, true, [], length, ap, arith}
 use Rattle.sftp_path.specs.Place.{begins}
-use Rattle.sftp_path.proofs.RekeyingLaws.{length-renamed}
+use Rattle.sftp_path.proofs.Move.Laws.{length-renamed}
 use Rattle.sftp_tree.proofs.entries.moving.renamed.Goals as goal
 
 -- a place that begins another has no more names

@@ -1,7 +1,7 @@
 use Rattle.std.proofs.Common.{◌≡◌, ◌∙◌, sym, ap, Some, None, option_map}
 use Rattle.std.specs.Ordering.{nat_cmp}
 use Rattle.sftp_path.specs.Table.{get}
-use Rattle.sftp_path.proofs.ValueLaws.{get-with_values}
+use Rattle.sftp_path.proofs.Table.Values.{get-with_values}
 use Rattle.sftp_tree.specs.declared.contents.Stored.{Stored}
 use Rattle.sftp_tree.specs.Tree.{content_at}
 use Rattle.sftp_tree.specs.PictureParts.{Stores}

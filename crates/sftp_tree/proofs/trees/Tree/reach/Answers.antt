@@ -2,7 +2,7 @@ use Rattle.std.proofs.Common.{◌≡◌, ◌++◌, [], refl, sym, ap, ◌∙◌,
 use Rattle.std.specs.List.{list_all}
 use Rattle.sftp_path.specs.Place.{is_step, is_absolute, are_names, components}
 use Rattle.sftp_path.specs.Split.{Split}
-use Rattle.sftp_path.proofs.GoodPaths.{list_all-octets}
+use Rattle.sftp_path.proofs.PathTexts.GoodPaths.{list_all-octets}
 use Rattle.sftp_tree.specs.Walk.{walk, link_limit, steps_of}
 use Rattle.sftp_tree.proofs.WalkSteps.{reached-good, reached-bad, steps-absolute, steps-relative}
 use Rattle.sftp_tree.proofs.WalkPlaces.{steps-from}
