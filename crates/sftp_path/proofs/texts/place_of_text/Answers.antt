@@ -2,15 +2,9 @@ use Rattle.std.proofs.Common.{◌≡◌, ◌∷◌, ◌++◌, [], ap, sym, ◌�
 use Rattle.std.proofs.lemmas.Bool.{false≢true}
 use Rattle.std.specs.Cmp.Lexicographic.{pointwise}
 use Rattle.sftp_path.specs.Cut.{parts_behind}
-<<<<<<< HEAD:crates/sftp_path/proofs/texts/place_of_text/Answers.antt
-use Rattle.sftp_path.proofs.AbsoluteTexts.{is_absolute-begins, not_absolute}
-use Rattle.sftp_path.proofs.Splitting.{parts_behind-first}
-use Rattle.sftp_path.proofs.texts.place_of_text.Goals as goal
-=======
 use Rattle.sftp_path.proofs.PathTexts.AbsoluteTexts.{is_absolute-begins, not_absolute}
 use Rattle.sftp_path.proofs.PathTexts.Splitting.{parts_behind-first}
-use Rattle.sftp_path.proofs.texts.canonical.Goals as goal
->>>>>>> paths:crates/sftp_path/proofs/texts/canonical/Answers.antt
+use Rattle.sftp_path.proofs.texts.place_of_text.Goals as goal
 
 pub loop-rest-init : goal.loop-rest-init
 loop-rest-init c =
