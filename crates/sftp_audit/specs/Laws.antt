@@ -8,7 +8,7 @@ use Rattle.sftp_tree.specs.Tree.{Tree}
 use Rattle.sftp_tree.specs.Steps.{has_step}
 use Rattle.sftp_audit.specs.Replies.{Allowed}
 
--- the request's step has come, and it can be written
+-- the request can be judged and encoded
 pub record IsAskable (request : Request) : Type 0 where
   pub judged : IsTrue (has_step request.ask)
   pub spelled : HasSpelling (request_packet request)

@@ -102,7 +102,7 @@ target_length linktarget is =
     (list_all (λ b. not (b == 0)) linktarget && list_all (λ part. nat_le (length part) name_limit) (components linktarget)) parts.1 in
     leb-true (length linktarget) 4096 sizes.0
 
--- what is shown of what stands in a tree can be written
+-- the attributes of a node can be encoded
 record IsShown (t : Tree) (id : ℕ) (standing : Node) : Type 0 where
   pub attrs : Attrs
   pub is : shown t standing ≡ Some attrs

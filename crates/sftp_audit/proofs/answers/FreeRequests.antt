@@ -1,4 +1,4 @@
--- What stands where the path of a request leads, where no cause refuses it.
+-- The node where the path of a request leads, if no cause refuses the request.
 use Rattle.std.proofs.Common.{◌≡◌, ◌||◌, ℕ, Bool, true, false, List, Option, Some, None, Result, Ok, Err, refl, sym, ap}
 use Rattle.std.proofs.Common.{zero, suc, [], ◌∷◌, slice_get, ◌∙◌}
 use Rattle.std.proofs.lemmas.Bool.{or_parts, or_right}

@@ -1,4 +1,4 @@
--- What is known of a node that stands in a tree that is kept, and of places in it.
+-- What is known of the nodes and the places of a tree that is kept.
 use Rattle.std.proofs.Common.{◌≡◌, ◌&&◌, ℕ, ◌≤◌, Bool, true, false, List, [], ◌∷◌, length, Option, Some, None, refl}
 use Rattle.std.proofs.Common.{subst, cond, leb-true}
 use Rattle.std.proofs.lemmas.Bool.{and_parts}
@@ -46,7 +46,7 @@ limits_of t kept =
     let fifth = and_parts (files_fit t) (numbers_fit t) fourth.1 in
     record { depths = second.0; links = fourth.0; files = fifth.0 }
 
--- what stands at a place fits its fields and the limits
+-- the node at a place fits its fields and the limits
 pub node_kept : (t : Tree) → IsKept t → (place : Place) (standing : Node) → node_at t.names place ≡ Some standing
     → IsNode t.files standing × (link_fits standing ≡ true)
 unfolding get

@@ -46,7 +46,7 @@ item_of text = record { filename = text; longname = []; attrs = no_attributes }
 abbrev pub name_reply : ℕ → List ℕ → Reply
 name_reply id text = record { id = id; answer = replies.Name (item_of text ∷ []) }
 
--- what stands behind the name
+-- the fields behind the name
 behind : (text : List ℕ) → length ((text ++ (string [] ++ attributes no_attributes)) ++ []) ≡ length text + 8
 behind text =
     omega (arith, length-append (text ++ (string [] ++ attributes no_attributes)) [], length-append text (string [] ++ attributes no_attributes))

@@ -1,4 +1,4 @@
--- Why a path leads nowhere: never for want of room.
+-- Why a path leads nowhere: `NoRoom` is never the cause.
 use Rattle.std.proofs.Common.{◌≡◌, ℕ, zero, suc, Bool, true, false, if◌then◌else◌, List, [], ◌∷◌, ◌++◌, Option, Some}
 use Rattle.std.proofs.Common.{None, Result, Ok, Err, refl, ◌∙◌}
 use Rattle.sftp_path.specs.Place.{Name, Place, parent, is_dot, is_dot_dot, components, is_good_path}
@@ -10,7 +10,7 @@ use Rattle.sftp_tree.specs.Tree.{Names, Tree, node_at}
 use Rattle.sftp_tree.specs.Walk.{Meeting, enters, ends, fails, through, is_last, met, meets, start_of, going_on}
 use Rattle.sftp_tree.specs.Walk.{walk_parts, walk, link_limit, steps_of, reached}
 
--- it is not the want of room
+-- it is not `NoRoom`
 abbrev pub IsOther : Cause → Type 0
 IsOther cause = cause ≡ NoRoom → ⊥
 

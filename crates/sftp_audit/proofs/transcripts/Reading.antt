@@ -127,7 +127,7 @@ IsRead-only bytes seen rest none now events are =
     sym (append-nil seen) ∙ ap (λ (es : List Event). seen ++ es) (sym (no_events left.more rest none left.records))
     ∙ sym left.events_are
 
--- ---- what stands before the events
+-- ---- the records before the events
 
 -- the steps by which events are recorded behind the opening
 pub record RecordParts (events : List Event) (opened : List ℕ) : Type 0 where
