@@ -1,27 +1,24 @@
 -- The files of the rows so far, as the code keeps them: each with the count of its names.
-use Rattle.std.proofs.Common.{◌≡◌, ◌≢◌, ℕ, zero, suc, ◌+◌, ◌-◌, ◌^◌, ◌<◌, ◌≤◌, ◌==◌, Bool, true, false, cond, if◌then◌else◌, List, [], ◌∷◌, ◌++◌, length, take, Option, Some, None, refl, sym, ap, subst, ◌∙◌, arith}
-use Rattle.std.specs.Prelude.{IsTrue, is_some, not, slice_index}
-use Rattle.std.specs.BTreeMap.{insert_entry, is_at}
+use Rattle.std.proofs.Common.{◌≡◌, ◌≢◌, ℕ, zero, suc, ◌+◌, ◌-◌, ◌^◌, ◌<◌, ◌≤◌, Bool, true, false, cond, if◌then◌else◌, List, [], ◌∷◌, ◌++◌, length, take, Option, Some, None, refl, sym, ap, subst, ◌∙◌, arith}
+use Rattle.std.specs.Prelude.{IsTrue, not, slice_index}
 use Rattle.std.specs.List.{filter, AllByRecursion}
 use Rattle.std.specs.List.Sorted.{IsStrictlySortedBy}
-use Rattle.std.specs.Map.{keys_of, lookup, set_value}
-use Rattle.std.specs.Option.{option_map}
+use Rattle.std.specs.Map.{keys_of}
+use Rattle.std.specs.Option.{IfSome}
 use Rattle.std.specs.Ordering.{nat_cmp, is_eq, ordering_reverse}
 use Rattle.std.specs.declared.cmp.Ordering.TheVariants.{Less}
 use Rattle.std.specs.Cmp.{nat_cmp_total, nat_cmp_is}
 use Rattle.std.specs.FinMap.{nat_cmp-IsAntisymmetric}
-use Rattle.std.proofs.lemmas.Bool.{eqb-true, eq-eqb, ne_eqb}
-use Rattle.std.proofs.lemmas.Cmp.{ranked}
+use Rattle.std.proofs.lemmas.Bool.{eq-eqb, ne_eqb}
 use Rattle.std.proofs.lemmas.List.{length-append, append-nil, length-map}
 use Rattle.std.proofs.lemmas.List.Elements.{filter-append}
 use Rattle.std.proofs.lemmas.List.Filters.{length-filter_both}
 use Rattle.std.proofs.lemmas.Map.Made.{keys_of-map_values}
-use Rattle.std.proofs.lemmas.Map.Keys.{sorted_head, sorted_tail}
 use Rattle.sftp_path.specs.Place.{Place, place_cmp, parent}
 use Rattle.sftp_path.specs.Table.{InOrder, get, put, retain}
 use Rattle.sftp_path.proofs.Order.{place_cmp-total}
 use Rattle.sftp_path.proofs.Table.Laws.{get-empty, get-cons}
-use Rattle.sftp_path.proofs.Table.Values.{get-with_values, with_values-put}
+use Rattle.sftp_path.proofs.Table.Values.{with_values-put}
 use Rattle.sftp_treefile.specs.declared.files.Owner.{Owner}
 use Rattle.sftp_treefile.specs.declared.files.Kind.{Kind}
 use Rattle.sftp_treefile.specs.declared.files.Kind.TheVariants as kinds
@@ -33,21 +30,25 @@ use Rattle.sftp_tree.specs.declared.contents.Content.{Content}
 use Rattle.sftp_tree.specs.declared.contents.Stored.{Stored}
 use Rattle.sftp_tree.specs.declared.nodes.Node.{Node}
 use Rattle.sftp_tree.specs.declared.nodes.Node.TheVariants.{Dir, File, Link}
-use Rattle.sftp_tree.specs.Tree.{Names, Files, node_at, with_node, is_directory, content_at, names_file, times_named}
-use Rattle.sftp_tree.specs.Stored.{contents, seen, AreCounted}
-use Rattle.sftp_tree.specs.PictureParts.{content_of, contents_of, node_of, only_root, names_of, numbered_from, numbers_from, known_number, known_node, IsKnown, Stores, HaveRoom, with_name, stores_with, IsGrown, tree_of}
+use Rattle.sftp_tree.specs.Tree.{Names, Files, node_at, with_node, is_directory, names_file, times_named}
+use Rattle.sftp_tree.specs.Stored.{contents, seen, AreCounted, file_named, IsChangedWhereNamed, with_a_name}
+use Rattle.sftp_tree.specs.PictureParts.{content_of, contents_of, node_of, only_root, names_of, numbered_from, numbers_from, known_number, known_node, IsKnown, Stores, HaveRoom, AreWithEntry, IsGrown, tree_of}
 use Rattle.sftp_tree.proofs.KeepTables.{each-get}
+use Rattle.sftp_tree.proofs.StoredNames.{raised}
 use Rattle.sftp_tree.proofs.PictureLists.{all_both, all_from_map, insert_last}
 use Rattle.sftp_tree.proofs.PictureTables.{later_than_all, row_parent, bare_names}
 use Rattle.sftp_tree.proofs.PictureShapes.{bare, directory_bare, names_bare}
-use Rattle.sftp_tree.proofs.PictureNumbers.{made_by, made_few, contents_split, FirstAt, first_at, made_front, front_taken, names_push, length-entries, IsBelow, AreBelow, all_below}
-use Rattle.sftp_tree.proofs.PictureContents.{number_is, numbered_there, each_number, numbered_order}
+use Rattle.sftp_tree.proofs.PictureNumbers.{made_by, made_few, contents_split, FirstAt, first_at, names_push, length-entries, IsBelow, AreBelow, all_below}
+use Rattle.sftp_tree.proofs.PictureContents.{each_number, numbered_order}
 
 -- ---- room for a name more
 
-pub room_at : (stores : Stores) (number : ℕ) (s : Stored) → HaveRoom stores → Some s ≡ lookup (is_at (nat_cmp number)) stores → s.names + 1 < 2 ^ 32
-unfolding get
-room_at stores number s room is = each-get nat_cmp nat_cmp-IsAntisymmetric (λ e. e.1.names + 1 < 2 ^ 32) stores number s room (sym is)
+pub room_at : (stores : Stores) (number : ℕ) → HaveRoom stores → IfSome (get nat_cmp stores number) (λ s. s.names + 1 < 2 ^ 32)
+room_at stores number room = by (get nat_cmp stores number) refl
+  where
+    by : (found : Option Stored) → get nat_cmp stores number ≡ found → IfSome found (λ s. s.names + 1 < 2 ^ 32)
+    by None is = tt
+    by (Some s) is = each-get nat_cmp nat_cmp-IsAntisymmetric (λ e. e.1.names + 1 < 2 ^ 32) stores number s room is
 
 counted_room : (names : Names) (stores : Stores) → AreCounted names stores → length names + 1 < 2 ^ 32 → HaveRoom stores
 unfolding retain
@@ -191,42 +192,6 @@ first_counted names place stores cs s same one below counted =
     let new : s.names ≡ times_named more (length cs) = one ∙ omega (arith, times_more names e (length cs) (eq-eqb (length cs) (length cs) refl), none_of (length cs) names below) in
     subst (AreCounted more) (sym (first_put stores cs s same)) (all_both (λ (q : ℕ × Stored). q.1.names ≡ times_named more q.0) stores ((length cs, s) ∷ []) old (new, tt))
 
--- ---- a name more
-
-again_contents : (number : ℕ) (stores : Stores) (s new : Stored) → new.content ≡ s.content → lookup (is_at (nat_cmp number)) stores ≡ Some s → contents (set_value (is_at (nat_cmp number)) stores new) ≡ contents stores
-again_contents number [] s new same is = absurd cc
-again_contents number (e ∷ stores) s new same is = by (is_eq (nat_cmp number e.0)) is (again_contents number stores s new same)
-  where
-    by : (b : Bool) → cond b (Some e.1) (lookup (is_at (nat_cmp number)) stores) ≡ Some s → (lookup (is_at (nat_cmp number)) stores ≡ Some s → contents (set_value (is_at (nat_cmp number)) stores new) ≡ contents stores)
-        → contents (cond b ((e.0, new) ∷ stores) (e ∷ set_value (is_at (nat_cmp number)) stores new)) ≡ contents (e ∷ stores)
-    by true is more = let at : e.1 ≡ s = cc in ap (λ (c : Content). (e.0, c) ∷ contents stores) (same ∙ ap (λ (x : Stored). x.content) (sym at))
-    by false is more = ap (λ (fs : Files). (e.0, e.1.content) ∷ fs) (more is)
-
-all_other : (number n : ℕ) (stores : Stores) → number ≡ n → AllByRecursion (λ q. nat_cmp n q ≡ Less) (keys_of stores) → AllByRecursion (λ s. names_file s.0 (File number) ≡ false) stores
-all_other number n [] same above = tt
-all_other number n (s ∷ stores) same above =
-    let less : n < s.0 = ranked n s.0 Less (sym above.0) in
-    let other : number ≢ s.0 = omega arith in
-    (ne_eqb number s.0 other, all_other number n stores same above.1)
-
-again_counted : (names : Names) (place : Place) (number : ℕ) (stores : Stores) (s new : Stored) → new.names ≡ s.names + 1 → InOrder nat_cmp stores → lookup (is_at (nat_cmp number)) stores ≡ Some s → AreCounted names stores
-    → AreCounted (names ++ (place, File number) ∷ []) (set_value (is_at (nat_cmp number)) stores new)
-again_counted names place number [] s new more ordered is counted = absurd cc
-again_counted names place number (e ∷ stores) s new more ordered is counted =
-    by (is_eq (nat_cmp number e.0)) (number_is number e.0) is (again_counted names place number stores s new more (sorted_tail nat_cmp e.0 (keys_of stores) ordered))
-  where
-    by : (b : Bool) → b ≡ (number == e.0) → cond b (Some e.1) (lookup (is_at (nat_cmp number)) stores) ≡ Some s
-        → (lookup (is_at (nat_cmp number)) stores ≡ Some s → AreCounted names stores → AreCounted (names ++ (place, File number) ∷ []) (set_value (is_at (nat_cmp number)) stores new))
-        → AreCounted (names ++ (place, File number) ∷ []) (cond b ((e.0, new) ∷ stores) (e ∷ set_value (is_at (nat_cmp number)) stores new))
-    by true at is rest =
-        let found : e.1 ≡ s = cc in
-        let same : number ≡ e.0 = eqb-true number e.0 (sym at) in (
-          omega (arith, more, ap (λ (x : Stored). x.names) found, counted.0, times_more names (place, File number) e.0 (sym at)),
-          counted_same names (place, File number) stores (all_other number e.0 stores same (sorted_head nat_cmp e.0 (keys_of stores) ordered)) counted.1,
-        )
-    by false at is rest =
-        (counted.0 ∙ sym (times_same names (place, File number) e.0 (sym at)), rest is counted.1)
-
 -- ---- an entry more
 
 -- the files with an entry more, at whatever place it is
@@ -234,50 +199,40 @@ pub record Pushed (root : Owner) (rows : List Row) (place : Place) (kind : Kind)
   pub contents_are : contents stores ≡ numbered_from 0 (contents_of rows ++ content_of kind)
   pub counted : AreCounted (names_of root rows ++ (place, node_of rows kind) ∷ []) stores
 
-no_names : (stores : Stores) (standing : Node) → ((n : ℕ) → names_file n standing ≡ false) → AllByRecursion (λ s. names_file s.0 standing ≡ false) stores
-no_names [] standing none = tt
-no_names (s ∷ stores) standing none = (none s.0, no_names stores standing none)
+-- with an entry that comes with no file
+counted_push : (root : Owner) (rows : List Row) (place : Place) (standing : Node) (stores after : Stores) → contents stores ≡ numbered_from 0 (contents_of rows) → AreCounted (names_of root rows) stores
+    → IsChangedWhereNamed with_a_name (file_named (Some standing)) stores after → (contents after ≡ contents stores) × AreCounted (names_of root rows ++ (place, standing) ∷ []) after
+unfolding one_if
+counted_push root rows place standing stores after same counted changed =
+    let names = names_of root rows in
+    raised names (names ++ (place, standing) ∷ []) stores standing (λ n. times_push names (place, standing) n (names_file n standing) refl) after (stores_order stores (contents_of rows) same) counted changed
 
-pushed_further : (root : Owner) (rows : List Row) (place : Place) (number : ℕ) (stores : Stores) (found : Option Stored) → contents stores ≡ numbered_from 0 (contents_of rows) → AreCounted (names_of root rows) stores
-    → number < made_by rows → get nat_cmp stores number ≡ found
-    → (contents (with_name stores number found) ≡ numbered_from 0 (contents_of rows)) × AreCounted (names_of root rows ++ (place, File number) ∷ []) (with_name stores number found)
-unfolding get
-pushed_further root rows place number stores None same counted below found-is =
-    let there : IsTrue (is_some (content_at (numbered_from 0 (contents_of rows)) number)) = numbered_there 0 (contents_of rows) number (omega arith) (omega arith) in
-    let none : false ≡ true = sym (ap is_some (ap (λ (fs : Files). content_at fs number) (sym same) ∙ get-with_values nat_cmp (λ (s : Stored). s.content) stores number ∙ ap (option_map (λ (s : Stored). s.content)) found-is)) ∙ there in
-    absurd cc
-pushed_further root rows place number stores (Some s) same counted below found-is =
-    let new : Stored = record s { names = s.names + 1 } in (
-      again_contents number stores s new refl found-is ∙ same,
-      again_counted (names_of root rows) place number stores s new refl (stores_order stores (contents_of rows) same) found-is counted,
-    )
+pushed_none : (root : Owner) (rows : List Row) (place : Place) (standing : Node) (stores after : Stores) → contents stores ≡ numbered_from 0 (contents_of rows) → AreCounted (names_of root rows) stores
+    → IsChangedWhereNamed with_a_name (file_named (Some standing)) stores after → (contents after ≡ numbered_from 0 (contents_of rows ++ [])) × AreCounted (names_of root rows ++ (place, standing) ∷ []) after
+pushed_none root rows place standing stores after same counted changed =
+    let p = counted_push root rows place standing stores after same counted changed in
+    (p.0 ∙ same ∙ ap (numbered_from 0) (sym (append-nil (contents_of rows))), p.1)
 
-pushed : (root : Owner) (rows : List Row) (place : Place) (kind : Kind) (stores : Stores) → AreRows usual_limits [] rows → IsKind usual_limits rows kind → contents stores ≡ numbered_from 0 (contents_of rows) → AreCounted (names_of root rows) stores
-    → Pushed root rows place kind (stores_with stores (numbers_from 0 rows) (made_by rows) kind)
-pushed root rows place (kinds.Dir owner) stores fit fits same counted = record {
-  contents_are = same ∙ ap (numbered_from 0) (sym (append-nil (contents_of rows)));
-  counted = counted_same (names_of root rows) (place, Dir owner) stores (no_names stores (Dir owner) (λ n. refl)) counted;
-}
-pushed root rows place (kinds.First owner bytes) stores fit fits same counted =
+pushed : (root : Owner) (rows : List Row) (place : Place) (kind : Kind) (stores after : Stores) → AreRows usual_limits [] rows → IsKind usual_limits rows kind → contents stores ≡ numbered_from 0 (contents_of rows) → AreCounted (names_of root rows) stores
+    → AreWithEntry (numbers_from 0 rows) (made_by rows) kind stores after → Pushed root rows place kind after
+pushed root rows place (kinds.Dir owner) stores after fit fits same counted is =
+    let p = pushed_none root rows place (Dir owner) stores after same counted is in
+    record { contents_are = p.0; counted = p.1 }
+pushed root rows place (kinds.First owner bytes) stores after fit fits same counted is =
     let s : Stored = record { content = record { owner = owner; bytes = bytes }; names = 1 } in
     record {
-      contents_are = first_contents stores (contents_of rows) s same;
-      counted = first_counted (names_of root rows) place stores (contents_of rows) s same refl (all_below root rows fit) counted;
+      contents_are = ap contents is ∙ first_contents stores (contents_of rows) s same;
+      counted = subst (AreCounted (names_of root rows ++ (place, File (made_by rows)) ∷ [])) (sym is) (first_counted (names_of root rows) place stores (contents_of rows) s same refl (all_below root rows fit) counted);
     }
-pushed root rows place (kinds.Further entry) stores fit fits same counted =
-    let f = first_at rows entry fits.1 in
-    let known = number_known rows entry f in
-    let number = known_number (numbers_from 0 rows) entry in
-    let below : number < made_by rows = omega (arith, known, made_front rows entry f, ap made_by (front_taken rows entry f)) in
-    let p = pushed_further root rows place number stores (get nat_cmp stores number) same counted below refl in
+pushed root rows place (kinds.Further entry) stores after fit fits same counted changed =
+    let p = pushed_none root rows place (File (known_number (numbers_from 0 rows) entry)) stores after same counted changed in
     record {
-      contents_are = p.0 ∙ ap (numbered_from 0) (sym (append-nil (contents_of rows)));
-      counted = subst (λ n. AreCounted (names_of root rows ++ (place, File n) ∷ []) (with_name stores number (get nat_cmp stores number))) known p.1;
+      contents_are = p.0;
+      counted = subst (λ n. AreCounted (names_of root rows ++ (place, File n) ∷ []) after) (number_known rows entry (first_at rows entry fits.1)) p.1;
     }
-pushed root rows place (kinds.Link target) stores fit fits same counted = record {
-  contents_are = same ∙ ap (numbered_from 0) (sym (append-nil (contents_of rows)));
-  counted = counted_same (names_of root rows) (place, Link target) stores (no_names stores (Link target) (λ n. refl)) counted;
-}
+pushed root rows place (kinds.Link target) stores after fit fits same counted is =
+    let p = pushed_none root rows place (Link target) stores after same counted is in
+    record { contents_are = p.0; counted = p.1 }
 
 -- the place of the next row is free
 later_absent : (names : Names) (place : Place) → AllByRecursion (λ q. place_cmp q place ≡ Less) (keys_of names) → node_at names place ≡ None
@@ -312,17 +267,17 @@ entry_put root rows row names new place standing next names-are place-is node-is
 
 pub grown_push : (root : Owner) (rows : List Row) (row : Row) (names new-names : Names) (stores new-stores : Stores) (numbers : List ℕ) (next : ℕ) (place : Place) (standing : Node)
     → AreRows usual_limits [] rows → IsNext usual_limits rows row → IsGrown root rows names stores → numbers ≡ numbers_from 0 rows → next ≡ made_by rows
-    → place ≡ place_of row.path → standing ≡ known_node numbers next row.kind → new-names ≡ with_node names place standing → new-stores ≡ stores_with stores numbers next row.kind
+    → place ≡ place_of row.path → standing ≡ known_node numbers next row.kind → new-names ≡ with_node names place standing → AreWithEntry numbers next row.kind stores new-stores
     → IsGrown root (rows ++ row ∷ []) new-names new-stores
 grown_push root rows row names new-names stores new-stores numbers next place standing fit is-next grown numbers-are next-is place-is node-is names-put stores-put =
     let node : standing ≡ node_of rows row.kind = node-is ∙ (λ i. known_node (numbers-are i) (next-is i) row.kind) ∙ node_known rows row.kind is-next.kind in
     let put = entry_put root rows row names new-names place standing is-next grown.names_are place-is node names-put in
-    let stores-are : new-stores ≡ stores_with stores (numbers_from 0 rows) (made_by rows) row.kind = stores-put ∙ (λ i. stores_with stores (numbers-are i) (next-is i) row.kind) in
-    let p = pushed root rows (place_of row.path) row.kind stores fit is-next.kind grown.contents_are (subst (λ (ns : Names). AreCounted ns stores) grown.names_are grown.counted) in
+    let with_entry = subst (λ n. AreWithEntry (numbers_from 0 rows) n row.kind stores new-stores) next-is (subst (λ (ns : List ℕ). AreWithEntry ns next row.kind stores new-stores) numbers-are stores-put) in
+    let p = pushed root rows (place_of row.path) row.kind stores new-stores fit is-next.kind grown.contents_are (subst (λ (ns : Names). AreCounted ns stores) grown.names_are grown.counted) with_entry in
     record {
       names_are = put;
-      contents_are = ap contents stores-are ∙ p.contents_are ∙ ap (numbered_from 0) (sym (contents_more rows row));
-      counted = subst (AreCounted new-names) (sym stores-are) (subst (λ (ns : Names). AreCounted ns (stores_with stores (numbers_from 0 rows) (made_by rows) row.kind)) (sym (put ∙ names_push root rows row)) p.counted);
+      contents_are = p.contents_are ∙ ap (numbered_from 0) (sym (contents_more rows row));
+      counted = subst (λ (ns : Names). AreCounted ns new-stores) (sym (put ∙ names_push root rows row)) p.counted;
     }
   where
     contents_more : (rows : List Row) (row : Row) → contents_of (rows ++ row ∷ []) ≡ contents_of rows ++ content_of row.kind

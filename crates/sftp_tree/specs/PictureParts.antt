@@ -1,8 +1,6 @@
 -- The tree that a tree file speaks of, and what the code keeps on its way from the one to the other.
 use Rattle.std.specs.Prelude.{◌≡◌, ℕ, suc, ◌+◌, ◌-◌, ◌≤◌, ◌<◌, ◌^◌, List, [], ◌∷◌, ◌++◌, length, take, slice_index, Option, Some, None, IfSome}
-use Rattle.std.specs.BTreeMap.{is_at}
 use Rattle.std.specs.List.{flat_map, AllByRecursion}
-use Rattle.std.specs.Map.{set_value}
 use Rattle.std.specs.Ordering.{nat_cmp}
 use Rattle.sftp_path.specs.Place.{Place, absolute}
 use Rattle.sftp_path.specs.Table.{Table, get, put}
@@ -18,7 +16,7 @@ use Rattle.sftp_tree.specs.declared.contents.Stored.{Stored}
 use Rattle.sftp_tree.specs.declared.nodes.Node.{Node}
 use Rattle.sftp_tree.specs.declared.nodes.Node.TheVariants.{Dir, File, Link}
 use Rattle.sftp_tree.specs.Tree.{Names, Files, Tree, node_at, content_at}
-use Rattle.sftp_tree.specs.Stored.{contents, AreCounted}
+use Rattle.sftp_tree.specs.Stored.{contents, AreCounted, IsChanged, with_a_name}
 use Rattle.sftp_tree.specs.Picture.{naming, root_owner}
 
 -- the file that an entry comes with
@@ -104,17 +102,13 @@ Stores = Table ℕ Stored
 abbrev pub HaveRoom : Stores → Type 0
 HaveRoom stores = AllByRecursion (λ e. e.1.names + 1 < 2 ^ 32) stores
 
--- where the file of the number is, it has a name more
-abbrev pub with_name : Stores → ℕ → Option Stored → Stores
-with_name stores number None = stores
-with_name stores number (Some s) = set_value (is_at (nat_cmp number)) stores (record s { names = s.names + 1 })
-
--- the files with what an entry says of them
-abbrev pub stores_with : Stores → List ℕ → ℕ → Kind → Stores
-stores_with stores numbers next (kinds.Dir owner) = stores
-stores_with stores numbers next (kinds.First owner bytes) = put nat_cmp stores next (record { content = record { owner = owner; bytes = bytes }; names = 1 })
-stores_with stores numbers next (kinds.Further entry) = with_name stores (known_number numbers entry) (get nat_cmp stores (known_number numbers entry))
-stores_with stores numbers next (kinds.Link target) = stores
+-- what an entry makes of the files before it: it may come with one, or be a further name of one
+abbrev pub AreWithEntry : List ℕ → ℕ → Kind → Stores → Stores → Type 0
+AreWithEntry numbers next (kinds.Dir owner) before after = after ≡ before
+AreWithEntry numbers next (kinds.First owner bytes) before after =
+    after ≡ put nat_cmp before next (record { content = record { owner = owner; bytes = bytes }; names = 1 })
+AreWithEntry numbers next (kinds.Further entry) before after = IsChanged with_a_name (known_number numbers entry) before after
+AreWithEntry numbers next (kinds.Link target) before after = after ≡ before
 
 -- these are the entries and the files where a tree file has these rows
 pub record IsGrown (root : Owner) (rows : List Row) (names : Names) (stores : Stores) : Type 0 where

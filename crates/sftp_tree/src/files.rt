@@ -5,7 +5,6 @@ ghost use Rattle.sftp_path.specs.Table.{get, put};
 ghost use Rattle.sftp_treefile.specs.TreeFile.{IsOwner};
 ghost use Rattle.sftp_tree.specs.Tree.{content_at};
 ghost use Rattle.sftp_tree.specs.Attributes.{changed_owner};
-ghost use Rattle.sftp_tree.specs.PictureParts.{HaveRoom, with_name};
 ghost use Rattle.sftp_tree.specs.Stored.{IsChanged, IsChangedWhereNamed, contents, with_a_name, without_a_name, with_attributes_set};
 
 use crate::contents::{Content, Stored, change};
@@ -84,14 +83,6 @@ impl Files {
         ensures { IsChangedWhereNamed with_a_name named self.old self.new }
     {
         count_name(&mut self.by_number, named);
-    }
-
-    /// Counts a further name of the file of a number, where there is one.
-    pub(crate) fn count_further_name(&mut self, number: FileNo)
-        requires { HaveRoom self.old }
-        ensures { self.new ≡ with_name self.old number (get nat_cmp self.old number) }
-    {
-        count_further_name(&mut self.by_number, number);
     }
 
     /// Counts a name less of a file, where one is named. The file goes with its last name.
@@ -184,15 +175,4 @@ fn change_at(
         change(&mut stored.content, attrs)?;
     }
     Ok(())
-}
-
-/// Counts a name more of a file.
-#[tactic(auto, unfolding(sftp_path::specs::Table::get))]
-fn count_further_name(files: &mut BTreeMap<FileNo, Stored>, number: FileNo)
-    requires { HaveRoom files.old.entries }
-    ensures { files.new.entries ≡ with_name files.old.entries number (get nat_cmp files.old.entries number) }
-{
-    if let Some(stored) = files.get_mut(&number) {
-        stored.names += 1;
-    }
 }

@@ -36,7 +36,7 @@ fn node_of(
     requires known { parts.IsKnown numbers.now kind }
     requires room { parts.HaveRoom files.old }
     ensures node { IfOk result (λ node. node ≡ parts.known_node numbers.now next kind) }
-    ensures files { OnOk result (files.new ≡ parts.stores_with files.old numbers.now next kind) }
+    ensures files { OnOk result (parts.AreWithEntry numbers.now next kind files.old files.new) }
 {
     match kind {
         Kind::Dir(owner) => Ok(Node::Dir(owner)),
@@ -48,7 +48,7 @@ fn node_of(
         }
         Kind::Further(entry) => {
             let number = numbers[entry as usize - 1];
-            files.count_further_name(number);
+            files.count_name(Some(number));
             Ok(Node::File(number))
         }
         Kind::Link(target) => Ok(Node::Link(target)),
