@@ -7,7 +7,7 @@ use Rattle.std.proofs.lemmas.Nat.{be_bytes_4, be_bytes_8, from_be_bytes-to_be_by
 use Rattle.byteorder.specs.Endian.{big_number}
 use Rattle.sftp_wire.specs.Spelling.{uint32, AreBytes}
 
--- each place holds a byte
+-- each number is a byte
 abbrev pub IsBytes : List ℕ → Type 0
 IsBytes bytes = (i : ℕ) → get_or bytes i 0 < 256
 
@@ -48,7 +48,7 @@ Is32 n = n < 2 ^ 32
 abbrev pub Is64 : ℕ → Type 0
 Is64 n = n < 2 ^ 64
 
--- what reading a number of some width and writing it have to do with each other
+-- reading and writing numbers of a width undo each other
 pub record IsWide (w : Width) (limit : ℕ) : Type 0 where
   pub len : (n : ℕ) → length (to_be_bytes w n) ≡ byte_len w
   pub back : (bytes : List ℕ) → length bytes ≡ byte_len w → IsBytes bytes → to_be_bytes w (from_be_bytes w bytes) ≡ bytes
@@ -71,7 +71,7 @@ wide64 = record {
   below = λ bytes fits. omega (arith, fits 0, fits 1, fits 2, fits 3, fits 4, fits 5, fits 6, fits 7);
 }
 
--- the number that stands in four bytes is written as those bytes
+-- the number in four bytes is written as those bytes
 pub uint32-front : (bytes front rest : List ℕ) (n : ℕ) → IsBytes front → length front ≡ 4 → front ++ rest ≡ bytes → n ≡ from_be_bytes w32 front → bytes ≡ uint32 n ++ rest
 uint32-front bytes front rest n fits len parts is =
     let back : uint32 n ≡ front = rw is (wide32.back front len fits) in

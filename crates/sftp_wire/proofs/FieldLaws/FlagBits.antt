@@ -6,11 +6,11 @@ use Rattle.bitflags.specs.Sets.{without}
 use Rattle.sftp_wire.specs.declared.attributes.Attrs.{Attrs}
 use Rattle.sftp_wire.specs.Spelling.{flag, attribute_flags}
 
--- a flag is set where its field is there, and else cleared
+-- a flag, set for a present field and cleared for an absent one
 abbrev pub with_flag : ℕ → ℕ → Bool → ℕ
 with_flag bits bit there = cond there (bit_or bits bit) (without 32 bits bit)
 
--- a test that both values pass, each value passes
+-- a test that both truth values pass
 abbrev every : (Bool → Bool) → Bool
 every p = p true && p false
 

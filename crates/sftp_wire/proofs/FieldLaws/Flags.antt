@@ -1,4 +1,4 @@
--- The flags of attributes say which fields are there, and no others.
+-- The flags of attributes say which fields are present.
 use Rattle.std.proofs.Common.{◌≡◌, ◌≢◌, ℕ, zero, suc, ◌+◌, ◌*◌, ◌/◌, ◌%◌, ◌^◌, ◌<◌, Bool, true, false, eqb, Option, Some, None, refl, sym, ap, ◌∙◌, arith, eq-eqb}
 use Rattle.std.specs.Prelude.{is_some}
 use Rattle.std.specs.Int.{bit_at}
@@ -10,7 +10,7 @@ use Rattle.sftp_wire.specs.declared.attributes.Attrs.{Attrs}
 use Rattle.sftp_wire.specs.Spelling.{flag, attribute_flags}
 use Rattle.sftp_wire.specs.Reading.{has_flag, are_known}
 
--- 1 where something is there, and else 0
+-- 1 for a field that is present, 0 for an absent one
 abbrev pub bit_of : Bool → ℕ
 bit_of true = 1
 bit_of false = 0
@@ -25,7 +25,7 @@ same_from_bit true false e = absurd (omega arith)
 same_from_bit false true e = absurd (omega arith)
 same_from_bit false false e = refl
 
--- a field is there exactly where its flag is set
+-- a field is present exactly where its flag is set
 pub record SaysFields (flags : ℕ) (a : Attrs) : Type 0 where
   pub size : is_some a.size ≡ has_flag flags 0x00000001
   pub owner : is_some a.owner ≡ has_flag flags 0x00000002
@@ -47,7 +47,7 @@ bit_test (suc (suc x)) p lt there = absurd (omega arith)
 has_flag-bit : (flags k : ℕ) → 0 < 2 ^ k → bit_of (has_flag flags (2 ^ k)) ≡ bit_at flags k
 has_flag-bit flags k there = rw (and_pow flags k) (bit_test (bit_at flags k) (2 ^ k) (bit_at-lt flags k) there)
 
--- what is left of flags under the mask of those that are known
+-- the flags under the mask of the known ones
 known_part : (flags : ℕ) → bit_and flags 0x8000000f ≡ (flags / 2 ^ 31 % 2) * 2 ^ 31 + flags % 2 ^ 31 % 16
 known_part flags =
     let split : flags ≡ flags / 2 ^ 31 * 2 ^ 31 + flags % 2 ^ 31 = omega arith in
@@ -65,7 +65,7 @@ attribute_flags-are flags a lt known says =
     let extended : flag 0x80000000 a.extended ≡ 0x80000000 * bit_at flags 31 = flag-bit 0x80000000 a.extended ∙ ap (λ (b : Bool). 0x80000000 * bit_of b) says.extended ∙ ap (λ (n : ℕ). 0x80000000 * n) (has_flag-bit flags 31 (omega arith)) in
     omega (arith, size, owner, permissions, times, extended, known_is, known_part flags)
 
--- ---- back: the flags of attributes are known ones, and say which fields are there
+-- ---- conversely, the flags of attributes are known, and say which fields are present
 
 record FlagBits (flags : ℕ) (a : Attrs) : Type 0 where
   pub known : bit_and flags 0x8000000f ≡ flags

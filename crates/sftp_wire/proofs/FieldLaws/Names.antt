@@ -1,4 +1,4 @@
--- Names of a directory: what is read is spelled so, and what is spelled so is read again.
+-- The names of a NAME reply: what is read is spelled so, and what is spelled so is read again.
 use Rattle.std.proofs.Common.{refl, ◌++◌}
 use Rattle.sftp_wire.specs.Spelling.{string, attributes, name_item, names, FitsString, FitsAttrs, FitsNameItem, FitsNames}
 use Rattle.sftp_wire.specs.Reading.{string_at, attributes_at, name_item_at, names_at}

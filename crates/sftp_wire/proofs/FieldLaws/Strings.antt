@@ -54,11 +54,11 @@ two_uint32_again rest p fits = two_again uint32_at uint32_at (λ a b. (a, b)) ui
 
 -- ---- strings
 
--- as many bytes as were said
+-- the bytes behind a length
 abbrev text_behind : ℕ × List ℕ → Result (List ℕ × List ℕ) Fault
 text_behind n = bytes_at n.0 n.1
 
--- the bytes behind their number are taken where they are there
+-- the bytes behind a length are taken where there are enough
 text_takes : (bytes : List ℕ) (n : ℕ × List ℕ) (text rest : List ℕ) → Takes bytes (uint32 n.0) n.1 → n.0 < 2 ^ 32 → text_behind n ≡ Ok (text, rest) → Takes bytes (string text) rest × FitsString text × (length text ≡ n.0)
 text_takes bytes n text rest taken lt e =
     let g = guard_ok (ltb (length n.1) n.0) Short (Ok (take n.0 n.1, drop n.0 n.1)) (text, rest) e in
@@ -107,7 +107,7 @@ handle_again rest text fits =
     let long : ltb (length (text ++ rest)) (length text) ≡ false = le-ltb _ _ (omega (arith, length-append text rest)) in
     rw (uint32_again (text ++ rest) (length text) fits.0.length_fits, small, long, take_at text rest (length text) refl, drop_at text rest (length text) refl) refl
 
--- ---- all that is left
+-- ---- the bytes that are left
 
 abbrev pub as_bytes : List ℕ → List ℕ
 as_bytes bytes = bytes
@@ -117,7 +117,7 @@ rest_takes bytes text rest fits e =
     let all : Takes bytes bytes [] = record { parts = sym (append-nil bytes); rest_fits = λ i. omega arith } in
     subst (λ (p : List ℕ × List ℕ). Takes bytes p.0 p.1 × AreBytes p.0) (ok_is _ _ e) (all, AreBytes-from_places bytes fits)
 
--- what is left is read again where nothing follows it
+-- the bytes that are left are read again
 pub rest_again : (bytes : List ℕ) → rest_at (bytes ++ []) ≡ Ok (bytes, [])
 rest_again bytes = rw (append-nil bytes) refl
 
@@ -131,7 +131,7 @@ pub pair_again : AgainAs pair_at pair FitsPair
 unfolding pair_at
 pair_again rest p fits = two_again string_at string_at (λ a b. (a, b)) string string p.0 p.1 rest (string_again (string p.1 ++ rest) p.0 fits.0) (string_again rest p.1 fits.1)
 
--- ---- a reader of a field takes a byte at least
+-- ---- a reader of a field takes at least a byte
 
 number-shortens : (w : Width) (bytes : List ℕ) (n : ℕ) (rest : List ℕ) → number_at w bytes ≡ Ok (n, rest) → length rest + byte_len w ≡ length bytes
 number-shortens w bytes n rest e =

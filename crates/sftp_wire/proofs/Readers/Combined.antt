@@ -79,9 +79,9 @@ three_again first second third make spell_first spell_second spell_third a b c r
     append_assoc (spell_first a) (spell_second b ++ spell_third c) rest ∙ ap (λ (x : List ℕ). spell_first a ++ x) (append_assoc (spell_second b) (spell_third c) rest) in
     ap (three first second third make) regrouped ∙ rw (e, f, g) refl
 
--- ---- a field that may be left out
+-- ---- an optional field
 
--- a field is read where it is there, and nothing where it is not
+-- a field is read where it is present
 pub optional_takes : {A : Type 0} (there : Bool) (read : Reader A) (spell : A → List ℕ) (Fits : A → Type 0)
     → TakesAs read spell Fits → TakesAs (optional_at there read) (optional spell) (λ o. IfSome o Fits × (is_some o ≡ there))
 optional_takes {A = A} true read spell Fits takes bytes x rest is_bytes e =
@@ -97,7 +97,7 @@ optional_again read spell Fits again rest false None is fits = refl
 optional_again read spell Fits again rest true (Some a) is fits = one_again read Some (spell a) a rest (again rest a fits)
 optional_again read spell Fits again rest false (Some a) is fits = absurd cc
 
--- ---- so many
+-- ---- `count` values
 
 pub many_takes : {A : Type 0} (read : Reader A) (spell : A → List ℕ) (Fits : A → Type 0) → TakesAs read spell Fits
     → (count : ℕ) → TakesAs (many_at read count) (flat_map spell) (λ xs. (length xs ≡ count) × AllByRecursion Fits xs)
@@ -118,7 +118,7 @@ many_again {A = A} read spell Fits again rest (x ∷ xs) fits =
 
 -- ---- up to the end
 
--- each value takes a byte at least, so that what is read up to the end leaves nothing
+-- each value takes at least a byte, so no bytes are left
 pub up_to_end_takes : {A : Type 0} (read : Reader A) (spell : A → List ℕ) (Fits : A → Type 0) → TakesAs read spell Fits
     → (most : ℕ) → TakesAs (up_to_end read most) (flat_map spell) (AllByRecursion Fits)
 up_to_end_takes {A = A} read spell Fits takes zero bytes x rest is_bytes e =

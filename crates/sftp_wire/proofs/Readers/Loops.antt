@@ -6,7 +6,7 @@ use Rattle.sftp_wire.specs.declared.errors.ReadError.{ReadError}
 use Rattle.sftp_wire.specs.declared.errors.ReadError.TheVariants as reads
 use Rattle.sftp_wire.specs.Reading.{◌>>=◌, Reader, Reads, many_at, up_to_end}
 
--- what was read before, and what is still read
+-- the values read before, and those still to be read
 abbrev pub with_front : {A : Type 0} → List A → Result (List A × List ℕ) Fault → Result (List A × List ℕ) Fault
 with_front front read = read >>= λ x. Ok (front ++ x.0, x.1)
 
@@ -14,7 +14,7 @@ regroup : {A : Type 0} (front : List A) (n : A) (read : Result (List A × List �
 regroup {A = A} front n (Ok x) = ap (λ (xs : List A). Ok (xs, x.1)) (simp append_assoc)
 regroup front n (Err fault) = refl
 
--- ---- so many of them
+-- ---- `count` values
 
 pub many-goes_on : {A : Type 0} (read : Reader A) (front : List A) (count i : ℕ) (bytes : List ℕ) (n : A) (after : List ℕ) (total : Result (List A × List ℕ) Fault)
     → i < count → read bytes ≡ Ok (n, after) → with_front front (many_at read (count - i) bytes) ≡ total → with_front (front ++ n ∷ []) (many_at read (count - (i + 1)) after) ≡ total
@@ -40,7 +40,7 @@ many-is_done {A = A} read front count i bytes total le so_far =
 
 -- ---- up to the end
 
--- what is still read of the bytes, where no more values than these may come
+-- what is still to be read, where at most so many values may come
 pub record ReadsOn {A : Type 0} (read : Reader A) (front : List A) (bytes : List ℕ) (total : Result (List A × List ℕ) Fault) : Type 0 where
   pub most : ℕ
   pub enough : length bytes ≤ most

@@ -9,12 +9,12 @@ pub bind_ok : {A B : Type 0} (read : Result A Fault) (next : A → Result B Faul
 bind_ok (Ok x) next y e = (x, refl, e)
 bind_ok (Err fault) next y e = absurd cc
 
--- a test that refuses where it holds, and did not
+-- a test that refuses where it holds, and did not hold
 pub guard_ok : {B : Type 0} (test : Bool) (fault : Fault) (read : Result B Fault) (y : B) → cond test (Err fault) read ≡ Ok y → (test ≡ false) × (read ≡ Ok y)
 guard_ok true fault read y e = absurd cc
 guard_ok false fault read y e = (refl, e)
 
--- a test that refuses where it does not hold, and did not
+-- a test that refuses where it does not hold, and held
 pub guard_held : {B : Type 0} (test : Bool) (fault : Fault) (read : Result B Fault) (y : B) → cond test read (Err fault) ≡ Ok y → (test ≡ true) × (read ≡ Ok y)
 guard_held true fault read y e = (refl, e)
 guard_held false fault read y e = absurd cc

@@ -1,4 +1,4 @@
--- A stream of packets that comes in pieces: what a step takes in and gives out.
+-- A stream of packets that arrives in pieces: what each call takes and returns.
 use Rattle.std.proofs.Common.{◌≡◌, ℕ, ◌-◌, ◌<◌, ◌⊎◌, inl, inr, List, [], ◌∷◌, ◌++◌, length, take, drop, Option, Some, None, Result, Ok, Err, refl, sym, ap, subst, ◌∙◌, append_assoc, append-nil, arith}
 use Rattle.std.specs.Prelude.{min, if◌then◌else◌, is_some}
 use Rattle.std.proofs.Math.Nat.{zero-min}
@@ -13,19 +13,19 @@ use Rattle.sftp_wire.specs.Framing.{Frames, Step, Push, Next, IsStep, AreSteps, 
 use Rattle.sftp_wire.proofs.Bytes.Numbers.{IsBytes, IsBytes-take, IsBytes-drop, IsBytes-append, IsBytes-from_all}
 use Rattle.sftp_wire.proofs.StreamLaws.Front.{front_takes, begins_with, none-leaves_room}
 
--- ---- what a step keeps
+-- ---- what a call keeps
 
--- what comes out and what stays are what was there and what went in, and all of it are bytes
+-- the bytes out and those held then are those held before and the bytes in, and all are bytes
 record Keeps (s : Frames) (step : Step) (t : Frames) : Type 0 where
   pub are_bytes : IsBytes t.held
   pub parts : bytes_out step ++ t.held ≡ s.held ++ bytes_in step
 
--- what is told where a packet is given stands in front
+-- a packet is returned only where it is in front
 unless_some : (fault : Option Fault) (front : Result (Option (Packet × ℕ)) Fault) (x : Packet × ℕ) → front_unless fault front ≡ Ok (Some x) → front ≡ Ok (Some x)
 unless_some None front x e = e
 unless_some (Some fault) front x e = absurd cc
 
--- nothing goes in or out, and what is held stays
+-- no bytes go in or out
 still : (s : Frames) (side : Side) (given : Result (Option Packet) WireError) (t : Frames) → IsBytes s.held → bytes_out (Next side given) ≡ [] → t.held ≡ s.held → Keeps s (Next side given) t
 still s side given t fits nothing same = record {
   are_bytes = subst IsBytes (sym same) fits;
@@ -76,24 +76,24 @@ steps_keep s (step ∷ steps) t fits leads =
 pub stream_is_kept : (steps : List (Step × Frames)) (t : Frames) → AreSteps no_frames steps t → all_out steps ++ t.held ≡ all_in steps
 stream_is_kept steps t leads = steps_keep no_frames steps t (λ i. omega arith) leads
 
--- ---- what the steps of a `next` say
+-- ---- what `next` returns
 
 none_told : (s : Frames) (told : Result (Option (Packet × ℕ)) Fault) (t : Frames) → (Ok None, t) ≡ outcome_of s told → told ≡ Ok None
 none_told s (Ok None) t e = refl
 none_told s (Ok (Some front)) t e = absurd (let given = ap (λ (p : Result (Option Packet) WireError × Frames). p.0) e in cc)
 none_told s (Err fault) t e = absurd (let given = ap (λ (p : Result (Option Packet) WireError × Frames). p.0) e in cc)
 
--- nothing is given only where nothing is to be told
+-- it returns `None` only where there is neither a packet nor a fault
 pub nothing_is_told : (side : Side) (s t : Frames) → IsStep s (Next side (Ok None)) t → told_of side s ≡ Ok None
 nothing_is_told side s t (inl e) = none_told s (told_of side s) t e
 nothing_is_told side s t (inr refused) = absurd (let e = refused.no_memory in cc)
 
--- and there nothing is given, unless memory runs out
+-- there it returns `None`, or memory runs out
 pub nothing_is_given : (side : Side) (s t : Frames) (given : Result (Option Packet) WireError) → IsStep s (Next side given) t → told_of side s ≡ Ok None → (given ≡ Ok None) ⊎ (given ≡ Err NoMemory)
 nothing_is_given side s t given (inl e) none = inl (ap (λ (p : Result (Option Packet) WireError × Frames). p.0) e ∙ ap (λ (r : Result (Option (Packet × ℕ)) Fault). (outcome_of s r).0) none)
 nothing_is_given side s t given (inr refused) none = inr refused.no_memory
 
--- a fault that was told is told again, and nothing changes
+-- a fault is returned again, and nothing changes
 pub fault_stands : (side : Side) (s t : Frames) (fault : Fault) (given : Result (Option Packet) WireError) → s.fault ≡ Some fault → IsStep s (Next side given) t → (given ≡ Err (Unreadable fault s.place)) × (t ≡ s)
 fault_stands side s t fault given told (inl e) =
     let same : (given, t) ≡ outcome_of s (Err fault) = e ∙ ap (λ (f : Option Fault). outcome_of s (front_unless f (front_of side s.held))) told in
@@ -101,7 +101,7 @@ fault_stands side s t fault given told (inl e) =
     (ap (λ (p : Result (Option Packet) WireError × Frames). p.0) same, after ∙ ap (λ (f : Option Fault). record { held = s.held; place = s.place; fault = f }) (sym told))
 fault_stands side s t fault given told (inr refused) = absurd (let none = refused.no_fault in cc)
 
--- then nothing more is taken
+-- after a fault `push` takes nothing
 pub fault_takes_none : (s t : Frames) (fault : Fault) (bytes : List ℕ) (taken : ℕ) → s.fault ≡ Some fault → IsStep s (Push bytes taken) t → (taken ≡ 0) × (t ≡ s)
 fault_takes_none s t fault bytes taken told leads =
     let room : room_of s ≡ 0 = ap (λ (f : Option Fault). if is_some f then 0 else packet_limit - length s.held) told in
@@ -109,9 +109,9 @@ fault_takes_none s t fault bytes taken told leads =
     let held : s.held ++ take (min (room_of s) (length bytes)) bytes ≡ s.held = ap (λ (n : ℕ). s.held ++ take n bytes) none ∙ append-nil s.held in
     (ap (λ (p : ℕ × Frames). p.0) leads.1 ∙ none, ap (λ (p : ℕ × Frames). p.1) leads.1 ∙ ap (λ (x : List ℕ). record { held = x; place = s.place; fault = s.fault }) held)
 
--- ---- the packet in front, uncopied
+-- ---- the bytes of the packet in front
 
--- what is spelled in front is lent
+-- `lent` returns the spelling in front
 pub spelled_is_lent : (packet : Packet) (rest : List ℕ) → HasSpelling packet → whole_of (spelling packet ++ rest) ≡ Some (spelling packet)
 unfolding whole_of
 spelled_is_lent packet rest has =

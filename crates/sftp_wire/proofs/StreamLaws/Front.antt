@@ -20,7 +20,7 @@ use Rattle.sftp_wire.proofs.PacketLaws.Rows.{contents-parts}
 use Rattle.sftp_wire.proofs.PacketLaws.Spelled.{packet_of_takes}
 use Rattle.sftp_wire.proofs.PacketLaws.Again.{packet_of_again, server_packets_refused}
 
--- a test that gives nothing where it holds, and did not
+-- a test that returns `None` where it holds, and did not hold
 guard_none : {A : Type 0} (test : Bool) (read : Result (Option A) Fault) (x : A) → cond test (Ok None) read ≡ Ok (Some x) → (test ≡ false) × (read ≡ Ok (Some x))
 guard_none true read x e = absurd cc
 guard_none false read x e = (refl, e)
@@ -67,7 +67,7 @@ front_takes side bytes x is_bytes e =
     let there : size + 4 ≤ length bytes = ltb-false _ _ c.0 in
     subst (λ (y : Packet × ℕ). StandsInFront side bytes y.0 y.1) (some_is (p.0, size + 4) x (ok_is _ _ p.2)) (stands side bytes p.0 size is_bytes refl within there p.1)
 
--- what is known of bytes that begin with a packet's spelling
+-- facts of bytes that begin with a packet's spelling
 pub record BeginsWith (packet : Packet) (bytes : List ℕ) : Type 0 where
   pub has_length : ltb (length bytes) 4 ≡ false
   pub size : from_be_bytes w32 (take 4 bytes) ≡ length (contents packet)
@@ -129,7 +129,7 @@ front_found x = Ok (Some x)
 clash : (x : Packet × ℕ) → front_found x ≡ Err WrongType → ⊥
 clash x e = cc
 
--- a client's spelling and a server's begin no stream both
+-- no stream begins with both a client's spelling and a server's
 sides-apart : (p q : Packet) (x y : List ℕ) → HasSpelling p → HasSpelling q → side_of p ≡ Client → side_of q ≡ Server → spelling p ++ x ≡ spelling q ++ y → ⊥
 sides-apart p q x y has_p has_q client server same =
     let first : front_of Client (spelling p ++ x) ≡ Ok (Some (p, length (spelling p))) = ap (λ (s : Side). front_of s (spelling p ++ x)) (sym client) ∙ front_again p x has_p in
@@ -167,7 +167,7 @@ none-leaves_room side bytes e =
       | inr part ↦ omega (arith, ltb-false packet_limit (size + 4) (or_parts _ _ part.0).1, ltb-true (length bytes) (size + 4) part.1)
     ]
 
--- what `front` gives of a packet that stands in front
+-- what `front` returns is spelled in front
 pub is_found : (side : Side) (bytes : List ℕ) (r : Result (Option (Packet × ℕ)) WireError) → IsBytes bytes → IsReading r (front_of side bytes) → IfOk r (λ front. IfSome front (λ f. StandsInFront side bytes f.0 f.1))
 is_found side bytes (Ok (Some f)) is_bytes given = front_takes side bytes f is_bytes given
 is_found side bytes (Ok None) is_bytes given = tt
@@ -180,7 +180,7 @@ given_or_no_memory (Err wires.NotCanonical) f given = absurd given
 given_or_no_memory (Err wires.NoMemory) f given = inr refl
 given_or_no_memory (Err (wires.Unreadable fault place)) f given = absurd (let e = given.0 in cc)
 
--- what `front` gives where a packet is spelled in front
+-- what `front` returns where a packet is spelled in front
 pub is_only : (side : Side) (bytes : List ℕ) (r : Result (Option (Packet × ℕ)) WireError) → IsReading r (front_of side bytes) → (packet : Packet) (rest : List ℕ) → HasSpelling packet → side_of packet ≡ side
     → bytes ≡ spelling packet ++ rest → (r ≡ Ok (Some (packet, length (spelling packet)))) ⊎ (r ≡ Err wires.NoMemory)
 is_only side bytes r given packet rest has sent spelled =
