@@ -3,7 +3,7 @@ ghost use Rattle.std.specs.Prelude.{◌<◌, ◌^◌, length, IfOk};
 
 use sftp_treefile::{
     Head, Kind, NoMemory, Owner, Row, TreeError, put_directory, put_file, put_further_name,
-    put_head, put_link, read_rows, write_rows,
+    put_head, put_link, read_rows, usual_limits, write_rows,
 };
 use sftp_wire::ByteString;
 use std::alloc::{AllocError, Global};
@@ -198,6 +198,7 @@ fn head(alloc: Global, count: u32) -> Result<Head, AllocError>
         home: ByteString::from_slice(alloc, b"/")?,
         uid: 0,
         gid: 0,
+        limits: usual_limits(),
         count,
         root: owned(0, 0, 0o755),
     })
