@@ -1,9 +1,7 @@
 -- The components of a place's text are the place.
-use Rattle.std.proofs.Common.{◌∙◌}
 use Rattle.std.proofs.lemmas.Option.{MatchOption-at_some}
 use Rattle.sftp_tree.proofs.PictureFiles.{place_found}
 use Rattle.sftp_tree.proofs.pictures.reading.place_of.Goals as goal
 
 pub returns : goal.returns
-returns c =
-    c.from_names.ensures ∙ place_found c.args.text.now c.in-Some.names.items (MatchOption-at_some _ _ c.in-Some.names c.in-Some.is c.in_ok-names.ensures.found)
+returns c = place_found c.args.text.now c.in-Some.place (MatchOption-at_some _ _ c.in-Some.place c.in-Some.is c.in_ok-place.ensures.found)
