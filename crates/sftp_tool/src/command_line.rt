@@ -1,49 +1,57 @@
-//! The command line: which words ask for what.
+//! The command line: parses the arguments, and has the help texts.
 use crate::messages::Failure;
 use clap::error::ErrorKind;
 use clap::{Arg, ArgAction, ArgMatches, Command, Error};
 use std::alloc::{AllocError, Global};
 
-const ABOUT: &str = "Audits sessions of the SSH File Transfer Protocol, version 3";
+const ABOUT: &str = "Audits recorded sessions of the SSH File Transfer Protocol, version 3";
 
 const STATUSES: &str = "Exit status:
-  0  accepted, or done
+  0  the session is accepted, the file was written, or help or the version was shown
   1  the session is refused
-  2  a usage error, or the tree file or the transcript cannot be understood
+  2  bad usage, or a malformed input file
   3  a file or a stream cannot be read or written, or memory ran out";
 
-const ABOUT_AUDIT: &str = "Says whether the tree allows every reply of a recorded session";
+const ABOUT_AUDIT: &str = "Checks every reply of a recorded session against a file tree";
 
-const ABOUT_BLANK: &str = "Writes the tree file of a tree that has the root directory alone";
+const ABOUT_BLANK: &str = "Writes the tree file of a tree that holds only the root directory";
 
 const AFTER_AUDIT: &str =
-    "Prints 'accepted N requests', or 'refused record N: WHY', where N is the \
-number of the record that shows it. Records count from 1.";
+    "Prints 'accepted N requests', or 'refused record N: KIND'. Records are numbered from 1.
+
+KIND is one of:
+  UnknownReply  no unanswered request has the id of this reply
+  IdInUse       an unanswered request has the id of this request
+  Window        the 1,024th request before this one is still unanswered
+  NotAllowed    the tree does not allow this reply
+  Unanswered    this request has no reply
+
+Sessions that open files or directories cannot be audited yet.";
 
 /// What a command line asks for.
 #[derive(Drop)]
 pub(crate) enum Request<'a> {
-    /// To audit a session.
+    /// Audit a session.
     Audit(AuditFiles<'a>),
-    /// To write the blank tree to a file.
+    /// Write the blank tree to a file.
     Blank { file: &'a str },
-    /// To show help or the version.
+    /// Show this text: help or the version.
     Show(String),
 }
 
-/// The files of `audit`, by name.
+/// The names of the files of `audit`.
 #[derive(Drop)]
 pub(crate) struct AuditFiles<'a> {
     /// The tree file that the session starts from.
     pub(crate) tree: &'a str,
     /// The recorded bytes of the session.
     pub(crate) transcript: &'a str,
-    /// Where the tree file of the end goes.
+    /// The file to write the final tree to.
     pub(crate) out: Option<&'a str>,
 }
 
-/// What the words ask for, of which the first is the program's name. A request for help or the version
-/// is no failure.
+/// Parses the command line, whose first word is the program's name. Asking for help or the version is not
+/// an error.
 pub(crate) fn parse(alloc: Global, words: &[String]) -> Result<Request<'_>, Failure<'_>> {
     match matched(alloc, words) {
         Ok(request) => Ok(request),
@@ -64,7 +72,7 @@ fn matched(alloc: Global, words: &[String]) -> Result<Request<'_>, Error> {
     let matches = command.try_get_matches_from_mut(words)?;
     match requested(&matches) {
         Some(request) => Ok(request),
-        None => Err(command.error(ErrorKind::MissingSubcommand, "a subcommand is missing")?),
+        None => Err(command.error(ErrorKind::MissingSubcommand, "a subcommand is required")?),
     }
 }
 
@@ -94,12 +102,12 @@ fn command<'a>(alloc: Global) -> Result<Command<'a>, AllocError> {
 fn audit_command<'a>(alloc: Global) -> Result<Command<'a>, AllocError> {
     let tree = file_option(alloc, "tree")
         .required(true)
-        .help("The tree file that the session starts from");
+        .help("The tree file: the tree at the start of the session");
     let transcript = file_option(alloc, "transcript")
         .required(true)
-        .help("The transcript: the recorded bytes of the session");
+        .help("The transcript: the recorded packets of the session");
     let out = file_option(alloc, "out").help(
-        "Where to write the tree file of the end, if the session is accepted",
+        "The file to write the final tree to, if the session is accepted",
     );
     Command::new(alloc, "audit")
         .about(ABOUT_AUDIT)

@@ -1,5 +1,5 @@
-//! The program `sftpv3` as a library: its command line, its files and its texts. The streams and the
-//! files are the caller's, so a test can stand in for each.
+//! The program `sftpv3` as a library: command line, files and messages. The caller passes in the file
+//! system and the streams, so a test can replace each of them.
 #![tactic(auto)]
 
 ghost use Rattle.std.specs.Prelude.{◌≤◌};
@@ -13,15 +13,15 @@ use messages::{Ending, Failure};
 use std::fs::Files;
 use std::io::{Read, Write};
 
-/// Does what `words` ask for, of which the first is the program's name, and gives the exit status:
+/// Runs the command line `words`, whose first word is the program's name, and returns the exit status:
 ///
-/// - 0: the session is accepted, the file is written, or help or the version was shown;
-/// - 1: the session is refused, as the line on `output` says;
-/// - 2: the words cannot be understood, or the tree file or the transcript is none;
-/// - 3: a file or a stream could not be read or written, or memory ran out.
+/// - 0: the session is accepted, the file was written, or help or the version was shown;
+/// - 1: the session is refused, and `output` says why;
+/// - 2: bad usage, or a malformed tree file or transcript;
+/// - 3: a file or a stream cannot be read or written, or memory ran out.
 ///
-/// At 2 and 3 `errors` gets the reason, and at 0 and 1 nothing. Where `errors` cannot be written, the
-/// status stays. What goes to `output` is flushed. No subcommand reads `input` yet.
+/// With status 2 or 3 the reason is written to `errors`; with 0 or 1 nothing is. If `errors` cannot be
+/// written, the status is the same. `output` is flushed. No subcommand reads `input` yet.
 pub fn run<R, I, O, E>(
     rt: &R,
     words: &[String],
@@ -57,6 +57,3 @@ fn perform<'a, R: Files + AllocGlobal, O: Write>(
         Request::Show(text) => subcommands::show(text.as_str(), output),
     }
 }
-
-#[cfg(test)]
-mod tests;

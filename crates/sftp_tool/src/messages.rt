@@ -1,5 +1,10 @@
-//! How a run ends: its exit status, and the line that says why.
-ghost use Rattle.std.specs.Prelude.{◌≡◌, ◌≤◌};
+//! How a run ends: its exit status, and the message that says why.
+ghost use Rattle.std.specs.Prelude.{◌≡◌, ◌≢◌, ◌≤◌, IfErr};
+ghost use Rattle.std.specs.IoError.{error_kind};
+ghost use Rattle.std.specs.declared.io.ErrorKind.TheVariants as kinds;
+ghost use Rattle.sftp_tool.specs.declared.messages.Failure.TheVariants as failures;
+ghost use Rattle.sftp_tool.specs.Failures.{tree_failure, transcript_failure};
+ghost use Rattle.sftp_tool.specs.Failures.{IsUnreadFile, IsUnwritten, IsUnwrittenFile};
 
 use sftp_audit::{TranscriptError, TreeError};
 use std::alloc::AllocError;
@@ -8,34 +13,34 @@ use std::io;
 use std::io::Write;
 use thiserror::Error;
 
-/// The name that messages give standard output.
+/// How messages call standard output.
 pub(crate) const STANDARD_OUTPUT: &str = "standard output";
 
-/// How a run ends that could do what was asked.
-#[derive(Clone, Copy, Debug, PartialEq, Eq)]
+/// The outcome of a run that did what was asked.
+#[derive(Clone, Copy)]
 pub(crate) enum Ending {
-    /// The session is accepted, or there was nothing to judge.
+    /// The session is accepted, the file was written, or the text was shown.
     Done,
     /// The session is refused.
     Refused,
 }
 
-/// Why a run could not do what was asked.
+/// Why a run did not do what was asked.
 #[derive(Debug, Drop, Error)]
 pub(crate) enum Failure<'a> {
-    /// The words cannot be understood. The text is the parser's, and ends its last line.
+    /// Bad usage. The text is the parser's, and ends in a line feed.
     #[error("{0}")]
     Usage(String),
-    /// The tree file is none.
+    /// The tree file is malformed.
     #[error("sftpv3: tree: {0}")]
     Tree(TreeError),
-    /// The transcript is none.
+    /// The transcript is malformed, or has a request that cannot be judged yet.
     #[error("sftpv3: transcript: {0}")]
     Transcript(TranscriptError),
-    /// The file or stream of that name cannot be read.
+    /// The file with this name cannot be read.
     #[error("sftpv3: cannot read {0}")]
     CannotRead(&'a str),
-    /// The file or stream of that name cannot be written.
+    /// The file or stream with this name cannot be written.
     #[error("sftpv3: cannot write {0}")]
     CannotWrite(&'a str),
     /// Memory ran out.
@@ -74,16 +79,22 @@ impl Failure<'_> {
 }
 
 impl<'a> Failure<'a> {
-    /// Why the file or stream `name` could not be read. Want of memory says nothing of the file.
-    pub(crate) fn reading(name: &'a str, error: &io::Error) -> Failure<'a> {
+    /// Why the file `name` could not be read. When memory runs out, the file is not to blame.
+    pub(crate) fn reading(name: &'a str, error: &io::Error) -> Failure<'a>
+        ensures memory { error_kind error.now ≡ kinds.OutOfMemory → result ≡ failures.OutOfMemory }
+        ensures file { error_kind error.now ≢ kinds.OutOfMemory → IsUnreadFile name.now result }
+    {
         match error.kind() {
             io::ErrorKind::OutOfMemory => Failure::OutOfMemory,
             _ => Failure::CannotRead(name),
         }
     }
 
-    /// Why the file or stream `name` could not be written. Want of memory says nothing of the file.
-    pub(crate) fn writing(name: &'a str, error: &io::Error) -> Failure<'a> {
+    /// Why the file or stream `name` could not be written. When memory runs out, the file is not to blame.
+    pub(crate) fn writing(name: &'a str, error: &io::Error) -> Failure<'a>
+        ensures memory { error_kind error.now ≡ kinds.OutOfMemory → result ≡ failures.OutOfMemory }
+        ensures file { error_kind error.now ≢ kinds.OutOfMemory → IsUnwrittenFile name.now result }
+    {
         match error.kind() {
             io::ErrorKind::OutOfMemory => Failure::OutOfMemory,
             _ => Failure::CannotWrite(name),
@@ -92,30 +103,36 @@ impl<'a> Failure<'a> {
 }
 
 impl From<AllocError> for Failure<'_> {
+    ghost from_gives = { λ _ failure. failure ≡ failures.OutOfMemory };
+
     fn from(_error: AllocError) -> Self {
         Failure::OutOfMemory
     }
 }
 
 impl From<TreeError> for Failure<'_> {
+    ghost from_gives = { λ error failure. failure ≡ tree_failure error };
+
     fn from(error: TreeError) -> Self {
         match error {
             TreeError::NoMemory => Failure::OutOfMemory,
-            _ => Failure::Tree(error),
+            fault => Failure::Tree(fault),
         }
     }
 }
 
 impl From<TranscriptError> for Failure<'_> {
+    ghost from_gives = { λ error failure. failure ≡ transcript_failure error };
+
     fn from(error: TranscriptError) -> Self {
         match error {
             TranscriptError::NoMemory => Failure::OutOfMemory,
-            _ => Failure::Transcript(error),
+            fault => Failure::Transcript(fault),
         }
     }
 }
 
-/// Prints the reason of a failure. A stream that cannot be written is left alone.
+/// Writes the reason of a failure. If the stream cannot be written, there is nothing left to do.
 pub(crate) fn report<E: Write>(errors: &mut E, failure: Failure<'_>) {
     let _ = match failure {
         Failure::Usage(text) => write_flushed(errors, text.as_str()),
@@ -137,7 +154,9 @@ pub(crate) fn write_flushed<W: Write, D: Display + Drop>(
 pub(crate) fn print<'a, O: Write, D: Display + Drop>(
     output: &mut O,
     text: D,
-) -> Result<(), Failure<'a>> {
+) -> Result<(), Failure<'a>>
+    ensures { IfErr result IsUnwritten }
+{
     match write_flushed(output, text) {
         Ok(()) => Ok(()),
         Err(error) => Err(Failure::writing(STANDARD_OUTPUT, &error)),

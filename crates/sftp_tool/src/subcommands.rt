@@ -1,4 +1,8 @@
-//! What each subcommand does.
+//! The subcommands.
+ghost use Rattle.std.specs.Prelude.{◌≡◌, IfOk, IfErr};
+ghost use Rattle.sftp_tool.specs.declared.messages.Ending.TheVariants as endings;
+ghost use Rattle.sftp_tool.specs.Failures.{refusal_or_failure as refusal_of, IsUnread, IsUnwritten};
+
 use crate::command_line::AuditFiles;
 use crate::messages::{Ending, Failure, print};
 use sftp_audit::{Accepted, AuditError, Refusal};
@@ -6,7 +10,7 @@ use std::fs;
 use std::fs::Files;
 use std::io::Write;
 
-/// Judges a session. Both files are read before either is judged.
+/// Audits a session. Both files are read before either is judged.
 pub(crate) fn audit<'a, R: Files + AllocGlobal, O: Write>(
     rt: &R,
     files: &AuditFiles<'a>,
@@ -16,18 +20,18 @@ pub(crate) fn audit<'a, R: Files + AllocGlobal, O: Write>(
     let transcript = read(rt, files.transcript)?;
     match sftp_audit::audit(rt.alloc(), tree.as_slice(), transcript.as_slice()) {
         Ok(accepted) => accept(rt, &accepted, files.out, output),
-        Err(AuditError::Refused(refusal)) => refuse(refusal, output),
-        Err(AuditError::Tree(error)) => Err(Failure::from(error)),
-        Err(AuditError::Transcript(error)) => Err(Failure::from(error)),
-        Err(AuditError::NoMemory) => Err(Failure::OutOfMemory),
+        Err(error) => refuse(refusal_or_failure(error)?, output),
     }
 }
 
-/// Writes the blank tree to the file of that name.
+/// Writes the blank tree to the file `name`.
 pub(crate) fn blank<'a, R: Files + AllocGlobal>(
     rt: &R,
     name: &'a str,
-) -> Result<Ending, Failure<'a>> {
+) -> Result<Ending, Failure<'a>>
+    ensures ok { IfOk result (λ ending. ending ≡ endings.Done) }
+    ensures err { IfErr result IsUnwritten }
+{
     match sftp_audit::blank_tree(rt.alloc()) {
         Ok(tree) => {
             write(rt, name, tree.as_slice())?;
@@ -38,19 +42,24 @@ pub(crate) fn blank<'a, R: Files + AllocGlobal>(
 }
 
 /// Shows help or the version.
-pub(crate) fn show<'a, O: Write>(text: &str, output: &mut O) -> Result<Ending, Failure<'a>> {
+pub(crate) fn show<'a, O: Write>(text: &str, output: &mut O) -> Result<Ending, Failure<'a>>
+    ensures ok { IfOk result (λ ending. ending ≡ endings.Done) }
+    ensures err { IfErr result IsUnwritten }
+{
     print(output, text)?;
     Ok(Ending::Done)
 }
 
-/// Writes the tree of the end, if a file is named for it, and only then says that the session is
-/// accepted.
+/// Writes the final tree, if a file is named for it, and then says that the session is accepted.
 fn accept<'a, R: Files, O: Write>(
     rt: &R,
     accepted: &Accepted,
     out: Option<&'a str>,
     output: &mut O,
-) -> Result<Ending, Failure<'a>> {
+) -> Result<Ending, Failure<'a>>
+    ensures ok { IfOk result (λ ending. ending ≡ endings.Done) }
+    ensures err { IfErr result IsUnwritten }
+{
     if let Some(name) = out {
         write(rt, name, accepted.tree.as_slice())?;
     }
@@ -59,22 +68,39 @@ fn accept<'a, R: Files, O: Write>(
     Ok(Ending::Done)
 }
 
-fn refuse<'a, O: Write>(refusal: Refusal, output: &mut O) -> Result<Ending, Failure<'a>> {
-    if refusal == Refusal::NoMemory {
-        return Err(Failure::OutOfMemory);
-    }
+/// Says why the session is refused.
+fn refuse<'a, O: Write>(refusal: Refusal, output: &mut O) -> Result<Ending, Failure<'a>>
+    ensures ok { IfOk result (λ ending. ending ≡ endings.Refused) }
+    ensures err { IfErr result IsUnwritten }
+{
     print(output, format_args!("refused {refusal}\n"))?;
     Ok(Ending::Refused)
 }
 
-fn read<'a, R: Files + AllocGlobal>(rt: &R, name: &'a str) -> Result<Vec<u8>, Failure<'a>> {
+/// What the error of an audit means for the run: a refusal of the session, or a failure.
+fn refusal_or_failure<'a>(error: AuditError) -> Result<Refusal, Failure<'a>>
+    ensures { result ≡ refusal_of error }
+{
+    match error {
+        AuditError::Refused(Refusal::NoMemory) | AuditError::NoMemory => Err(Failure::OutOfMemory),
+        AuditError::Refused(refusal) => Ok(refusal),
+        AuditError::Tree(error) => Err(Failure::from(error)),
+        AuditError::Transcript(error) => Err(Failure::from(error)),
+    }
+}
+
+fn read<'a, R: Files + AllocGlobal>(rt: &R, name: &'a str) -> Result<Vec<u8>, Failure<'a>>
+    ensures { IfErr result IsUnread }
+{
     match fs::read(rt, name) {
         Ok(bytes) => Ok(bytes),
         Err(error) => Err(Failure::reading(name, &error)),
     }
 }
 
-fn write<'a, R: Files>(rt: &R, name: &'a str, bytes: &[u8]) -> Result<(), Failure<'a>> {
+fn write<'a, R: Files>(rt: &R, name: &'a str, bytes: &[u8]) -> Result<(), Failure<'a>>
+    ensures { IfErr result IsUnwritten }
+{
     match fs::write(rt, name, bytes) {
         Ok(()) => Ok(()),
         Err(error) => Err(Failure::writing(name, &error)),

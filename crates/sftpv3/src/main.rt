@@ -1,21 +1,27 @@
-//! The program `sftpv3`: `sftp_tool::run` on the words and the streams of the process.
+//! The program `sftpv3`: `sftp_tool::run` on the arguments and the streams of the process.
 #![tactic(auto)]
+
+ghost use Rattle.std.specs.Prelude.{◌≡◌, ◌≢◌, ◌≤◌, IfOk, IfErr};
+ghost use Rattle.std.specs.IoError.{error_kind};
+ghost use Rattle.std.specs.declared.io.ErrorKind.TheVariants.{InvalidData};
 
 use std::io::{BufWriter, ErrorKind};
 use std::process::ExitCode;
 use std::{env, io};
 
 fn main(rt: HostRuntime) -> ExitCode {
-    let status = match run(&rt) {
-        Ok(status) => status,
-        Err(error) => report(&rt, error.kind()),
-    };
-    ExitCode::from(status)
+    let outcome = run(&rt);
+    if let Err(error) = &outcome {
+        report(&rt, error.kind());
+    }
+    ExitCode::from(exit_status(&outcome))
 }
 
-/// Runs the program, and gives its exit status. An error is that a word is no UTF-8 text, or that memory
-/// ran out before the program began.
-fn run(rt: &HostRuntime) -> io::Result<u8> {
+/// Runs the program and returns its exit status. It is an error if an argument is not valid UTF-8, or if
+/// memory runs out before the program starts.
+fn run(rt: &HostRuntime) -> io::Result<u8>
+    ensures { IfOk result (λ status. status ≤ 3) }
+{
     let words: Vec<String> = env::args(rt)?.collect(rt.alloc())?;
     let mut output = BufWriter::new(rt.alloc(), rt.stdout())?;
     let mut input = rt.stdin();
@@ -23,16 +29,25 @@ fn run(rt: &HostRuntime) -> io::Result<u8> {
     Ok(sftp_tool::run(rt, words.as_slice(), &mut input, &mut output, &mut errors))
 }
 
-/// Says why the program did not begin, and gives the exit status.
-fn report(rt: &HostRuntime, kind: ErrorKind) -> u8 {
-    match kind {
-        ErrorKind::InvalidData => {
-            let _ = rt.eprintln("sftpv3: an argument is no UTF-8 text");
-            2
-        }
-        _ => {
-            let _ = rt.eprintln("sftpv3: out of memory");
-            3
-        }
+/// The exit status of the process: that of the run, or 2 or 3 if it did not start.
+fn exit_status(outcome: &io::Result<u8>) -> u8
+    ensures run { IfOk outcome.now (λ status. result ≡ status) }
+    ensures usage { IfErr outcome.now (λ error. error_kind error ≡ InvalidData → result ≡ 2) }
+    ensures memory { IfErr outcome.now (λ error. error_kind error ≢ InvalidData → result ≡ 3) }
+{
+    match outcome {
+        Ok(status) => *status,
+        Err(error) => match error.kind() {
+            ErrorKind::InvalidData => 2,
+            _ => 3,
+        },
     }
+}
+
+/// Says why the program did not start.
+fn report(rt: &HostRuntime, kind: ErrorKind) {
+    let _ = match kind {
+        ErrorKind::InvalidData => rt.eprintln("sftpv3: an argument is not valid UTF-8"),
+        _ => rt.eprintln("sftpv3: out of memory"),
+    };
 }
