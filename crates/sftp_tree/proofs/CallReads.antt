@@ -56,8 +56,10 @@ stat-absent t follow path place kept are absent =
 
 pub stat-shown : (t : Tree) (follow : Bool) (path : List ℕ) (place : Place) (it : Node) (attrs : Attrs) → reached t follow path ≡ Ok place → node_at t.names place ≡ Some it → shown t it ≡ Some attrs → shown_to t (stat_ask follow path) ≡ Some attrs
 unfolding shown_to
-stat-shown t follow path place it attrs leads there is =
-    ap (λ o. led_to None o (λ place. shown_at t (node_at t.names place))) (stat-led t follow path place leads) ∙ ap (shown_at t) there ∙ is
+stat-shown t true path place it attrs leads there is =
+    ap (λ o. led_to None o (λ place. shown_at t (node_at t.names place))) (stat-led t true path place leads) ∙ ap (shown_at t) there ∙ is
+stat-shown t false path place it attrs leads there is =
+    ap (λ o. led_to None o (λ place. shown_at t (node_at t.names place))) (stat-led t false path place leads) ∙ ap (shown_at t) there ∙ is
 
 -- ---- REALPATH
 
