@@ -4,8 +4,7 @@ use Rattle.std.specs.Prelude.{◌⊎◌, ◌↔◌}
 use Rattle.std.specs.Ordering.{nat_cmp}
 use Rattle.std.specs.FinMap.{nat_cmp-IsAntisymmetric}
 use Rattle.std.proofs.lemmas.Cmp.{nat_cmp_total}
-use Rattle.std.proofs.lemmas.Bool.{ltb-false, ltb-true, cases_lt}
-use Rattle.std.proofs.Math.Bool.{or-false}
+use Rattle.std.proofs.lemmas.Bool.{ltb-false, cases_lt, both_ways, or_parts}
 use Rattle.sftp_wire.specs.declared.attributes.Attrs.{Attrs}
 use Rattle.sftp_wire.specs.declared.packets.Ask.{Ask}
 use Rattle.sftp_wire.specs.declared.packets.Ask.TheVariants.{Mkdir, Rmdir, Remove, Setstat, Symlink, Rename, PosixRename, Hardlink}
@@ -18,7 +17,7 @@ use Rattle.sftp_tree.specs.declared.contents.Content.{Content}
 use Rattle.sftp_tree.specs.declared.nodes.Node.{Node}
 use Rattle.sftp_tree.specs.declared.nodes.Node.TheVariants.{Dir, File, Link}
 use Rattle.sftp_tree.specs.declared.causes.Cause.{Cause}
-use Rattle.sftp_tree.specs.Tree.{Names, Tree, WellFormed, IsNode, node_at, with_node, without_node, content_at, with_content, times_named, is_named, trimmed, held_by_names_alone}
+use Rattle.sftp_tree.specs.Tree.{Names, Tree, WellFormed, IsNode, node_at, with_node, without_node, content_at, with_content, times_named, times_pinned, is_named, is_pinned, is_held, trimmed}
 use Rattle.sftp_tree.specs.Attributes.{directory_owner, changed_owner, changed_content}
 use Rattle.sftp_tree.specs.Steps.{led, new_led, are_one, with_changed_file, with_attributes, put_in_its_stead, with_further_name, target_at, target_between, target_on, led_to, target, after}
 use Rattle.sftp_tree.proofs.KeepTables.{each-get}
@@ -117,27 +116,31 @@ content-left t is_held number order =
     get-retain nat_cmp nat_cmp_total nat_cmp-IsAntisymmetric t.files (stays is_held t.names) number order
     ∙ kept-by (stays is_held t.names) number (is_named t.names number || is_held number) (content_at t.files number) (λ content. refl)
 
-pub content-after : (t : Tree) (ask : Ask) (number : ℕ) → WellFormed t → content_at (after t ask).files number ≡ (if is_named (target t ask).names number then content_at (target t ask).files number else None)
-content-after t ask number well =
-    content-left (target t ask) held_by_names_alone number (numbered-target t ask well.numbered)
-    ∙ ap (λ b. if b then content_at (target t ask).files number else None) (or-false (is_named (target t ask).names number))
+pub content-after : (t : Tree) (ask : Ask) (number : ℕ) → WellFormed t → content_at (after t ask).files number ≡ (if is_held (target t ask) number then content_at (target t ask).files number else None)
+content-after t ask number well = content-left (target t ask) (is_pinned (target t ask).pins) number (numbered-target t ask well.numbered)
 
-no-names : (n : ℕ) → nat_lt 0 n ≡ false → n ≡ 0
-no-names n none =
+none-left : (n : ℕ) → nat_lt 0 n ≡ false → n ≡ 0
+none-left n none =
     let few = ltb-false 0 n none in
     omega arith
 
-gone-by : (n : ℕ) (b : Bool) (o : Option Content) → nat_lt 0 n ≡ b → ((if b then o else None) ≡ None) ↔ ((o ≡ None) ⊎ (n ≡ 0))
-gone-by n true o is = (λ gone. inl gone, λ either. elim either [ inl gone ↦ gone | inr none ↦ absurd (some-named n is none) ])
-  where
-    some-named : (n : ℕ) → nat_lt 0 n ≡ true → n ≡ 0 → ⊥
-    some-named n some none =
-        let more = ltb-true 0 n some in
-        omega arith
-gone-by n false o is = (λ gone. inr (no-names n is), λ either. refl)
+gone-by : (n p : ℕ) (b : Bool) (o : Option Content) → (nat_lt 0 n || nat_lt 0 p) ≡ b → ((if b then o else None) ≡ None) ↔ ((o ≡ None) ⊎ ((n ≡ 0) × (p ≡ 0)))
+gone-by n p true o is = (λ gone. inl gone, λ either. elim either [ inl gone ↦ gone | inr none ↦ absurd (both_ways (nat_lt 0 n || nat_lt 0 p) (λ i. nat_lt 0 (none.0 i) || nat_lt 0 (none.1 i)) is) ])
+gone-by n p false o is =
+    let parts = or_parts (nat_lt 0 n) (nat_lt 0 p) is in
+    (λ gone. inr (none-left n parts.0, none-left p parts.1), λ either. refl)
 
--- a file is gone just where there was none, or no name of it is left
-pub gone-after : (t : Tree) (ask : Ask) (number : ℕ) → WellFormed t → (content_at (after t ask).files number ≡ None) ↔ ((content_at (target t ask).files number ≡ None) ⊎ (times_named (target t ask).names number ≡ 0))
+-- a file is gone just where there was none, or no name of it is left and nothing pins it
+pub gone-after : (t : Tree) (ask : Ask) (number : ℕ) → WellFormed t
+    → (content_at (after t ask).files number ≡ None) ↔ ((content_at (target t ask).files number ≡ None) ⊎ ((times_named (target t ask).names number ≡ 0) × (times_pinned (target t ask).pins number ≡ 0)))
 gone-after t ask number well =
-    subst (λ o. (o ≡ None) ↔ ((content_at (target t ask).files number ≡ None) ⊎ (times_named (target t ask).names number ≡ 0))) (sym (content-after t ask number well))
-    (gone-by (times_named (target t ask).names number) (is_named (target t ask).names number) (content_at (target t ask).files number) refl)
+    subst (λ o. (o ≡ None) ↔ ((content_at (target t ask).files number ≡ None) ⊎ ((times_named (target t ask).names number ≡ 0) × (times_pinned (target t ask).pins number ≡ 0)))) (sym (content-after t ask number well))
+    (gone-by (times_named (target t ask).names number) (times_pinned (target t ask).pins number) (is_held (target t ask) number) (content_at (target t ask).files number) refl)
+
+-- ---- what requests leave as it was
+
+pub pins-stay : (t : Tree) (ask : Ask) → (target t ask).pins ≡ t.pins
+pins-stay t = by-target t (λ x. x.pins ≡ t.pins) refl (λ names. refl) (λ number before content there. refl)
+
+pub limits-stay : (t : Tree) (ask : Ask) → (target t ask).limits ≡ t.limits
+limits-stay t = by-target t (λ x. x.limits ≡ t.limits) refl (λ names. refl) (λ number before content there. refl)

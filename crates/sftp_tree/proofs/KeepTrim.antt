@@ -1,11 +1,10 @@
 -- A tree without the files that have no name and that nothing else holds: it is a tree again, within the limits.
-use Rattle.std.proofs.Common.{◌≡◌, ℕ, ◌<◌, Bool, true, cond, ◌||◌, refl, sym, ap, ◌∙◌, Option, Some, None, is_some, IsTrue}
+use Rattle.std.proofs.Common.{◌≡◌, ℕ, ◌<◌, Bool, true, cond, ◌||◌, refl, ap, ◌∙◌, Option, Some, None, is_some, IsTrue}
 use Rattle.std.specs.Ordering.{nat_cmp}
 use Rattle.std.specs.List.{AllByRecursion}
 use Rattle.std.specs.FinMap.{nat_cmp-IsAntisymmetric}
 use Rattle.std.proofs.lemmas.Bool.{lt-ltb, eq-eqb, or_left}
 use Rattle.std.proofs.lemmas.Cmp.{nat_cmp_total}
-use Rattle.std.proofs.Math.Bool.{or-false}
 use Rattle.sftp_path.specs.Place.{Place, place_cmp}
 use Rattle.sftp_path.specs.Table.{retain, kept}
 use Rattle.sftp_path.proofs.Order.{place_cmp-total, place_cmp-same}
@@ -15,8 +14,8 @@ use Rattle.sftp_path.proofs.CountLaws.{count-found}
 use Rattle.sftp_tree.specs.declared.contents.Content.{Content}
 use Rattle.sftp_tree.specs.declared.nodes.Node.{Node}
 use Rattle.sftp_tree.specs.declared.nodes.Node.TheVariants.{Dir, File, Link}
-use Rattle.sftp_tree.specs.Tree.{Names, Files, Tree, WellFormed, IsKept, IsTrimmed, IsNode, IsContent, limits, fits, files_fit, content_fits, node_at, content_at, names_file, times_named, is_named, trimmed, trim, held_by_names_alone}
-use Rattle.sftp_tree.proofs.KeepTables.{each-weaker, each-retain, each-get, get-each, each-all, all-each}
+use Rattle.sftp_tree.specs.Tree.{Names, Files, Tree, WellFormed, IsKept, IsTrimmed, IsNode, IsContent, limits, fits, files_fit, content_fits, node_at, content_at, names_file, times_named, is_named, is_pinned, trimmed, trim}
+use Rattle.sftp_tree.proofs.KeepTables.{each-retain, each-get, get-each, each-all, all-each}
 use Rattle.sftp_tree.proofs.KeepFits.{fits-parts, fits-from}
 
 -- ---- the files that stay
@@ -65,6 +64,8 @@ well-formed-trimmed is_held t well = record {
   numbered = InOrder-retain nat_cmp t.files (stays is_held t.names) well.numbered;
   contents = each-retain (λ e. IsContent e.1) (λ e. IsContent e.1) t.files (stays is_held t.names) (λ e h passed. h) well.contents;
   given = each-retain (λ e. e.0 < t.made) (λ e. e.0 < t.made) t.files (stays is_held t.names) (λ e h passed. h) well.given;
+  pins = well.pins;
+  limits = well.limits;
   home = well.home;
   uid = well.uid;
   gid = well.gid;
@@ -89,13 +90,13 @@ fits-trimmed is_held t h =
 
 pub is-trimmed : (t : Tree) → WellFormed t → IsTrimmed (trim t)
 is-trimmed t well =
-    each-retain (λ e. e.0 < t.made) (λ e. IsTrue (is_named t.names e.0)) t.files (stays held_by_names_alone t.names) (λ e h passed. sym (or-false (is_named t.names e.0)) ∙ passed) well.given
+    each-retain (λ e. e.0 < t.made) (λ e. IsTrue (stays (is_pinned t.pins) t.names e)) t.files (stays (is_pinned t.pins) t.names) (λ e h passed. passed) well.given
 
 -- a tree within the limits is one of the program when it is trimmed
 pub kept-trim : (t : Tree) → WellFormed t → IsTrue (fits t) → IsKept (trim t)
 kept-trim t well within = record {
-  well_formed = well-formed-trimmed held_by_names_alone t well;
-  within_limits = fits-trimmed held_by_names_alone t within;
+  well_formed = well-formed-trimmed (is_pinned t.pins) t well;
+  within_limits = fits-trimmed (is_pinned t.pins) t within;
   trimmed = is-trimmed t well;
 }
 
@@ -105,5 +106,5 @@ retain-all files keeps h = filter_all keeps files (all-each keeps files h)
 
 pub trimmed-already : (t : Tree) → IsTrimmed t → trim t ≡ t
 trimmed-already t h =
-    let same = retain-all t.files (stays held_by_names_alone t.names) (each-weaker (λ e. IsTrue (is_named t.names e.0)) (λ e. IsTrue (stays held_by_names_alone t.names e)) (λ e named. or-false (is_named t.names e.0) ∙ named) t.files h) in
+    let same = retain-all t.files (stays (is_pinned t.pins) t.names) h in
     λ i. record t { files = same i }

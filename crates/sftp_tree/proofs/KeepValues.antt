@@ -1,8 +1,9 @@
 -- A tree with another owner of a directory, or another content of a file: it stays a tree within the limits.
-use Rattle.std.proofs.Common.{◌≡◌, ◌+◌, ◌<◌, ℕ, Bool, true, false, cond, refl, ap, ◌∙◌, arith, Some, is_some, nat_lt, IsTrue}
+use Rattle.std.proofs.Common.{◌≡◌, ◌+◌, ◌<◌, ℕ, Bool, true, false, cond, ◌||◌, refl, ap, ◌∙◌, arith, Option, Some, None, is_some, nat_lt, IsTrue}
 use Rattle.std.specs.Ordering.{nat_cmp, is_eq}
 use Rattle.std.specs.FinMap.{nat_cmp-IsAntisymmetric}
 use Rattle.std.proofs.lemmas.Cmp.{nat_cmp_total}
+use Rattle.sftp_wire.specs.declared.attributes.Attrs.{Attrs}
 use Rattle.sftp_path.specs.Place.{Place, place_cmp}
 use Rattle.sftp_path.specs.Table.{InOrder}
 use Rattle.sftp_path.proofs.Order.{place_cmp-total}
@@ -13,7 +14,10 @@ use Rattle.sftp_treefile.specs.TreeFile.{IsOwner}
 use Rattle.sftp_tree.specs.declared.contents.Content.{Content}
 use Rattle.sftp_tree.specs.declared.nodes.Node.{Node}
 use Rattle.sftp_tree.specs.declared.nodes.Node.TheVariants.{Dir, File, Link}
-use Rattle.sftp_tree.specs.Tree.{Names, Files, Tree, WellFormed, IsKept, IsNode, IsContent, limits, fits, content_fits, node_at, with_node, content_at, with_content, names_file, times_named, is_named}
+use Rattle.sftp_tree.specs.Tree.{Names, Files, Tree, WellFormed, IsKept, IsNode, IsContent, limits, fits, content_fits, is_directory, node_at, with_node, content_at, with_content, names_file, times_named, is_named, is_pinned, is_held}
+use Rattle.sftp_tree.specs.Attributes.{changed_owner, changed_content}
+use Rattle.sftp_tree.specs.Steps.{with_changed_file}
+use Rattle.sftp_tree.proofs.KeepFields.{sized-bytes}
 use Rattle.sftp_tree.proofs.KeepTables.{each-weaker, each-get, each-put}
 use Rattle.sftp_tree.proofs.KeepFits.{fits-parts, fits-from}
 use Rattle.sftp_tree.proofs.KeepLimits.{entries-again, depths-again, links-again, files-again}
@@ -49,9 +53,19 @@ kept-owner t place before owner kept there is_owner = record {
       (names-owner t.files t.names place before owner (names-of t kept.well_formed) there is_owner);
   within_limits = fits-owner t place before owner kept.well_formed kept.within_limits there;
   trimmed =
-      each-weaker (λ e. IsTrue (is_named t.names e.0)) (λ e. IsTrue (is_named (with_node t.names place (Dir owner)) e.0))
-      (λ e h. ap (nat_lt 0) (times_named-owner t.names place before owner e.0 kept.well_formed.ordered there) ∙ h) t.files kept.trimmed;
+      each-weaker (λ e. IsTrue (is_held t e.0)) (λ e. IsTrue (is_named (with_node t.names place (Dir owner)) e.0 || is_pinned t.pins e.0))
+      (λ e h. ap (λ n. nat_lt 0 n || is_pinned t.pins e.0) (times_named-owner t.names place before owner e.0 kept.well_formed.ordered there) ∙ h) t.files kept.trimmed;
 }
+
+-- of a directory that stands there
+pub kept-owner-there : (t : Tree) (place : Place) (owner : Owner) → IsKept t → IsTrue (is_directory (node_at t.names place)) → IsOwner owner → IsKept (record t { names = with_node t.names place (Dir owner) })
+kept-owner-there t place owner kept directory is_owner = by (node_at t.names place) refl directory
+  where
+    by : (found : Option Node) → node_at t.names place ≡ found → is_directory found ≡ true → IsKept (record t { names = with_node t.names place (Dir owner) })
+    by None there directory = absurd cc
+    by (Some (Dir before)) there directory = kept-owner t place before owner kept there is_owner
+    by (Some (File number)) there directory = absurd cc
+    by (Some (Link target)) there directory = absurd cc
 
 -- ---- another content of a file
 
@@ -81,6 +95,8 @@ well-formed-content t number before content well there is_content = record {
   given =
       each-put nat_cmp nat_cmp-IsAntisymmetric nat_cmp_total (λ e. e.0 < t.made) t.files number content well.numbered
       (each-get nat_cmp nat_cmp-IsAntisymmetric (λ e. e.0 < t.made) t.files number before well.given there) well.given;
+  pins = well.pins;
+  limits = well.limits;
   home = well.home;
   uid = well.uid;
   gid = well.gid;
@@ -98,11 +114,25 @@ fits-content t number content within small =
       numbers = parts.numbers;
     })
 
-pub kept-content : (t : Tree) (number : ℕ) (before content : Content) → IsKept t → content_at t.files number ≡ Some before → IsContent content → IsTrue (content_fits (limits t) content) → IsKept (record t { files = with_content t.files number content })
-kept-content t number before content kept there is_content small = record {
+pub kept-content-within : (t : Tree) (number : ℕ) (before content : Content) → IsKept t → content_at t.files number ≡ Some before → IsContent content → IsTrue (fits (record t { files = with_content t.files number content })) → IsKept (record t { files = with_content t.files number content })
+kept-content-within t number before content kept there is_content within = record {
   well_formed = well-formed-content t number before content kept.well_formed there is_content;
-  within_limits = fits-content t number content kept.within_limits small;
+  within_limits = within;
   trimmed =
-      each-put nat_cmp nat_cmp-IsAntisymmetric nat_cmp_total (λ e. IsTrue (is_named t.names e.0)) t.files number content kept.well_formed.numbered
-      (each-get nat_cmp nat_cmp-IsAntisymmetric (λ e. IsTrue (is_named t.names e.0)) t.files number before kept.trimmed there) kept.trimmed;
+      each-put nat_cmp nat_cmp-IsAntisymmetric nat_cmp_total (λ e. IsTrue (is_held t e.0)) t.files number content kept.well_formed.numbered
+      (each-get nat_cmp nat_cmp-IsAntisymmetric (λ e. IsTrue (is_held t e.0)) t.files number before kept.trimmed there) kept.trimmed;
 }
+
+pub kept-content : (t : Tree) (number : ℕ) (before content : Content) → IsKept t → content_at t.files number ≡ Some before → IsContent content → IsTrue (content_fits (limits t) content) → IsKept (record t { files = with_content t.files number content })
+kept-content t number before content kept there is_content small =
+    kept-content-within t number before content kept there is_content (fits-content t number content kept.within_limits small)
+
+-- with its attributes set, where the limits allow it
+pub kept-changed : (t : Tree) (attrs : Attrs) (number : ℕ) → IsKept t → ((content : Content) → content_at t.files number ≡ Some content → IsOwner (changed_owner attrs content.owner)) → IsTrue (fits (with_changed_file t attrs number (content_at t.files number))) → IsKept (with_changed_file t attrs number (content_at t.files number))
+kept-changed t attrs number kept owned within = by (content_at t.files number) refl within
+  where
+    by : (found : Option Content) → content_at t.files number ≡ found → IsTrue (fits (with_changed_file t attrs number found)) → IsKept (with_changed_file t attrs number found)
+    by None there within = kept
+    by (Some content) there within =
+        let before = each-get nat_cmp nat_cmp-IsAntisymmetric (λ e. IsContent e.1) t.files number content kept.well_formed.contents there in
+        kept-content-within t number content (changed_content attrs content) kept there (owned content there, sized-bytes attrs.size content.bytes before.1) within

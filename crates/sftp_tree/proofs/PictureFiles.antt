@@ -1,9 +1,9 @@
 -- What a tree's file says is a tree file, whose tree is that tree with its files numbered anew; and what a tree file says is what
 -- its tree's says.
-use Rattle.std.proofs.Common.{◌≡◌, ℕ, ◌+◌, ◌-◌, ◌<◌, ◌≤◌, ◌^◌, cond, List, [], ◌∷◌, ◌++◌, length, Some, refl, sym, ap, subst, ◌∙◌, arith}
+use Rattle.std.proofs.Common.{◌≡◌, ℕ, ◌+◌, ◌-◌, ◌<◌, ◌≤◌, ◌^◌, ◌||◌, cond, List, [], ◌∷◌, ◌++◌, length, Some, refl, sym, ap, subst, ◌∙◌, arith}
 use Rattle.std.specs.Prelude.{IsTrue, is_some}
 use Rattle.std.specs.List.{AllByRecursion, filter}
-use Rattle.std.proofs.lemmas.Bool.{leb-true, ltb-true, le-leb, lt-ltb}
+use Rattle.std.proofs.lemmas.Bool.{leb-true, ltb-true, le-leb, lt-ltb, or_left}
 use Rattle.std.proofs.lemmas.List.{length-append}
 use Rattle.std.proofs.lemmas.List.Elements.{filter-append}
 use Rattle.sftp_path.specs.Place.{Place, are_names, components}
@@ -15,12 +15,14 @@ use Rattle.sftp_treefile.specs.declared.files.Kind.{Kind}
 use Rattle.sftp_treefile.specs.declared.files.Kind.TheVariants as kinds
 use Rattle.sftp_treefile.specs.declared.files.Row.{Row}
 use Rattle.sftp_treefile.specs.declared.files.TreeFile.{TreeFile}
+use Rattle.sftp_treefile.specs.declared.limits.TreeLimits.{TreeLimits}
+use Rattle.sftp_treefile.specs.Limits.{usual_limits}
 use Rattle.sftp_treefile.specs.TreeFile.{place_of, IsOwner, IsKind, AreRows, IsTreeFile, spelled, IsSpelled}
 use Rattle.sftp_treefile.proofs.FileTexts.{one_file}
 use Rattle.sftp_tree.specs.declared.contents.Content.{Content}
 use Rattle.sftp_tree.specs.declared.nodes.Node.{Node}
 use Rattle.sftp_tree.specs.declared.nodes.Node.TheVariants.{Dir, File, Link}
-use Rattle.sftp_tree.specs.Tree.{Names, Files, Tree, IsKept, IsNode, IsContent, limits, node_at, content_at, names_file, times_named, is_named, fits, depths_fit, depth_fits, home_fits, links_fit, link_fits, files_fit, content_fits}
+use Rattle.sftp_tree.specs.Tree.{Names, Files, Tree, IsKept, IsNode, IsContent, limits, node_at, content_at, names_file, times_named, is_named, is_pinned, fits, depths_fit, depth_fits, home_fits, links_fit, link_fits, files_fit, content_fits}
 use Rattle.sftp_tree.specs.Picture.{rows_behind, root_owner, is_numbered, file_of, picture, IsStart, blank}
 use Rattle.sftp_tree.specs.PictureParts.{content_of, contents_of, node_of, entry_of, entries_behind, only_root, names_of, numbered_from, tree_of}
 use Rattle.sftp_tree.proofs.PictureLists.{all_both, all_together, all_right}
@@ -36,7 +38,7 @@ use Rattle.sftp_tree.proofs.KeepFits.{fits-parts, fits-from}
 -- ---- the limits, entry by entry
 
 pub record Limits (t : Tree) : Type 0 where
-  pub entries : length t.names ≤ 65537
+  pub entries : length t.names ≤ t.limits.entries + 1
   pub depths : IsTrue (depths_fit t)
   pub home : IsTrue (home_fits t)
   pub links : IsTrue (links_fit t)
@@ -46,21 +48,24 @@ pub record Limits (t : Tree) : Type 0 where
 pub limits_from : (t : Tree) → IsTrue (fits t) → Limits t
 limits_from t h =
     let parts = fits-parts t h in
-    record { entries = omega (arith, leb-true (length t.names - 1) 65536 parts.entries); depths = parts.depths; home = parts.home; links = parts.links; files = parts.files; numbers = ltb-true t.made (2 ^ 32) parts.numbers }
+    record { entries = omega (arith, leb-true (length t.names - 1) t.limits.entries parts.entries); depths = parts.depths; home = parts.home; links = parts.links; files = parts.files; numbers = ltb-true t.made (2 ^ 32) parts.numbers }
 
 pub limits_fit : (t : Tree) → Limits t → IsTrue (fits t)
 limits_fit t l =
-    fits-from t (record { entries = le-leb (length t.names - 1) 65536 (omega (arith, l.entries)); depths = l.depths; home = l.home; links = l.links; files = l.files; numbers = lt-ltb t.made (2 ^ 32) l.numbers })
+    fits-from t (record { entries = le-leb (length t.names - 1) t.limits.entries (omega (arith, l.entries)); depths = l.depths; home = l.home; links = l.links; files = l.files; numbers = lt-ltb t.made (2 ^ 32) l.numbers })
+
+pub usual-entries : (t : Tree) → IsKept t → t.limits.entries ≡ usual_limits.entries
+usual-entries t kept = ap (λ (bounds : TreeLimits). bounds.entries) kept.well_formed.limits
 
 -- ---- what the files of rows keep
 
-fit_contents : (earlier : List Row) (kind : Kind) → IsKind earlier kind → AllByRecursion IsFitContent (content_of kind)
+fit_contents : (earlier : List Row) (kind : Kind) → IsKind usual_limits earlier kind → AllByRecursion IsFitContent (content_of kind)
 fit_contents earlier (kinds.Dir owner) fits = tt
 fit_contents earlier (kinds.First owner bytes) fits = (fits, tt)
 fit_contents earlier (kinds.Further entry) fits = tt
 fit_contents earlier (kinds.Link target) fits = tt
 
-rows_contents : (earlier rows : List Row) → AreRows earlier rows → AllByRecursion IsFitContent (contents_of rows)
+rows_contents : (earlier rows : List Row) → AreRows usual_limits earlier rows → AllByRecursion IsFitContent (contents_of rows)
 rows_contents earlier [] fit = tt
 rows_contents earlier (row ∷ rows) fit =
     all_both IsFitContent (content_of row.kind) (contents_of rows) (fit_contents earlier row.kind fit.0.kind) (rows_contents (earlier ++ row ∷ []) rows fit.1)
@@ -97,8 +102,11 @@ names_each root rows number below =
 
 -- ---- from a tree file to its tree
 
-pub table_of_file : (root : Owner) (rows : List Row) → IsOwner root → AreRows [] rows → IsTable root (names_of root rows)
+pub table_of_file : (root : Owner) (rows : List Row) → IsOwner root → AreRows usual_limits [] rows → IsTable root (names_of root rows)
 table_of_file root rows fits fit = table_from_bare root (names_of root rows) (subst (IsTable root) (sym (names_bare root rows)) (table_of_rows root rows fits fit))
+
+rows_fit : (file : TreeFile) → IsTreeFile file → AreRows usual_limits [] file.rows
+rows_fit file is = subst (λ (bounds : TreeLimits). AreRows bounds [] file.rows) is.limits is.rows
 
 pub kept_of_file : (file : TreeFile) → IsTreeFile file → IsKept (tree_of file)
 kept_of_file file is =
@@ -106,8 +114,9 @@ kept_of_file file is =
     let contents = contents_of file.rows in
     let files = numbered_from 0 contents in
     let made = length contents in
-    let t = table_of_file file.root file.rows is.root is.rows in
-    let fit = rows_contents [] file.rows is.rows in
+    let rows = rows_fit file is in
+    let t = table_of_file file.root file.rows is.root rows in
+    let fit = rows_contents [] file.rows rows in
     let home = text_place file.home is.home in
     let many : length names ≡ length file.rows + 1 = omega (arith, length-entries [] file.rows) in
     let there = λ (n : ℕ) (below : n < made). numbered_there 0 contents n (omega arith) (omega arith) in
@@ -115,12 +124,14 @@ kept_of_file file is =
       well_formed = record {
         ordered = t.ordered;
         named = each-weaker (λ (e : Place × Node). IsPlace e.0) (λ (e : Place × Node). IsTrue (are_names e.0)) (λ e p. p.0) names t.places;
-        nodes = nodes_kept files made there names t.nodes (all_below file.root file.rows is.rows);
+        nodes = nodes_kept files made there names t.nodes (all_below file.root file.rows rows);
         root = rw t.root_is refl;
         parents = t.parents;
         numbered = numbered_order 0 contents;
         contents = each_content IsContent 0 contents (each-weaker IsFitContent IsContent (λ c f. (f.0, f.2)) contents fit);
         given = each_number (λ n. n < made) 0 contents (λ n above below. omega arith);
+        pins = numbered_order 0 [];
+        limits = is.limits;
         home = home.0;
         uid = is.uid;
         gid = is.gid;
@@ -130,21 +141,21 @@ kept_of_file file is =
         depths = all-each (λ (e : Place × Node). depth_fits e.0) names (each-weaker (λ (e : Place × Node). IsPlace e.0) (λ (e : Place × Node). IsTrue (depth_fits e.0)) (λ e p. p.1) names t.places);
         home = home.1;
         links = all-each (λ (e : Place × Node). link_fits e.1) names (each-weaker (λ (e : Place × Node). IsFitNode e.1) (λ (e : Place × Node). IsTrue (link_fits e.1)) (λ e p. fit_link e.1 p) names t.nodes);
-        files = all-each (λ (e : ℕ × Content). content_fits (limits (tree_of file)) e.1) files (each_content (λ c. IsTrue (content_fits (limits (tree_of file)) c)) 0 contents (each-weaker IsFitContent (λ c. IsTrue (content_fits (limits (tree_of file)) c)) (λ c f. le-leb (length c.bytes) 16777216 f.1) contents fit));
-        numbers = omega (arith, made_few file.rows, is.count);
+        files = all-each (λ (e : ℕ × Content). content_fits (limits (tree_of file)) e.1) files (each_content (λ c. IsTrue (content_fits (limits (tree_of file)) c)) 0 contents (each-weaker IsFitContent (λ c. IsTrue (content_fits (limits (tree_of file)) c)) (λ c f. subst (λ (bounds : TreeLimits). IsTrue (content_fits bounds c)) (sym is.limits) (le-leb (length c.bytes) usual_limits.file_bytes f.1)) contents fit));
+        numbers = omega (arith, made_few file.rows, is.count, ap (λ (bounds : TreeLimits). bounds.entries) is.limits);
       });
-      trimmed = each_number (λ n. IsTrue (is_named names n)) 0 contents (λ n above below. names_each file.root file.rows n (omega arith));
+      trimmed = each_number (λ n. IsTrue (is_named names n || is_pinned [] n)) 0 contents (λ n above below. or_left (is_named names n) (is_pinned [] n) (names_each file.root file.rows n (omega arith)));
     }
 
 pub numbered_of_file : (file : TreeFile) → IsTreeFile file → IsTrue (is_numbered 0 (tree_of file).names (tree_of file).made)
-numbered_of_file file is = rows_numbered [] file.rows is.rows
+numbered_of_file file is = rows_numbered [] file.rows (rows_fit file is)
 
 pub file_again : (file : TreeFile) → IsTreeFile file → file_of (tree_of file) ≡ file
 file_again file is =
     let root : root_owner (node_at (names_of file.root file.rows) []) ≡ file.root = ap root_owner (root_at file.root (entries_behind [] file.rows)) in
     let rows : rows_behind (numbered_from 0 (contents_of file.rows)) (only_root file.root) (entries_behind [] file.rows) ≡ file.rows =
-    rows_again file.root (numbered_from 0 (contents_of file.rows)) [] file.rows tt is.rows (numbered_contents (contents_of file.rows)) in
-    λ i. record { home = sym is.home.one i; uid = file.uid; gid = file.gid; root = root i; rows = rows i }
+    rows_again file.root (numbered_from 0 (contents_of file.rows)) [] file.rows tt (rows_fit file is) (numbered_contents (contents_of file.rows)) in
+    λ i. record { limits = file.limits; home = sym is.home.one i; uid = file.uid; gid = file.gid; root = root i; rows = rows i }
 
 -- ---- from a tree to its file
 
@@ -156,7 +167,7 @@ pub record Split (t : Tree) : Type 0 where
   pub table : IsTable root (only_root root ++ entries)
   pub below : AllByRecursion IsBelowRoot entries
   pub nodes : AllByRecursion (λ e. IsNode t.files e.1) entries
-  pub few : length entries ≤ 65536
+  pub few : length entries ≤ t.limits.entries
 
 split_by : (t : Tree) → IsKept t → (root : Owner) (entries : Names) → t.names ≡ only_root root ++ entries → IsTable root (only_root root ++ entries) → Split t
 split_by t kept root entries names_are table = record {
@@ -199,21 +210,23 @@ split_kept t kept =
 pub root_of_split : (t : Tree) (s : Split t) → root_owner (node_at t.names []) ≡ s.root
 root_of_split t s = ap (λ (n : Names). root_owner (node_at n [])) s.names_are ∙ ap root_owner s.table.root_is
 
-content_fit : (files : Files) → AllByRecursion (λ e. IsContent e.1) files → AllByRecursion (λ e. IsTrue (content_fits (limits blank) e.1)) files → AllByRecursion (λ e. IsFitContent e.1) files
+content_fit : (files : Files) → AllByRecursion (λ e. IsContent e.1) files → AllByRecursion (λ e. IsTrue (content_fits usual_limits e.1)) files → AllByRecursion (λ e. IsFitContent e.1) files
 content_fit [] are fit = tt
-content_fit (e ∷ files) are fit = ((are.0.0, leb-true (length e.1.bytes) 16777216 fit.0, are.0.1), content_fit files are.1 fit.1)
+content_fit (e ∷ files) are fit = ((are.0.0, leb-true (length e.1.bytes) usual_limits.file_bytes fit.0, are.0.1), content_fit files are.1 fit.1)
 
 pub fit_files : (t : Tree) → IsKept t → AllByRecursion (λ e. IsFitContent e.1) t.files
-fit_files t kept = content_fit t.files kept.well_formed.contents (each-all (λ (e : ℕ × Content). content_fits (limits t) e.1) t.files (limits_from t kept.within_limits).files)
+fit_files t kept =
+    let fit = each-all (λ (e : ℕ × Content). content_fits (limits t) e.1) t.files (limits_from t kept.within_limits).files in
+    content_fit t.files kept.well_formed.contents (subst (λ (bounds : TreeLimits). AllByRecursion (λ (e : ℕ × Content). IsTrue (content_fits bounds e.1)) t.files) kept.well_formed.limits fit)
 
-rows_of_split : (t : Tree) → IsKept t → (s : Split t) → AreRows [] (rows_behind t.files (only_root s.root) s.entries)
+rows_of_split : (t : Tree) → IsKept t → (s : Split t) → AreRows usual_limits [] (rows_behind t.files (only_root s.root) s.entries)
 rows_of_split t kept s =
     let rows = rows_behind t.files (only_root s.root) s.entries in
     let table : IsTable s.root (bare_names s.root rows) =
     subst (IsTable s.root) (ap (λ (es : Names). only_root s.root ++ es) (sym (rows_bare t.files (only_root s.root) s.entries s.below))) (table_bare s.root (only_root s.root ++ s.entries) s.table) in
     let fit = all_right (λ (e : Place × Node). IsFitNode e.1) (only_root s.root) s.entries s.table.nodes in
     rows_of_table s.root [] rows table (entry_texts t.files (only_root s.root) s.entries s.below)
-    (kinds_fit t.files s.root [] s.entries fit s.nodes (fit_files t kept) tt s.below (omega (arith, s.few)))
+    (kinds_fit t.files s.root [] s.entries fit s.nodes (fit_files t kept) tt s.below (omega (arith, s.few, usual-entries t kept)))
 
 pub file_of_kept : (t : Tree) → IsKept t → IsTreeFile (file_of t)
 file_of_kept t kept =
@@ -221,16 +234,17 @@ file_of_kept t kept =
     let l = limits_from t kept.within_limits in
     let rows : rows_behind t.files [] t.names ≡ rows_behind t.files (only_root s.root) s.entries = ap (rows_behind t.files []) s.names_are in
     record {
+      limits = kept.well_formed.limits;
       home = place_text t.home (kept.well_formed.home, l.home);
       uid = kept.well_formed.uid;
       gid = kept.well_formed.gid;
       count = omega (arith, ap length rows, length-rows t.files (only_root s.root) s.entries s.below, s.few);
       root = subst IsOwner (sym (root_of_split t s)) s.table.nodes.0;
-      rows = subst (AreRows []) (sym rows) (rows_of_split t kept s);
+      rows = subst (λ (bounds : TreeLimits). AreRows bounds [] (rows_behind t.files [] t.names)) (sym kept.well_formed.limits) (subst (AreRows usual_limits []) (sym rows) (rows_of_split t kept s));
     }
 
-pub tree_again : (t : Tree) → IsKept t → IsTrue (is_numbered 0 t.names t.made) → tree_of (file_of t) ≡ t
-tree_again t kept numbered =
+pub tree_again : (t : Tree) → IsKept t → t.pins ≡ [] → IsTrue (is_numbered 0 t.names t.made) → tree_of (file_of t) ≡ t
+tree_again t kept unpinned numbered =
     let s = split_kept t kept in
     let fit = rows_of_split t kept s in
     let rows : rows_behind t.files [] t.names ≡ rows_behind t.files (only_root s.root) s.entries = ap (rows_behind t.files []) s.names_are in
@@ -241,7 +255,7 @@ tree_again t kept numbered =
     let files : numbered_from 0 (contents_of (rows_behind t.files [] t.names)) ≡ t.files =
     ap (λ (rs : List Row). numbered_from 0 (contents_of rs)) rows
     ∙ numbered_again t.files (contents_of (rows_behind t.files (only_root s.root) s.entries)) kept.well_formed.numbered (subst (λ n. AllByRecursion (λ e. e.0 < n) t.files) (sym a.made_is) kept.well_formed.given) a.contents in
-    λ i. record { names = names i; files = files i; made = made i; home = components-absolute t.home kept.well_formed.home i; uid = t.uid; gid = t.gid }
+    λ i. record { names = names i; files = files i; made = made i; pins = sym unpinned i; limits = t.limits; home = components-absolute t.home kept.well_formed.home i; uid = t.uid; gid = t.gid }
 
 -- the place that a text was found to be of
 pub place_found : (text : List ℕ) (place : Place) → IsTextOf text place → place ≡ place_of text
@@ -262,6 +276,8 @@ blank_kept =
         numbered = numbered_order 0 [];
         contents = tt;
         given = tt;
+        pins = numbered_order 0 [];
+        limits = refl;
         home = refl;
         uid = omega arith;
         gid = omega arith;
@@ -287,6 +303,7 @@ start_of_spelled file bytes is =
       well_formed = kept.well_formed;
       within_limits = kept.within_limits;
       trimmed = kept.trimmed;
+      unpinned = refl;
       numbered = numbered_of_file file is.may_be;
       picture_is = is.bytes_are ∙ ap spelled (sym (file_again file is.may_be));
     }
@@ -299,6 +316,6 @@ start_of_picture t kept = start_of_spelled (file_of t) (picture t) (record { may
 -- bytes are the tree file of one tree
 pub one_start : (t u : Tree) (bytes : List ℕ) → IsStart t bytes → IsStart u bytes → t ≡ u
 one_start t u bytes t-start u-start =
-    sym (tree_again t (kept_of_start t bytes t-start) t-start.numbered)
+    sym (tree_again t (kept_of_start t bytes t-start) t-start.unpinned t-start.numbered)
     ∙ ap tree_of (one_file (file_of t) (file_of u) bytes (spelled_of_start t bytes t-start) (spelled_of_start u bytes u-start))
-    ∙ tree_again u (kept_of_start u bytes u-start) u-start.numbered
+    ∙ tree_again u (kept_of_start u bytes u-start) u-start.unpinned u-start.numbered

@@ -1,5 +1,5 @@
 -- What the tree file of a tree says of its entries, one by one.
-use Rattle.std.proofs.Common.{◌≡◌, ℕ, zero, suc, ◌+◌, ◌<◌, ◌≤◌, Bool, true, false, cond, if◌then◌else◌, List, [], ◌∷◌, ◌++◌, length, map, Option, Some, None, refl, sym, ap, subst, ◌∙◌, append_assoc, arith}
+use Rattle.std.proofs.Common.{◌≡◌, ℕ, zero, suc, ◌+◌, ◌^◌, ◌<◌, ◌≤◌, Bool, true, false, cond, if◌then◌else◌, List, [], ◌∷◌, ◌++◌, length, map, Option, Some, None, refl, sym, ap, subst, ◌∙◌, append_assoc, arith}
 use Rattle.std.specs.Prelude.{IsTrue, is_some}
 use Rattle.std.specs.List.{slice_get, AllByRecursion}
 use Rattle.std.specs.Option.{option_map}
@@ -153,21 +153,21 @@ abbrev pub rows_below : Files → Owner → Names → List Row
 rows_below files root fs = rows_behind files (only_root root) fs
 
 naming_fits : (files : Files) (root : Owner) (fs : Names) (number : ℕ) (entry : Option ℕ) (content : Option Content) → entry_naming number fs ≡ entry → content_at files number ≡ content
-    → IsTrue (is_some (content_at files number)) → AllByRecursion (λ e. IsFitContent e.1) files → AllByRecursion IsBelowRoot fs → length fs ≤ 65536
-    → IsKind (rows_below files root fs) (naming (option_map suc entry) content)
+    → IsTrue (is_some (content_at files number)) → AllByRecursion (λ e. IsFitContent e.1) files → AllByRecursion IsBelowRoot fs → length fs < 2 ^ 32
+    → IsKind usual_limits (rows_below files root fs) (naming (option_map suc entry) content)
 naming_fits files root fs number (Some m) content entry-is content-is there fit below few =
     (omega (arith, named_within number fs m entry-is), named_is_first files (only_root root) fs number m below refl entry-is)
 naming_fits files root fs number None (Some content) entry-is content-is there fit below few = all_at IsFitContent files number content fit content-is
 naming_fits files root fs number None None entry-is content-is there fit below few = absurd (let f : false ≡ true = sym (ap is_some content-is) ∙ there in cc)
 
-kind_fits : (files : Files) (root : Owner) (fs : Names) (standing : Node) → IsFitNode standing → IsNode files standing → AllByRecursion (λ e. IsFitContent e.1) files → AllByRecursion IsBelowRoot fs → length fs ≤ 65536
-    → IsKind (rows_below files root fs) (kind_of files (only_root root ++ fs) standing)
+kind_fits : (files : Files) (root : Owner) (fs : Names) (standing : Node) → IsFitNode standing → IsNode files standing → AllByRecursion (λ e. IsFitContent e.1) files → AllByRecursion IsBelowRoot fs → length fs < 2 ^ 32
+    → IsKind usual_limits (rows_below files root fs) (kind_of files (only_root root ++ fs) standing)
 kind_fits files root fs (Dir owner) fits there fit below few = fits
 kind_fits files root fs (File number) fits there fit below few = naming_fits files root fs number (entry_naming number fs) (content_at files number) refl refl there fit below few
 kind_fits files root fs (Link target) fits there fit below few = (fits.1, fits.0)
 
 pub kinds_fit : (files : Files) (root : Owner) (fs es : Names) → AllByRecursion (λ e. IsFitNode e.1) es → AllByRecursion (λ e. IsNode files e.1) es → AllByRecursion (λ e. IsFitContent e.1) files
-    → AllByRecursion IsBelowRoot fs → AllByRecursion IsBelowRoot es → length fs + length es ≤ 65536 → AreKinds (rows_below files root fs) (rows_behind files (only_root root ++ fs) es)
+    → AllByRecursion IsBelowRoot fs → AllByRecursion IsBelowRoot es → length fs + length es < 2 ^ 32 → AreKinds (rows_below files root fs) (rows_behind files (only_root root ++ fs) es)
 kinds_fit files root fs [] fits there fit front below few = tt
 kinds_fit files root fs (e ∷ es) fits there fit front below few =
     let more : rows_below files root (fs ++ e ∷ []) ≡ rows_below files root fs ++ row_of files (only_root root ++ fs) e ∷ [] =

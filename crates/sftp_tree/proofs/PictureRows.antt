@@ -5,6 +5,7 @@ use Rattle.sftp_wire.specs.Rows.{hex}
 use Rattle.sftp_path.specs.Place.{components, parts, is_good_path}
 use Rattle.sftp_treefile.specs.declared.files.Kind.TheVariants as kinds
 use Rattle.sftp_treefile.specs.declared.files.TreeFile.{TreeFile}
+use Rattle.sftp_treefile.specs.Limits.{usual_limits}
 use Rattle.sftp_treefile.specs.TreeFile.{has_dir, spelled, IsPlaceText, IsTreeFile, IsSpelled}
 use Rattle.sftp_tree.specs.Tree.{IsKept}
 use Rattle.sftp_tree.specs.Picture.{IsStart}
@@ -13,6 +14,7 @@ use Rattle.sftp_tree.proofs.PictureFiles.{kept_of_file, start_of_spelled}
 
 linked_file : TreeFile
 linked_file = record {
+  limits = usual_limits;
   home = codes "/d";
   uid = 1000;
   gid = 100;
@@ -31,6 +33,7 @@ text_l = record { names = refl; depth = omega arith; one = refl }
 may_be : IsTreeFile linked_file
 unfolding linked_file components parts has_dir is_good_path
 may_be = record {
+  limits = refl;
   home = text_d;
   uid = omega arith;
   gid = omega arith;
@@ -50,6 +53,7 @@ linked_kept = kept_of_file linked_file may_be
 
 two_names_file : TreeFile
 two_names_file = record {
+  limits = usual_limits;
   home = codes "/";
   uid = 0;
   gid = 0;
@@ -72,6 +76,7 @@ text_g = record { names = refl; depth = omega arith; one = refl }
 two_names_may_be : IsTreeFile two_names_file
 unfolding two_names_file components parts has_dir
 two_names_may_be = record {
+  limits = refl;
   home = text_root;
   uid = omega arith;
   gid = omega arith;

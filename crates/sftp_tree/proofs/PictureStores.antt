@@ -1,5 +1,5 @@
 -- The files of the rows so far, as the code keeps them: each with the count of its names.
-use Rattle.std.proofs.Common.{◌≡◌, ◌≢◌, ℕ, zero, suc, ◌+◌, ◌-◌, ◌<◌, ◌≤◌, ◌==◌, Bool, true, false, cond, if◌then◌else◌, List, [], ◌∷◌, ◌++◌, length, take, Option, Some, None, refl, sym, ap, subst, ◌∙◌, arith}
+use Rattle.std.proofs.Common.{◌≡◌, ◌≢◌, ℕ, zero, suc, ◌+◌, ◌-◌, ◌^◌, ◌<◌, ◌≤◌, ◌==◌, Bool, true, false, cond, if◌then◌else◌, List, [], ◌∷◌, ◌++◌, length, take, Option, Some, None, refl, sym, ap, subst, ◌∙◌, arith}
 use Rattle.std.specs.Prelude.{IsTrue, is_some, not, slice_index}
 use Rattle.std.specs.BTreeMap.{insert_entry, is_at}
 use Rattle.std.specs.List.{filter, AllByRecursion}
@@ -25,13 +25,14 @@ use Rattle.sftp_treefile.specs.declared.files.Kind.{Kind}
 use Rattle.sftp_treefile.specs.declared.files.Kind.TheVariants as kinds
 use Rattle.sftp_treefile.specs.declared.files.Row.{Row}
 use Rattle.sftp_treefile.specs.declared.files.TreeFile.{TreeFile}
+use Rattle.sftp_treefile.specs.Limits.{usual_limits}
 use Rattle.sftp_treefile.specs.TreeFile.{place_of, IsKind, IsNext, AreRows}
 use Rattle.sftp_tree.specs.declared.contents.Content.{Content}
 use Rattle.sftp_tree.specs.declared.contents.Stored.{Stored}
 use Rattle.sftp_tree.specs.declared.nodes.Node.{Node}
 use Rattle.sftp_tree.specs.declared.nodes.Node.TheVariants.{Dir, File, Link}
 use Rattle.sftp_tree.specs.Tree.{Names, Files, content_at, names_file, times_named}
-use Rattle.sftp_tree.specs.Stored.{contents, AreCounted}
+use Rattle.sftp_tree.specs.Stored.{contents, seen, AreCounted}
 use Rattle.sftp_tree.specs.PictureParts.{content_of, contents_of, node_of, names_of, numbered_from, numbers_from, known_number, known_node, IsKnown, Stores, HaveRoom, with_name, stores_with, IsGrown, tree_of}
 use Rattle.sftp_tree.proofs.PictureLists.{all_both, all_from_map, insert_last}
 use Rattle.sftp_tree.proofs.PictureTables.{later_than_all, bare_names}
@@ -41,15 +42,15 @@ use Rattle.sftp_tree.proofs.PictureContents.{number_is, numbered_there, each_num
 
 -- ---- room for a name more
 
-pub room_at : (stores : Stores) (number : ℕ) (s : Stored) → HaveRoom stores → Some s ≡ lookup (is_at (nat_cmp number)) stores → s.names ≤ 65537
+pub room_at : (stores : Stores) (number : ℕ) (s : Stored) → HaveRoom stores → Some s ≡ lookup (is_at (nat_cmp number)) stores → s.names + 1 < 2 ^ 32
 room_at [] number s room is = absurd cc
 room_at (e ∷ stores) number s room is = by (is_eq (nat_cmp number e.0)) is (room_at stores number s room.1)
   where
-    by : (b : Bool) → Some s ≡ cond b (Some e.1) (lookup (is_at (nat_cmp number)) stores) → (Some s ≡ lookup (is_at (nat_cmp number)) stores → s.names ≤ 65537) → s.names ≤ 65537
+    by : (b : Bool) → Some s ≡ cond b (Some e.1) (lookup (is_at (nat_cmp number)) stores) → (Some s ≡ lookup (is_at (nat_cmp number)) stores → s.names + 1 < 2 ^ 32) → s.names + 1 < 2 ^ 32
     by true is more = let same : s ≡ e.1 = cc in omega (arith, room.0, ap (λ (x : Stored). x.names) same)
     by false is more = more is
 
-counted_room : (names : Names) (stores : Stores) → AreCounted names stores → length names ≤ 65537 → HaveRoom stores
+counted_room : (names : Names) (stores : Stores) → AreCounted names stores → length names + 1 < 2 ^ 32 → HaveRoom stores
 unfolding retain
 counted_room names [] counted few = tt
 counted_room names (e ∷ stores) counted few =
@@ -76,7 +77,7 @@ numbers_push number (r ∷ rows) row =
 within : (rows : List Row) (entry : ℕ) → FirstAt rows entry → (1 ≤ entry) × (entry ≤ length rows)
 within rows entry f = (omega (arith, f.entry_is), omega (arith, f.entry_is, ap length f.rows_are, length-append f.front (f.row ∷ f.rest)))
 
-pub kind_known : (rows : List Row) (kind : Kind) → IsKind rows kind → IsKnown (numbers_from 0 rows) kind
+pub kind_known : (rows : List Row) (kind : Kind) → IsKind usual_limits rows kind → IsKnown (numbers_from 0 rows) kind
 kind_known rows (kinds.Dir owner) fits = tt
 kind_known rows (kinds.First owner bytes) fits = tt
 kind_known rows (kinds.Further entry) fits =
@@ -89,7 +90,7 @@ number_known rows entry f =
     let w = within rows entry f in
     number_at 0 rows (entry - 1) (omega (arith, w.0, w.1)) ∙ omega arith
 
-pub node_known : (rows : List Row) (kind : Kind) → IsKind rows kind → known_node (numbers_from 0 rows) (made_by rows) kind ≡ node_of rows kind
+pub node_known : (rows : List Row) (kind : Kind) → IsKind usual_limits rows kind → known_node (numbers_from 0 rows) (made_by rows) kind ≡ node_of rows kind
 node_known rows (kinds.Dir owner) fits = refl
 node_known rows (kinds.First owner bytes) fits = refl
 node_known rows (kinds.Further entry) fits = ap (λ n. File n) (number_known rows entry (first_at rows entry fits.1))
@@ -252,7 +253,7 @@ pushed_further root rows place number stores (Some s) same counted below found-i
       again_counted (names_of root rows) place number stores s new refl (stores_order stores (contents_of rows) same) found-is counted,
     )
 
-pushed : (root : Owner) (rows : List Row) (place : Place) (kind : Kind) (stores : Stores) → AreRows [] rows → IsKind rows kind → contents stores ≡ numbered_from 0 (contents_of rows) → AreCounted (names_of root rows) stores
+pushed : (root : Owner) (rows : List Row) (place : Place) (kind : Kind) (stores : Stores) → AreRows usual_limits [] rows → IsKind usual_limits rows kind → contents stores ≡ numbered_from 0 (contents_of rows) → AreCounted (names_of root rows) stores
     → Pushed root rows place kind (stores_with stores (numbers_from 0 rows) (made_by rows) kind)
 pushed root rows place (kinds.Dir owner) stores fit fits same counted = record {
   contents_are = same ∙ ap (numbered_from 0) (sym (append-nil (contents_of rows)));
@@ -279,7 +280,7 @@ pushed root rows place (kinds.Link target) stores fit fits same counted = record
   counted = counted_same (names_of root rows) (place, Link target) stores (no_names stores (Link target) (λ n. refl)) counted;
 }
 
-entry_put : (root : Owner) (rows : List Row) (row : Row) (names new : Names) (place : Place) (standing : Node) → IsNext rows row → names ≡ names_of root rows
+entry_put : (root : Owner) (rows : List Row) (row : Row) (names new : Names) (place : Place) (standing : Node) → IsNext usual_limits rows row → names ≡ names_of root rows
     → place ≡ place_of row.path → standing ≡ node_of rows row.kind → new ≡ insert_entry place_cmp names place standing → new ≡ names_of root (rows ++ row ∷ [])
 entry_put root rows row names new place standing next names-are place-is node-is put =
     let keys : keys_of (bare_names root rows) ≡ keys_of (names_of root rows) = ap keys_of (sym (names_bare root rows)) ∙ keys_of-map_values bare (names_of root rows) in
@@ -288,7 +289,7 @@ entry_put root rows row names new place standing next names-are place-is node-is
     ∙ sym (names_push root rows row)
 
 pub grown_push : (root : Owner) (rows : List Row) (row : Row) (names new-names : Names) (stores new-stores : Stores) (numbers : List ℕ) (next : ℕ) (place : Place) (standing : Node)
-    → AreRows [] rows → IsNext rows row → IsGrown root rows names stores → numbers ≡ numbers_from 0 rows → next ≡ made_by rows
+    → AreRows usual_limits [] rows → IsNext usual_limits rows row → IsGrown root rows names stores → numbers ≡ numbers_from 0 rows → next ≡ made_by rows
     → place ≡ place_of row.path → standing ≡ known_node numbers next row.kind → new-names ≡ insert_entry place_cmp names place standing → new-stores ≡ stores_with stores numbers next row.kind
     → IsGrown root (rows ++ row ∷ []) new-names new-stores
 grown_push root rows row names new-names stores new-stores numbers next place standing fit is-next grown numbers-are next-is place-is node-is names-put stores-put =
@@ -314,7 +315,7 @@ many_files root rows names stores grown =
     length-numbered s [] = refl
     length-numbered s (c ∷ cs) = ap suc (length-numbered (suc s) cs)
 
-pub grown_room : (root : Owner) (rows : List Row) (names : Names) (stores : Stores) → IsGrown root rows names stores → length rows ≤ 65536 → HaveRoom stores
+pub grown_room : (root : Owner) (rows : List Row) (names : Names) (stores : Stores) → IsGrown root rows names stores → length rows ≤ usual_limits.entries → HaveRoom stores
 grown_room root rows names stores grown few =
     counted_room names stores grown.counted (omega (arith, ap length grown.names_are, length-entries [] rows))
 
@@ -327,7 +328,7 @@ grown_root root names new stores place empty at put none = record {
 }
 
 -- the number of the next file fits its field
-pub next_fits : (root : Owner) (rows rest : List Row) (names : Names) (stores : Stores) → IsGrown root rows names stores → length (rows ++ rest) ≤ 65536 → length stores ≤ 65536
+pub next_fits : (root : Owner) (rows rest : List Row) (names : Names) (stores : Stores) → IsGrown root rows names stores → length (rows ++ rest) ≤ usual_limits.entries → length stores ≤ usual_limits.entries
 next_fits root rows rest names stores grown few =
     omega (arith, many_files root rows names stores grown, made_few rows, length-append rows rest)
 
@@ -339,8 +340,8 @@ numbers_grow rows row numbers new next put are is =
 -- ---- the tree
 
 pub tree_grown : (file : TreeFile) (rows : List Row) (names : Names) (stores : Stores) (made : ℕ) (home : Place) → rows ≡ file.rows → IsGrown file.root rows names stores → made ≡ length stores → home ≡ place_of file.home
-    → (record { names = names; files = contents stores; made = made; home = home; uid = file.uid; gid = file.gid }) ≡ tree_of file
+    → seen names stores made file.limits home file.uid file.gid ≡ tree_of file
 tree_grown file rows names stores made home rows-are grown made-is home-is =
     let g : IsGrown file.root file.rows names stores = subst (λ (rs : List Row). IsGrown file.root rs names stores) rows-are grown in
     let many = made-is ∙ many_files file.root file.rows names stores g in
-    λ i. record { names = g.names_are i; files = g.contents_are i; made = many i; home = home-is i; uid = file.uid; gid = file.gid }
+    λ i. record { names = g.names_are i; files = g.contents_are i; made = many i; pins = []; limits = file.limits; home = home-is i; uid = file.uid; gid = file.gid }

@@ -25,6 +25,7 @@ use Rattle.sftp_treefile.specs.declared.files.Owner.{Owner}
 use Rattle.sftp_treefile.specs.declared.files.Kind.{Kind}
 use Rattle.sftp_treefile.specs.declared.files.Kind.TheVariants as kinds
 use Rattle.sftp_treefile.specs.declared.files.Row.{Row}
+use Rattle.sftp_treefile.specs.Limits.{usual_limits}
 use Rattle.sftp_treefile.specs.TreeFile.{place_of, same_place, is_dir, is_dir_at, has_dir, is_target, are_bytes, IsOwner, IsKind, IsPlaceText, IsNext, AreRows}
 use Rattle.sftp_tree.specs.declared.nodes.Node.{Node}
 use Rattle.sftp_tree.specs.declared.nodes.Node.TheVariants.{Dir, File, Link}
@@ -61,7 +62,7 @@ bare_names root rows = only_root root ++ map bare_entry rows
 -- each kind may stand behind the rows before it
 abbrev pub AreKinds : List Row → List Row → Type 0
 AreKinds earlier [] = Unit {0}
-AreKinds earlier (row ∷ rows) = IsKind earlier row.kind × AreKinds (earlier ++ row ∷ []) rows
+AreKinds earlier (row ∷ rows) = IsKind usual_limits earlier row.kind × AreKinds (earlier ++ row ∷ []) rows
 
 -- what holds of the table of a tree within the limits, but for their number
 pub record IsTable (root : Owner) (names : Names) : Type 0 where
@@ -118,7 +119,7 @@ kind_is (kinds.First owner bytes) = refl
 kind_is (kinds.Further number) = refl
 kind_is (kinds.Link target) = refl
 
-kind_fits : (earlier : List Row) (kind : Kind) → IsKind earlier kind → IsFitNode (bare_kind kind)
+kind_fits : (earlier : List Row) (kind : Kind) → IsKind usual_limits earlier kind → IsFitNode (bare_kind kind)
 kind_fits earlier (kinds.Dir owner) fits = fits
 kind_fits earlier (kinds.First owner bytes) fits = tt
 kind_fits earlier (kinds.Further number) fits = tt
@@ -185,7 +186,7 @@ later_places earlier place later =
     all_to_map (λ (e : Place × Node). e.0) (λ q. place_cmp q place ≡ Less) (map bare_entry earlier) (all_to_map bare_entry (λ (e : Place × Node). place_cmp e.0 place ≡ Less) earlier later)
 
 -- the place of a row comes after all places before it
-pub later_than_all : (root : Owner) (earlier : List Row) (row : Row) → IsNext earlier row → AllByRecursion (λ q. place_cmp q (place_of row.path) ≡ Less) (keys_of (bare_names root earlier))
+pub later_than_all : (root : Owner) (earlier : List Row) (row : Row) → IsNext usual_limits earlier row → AllByRecursion (λ q. place_cmp q (place_of row.path) ≡ Less) (keys_of (bare_names root earlier))
 later_than_all root earlier row next = (root_before (place_of row.path) next.below_root, later_places earlier (place_of row.path) next.later)
 
 pub text_place : (text : List ℕ) → IsPlaceText text → IsPlace (place_of text)
@@ -198,17 +199,17 @@ names_split root earlier rows = ap (λ (es : Names). ([], Dir root) ∷ es) (map
 pub names_push : (root : Owner) (earlier : List Row) (row : Row) → bare_names root (earlier ++ row ∷ []) ≡ bare_names root earlier ++ bare_entry row ∷ []
 names_push root earlier row = names_split root earlier (row ∷ [])
 
-row_push : (root : Owner) (earlier : List Row) (row : Row) → IsTable root (bare_names root earlier) → IsNext earlier row → IsTable root (bare_names root (earlier ++ row ∷ []))
+row_push : (root : Owner) (earlier : List Row) (row : Row) → IsTable root (bare_names root earlier) → IsNext usual_limits earlier row → IsTable root (bare_names root (earlier ++ row ∷ []))
 row_push root earlier row t next =
     subst (IsTable root) (sym (names_push root earlier row))
     (table_push root (bare_names root earlier) (bare_entry row) t (text_place row.path next.path) (kind_fits earlier row.kind next.kind) (later_than_all root earlier row next) (sym (has_dir_is root earlier (parent (place_of row.path)) t.ordered) ∙ next.parent))
 
-rows_table : (root : Owner) (earlier rows : List Row) → IsTable root (bare_names root earlier) → AreRows earlier rows → IsTable root (bare_names root (earlier ++ rows))
+rows_table : (root : Owner) (earlier rows : List Row) → IsTable root (bare_names root earlier) → AreRows usual_limits earlier rows → IsTable root (bare_names root (earlier ++ rows))
 rows_table root earlier [] t grown = rw append-nil t
 rows_table root earlier (row ∷ rows) t grown =
     subst (λ (rs : List Row). IsTable root (bare_names root rs)) (append_assoc earlier (row ∷ []) rows) (rows_table root (earlier ++ row ∷ []) rows (row_push root earlier row t grown.0) grown.1)
 
-pub table_of_rows : (root : Owner) (rows : List Row) → IsOwner root → AreRows [] rows → IsTable root (bare_names root rows)
+pub table_of_rows : (root : Owner) (rows : List Row) → IsOwner root → AreRows usual_limits [] rows → IsTable root (bare_names root rows)
 table_of_rows root rows fits grown = rows_table root [] rows (root_table root fits) grown
 
 -- ---- and back
@@ -221,7 +222,7 @@ none_behind : (e : Place × Node) (entries : Names) (p : Place) → IsStrictlySo
 unfolding get
 none_behind e entries p sorted less = lookup-none (is_at (place_cmp p)) (e ∷ entries) (none_below_head place_cmp-total p e entries sorted less)
 
-next_of_table : (root : Owner) (earlier : List Row) (row : Row) (rows : List Row) → IsTable root (bare_names root (earlier ++ row ∷ rows)) → IsPlaceText row.path → IsKind earlier row.kind → IsNext earlier row
+next_of_table : (root : Owner) (earlier : List Row) (row : Row) (rows : List Row) → IsTable root (bare_names root (earlier ++ row ∷ rows)) → IsPlaceText row.path → IsKind usual_limits earlier row.kind → IsNext usual_limits earlier row
 next_of_table root earlier row rows whole text kind =
     let place = place_of row.path in
     let front = bare_names root earlier in
@@ -242,7 +243,7 @@ next_of_table root earlier row rows whole text kind =
       kind = kind;
     }
 
-pub rows_of_table : (root : Owner) (earlier rows : List Row) → IsTable root (bare_names root (earlier ++ rows)) → AllByRecursion (λ (r : Row). IsPlaceText r.path) rows → AreKinds earlier rows → AreRows earlier rows
+pub rows_of_table : (root : Owner) (earlier rows : List Row) → IsTable root (bare_names root (earlier ++ rows)) → AllByRecursion (λ (r : Row). IsPlaceText r.path) rows → AreKinds earlier rows → AreRows usual_limits earlier rows
 rows_of_table root earlier [] t texts fit = tt
 rows_of_table root earlier (row ∷ rows) t texts fit =
     let split : IsTable root (bare_names root ((earlier ++ row ∷ []) ++ rows)) = subst (λ (rs : List Row). IsTable root (bare_names root rs)) (sym (append_assoc earlier (row ∷ []) rows)) t in

@@ -12,6 +12,7 @@ use Rattle.sftp_path.specs.Place.{Place, absolute}
 use Rattle.sftp_path.specs.Table.{get, put}
 use Rattle.sftp_path.proofs.TableLaws.{get-empty, get-put}
 use Rattle.sftp_treefile.specs.declared.files.Row.{Row}
+use Rattle.sftp_treefile.specs.Limits.{usual_limits}
 use Rattle.sftp_treefile.specs.TreeFile.{row_text}
 use Rattle.sftp_treefile.specs.TreeFileParts.{head_bytes}
 use Rattle.sftp_treefile.proofs.FieldTexts.{path_length, target_length}
@@ -25,7 +26,7 @@ use Rattle.sftp_tree.specs.PictureParts.{only_root, head_of, Firsts, with_first,
 use Rattle.sftp_tree.proofs.PictureTables.{IsPlace, IsFitNode}
 use Rattle.sftp_tree.proofs.PictureContents.{number_is}
 use Rattle.sftp_tree.proofs.PictureNamed.{place_text, row_of, one_row, rows_push, IsBelowRoot, IsFitContent, all_at, length-rows}
-use Rattle.sftp_tree.proofs.PictureFiles.{limits_from, split_kept, fit_files}
+use Rattle.sftp_tree.proofs.PictureFiles.{limits_from, usual-entries, split_kept, fit_files}
 
 -- ---- lengths
 
@@ -72,7 +73,7 @@ pub record Entry (t : Tree) (i : ℕ) (e : Place × Node) : Type 0 where
   pub below : IsBelowRoot e
   pub node : IsFitNode e.1
   pub within : i < length t.names
-  pub few : length t.names ≤ 65537
+  pub few : length t.names ≤ usual_limits.entries + 1
 
 pub entry_there : (t : Tree) → IsKept t → (i : ℕ) (e : Place × Node) (rest : Names) → drop (suc i) t.names ≡ e ∷ rest → Entry t (suc i) e
 entry_there t kept i e rest is =
@@ -82,7 +83,7 @@ entry_there t kept i e rest is =
       below = all_drop IsBelowRoot i s.entries e rest s.below there;
       node = all_drop (λ (q : Place × Node). IsFitNode q.1) i s.entries e rest s.table.nodes.1 there;
       within = drop_within (suc i) t.names e rest is;
-      few = (limits_from t kept.within_limits).entries;
+      few = omega (arith, (limits_from t kept.within_limits).entries, usual-entries t kept);
     }
 
 -- ---- the first names that were met
@@ -189,10 +190,10 @@ written_all t start out firsts entry w none =
 -- ---- the head
 
 -- the root is one of the places
-pub names_count : (t : Tree) → IsKept t → (1 ≤ length t.names) × (length t.names ≤ 65537)
+pub names_count : (t : Tree) → IsKept t → (1 ≤ length t.names) × (length t.names ≤ usual_limits.entries + 1)
 names_count t kept =
     let s = split_kept t kept in
-    (omega (arith, ap length s.names_are), omega (arith, ap length s.names_are, s.few))
+    (omega (arith, ap length s.names_are), omega (arith, ap length s.names_are, s.few, usual-entries t kept))
 
 pub home_short : (t : Tree) → IsKept t → length (absolute t.home) < 2 ^ 32
 home_short t kept = path_short t.home (kept.well_formed.home, (limits_from t kept.within_limits).home)
@@ -204,7 +205,7 @@ picture_written t kept =
     let count : length (rows_behind t.files [] t.names) ≡ length t.names - 1 =
     omega (arith, ap length (ap (rows_behind t.files []) s.names_are), length-rows t.files (only_root s.root) s.entries s.below, ap length s.names_are) in
     spelled_head (file_of t)
-    ∙ ap (λ n. head_bytes (record { home = absolute t.home; uid = t.uid; gid = t.gid; count = n; root = root_owner (node_at t.names []) }) ++ flat_map row_text (rows_behind t.files [] t.names)) count
+    ∙ ap (λ n. head_bytes (record { limits = t.limits; home = absolute t.home; uid = t.uid; gid = t.gid; count = n; root = root_owner (node_at t.names []) }) ++ flat_map row_text (rows_behind t.files [] t.names)) count
 
 -- ---- at any number of an entry
 

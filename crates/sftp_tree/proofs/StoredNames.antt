@@ -1,5 +1,5 @@
 -- Counts of names: that they stay right where a name of a file comes or goes, and that a file goes with its last name.
-use Rattle.std.proofs.Common.{◌≡◌, ◌≢◌, ℕ, ◌+◌, ◌-◌, ◌<◌, Bool, true, false, ◌||◌, cond, not, nat_lt, nat_le, [], ◌∷◌, refl, sym, ap, subst, ◌∙◌, arith, inl, inr, Option, Some, None, IsTrue, if◌then◌else◌, option_map, option_and_then}
+use Rattle.std.proofs.Common.{◌≡◌, ◌≢◌, ℕ, ◌+◌, ◌-◌, ◌<◌, Bool, true, false, cond, not, nat_lt, nat_le, [], ◌∷◌, refl, sym, ap, subst, ◌∙◌, arith, inl, inr, Option, Some, None, IsTrue, if◌then◌else◌, option_map, option_and_then}
 use Rattle.std.specs.Ordering.{nat_cmp, is_eq}
 use Rattle.std.specs.Cmp.{Equal-is, nat_cmp_total}
 use Rattle.std.specs.FinMap.{nat_cmp-IsAntisymmetric}
@@ -10,7 +10,6 @@ use Rattle.std.proofs.lemmas.Bool.Decides.{nat_tests}
 use Rattle.std.proofs.lemmas.Cmp.{tied_itself}
 use Rattle.std.proofs.lemmas.Option.{same_Some}
 use Rattle.std.proofs.lemmas.Map.Keys.{sorted_head, sorted_tail}
-use Rattle.std.proofs.Math.Bool.{or-false}
 use Rattle.sftp_path.specs.Place.{Place, place_cmp}
 use Rattle.sftp_path.specs.Table.{Table, InOrder, get, retain, kept}
 use Rattle.sftp_path.proofs.TableLaws.{get-cons, get-below, get-empty, get-put_here, get-put_elsewhere, get-retain, InOrder-put, InOrder-retain, same_table}
@@ -21,7 +20,7 @@ use Rattle.sftp_tree.specs.declared.contents.Content.{Content}
 use Rattle.sftp_tree.specs.declared.contents.Stored.{Stored}
 use Rattle.sftp_tree.specs.declared.nodes.Node.{Node}
 use Rattle.sftp_tree.specs.declared.nodes.Node.TheVariants.{Dir, File, Link}
-use Rattle.sftp_tree.specs.Tree.{Names, node_at, with_node, without_node, with_content, names_file, times_named, is_named, held_by_names_alone}
+use Rattle.sftp_tree.specs.Tree.{Names, node_at, with_node, without_node, with_content, names_file, times_named, is_named}
 use Rattle.sftp_tree.specs.Stored.{contents, AreCounted, file_named, IsChanged, IsChangedWhereNamed, with_a_name, without_a_name, with_attributes_set}
 use Rattle.sftp_tree.specs.Attributes.{changed_content}
 use Rattle.sftp_wire.specs.declared.attributes.Attrs.{Attrs}
@@ -189,7 +188,7 @@ named-still m n some is = ap (nat_lt 0) is ∙ some
 
 -- whether a file keeps a name
 abbrev pub keeps_a_name : Names → ℕ × Content → Bool
-keeps_a_name others e = is_named others e.0 || held_by_names_alone e.0
+keeps_a_name others e = is_named others e.0
 
 module _ (names others : Names) (files : Table ℕ Stored) where
   -- the contents that are left are those of the files that have a name
@@ -213,7 +212,7 @@ module _ (names others : Names) (files : Table ℕ Stored) where
 
     -- a file as many of whose names are left stays
     stays : (number : ℕ) → times_named others number ≡ times_named names number → (s : Stored) → get nat_cmp files number ≡ Some s → keeps_a_name others (number, s.content) ≡ true
-    stays number alike s there = or-false (is_named others number) ∙ named-still (times_named names number) (times_named others number) (was-named number s there) alike
+    stays number alike s there = named-still (times_named names number) (times_named others number) (was-named number s there) alike
 
     lowered-file : (number : ℕ) → ((other : ℕ) → times_named others other + one_name (Some (File number)) other ≡ times_named names other) → (after : Table ℕ Stored) → IsChanged without_a_name number files after → (contents after ≡ retain (contents files) (keeps_a_name others)) × AreCounted others after
     lowered-file number less after changed =
@@ -225,7 +224,7 @@ module _ (names others : Names) (files : Table ℕ Stored) where
             let l = less number in
             let n = count-was number s there in
             let more : s.names ≡ times_named others number + 1 = omega arith in
-            last-name s.names (times_named others number) more ∙ ap not (sym (or-false (is_named others number)))
+            last-name s.names (times_named others number) more
 
         alike : (other : ℕ) → other ≢ number → times_named others other ≡ times_named names other
         alike other differ =

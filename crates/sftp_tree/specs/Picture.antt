@@ -10,6 +10,7 @@ use Rattle.sftp_treefile.specs.declared.files.Kind.TheVariants as kinds
 use Rattle.sftp_treefile.specs.declared.files.Row.{Row}
 use Rattle.sftp_treefile.specs.declared.files.TreeFile.{TreeFile}
 use Rattle.sftp_treefile.specs.TreeFile.{spelled}
+use Rattle.sftp_treefile.specs.Limits.{usual_limits}
 use Rattle.sftp_tree.specs.declared.contents.Content.{Content}
 use Rattle.sftp_tree.specs.declared.nodes.Node.{Node}
 use Rattle.sftp_tree.specs.declared.nodes.Node.TheVariants.{Dir, File, Link}
@@ -57,6 +58,7 @@ root_owner None = no_owner
 -- what the tree file of a tree says
 abbrev pub file_of : Tree → TreeFile
 file_of t = record {
+  limits = t.limits;
   home = absolute t.home;
   uid = t.uid;
   gid = t.gid;
@@ -87,11 +89,12 @@ abbrev pub is_numbered : ℕ → Names → ℕ → Bool
 is_numbered given [] made = given == made
 is_numbered given (e ∷ es) made = is_given_or_next e.1 given && is_numbered (given_with e.1 given) es made
 
--- the tree that a tree file is that of: its files are numbered from 0
+-- the tree that a tree file is that of: its files are numbered from 0, and none is pinned
 pub record IsStart (t : Tree) (bytes : List ℕ) : Type 0 where
   pub well_formed : WellFormed t
   pub within_limits : IsTrue (fits t)
   pub trimmed : IsTrimmed t
+  pub unpinned : t.pins ≡ []
   pub numbered : IsTrue (is_numbered 0 t.names t.made)
   pub picture_is : bytes ≡ picture t
 
@@ -101,4 +104,4 @@ GivesTree result t = MatchResult result (λ u. u ≡ t) (λ error. error ≡ NoM
 
 -- nothing but a root with permissions 0o755, which is the home; the user and the group 0 own everything
 abbrev pub blank : Tree
-blank = record { names = ([], Dir (record { uid = 0; gid = 0; permissions = 0o755 })) ∷ []; files = []; made = 0; home = []; uid = 0; gid = 0 }
+blank = record { names = ([], Dir (record { uid = 0; gid = 0; permissions = 0o755 })) ∷ []; files = []; made = 0; pins = []; limits = usual_limits; home = []; uid = 0; gid = 0 }

@@ -64,6 +64,8 @@ tree_of file = record {
   names = names_of file.root file.rows;
   files = numbered_from 0 (contents_of file.rows);
   made = length (contents_of file.rows);
+  pins = [];
+  limits = file.limits;
   home = place_of file.home;
   uid = file.uid;
   gid = file.gid;
@@ -100,7 +102,7 @@ Stores = Table ℕ Stored
 
 -- so many names that there is room for one more
 abbrev pub HaveRoom : Stores → Type 0
-HaveRoom stores = AllByRecursion (λ e. e.1.names ≤ 65537) stores
+HaveRoom stores = AllByRecursion (λ e. e.1.names + 1 < 2 ^ 32) stores
 
 -- where the file of the number is, it has a name more
 abbrev pub with_name : Stores → ℕ → Option Stored → Stores
@@ -124,7 +126,7 @@ pub record IsGrown (root : Owner) (rows : List Row) (names : Names) (stores : St
 
 -- what stands before the entries
 abbrev pub head_of : Tree → Head
-head_of t = record { home = absolute t.home; uid = t.uid; gid = t.gid; count = length t.names - 1; root = root_owner (node_at t.names []) }
+head_of t = record { limits = t.limits; home = absolute t.home; uid = t.uid; gid = t.gid; count = length t.names - 1; root = root_owner (node_at t.names []) }
 
 -- for each file that was met the number of the entry that is its first name
 abbrev pub Firsts : Type 0

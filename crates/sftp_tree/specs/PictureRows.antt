@@ -2,6 +2,7 @@
 use Rattle.std.specs.Prelude.{ℕ, List, [], ◌∷◌, codes}
 use Rattle.sftp_wire.specs.Rows.{hex}
 use Rattle.sftp_treefile.specs.declared.files.Owner.{Owner}
+use Rattle.sftp_treefile.specs.Limits.{usual_limits}
 use Rattle.sftp_tree.specs.declared.nodes.Node.TheVariants.{Dir, File, Link}
 use Rattle.sftp_tree.specs.Tree.{Tree}
 
@@ -19,6 +20,8 @@ linked = record {
   names = ([], Dir (record { uid = 0; gid = 5; permissions = 0o755 })) ∷ (codes "d" ∷ [], Dir user_owner) ∷ (codes "l" ∷ [], Link (codes "d")) ∷ [];
   files = [];
   made = 0;
+  pins = [];
+  limits = usual_limits;
   home = codes "d" ∷ [];
   uid = 1000;
   gid = 100;
@@ -46,6 +49,8 @@ two_names = record {
   names = ([], Dir (record { uid = 0; gid = 0; permissions = 0o755 })) ∷ (codes "f" ∷ [], File 0) ∷ (codes "g" ∷ [], File 0) ∷ [];
   files = (0, record { owner = record { uid = 0; gid = 0; permissions = 0o644 }; bytes = codes "abc" }) ∷ [];
   made = 1;
+  pins = [];
+  limits = usual_limits;
   home = [];
   uid = 0;
   gid = 0;

@@ -24,7 +24,22 @@ use Rattle.sftp_tree.specs.Attributes.{directory_owner, changed_owner, changed_c
 abbrev pub CauseSet : Type 0
 CauseSet = Cause → Bool
 
--- the rows of the status table
+-- the number of a cause's row in the status table
+abbrev pub row : Cause → ℕ
+row BadPath = 0
+row NoEntry = 1
+row NotDir = 2
+row Loop = 3
+row Exists = 4
+row IsDir = 5
+row NotLink = 6
+row NotFile = 7
+row NotEmpty = 8
+row Root = 9
+row Inside = 10
+row NoRoom = 11
+
+-- the rows
 abbrev pub every_cause : List Cause
 every_cause = BadPath ∷ NoEntry ∷ NotDir ∷ Loop ∷ Exists ∷ IsDir ∷ NotLink ∷ NotFile ∷ NotEmpty ∷ Root ∷ Inside ∷ NoRoom ∷ []
 
@@ -35,30 +50,22 @@ allows BadPath code = code == 4 || code == 5
 allows NoEntry code = code == 2
 allows NotDir code = code == 2 || code == 4
 allows Loop code = code == 2 || code == 4
-allows Exists code = code == 4
-allows IsDir code = code == 4
-allows NotLink code = code == 4
-allows NotFile code = code == 4
-allows NotEmpty code = code == 4
-allows Root code = code == 4
-allows Inside code = code == 4
-allows NoRoom code = code == 4
+allows _ code = code == 4
 
 -- the set of one cause
 abbrev pub only : Cause → CauseSet
-only BadPath BadPath = true
-only NoEntry NoEntry = true
-only NotDir NotDir = true
-only Loop Loop = true
-only Exists Exists = true
-only IsDir IsDir = true
-only NotLink NotLink = true
-only NotFile NotFile = true
-only NotEmpty NotEmpty = true
-only Root Root = true
-only Inside Inside = true
-only NoRoom NoRoom = true
-only _ _ = false
+only one cause = row one == row cause
+
+unfoldable pub no_causes : CauseSet
+no_causes cause = false
+
+-- the set with this cause too, where that holds
+unfoldable pub when : CauseSet → Cause → Bool → CauseSet
+when set one holds cause = only one cause && holds || set cause
+
+-- the causes of either set
+unfoldable pub joined : CauseSet → CauseSet → CauseSet
+joined one other cause = one cause || other cause
 
 -- no cause is in the set
 abbrev pub is_none : CauseSet → Bool
@@ -72,61 +79,44 @@ allow causes code = list_any (λ cause. causes cause && allows cause code) every
 
 -- of what is to be made there
 abbrev pub making_causes : Option Node → CauseSet
-making_causes standing Exists = is_taken standing
-making_causes standing _ = false
+making_causes standing = when no_causes Exists (is_taken standing)
 
 -- of what is to be there
 abbrev pub needing_causes : Option Node → CauseSet
-needing_causes standing NoEntry = not (is_taken standing)
-needing_causes standing _ = false
+needing_causes standing = when no_causes NoEntry (not (is_taken standing))
 
 -- of a link that is to be there
 abbrev pub link_causes : Option Node → CauseSet
-link_causes standing NoEntry = not (is_taken standing)
-link_causes standing NotLink = is_taken standing && not (is_link standing)
-link_causes standing _ = false
+link_causes standing = when (needing_causes standing) NotLink (is_taken standing && not (is_link standing))
 
 -- of a file that is to be there
 abbrev pub file_causes : Option Node → CauseSet
-file_causes standing NoEntry = not (is_taken standing)
-file_causes standing NotFile = is_taken standing && not (is_file standing)
-file_causes standing _ = false
+file_causes standing = when (needing_causes standing) NotFile (is_taken standing && not (is_file standing))
 
 -- of what is there and is to get these attributes: only a file has a size that can be set
 abbrev pub setting_causes : Attrs → Option Node → CauseSet
-setting_causes attrs standing NoEntry = not (is_taken standing)
-setting_causes attrs standing NotFile = is_some attrs.size && (is_taken standing && not (is_file standing))
-setting_causes attrs standing _ = false
+setting_causes attrs standing = when (needing_causes standing) NotFile (is_some attrs.size && (is_taken standing && not (is_file standing)))
 
 -- of a directory that is to be removed
 abbrev pub removing_causes : Names → Place → CauseSet
-removing_causes names place NoEntry = not (is_taken (node_at names place))
-removing_causes names place NotDir = is_taken (node_at names place) && not (is_directory (node_at names place))
-removing_causes names place NotEmpty = is_directory (node_at names place) && has_entries names place
-removing_causes names place Root = is_root place
-removing_causes names place _ = false
+removing_causes names place =
+    when (when (when (needing_causes (node_at names place)) NotDir (is_taken (node_at names place) && not (is_directory (node_at names place)))) NotEmpty (is_directory (node_at names place) && has_entries names place)) Root (is_root place)
 
 -- of a name that is to be removed, which is no directory's
 abbrev pub unlinking_causes : Option Node → CauseSet
-unlinking_causes standing NoEntry = not (is_taken standing)
-unlinking_causes standing IsDir = is_directory standing
-unlinking_causes standing _ = false
+unlinking_causes standing = when (needing_causes standing) IsDir (is_directory standing)
 
 -- of what is to go from there to another place
 abbrev pub leaving_causes : Names → Place → CauseSet
-leaving_causes names place NoEntry = not (is_taken (node_at names place))
-leaving_causes names place Root = is_root place
-leaving_causes names place _ = false
+leaving_causes names place = when (needing_causes (node_at names place)) Root (is_root place)
 
 -- of a place that is to be given to something else
 abbrev pub giving_causes : Place → CauseSet
-giving_causes place Root = is_root place
-giving_causes place _ = false
+giving_causes place = when no_causes Root (is_root place)
 
 -- of a target that no link may have
 abbrev pub target_bytes_causes : List ℕ → CauseSet
-target_bytes_causes target BadPath = not (is_target target)
-target_bytes_causes target _ = false
+target_bytes_causes target = when no_causes BadPath (not (is_target target))
 
 -- ---- the causes of two places
 
@@ -145,20 +135,20 @@ are_one names old new = same_place old new || are_one_file (node_at names old) (
 
 -- of what is to go to a place that is free
 abbrev pub moving_causes : Names → Place → Place → CauseSet
-moving_causes names old new Inside = goes_inside names old new
-moving_causes names old new _ = false
+moving_causes names old new = when no_causes Inside (goes_inside names old new)
+
+-- of what is to come in the stead of something else: a directory replaces an empty directory, and anything else what is no directory
+abbrev pub clashing_causes : Option Node → Option Node → Bool → CauseSet
+clashing_causes goes stays entries =
+    when (when (when no_causes NotDir (is_directory goes && (is_taken stays && not (is_directory stays)))) IsDir ((is_taken goes && not (is_directory goes)) && is_directory stays)) NotEmpty (is_directory goes && (is_directory stays && entries))
 
 -- of what is to go to a place where something else may stand, in its stead
 abbrev pub replacing_causes : Names → Place → Place → CauseSet
-replacing_causes names old new Inside = goes_inside names old new
-replacing_causes names old new NotDir = is_directory (node_at names old) && (is_taken (node_at names new) && not (is_directory (node_at names new)))
-replacing_causes names old new IsDir = (is_taken (node_at names old) && not (is_directory (node_at names old))) && is_directory (node_at names new)
-replacing_causes names old new NotEmpty = is_directory (node_at names old) && (is_directory (node_at names new) && has_entries names new)
-replacing_causes names old new _ = false
+replacing_causes names old new = when (clashing_causes (node_at names old) (node_at names new) (has_entries names new)) Inside (goes_inside names old new)
 
 -- to the same place, or from one name of a file to another, nothing goes
 abbrev pub exchanging_causes : Names → Place → Place → CauseSet
-exchanging_causes names old new cause = not (are_one names old new) && replacing_causes names old new cause
+exchanging_causes names old new = if are_one names old new then no_causes else replacing_causes names old new
 
 -- ---- what a request does
 
@@ -248,10 +238,10 @@ no_step = record {
   path = None;
   new_path = None;
   follows = false;
-  own = λ cause. false;
-  here = λ t place cause. false;
-  there = λ t place cause. false;
-  both = λ t old new cause. false;
+  own = no_causes;
+  here = λ t place. no_causes;
+  there = λ t place. no_causes;
+  both = λ t old new. no_causes;
   change = λ t place. t;
   exchange = λ t old new. t;
   told = λ t place. done;
@@ -361,21 +351,22 @@ new_led t ask = option_map (reached t false) (new_path_of ask)
 
 -- a path that leads nowhere has that one cause
 abbrev pub led_causes : Option (Result Place Cause) → (Place → CauseSet) → CauseSet
-led_causes None at cause = false
-led_causes (Some (Ok place)) at cause = at place cause
-led_causes (Some (Err failed)) at cause = only failed cause
+led_causes None at = no_causes
+led_causes (Some (Ok place)) at = at place
+led_causes (Some (Err failed)) at = when no_causes failed true
 
 -- causes of two places hold where both paths lead to one
 abbrev pub both_causes : Option (Result Place Cause) → Option (Result Place Cause) → (Place → Place → CauseSet) → CauseSet
-both_causes (Some (Ok old)) (Some (Ok new)) between cause = between old new cause
-both_causes _ _ between cause = false
+both_causes (Some (Ok old)) (Some (Ok new)) between = between old new
+both_causes _ _ between = no_causes
 
--- the causes but for the want of room
+-- the causes but for the want of room, by where the paths lead
+abbrev pub plain_of : Tree → Ask → Option (Result Place Cause) → Option (Result Place Cause) → CauseSet
+plain_of t ask end new_end =
+    joined (joined (joined (target_causes ask) (led_causes end (causes_at t ask))) (led_causes new_end (new_causes_at t ask))) (both_causes end new_end (causes_between t ask))
+
 unfoldable pub plain_causes : Tree → Ask → CauseSet
-plain_causes t ask cause =
-    led_causes (led t ask) (causes_at t ask) cause
-    || (led_causes (new_led t ask) (new_causes_at t ask) cause
-    || (both_causes (led t ask) (new_led t ask) (causes_between t ask) cause || target_causes ask cause))
+plain_causes t ask = plain_of t ask (led t ask) (new_led t ask)
 
 -- ---- the tree that a request asks for
 
@@ -390,19 +381,25 @@ target_on t ask place None = target_at t ask place
 target_on t ask place (Some (Ok new)) = target_between t ask place new
 target_on t ask place (Some (Err cause)) = t
 
+-- by where the paths lead
+abbrev pub target_led : Tree → Ask → Option (Result Place Cause) → Option (Result Place Cause) → Tree
+target_led t ask end new_end = led_to t end (λ place. target_on t ask place new_end)
+
 -- the tree that a request which no cause refuses asks for; files that lost their last name are still there
 unfoldable pub target : Tree → Ask → Tree
-target t ask = led_to t (led t ask) (λ place. target_on t ask place (new_led t ask))
+target t ask = target_led t ask (led t ask) (new_led t ask)
 
 -- the tree after such a request: a file goes with its last name
 abbrev pub after : Tree → Ask → Tree
 after t ask = trim (target t ask)
 
--- The causes that hold. There is no room where no other cause holds and what would stand afterwards breaks a
--- limit.
+-- there is no room where no other cause holds and what would stand afterwards breaks a limit
+abbrev pub with_room : CauseSet → Tree → CauseSet
+with_room plain asked = when plain NoRoom (is_none plain && not (fits asked))
+
+-- the causes that hold
 unfoldable pub causes : Tree → Ask → CauseSet
-causes t ask NoRoom = is_none (plain_causes t ask) && not (fits (target t ask))
-causes t ask cause = plain_causes t ask cause
+causes t ask = with_room (plain_causes t ask) (target t ask)
 
 -- ---- what a request is told
 

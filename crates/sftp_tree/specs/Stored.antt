@@ -1,18 +1,24 @@
 -- Files as the code keeps them: each with the count of its names.
-use Rattle.std.specs.Prelude.{◌≡◌, ◌≢◌, ℕ, ◌+◌, ◌-◌, nat_le, Option, Some, None, if◌then◌else◌, option_and_then}
+use Rattle.std.specs.Prelude.{◌≡◌, ◌≢◌, ℕ, ◌+◌, ◌-◌, nat_le, [], Option, Some, None, if◌then◌else◌, option_and_then}
 use Rattle.std.specs.Ordering.{nat_cmp}
 use Rattle.std.specs.List.{AllByRecursion}
 use Rattle.sftp_wire.specs.declared.attributes.Attrs.{Attrs}
+use Rattle.sftp_path.specs.Place.{Place}
 use Rattle.sftp_path.specs.Table.{Table, InOrder, get, with_values}
+use Rattle.sftp_treefile.specs.declared.limits.TreeLimits.{TreeLimits}
 use Rattle.sftp_tree.specs.declared.contents.Stored.{Stored}
 use Rattle.sftp_tree.specs.declared.nodes.Node.{Node}
 use Rattle.sftp_tree.specs.declared.nodes.Node.TheVariants.{Dir, File, Link}
-use Rattle.sftp_tree.specs.Tree.{Names, Files, times_named}
+use Rattle.sftp_tree.specs.Tree.{Names, Files, Tree, times_named}
 use Rattle.sftp_tree.specs.Attributes.{changed_content}
 
 -- the files
 abbrev pub contents : Table ℕ Stored → Files
 contents stored = with_values (λ (s : Stored). s.content) stored
+
+-- the tree of these parts; nothing pins a file yet
+abbrev pub seen : Names → Table ℕ Stored → ℕ → TreeLimits → Place → ℕ → ℕ → Tree
+seen names stored made limits home uid gid = record { names = names; files = contents stored; made = made; pins = []; limits = limits; home = home; uid = uid; gid = gid }
 
 -- each count is that of the entries that are names of the file
 abbrev pub AreCounted : Names → Table ℕ Stored → Type 0

@@ -1,6 +1,6 @@
--- The tree: what stands at each place, the files that have names there, where relative paths start, and who owns what is made
--- with no owner given. The limits are this profile's own.
-use Rattle.std.specs.Prelude.{◌&&◌, ◌||◌, ◌==◌, nat_lt, nat_le, ℕ, ◌-◌, ◌<◌, ◌^◌, Bool, true, false, [], length, Option, Some, None, is_some, IsTrue}
+-- The tree: what stands at each place, the files that have names there or are pinned, where relative paths start, who owns what is
+-- made with no owner given, and how much the tree may hold. The limits are this profile's own.
+use Rattle.std.specs.Prelude.{◌≡◌, ◌&&◌, ◌||◌, ◌==◌, nat_lt, nat_le, ℕ, ◌-◌, ◌<◌, ◌^◌, Bool, true, false, [], length, Option, Some, None, is_some, unwrap_or, IsTrue}
 use Rattle.std.specs.Ordering.{nat_cmp}
 use Rattle.std.specs.List.{list_any, list_all, AllByRecursion}
 use Rattle.sftp_path.specs.Place.{Place, place_cmp, parent, is_below, are_names, depth_limit}
@@ -82,6 +82,19 @@ times_named names number = count names (names_file number)
 abbrev pub is_named : Names → ℕ → Bool
 is_named names number = nat_lt 0 (times_named names number)
 
+-- ---- pins
+
+-- how often each file is pinned by something that holds it open
+abbrev pub Pins : Type 0
+Pins = Table ℕ ℕ
+
+-- how often a file is pinned
+abbrev pub times_pinned : Pins → ℕ → ℕ
+times_pinned pins number = unwrap_or (get nat_cmp pins number) 0
+
+abbrev pub is_pinned : Pins → ℕ → Bool
+is_pinned pins number = nat_lt 0 (times_pinned pins number)
+
 -- ---- a tree
 
 pub record Tree : Type 0 where
@@ -91,23 +104,27 @@ pub record Tree : Type 0 where
   pub files : Files
   -- how many numbers were given to files; none is given again
   pub made : ℕ
+  -- how often each file is pinned
+  pub pins : Pins
+  -- how much the tree may hold
+  pub limits : TreeLimits
   -- where relative paths start; it need not exist
   pub home : Place
   -- who owns what is made with no owner given
   pub uid : ℕ
   pub gid : ℕ
 
+-- a file stays while it has a name or is pinned
+abbrev pub is_held : Tree → ℕ → Bool
+is_held t number = is_named t.names number || is_pinned t.pins number
+
 -- the tree without the files that have no name and that nothing else holds
 abbrev pub trimmed : (ℕ → Bool) → Tree → Tree
-trimmed is_held t = record t { files = retain t.files (λ e. is_named t.names e.0 || is_held e.0) }
+trimmed holds t = record t { files = retain t.files (λ e. is_named t.names e.0 || holds e.0) }
 
--- no file is held but by its names
-abbrev pub held_by_names_alone : ℕ → Bool
-held_by_names_alone number = false
-
--- the tree without the files that have no name
+-- the tree without the files that have no name and are not pinned
 abbrev pub trim : Tree → Tree
-trim t = trimmed held_by_names_alone t
+trim t = trimmed (is_pinned t.pins) t
 
 -- a directory has an owner and twelve bits of permissions, a name of a file the number of one, a link any bytes
 abbrev pub IsNode : Files → Node → Type 0
@@ -120,7 +137,7 @@ IsContent content = IsOwner content.owner × IsTrue (are_bytes content.bytes)
 
 -- What makes it a tree: its places are lists of names, in order and each but once, the root is a directory, each
 -- other place's parent is one, names of files are names of files that are there, the numbers of files were given, and each
--- number fits its field.
+-- number fits its field. Today the limits are the usual ones.
 pub record WellFormed (t : Tree) : Type 0 where
   pub ordered : InOrder place_cmp t.names
   pub named : AllByRecursion (λ e. IsTrue (are_names e.0)) t.names
@@ -130,19 +147,20 @@ pub record WellFormed (t : Tree) : Type 0 where
   pub numbered : InOrder nat_cmp t.files
   pub contents : AllByRecursion (λ e. IsContent e.1) t.files
   pub given : AllByRecursion (λ e. e.0 < t.made) t.files
+  pub pins : InOrder nat_cmp t.pins
+  pub limits : t.limits ≡ usual_limits
   pub home : IsTrue (are_names t.home)
   pub uid : t.uid < 2 ^ 32
   pub gid : t.gid < 2 ^ 32
 
--- each file has a name
+-- each file has a name or is pinned
 abbrev pub IsTrimmed : Tree → Type 0
-IsTrimmed t = AllByRecursion (λ e. IsTrue (is_named t.names e.0)) t.files
+IsTrimmed t = AllByRecursion (λ e. IsTrue (is_held t e.0)) t.files
 
 -- ---- limits
 
--- the limits of a tree; today they are the same for all
 abbrev pub limits : Tree → TreeLimits
-limits t = usual_limits
+limits t = t.limits
 
 -- how many entries stand below the root, which is one of the places
 abbrev pub entry_count : Tree → ℕ
@@ -183,7 +201,7 @@ numbers_fit t = nat_lt t.made (2 ^ 32)
 unfoldable pub fits : Tree → Bool
 fits t = entries_fit t && (depths_fit t && (home_fits t && (links_fit t && (files_fit t && numbers_fit t))))
 
--- what every tree of the program keeps, as long as nothing but names holds a file
+-- what every tree of the program keeps
 pub record IsKept (t : Tree) : Type 0 where
   pub well_formed : WellFormed t
   pub within_limits : IsTrue (fits t)

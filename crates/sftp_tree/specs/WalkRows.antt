@@ -1,5 +1,6 @@
 -- What the worked rows of walks name: trees with links, and with a file.
 use Rattle.std.specs.Prelude.{ℕ, zero, suc, ◌+◌, List, [], ◌∷◌, ◌++◌, replicate, codes}
+use Rattle.sftp_treefile.specs.Limits.{usual_limits}
 use Rattle.sftp_tree.specs.declared.contents.Content.{Content}
 use Rattle.sftp_tree.specs.declared.nodes.Node.{Node}
 use Rattle.sftp_tree.specs.declared.nodes.Node.TheVariants.{Dir, File, Link}
@@ -11,7 +12,7 @@ directory = Dir (record { uid = 0; gid = 0; permissions = 0o755 })
 
 -- the tree with a root and these entries below it, whose home is the root
 abbrev pub tree_of : Names → Tree
-tree_of names = record { names = ([], directory) ∷ names; files = []; made = 0; home = []; uid = 0; gid = 0 }
+tree_of names = record { names = ([], directory) ∷ names; files = []; made = 0; pins = []; limits = usual_limits; home = []; uid = 0; gid = 0 }
 
 -- the same with a file, which has the number 0
 abbrev pub holding : Names → Content → Tree

@@ -3,7 +3,7 @@ ghost use Rattle.std.specs.Prelude.{◌≡◌, ◌+◌, ◌<◌, ◌^◌, OnOk, 
 ghost use Rattle.std.specs.Ordering.{nat_cmp};
 ghost use Rattle.sftp_path.specs.Table.{get};
 ghost use Rattle.sftp_treefile.specs.TreeFile.{IsOwner};
-ghost use Rattle.sftp_tree.specs.Attributes.{resized, changed_content};
+ghost use Rattle.sftp_tree.specs.Attributes.{resized, changed_owner, changed_content};
 ghost use Rattle.sftp_tree.specs.Stored.{IsChanged, IsChangedWhereNamed, file_named, with_a_name, without_a_name, with_attributes_set};
 
 use crate::attributes::changed_owner;
@@ -64,7 +64,7 @@ impl FileBytes {
 pub struct Content {
     /// Its user, its group, and its permissions of twelve bits.
     pub owner: Owner,
-    /// Its bytes: 16,777,216 of them at most.
+    /// Its bytes, of which the limits say how many there may be.
     pub bytes: FileBytes,
 }
 
@@ -139,6 +139,7 @@ fn lower(files: &mut BTreeMap<u32, Stored>, number: u32)
 fn change(content: &mut Content, attrs: &Attrs) -> Result<(), NoMemory>
     requires { IsOwner content.old.owner }
     ensures ok { OnOk result (content.new ≡ changed_content attrs.now content.old) }
+    ensures owned { OnOk result (IsOwner (changed_owner attrs.now content.old.owner)) }
     ensures err { OnErr result (content.new ≡ content.old) }
 {
     if let Some(size) = attrs.size {
@@ -161,6 +162,8 @@ pub(crate) fn change_at(
     requires { IfSome (get nat_cmp files.old.entries number) (λ s. IsOwner s.content.owner) }
     ensures ok { OnOk result
         (IsChanged (with_attributes_set attrs.now) number files.old.entries files.new.entries) }
+    ensures owned { OnOk result
+        (IfSome (get nat_cmp files.old.entries number) (λ s. IsOwner (changed_owner attrs.now s.content.owner))) }
     ensures err { OnErr result (files.new.entries ≡ files.old.entries) }
 {
     if let Some(stored) = files.get_mut(&number) {

@@ -7,7 +7,7 @@ ghost use Rattle.sftp_path.specs.Place.{Name, Place, parent, are_names, is_good_
 ghost use Rattle.sftp_treefile.specs.TreeFile.{are_bytes};
 ghost use Rattle.sftp_tree.specs.declared.causes.Cause.{Cause};
 ghost use Rattle.sftp_tree.specs.declared.nodes.Node.TheVariants.{File};
-ghost use Rattle.sftp_tree.specs.Tree.{Names, Tree, WellFormed, IsKept, limits, fits, is_directory, node_at, content_at, times_named, is_named, trimmed, trim};
+ghost use Rattle.sftp_tree.specs.Tree.{Names, Tree, WellFormed, IsKept, IsTrimmed, limits, fits, is_directory, node_at, content_at, times_named, times_pinned, is_named, is_held, trimmed, trim};
 ghost use Rattle.sftp_tree.specs.Walk.{walk, reached, looked, steps_of, looked_limit, link_limit};
 ghost use Rattle.sftp_tree.specs.WalkRules.{Leads};
 ghost use Rattle.sftp_tree.specs.Steps.{target, after};
@@ -26,8 +26,8 @@ pub fn steps_keep()
     walks_give_places();
 }
 
-/// The same where the tree has files with no name, as files that something holds: what it asks for is a tree, and within
-/// the limits.
+/// The same where the tree has files that have no name and are not pinned: what it asks for is a tree, and within the
+/// limits.
 pub fn targets_are_trees()
     ensures tree { (t : Tree) (ask : Ask) → WellFormed t → IsTrue (fits t) → FitsAsk ask → IsFree t ask → WellFormed (target t ask) }
     ensures limits { (t : Tree) (ask : Ask) → WellFormed t → IsTrue (fits t) → FitsAsk ask → IsFree t ask → IsTrue (fits (target t ask)) }
@@ -41,6 +41,7 @@ pub fn trees_are_trimmed()
     ensures tree { (t : Tree) (is_held : ℕ → Bool) → WellFormed t → WellFormed (trimmed is_held t) }
     ensures limits { (t : Tree) (is_held : ℕ → Bool) → IsTrue (fits t) → IsTrue (fits (trimmed is_held t)) }
     ensures kept { (t : Tree) → WellFormed t → IsTrue (fits t) → IsKept (trim t) }
+    ensures already { (t : Tree) → IsTrimmed t → trim t ≡ t }
     ensures files { (t : Tree) (is_held : ℕ → Bool) (number : ℕ) → WellFormed t →
         content_at (trimmed is_held t).files number ≡ (if is_named t.names number || is_held number then content_at t.files number else None) }
 {}
@@ -53,13 +54,14 @@ pub fn numbers_are_never_given_again()
     ensures names { (t : Tree) (place : Place) (number : ℕ) → WellFormed t → node_at t.names place ≡ Some (File number) → number < t.made }
 {}
 
-/// After a request a file is gone just where there was none, or no name of it is left; any other is as the request
-/// asks for.
-pub fn files_live_while_named()
-    ensures gone { (t : Tree) (ask : Ask) (number : ℕ) → IsKept t →
-        (content_at (after t ask).files number ≡ None) ↔ ((content_at (target t ask).files number ≡ None) ⊎ (times_named (target t ask).names number ≡ 0)) }
-    ensures left { (t : Tree) (ask : Ask) (number : ℕ) → IsKept t →
-        content_at (after t ask).files number ≡ (if is_named (target t ask).names number then content_at (target t ask).files number else None) }
+/// After a request a file is gone just where there was none, or no name of it is left and nothing pins it; any other is
+/// as the request asks for. No request changes how often files are pinned.
+pub fn files_live_while_held()
+    ensures gone { (t : Tree) (ask : Ask) (number : ℕ) → WellFormed t →
+        (content_at (after t ask).files number ≡ None) ↔ ((content_at (target t ask).files number ≡ None) ⊎ ((times_named (target t ask).names number ≡ 0) × (times_pinned (target t ask).pins number ≡ 0))) }
+    ensures left { (t : Tree) (ask : Ask) (number : ℕ) → WellFormed t →
+        content_at (after t ask).files number ≡ (if is_held (target t ask) number then content_at (target t ask).files number else None) }
+    ensures pins { (t : Tree) (ask : Ask) → (after t ask).pins ≡ t.pins }
 {}
 
 /// The function of walks is by the rules of walks, and no rule leads elsewhere.

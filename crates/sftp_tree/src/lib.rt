@@ -2,18 +2,22 @@
 //! what they do (draft-ietf-secsh-filexfer-02, section 6).
 #![tactic(auto)]
 
+mod asks;
 mod attributes;
+mod below;
 mod causes;
 mod contents;
-mod judging;
-pub mod keeping;
+mod ends;
+mod found;
 pub mod laws;
-mod led;
 pub mod limit_laws;
 mod moving;
 mod nodes;
 pub mod picture_laws;
 mod pictures;
+mod place_causes;
+mod plans;
+mod room;
 mod route;
 pub mod step_rows;
 mod steps;

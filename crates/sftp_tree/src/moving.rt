@@ -5,7 +5,7 @@ ghost use Rattle.sftp_path.specs.Rekeying.{renamed, rekeyed};
 ghost use Rattle.sftp_treefile.specs.TreeFile.{same_place};
 ghost use Rattle.sftp_tree.specs.Tree.{node_at, with_node, without_node, is_taken, has_entries};
 
-use crate::judging::has_entries;
+use crate::below::has_entries;
 use crate::nodes::Node;
 use sftp_path::{NoMemory, Place};
 use sftp_wire::ByteString;

@@ -13,7 +13,7 @@ use crate::nodes::Node;
 use crate::trees::Tree;
 use reading::tree_of;
 use sftp_path::{NoMemory, Place};
-use sftp_treefile::{Owner, TreeError, read_rows};
+use sftp_treefile::{Owner, TreeError, read_rows, usual_limits};
 use std::alloc::Global;
 use std::collections::BTreeMap;
 use writing::picture_of;
@@ -36,7 +36,8 @@ impl Tree {
         let mut names = BTreeMap::new(alloc);
         names.insert(Place::root(alloc), Node::Dir(owner))?;
         let files = BTreeMap::new(alloc);
-        Ok(Tree::from_parts(names, files, 0, Place::root(alloc), (0, 0)))
+        let home = Place::root(alloc);
+        Ok(Tree::from_parts(names, files, 0, usual_limits(), home, (0, 0)))
     }
 
     /// The tree of a tree file.

@@ -1,12 +1,13 @@
 //! The tree.
-ghost use Rattle.std.specs.Prelude.{◌≡◌, List, ◌∷◌, ◌++◌, false, Some, None, option_copied, OnOk, OnErr, IsTrue};
-ghost use Rattle.sftp_path.specs.Place.{Name, begins};
+ghost use Rattle.std.specs.Prelude.{◌≡◌, false, None, option_copied, OnOk, OnErr, IsTrue};
+ghost use Rattle.sftp_path.specs.Place.{are_names, parent};
+ghost use Rattle.sftp_treefile.specs.TreeFile.{IsOwner, is_root, same_place};
 
 use crate::contents::{Content, Stored, change_at, count_name, file_named, forget_name};
 use crate::moving::{move_node, replace};
 use crate::nodes::Node;
 use sftp_path::{NoMemory, Place};
-use sftp_treefile::{Owner, TreeLimits, usual_limits};
+use sftp_treefile::{Owner, TreeLimits};
 use sftp_wire::Attrs;
 use std::collections::BTreeMap;
 use std::marker::Model;
@@ -17,6 +18,7 @@ pub struct Tree {
     names: BTreeMap<Place, Node>,
     files: BTreeMap<u32, Stored>,
     made: u32,
+    limits: TreeLimits,
     home: Place,
     uid: u32,
     gid: u32,
@@ -28,9 +30,9 @@ impl Model for Tree {
 
     ghost Value = { tree.Tree };
 
-    ghost view = { λ t. record { names = t.names.entries; files = stored.contents t.files.entries; made = t.made; home = t.home; uid = t.uid; gid = t.gid } };
+    ghost view = { λ t. stored.seen t.names.entries t.files.entries t.made t.limits t.home t.uid t.gid };
 
-    ghost invariant = { λ t. tree.IsKept (record { names = t.names.entries; files = stored.contents t.files.entries; made = t.made; home = t.home; uid = t.uid; gid = t.gid })
+    ghost invariant = { λ t. tree.IsKept (stored.seen t.names.entries t.files.entries t.made t.limits t.home t.uid t.gid)
         × stored.AreCounted t.names.entries t.files.entries };
 }
 
@@ -45,18 +47,20 @@ impl Tree {
         names: BTreeMap<Place, Node>,
         files: BTreeMap<u32, Stored>,
         made: u32,
+        limits: TreeLimits,
         home: Place,
         owner: (u32, u32),
     ) -> Tree
-        requires kept { tree.IsKept (record { names = names.entries; files = stored.contents files.entries; made = made; home = home; uid = owner.0; gid = owner.1 }) }
+        requires kept { tree.IsKept (stored.seen names.entries files.entries made limits home owner.0 owner.1) }
         requires counted { stored.AreCounted names.entries files.entries }
-        ensures { result ≡ record { names = names.entries; files = stored.contents files.entries; made = made; home = home; uid = owner.0; gid = owner.1 } }
+        ensures { result ≡ stored.seen names.entries files.entries made limits home owner.0 owner.1 }
     {
         let (uid, gid) = owner;
         Tree {
             names,
             files,
             made,
+            limits,
             home,
             uid,
             gid,
@@ -108,22 +112,25 @@ impl Tree {
     }
 
     /// The limits of the tree.
-    pub(crate) fn limits(&self) -> TreeLimits
+    pub(crate) fn tree_limits(&self) -> TreeLimits
         ensures { result ≡ tree.limits self.now }
     {
-        usual_limits()
+        self.limits
     }
 
-    /// Puts a node at a place where nothing stands.
+    /// Puts a node at a place where nothing stands, in a directory.
     ///
     /// # Errors
     ///
     /// `NoMemory` where memory runs out; the tree is then as before.
     pub(crate) fn put(&mut self, place: Place, node: Node) -> Result<(), NoMemory>
         requires absent { tree.node_at self.old.names place ≡ None }
-        requires kept { tree.IsKept (record self.old { names = tree.with_node self.old.names place node }) }
+        requires named { IsTrue (are_names place) }
+        requires parent { IsTrue (tree.is_directory (tree.node_at self.old.names (parent place))) }
+        requires node { tree.IsNode self.old.files node }
+        requires fits { IsTrue (tree.fits (record self.old { names = tree.with_node self.old.names place node })) }
         ensures ok { OnOk result
-            (self.new ≡ record self.old { names = tree.with_node self.old.names place node }) }
+            (self.new ≡ tree.trim (record self.old { names = tree.with_node self.old.names place node })) }
         ensures err { OnErr result (self.new ≡ self.old) }
     {
         let named = file_named(Some(&node));
@@ -132,9 +139,12 @@ impl Tree {
         Ok(())
     }
 
-    /// Removes what stands at a place; a file goes with its last name.
+    /// Removes what stands at a place: a link, a name of a file, or an empty directory that is not the root. A file goes with its
+    /// last name.
     pub(crate) fn remove_at(&mut self, place: &Place)
-        requires { tree.IsKept (tree.trim (record self.old { names = tree.without_node self.old.names place.now })) }
+        requires taken { IsTrue (tree.is_taken (tree.node_at self.old.names place.now)) }
+        requires below_root { is_root place.now ≡ false }
+        requires empty { tree.has_entries self.old.names place.now ≡ false }
         ensures { self.new ≡ tree.trim (record self.old { names = tree.without_node self.old.names place.now }) }
     {
         let gone = self.names.remove(place);
@@ -142,16 +152,21 @@ impl Tree {
     }
 
     /// Moves what stands at the old place, with all below it, to the new one, in the stead of what stands there; a file goes with
-    /// its last name.
+    /// its last name. Neither place is the root, and no directory goes inside itself.
     ///
     /// # Errors
     ///
     /// `NoMemory` where memory runs out; the tree is then as before.
     pub(crate) fn move_to(&mut self, old: &Place, new: Place) -> Result<(), NoMemory>
         requires taken { IsTrue (tree.is_taken (tree.node_at self.old.names old.now)) }
-        requires apart { begins old.now new ≡ false }
-        requires alone { (n : Name) (ns : List Name) → tree.node_at self.old.names (new ++ n ∷ ns) ≡ None }
-        requires kept { tree.IsKept (tree.trim (steps.put_in_its_stead self.old old.now new)) }
+        requires old_below_root { is_root old.now ≡ false }
+        requires new_below_root { is_root new ≡ false }
+        requires outside { steps.goes_inside self.old.names old.now new ≡ false }
+        requires elsewhere { same_place old.now new ≡ false }
+        requires named { IsTrue (are_names new) }
+        requires parent { IsTrue (tree.is_directory (tree.node_at self.old.names (parent new))) }
+        requires alone { tree.has_entries self.old.names new ≡ false }
+        requires fits { IsTrue (tree.fits (steps.put_in_its_stead self.old old.now new)) }
         ensures ok { OnOk result (self.new ≡ tree.trim (steps.put_in_its_stead self.old old.now new)) }
         ensures err { OnErr result (self.new ≡ self.old) }
     {
@@ -163,22 +178,22 @@ impl Tree {
     /// Gives a directory an owner.
     pub(crate) fn set_owner(&mut self, place: &Place, owner: Owner)
         requires directory { IsTrue (tree.is_directory (tree.node_at self.old.names place.now)) }
-        requires kept { tree.IsKept (record self.old { names = tree.with_node self.old.names place.now (Dir owner) }) }
-        ensures { self.new ≡ record self.old { names = tree.with_node self.old.names place.now (Dir owner) } }
+        requires owner { IsOwner owner }
+        ensures { self.new ≡ tree.trim (record self.old { names = tree.with_node self.old.names place.now (Dir owner) }) }
     {
         replace(&mut self.names, place, Node::Dir(owner));
     }
 
     /// Sets the attributes of a file: its size, which cuts the bytes or fills them with zeros, its owner and the low twelve bits of
-    /// its permissions, each where it is given.
+    /// its permissions, each where it is given. The limits allow the size.
     ///
     /// # Errors
     ///
     /// `NoMemory` where memory runs out; the tree is then as before.
     pub(crate) fn change_file(&mut self, number: u32, attrs: &Attrs) -> Result<(), NoMemory>
-        requires { tree.IsKept (steps.with_changed_file self.old attrs.now number (tree.content_at self.old.files number)) }
+        requires { IsTrue (tree.fits (steps.with_changed_file self.old attrs.now number (tree.content_at self.old.files number))) }
         ensures ok { OnOk result
-            (self.new ≡ steps.with_changed_file self.old attrs.now number (tree.content_at self.old.files number)) }
+            (self.new ≡ tree.trim (steps.with_changed_file self.old attrs.now number (tree.content_at self.old.files number))) }
         ensures err { OnErr result (self.new ≡ self.old) }
     {
         change_at(&mut self.files, number, attrs)?;

@@ -1,5 +1,5 @@
 -- Entries and their texts.
-use Rattle.std.proofs.Common.{◌≡◌, ℕ, ◌+◌, ◌<◌, ◌≤◌, List, [], ◌∷◌, ◌++◌, length, refl, sym, ap, subst, ◌∙◌, append_assoc, arith, inl, inr}
+use Rattle.std.proofs.Common.{◌≡◌, ℕ, ◌+◌, ◌<◌, ◌≤◌, ◌^◌, List, [], ◌∷◌, ◌++◌, length, refl, sym, ap, subst, ◌∙◌, append_assoc, arith, inl, inr}
 use Rattle.std.specs.List.{flat_map}
 use Rattle.std.proofs.lemmas.List.{append-nil, length-append}
 use Rattle.std.proofs.lemmas.List.Concat.{flat_map-append}
@@ -7,6 +7,7 @@ use Rattle.sftp_wire.specs.Spelling.{string}
 use Rattle.sftp_treefile.specs.declared.errors.TreeError.{TreeError}
 use Rattle.sftp_treefile.specs.declared.files.Kind.{Kind}
 use Rattle.sftp_treefile.specs.declared.files.Row.{Row}
+use Rattle.sftp_treefile.specs.declared.limits.TreeLimits.{TreeLimits}
 use Rattle.sftp_treefile.specs.TreeFile.{row_text, kind_text, IsPlaceText, IsKind, IsNext, AreRows}
 use Rattle.sftp_treefile.specs.TreeFileParts.{Reads, ReadsNone, OutOfMemoryOr, Follows, AreRead, AreNone}
 use Rattle.sftp_treefile.proofs.FieldTexts.{path_front, kind_front}
@@ -16,10 +17,10 @@ use Rattle.sftp_treefile.proofs.FieldTexts.{path_front, kind_front}
 row_parts : (x : Row) (r : List ℕ) → row_text x ++ r ≡ string x.path ++ (kind_text x.kind ++ r)
 row_parts x r = append_assoc (string x.path) (kind_text x.kind) r
 
-row_front : (rows : List Row) (x y : Row) (r s : List ℕ) → IsPlaceText x.path → IsPlaceText y.path → IsKind rows x.kind → IsKind rows y.kind → row_text x ++ r ≡ row_text y ++ s → (x ≡ y) × (r ≡ s)
-row_front rows x y r s x-path y-path x-kind y-kind e =
+row_front : (limits : TreeLimits) → limits.file_bytes < 2 ^ 32 → (rows : List Row) (x y : Row) (r s : List ℕ) → IsPlaceText x.path → IsPlaceText y.path → IsKind limits rows x.kind → IsKind limits rows y.kind → row_text x ++ r ≡ row_text y ++ s → (x ≡ y) × (r ≡ s)
+row_front limits bound rows x y r s x-path y-path x-kind y-kind e =
     let a = path_front x.path y.path (kind_text x.kind ++ r) (kind_text y.kind ++ s) x-path y-path (sym (row_parts x r) ∙ e ∙ row_parts y s) in
-    let b = kind_front rows x.kind y.kind r s x-kind y-kind a.1 in
+    let b = kind_front limits bound rows x.kind y.kind r s x-kind y-kind a.1 in
     ((λ i. record { path = a.0 i; kind = b.0 i }), b.1)
 
 -- a path that cannot be an entry's
@@ -30,80 +31,80 @@ path_unfit earlier bytes text rest path unfit other r follows e =
 pub path_absent : (earlier : List Row) (bytes : List ℕ) → ReadsNone IsPlaceText string bytes → ReadsNone (Follows earlier) string bytes
 path_absent earlier bytes none text rest follows e = none text rest follows.text e
 
-follows_next : (earlier : List Row) (row : Row) → IsNext earlier row → Follows earlier row.path
-follows_next earlier row next = record { text = next.path; below_root = next.below_root; later = next.later; parent = next.parent }
+pub follows_next : (limits : TreeLimits) (earlier : List Row) (row : Row) → IsNext limits earlier row → Follows earlier row.path
+follows_next limits earlier row next = record { text = next.path; below_root = next.below_root; later = next.later; parent = next.parent }
 
-pub row_read : (earlier : List Row) (bytes text middle rest : List ℕ) (kind : Kind) → Reads (Follows earlier) string bytes text middle → Reads (IsKind earlier) kind_text middle kind rest
-    → Reads (IsNext earlier) row_text bytes (record { path = text; kind = kind }) rest
-row_read earlier bytes text middle rest kind path what = (
+pub row_read : (limits : TreeLimits) (earlier : List Row) (bytes text middle rest : List ℕ) (kind : Kind) → Reads (Follows earlier) string bytes text middle → Reads (IsKind limits earlier) kind_text middle kind rest
+    → Reads (IsNext limits earlier) row_text bytes (record { path = text; kind = kind }) rest
+row_read limits earlier bytes text middle rest kind path what = (
   record { path = path.0.text; below_root = path.0.below_root; later = path.0.later; parent = path.0.parent; kind = what.0 },
   path.1 ∙ ap (λ (t : List ℕ). string text ++ t) what.1 ∙ sym (append_assoc (string text) (kind_text kind) rest),
 )
 
-pub row_absent : (earlier : List Row) (bytes : List ℕ) → ReadsNone (Follows earlier) string bytes → ReadsNone (IsNext earlier) row_text bytes
-row_absent earlier bytes none row rest next e = none row.path (kind_text row.kind ++ rest) (follows_next earlier row next) (e ∙ row_parts row rest)
+pub row_absent : (limits : TreeLimits) (earlier : List Row) (bytes : List ℕ) → ReadsNone (Follows earlier) string bytes → ReadsNone (IsNext limits earlier) row_text bytes
+row_absent limits earlier bytes none row rest next e = none row.path (kind_text row.kind ++ rest) (follows_next limits earlier row next) (e ∙ row_parts row rest)
 
-pub kind_absent : (earlier : List Row) (bytes text middle : List ℕ) → Reads (Follows earlier) string bytes text middle → ReadsNone (IsKind earlier) kind_text middle → ReadsNone (IsNext earlier) row_text bytes
-kind_absent earlier bytes text middle path none row rest next e =
+pub kind_absent : (limits : TreeLimits) (earlier : List Row) (bytes text middle : List ℕ) → Reads (Follows earlier) string bytes text middle → ReadsNone (IsKind limits earlier) kind_text middle → ReadsNone (IsNext limits earlier) row_text bytes
+kind_absent limits earlier bytes text middle path none row rest next e =
     none row.kind rest next.kind (path_front text row.path middle (kind_text row.kind ++ rest) path.0.text next.path (sym path.1 ∙ e ∙ row_parts row rest)).1
 
 -- ---- entries
 
 -- what entries have behind some that stand in front of the same bytes
-pub record GoesOn (earlier front whole : List Row) (rest tail : List ℕ) : Type 0 where
+pub record GoesOn (limits : TreeLimits) (earlier front whole : List Row) (rest tail : List ℕ) : Type 0 where
   pub more : List Row
   pub whole_is : whole ≡ front ++ more
-  pub rows_fit : AreRows (earlier ++ front) more
+  pub rows_fit : AreRows limits (earlier ++ front) more
   pub rest_is : rest ≡ flat_map row_text more ++ tail
 
 entries_parts : (row : Row) (rows : List Row) (r : List ℕ) → flat_map row_text (row ∷ rows) ++ r ≡ row_text row ++ (flat_map row_text rows ++ r)
 entries_parts row rows r = append_assoc (row_text row) (flat_map row_text rows) r
 
-pub goes_on : (earlier front whole : List Row) (rest tail : List ℕ) → AreRows earlier front → AreRows earlier whole → length front ≤ length whole
-    → flat_map row_text front ++ rest ≡ flat_map row_text whole ++ tail → GoesOn earlier front whole rest tail
-goes_on earlier [] whole rest tail front-fits whole-fits short e = record { more = whole; whole_is = refl; rows_fit = rw append-nil whole-fits; rest_is = e }
-goes_on earlier (x ∷ front) [] rest tail front-fits whole-fits short e = absurd (omega arith)
-goes_on earlier (x ∷ front) (y ∷ whole) rest tail front-fits whole-fits short e =
-    let a = row_front earlier x y (flat_map row_text front ++ rest) (flat_map row_text whole ++ tail) front-fits.0.path whole-fits.0.path front-fits.0.kind whole-fits.0.kind (sym (entries_parts x front rest) ∙ e ∙ entries_parts y whole tail) in
-    let same_fits : AreRows (earlier ++ x ∷ []) whole = subst (λ (z : Row). AreRows (earlier ++ z ∷ []) whole) (sym a.0) whole-fits.1 in
-    let next = goes_on (earlier ++ x ∷ []) front whole rest tail front-fits.1 same_fits (omega arith) a.1 in
+pub goes_on : (limits : TreeLimits) → limits.file_bytes < 2 ^ 32 → (earlier front whole : List Row) (rest tail : List ℕ) → AreRows limits earlier front → AreRows limits earlier whole → length front ≤ length whole
+    → flat_map row_text front ++ rest ≡ flat_map row_text whole ++ tail → GoesOn limits earlier front whole rest tail
+goes_on limits bound earlier [] whole rest tail front-fits whole-fits short e = record { more = whole; whole_is = refl; rows_fit = rw append-nil whole-fits; rest_is = e }
+goes_on limits bound earlier (x ∷ front) [] rest tail front-fits whole-fits short e = absurd (omega arith)
+goes_on limits bound earlier (x ∷ front) (y ∷ whole) rest tail front-fits whole-fits short e =
+    let a = row_front limits bound earlier x y (flat_map row_text front ++ rest) (flat_map row_text whole ++ tail) front-fits.0.path whole-fits.0.path front-fits.0.kind whole-fits.0.kind (sym (entries_parts x front rest) ∙ e ∙ entries_parts y whole tail) in
+    let same_fits : AreRows limits (earlier ++ x ∷ []) whole = subst (λ (z : Row). AreRows limits (earlier ++ z ∷ []) whole) (sym a.0) whole-fits.1 in
+    let next = goes_on limits bound (earlier ++ x ∷ []) front whole rest tail front-fits.1 same_fits (omega arith) a.1 in
     record {
       more = next.more;
       whole_is = (λ i. sym a.0 i ∷ next.whole_is i);
-      rows_fit = subst (λ (rows : List Row). AreRows rows next.more) (append_assoc earlier (x ∷ []) front) next.rows_fit;
+      rows_fit = subst (λ (rows : List Row). AreRows limits rows next.more) (append_assoc earlier (x ∷ []) front) next.rows_fit;
       rest_is = next.rest_is;
     }
 
 -- the entries of bytes are one list
-pub entries_are_one : (earlier xs ys : List Row) (r s : List ℕ) → AreRows earlier xs → AreRows earlier ys → length xs ≡ length ys → flat_map row_text xs ++ r ≡ flat_map row_text ys ++ s → (xs ≡ ys) × (r ≡ s)
-entries_are_one earlier [] [] r s x-fits y-fits len e = (refl, e)
-entries_are_one earlier [] (y ∷ ys) r s x-fits y-fits len e = absurd (omega arith)
-entries_are_one earlier (x ∷ xs) [] r s x-fits y-fits len e = absurd (omega arith)
-entries_are_one earlier (x ∷ xs) (y ∷ ys) r s x-fits y-fits len e =
-    let a = row_front earlier x y (flat_map row_text xs ++ r) (flat_map row_text ys ++ s) x-fits.0.path y-fits.0.path x-fits.0.kind y-fits.0.kind (sym (entries_parts x xs r) ∙ e ∙ entries_parts y ys s) in
-    let same_fits : AreRows (earlier ++ x ∷ []) ys = subst (λ (z : Row). AreRows (earlier ++ z ∷ []) ys) (sym a.0) y-fits.1 in
-    let next = entries_are_one (earlier ++ x ∷ []) xs ys r s x-fits.1 same_fits (omega arith) a.1 in
+pub entries_are_one : (limits : TreeLimits) → limits.file_bytes < 2 ^ 32 → (earlier xs ys : List Row) (r s : List ℕ) → AreRows limits earlier xs → AreRows limits earlier ys → length xs ≡ length ys → flat_map row_text xs ++ r ≡ flat_map row_text ys ++ s → (xs ≡ ys) × (r ≡ s)
+entries_are_one limits bound earlier [] [] r s x-fits y-fits len e = (refl, e)
+entries_are_one limits bound earlier [] (y ∷ ys) r s x-fits y-fits len e = absurd (omega arith)
+entries_are_one limits bound earlier (x ∷ xs) [] r s x-fits y-fits len e = absurd (omega arith)
+entries_are_one limits bound earlier (x ∷ xs) (y ∷ ys) r s x-fits y-fits len e =
+    let a = row_front limits bound earlier x y (flat_map row_text xs ++ r) (flat_map row_text ys ++ s) x-fits.0.path y-fits.0.path x-fits.0.kind y-fits.0.kind (sym (entries_parts x xs r) ∙ e ∙ entries_parts y ys s) in
+    let same_fits : AreRows limits (earlier ++ x ∷ []) ys = subst (λ (z : Row). AreRows limits (earlier ++ z ∷ []) ys) (sym a.0) y-fits.1 in
+    let next = entries_are_one limits bound (earlier ++ x ∷ []) xs ys r s x-fits.1 same_fits (omega arith) a.1 in
     ((λ i. a.0 i ∷ next.0 i), next.1)
 
-pub rows_push : (earlier rows : List Row) (row : Row) → AreRows earlier rows → IsNext (earlier ++ rows) row → AreRows earlier (rows ++ row ∷ [])
-rows_push earlier [] row fits next = (subst (λ (rows : List Row). IsNext rows row) (append-nil earlier) next, tt)
-rows_push earlier (x ∷ rows) row fits next =
-    (fits.0, rows_push (earlier ++ x ∷ []) rows row fits.1 (subst (λ (before : List Row). IsNext before row) (sym (append_assoc earlier (x ∷ []) rows)) next))
+pub rows_push : (limits : TreeLimits) (earlier rows : List Row) (row : Row) → AreRows limits earlier rows → IsNext limits (earlier ++ rows) row → AreRows limits earlier (rows ++ row ∷ [])
+rows_push limits earlier [] row fits next = (subst (λ (rows : List Row). IsNext limits rows row) (append-nil earlier) next, tt)
+rows_push limits earlier (x ∷ rows) row fits next =
+    (fits.0, rows_push limits (earlier ++ x ∷ []) rows row fits.1 (subst (λ (before : List Row). IsNext limits before row) (sym (append_assoc earlier (x ∷ []) rows)) next))
 
 -- ---- reading, entry by entry
 
 pub or_fault : (error : TreeError) (P Q : Type 0) → OutOfMemoryOr error P → (P → Q) → OutOfMemoryOr error Q
 or_fault error P Q h f = elim h [ inl e ↦ inl e | inr p ↦ inr (f p) ]
 
-pub read_none : (bytes : List ℕ) → AreRead bytes [] 0 bytes
-read_none bytes = record { rows_fit = tt; counted = refl; bytes_are = refl }
+pub read_none : (limits : TreeLimits) (bytes : List ℕ) → AreRead limits bytes [] 0 bytes
+read_none limits bytes = record { rows_fit = tt; counted = refl; bytes_are = refl }
 
-pub read_more : (bytes : List ℕ) (rows new : List Row) (n m : ℕ) (rest after : List ℕ) (row : Row) → AreRead bytes rows n rest
-    → Reads (IsNext rows) row_text rest row after → new ≡ rows ++ row ∷ [] → m ≡ n + 1 → AreRead bytes new m after
-read_more bytes rows new n m rest after row so_far read put more =
+pub read_more : (limits : TreeLimits) (bytes : List ℕ) (rows new : List Row) (n m : ℕ) (rest after : List ℕ) (row : Row) → AreRead limits bytes rows n rest
+    → Reads (IsNext limits rows) row_text rest row after → new ≡ rows ++ row ∷ [] → m ≡ n + 1 → AreRead limits bytes new m after
+read_more limits bytes rows new n m rest after row so_far read put more =
     rw (put, more)
     record {
-      rows_fit = rows_push [] rows row so_far.rows_fit read.0;
+      rows_fit = rows_push limits [] rows row so_far.rows_fit read.0;
       counted = length-append rows (row ∷ []) ∙ ap (λ k. k + 1) so_far.counted;
       bytes_are = so_far.bytes_are ∙ ap (λ (t : List ℕ). flat_map row_text rows ++ t) read.1
           ∙ sym (append_assoc (flat_map row_text rows) (row_text row) after)
@@ -112,13 +113,13 @@ read_more bytes rows new n m rest after row so_far read put more =
     }
 
 -- where more entries are to come, the next one stands in front of the rest
-pub row_none : (bytes : List ℕ) (rows : List Row) (n count : ℕ) (rest : List ℕ) → AreRead bytes rows n rest → n < count
-    → ReadsNone (IsNext rows) row_text rest → AreNone count bytes
-row_none bytes rows n count rest so_far lt none whole tail fits counted is =
-    let g = goes_on [] rows whole rest tail so_far.rows_fit fits (omega (arith, so_far.counted)) (sym so_far.bytes_are ∙ is) in
+pub row_none : (limits : TreeLimits) → limits.file_bytes < 2 ^ 32 → (bytes : List ℕ) (rows : List Row) (n count : ℕ) (rest : List ℕ) → AreRead limits bytes rows n rest → n < count
+    → ReadsNone (IsNext limits rows) row_text rest → AreNone limits count bytes
+row_none limits bound bytes rows n count rest so_far lt none whole tail fits counted is =
+    let g = goes_on limits bound [] rows whole rest tail so_far.rows_fit fits (omega (arith, so_far.counted)) (sym so_far.bytes_are ∙ is) in
     let len : length whole ≡ length rows + length g.more = ap length g.whole_is ∙ length-append rows g.more in
     by g.more g.rows_fit g.rest_is (omega (arith, so_far.counted))
   where
-    by : (more : List Row) → AreRows rows more → rest ≡ flat_map row_text more ++ tail → 0 < length more → ⊥
+    by : (more : List Row) → AreRows limits rows more → rest ≡ flat_map row_text more ++ tail → 0 < length more → ⊥
     by [] fits is lt = absurd (omega arith)
     by (row ∷ more) fits is lt = none row (flat_map row_text more ++ tail) fits.0 (is ∙ entries_parts row more tail)

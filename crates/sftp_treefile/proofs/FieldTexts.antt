@@ -14,6 +14,8 @@ use Rattle.sftp_treefile.specs.declared.files.Owner.{Owner}
 use Rattle.sftp_treefile.specs.declared.files.Kind.{Kind}
 use Rattle.sftp_treefile.specs.declared.files.Kind.TheVariants.{Dir, First, Further, Link}
 use Rattle.sftp_treefile.specs.declared.files.Row.{Row}
+use Rattle.sftp_treefile.specs.declared.limits.TreeLimits.{TreeLimits}
+use Rattle.sftp_treefile.specs.Limits.{usual_limits}
 use Rattle.sftp_treefile.specs.TreeFile.{owner_text, kind_text, place_of, are_bytes, IsPlaceText, IsOwner, IsKind}
 use Rattle.sftp_treefile.specs.TreeFileParts.{Reads, ReadsNone, IsNumber, IsTarget, IsFileBytes, IsFile, file_text}
 
@@ -117,30 +119,34 @@ owner_front x y r s x-fits y-fits e =
 
 -- ---- files
 
-pub file_bytes_length : (bytes : List ℕ) → IsFileBytes bytes → length bytes < 2 ^ 32
-file_bytes_length bytes fits = omega (arith, fits.0)
+-- the bytes of a file can be written under the usual limits
+pub usual_file_bytes : (limits : TreeLimits) → limits ≡ usual_limits → limits.file_bytes < 2 ^ 32
+usual_file_bytes limits usual = omega (arith, ap (λ (l : TreeLimits). l.file_bytes) usual)
+
+pub file_bytes_length : (limits : TreeLimits) → limits.file_bytes < 2 ^ 32 → (bytes : List ℕ) → IsFileBytes limits bytes → length bytes < 2 ^ 32
+file_bytes_length limits bound bytes fits = omega (arith, bound, fits.0)
 
 file_parts : (x : Owner × List ℕ) (r : List ℕ) → file_text x ++ r ≡ owner_text x.0 ++ (string x.1 ++ r)
 file_parts x r = append_assoc (owner_text x.0) (string x.1) r
 
-pub file_front : (x y : Owner × List ℕ) (r s : List ℕ) → IsFile x → IsFile y → file_text x ++ r ≡ file_text y ++ s → (x ≡ y) × (r ≡ s)
-file_front x y r s x-fits y-fits e =
+pub file_front : (limits : TreeLimits) → limits.file_bytes < 2 ^ 32 → (x y : Owner × List ℕ) (r s : List ℕ) → IsFile limits x → IsFile limits y → file_text x ++ r ≡ file_text y ++ s → (x ≡ y) × (r ≡ s)
+file_front limits bound x y r s x-fits y-fits e =
     let a = owner_front x.0 y.0 (string x.1 ++ r) (string y.1 ++ s) x-fits.0 y-fits.0 (sym (file_parts x r) ∙ e ∙ file_parts y s) in
-    let b = string_front x.1 y.1 r s (file_bytes_length x.1 x-fits.1) (file_bytes_length y.1 y-fits.1) a.1 in
+    let b = string_front x.1 y.1 r s (file_bytes_length limits bound x.1 x-fits.1) (file_bytes_length limits bound y.1 y-fits.1) a.1 in
     ((λ i. (a.0 i, b.0 i)), b.1)
 
-pub file_read : (bytes middle rest text : List ℕ) (owner : Owner) → Reads IsOwner owner_text bytes owner middle → Reads IsFileBytes string middle text rest → Reads IsFile file_text bytes (owner, text) rest
-file_read bytes middle rest text owner a b = (
+pub file_read : (limits : TreeLimits) (bytes middle rest text : List ℕ) (owner : Owner) → Reads IsOwner owner_text bytes owner middle → Reads (IsFileBytes limits) string middle text rest → Reads (IsFile limits) file_text bytes (owner, text) rest
+file_read limits bytes middle rest text owner a b = (
   (a.0, b.0),
   a.1 ∙ ap (λ (t : List ℕ). owner_text owner ++ t) b.1 ∙ sym (append_assoc (owner_text owner) (string text) rest),
 )
 
 -- a file whose owner cannot be read, and one whose bytes cannot
-pub file_owner_none : (bytes : List ℕ) → ReadsNone IsOwner owner_text bytes → ReadsNone IsFile file_text bytes
-file_owner_none bytes none file rest fits e = none file.0 (string file.1 ++ rest) fits.0 (e ∙ file_parts file rest)
+pub file_owner_none : (limits : TreeLimits) (bytes : List ℕ) → ReadsNone IsOwner owner_text bytes → ReadsNone (IsFile limits) file_text bytes
+file_owner_none limits bytes none file rest fits e = none file.0 (string file.1 ++ rest) fits.0 (e ∙ file_parts file rest)
 
-pub file_bytes_none : (bytes middle : List ℕ) (owner : Owner) → Reads IsOwner owner_text bytes owner middle → ReadsNone IsFileBytes string middle → ReadsNone IsFile file_text bytes
-file_bytes_none bytes middle owner read none file rest fits e =
+pub file_bytes_none : (limits : TreeLimits) (bytes middle : List ℕ) (owner : Owner) → Reads IsOwner owner_text bytes owner middle → ReadsNone (IsFileBytes limits) string middle → ReadsNone (IsFile limits) file_text bytes
+file_bytes_none limits bytes middle owner read none file rest fits e =
     none file.1 rest fits.1 (owner_front owner file.0 middle (string file.1 ++ rest) read.0 fits.0 (sym read.1 ∙ e ∙ file_parts file rest)).1
 
 -- ---- kinds
@@ -162,35 +168,35 @@ letter_is (Link target) r = refl
 same_letter : (x y : Kind) (r s : List ℕ) → kind_text x ++ r ≡ kind_text y ++ s → letter x ≡ letter y
 same_letter x y r s e = sym (letter_is x r) ∙ ap (λ (t : List ℕ). get_or t 0 0) e ∙ letter_is y s
 
-pub first_fits : (rows : List Row) (file : Owner × List ℕ) → IsFile file → IsKind rows (First file.0 file.1)
-first_fits rows file fits = (fits.0, fits.1.0, fits.1.1)
+pub first_fits : (limits : TreeLimits) (rows : List Row) (file : Owner × List ℕ) → IsFile limits file → IsKind limits rows (First file.0 file.1)
+first_fits limits rows file fits = (fits.0, fits.1.0, fits.1.1)
 
-pub kind_front : (rows : List Row) (x y : Kind) (r s : List ℕ) → IsKind rows x → IsKind rows y → kind_text x ++ r ≡ kind_text y ++ s → (x ≡ y) × (r ≡ s)
+pub kind_front : (limits : TreeLimits) → limits.file_bytes < 2 ^ 32 → (rows : List Row) (x y : Kind) (r s : List ℕ) → IsKind limits rows x → IsKind limits rows y → kind_text x ++ r ≡ kind_text y ++ s → (x ≡ y) × (r ≡ s)
 unfolding letter
-kind_front rows (Dir x) (Dir y) r s x-fits y-fits e =
+kind_front limits bound rows (Dir x) (Dir y) r s x-fits y-fits e =
     let a = owner_front x y r s x-fits y-fits (ap (drop 1) e) in
     (ap Dir a.0, a.1)
-kind_front rows (First x b) (First y c) r s x-fits y-fits e =
-    let a = file_front (x, b) (y, c) r s (x-fits.0, (x-fits.1, x-fits.2)) (y-fits.0, (y-fits.1, y-fits.2)) (ap (drop 1) e) in
+kind_front limits bound rows (First x b) (First y c) r s x-fits y-fits e =
+    let a = file_front limits bound (x, b) (y, c) r s (x-fits.0, (x-fits.1, x-fits.2)) (y-fits.0, (y-fits.1, y-fits.2)) (ap (drop 1) e) in
     ((λ i. First (a.0 i).0 (a.0 i).1), a.1)
-kind_front rows (Further x) (Further y) r s x-fits y-fits e =
+kind_front limits bound rows (Further x) (Further y) r s x-fits y-fits e =
     let a = number_front x y r s x-fits.0 y-fits.0 (ap (drop 1) e) in
     (ap Further a.0, a.1)
-kind_front rows (Link x) (Link y) r s x-fits y-fits e =
+kind_front limits bound rows (Link x) (Link y) r s x-fits y-fits e =
     let a = string_front x y r s (target_length x x-fits) (target_length y y-fits) (ap (drop 1) e) in
     (ap Link a.0, a.1)
-kind_front rows (Dir x) (First y c) r s x-fits y-fits e = absurd (omega (arith, same_letter (Dir x) (First y c) r s e))
-kind_front rows (Dir x) (Further y) r s x-fits y-fits e = absurd (omega (arith, same_letter (Dir x) (Further y) r s e))
-kind_front rows (Dir x) (Link y) r s x-fits y-fits e = absurd (omega (arith, same_letter (Dir x) (Link y) r s e))
-kind_front rows (First x b) (Dir y) r s x-fits y-fits e = absurd (omega (arith, same_letter (First x b) (Dir y) r s e))
-kind_front rows (First x b) (Further y) r s x-fits y-fits e = absurd (omega (arith, same_letter (First x b) (Further y) r s e))
-kind_front rows (First x b) (Link y) r s x-fits y-fits e = absurd (omega (arith, same_letter (First x b) (Link y) r s e))
-kind_front rows (Further x) (Dir y) r s x-fits y-fits e = absurd (omega (arith, same_letter (Further x) (Dir y) r s e))
-kind_front rows (Further x) (First y c) r s x-fits y-fits e = absurd (omega (arith, same_letter (Further x) (First y c) r s e))
-kind_front rows (Further x) (Link y) r s x-fits y-fits e = absurd (omega (arith, same_letter (Further x) (Link y) r s e))
-kind_front rows (Link x) (Dir y) r s x-fits y-fits e = absurd (omega (arith, same_letter (Link x) (Dir y) r s e))
-kind_front rows (Link x) (First y c) r s x-fits y-fits e = absurd (omega (arith, same_letter (Link x) (First y c) r s e))
-kind_front rows (Link x) (Further y) r s x-fits y-fits e = absurd (omega (arith, same_letter (Link x) (Further y) r s e))
+kind_front limits bound rows (Dir x) (First y c) r s x-fits y-fits e = absurd (omega (arith, same_letter (Dir x) (First y c) r s e))
+kind_front limits bound rows (Dir x) (Further y) r s x-fits y-fits e = absurd (omega (arith, same_letter (Dir x) (Further y) r s e))
+kind_front limits bound rows (Dir x) (Link y) r s x-fits y-fits e = absurd (omega (arith, same_letter (Dir x) (Link y) r s e))
+kind_front limits bound rows (First x b) (Dir y) r s x-fits y-fits e = absurd (omega (arith, same_letter (First x b) (Dir y) r s e))
+kind_front limits bound rows (First x b) (Further y) r s x-fits y-fits e = absurd (omega (arith, same_letter (First x b) (Further y) r s e))
+kind_front limits bound rows (First x b) (Link y) r s x-fits y-fits e = absurd (omega (arith, same_letter (First x b) (Link y) r s e))
+kind_front limits bound rows (Further x) (Dir y) r s x-fits y-fits e = absurd (omega (arith, same_letter (Further x) (Dir y) r s e))
+kind_front limits bound rows (Further x) (First y c) r s x-fits y-fits e = absurd (omega (arith, same_letter (Further x) (First y c) r s e))
+kind_front limits bound rows (Further x) (Link y) r s x-fits y-fits e = absurd (omega (arith, same_letter (Further x) (Link y) r s e))
+kind_front limits bound rows (Link x) (Dir y) r s x-fits y-fits e = absurd (omega (arith, same_letter (Link x) (Dir y) r s e))
+kind_front limits bound rows (Link x) (First y c) r s x-fits y-fits e = absurd (omega (arith, same_letter (Link x) (First y c) r s e))
+kind_front limits bound rows (Link x) (Further y) r s x-fits y-fits e = absurd (omega (arith, same_letter (Link x) (Further y) r s e))
 
 -- of bytes that begin with this letter a kind of another letter cannot be read
 module _ (bytes rest : List ℕ) (first : ℕ) (is : bytes ≡ first ∷ rest) where
@@ -200,16 +206,16 @@ module _ (bytes rest : List ℕ) (first : ℕ) (is : bytes ≡ first ∷ rest) w
   behind : (x : Kind) (r : List ℕ) → bytes ≡ kind_text x ++ r → rest ≡ drop 1 (kind_text x ++ r)
   behind x r e = ap (drop 1) (sym is ∙ e)
 
-  pub dir_none : (rows : List Row) → first ≡ 68 → ReadsNone IsOwner owner_text rest → ReadsNone (IsKind rows) kind_text bytes
+  pub dir_none : (limits : TreeLimits) (rows : List Row) → first ≡ 68 → ReadsNone IsOwner owner_text rest → ReadsNone (IsKind limits rows) kind_text bytes
   unfolding letter
-  dir_none rows here none (Dir x) r fits e = none x r fits (behind (Dir x) r e)
-  dir_none rows here none (First x b) r fits e = omega (arith, letter_here (First x b) r e)
-  dir_none rows here none (Further x) r fits e = omega (arith, letter_here (Further x) r e)
-  dir_none rows here none (Link x) r fits e = omega (arith, letter_here (Link x) r e)
+  dir_none limits rows here none (Dir x) r fits e = none x r fits (behind (Dir x) r e)
+  dir_none limits rows here none (First x b) r fits e = omega (arith, letter_here (First x b) r e)
+  dir_none limits rows here none (Further x) r fits e = omega (arith, letter_here (Further x) r e)
+  dir_none limits rows here none (Link x) r fits e = omega (arith, letter_here (Link x) r e)
 
-  pub first_none : (rows : List Row) → first ≡ 70 → ReadsNone IsFile file_text rest → ReadsNone (IsKind rows) kind_text bytes
+  pub first_none : (limits : TreeLimits) (rows : List Row) → first ≡ 70 → ReadsNone (IsFile limits) file_text rest → ReadsNone (IsKind limits rows) kind_text bytes
   unfolding letter
-  first_none rows here none (Dir x) r fits e = omega (arith, letter_here (Dir x) r e)
-  first_none rows here none (First x b) r fits e = none (x, b) r (fits.0, (fits.1, fits.2)) (behind (First x b) r e)
-  first_none rows here none (Further x) r fits e = omega (arith, letter_here (Further x) r e)
-  first_none rows here none (Link x) r fits e = omega (arith, letter_here (Link x) r e)
+  first_none limits rows here none (Dir x) r fits e = omega (arith, letter_here (Dir x) r e)
+  first_none limits rows here none (First x b) r fits e = none (x, b) r (fits.0, (fits.1, fits.2)) (behind (First x b) r e)
+  first_none limits rows here none (Further x) r fits e = omega (arith, letter_here (Further x) r e)
+  first_none limits rows here none (Link x) r fits e = omega (arith, letter_here (Link x) r e)

@@ -8,8 +8,10 @@ use Rattle.sftp_treefile.specs.declared.errors.TreeError.TheVariants.{NoMemory}
 use Rattle.sftp_treefile.specs.declared.files.Row.{Row}
 use Rattle.sftp_treefile.specs.declared.files.TreeFile.{TreeFile}
 use Rattle.sftp_treefile.specs.declared.heads.Head.{Head}
-use Rattle.sftp_treefile.specs.TreeFile.{tree_opening, owner_text, row_text, spelled, IsTreeFile, IsSpelled}
+use Rattle.sftp_treefile.specs.declared.limits.TreeLimits.{TreeLimits}
+use Rattle.sftp_treefile.specs.TreeFile.{tree_opening, owner_text, row_text, spelled, AreRows, IsTreeFile, IsSpelled}
 use Rattle.sftp_treefile.specs.TreeFileParts.{Reads, ReadsNone, OutOfMemoryOr, head_bytes, IsHead, head_text, AreRead, AreNone}
+use Rattle.sftp_treefile.proofs.FieldTexts.{usual_file_bytes}
 use Rattle.sftp_treefile.proofs.HeadTexts.{head_front}
 use Rattle.sftp_treefile.proofs.EntryTexts.{entries_are_one}
 
@@ -17,11 +19,11 @@ use Rattle.sftp_treefile.proofs.EntryTexts.{entries_are_one}
 
 -- what a file says before its entries
 head_of : TreeFile → Head
-head_of file = record { home = file.home; uid = file.uid; gid = file.gid; count = length file.rows; root = file.root }
+head_of file = record { limits = file.limits; home = file.home; uid = file.uid; gid = file.gid; count = length file.rows; root = file.root }
 
 head_fits : (file : TreeFile) → IsTreeFile file → IsHead (head_of file)
 unfolding head_of
-head_fits file fits = record { home = fits.home; uid = fits.uid; gid = fits.gid; count = fits.count; root = fits.root }
+head_fits file fits = record { limits = fits.limits; home = fits.home; uid = fits.uid; gid = fits.gid; count = fits.count; root = fits.root }
 
 spelled_parts : (file : TreeFile) → spelled file ≡ head_bytes (head_of file) ++ flat_map row_text file.rows
 unfolding spelled head_of
@@ -31,7 +33,7 @@ spelled_parts file = by (string file.home) (uint32 file.uid) (uint32 file.gid) (
     by a b c d e f = simp append_assoc
 
 -- the same for those who write a tree by its pieces
-pub spelled_head : (file : TreeFile) → spelled file ≡ head_bytes (record { home = file.home; uid = file.uid; gid = file.gid; count = length file.rows; root = file.root }) ++ flat_map row_text file.rows
+pub spelled_head : (file : TreeFile) → spelled file ≡ head_bytes (record { limits = file.limits; home = file.home; uid = file.uid; gid = file.gid; count = length file.rows; root = file.root }) ++ flat_map row_text file.rows
 unfolding head_of
 spelled_head file = spelled_parts file
 
@@ -42,7 +44,11 @@ bytes_parts file bytes is = is.bytes_are ∙ spelled_parts file
 
 same_file : (f g : TreeFile) → head_of f ≡ head_of g → f.rows ≡ g.rows → f ≡ g
 unfolding head_of
-same_file f g h r = λ i. record { home = (ap (λ (x : Head). x.home) h) i; uid = (ap (λ (x : Head). x.uid) h) i; gid = (ap (λ (x : Head). x.gid) h) i; root = (ap (λ (x : Head). x.root) h) i; rows = r i }
+same_file f g h r = λ i. record { limits = (ap (λ (x : Head). x.limits) h) i; home = (ap (λ (x : Head). x.home) h) i; uid = (ap (λ (x : Head). x.uid) h) i; gid = (ap (λ (x : Head). x.gid) h) i; root = (ap (λ (x : Head). x.root) h) i; rows = r i }
+
+same_limits : (f g : TreeFile) → head_of f ≡ head_of g → f.limits ≡ g.limits
+unfolding head_of
+same_limits f g h = ap (λ (x : Head). x.limits) h
 
 same_count : (f g : TreeFile) → head_of f ≡ head_of g → length f.rows ≡ length g.rows
 unfolding head_of
@@ -52,30 +58,32 @@ pub one_file : (f g : TreeFile) (bytes : List ℕ) → IsSpelled f bytes → IsS
 one_file f g bytes f-is g-is =
     let heads = head_front (head_of f) (head_of g) (flat_map row_text f.rows) (flat_map row_text g.rows) (head_fits f f-is.may_be) (head_fits g g-is.may_be) (sym (bytes_parts f bytes f-is) ∙ bytes_parts g bytes g-is) in
     let texts : flat_map row_text f.rows ++ [] ≡ flat_map row_text g.rows ++ [] = ap (λ (x : List ℕ). x ++ []) heads.1 in
-    let rows = entries_are_one [] f.rows g.rows [] [] f-is.may_be.rows g-is.may_be.rows (same_count f g heads.0) texts in
+    let g-rows = subst (λ (l : TreeLimits). AreRows l [] g.rows) (sym (same_limits f g heads.0)) g-is.may_be.rows in
+    let rows = entries_are_one f.limits (usual_file_bytes f.limits f-is.may_be.limits) [] f.rows g.rows [] [] f-is.may_be.rows g-rows (same_count f g heads.0) texts in
     same_file f g heads.0 rows.0
 
 -- ---- where no tree file is
 
 -- the entries of a file, behind the head that is read
-entries_behind : (file : TreeFile) (bytes rest : List ℕ) (head : Head) → Reads IsHead head_bytes bytes head rest → IsSpelled file bytes → (length file.rows ≡ head.count) × (rest ≡ flat_map row_text file.rows)
+entries_behind : (file : TreeFile) (bytes rest : List ℕ) (head : Head) → Reads IsHead head_bytes bytes head rest → IsSpelled file bytes
+    → (length file.rows ≡ head.count) × (rest ≡ flat_map row_text file.rows) × AreRows head.limits [] file.rows
 unfolding head_of
 entries_behind file bytes rest head read is =
     let heads = head_front head (head_of file) rest (flat_map row_text file.rows) read.0 (head_fits file is.may_be) (sym read.1 ∙ bytes_parts file bytes is) in
-    (sym (ap (λ (x : Head). x.count) heads.0), heads.1)
+    (sym (ap (λ (x : Head). x.count) heads.0), heads.1, subst (λ (l : TreeLimits). AreRows l [] file.rows) (sym (ap (λ (x : Head). x.limits) heads.0)) is.may_be.rows)
 
 pub no_file_head : (bytes : List ℕ) → ReadsNone IsHead head_bytes bytes → (file : TreeFile) → IsSpelled file bytes → ⊥
 no_file_head bytes none file is = none (head_of file) (flat_map row_text file.rows) (head_fits file is.may_be) (bytes_parts file bytes is)
 
-pub no_file_entries : (bytes rest : List ℕ) (head : Head) → Reads IsHead head_bytes bytes head rest → AreNone head.count rest → (file : TreeFile) → IsSpelled file bytes → ⊥
+pub no_file_entries : (bytes rest : List ℕ) (head : Head) → Reads IsHead head_bytes bytes head rest → AreNone head.limits head.count rest → (file : TreeFile) → IsSpelled file bytes → ⊥
 no_file_entries bytes rest head read none file is =
     let e = entries_behind file bytes rest head read is in
-    none file.rows [] is.may_be.rows e.0 (e.1 ∙ sym (append-nil (flat_map row_text file.rows)))
+    none file.rows [] e.2 e.0 (e.1 ∙ sym (append-nil (flat_map row_text file.rows)))
 
-pub no_file_trailing : (bytes rest more : List ℕ) (head : Head) (rows : List Row) → Reads IsHead head_bytes bytes head rest → AreRead rest rows head.count more → 0 < length more → (file : TreeFile) → IsSpelled file bytes → ⊥
+pub no_file_trailing : (bytes rest more : List ℕ) (head : Head) (rows : List Row) → Reads IsHead head_bytes bytes head rest → AreRead head.limits rest rows head.count more → 0 < length more → (file : TreeFile) → IsSpelled file bytes → ⊥
 no_file_trailing bytes rest more head rows read all left file is =
     let e = entries_behind file bytes rest head read is in
-    let same = entries_are_one [] rows file.rows more [] all.rows_fit is.may_be.rows (all.counted ∙ sym e.0) (sym all.bytes_are ∙ e.1 ∙ sym (append-nil (flat_map row_text file.rows))) in
+    let same = entries_are_one head.limits (usual_file_bytes head.limits read.0.limits) [] rows file.rows more [] all.rows_fit e.2 (all.counted ∙ sym e.0) (sym all.bytes_are ∙ e.1 ∙ sym (append-nil (flat_map row_text file.rows))) in
     omega (arith, left, ap length same.1)
 
 -- memory ran out where there is no other fault
@@ -84,15 +92,15 @@ fault_only error P h none = elim h [ inl e ↦ e | inr p ↦ absurd (none p) ]
 
 -- ---- where one is
 
-pub file_read : (bytes rest more : List ℕ) (head : Head) (rows : List Row) → Reads IsHead head_bytes bytes head rest → AreRead rest rows head.count more → length more ≡ 0
-    → IsSpelled (record { home = head.home; uid = head.uid; gid = head.gid; root = head.root; rows = rows }) bytes
+pub file_read : (bytes rest more : List ℕ) (head : Head) (rows : List Row) → Reads IsHead head_bytes bytes head rest → AreRead head.limits rest rows head.count more → length more ≡ 0
+    → IsSpelled (record { limits = head.limits; home = head.home; uid = head.uid; gid = head.gid; root = head.root; rows = rows }) bytes
 unfolding head_of
 file_read bytes rest more head rows read all ended =
-    let file : TreeFile = record { home = head.home; uid = head.uid; gid = head.gid; root = head.root; rows = rows } in
+    let file : TreeFile = record { limits = head.limits; home = head.home; uid = head.uid; gid = head.gid; root = head.root; rows = rows } in
     let nothing : rest ≡ flat_map row_text rows = all.bytes_are ∙ ap (λ (x : List ℕ). flat_map row_text rows ++ x) (nil_from_length more ended) ∙ append-nil (flat_map row_text rows) in
-    let heads : head ≡ head_of file = (λ i. record { home = head.home; uid = head.uid; gid = head.gid; count = sym all.counted i; root = head.root }) in
+    let heads : head ≡ head_of file = (λ i. record { limits = head.limits; home = head.home; uid = head.uid; gid = head.gid; count = sym all.counted i; root = head.root }) in
     record {
-      may_be = record { home = read.0.home; uid = read.0.uid; gid = read.0.gid; count = subst (λ k. k ≤ 65536) (sym all.counted) read.0.count; root = read.0.root; rows = all.rows_fit };
+      may_be = record { limits = read.0.limits; home = read.0.home; uid = read.0.uid; gid = read.0.gid; count = subst (λ k. k ≤ head.limits.entries) (sym all.counted) read.0.count; root = read.0.root; rows = all.rows_fit };
       bytes_are = read.1 ∙ ap (λ (x : List ℕ). head_bytes head ++ x) nothing ∙ ap (λ (h : Head). head_bytes h ++ flat_map row_text rows) heads ∙ sym (spelled_parts file);
     }
 

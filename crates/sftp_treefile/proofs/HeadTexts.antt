@@ -1,8 +1,10 @@
 -- Heads and their texts.
-use Rattle.std.proofs.Common.{◌≡◌, ℕ, List, ◌++◌, drop, sym, ap, ◌∙◌, append_assoc, arith}
+use Rattle.std.proofs.Common.{◌≡◌, ℕ, List, ◌++◌, drop, sym, ap, subst, ◌∙◌, append_assoc, arith}
 use Rattle.sftp_wire.specs.Spelling.{uint32, string}
 use Rattle.sftp_treefile.specs.declared.files.Owner.{Owner}
 use Rattle.sftp_treefile.specs.declared.heads.Head.{Head}
+use Rattle.sftp_treefile.specs.declared.limits.TreeLimits.{TreeLimits}
+use Rattle.sftp_treefile.specs.Limits.{usual_limits}
 use Rattle.sftp_treefile.specs.TreeFile.{tree_opening, owner_text, IsPlaceText, IsOwner}
 use Rattle.sftp_treefile.specs.TreeFileParts.{Reads, ReadsNone, IsNumber, IsCount, head_bytes, IsHead}
 use Rattle.sftp_treefile.proofs.FieldTexts.{number_front, owner_front, path_front}
@@ -29,19 +31,21 @@ pub record HomeRead (bytes home rest : List ℕ) : Type 0 where
   pub fits : IsPlaceText home
   pub is : bytes ≡ tree_opening ++ (string home ++ rest)
 
-pub record NumbersRead (bytes home : List ℕ) (uid gid count : ℕ) (rest : List ℕ) : Type 0 where
+pub record NumbersRead (limits : TreeLimits) (bytes home : List ℕ) (uid gid count : ℕ) (rest : List ℕ) : Type 0 where
+  pub usual : limits ≡ usual_limits
   pub home_fits : IsPlaceText home
   pub uid_fits : IsNumber uid
   pub gid_fits : IsNumber gid
-  pub count_fits : IsCount count
+  pub count_fits : IsCount limits count
   pub is : bytes ≡ tree_opening ++ (string home ++ (uint32 uid ++ (uint32 gid ++ (uint32 count ++ rest))))
 
 pub home_read : (bytes after rest home : List ℕ) → bytes ≡ tree_opening ++ after → Reads IsPlaceText string after home rest → HomeRead bytes home rest
 home_read bytes after rest home opened read = record { fits = read.0; is = opened ∙ ap (λ (t : List ℕ). tree_opening ++ t) read.1 }
 
-pub numbers_read : (bytes r0 r1 r2 r3 home : List ℕ) (uid gid count : ℕ) → HomeRead bytes home r0 → Reads IsNumber uint32 r0 uid r1 → Reads IsNumber uint32 r1 gid r2 → Reads IsCount uint32 r2 count r3
-    → NumbersRead bytes home uid gid count r3
-numbers_read bytes r0 r1 r2 r3 home uid gid count h u g c = record {
+pub numbers_read : (limits : TreeLimits) (bytes r0 r1 r2 r3 home : List ℕ) (uid gid count : ℕ) → limits ≡ usual_limits → HomeRead bytes home r0 → Reads IsNumber uint32 r0 uid r1 → Reads IsNumber uint32 r1 gid r2
+    → Reads (IsCount limits) uint32 r2 count r3 → NumbersRead limits bytes home uid gid count r3
+numbers_read limits bytes r0 r1 r2 r3 home uid gid count usual h u g c = record {
+  usual = usual;
   home_fits = h.fits;
   uid_fits = u.0;
   gid_fits = g.0;
@@ -81,38 +85,43 @@ same_gid : (bytes r0 r1 r2 rest home : List ℕ) (uid gid : ℕ) (head : Head) �
 unfolding behind_uid
 same_gid bytes r0 r1 r2 rest home uid gid head h u g fits e = number_front gid head.gid r2 (behind_gid head rest) g.0 fits.gid (sym g.1 ∙ (same_uid bytes r0 r1 rest home uid head h u fits e).1)
 
-pub count_none : (bytes r0 r1 r2 home : List ℕ) (uid gid : ℕ) → HomeRead bytes home r0 → Reads IsNumber uint32 r0 uid r1 → Reads IsNumber uint32 r1 gid r2 → ReadsNone IsCount uint32 r2 → ReadsNone IsHead head_bytes bytes
+pub count_none : (limits : TreeLimits) (bytes r0 r1 r2 home : List ℕ) (uid gid : ℕ) → limits ≡ usual_limits → HomeRead bytes home r0 → Reads IsNumber uint32 r0 uid r1 → Reads IsNumber uint32 r1 gid r2 → ReadsNone (IsCount limits) uint32 r2 → ReadsNone IsHead head_bytes bytes
 unfolding behind_gid
-count_none bytes r0 r1 r2 home uid gid h u g none head rest fits e = none head.count (owner_text head.root ++ rest) fits.count (same_gid bytes r0 r1 r2 rest home uid gid head h u g fits e).1
+count_none limits bytes r0 r1 r2 home uid gid usual h u g none head rest fits e =
+    none head.count (owner_text head.root ++ rest) (subst (λ (l : TreeLimits). IsCount l head.count) (fits.limits ∙ sym usual) fits.count) (same_gid bytes r0 r1 r2 rest home uid gid head h u g fits e).1
 
-same_numbers : (bytes r rest home : List ℕ) (uid gid count : ℕ) (head : Head) → NumbersRead bytes home uid gid count r → IsHead head → bytes ≡ head_bytes head ++ rest
+count_number : (limits : TreeLimits) (count : ℕ) → limits ≡ usual_limits → IsCount limits count → IsNumber count
+count_number limits count usual fits = omega (arith, ap (λ (l : TreeLimits). l.entries) usual, fits)
+
+same_numbers : (limits : TreeLimits) (bytes r rest home : List ℕ) (uid gid count : ℕ) (head : Head) → NumbersRead limits bytes home uid gid count r → IsHead head → bytes ≡ head_bytes head ++ rest
     → (home ≡ head.home) × (uid ≡ head.uid) × (gid ≡ head.gid) × (count ≡ head.count) × (r ≡ owner_text head.root ++ rest)
 unfolding behind_home behind_uid behind_gid
-same_numbers bytes r rest home uid gid count head n fits e =
+same_numbers limits bytes r rest home uid gid count head n fits e =
     let h = same_home bytes (uint32 uid ++ (uint32 gid ++ (uint32 count ++ r))) rest home head (record { fits = n.home_fits; is = n.is }) fits e in
     let u = number_front uid head.uid (uint32 gid ++ (uint32 count ++ r)) (behind_uid head rest) n.uid_fits fits.uid h.1 in
     let g = number_front gid head.gid (uint32 count ++ r) (behind_gid head rest) n.gid_fits fits.gid u.1 in
-    let c = number_front count head.count r (owner_text head.root ++ rest) (omega (arith, n.count_fits)) (omega (arith, fits.count)) g.1 in
+    let c = number_front count head.count r (owner_text head.root ++ rest) (count_number limits count n.usual n.count_fits) (count_number head.limits head.count fits.limits fits.count) g.1 in
     (h.0, u.0, g.0, c.0, c.1)
 
-pub root_none : (bytes r home : List ℕ) (uid gid count : ℕ) → NumbersRead bytes home uid gid count r → ReadsNone IsOwner owner_text r → ReadsNone IsHead head_bytes bytes
-root_none bytes r home uid gid count n none head rest fits e = none head.root rest fits.root (same_numbers bytes r rest home uid gid count head n fits e).4
+pub root_none : (limits : TreeLimits) (bytes r home : List ℕ) (uid gid count : ℕ) → NumbersRead limits bytes home uid gid count r → ReadsNone IsOwner owner_text r → ReadsNone IsHead head_bytes bytes
+root_none limits bytes r home uid gid count n none head rest fits e = none head.root rest fits.root (same_numbers limits bytes r rest home uid gid count head n fits e).4
 
 -- ---- where one is
 
-pub head_read : (bytes r rest home : List ℕ) (uid gid count : ℕ) (root : Owner) → NumbersRead bytes home uid gid count r → Reads IsOwner owner_text r root rest
-    → Reads IsHead head_bytes bytes (record { home = home; uid = uid; gid = gid; count = count; root = root }) rest
+pub head_read : (limits : TreeLimits) (bytes r rest home : List ℕ) (uid gid count : ℕ) (root : Owner) → NumbersRead limits bytes home uid gid count r → Reads IsOwner owner_text r root rest
+    → Reads IsHead head_bytes bytes (record { limits = limits; home = home; uid = uid; gid = gid; count = count; root = root }) rest
 unfolding behind_home behind_uid behind_gid
-head_read bytes r rest home uid gid count root n read =
-    let head : Head = record { home = home; uid = uid; gid = gid; count = count; root = root } in (
-      record { home = n.home_fits; uid = n.uid_fits; gid = n.gid_fits; count = n.count_fits; root = read.0 },
+head_read limits bytes r rest home uid gid count root n read =
+    let head : Head = record { limits = limits; home = home; uid = uid; gid = gid; count = count; root = root } in (
+      record { limits = n.usual; home = n.home_fits; uid = n.uid_fits; gid = n.gid_fits; count = n.count_fits; root = read.0 },
       n.is ∙ ap (λ (t : List ℕ). tree_opening ++ (string home ++ (uint32 uid ++ (uint32 gid ++ (uint32 count ++ t))))) read.1 ∙ sym (head_parts head rest),
     )
 
 pub head_front : (x y : Head) (r s : List ℕ) → IsHead x → IsHead y → head_bytes x ++ r ≡ head_bytes y ++ s → (x ≡ y) × (r ≡ s)
 unfolding behind_home behind_uid behind_gid
 head_front x y r s x-fits y-fits e =
-    let n : NumbersRead (head_bytes x ++ r) x.home x.uid x.gid x.count (owner_text x.root ++ r) = record { home_fits = x-fits.home; uid_fits = x-fits.uid; gid_fits = x-fits.gid; count_fits = x-fits.count; is = head_parts x r } in
-    let same = same_numbers (head_bytes x ++ r) (owner_text x.root ++ r) s x.home x.uid x.gid x.count y n y-fits e in
+    let n : NumbersRead x.limits (head_bytes x ++ r) x.home x.uid x.gid x.count (owner_text x.root ++ r) = record { usual = x-fits.limits; home_fits = x-fits.home; uid_fits = x-fits.uid; gid_fits = x-fits.gid; count_fits = x-fits.count; is = head_parts x r } in
+    let same = same_numbers x.limits (head_bytes x ++ r) (owner_text x.root ++ r) s x.home x.uid x.gid x.count y n y-fits e in
     let root = owner_front x.root y.root r s x-fits.root y-fits.root same.4 in
-    ((λ i. record { home = same.0 i; uid = same.1 i; gid = same.2 i; count = same.3 i; root = root.0 i }), root.1)
+    let limits = x-fits.limits ∙ sym y-fits.limits in
+    ((λ i. record { limits = limits i; home = same.0 i; uid = same.1 i; gid = same.2 i; count = same.3 i; root = root.0 i }), root.1)

@@ -13,8 +13,8 @@ use Rattle.std.proofs.lemmas.List.Folds.{list_any-append}
 use Rattle.sftp_path.specs.Place.{Place, place_cmp, name_cmp, parent, begins, same_bytes}
 use Rattle.sftp_path.proofs.Order.{place_cmp-total, place_cmp-same, bytes_cmp-same, begins-front, begins-append}
 use Rattle.sftp_treefile.specs.declared.files.Row.{Row}
-use Rattle.sftp_treefile.specs.TreeFile.{place_of, same_place, is_root, is_dir, is_dir_at, has_dir, IsNext}
-use Rattle.sftp_treefile.specs.TreeFileParts.{IsLast}
+use Rattle.sftp_treefile.specs.TreeFile.{place_of, same_place, is_root, is_dir, is_dir_at, has_dir}
+use Rattle.sftp_treefile.specs.TreeFileParts.{IsLast, Follows}
 
 -- ---- the order of places
 
@@ -194,7 +194,7 @@ dir_itself rows row below before = by (place_of row.path) refl below
         list_any-append (is_dir_at (n ∷ ns)) rows (row ∷ []) ∙ ap (λ b. b || list_any (is_dir_at (n ∷ ns)) (row ∷ [])) none
         ∙ and_true (is_dir row.kind) (same_place (place_of row.path) (n ∷ ns)) (ap (same_place (place_of row.path)) (sym is) ∙ same_place_itself (place_of row.path))
 
-pub last_more : (rows : List Row) (last : Place) (last_is : Bool) (row : Row) → IsLast rows last last_is → IsNext rows row → IsLast (rows ++ row ∷ []) (place_of row.path) (is_dir row.kind)
+pub last_more : (rows : List Row) (last : Place) (last_is : Bool) (row : Row) → IsLast rows last last_is → Follows rows row.path → IsLast (rows ++ row ∷ []) (place_of row.path) (is_dir row.kind)
 last_more rows last last_is row fits next = record {
   later = λ place below. later_more rows row next.later place;
   above = λ depth less. still_dir rows (row ∷ []) (take depth (place_of row.path)) (above_place rows last last_is fits (place_of row.path) next.below_root next.later next.parent depth less);

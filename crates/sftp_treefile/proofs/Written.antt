@@ -1,10 +1,11 @@
 -- What is written, piece by piece.
-use Rattle.std.proofs.Common.{◌≡◌, ℕ, suc, zero, ◌<◌, List, [], ◌∷◌, ◌++◌, length, get_or, sym, subst, append_assoc, arith}
+use Rattle.std.proofs.Common.{◌≡◌, ℕ, suc, zero, ◌<◌, ◌^◌, List, [], ◌∷◌, ◌++◌, length, get_or, sym, subst, append_assoc, arith}
 use Rattle.sftp_wire.specs.Spelling.{uint32, string}
 use Rattle.sftp_treefile.specs.declared.files.Kind.{Kind}
 use Rattle.sftp_treefile.specs.declared.files.Kind.TheVariants.{Dir, First, Further, Link}
 use Rattle.sftp_treefile.specs.declared.files.Row.{Row}
 use Rattle.sftp_treefile.specs.declared.heads.Head.{Head}
+use Rattle.sftp_treefile.specs.declared.limits.TreeLimits.{TreeLimits}
 use Rattle.sftp_treefile.specs.TreeFile.{tree_opening, owner_text, IsKind, AreRows}
 use Rattle.sftp_treefile.specs.TreeFileParts.{front_text, root_text, head_bytes, KindHasLengths, HasLengths}
 use Rattle.sftp_treefile.proofs.FieldTexts.{path_length, target_length, file_bytes_length}
@@ -25,14 +26,14 @@ head_pieces head o0 o1 o2 p q = rw (q, p) (by (string head.home) (uint32 head.ui
     by a b c d e = simp append_assoc
 
 -- the lengths of the strings of an entry that may stand there can be written
-kind_lengths : (earlier : List Row) (kind : Kind) → IsKind earlier kind → KindHasLengths kind
-kind_lengths earlier (Dir owner) fits = tt
-kind_lengths earlier (First owner bytes) fits = file_bytes_length bytes (fits.1, fits.2)
-kind_lengths earlier (Further number) fits = tt
-kind_lengths earlier (Link target) fits = target_length target fits
+kind_lengths : (limits : TreeLimits) → limits.file_bytes < 2 ^ 32 → (earlier : List Row) (kind : Kind) → IsKind limits earlier kind → KindHasLengths kind
+kind_lengths limits bound earlier (Dir owner) fits = tt
+kind_lengths limits bound earlier (First owner bytes) fits = file_bytes_length limits bound bytes (fits.1, fits.2)
+kind_lengths limits bound earlier (Further number) fits = tt
+kind_lengths limits bound earlier (Link target) fits = target_length target fits
 
-pub row_at_place : (earlier rows : List Row) (i : ℕ) (row : Row) → AreRows earlier rows → i < length rows → row ≡ get_or rows i row → HasLengths row
-row_at_place earlier [] i row fits lt is = absurd (omega arith)
-row_at_place earlier (r ∷ rows) zero row fits lt is =
-    subst HasLengths (sym is) (record { path = path_length r.path fits.0.path; kind = kind_lengths earlier r.kind fits.0.kind })
-row_at_place earlier (r ∷ rows) (suc i) row fits lt is = row_at_place (earlier ++ r ∷ []) rows i row fits.1 (omega arith) is
+pub row_at_place : (limits : TreeLimits) → limits.file_bytes < 2 ^ 32 → (earlier rows : List Row) (i : ℕ) (row : Row) → AreRows limits earlier rows → i < length rows → row ≡ get_or rows i row → HasLengths row
+row_at_place limits bound earlier [] i row fits lt is = absurd (omega arith)
+row_at_place limits bound earlier (r ∷ rows) zero row fits lt is =
+    subst HasLengths (sym is) (record { path = path_length r.path fits.0.path; kind = kind_lengths limits bound earlier r.kind fits.0.kind })
+row_at_place limits bound earlier (r ∷ rows) (suc i) row fits lt is = row_at_place limits bound (earlier ++ r ∷ []) rows i row fits.1 (omega arith) is

@@ -3,10 +3,11 @@ use Rattle.std.specs.Prelude.{ℕ, List, [], ◌∷◌, codes}
 use Rattle.sftp_wire.specs.Rows.{hex}
 use Rattle.sftp_treefile.specs.declared.files.Kind.TheVariants.{Dir, First, Further, Link}
 use Rattle.sftp_treefile.specs.declared.files.TreeFile.{TreeFile}
+use Rattle.sftp_treefile.specs.Limits.{usual_limits}
 
 -- the root alone, which is the home
 abbrev pub blank : TreeFile
-blank = record { home = codes "/"; uid = 0; gid = 0; root = record { uid = 0; gid = 0; permissions = 0o755 }; rows = [] }
+blank = record { limits = usual_limits; home = codes "/"; uid = 0; gid = 0; root = record { uid = 0; gid = 0; permissions = 0o755 }; rows = [] }
 
 abbrev pub blank_bytes : List ℕ
 blank_bytes = hex (codes "5346545245453031 00000001 2f 00000000 00000000 00000000 00000000 00000000 000001ed")
@@ -14,6 +15,7 @@ blank_bytes = hex (codes "5346545245453031 00000001 2f 00000000 00000000 0000000
 -- `/d`, which is the home, `/d/e` and a link to it, `/l`; no two numbers are the same
 abbrev pub linked : TreeFile
 linked = record {
+  limits = usual_limits;
   home = codes "/d";
   uid = 1000;
   gid = 100;
@@ -29,6 +31,7 @@ linked_bytes = hex (codes "5346545245453031 00000002 2f64 000003e8 00000064 0000
 -- the blank tree with a file `/f` of `abc`, and its second name `/g`
 abbrev pub two_names : TreeFile
 two_names = record {
+  limits = usual_limits;
   home = codes "/";
   uid = 0;
   gid = 0;

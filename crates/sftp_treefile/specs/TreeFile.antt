@@ -12,6 +12,7 @@ use Rattle.sftp_treefile.specs.declared.files.Kind.{Kind}
 use Rattle.sftp_treefile.specs.declared.files.Kind.TheVariants.{Dir, First, Further, Link}
 use Rattle.sftp_treefile.specs.declared.files.Row.{Row}
 use Rattle.sftp_treefile.specs.declared.files.TreeFile.{TreeFile}
+use Rattle.sftp_treefile.specs.declared.limits.TreeLimits.{TreeLimits}
 use Rattle.sftp_treefile.specs.Limits.{usual_limits}
 
 -- ---- as bytes
@@ -82,11 +83,11 @@ entry_at rows zero = None
 entry_at rows (suc n) = slice_get rows n
 
 -- what an entry behind these may be: a further name is that of a file whose first name is among them
-abbrev pub IsKind : List Row → Kind → Type 0
-IsKind earlier (Dir owner) = IsOwner owner
-IsKind earlier (First owner bytes) = IsOwner owner × (length bytes ≤ usual_limits.file_bytes) × IsTrue (are_bytes bytes)
-IsKind earlier (Further number) = (number < 2 ^ 32) × IsTrue (is_first_row (entry_at earlier number))
-IsKind earlier (Link target) = IsTrue (is_target target) × IsTrue (are_bytes target)
+abbrev pub IsKind : TreeLimits → List Row → Kind → Type 0
+IsKind limits earlier (Dir owner) = IsOwner owner
+IsKind limits earlier (First owner bytes) = IsOwner owner × (length bytes ≤ limits.file_bytes) × IsTrue (are_bytes bytes)
+IsKind limits earlier (Further number) = (number < 2 ^ 32) × IsTrue (is_first_row (entry_at earlier number))
+IsKind limits earlier (Link target) = IsTrue (is_target target) × IsTrue (are_bytes target)
 
 abbrev pub same_place : Place → Place → Bool
 same_place p q = pointwise (pointwise nat_eq) p q
@@ -110,26 +111,27 @@ unfoldable pub has_dir : List Row → Place → Bool
 has_dir rows place = is_root place || list_any (is_dir_at place) rows
 
 -- the row may stand behind these: its place comes after theirs, and its parent is the root or a directory among them
-pub record IsNext (earlier : List Row) (row : Row) : Type 0 where
+pub record IsNext (limits : TreeLimits) (earlier : List Row) (row : Row) : Type 0 where
   pub path : IsPlaceText row.path
   pub below_root : 0 < length (place_of row.path)
   pub later : AllByRecursion (λ (r : Row). place_cmp (place_of r.path) (place_of row.path) ≡ Less) earlier
   pub parent : IsTrue (has_dir earlier (parent (place_of row.path)))
-  pub kind : IsKind earlier row.kind
+  pub kind : IsKind limits earlier row.kind
 
 -- each row may stand behind those before it: the first rows are given, and then the others
-abbrev pub AreRows : List Row → List Row → Type 0
-AreRows earlier [] = Unit {0}
-AreRows earlier (row ∷ rows) = IsNext earlier row × AreRows (earlier ++ row ∷ []) rows
+abbrev pub AreRows : TreeLimits → List Row → List Row → Type 0
+AreRows limits earlier [] = Unit {0}
+AreRows limits earlier (row ∷ rows) = IsNext limits earlier row × AreRows limits (earlier ++ row ∷ []) rows
 
--- what a tree file may say
+-- what a tree file may say; under the opening `SFTREE01` its limits are the usual ones
 pub record IsTreeFile (file : TreeFile) : Type 0 where
+  pub limits : file.limits ≡ usual_limits
   pub home : IsPlaceText file.home
   pub uid : file.uid < 2 ^ 32
   pub gid : file.gid < 2 ^ 32
-  pub count : length file.rows ≤ usual_limits.entries
+  pub count : length file.rows ≤ file.limits.entries
   pub root : IsOwner file.root
-  pub rows : AreRows [] file.rows
+  pub rows : AreRows file.limits [] file.rows
 
 -- the bytes are the tree file that says this
 pub record IsSpelled (file : TreeFile) (bytes : List ℕ) : Type 0 where

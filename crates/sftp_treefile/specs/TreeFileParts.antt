@@ -12,6 +12,7 @@ use Rattle.sftp_treefile.specs.declared.files.Kind.TheVariants.{Dir, First, Furt
 use Rattle.sftp_treefile.specs.declared.files.Row.{Row}
 use Rattle.sftp_treefile.specs.declared.files.TreeFile.{TreeFile}
 use Rattle.sftp_treefile.specs.declared.heads.Head.{Head}
+use Rattle.sftp_treefile.specs.declared.limits.TreeLimits.{TreeLimits}
 use Rattle.sftp_treefile.specs.Limits.{usual_limits}
 use Rattle.sftp_treefile.specs.TreeFile.{tree_opening, owner_text, row_text, place_of, has_dir, is_target, are_bytes, is_first_row, entry_at, IsPlaceText, IsOwner, AreRows}
 
@@ -51,18 +52,18 @@ IsNumber n = n < 2 ^ 32
 abbrev pub IsPermissions : ℕ → Type 0
 IsPermissions n = n < 2 ^ 12
 
-abbrev pub IsCount : ℕ → Type 0
-IsCount n = n ≤ usual_limits.entries
+abbrev pub IsCount : TreeLimits → ℕ → Type 0
+IsCount limits n = n ≤ limits.entries
 
 abbrev pub IsTarget : List ℕ → Type 0
 IsTarget target = IsTrue (is_target target) × IsTrue (are_bytes target)
 
-abbrev pub IsFileBytes : List ℕ → Type 0
-IsFileBytes bytes = (length bytes ≤ usual_limits.file_bytes) × IsTrue (are_bytes bytes)
+abbrev pub IsFileBytes : TreeLimits → List ℕ → Type 0
+IsFileBytes limits bytes = (length bytes ≤ limits.file_bytes) × IsTrue (are_bytes bytes)
 
 -- a file's owner and its bytes
-abbrev pub IsFile : Owner × List ℕ → Type 0
-IsFile file = IsOwner file.0 × IsFileBytes file.1
+abbrev pub IsFile : TreeLimits → Owner × List ℕ → Type 0
+IsFile limits file = IsOwner file.0 × IsFileBytes limits file.1
 
 abbrev pub file_text : Owner × List ℕ → List ℕ
 file_text file = owner_text file.0 ++ string file.1
@@ -88,11 +89,13 @@ root_text count root = uint32 count ++ owner_text root
 abbrev pub head_text : TreeFile → List ℕ
 head_text file = front_text file.home file.uid file.gid ++ root_text (length file.rows) file.root
 
+-- what a head may say; under the opening `SFTREE01` its limits are the usual ones
 pub record IsHead (head : Head) : Type 0 where
+  pub limits : head.limits ≡ usual_limits
   pub home : IsPlaceText head.home
   pub uid : IsNumber head.uid
   pub gid : IsNumber head.gid
-  pub count : IsCount head.count
+  pub count : IsCount head.limits head.count
   pub root : IsOwner head.root
 
 -- ---- entries
@@ -125,11 +128,11 @@ pub record IsLast (rows : List Row) (last : Place) (is_dir : Bool) : Type 0 wher
   pub itself : has_dir rows last ≡ is_dir
 
 -- so many entries are read, and the rest of the bytes is not
-pub record AreRead (bytes : List ℕ) (rows : List Row) (count : ℕ) (rest : List ℕ) : Type 0 where
-  pub rows_fit : AreRows [] rows
+pub record AreRead (limits : TreeLimits) (bytes : List ℕ) (rows : List Row) (count : ℕ) (rest : List ℕ) : Type 0 where
+  pub rows_fit : AreRows limits [] rows
   pub counted : length rows ≡ count
   pub bytes_are : bytes ≡ flat_map row_text rows ++ rest
 
 -- no so many entries stand in front
-abbrev pub AreNone : ℕ → List ℕ → Type 0
-AreNone count bytes = (rows : List Row) (rest : List ℕ) → AreRows [] rows → length rows ≡ count → bytes ≡ flat_map row_text rows ++ rest → ⊥
+abbrev pub AreNone : TreeLimits → ℕ → List ℕ → Type 0
+AreNone limits count bytes = (rows : List Row) (rest : List ℕ) → AreRows limits [] rows → length rows ≡ count → bytes ≡ flat_map row_text rows ++ rest → ⊥

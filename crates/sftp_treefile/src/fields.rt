@@ -7,7 +7,7 @@ ghost use Rattle.sftp_treefile.specs.TreeFileParts.{Reads, ReadsNone, OutOfMemor
 
 use crate::errors::TreeError;
 use crate::files::{Kind, Owner, Row};
-use crate::limits::usual_limits;
+use crate::limits::TreeLimits;
 use sftp_path::{DEPTH_LIMIT, Place, canonical, good_path};
 use sftp_wire::{ByteString, take_number, take_string};
 use std::alloc::Global;
@@ -102,15 +102,20 @@ fn target_at(alloc: Global, entry: u32, bytes: &[u8]) -> Result<(ByteString, &[u
 }
 
 /// The bytes of a file in front, and what follows them. They are copied once.
-fn file_bytes_at(alloc: Global, entry: u32, bytes: &[u8]) -> Result<(ByteString, &[u8]), TreeError>
-    ensures found { IfOk result (λ taken. Reads IsFileBytes string bytes.now taken.0 taken.1.now) }
-    ensures none { IfErr result (λ error. OutOfMemoryOr error (ReadsNone IsFileBytes string bytes.now)) }
+fn file_bytes_at(
+    alloc: Global,
+    limits: TreeLimits,
+    entry: u32,
+    bytes: &[u8],
+) -> Result<(ByteString, &[u8]), TreeError>
+    ensures found { IfOk result (λ taken. Reads (IsFileBytes limits) string bytes.now taken.0 taken.1.now) }
+    ensures none { IfErr result (λ error. OutOfMemoryOr error (ReadsNone (IsFileBytes limits) string bytes.now)) }
     ensures number { IfErr result (IsAt entry) }
 {
     let Some((text, rest)) = take_string(bytes) else {
         return Err(TreeError::Short { entry });
     };
-    if text.len() > usual_limits().file_bytes as usize {
+    if text.len() > limits.file_bytes as usize {
         return Err(TreeError::Value { entry });
     }
     see_bytes(text);
@@ -118,13 +123,18 @@ fn file_bytes_at(alloc: Global, entry: u32, bytes: &[u8]) -> Result<(ByteString,
 }
 
 /// The owner and the bytes of a file in front, and what follows them.
-fn file_at(alloc: Global, entry: u32, bytes: &[u8]) -> Result<(Owner, ByteString, &[u8]), TreeError>
-    ensures found { IfOk result (λ taken. Reads IsFile file_text bytes.now (taken.0, taken.1) taken.2.now) }
-    ensures none { IfErr result (λ error. OutOfMemoryOr error (ReadsNone IsFile file_text bytes.now)) }
+fn file_at(
+    alloc: Global,
+    limits: TreeLimits,
+    entry: u32,
+    bytes: &[u8],
+) -> Result<(Owner, ByteString, &[u8]), TreeError>
+    ensures found { IfOk result (λ taken. Reads (IsFile limits) file_text bytes.now (taken.0, taken.1) taken.2.now) }
+    ensures none { IfErr result (λ error. OutOfMemoryOr error (ReadsNone (IsFile limits) file_text bytes.now)) }
     ensures number { IfErr result (IsAt entry) }
 {
     let (owner, rest) = owner_at(entry, bytes)?;
-    let (text, rest) = file_bytes_at(alloc, entry, rest)?;
+    let (text, rest) = file_bytes_at(alloc, limits, entry, rest)?;
     Ok((owner, text, rest))
 }
 
@@ -174,12 +184,13 @@ fn letter_at(entry: u32, bytes: &[u8]) -> Result<(u8, &[u8]), TreeError>
 /// What the entry in front is, which stands behind these rows, and what follows that.
 pub(crate) fn kind_at<'a>(
     alloc: Global,
+    limits: TreeLimits,
     entry: u32,
     rows: &[Row],
     bytes: &'a [u8],
 ) -> Result<(Kind, &'a [u8]), TreeError>
-    ensures found { IfOk result (λ taken. Reads (IsKind rows.now) kind_text bytes.now taken.0 taken.1.now) }
-    ensures none { IfErr result (λ error. OutOfMemoryOr error (ReadsNone (IsKind rows.now) kind_text bytes.now)) }
+    ensures found { IfOk result (λ taken. Reads (IsKind limits rows.now) kind_text bytes.now taken.0 taken.1.now) }
+    ensures none { IfErr result (λ error. OutOfMemoryOr error (ReadsNone (IsKind limits rows.now) kind_text bytes.now)) }
     ensures number { IfErr result (IsAt entry) }
 {
     let (letter, rest) = letter_at(entry, bytes)?;
@@ -189,7 +200,7 @@ pub(crate) fn kind_at<'a>(
             Ok((Kind::Dir(owner), rest))
         }
         b'F' => {
-            let (owner, text, rest) = file_at(alloc, entry, rest)?;
+            let (owner, text, rest) = file_at(alloc, limits, entry, rest)?;
             Ok((Kind::First(owner, text), rest))
         }
         b'H' => {

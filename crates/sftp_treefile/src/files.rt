@@ -1,6 +1,7 @@
 //! What a tree file says, as values.
 ghost use Rattle.std.specs.Prelude.{◌≡◌};
 
+use crate::limits::TreeLimits;
 use sftp_wire::ByteString;
 use std::marker::Model;
 
@@ -20,7 +21,7 @@ pub struct Owner {
 pub enum Kind {
     /// A directory.
     Dir(Owner),
-    /// The first name of a file, with its bytes: 16,777,216 of them at most.
+    /// The first name of a file, with its bytes, of which the limits say how many there may be.
     First(Owner, ByteString),
     /// A further name of a file, with the number of the entry that is its first name. Entries count from 1.
     Further(u32),
@@ -77,6 +78,8 @@ impl Rows {
 /// What a tree file says. The count of the entries is that of the rows.
 #[derive(Debug, Drop)]
 pub struct TreeFile {
+    /// The limits of the tree: the usual ones, which is what the opening `SFTREE01` says.
+    pub limits: TreeLimits,
     /// The absolute text of the place where relative paths start; it has at most 64 names, and need not exist.
     pub home: ByteString,
     /// The user who owns what is made with no owner given.

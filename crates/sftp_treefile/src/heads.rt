@@ -7,13 +7,15 @@ ghost use Rattle.sftp_treefile.specs.TreeFileParts.{Reads, ReadsNone, OutOfMemor
 use crate::errors::TreeError;
 use crate::fields::{number_at, owner_at, place_at};
 use crate::files::Owner;
-use crate::limits::usual_limits;
+use crate::limits::{TreeLimits, usual_limits};
 use sftp_wire::ByteString;
 use std::alloc::Global;
 
 /// What a tree file says before its entries.
 #[derive(Debug, Drop)]
 pub struct Head {
+    /// The limits of the tree: the usual ones, which is what the opening `SFTREE01` says.
+    pub limits: TreeLimits,
     /// The absolute text of the place where relative paths start.
     pub home: ByteString,
     /// The user who owns what is made with no owner given.
@@ -48,13 +50,13 @@ fn home_at(alloc: Global, bytes: &[u8]) -> Result<(ByteString, &[u8]), TreeError
 }
 
 /// The number of entries in front, and what follows it.
-fn count_at(bytes: &[u8]) -> Result<(u32, &[u8]), TreeError>
-    ensures found { IfOk result (λ taken. Reads IsCount uint32 bytes.now taken.0 taken.1.now) }
-    ensures none { IfErr result (λ _. ReadsNone IsCount uint32 bytes.now) }
+fn count_at(limits: TreeLimits, bytes: &[u8]) -> Result<(u32, &[u8]), TreeError>
+    ensures found { IfOk result (λ taken. Reads (IsCount limits) uint32 bytes.now taken.0 taken.1.now) }
+    ensures none { IfErr result (λ _. ReadsNone (IsCount limits) uint32 bytes.now) }
     ensures number { IfErr result (IsAt 0) }
 {
     let (count, rest) = number_at(0, bytes)?;
-    if count > usual_limits().entries {
+    if count > limits.entries {
         return Err(TreeError::Value { entry: 0 });
     }
     Ok((count, rest))
@@ -67,12 +69,14 @@ pub(crate) fn head_at(alloc: Global, bytes: &[u8]) -> Result<(Head, &[u8]), Tree
     ensures number { IfErr result (IsAt 0) }
 {
     let rest = after_opening(bytes)?;
+    let limits = usual_limits();
     let (home, rest) = home_at(alloc, rest)?;
     let (uid, rest) = number_at(0, rest)?;
     let (gid, rest) = number_at(0, rest)?;
-    let (count, rest) = count_at(rest)?;
+    let (count, rest) = count_at(limits, rest)?;
     let (root, rest) = owner_at(0, rest)?;
     let head = Head {
+        limits,
         home,
         uid,
         gid,

@@ -21,13 +21,14 @@ pub fn read_rows(alloc: Global, bytes: &[u8]) -> Result<TreeFile, TreeError>
     ensures only { (f : file) → IsSpelled f bytes.now → GivesFile result f }
 {
     let (head, rest) = head_at(alloc, bytes)?;
-    let (rows, rest) = rows_at(alloc, head.count, rest)?;
+    let (rows, rest) = rows_at(alloc, head.limits, head.count, rest)?;
     if !rest.is_empty() {
         return Err(TreeError::Trailing {
             entry: head.count + 1,
         });
     }
     Ok(TreeFile {
+        limits: head.limits,
         home: head.home,
         uid: head.uid,
         gid: head.gid,

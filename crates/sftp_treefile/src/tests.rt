@@ -192,6 +192,7 @@ fn head(alloc: Global, count: u32) -> Result<Head, AllocError>
     ensures { IfOk result (λ head. length head.home < 2 ^ 32) }
 {
     Ok(Head {
+        limits: usual_limits(),
         home: ByteString::from_slice(alloc, b"/")?,
         uid: 0,
         gid: 0,

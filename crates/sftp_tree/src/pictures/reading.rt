@@ -76,7 +76,7 @@ struct Grown {
 
 /// What stands at each place, and the files: the root, and what entries say.
 fn grow(alloc: Global, root: Owner, rows: Vec<Row>) -> Result<Grown, NoMemory>
-    requires rows { AreRows [] rows.items }
+    requires rows { AreRows usual_limits [] rows.items }
     requires count { length rows.items ≤ usual_limits.entries }
     ensures { IfOk result (λ g. parts.IsGrown root rows.items g.names.entries g.files.entries) }
 {
@@ -103,5 +103,5 @@ pub(super) fn tree_of(alloc: Global, file: TreeFile) -> Result<Tree, NoMemory>
     let Grown { names, files } = grow(alloc, file.root, file.rows.into_vec())?;
     let made = files.len() as u32;
     let owner = (file.uid, file.gid);
-    Ok(Tree::from_parts(names, files, made, home, owner))
+    Ok(Tree::from_parts(names, files, made, file.limits, home, owner))
 }

@@ -45,6 +45,7 @@ fn put_front(out: &mut Vec<u8>, tree: &Tree) -> Result<(), NoMemory>
     let alloc = tree.home().allocator();
     let home = absolute(alloc, tree.home().names())?;
     let head = Head {
+        limits: tree.tree_limits(),
         home: ByteString::new(home),
         uid: tree.uid(),
         gid: tree.gid(),

@@ -1,5 +1,5 @@
-use Rattle.std.proofs.Common.{◌≡◌, sym, ap, ◌∙◌, Some}
-use Rattle.std.specs.Option.{option_copied_mut}
+use Rattle.std.proofs.Common.{◌≡◌, sym, ap, subst, ◌∙◌, Some}
+use Rattle.std.specs.Option.{option_copied_mut, IfSome}
 use Rattle.std.specs.Ordering.{nat_cmp}
 use Rattle.std.specs.BTreeMap.{is_at}
 use Rattle.std.specs.Map.{set_value}
@@ -9,6 +9,7 @@ use Rattle.std.proofs.lemmas.Result.{err_from_is_err_and}
 use Rattle.sftp_path.specs.Table.{get}
 use Rattle.sftp_treefile.specs.TreeFile.{IsOwner}
 use Rattle.sftp_tree.specs.declared.contents.Stored.{Stored}
+use Rattle.sftp_tree.specs.Attributes.{changed_owner}
 use Rattle.sftp_tree.specs.Stored.{with_attributes_set}
 use Rattle.sftp_tree.proofs.StoredFiles.{changed-nowhere, changed-written}
 use Rattle.sftp_tree.proofs.contents.change_at.Goals as goal
@@ -35,3 +36,13 @@ returns-in_ok-change-clause-ok c =
 pub returns-in_default-clause-ok : goal.returns-in_default-clause-ok
 returns-in_default-clause-ok c =
     changed-nowhere (with_attributes_set c.args.attrs.now) c.args.number c.args.files.now c.get_mut.follows.lender-at-none c.get_mut.ensures.ordered (sym c.get_mut.ensures.value ∙ ap option_copied_mut c.in_default.is) c.get_mut.follows.holds-at-none
+
+pub returns-in_ok-change-clause-owned : goal.returns-in_ok-change-clause-owned
+unfolding get
+returns-in_ok-change-clause-owned c =
+    subst (λ o. IfSome o (λ (s : Stored). IsOwner (changed_owner c.args.attrs.now s.content.owner))) c.in-Some.ensures.value c.in_ok-change.ensures.owned
+
+pub returns-in_default-clause-owned : goal.returns-in_default-clause-owned
+unfolding get
+returns-in_default-clause-owned c =
+    subst (λ o. IfSome o (λ (s : Stored). IsOwner (changed_owner c.args.attrs.now s.content.owner))) (sym (sym c.get_mut.ensures.value ∙ ap option_copied_mut c.in_default.is)) tt

@@ -7,5 +7,5 @@ abbrev pub invariant-loop-entry : goal.invariant-loop-entry
 invariant-loop-entry l = record {
   within : (1 ≤ l.entry) × (l.entry ≤ l.count + 1);
   last : IsLast l.entries.rows.items l.entries.last l.entries.is_dir;
-  read : AreRead l.bytes l.entries.rows.items (l.entry - 1) l.rest;
+  read : AreRead l.limits l.bytes l.entries.rows.items (l.entry - 1) l.rest;
 }

@@ -7,4 +7,4 @@ use Rattle.sftp_treefile.proofs.fields.file_at.Goals as goal
 pub returns-in_err-owner-clause-none : goal.returns-in_err-owner-clause-none
 returns-in_err-owner-clause-none c =
     let p = err_from_is_err_and c.from_residual.result c.from_residual.ensures.1 in
-    rw p.1 (inr (file_owner_none c.args.bytes.now c.in_err-owner.ensures.none))
+    rw p.1 (inr (file_owner_none c.args.limits c.args.bytes.now c.in_err-owner.ensures.none))

@@ -15,6 +15,7 @@ returns-clause-spelled c = refl
 pub returns-clause-may_be : goal.returns-clause-may_be
 unfolding components parts
 returns-clause-may_be c = record {
+  limits = refl;
   home = record { names = refl; depth = omega arith; one = refl };
   uid = omega arith;
   gid = omega arith;

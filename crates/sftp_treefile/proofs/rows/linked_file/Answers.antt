@@ -12,6 +12,7 @@ pub returns-clause-spelled : goal.returns-clause-spelled
 unfolding spelled has_dir components parts is_good_path hex
 returns-clause-spelled c = record {
   may_be = record {
+    limits = refl;
     home = record { names = refl; depth = omega arith; one = refl };
     uid = omega arith;
     gid = omega arith;

@@ -5,13 +5,14 @@ use Rattle.std.proofs.lemmas.List.{take_all}
 use Rattle.sftp_treefile.specs.declared.files.Row.{Row}
 use Rattle.sftp_treefile.specs.TreeFile.{row_text, AreRows}
 use Rattle.sftp_treefile.specs.TreeFileParts.{head_text}
+use Rattle.sftp_treefile.proofs.FieldTexts.{usual_file_bytes}
 use Rattle.sftp_treefile.proofs.FileTexts.{head_written}
 use Rattle.sftp_treefile.proofs.Written.{row_at_place}
 use Rattle.sftp_treefile.proofs.writing.write_rows.Goals as goal
 
 pub put_row-requires : goal.put_row-requires
 put_row-requires c =
-    row_at_place [] c.as_slice-row-items.result.now c.loop-row.row-index c.row-item.result (subst (AreRows []) (sym c.as_slice-row-items.ensures) c.requires.rows) c.loop-row-test.true c.row-item.is
+    row_at_place c.args.file.now.limits (usual_file_bytes c.args.file.now.limits c.requires.limits) [] c.as_slice-row-items.result.now c.loop-row.row-index c.row-item.result (subst (AreRows c.args.file.now.limits []) (sym c.as_slice-row-items.ensures) c.requires.rows) c.loop-row-test.true c.row-item.is
 
 pub returns : goal.returns
 returns c =

@@ -2,6 +2,7 @@
 use Rattle.std.proofs.Common.{◌≡◌, [], ◌∷◌, length, ap, sym, subst, ◌∙◌, append_assoc, append-nil, arith, refl}
 use Rattle.std.specs.Vec.Iter.{into_iter_items}
 use Rattle.std.proofs.lemmas.List.{nil_from_length, length-append}
+use Rattle.sftp_treefile.specs.Limits.{usual_limits}
 use Rattle.sftp_treefile.specs.TreeFile.{place_of, IsPlaceText, AreRows}
 use Rattle.sftp_tree.specs.PictureParts.{IsKnown, IsGrown}
 use Rattle.sftp_tree.proofs.PictureNumbers.{rows_join}
@@ -16,14 +17,14 @@ loop-row-init c =
       count = rw (gives.0, gives.1) c.args.rows.ok.0;
       few = rw gives.0 c.requires.count;
       before = tt;
-      rows = subst (AreRows []) (sym gives.0) c.requires.rows;
+      rows = subst (AreRows usual_limits []) (sym gives.0) c.requires.rows;
       grown = grown_root c.args.root c.new-names.result.entries c.insert.new.self.entries c.new-files.result.entries c.root.result c.new-names.ensures.empty c.root.ensures c.in_ok-insert.ensures.entries c.new-files.ensures.empty;
       numbers = c.new-numbers.ensures.items;
     }
 
 pub place_of-requires : goal.place_of-requires
 place_of-requires c =
-    let left = subst (AreRows c.loop-row.yielded) c.in-Some.ensures.steps.0 c.loop-row.invariant.rows in
+    let left = subst (AreRows usual_limits c.loop-row.yielded) c.in-Some.ensures.steps.0 c.loop-row.invariant.rows in
     subst IsPlaceText (sym c.as_slice.ensures) left.0.path
 
 pub overflow_cast-next : goal.overflow_cast-next
@@ -33,7 +34,7 @@ overflow_cast-next c =
 
 pub node_of-requires-clause-known : goal.node_of-requires-clause-known
 node_of-requires-clause-known c =
-    let left = subst (AreRows c.loop-row.yielded) c.in-Some.ensures.steps.0 c.loop-row.invariant.rows in
+    let left = subst (AreRows usual_limits c.loop-row.yielded) c.in-Some.ensures.steps.0 c.loop-row.invariant.rows in
     subst (λ ns. IsKnown ns c.in-Some.row.kind) (sym (c.deref.ensures.value ∙ c.loop-row.invariant.numbers)) (kind_known c.loop-row.yielded c.in-Some.row.kind left.0.kind)
 
 pub node_of-requires-clause-room : goal.node_of-requires-clause-room
@@ -46,7 +47,7 @@ loop-row-preserved c =
     let at = c.loop-row in
     let row = c.in-Some.row in
     let steps : into_iter_items at.row-iterator ≡ row ∷ into_iter_items c.next.new.self = c.in-Some.ensures.steps.0 in
-    let left : AreRows at.yielded (row ∷ into_iter_items c.next.new.self) = subst (AreRows at.yielded) steps at.invariant.rows in
+    let left : AreRows usual_limits at.yielded (row ∷ into_iter_items c.next.new.self) = subst (AreRows usual_limits at.yielded) steps at.invariant.rows in
     let numbers = c.deref.ensures.value ∙ at.invariant.numbers in
     let next = c.len-next.ensures.len ∙ many_files c.args.root at.yielded at.names.entries at.files.entries at.invariant.grown in
     record {

@@ -1,5 +1,5 @@
 -- The root alone.
-use Rattle.std.proofs.Common.{sym, subst}
+use Rattle.std.proofs.Common.{[], sym, subst}
 use Rattle.sftp_tree.specs.Tree.{IsKept}
 use Rattle.sftp_tree.proofs.PictureFiles.{blank_kept}
 use Rattle.sftp_tree.proofs.PictureStores.{grown_root}
@@ -8,4 +8,4 @@ use Rattle.sftp_tree.proofs.trees.Tree.blank.Goals as goal
 pub from_parts-requires-clause-kept : goal.from_parts-requires-clause-kept
 from_parts-requires-clause-kept c =
     let g = grown_root _ _ _ _ _ c.new-names.ensures.empty c.root.ensures c.in_ok-insert.ensures.entries c.new-files.ensures.empty in
-    subst IsKept (λ i. record { names = sym g.names_are i; files = sym g.contents_are i; made = 0; home = sym c.root-2.ensures i; uid = 0; gid = 0 }) blank_kept
+    subst IsKept (λ i. record { names = sym g.names_are i; files = sym g.contents_are i; made = 0; pins = []; limits = sym c.usual_limits.ensures i; home = sym c.root-home.ensures i; uid = 0; gid = 0 }) blank_kept

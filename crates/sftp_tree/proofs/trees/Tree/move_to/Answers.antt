@@ -1,39 +1,58 @@
-use Rattle.std.proofs.Common.{◌≡◌, ℕ, ◌+◌, ◌∷◌, ◌++◌, refl, sym, ap, subst, ◌∙◌, None}
-use Rattle.sftp_path.specs.Place.{Name, Place}
+use Rattle.std.proofs.Common.{◌≡◌, ℕ, ◌+◌, ◌∷◌, ◌++◌, false, refl, sym, ap, subst, ◌∙◌, None, IsTrue}
+use Rattle.sftp_path.specs.Place.{Name, Place, parent, begins}
 use Rattle.sftp_path.specs.Rekeying.{rekeyed}
-use Rattle.sftp_tree.specs.Tree.{Tree, IsKept, node_at, without_node, times_named, trim}
-use Rattle.sftp_tree.specs.Steps.{put_in_its_stead}
-use Rattle.sftp_tree.specs.Stored.{contents, AreCounted, IsChangedWhereNamed, file_named, without_a_name}
+use Rattle.sftp_treefile.specs.TreeFile.{same_place}
+use Rattle.sftp_tree.specs.Tree.{Tree, IsKept, is_directory, node_at, without_node, has_entries, times_named, trim}
+use Rattle.sftp_tree.specs.Steps.{goes_inside, put_in_its_stead}
+use Rattle.sftp_tree.specs.Stored.{seen, AreCounted, IsChangedWhereNamed, file_named, without_a_name}
+use Rattle.sftp_tree.proofs.KeepMoves.{kept-move}
+use Rattle.sftp_tree.proofs.KeepPlaces.{apart-from, alone-there}
 use Rattle.sftp_tree.proofs.StoredNames.{one_name}
-use Rattle.sftp_tree.proofs.StoredTrees.{seen, name-to-lose, left-parts}
+use Rattle.sftp_tree.proofs.StoredTrees.{name-to-lose, left-parts}
 use Rattle.sftp_tree.proofs.MovedNames.{named-moved}
 use Rattle.sftp_tree.proofs.trees.Tree.move_to.Goals as goal
 
+-- the new place is not below the old one, and nothing stands below it
+apart : (t : Tree) (old new : Place) → IsKept t → goes_inside t.names old new ≡ false → same_place old new ≡ false → IsTrue (is_directory (node_at t.names (parent new))) → begins old new ≡ false
+apart t old new kept = apart-from t.names old new kept.well_formed.parents
+
+alone : (inside t : Tree) (new : Place) → inside ≡ t → has_entries t.names new ≡ false → (n : Name) (ns : Place) → node_at inside.names (new ++ n ∷ ns) ≡ None
+alone inside t new is empty = alone-there inside.names new (ap (λ (t : Tree). has_entries t.names new) is ∙ empty)
+
+pub move_node-requires-clause-apart : goal.move_node-requires-clause-apart
+move_node-requires-clause-apart c =
+    apart c.args.self.now c.args.old.now c.args.new (subst IsKept c.self.view_is c.self.invariant.0) c.requires.outside c.requires.elsewhere c.requires.parent
+
+pub move_node-requires-clause-alone : goal.move_node-requires-clause-alone
+move_node-requires-clause-alone c = alone _ c.args.self.now c.args.new c.self.view_is c.requires.alone
+
 pub forget_name-requires : goal.forget_name-requires
 forget_name-requires c =
-    name-to-lose (seen c.self.inside.names.entries c.self.inside.files.entries c.self.inside.made c.self.inside.home c.self.inside.uid c.self.inside.gid) c.self.inside.files.entries c.self.invariant.0.trimmed refl c.self.invariant.1 c.file_named.result
+    name-to-lose (seen c.self.inside.names.entries c.self.inside.files.entries c.self.inside.made c.self.inside.limits c.self.inside.home c.self.inside.uid c.self.inside.gid) c.self.inside.files.entries c.self.invariant.0.trimmed refl refl c.self.invariant.1 c.file_named.result
 
 -- the tree afterwards, and its counts
-parts : (c : goal.Joined-gone) → (seen c.move_node.new.names.entries c.forget_name.new.files.entries c.self.inside.made c.self.inside.home c.self.inside.uid c.self.inside.gid ≡ trim (put_in_its_stead c.args.self.now c.args.old.now c.args.new)) × AreCounted c.move_node.new.names.entries c.forget_name.new.files.entries
+parts : (c : goal.Joined-gone) → (seen c.move_node.new.names.entries c.forget_name.new.files.entries c.self.inside.made c.self.inside.limits c.self.inside.home c.self.inside.uid c.self.inside.gid ≡ trim (put_in_its_stead c.args.self.now c.args.old.now c.args.new)) × AreCounted c.move_node.new.names.entries c.forget_name.new.files.entries
 parts c =
     let names = c.self.inside.names.entries in
     let old = c.args.old.now in
     let new = c.args.new in
     let gone = node_at names new in
-    let alone : (n : Name) (ns : Place) → node_at names (new ++ n ∷ ns) ≡ None = λ n ns. ap (λ (t : Tree). node_at t.names (new ++ n ∷ ns)) c.self.view_is ∙ c.requires.alone n ns in
     let is : c.move_node.new.names.entries ≡ rekeyed old new (without_node names new) = c.in_ok-gone.ensures.moved in
     let less : (number : ℕ) → times_named c.move_node.new.names.entries number + one_name gone number ≡ times_named names number =
-    λ number. ap (λ ns. times_named ns number + one_name gone number) is ∙ named-moved names old new c.self.invariant.0.well_formed.ordered alone gone refl number in
+    λ number. ap (λ ns. times_named ns number + one_name gone number) is ∙ named-moved names old new c.self.invariant.0.well_formed.ordered (alone _ c.args.self.now new c.self.view_is c.requires.alone) gone refl number in
     let named : c.file_named.result ≡ file_named gone = c.file_named.ensures ∙ ap file_named (c.as_ref.ensures.value ∙ c.in_ok-gone.ensures.gone) in
     let changed = subst (λ named. IsChangedWhereNamed without_a_name named c.self.inside.files.entries c.forget_name.new.files.entries) named c.forget_name.ensures in
-    let both = left-parts names c.self.inside.files.entries c.self.inside.made c.self.inside.home c.self.inside.uid c.self.inside.gid c.self.invariant.0 c.self.invariant.1 gone c.move_node.new.names.entries c.forget_name.new.files.entries less changed in (
-      both.0 ∙ ap (λ ns. trim (record { names = ns; files = contents c.self.inside.files.entries; made = c.self.inside.made; home = c.self.inside.home; uid = c.self.inside.uid; gid = c.self.inside.gid })) is
+    let both = left-parts names c.self.inside.files.entries c.self.inside.made c.self.inside.limits c.self.inside.home c.self.inside.uid c.self.inside.gid c.self.invariant.0 c.self.invariant.1 gone c.move_node.new.names.entries c.forget_name.new.files.entries less changed in (
+      both.0 ∙ ap (λ ns. trim (seen ns c.self.inside.files.entries c.self.inside.made c.self.inside.limits c.self.inside.home c.self.inside.uid c.self.inside.gid)) is
           ∙ ap (λ (t : Tree). trim (put_in_its_stead t old new)) c.self.view_is,
       both.1,
     )
 
 pub invariant_of-self-2 : goal.invariant_of-self-2
-invariant_of-self-2 c = (subst IsKept (sym (parts c).0) c.requires.kept, (parts c).1)
+invariant_of-self-2 c =
+    let before : IsKept c.args.self.now = subst IsKept c.self.view_is c.self.invariant.0 in
+    let kept = kept-move c.args.self.now c.args.old.now c.args.new before c.requires.named c.requires.old_below_root c.requires.new_below_root (apart c.args.self.now c.args.old.now c.args.new before c.requires.outside c.requires.elsewhere c.requires.parent) c.requires.parent c.requires.alone c.requires.fits in
+    (subst IsKept (sym (parts c).0) kept, (parts c).1)
 
 pub returns-clause-ok : goal.returns-clause-ok
 returns-clause-ok c = (parts c).0

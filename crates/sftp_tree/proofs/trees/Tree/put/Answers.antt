@@ -1,23 +1,29 @@
 use Rattle.std.proofs.Common.{◌≡◌, sym, ap, subst, ◌∙◌, None}
 use Rattle.sftp_path.specs.Table.{put}
 use Rattle.sftp_tree.specs.Tree.{Tree, IsKept, node_at, with_node}
-use Rattle.sftp_tree.specs.Stored.{AreCounted, IsChangedWhereNamed, with_a_name}
-use Rattle.sftp_tree.proofs.StoredTrees.{seen, room-to-count, put-parts}
+use Rattle.sftp_tree.specs.Stored.{seen, AreCounted, IsChangedWhereNamed, with_a_name}
+use Rattle.sftp_tree.proofs.KeepTrim.{trimmed-already}
+use Rattle.sftp_tree.proofs.StepKept.{kept-put}
+use Rattle.sftp_tree.proofs.StoredTrees.{room-to-count, put-parts}
 use Rattle.sftp_tree.proofs.trees.Tree.put.Goals as goal
 
 pub count_name-requires : goal.count_name-requires
 count_name-requires c = room-to-count _ c.self.inside.files.entries c.self.invariant.0 c.self.invariant.1 c.file_named-named.result
 
-parts : (c : goal.After-count_name) → (seen c.insert.new.self.entries c.count_name.new.files.entries c.self.inside.made c.self.inside.home c.self.inside.uid c.self.inside.gid ≡ record c.args.self.now { names = with_node c.args.self.now.names c.args.place c.args.node }) × AreCounted c.insert.new.self.entries c.count_name.new.files.entries
+parts : (c : goal.After-count_name) → (seen c.insert.new.self.entries c.count_name.new.files.entries c.self.inside.made c.self.inside.limits c.self.inside.home c.self.inside.uid c.self.inside.gid ≡ record c.args.self.now { names = with_node c.args.self.now.names c.args.place c.args.node }) × AreCounted c.insert.new.self.entries c.count_name.new.files.entries
 unfolding put
 parts c =
     let absent : node_at c.self.inside.names.entries c.args.place ≡ None = ap (λ (t : Tree). node_at t.names c.args.place) c.self.view_is ∙ c.requires.absent in
     let changed = subst (λ named. IsChangedWhereNamed with_a_name named c.self.inside.files.entries c.count_name.new.files.entries) c.file_named-named.ensures c.count_name.ensures in
-    let both = put-parts c.self.inside.names.entries c.self.inside.files.entries c.self.inside.made c.self.inside.home c.self.inside.uid c.self.inside.gid c.args.place c.args.node c.self.invariant.0 c.self.invariant.1 absent c.insert.new.self.entries c.count_name.new.files.entries c.in_ok-insert.ensures.entries changed in
+    let both = put-parts c.self.inside.names.entries c.self.inside.files.entries c.self.inside.made c.self.inside.limits c.self.inside.home c.self.inside.uid c.self.inside.gid c.args.place c.args.node c.self.invariant.0 c.self.invariant.1 absent c.insert.new.self.entries c.count_name.new.files.entries c.in_ok-insert.ensures.entries changed in
     (both.0 ∙ ap (λ (t : Tree). record t { names = with_node t.names c.args.place c.args.node }) c.self.view_is, both.1)
 
+kept : (c : goal.After-count_name) → IsKept (record c.args.self.now { names = with_node c.args.self.now.names c.args.place c.args.node })
+kept c =
+    kept-put c.args.self.now c.args.place c.args.node (subst IsKept c.self.view_is c.self.invariant.0) c.requires.named c.requires.absent c.requires.parent c.requires.node c.requires.fits
+
 pub invariant_of-self-2 : goal.invariant_of-self-2
-invariant_of-self-2 c = (subst IsKept (sym (parts c).0) c.requires.kept, (parts c).1)
+invariant_of-self-2 c = (subst IsKept (sym (parts c).0) (kept c), (parts c).1)
 
 pub returns-clause-ok : goal.returns-clause-ok
-returns-clause-ok c = (parts c).0
+returns-clause-ok c = (parts c).0 ∙ sym (trimmed-already _ (kept c).trimmed)

@@ -18,4 +18,4 @@ returns-clause-found c =
 
 pub returns-clause-only : goal.returns-clause-only
 returns-clause-only c = λ t start.
-    c.in_ok-tree.ensures ∙ ap tree_of (c.in_ok-file.ensures.only (file_of t) (spelled_of_start t c.args.bytes.now start)) ∙ tree_again t (kept_of_start t c.args.bytes.now start) start.numbered
+    c.in_ok-tree.ensures ∙ ap tree_of (c.in_ok-file.ensures.only (file_of t) (spelled_of_start t c.args.bytes.now start)) ∙ tree_again t (kept_of_start t c.args.bytes.now start) start.unpinned start.numbered

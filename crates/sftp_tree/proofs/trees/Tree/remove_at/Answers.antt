@@ -1,17 +1,18 @@
 use Rattle.std.proofs.Common.{◌≡◌, ℕ, ◌+◌, refl, sym, ap, subst, ◌∙◌}
 use Rattle.sftp_path.specs.Table.{get, without}
 use Rattle.sftp_tree.specs.Tree.{Tree, IsKept, node_at, without_node, times_named, trim}
-use Rattle.sftp_tree.specs.Stored.{contents, AreCounted, IsChangedWhereNamed, file_named, without_a_name}
+use Rattle.sftp_tree.specs.Stored.{seen, AreCounted, IsChangedWhereNamed, file_named, without_a_name}
+use Rattle.sftp_tree.proofs.StepKept.{kept-without}
 use Rattle.sftp_tree.proofs.StoredNames.{one_name, named-without}
-use Rattle.sftp_tree.proofs.StoredTrees.{seen, name-to-lose, left-parts}
+use Rattle.sftp_tree.proofs.StoredTrees.{name-to-lose, left-parts}
 use Rattle.sftp_tree.proofs.trees.Tree.remove_at.Goals as goal
 
 pub forget_name-requires : goal.forget_name-requires
 forget_name-requires c =
-    name-to-lose (seen c.self.inside.names.entries c.self.inside.files.entries c.self.inside.made c.self.inside.home c.self.inside.uid c.self.inside.gid) c.self.inside.files.entries c.self.invariant.0.trimmed refl c.self.invariant.1 c.file_named.result
+    name-to-lose (seen c.self.inside.names.entries c.self.inside.files.entries c.self.inside.made c.self.inside.limits c.self.inside.home c.self.inside.uid c.self.inside.gid) c.self.inside.files.entries c.self.invariant.0.trimmed refl refl c.self.invariant.1 c.file_named.result
 
 -- the tree afterwards, and its counts
-parts : (c : goal.Joined-gone) → (seen c.remove-gone.new.self.entries c.forget_name.new.files.entries c.self.inside.made c.self.inside.home c.self.inside.uid c.self.inside.gid ≡ trim (record c.args.self.now { names = without_node c.args.self.now.names c.args.place.now })) × AreCounted c.remove-gone.new.self.entries c.forget_name.new.files.entries
+parts : (c : goal.Joined-gone) → (seen c.remove-gone.new.self.entries c.forget_name.new.files.entries c.self.inside.made c.self.inside.limits c.self.inside.home c.self.inside.uid c.self.inside.gid ≡ trim (record c.args.self.now { names = without_node c.args.self.now.names c.args.place.now })) × AreCounted c.remove-gone.new.self.entries c.forget_name.new.files.entries
 unfolding get without
 parts c =
     let names = c.self.inside.names.entries in
@@ -21,14 +22,16 @@ parts c =
     λ number. ap (λ ns. times_named ns number + one_name gone number) is ∙ named-without names c.args.place.now gone refl number in
     let named : c.file_named.result ≡ file_named gone = c.file_named.ensures ∙ ap file_named (c.as_ref.ensures.value ∙ c.remove-gone.ensures.value) in
     let changed = subst (λ named. IsChangedWhereNamed without_a_name named c.self.inside.files.entries c.forget_name.new.files.entries) named c.forget_name.ensures in
-    let both = left-parts names c.self.inside.files.entries c.self.inside.made c.self.inside.home c.self.inside.uid c.self.inside.gid c.self.invariant.0 c.self.invariant.1 gone c.remove-gone.new.self.entries c.forget_name.new.files.entries less changed in (
-      both.0 ∙ ap (λ ns. trim (record { names = ns; files = contents c.self.inside.files.entries; made = c.self.inside.made; home = c.self.inside.home; uid = c.self.inside.uid; gid = c.self.inside.gid })) is
+    let both = left-parts names c.self.inside.files.entries c.self.inside.made c.self.inside.limits c.self.inside.home c.self.inside.uid c.self.inside.gid c.self.invariant.0 c.self.invariant.1 gone c.remove-gone.new.self.entries c.forget_name.new.files.entries less changed in (
+      both.0 ∙ ap (λ ns. trim (seen ns c.self.inside.files.entries c.self.inside.made c.self.inside.limits c.self.inside.home c.self.inside.uid c.self.inside.gid)) is
           ∙ ap (λ (t : Tree). trim (record t { names = without_node t.names c.args.place.now })) c.self.view_is,
       both.1,
     )
 
 pub invariant_of-self : goal.invariant_of-self
-invariant_of-self c = (subst IsKept (sym (parts c).0) c.requires, (parts c).1)
+invariant_of-self c =
+    let kept = kept-without c.args.self.now c.args.place.now (subst IsKept c.self.view_is c.self.invariant.0) c.requires.below_root c.requires.empty in
+    (subst IsKept (sym (parts c).0) kept, (parts c).1)
 
 pub returns : goal.returns
 returns c = (parts c).0

@@ -1,24 +1,29 @@
 use Rattle.std.proofs.Common.{◌≡◌, sym, ap, subst, ◌∙◌, IsTrue}
 use Rattle.sftp_tree.specs.declared.nodes.Node.TheVariants.{Dir}
 use Rattle.sftp_tree.specs.Tree.{Tree, IsKept, node_at, with_node, is_directory}
-use Rattle.sftp_tree.specs.Stored.{contents, AreCounted}
-use Rattle.sftp_tree.proofs.StoredTrees.{seen, owner-parts}
+use Rattle.sftp_tree.specs.Stored.{seen, AreCounted}
+use Rattle.sftp_tree.proofs.KeepTrim.{trimmed-already}
+use Rattle.sftp_tree.proofs.KeepValues.{kept-owner-there}
+use Rattle.sftp_tree.proofs.StoredTrees.{owner-parts}
 use Rattle.sftp_tree.proofs.trees.Tree.set_owner.Goals as goal
 
 -- the tree afterwards
-tree : (c : goal.After-replace) → seen c.replace.new.names.entries c.self.inside.files.entries c.self.inside.made c.self.inside.home c.self.inside.uid c.self.inside.gid ≡ record c.args.self.now { names = with_node c.args.self.now.names c.args.place.now (Dir c.args.owner) }
+tree : (c : goal.After-replace) → seen c.replace.new.names.entries c.self.inside.files.entries c.self.inside.made c.self.inside.limits c.self.inside.home c.self.inside.uid c.self.inside.gid ≡ record c.args.self.now { names = with_node c.args.self.now.names c.args.place.now (Dir c.args.owner) }
 tree c =
-    (λ i. record { names = c.replace.ensures i; files = contents c.self.inside.files.entries; made = c.self.inside.made; home = c.self.inside.home; uid = c.self.inside.uid; gid = c.self.inside.gid })
+    (λ i. seen (c.replace.ensures i) c.self.inside.files.entries c.self.inside.made c.self.inside.limits c.self.inside.home c.self.inside.uid c.self.inside.gid)
     ∙ ap (λ (t : Tree). record t { names = with_node t.names c.args.place.now (Dir c.args.owner) }) c.self.view_is
 
 -- its counts
 counts : (c : goal.After-replace) → AreCounted c.replace.new.names.entries c.self.inside.files.entries
 counts c =
     let directory : IsTrue (is_directory (node_at c.self.inside.names.entries c.args.place.now)) = ap (λ (t : Tree). is_directory (node_at t.names c.args.place.now)) c.self.view_is ∙ c.requires.directory in
-    owner-parts c.self.inside.names.entries c.self.inside.files.entries c.self.inside.made c.self.inside.home c.self.inside.uid c.self.inside.gid c.self.invariant.0 c.self.invariant.1 c.args.place.now c.args.owner directory c.replace.new.names.entries c.replace.ensures
+    owner-parts c.self.inside.names.entries c.self.inside.files.entries c.self.inside.made c.self.inside.limits c.self.inside.home c.self.inside.uid c.self.inside.gid c.self.invariant.0 c.self.invariant.1 c.args.place.now c.args.owner directory c.replace.new.names.entries c.replace.ensures
+
+kept : (c : goal.After-replace) → IsKept (record c.args.self.now { names = with_node c.args.self.now.names c.args.place.now (Dir c.args.owner) })
+kept c = kept-owner-there c.args.self.now c.args.place.now c.args.owner (subst IsKept c.self.view_is c.self.invariant.0) c.requires.directory c.requires.owner
 
 pub invariant_of-self : goal.invariant_of-self
-invariant_of-self c = (subst IsKept (sym (tree c)) c.requires.kept, counts c)
+invariant_of-self c = (subst IsKept (sym (tree c)) (kept c), counts c)
 
 pub returns : goal.returns
-returns c = tree c
+returns c = tree c ∙ sym (trimmed-already _ (kept c).trimmed)

@@ -1,0 +1,5 @@
+use Rattle.sftp_tree.proofs.KeepFiles.{limits-stay}
+use Rattle.sftp_tree.proofs.laws.limits_stay.Goals as goal
+
+pub returns : goal.returns
+returns c = record { target = limits-stay; after = limits-stay }

@@ -1,0 +1,8 @@
+-- The entries to come decide.
+use Rattle.std.proofs.Common.{◌≡◌}
+use Rattle.sftp_tree.specs.Room.{reaches_at_most}
+use Rattle.sftp_tree.proofs.CauseMoves.{row_reaches}
+use Rattle.sftp_tree.proofs.room.reaches_at_most.Given as goal
+
+abbrev pub invariant-loop-place : goal.invariant-loop-place
+invariant-loop-place l = row_reaches l.top l.limit l.place-iterator ≡ reaches_at_most l.names.entries l.top l.limit
