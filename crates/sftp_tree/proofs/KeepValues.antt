@@ -14,13 +14,13 @@ use Rattle.sftp_treefile.specs.TreeFile.{IsOwner}
 use Rattle.sftp_tree.specs.declared.contents.Content.{Content}
 use Rattle.sftp_tree.specs.declared.nodes.Node.{Node}
 use Rattle.sftp_tree.specs.declared.nodes.Node.TheVariants.{Dir, File, Link}
-use Rattle.sftp_tree.specs.Tree.{Names, Files, Tree, WellFormed, IsKept, IsNode, IsContent, limits, fits, content_fits, is_directory, node_at, with_node, content_at, with_content, names_file, times_named, is_named, is_pinned, is_held}
+use Rattle.sftp_tree.specs.Tree.{Names, Files, Tree, WellFormed, IsKept, IsNode, IsContent, limits, fits, is_directory, node_at, with_node, content_at, with_content, names_file, times_named, is_named, is_pinned, is_held}
 use Rattle.sftp_tree.specs.Attributes.{changed_owner, changed_content}
 use Rattle.sftp_tree.specs.Steps.{with_changed_file}
 use Rattle.sftp_tree.proofs.KeepFields.{sized-bytes}
 use Rattle.sftp_tree.proofs.KeepTables.{each-weaker, each-get, each-put}
 use Rattle.sftp_tree.proofs.KeepFits.{fits-parts, fits-from}
-use Rattle.sftp_tree.proofs.KeepLimits.{entries-again, depths-again, links-again, files-again}
+use Rattle.sftp_tree.proofs.KeepLimits.{entries-again, depths-again, links-again}
 use Rattle.sftp_tree.proofs.KeepNames.{names-of, names-owner, well-formed-names}
 
 -- ---- another owner of a directory
@@ -102,18 +102,6 @@ well-formed-content t number before content well there is_content = record {
   gid = well.gid;
 }
 
-pub fits-content : (t : Tree) (number : ℕ) (content : Content) → IsTrue (fits t) → IsTrue (content_fits (limits t) content) → IsTrue (fits (record t { files = with_content t.files number content }))
-fits-content t number content within small =
-    let parts = fits-parts t within in
-    fits-from (record t { files = with_content t.files number content }) (record {
-      entries = parts.entries;
-      depths = parts.depths;
-      home = parts.home;
-      links = parts.links;
-      files = files-again t number content parts.files small;
-      numbers = parts.numbers;
-    })
-
 pub kept-content-within : (t : Tree) (number : ℕ) (before content : Content) → IsKept t → content_at t.files number ≡ Some before → IsContent content → IsTrue (fits (record t { files = with_content t.files number content })) → IsKept (record t { files = with_content t.files number content })
 kept-content-within t number before content kept there is_content within = record {
   well_formed = well-formed-content t number before content kept.well_formed there is_content;
@@ -122,10 +110,6 @@ kept-content-within t number before content kept there is_content within = recor
       each-put nat_cmp nat_cmp-IsAntisymmetric nat_cmp_total (λ e. IsTrue (is_held t e.0)) t.files number content kept.well_formed.numbered
       (each-get nat_cmp nat_cmp-IsAntisymmetric (λ e. IsTrue (is_held t e.0)) t.files number before kept.trimmed there) kept.trimmed;
 }
-
-pub kept-content : (t : Tree) (number : ℕ) (before content : Content) → IsKept t → content_at t.files number ≡ Some before → IsContent content → IsTrue (content_fits (limits t) content) → IsKept (record t { files = with_content t.files number content })
-kept-content t number before content kept there is_content small =
-    kept-content-within t number before content kept there is_content (fits-content t number content kept.within_limits small)
 
 -- with its attributes set, where the limits allow it
 pub kept-changed : (t : Tree) (attrs : Attrs) (number : ℕ) → IsKept t → ((content : Content) → content_at t.files number ≡ Some content → IsOwner (changed_owner attrs content.owner)) → IsTrue (fits (with_changed_file t attrs number (content_at t.files number))) → IsKept (with_changed_file t attrs number (content_at t.files number))

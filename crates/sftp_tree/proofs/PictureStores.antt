@@ -1,27 +1,24 @@
 -- The files of the rows so far, as the code keeps them: each with the count of its names.
-use Rattle.std.proofs.Common.{◌≡◌, ◌≢◌, ℕ, zero, suc, ◌+◌, ◌-◌, ◌^◌, ◌<◌, ◌≤◌, ◌==◌, Bool, true, false, cond, if◌then◌else◌, List, [], ◌∷◌, ◌++◌, length, take, Option, Some, None, refl, sym, ap, subst, ◌∙◌, arith}
-use Rattle.std.specs.Prelude.{IsTrue, is_some, not, slice_index}
-use Rattle.std.specs.BTreeMap.{insert_entry, is_at}
+use Rattle.std.proofs.Common.{◌≡◌, ◌≢◌, ℕ, zero, suc, ◌+◌, ◌-◌, ◌^◌, ◌<◌, ◌≤◌, Bool, true, false, cond, if◌then◌else◌, List, [], ◌∷◌, ◌++◌, length, take, Option, Some, None, refl, sym, ap, subst, ◌∙◌, arith}
+use Rattle.std.specs.Prelude.{IsTrue, not, slice_index}
 use Rattle.std.specs.List.{filter, AllByRecursion}
 use Rattle.std.specs.List.Sorted.{IsStrictlySortedBy}
-use Rattle.std.specs.Map.{keys_of, lookup, set_value}
-use Rattle.std.specs.Option.{option_map, IfSome}
+use Rattle.std.specs.Map.{keys_of}
+use Rattle.std.specs.Option.{IfSome}
 use Rattle.std.specs.Ordering.{nat_cmp, is_eq, ordering_reverse}
 use Rattle.std.specs.declared.cmp.Ordering.TheVariants.{Less}
 use Rattle.std.specs.Cmp.{nat_cmp_total, nat_cmp_is}
 use Rattle.std.specs.FinMap.{nat_cmp-IsAntisymmetric}
-use Rattle.std.proofs.lemmas.Bool.{eqb-true, eq-eqb, ne_eqb}
-use Rattle.std.proofs.lemmas.Cmp.{ranked}
+use Rattle.std.proofs.lemmas.Bool.{eq-eqb, ne_eqb}
 use Rattle.std.proofs.lemmas.List.{length-append, append-nil, length-map}
 use Rattle.std.proofs.lemmas.List.Elements.{filter-append}
 use Rattle.std.proofs.lemmas.List.Filters.{length-filter_both}
 use Rattle.std.proofs.lemmas.Map.Made.{keys_of-map_values}
-use Rattle.std.proofs.lemmas.Map.Keys.{sorted_head, sorted_tail}
 use Rattle.sftp_path.specs.Place.{Place, place_cmp, parent}
 use Rattle.sftp_path.specs.Table.{InOrder, get, put, retain}
 use Rattle.sftp_path.proofs.Order.{place_cmp-total}
 use Rattle.sftp_path.proofs.TableLaws.{get-empty, get-cons}
-use Rattle.sftp_path.proofs.ValueLaws.{get-with_values, with_values-put}
+use Rattle.sftp_path.proofs.ValueLaws.{with_values-put}
 use Rattle.sftp_treefile.specs.declared.files.Owner.{Owner}
 use Rattle.sftp_treefile.specs.declared.files.Kind.{Kind}
 use Rattle.sftp_treefile.specs.declared.files.Kind.TheVariants as kinds
@@ -33,7 +30,7 @@ use Rattle.sftp_tree.specs.declared.contents.Content.{Content}
 use Rattle.sftp_tree.specs.declared.contents.Stored.{Stored}
 use Rattle.sftp_tree.specs.declared.nodes.Node.{Node}
 use Rattle.sftp_tree.specs.declared.nodes.Node.TheVariants.{Dir, File, Link}
-use Rattle.sftp_tree.specs.Tree.{Names, Files, node_at, with_node, is_directory, content_at, names_file, times_named}
+use Rattle.sftp_tree.specs.Tree.{Names, Files, node_at, with_node, is_directory, names_file, times_named}
 use Rattle.sftp_tree.specs.Stored.{contents, seen, AreCounted, file_named, IsChangedWhereNamed, with_a_name}
 use Rattle.sftp_tree.specs.PictureParts.{content_of, contents_of, node_of, only_root, names_of, numbered_from, numbers_from, known_number, known_node, IsKnown, Stores, HaveRoom, AreWithEntry, IsGrown, tree_of}
 use Rattle.sftp_tree.proofs.KeepTables.{each-get}
@@ -41,8 +38,8 @@ use Rattle.sftp_tree.proofs.StoredNames.{raised}
 use Rattle.sftp_tree.proofs.PictureLists.{all_both, all_from_map, insert_last}
 use Rattle.sftp_tree.proofs.PictureTables.{later_than_all, row_parent, bare_names}
 use Rattle.sftp_tree.proofs.PictureShapes.{bare, directory_bare, names_bare}
-use Rattle.sftp_tree.proofs.PictureNumbers.{made_by, made_few, contents_split, FirstAt, first_at, made_front, front_taken, names_push, length-entries, IsBelow, AreBelow, all_below}
-use Rattle.sftp_tree.proofs.PictureContents.{number_is, numbered_there, each_number, numbered_order}
+use Rattle.sftp_tree.proofs.PictureNumbers.{made_by, made_few, contents_split, FirstAt, first_at, names_push, length-entries, IsBelow, AreBelow, all_below}
+use Rattle.sftp_tree.proofs.PictureContents.{each_number, numbered_order}
 
 -- ---- room for a name more
 

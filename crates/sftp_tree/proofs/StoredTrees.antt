@@ -9,7 +9,7 @@ use Rattle.std.proofs.lemmas.Option.{same_Some}
 use Rattle.std.proofs.lemmas.List.Filters.{length-filter_both}
 use Rattle.std.proofs.Math.Bool.{or-false}
 use Rattle.std.proofs.lemmas.Map.Made.{keys_of-map_values}
-use Rattle.sftp_path.specs.Place.{Place, place_cmp}
+use Rattle.sftp_path.specs.Place.{Place}
 use Rattle.sftp_path.specs.Table.{Table, InOrder, get, retain}
 use Rattle.sftp_path.proofs.TableLaws.{get-empty}
 use Rattle.sftp_path.proofs.ValueLaws.{get-with_values}
