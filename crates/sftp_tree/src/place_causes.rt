@@ -5,8 +5,8 @@ ghost use Rattle.sftp_tree.specs.Sets.{in_set};
 ghost use Rattle.sftp_tree.specs.Steps as steps;
 
 use crate::asks::PathAsk;
-use crate::entries::is_below;
 use crate::causes::{Cause, Causes};
+use crate::entries::is_below;
 use crate::found::{is_directory, is_file, is_link, is_root, is_taken};
 use crate::nodes::Node;
 use crate::trees::Tree;

@@ -9,12 +9,12 @@ ghost use Rattle.sftp_tree.specs.Ends.{LeadTo, AreWell};
 ghost use Rattle.sftp_tree.specs.Sets.{IsFree, IsRefusal};
 ghost use Rattle.sftp_tree.specs.Plans as spec;
 
-use crate::file_numbers::FileNo;
-use crate::owners::changed_owner;
 use crate::asks::PathAsk;
 use crate::causes::Refused;
 use crate::ends::Places;
+use crate::file_numbers::FileNo;
 use crate::nodes::Node;
+use crate::owners::changed_owner;
 use crate::trees::Tree;
 use sftp_path::{NoMemory, Place};
 use sftp_wire::{Attrs, ByteString};
