@@ -20,7 +20,7 @@ use Rattle.sftp_path.proofs.Move.Laws.{renamed-outside, length-renamed, size-rek
 use Rattle.sftp_path.proofs.Table.Entries.{without-absent}
 use Rattle.sftp_tree.specs.declared.nodes.Node.{Node}
 use Rattle.sftp_tree.specs.Tree.{Names, Tree, IsKept, limits, fits, depth_fits, link_fits, node_at, without_node, is_taken}
-use Rattle.sftp_tree.specs.Judged.{reaches_at_most, move_fits}
+use Rattle.sftp_tree.specs.Room.{reaches_at_most, move_fits}
 use Rattle.sftp_tree.specs.Steps.{moved, put_in_its_stead}
 use Rattle.sftp_tree.proofs.CauseRoom.{fits-names}
 use Rattle.sftp_tree.proofs.StepTables.{length-without}

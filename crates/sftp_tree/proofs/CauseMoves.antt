@@ -15,7 +15,7 @@ use Rattle.std.specs.Cmp.{Equal-is}
 use Rattle.sftp_path.specs.Place.{Place, name_cmp, place_cmp, same_bytes, begins}
 use Rattle.sftp_tree.specs.declared.nodes.Node.{Node}
 use Rattle.sftp_tree.specs.Tree.{Names}
-use Rattle.sftp_tree.specs.Judged.{reaches_at_most}
+use Rattle.sftp_tree.specs.Room.{reaches_at_most}
 use Rattle.sftp_tree.proofs.StepBelow.{between-names}
 
 -- ---- the places that a place begins stand in a row, from it on

@@ -11,7 +11,7 @@ use Rattle.sftp_path.proofs.Table.Tests.{all-put_new, all-without, values-put, k
 use Rattle.sftp_tree.specs.declared.contents.Content.{Content}
 use Rattle.sftp_tree.specs.declared.nodes.Node.{Node}
 use Rattle.sftp_tree.specs.Tree.{Names, Tree, limits, fits, entries_fit, depths_fit, links_fit, files_fit, depth_fits, link_fits, content_fits, node_at, with_node, without_node, content_at, with_content}
-use Rattle.sftp_tree.specs.Judged.{has_room}
+use Rattle.sftp_tree.specs.Room.{has_room}
 use Rattle.sftp_tree.proofs.StepTables.{length-without}
 use Rattle.sftp_tree.proofs.KeepFits.{Fits, fits-parts}
 use Rattle.sftp_tree.proofs.KeepLimits.{more-entries, fewer}

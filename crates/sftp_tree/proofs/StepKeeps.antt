@@ -21,11 +21,11 @@ use Rattle.sftp_tree.specs.declared.causes.Cause.TheVariants.{NoEntry, NotDir, E
 use Rattle.sftp_tree.specs.Tree.{Names, Tree, WellFormed, IsKept, IsNode, IsContent, fits, node_at, with_node, without_node, content_at, is_taken, is_directory, has_entries, trim}
 use Rattle.sftp_tree.specs.Walk.{reached}
 use Rattle.sftp_tree.specs.Attributes.{directory_owner, changed_owner, changed_content}
-use Rattle.sftp_tree.specs.Steps.{path_of, new_path_of, follows, led, new_led, causes_at, new_causes_at, causes_between, goes_inside, are_one, are_one_file, replacing_causes, with_changed_file, with_attributes, target_at, moved, put_in_its_stead, with_further_name, target_between, target, after}
+use Rattle.sftp_tree.specs.Steps.{path_of, new_path_of, follows, led, new_led, causes_at, new_causes_at, causes_between, goes_inside, are_one, exchanging_causes, with_changed_file, with_attributes, target_at, moved, put_in_its_stead, with_further_name, target_between, target, after}
 use Rattle.sftp_tree.specs.Sets.{IsFree}
 use Rattle.sftp_tree.proofs.KeepTables.{each-get}
 use Rattle.sftp_tree.proofs.KeepFields.{bytes-fit, owner-fits, changed-owner-fits, changed-content-fits}
-use Rattle.sftp_tree.proofs.KeepCauses.{free-at, free-between}
+use Rattle.sftp_tree.proofs.CauseLed.{free-at, free-between, target-is}
 use Rattle.sftp_tree.proofs.KeepPlaces.{apart-from, nothing-below, alone-there, second-false}
 use Rattle.sftp_tree.proofs.KeepNames.{names-of, names-put, names-owner, names-without, well-formed-names}
 use Rattle.sftp_tree.proofs.KeepValues.{well-formed-content}
@@ -33,8 +33,9 @@ use Rattle.sftp_tree.proofs.KeepMoves.{well-formed-moved, well-formed-in-stead}
 use Rattle.sftp_tree.proofs.KeepFits.{Stands}
 use Rattle.sftp_tree.proofs.KeepTrim.{kept-trim}
 use Rattle.sftp_tree.proofs.CallPlaces.{absent-of}
-use Rattle.sftp_tree.proofs.CauseLed.{target-led}
 use Rattle.sftp_tree.proofs.CauseMoved.{nothing-from}
+use Rattle.sftp_tree.proofs.CausePlaces.{MayLeave, free-place, name-place, may-leave, may-replace, outside-of, given-below}
+use Rattle.sftp_tree.proofs.PlanLaws.{can-remove-directory}
 
 -- ---- where the paths of a request lead
 
@@ -109,13 +110,6 @@ well-without : (t : Tree) (place : Place) → WellFormed t → is_root place ≡
 well-without t place well apart empty =
     well-formed-names t (without_node t.names place) well (names-without t.files t.names place (names-of t well) apart empty)
 
--- a directory that may be removed has no entries
-removed-empty : (found : Option Node) (has : Bool) → not (is_taken found) ≡ false → (is_taken found && not (is_directory found)) ≡ false → (is_directory found && has) ≡ false → has ≡ false
-removed-empty None has there directory empty = absurd cc
-removed-empty (Some (Dir owner)) has there directory empty = empty
-removed-empty (Some (File number)) has there directory empty = absurd cc
-removed-empty (Some (Link target)) has there directory empty = absurd cc
-
 well-file : (t : Tree) (attrs : Attrs) (number : ℕ) (o : Option Content) → content_at t.files number ≡ o → WellFormed t → FitsAttrs attrs → WellFormed (with_changed_file t attrs number o)
 well-file t attrs number None is well fits = well
 well-file t attrs number (Some content) is well fits =
@@ -132,12 +126,15 @@ well-attributes t attrs place (Some (File number)) is well fits = well-file t at
 well-attributes t attrs place (Some (Link target)) is well fits = well
 
 well-at : (t : Tree) (ask : Ask) (place : Place) → WellFormed t → FitsAsk ask → Led t place → ((c : Cause) → causes_at t ask place c ≡ false) → WellFormed (target_at t ask place)
-well-at t (Mkdir path attrs) place well fits leads none = well-with t place (Dir (directory_owner t attrs)) well leads (none Exists) (owner-fits t attrs well fits.1)
+well-at t (Mkdir path attrs) place well fits leads none = well-with t place (Dir (directory_owner t attrs)) well leads (ap is_taken (free-place (node_at t.names place) none)) (owner-fits t attrs well fits.1)
 well-at t (Rmdir path) place well fits leads none =
-    well-without t place well (none Root) (removed-empty (node_at t.names place) (has_entries t.names place) (none NoEntry) (none NotDir) (none NotEmpty))
-well-at t (Remove path) place well fits leads none = well-without t place well (not-root t place well (none IsDir)) (empty-there t place well (none IsDir))
+    let may = can-remove-directory t place none in
+    well-without t place well may.below_root may.empty
+well-at t (Remove path) place well fits leads none =
+    let other = name-place (node_at t.names place) none in
+    well-without t place well (not-root t place well other) (empty-there t place well other)
 well-at t (Setstat path attrs) place well fits leads none = well-attributes t attrs place (node_at t.names place) refl well fits.1
-well-at t (Symlink target link) place well fits leads none = well-with t place (Link target) well leads (none Exists) (bytes-fit target fits.0.bytes_fit)
+well-at t (Symlink target link) place well fits leads none = well-with t place (Link target) well leads (ap is_taken (free-place (node_at t.names place) none)) (bytes-fit target fits.0.bytes_fit)
 well-at t other place well fits leads none = well
 
 -- ---- requests with two paths
@@ -156,24 +153,12 @@ well-renamed t old new well leads there not_root free outside =
     let apart = apart-from t.names old new well.parents outside (taken-differs t.names old new there free) leads.above in
     well-formed-moved t old new well (free-from t new well (absent-of (node_at t.names new) free)) leads.named not_root apart leads.above
 
--- what is replaced has no entries
-replaced-empty : (t : Tree) (old new : Place) (b : Bool) → is_directory (node_at t.names new) ≡ b → WellFormed t → not (is_taken (node_at t.names old)) ≡ false → ((is_taken (node_at t.names old) && not (is_directory (node_at t.names old))) && is_directory (node_at t.names new)) ≡ false → (is_directory (node_at t.names old) && (is_directory (node_at t.names new) && has_entries t.names new)) ≡ false → has_entries t.names new ≡ false
-replaced-empty t old new false none well there is_dir empty = empty-there t new well none
-replaced-empty t old new true directory well there is_dir empty =
-    by (node_at t.names old) (is_directory (node_at t.names new)) (has_entries t.names new) directory there is_dir empty
-  where
-    by : (found : Option Node) (directory has : Bool) → directory ≡ true → not (is_taken found) ≡ false → ((is_taken found && not (is_directory found)) && directory) ≡ false → (is_directory found && (directory && has)) ≡ false → has ≡ false
-    by None directory has is there alike none = absurd cc
-    by (Some (Dir owner)) directory has is there alike none = second-false directory has is none
-    by (Some (File number)) directory has is there alike none = absurd (both_ways directory alike is)
-    by (Some (Link target)) directory has is there alike none = absurd (both_ways directory alike is)
-
-well-replaced : (t : Tree) (old new : Place) (one : Bool) → are_one t.names old new ≡ one → WellFormed t → Led t new → not (is_taken (node_at t.names old)) ≡ false → is_root old ≡ false → is_root new ≡ false → ((c : Cause) → (not one && replacing_causes t.names old new c) ≡ false) → WellFormed (if one then t else put_in_its_stead t old new)
-well-replaced t old new true is well leads there old_not_root new_not_root none = well
-well-replaced t old new false is well leads there old_not_root new_not_root none =
-    let apart = apart-from t.names old new well.parents (none Inside) (or_parts (same_place old new) (are_one_file (node_at t.names old) (node_at t.names new)) is).0 leads.above in
-    well-formed-in-stead t old new well leads.named old_not_root new_not_root apart leads.above
-    (replaced-empty t old new (is_directory (node_at t.names new)) refl well there (none IsDir) (none NotEmpty))
+well-replaced : (t : Tree) (old new : Place) (one : Bool) → are_one t.names old new ≡ one → WellFormed t → Led t new → MayLeave t old → is_root new ≡ false → ((c : Cause) → exchanging_causes t.names old new c ≡ false) → WellFormed (if one then t else put_in_its_stead t old new)
+well-replaced t old new true is well leads leave new_not_root none = well
+well-replaced t old new false is well leads leave new_not_root none =
+    let may = may-replace t old new well leave none is in
+    let apart = apart-from t.names old new well.parents may.outside may.elsewhere leads.above in
+    well-formed-in-stead t old new well leads.named leave.below_root new_not_root apart leads.above may.alone
 
 well-further : (t : Tree) (old new : Place) (o : Option Node) → node_at t.names old ≡ o → WellFormed t → Led t new → is_taken (node_at t.names new) ≡ false → WellFormed (with_further_name t o new)
 well-further t old new None is well leads free = well
@@ -181,31 +166,34 @@ well-further t old new (Some it) is well leads free =
     well-with t new it well leads free (each-get place_cmp place_cmp-same (λ e. IsNode t.files e.1) t.names old it well.nodes is)
 
 well-between : (t : Tree) (ask : Ask) (old new : Place) → WellFormed t → Led t new → ((c : Cause) → causes_at t ask old c ≡ false) → ((c : Cause) → new_causes_at t ask new c ≡ false) → ((c : Cause) → causes_between t ask old new c ≡ false) → WellFormed (target_between t ask old new)
-well-between t (Rename oldpath newpath) old new well leads at_old at_new between = well-renamed t old new well leads (at_old NoEntry) (at_old Root) (at_new Exists) (between Inside)
-well-between t (PosixRename oldpath newpath) old new well leads at_old at_new between = well-replaced t old new (are_one t.names old new) refl well leads (at_old NoEntry) (at_old Root) (at_new Root) between
-well-between t (Hardlink oldpath newpath) old new well leads at_old at_new between = well-further t old new (node_at t.names old) refl well leads (at_new Exists)
+well-between t (Rename oldpath newpath) old new well leads at_old at_new between =
+    let leave = may-leave t old at_old in
+    well-renamed t old new well leads (ap not leave.taken) leave.below_root (ap is_taken (free-place (node_at t.names new) at_new)) (outside-of t old new between)
+well-between t (PosixRename oldpath newpath) old new well leads at_old at_new between =
+    well-replaced t old new (are_one t.names old new) refl well leads (may-leave t old at_old) (given-below new at_new) between
+well-between t (Hardlink oldpath newpath) old new well leads at_old at_new between = well-further t old new (node_at t.names old) refl well leads (ap is_taken (free-place (node_at t.names new) at_new))
 well-between t other old new well leads at_old at_new between = well
 
 -- ---- every request
 
 target-stands-by : (t : Tree) (ask : Ask) (l n : Option (Result Place Cause)) → led t ask ≡ l → new_led t ask ≡ n → LeadsWell t → Stands t → FitsAsk ask → IsFree t ask → Stands (target t ask)
-target-stands-by t ask None n e f leads stands fit free = subst Stands (sym (target-led t ask None n e f)) stands
-target-stands-by t ask (Some (Err failed)) n e f leads stands fit free = subst Stands (sym (target-led t ask (Some (Err failed)) n e f)) stands
+target-stands-by t ask None n e f leads stands fit free = subst Stands (sym (target-is t ask None n e f)) stands
+target-stands-by t ask (Some (Err failed)) n e f leads stands fit free = subst Stands (sym (target-is t ask (Some (Err failed)) n e f)) stands
 target-stands-by t ask (Some (Ok place)) None e f leads stands fit free =
     let none = free-at t ask place free e f in
     record {
-      well_formed = subst WellFormed (sym (target-led t ask (Some (Ok place)) None e f)) (well-at t ask place stands.well_formed fit (place-led t ask place leads fit e) none.none);
-      within_limits = none.room;
+      well_formed = subst WellFormed (sym (target-is t ask (Some (Ok place)) None e f)) (well-at t ask place stands.well_formed fit (place-led t ask place leads fit e) none.none);
+      within_limits = subst (λ x. IsTrue (fits x)) (sym (target-is t ask (Some (Ok place)) None e f)) none.room;
     }
 target-stands-by t ask (Some (Ok place)) (Some (Err failed)) e f leads stands fit free =
-    subst Stands (sym (target-led t ask (Some (Ok place)) (Some (Err failed)) e f)) stands
+    subst Stands (sym (target-is t ask (Some (Ok place)) (Some (Err failed)) e f)) stands
 target-stands-by t ask (Some (Ok old)) (Some (Ok new)) e f leads stands fit free =
     let none = free-between t ask old new free e f in
     record {
       well_formed =
-          subst WellFormed (sym (target-led t ask (Some (Ok old)) (Some (Ok new)) e f))
+          subst WellFormed (sym (target-is t ask (Some (Ok old)) (Some (Ok new)) e f))
           (well-between t ask old new stands.well_formed (new-place-led t ask new leads fit f) none.at_old none.at_new none.between);
-      within_limits = none.room;
+      within_limits = subst (λ x. IsTrue (fits x)) (sym (target-is t ask (Some (Ok old)) (Some (Ok new)) e f)) none.room;
     }
 
 -- where paths of all trees within the limits lead well, the trees that requests ask for are trees

@@ -11,7 +11,8 @@ use Rattle.sftp_tree.specs.declared.nodes.Node.TheVariants.{Link}
 use Rattle.sftp_tree.specs.declared.causes.Cause.{Cause}
 use Rattle.sftp_tree.specs.declared.causes.Cause.TheVariants.{BadPath}
 use Rattle.sftp_tree.specs.Tree.{node_at, is_directory, Tree, IsKept}
-use Rattle.sftp_tree.specs.Walk.{Meeting, is_last, start_of, meets, walk, steps_of, reached}
+use Rattle.sftp_tree.specs.Walk.{Meeting, is_last, start_of, meets, walk, steps_of, reached, link_limit}
+use Rattle.sftp_tree.specs.Walking.{IsPlaceOf}
 use Rattle.sftp_tree.proofs.WalkSteps.{behind_link, walk_on, walk-nil, walk-cons, reached-good, reached-bad}
 use Rattle.sftp_tree.proofs.WalkMeetings.{MetBy, by_dot, by_dot_dot, by_directory, by_last_file, by_file, by_link, by_last_link, by_last_absent, by_absent, met_by, plain-is_name, steps-behind}
 use Rattle.sftp_tree.proofs.KeepPlaces.{directory-taken}
@@ -134,3 +135,9 @@ reached-found t follow path place false bad kept bytes is =
 -- where a path of bytes leads
 pub path-found : (t : Tree) (follow : Bool) (path : List ℕ) (place : Place) → IsKept t → are_bytes path ≡ true → reached t follow path ≡ Ok place → Found t place
 path-found t follow path place = reached-found t follow path place (is_good_path path) refl
+
+-- where a walk from the root ends is a place of the tree
+pub place-of : (t : Tree) (follow : Bool) (path : List Name) (place : Place) → IsKept t → list_all is_step path ≡ true → Ok place ≡ walk t.names follow link_limit [] path → IsPlaceOf t place
+place-of t follow path place kept steps is =
+    let found = found-at t follow link_limit [] path place kept (root-stands t kept) steps is in
+    record { kept = kept; named = found.names; above = found.parent_stands }

@@ -5,10 +5,13 @@ pub mod WalkRules
 pub mod Attributes
 pub mod Steps
 pub mod Sets
+pub mod Asks
 pub mod Picture
 pub mod PictureParts
 pub mod PictureRows
-pub mod Judged
+pub mod Room
+pub mod Ends
+pub mod Plans
 pub mod StepRows
 pub mod Route
 pub mod Walking

@@ -19,56 +19,27 @@ use Rattle.sftp_tree.specs.Tree.{Tree, Names, node_at, with_node, without_node, 
 use Rattle.sftp_tree.specs.Walk.{reached}
 use Rattle.sftp_tree.specs.Attributes.{directory_owner, changed_owner, changed_content, shown}
 
--- ---- the paths of requests
-
--- the path that a request walks, where its step has come; of two paths the first
-abbrev pub path_of : Ask → Option (List ℕ)
-path_of (Mkdir path attrs) = Some path
-path_of (Rmdir path) = Some path
-path_of (Remove path) = Some path
-path_of (Setstat path attrs) = Some path
-path_of (Stat path) = Some path
-path_of (Lstat path) = Some path
-path_of (Realpath path) = Some path
-path_of (Readlink path) = Some path
-path_of (Symlink target link) = Some link
-path_of (Rename oldpath newpath) = Some oldpath
-path_of (PosixRename oldpath newpath) = Some oldpath
-path_of (Hardlink oldpath newpath) = Some oldpath
-path_of other = None
-
--- the second path of a request that has two: a new name
-abbrev pub new_path_of : Ask → Option (List ℕ)
-new_path_of (Rename oldpath newpath) = Some newpath
-new_path_of (PosixRename oldpath newpath) = Some newpath
-new_path_of (Hardlink oldpath newpath) = Some newpath
-new_path_of other = None
-
--- whether the request's step has come
-abbrev pub has_step : Ask → Bool
-has_step ask = is_some (path_of ask)
-
--- whether a link that is last is followed
-abbrev pub follows : Ask → Bool
-follows (Stat path) = true
-follows (Setstat path attrs) = true
-follows (Realpath path) = true
-follows other = false
-
--- where the path of a request leads
-unfoldable pub led : Tree → Ask → Option (Result Place Cause)
-led t ask = option_map (reached t (follows ask)) (path_of ask)
-
--- where its new name leads; a link that is last is not followed
-abbrev pub new_led : Tree → Ask → Option (Result Place Cause)
-new_led t ask = option_map (reached t false) (new_path_of ask)
-
 -- ---- causes, as sets of them
 
 abbrev pub CauseSet : Type 0
 CauseSet = Cause → Bool
 
--- the rows of the status table
+-- the number of a cause's row in the status table
+abbrev pub row : Cause → ℕ
+row BadPath = 0
+row NoEntry = 1
+row NotDir = 2
+row Loop = 3
+row Exists = 4
+row IsDir = 5
+row NotLink = 6
+row NotFile = 7
+row NotEmpty = 8
+row Root = 9
+row Inside = 10
+row NoRoom = 11
+
+-- the rows
 abbrev pub every_cause : List Cause
 every_cause = BadPath ∷ NoEntry ∷ NotDir ∷ Loop ∷ Exists ∷ IsDir ∷ NotLink ∷ NotFile ∷ NotEmpty ∷ Root ∷ Inside ∷ NoRoom ∷ []
 
@@ -79,30 +50,22 @@ allows BadPath code = code == 4 || code == 5
 allows NoEntry code = code == 2
 allows NotDir code = code == 2 || code == 4
 allows Loop code = code == 2 || code == 4
-allows Exists code = code == 4
-allows IsDir code = code == 4
-allows NotLink code = code == 4
-allows NotFile code = code == 4
-allows NotEmpty code = code == 4
-allows Root code = code == 4
-allows Inside code = code == 4
-allows NoRoom code = code == 4
+allows _ code = code == 4
 
 -- the set of one cause
 abbrev pub only : Cause → CauseSet
-only BadPath BadPath = true
-only NoEntry NoEntry = true
-only NotDir NotDir = true
-only Loop Loop = true
-only Exists Exists = true
-only IsDir IsDir = true
-only NotLink NotLink = true
-only NotFile NotFile = true
-only NotEmpty NotEmpty = true
-only Root Root = true
-only Inside Inside = true
-only NoRoom NoRoom = true
-only _ _ = false
+only one cause = row one == row cause
+
+unfoldable pub no_causes : CauseSet
+no_causes cause = false
+
+-- the set with this cause too, where that holds
+unfoldable pub when : CauseSet → Cause → Bool → CauseSet
+when set one holds cause = only one cause && holds || set cause
+
+-- the causes of either set
+unfoldable pub joined : CauseSet → CauseSet → CauseSet
+joined one other cause = one cause || other cause
 
 -- no cause is in the set
 abbrev pub is_none : CauseSet → Bool
@@ -116,78 +79,44 @@ allow causes code = list_any (λ cause. causes cause && allows cause code) every
 
 -- of what is to be made there
 abbrev pub making_causes : Option Node → CauseSet
-making_causes standing Exists = is_taken standing
-making_causes standing _ = false
+making_causes standing = when no_causes Exists (is_taken standing)
 
 -- of what is to be there
 abbrev pub needing_causes : Option Node → CauseSet
-needing_causes standing NoEntry = not (is_taken standing)
-needing_causes standing _ = false
+needing_causes standing = when no_causes NoEntry (not (is_taken standing))
 
 -- of a link that is to be there
 abbrev pub link_causes : Option Node → CauseSet
-link_causes standing NoEntry = not (is_taken standing)
-link_causes standing NotLink = is_taken standing && not (is_link standing)
-link_causes standing _ = false
+link_causes standing = when (needing_causes standing) NotLink (is_taken standing && not (is_link standing))
 
 -- of a file that is to be there
 abbrev pub file_causes : Option Node → CauseSet
-file_causes standing NoEntry = not (is_taken standing)
-file_causes standing NotFile = is_taken standing && not (is_file standing)
-file_causes standing _ = false
+file_causes standing = when (needing_causes standing) NotFile (is_taken standing && not (is_file standing))
 
 -- of what is there and is to get these attributes: only a file has a size that can be set
 abbrev pub setting_causes : Attrs → Option Node → CauseSet
-setting_causes attrs standing NoEntry = not (is_taken standing)
-setting_causes attrs standing NotFile = is_some attrs.size && (is_taken standing && not (is_file standing))
-setting_causes attrs standing _ = false
+setting_causes attrs standing = when (needing_causes standing) NotFile (is_some attrs.size && (is_taken standing && not (is_file standing)))
 
 -- of a directory that is to be removed
 abbrev pub removing_causes : Names → Place → CauseSet
-removing_causes names place NoEntry = not (is_taken (node_at names place))
-removing_causes names place NotDir = is_taken (node_at names place) && not (is_directory (node_at names place))
-removing_causes names place NotEmpty = is_directory (node_at names place) && has_entries names place
-removing_causes names place Root = is_root place
-removing_causes names place _ = false
+removing_causes names place =
+    when (when (when (needing_causes (node_at names place)) NotDir (is_taken (node_at names place) && not (is_directory (node_at names place)))) NotEmpty (is_directory (node_at names place) && has_entries names place)) Root (is_root place)
 
 -- of a name that is to be removed, which is no directory's
 abbrev pub unlinking_causes : Option Node → CauseSet
-unlinking_causes standing NoEntry = not (is_taken standing)
-unlinking_causes standing IsDir = is_directory standing
-unlinking_causes standing _ = false
+unlinking_causes standing = when (needing_causes standing) IsDir (is_directory standing)
 
 -- of what is to go from there to another place
 abbrev pub leaving_causes : Names → Place → CauseSet
-leaving_causes names place NoEntry = not (is_taken (node_at names place))
-leaving_causes names place Root = is_root place
-leaving_causes names place _ = false
+leaving_causes names place = when (needing_causes (node_at names place)) Root (is_root place)
 
 -- of a place that is to be given to something else
 abbrev pub giving_causes : Place → CauseSet
-giving_causes place Root = is_root place
-giving_causes place _ = false
+giving_causes place = when no_causes Root (is_root place)
 
--- by request
-abbrev pub causes_at : Tree → Ask → Place → CauseSet
-causes_at t (Mkdir path attrs) place = making_causes (node_at t.names place)
-causes_at t (Rmdir path) place = removing_causes t.names place
-causes_at t (Remove path) place = unlinking_causes (node_at t.names place)
-causes_at t (Setstat path attrs) place = setting_causes attrs (node_at t.names place)
-causes_at t (Stat path) place = needing_causes (node_at t.names place)
-causes_at t (Lstat path) place = needing_causes (node_at t.names place)
-causes_at t (Readlink path) place = link_causes (node_at t.names place)
-causes_at t (Symlink target link) place = making_causes (node_at t.names place)
-causes_at t (Rename oldpath newpath) place = leaving_causes t.names place
-causes_at t (PosixRename oldpath newpath) place = leaving_causes t.names place
-causes_at t (Hardlink oldpath newpath) place = file_causes (node_at t.names place)
-causes_at t other place = λ cause. false
-
--- at the place that a new name leads to
-abbrev pub new_causes_at : Tree → Ask → Place → CauseSet
-new_causes_at t (Rename oldpath newpath) place = making_causes (node_at t.names place)
-new_causes_at t (PosixRename oldpath newpath) place = giving_causes place
-new_causes_at t (Hardlink oldpath newpath) place = making_causes (node_at t.names place)
-new_causes_at t other place = λ cause. false
+-- of a target that no link may have
+abbrev pub target_bytes_causes : List ℕ → CauseSet
+target_bytes_causes target = when no_causes BadPath (not (is_target target))
 
 -- ---- the causes of two places
 
@@ -206,47 +135,20 @@ are_one names old new = same_place old new || are_one_file (node_at names old) (
 
 -- of what is to go to a place that is free
 abbrev pub moving_causes : Names → Place → Place → CauseSet
-moving_causes names old new Inside = goes_inside names old new
-moving_causes names old new _ = false
+moving_causes names old new = when no_causes Inside (goes_inside names old new)
+
+-- of what is to come in the stead of something else: a directory replaces an empty directory, and anything else what is no directory
+abbrev pub clashing_causes : Option Node → Option Node → Bool → CauseSet
+clashing_causes goes stays entries =
+    when (when (when no_causes NotDir (is_directory goes && (is_taken stays && not (is_directory stays)))) IsDir ((is_taken goes && not (is_directory goes)) && is_directory stays)) NotEmpty (is_directory goes && (is_directory stays && entries))
 
 -- of what is to go to a place where something else may stand, in its stead
 abbrev pub replacing_causes : Names → Place → Place → CauseSet
-replacing_causes names old new Inside = goes_inside names old new
-replacing_causes names old new NotDir = is_directory (node_at names old) && (is_taken (node_at names new) && not (is_directory (node_at names new)))
-replacing_causes names old new IsDir = (is_taken (node_at names old) && not (is_directory (node_at names old))) && is_directory (node_at names new)
-replacing_causes names old new NotEmpty = is_directory (node_at names old) && (is_directory (node_at names new) && has_entries names new)
-replacing_causes names old new _ = false
+replacing_causes names old new = when (clashing_causes (node_at names old) (node_at names new) (has_entries names new)) Inside (goes_inside names old new)
 
--- by request
-abbrev pub causes_between : Tree → Ask → Place → Place → CauseSet
-causes_between t (Rename oldpath newpath) old new = moving_causes t.names old new
-causes_between t (PosixRename oldpath newpath) old new = λ cause. not (are_one t.names old new) && replacing_causes t.names old new cause
-causes_between t other old new = λ cause. false
-
--- ---- the causes of a request
-
--- a target that no link may have
-abbrev pub target_causes : Ask → CauseSet
-target_causes (Symlink target link) BadPath = not (is_target target)
-target_causes ask cause = false
-
--- a path that leads nowhere has that one cause
-abbrev pub led_causes : Option (Result Place Cause) → (Place → CauseSet) → CauseSet
-led_causes None at cause = false
-led_causes (Some (Ok place)) at cause = at place cause
-led_causes (Some (Err failed)) at cause = only failed cause
-
--- causes of two places hold where both paths lead to one
-abbrev pub both_causes : Option (Result Place Cause) → Option (Result Place Cause) → (Place → Place → CauseSet) → CauseSet
-both_causes (Some (Ok old)) (Some (Ok new)) between cause = between old new cause
-both_causes _ _ between cause = false
-
--- the causes but for the want of room
-unfoldable pub plain_causes : Tree → Ask → CauseSet
-plain_causes t ask cause =
-    led_causes (led t ask) (causes_at t ask) cause
-    || (led_causes (new_led t ask) (new_causes_at t ask) cause
-    || (both_causes (led t ask) (new_led t ask) (causes_between t ask) cause || target_causes ask cause))
+-- to the same place, or from one name of a file to another, nothing goes
+abbrev pub exchanging_causes : Names → Place → Place → CauseSet
+exchanging_causes names old new = if are_one names old new then no_causes else replacing_causes names old new
 
 -- ---- what a request does
 
@@ -262,14 +164,13 @@ with_attributes t attrs place (Some (Dir owner)) = record t { names = with_node 
 with_attributes t attrs place (Some (File number)) = with_changed_file t attrs number (content_at t.files number)
 with_attributes t attrs place (Some (Link target)) = t
 
--- at the place that its path leads to
-abbrev pub target_at : Tree → Ask → Place → Tree
-target_at t (Mkdir path attrs) place = record t { names = with_node t.names place (Dir (directory_owner t attrs)) }
-target_at t (Rmdir path) place = record t { names = without_node t.names place }
-target_at t (Remove path) place = record t { names = without_node t.names place }
-target_at t (Setstat path attrs) place = with_attributes t attrs place (node_at t.names place)
-target_at t (Symlink target link) place = record t { names = with_node t.names place (Link target) }
-target_at t other place = t
+-- this stands at the place
+abbrev pub with_entry : Tree → Place → Node → Tree
+with_entry t place it = record t { names = with_node t.names place it }
+
+-- nothing stands at the place
+abbrev pub without_entry : Tree → Place → Tree
+without_entry t place = record t { names = without_node t.names place }
 
 -- what stands at the old place, with all below it, goes to the new one
 abbrev pub moved : Tree → Place → Place → Tree
@@ -279,17 +180,195 @@ moved t old new = record t { names = rekeyed old new t.names }
 abbrev pub put_in_its_stead : Tree → Place → Place → Tree
 put_in_its_stead t old new = record t { names = rekeyed old new (without_node t.names new) }
 
+-- the same, where that changes anything
+abbrev pub exchanged : Tree → Place → Place → Tree
+exchanged t old new = if are_one t.names old new then t else put_in_its_stead t old new
+
 -- what stands there gets the new place too
 abbrev pub with_further_name : Tree → Option Node → Place → Tree
 with_further_name t None new = t
 with_further_name t (Some standing) new = record t { names = with_node t.names new standing }
 
--- at the two places that its paths lead to
+-- ---- what a reply tells
+
+-- what a reply to a request that was done tells
+pub data Told : Type 0 where
+  -- that it was done
+  done : Told
+  -- the attributes of what stands at the place
+  attributes : Option Attrs → Told
+  -- a name of these bytes
+  name : Option (List ℕ) → Told
+
+abbrev pub shown_at : Tree → Option Node → Option Attrs
+shown_at t None = None
+shown_at t (Some standing) = shown t standing
+
+abbrev pub target_of : Option Node → Option (List ℕ)
+target_of (Some (Link target)) = Some target
+target_of (Some (Dir owner)) = None
+target_of (Some (File number)) = None
+target_of None = None
+
+-- ---- the table of requests
+
+-- what there is to say of a request
+pub record Row : Type 0 where
+  -- the path that it walks; of two paths the first
+  pub path : Option (List ℕ)
+  -- the second path, of a request that has two: a new name
+  pub new_path : Option (List ℕ)
+  -- whether a link that is last is followed
+  pub follows : Bool
+  -- the causes of its own bytes
+  pub own : CauseSet
+  -- the causes at the place that the path leads to, at the place that the new one leads to, and of both
+  pub here : Tree → Place → CauseSet
+  pub there : Tree → Place → CauseSet
+  pub both : Tree → Place → Place → CauseSet
+  -- what it does at the one place, or with the two
+  pub change : Tree → Place → Tree
+  pub exchange : Tree → Place → Place → Tree
+  -- what it tells of the place
+  pub told : Tree → Place → Told
+
+-- of a request that is not judged yet
+abbrev pub no_step : Row
+no_step = record {
+  path = None;
+  new_path = None;
+  follows = false;
+  own = no_causes;
+  here = λ t place. no_causes;
+  there = λ t place. no_causes;
+  both = λ t old new. no_causes;
+  change = λ t place. t;
+  exchange = λ t old new. t;
+  told = λ t place. done;
+}
+
+-- of a request that makes something at the end of its path
+abbrev pub making_row : List ℕ → Row
+making_row path = record no_step { path = Some path; here = λ t place. making_causes (node_at t.names place) }
+
+-- of a request that tells the attributes of what stands at the end of its path
+abbrev pub showing_row : List ℕ → Row
+showing_row path = record no_step {
+  path = Some path;
+  here = λ t place. needing_causes (node_at t.names place);
+  told = λ t place. attributes (shown_at t (node_at t.names place));
+}
+
+-- of a request that leads from an old name to a new one
+abbrev pub pair_row : List ℕ → List ℕ → Row
+pair_row oldpath newpath = record no_step { path = Some oldpath; new_path = Some newpath }
+
+abbrev pub row_of : Ask → Row
+row_of (Mkdir path attrs) = record (making_row path) { change = λ t place. with_entry t place (Dir (directory_owner t attrs)) }
+row_of (Symlink target link) = record (making_row link) { own = target_bytes_causes target; change = λ t place. with_entry t place (Link target) }
+row_of (Rmdir path) = record no_step { path = Some path; here = λ t place. removing_causes t.names place; change = without_entry }
+row_of (Remove path) = record no_step { path = Some path; here = λ t place. unlinking_causes (node_at t.names place); change = without_entry }
+row_of (Setstat path attrs) = record no_step {
+  path = Some path;
+  follows = true;
+  here = λ t place. setting_causes attrs (node_at t.names place);
+  change = λ t place. with_attributes t attrs place (node_at t.names place);
+}
+row_of (Stat path) = record (showing_row path) { follows = true }
+row_of (Lstat path) = showing_row path
+row_of (Realpath path) = record no_step { path = Some path; follows = true; told = λ t place. name (Some (absolute place)) }
+row_of (Readlink path) = record no_step {
+  path = Some path;
+  here = λ t place. link_causes (node_at t.names place);
+  told = λ t place. name (target_of (node_at t.names place));
+}
+row_of (Rename oldpath newpath) = record (pair_row oldpath newpath) {
+  here = λ t place. leaving_causes t.names place;
+  there = λ t place. making_causes (node_at t.names place);
+  both = λ t old new. moving_causes t.names old new;
+  exchange = moved;
+}
+row_of (PosixRename oldpath newpath) = record (pair_row oldpath newpath) {
+  here = λ t place. leaving_causes t.names place;
+  there = λ t place. giving_causes place;
+  both = λ t old new. exchanging_causes t.names old new;
+  exchange = exchanged;
+}
+row_of (Hardlink oldpath newpath) = record (pair_row oldpath newpath) {
+  here = λ t place. file_causes (node_at t.names place);
+  there = λ t place. making_causes (node_at t.names place);
+  exchange = λ t old new. with_further_name t (node_at t.names old) new;
+}
+row_of other = no_step
+
+-- ---- its columns
+
+abbrev pub path_of : Ask → Option (List ℕ)
+path_of ask = (row_of ask).path
+
+abbrev pub new_path_of : Ask → Option (List ℕ)
+new_path_of ask = (row_of ask).new_path
+
+abbrev pub follows : Ask → Bool
+follows ask = (row_of ask).follows
+
+-- whether the request is judged
+abbrev pub has_step : Ask → Bool
+has_step ask = is_some (path_of ask)
+
+abbrev pub target_causes : Ask → CauseSet
+target_causes ask = (row_of ask).own
+
+abbrev pub causes_at : Tree → Ask → Place → CauseSet
+causes_at t ask = (row_of ask).here t
+
+abbrev pub new_causes_at : Tree → Ask → Place → CauseSet
+new_causes_at t ask = (row_of ask).there t
+
+abbrev pub causes_between : Tree → Ask → Place → Place → CauseSet
+causes_between t ask = (row_of ask).both t
+
+abbrev pub target_at : Tree → Ask → Place → Tree
+target_at t ask = (row_of ask).change t
+
 abbrev pub target_between : Tree → Ask → Place → Place → Tree
-target_between t (Rename oldpath newpath) old new = moved t old new
-target_between t (PosixRename oldpath newpath) old new = if are_one t.names old new then t else put_in_its_stead t old new
-target_between t (Hardlink oldpath newpath) old new = with_further_name t (node_at t.names old) new
-target_between t other old new = t
+target_between t ask = (row_of ask).exchange t
+
+abbrev pub told_at : Tree → Ask → Place → Told
+told_at t ask = (row_of ask).told t
+
+-- ---- where paths lead
+
+-- where the path of a request leads
+unfoldable pub led : Tree → Ask → Option (Result Place Cause)
+led t ask = option_map (reached t (follows ask)) (path_of ask)
+
+-- where its new name leads; a link that is last is not followed
+abbrev pub new_led : Tree → Ask → Option (Result Place Cause)
+new_led t ask = option_map (reached t false) (new_path_of ask)
+
+-- ---- the causes of a request
+
+-- a path that leads nowhere has that one cause
+abbrev pub led_causes : Option (Result Place Cause) → (Place → CauseSet) → CauseSet
+led_causes None at = no_causes
+led_causes (Some (Ok place)) at = at place
+led_causes (Some (Err failed)) at = when no_causes failed true
+
+-- causes of two places hold where both paths lead to one
+abbrev pub both_causes : Option (Result Place Cause) → Option (Result Place Cause) → (Place → Place → CauseSet) → CauseSet
+both_causes (Some (Ok old)) (Some (Ok new)) between = between old new
+both_causes _ _ between = no_causes
+
+-- the causes but for the want of room, by where the paths lead
+abbrev pub plain_of : Tree → Ask → Option (Result Place Cause) → Option (Result Place Cause) → CauseSet
+plain_of t ask end new_end =
+    joined (joined (joined (target_causes ask) (led_causes end (causes_at t ask))) (led_causes new_end (new_causes_at t ask))) (both_causes end new_end (causes_between t ask))
+
+unfoldable pub plain_causes : Tree → Ask → CauseSet
+plain_causes t ask = plain_of t ask (led t ask) (new_led t ask)
+
+-- ---- the tree that a request asks for
 
 abbrev pub led_to : {A : Type 0} → A → Option (Result Place Cause) → (Place → A) → A
 led_to otherwise None at = otherwise
@@ -302,40 +381,46 @@ target_on t ask place None = target_at t ask place
 target_on t ask place (Some (Ok new)) = target_between t ask place new
 target_on t ask place (Some (Err cause)) = t
 
+-- by where the paths lead
+abbrev pub target_led : Tree → Ask → Option (Result Place Cause) → Option (Result Place Cause) → Tree
+target_led t ask end new_end = led_to t end (λ place. target_on t ask place new_end)
+
 -- the tree that a request which no cause refuses asks for; files that lost their last name are still there
 unfoldable pub target : Tree → Ask → Tree
-target t ask = led_to t (led t ask) (λ place. target_on t ask place (new_led t ask))
+target t ask = target_led t ask (led t ask) (new_led t ask)
 
 -- the tree after such a request: a file goes with its last name
 abbrev pub after : Tree → Ask → Tree
 after t ask = trim (target t ask)
 
--- The causes that hold. There is no room where no other cause holds and what would stand afterwards breaks a
--- limit.
+-- there is no room where no other cause holds and what would stand afterwards breaks a limit
+abbrev pub with_room : CauseSet → Tree → CauseSet
+with_room plain asked = when plain NoRoom (is_none plain && not (fits asked))
+
+-- the causes that hold
 unfoldable pub causes : Tree → Ask → CauseSet
-causes t ask NoRoom = is_none (plain_causes t ask) && not (fits (target t ask))
-causes t ask cause = plain_causes t ask cause
+causes t ask = with_room (plain_causes t ask) (target t ask)
 
 -- ---- what a request is told
 
-abbrev pub shown_at : Tree → Option Node → Option Attrs
-shown_at t None = None
-shown_at t (Some standing) = shown t standing
+abbrev pub attributes_of : Told → Option Attrs
+attributes_of (attributes shown) = shown
+attributes_of (name bytes) = None
+attributes_of done = None
+
+abbrev pub name_of : Told → Option (List ℕ)
+name_of (name bytes) = bytes
+name_of (attributes shown) = None
+name_of done = None
 
 -- the attributes of what stands where its path leads
 unfoldable pub shown_to : Tree → Ask → Option Attrs
-shown_to t ask = led_to None (led t ask) (λ place. shown_at t (node_at t.names place))
-
-abbrev pub target_of : Option Node → Option (List ℕ)
-target_of (Some (Link target)) = Some target
-target_of (Some (Dir owner)) = None
-target_of (Some (File number)) = None
-target_of None = None
+shown_to t ask = led_to None (led t ask) (λ place. attributes_of (told_at t ask place))
 
 -- the target of the link that stands where its path leads
 unfoldable pub target_to : Tree → Ask → Option (List ℕ)
-target_to t ask = led_to None (led t ask) (λ place. target_of (node_at t.names place))
+target_to t ask = led_to None (led t ask) (λ place. name_of (told_at t ask place))
 
 -- the text of the place where its path leads
 unfoldable pub text_to : Tree → Ask → Option (List ℕ)
-text_to t ask = led_to None (led t ask) (λ place. Some (absolute place))
+text_to t ask = led_to None (led t ask) (λ place. name_of (told_at t ask place))

@@ -1,8 +1,9 @@
 -- What the code's walk answers at a component, as the definition of walks has it.
-use Rattle.std.specs.Prelude.{◌≡◌}
-use Rattle.sftp_path.specs.Place.{Place}
+use Rattle.std.specs.Prelude.{◌≡◌, IsTrue}
+use Rattle.sftp_path.specs.Place.{Place, parent, are_names}
 use Rattle.sftp_tree.specs.declared.walking.Met.{Met}
 use Rattle.sftp_tree.specs.declared.walking.Met.TheVariants.{Enters, Ends, Fails, Through}
+use Rattle.sftp_tree.specs.Tree.{Tree, IsKept, node_at, is_directory}
 use Rattle.sftp_tree.specs.Walk.{Meeting, enters, ends, fails, through}
 
 -- the meeting at the place that the walk stands at
@@ -18,3 +19,9 @@ StaysAtLink Enters before after = Unit {0}
 StaysAtLink Ends before after = Unit {0}
 StaysAtLink (Fails cause) before after = Unit {0}
 StaysAtLink (Through target) before after = after ≡ before
+
+-- a place that a path of a tree leads to: a list of names, whose parent is a directory
+pub record IsPlaceOf (t : Tree) (place : Place) : Type 0 where
+  pub kept : IsKept t
+  pub named : IsTrue (are_names place)
+  pub above : IsTrue (is_directory (node_at t.names (parent place)))

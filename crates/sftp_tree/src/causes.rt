@@ -1,10 +1,8 @@
 //! Why requests are refused, and with which status codes (draft, section 7).
-ghost use Rattle.std.specs.Prelude.{◌≡◌, ◌||◌, IfErr, IsTrue, OnOk};
+ghost use Rattle.std.specs.Prelude.{◌≡◌, ◌<◌, IfErr, IsTrue, OnOk};
 ghost use Rattle.std.specs.List.{list_any};
-ghost use Rattle.sftp_tree.specs.declared.causes.Cause as declared;
 ghost use Rattle.sftp_tree.specs.Steps as steps;
 ghost use Rattle.sftp_tree.specs.Sets.{in_set};
-ghost use Rattle.sftp_tree.specs.Judged as judged;
 
 use sftp_path::NoMemory;
 use std::alloc::{AllocError, AllocFailed};
@@ -69,6 +67,14 @@ const EVERY_CAUSE: [Cause; 12] = [
 ];
 
 impl Cause {
+    /// The number of its row in the table.
+    fn row(self) -> u32
+        ensures row { result ≡ steps.row self }
+        ensures few { result < 16 }
+    {
+        self as u32
+    }
+
     /// Whether this cause allows the status code.
     pub fn allows(self, code: u32) -> bool
         ensures { result ≡ steps.allows self code }
@@ -89,84 +95,37 @@ impl Cause {
     }
 }
 
-/// A set of causes.
+/// A set of causes: the bit of each row of the table says whether its cause is in it.
 #[derive(Clone, Copy, Debug)]
 pub struct Causes {
-    pub(crate) bad_path: bool,
-    pub(crate) no_entry: bool,
-    pub(crate) not_dir: bool,
-    pub(crate) too_many_links: bool,
-    pub(crate) exists: bool,
-    pub(crate) is_dir: bool,
-    pub(crate) not_link: bool,
-    pub(crate) not_file: bool,
-    pub(crate) not_empty: bool,
-    pub(crate) root: bool,
-    pub(crate) inside: bool,
-    pub(crate) no_room: bool,
+    pub(crate) bits: u16,
 }
 
 impl Causes {
     /// The set of no cause.
     pub(crate) fn none() -> Causes
-        ensures { result ≡ judged.no_causes }
+        ensures { in_set result ≡ steps.no_causes }
     {
-        Causes {
-            bad_path: false,
-            no_entry: false,
-            not_dir: false,
-            too_many_links: false,
-            exists: false,
-            is_dir: false,
-            not_link: false,
-            not_file: false,
-            not_empty: false,
-            root: false,
-            inside: false,
-            no_room: false,
-        }
+        Causes { bits: 0 }
     }
 
-    /// The set of this cause alone.
-    pub(crate) fn just(cause: Cause) -> Causes
-        ensures { result ≡ judged.just cause }
+    /// The set with this cause too, where that holds.
+    pub(crate) fn when(self, cause: Cause, holds: bool) -> Causes
+        ensures { in_set result ≡ steps.when (in_set self) cause holds }
     {
-        let mut causes = Causes::none();
-        match cause {
-            Cause::BadPath => causes.bad_path = true,
-            Cause::NoEntry => causes.no_entry = true,
-            Cause::NotDir => causes.not_dir = true,
-            Cause::Loop => causes.too_many_links = true,
-            Cause::Exists => causes.exists = true,
-            Cause::IsDir => causes.is_dir = true,
-            Cause::NotLink => causes.not_link = true,
-            Cause::NotFile => causes.not_file = true,
-            Cause::NotEmpty => causes.not_empty = true,
-            Cause::Root => causes.root = true,
-            Cause::Inside => causes.inside = true,
-            Cause::NoRoom => causes.no_room = true,
+        if !holds {
+            return self;
         }
-        causes
+        Causes {
+            bits: self.bits | (1 << cause.row()),
+        }
     }
 
     /// Whether a cause is in the set.
     pub fn holds(&self, cause: Cause) -> bool
         ensures { result ≡ in_set self.now cause }
     {
-        match cause {
-            Cause::BadPath => self.bad_path,
-            Cause::NoEntry => self.no_entry,
-            Cause::NotDir => self.not_dir,
-            Cause::Loop => self.too_many_links,
-            Cause::Exists => self.exists,
-            Cause::IsDir => self.is_dir,
-            Cause::NotLink => self.not_link,
-            Cause::NotFile => self.not_file,
-            Cause::NotEmpty => self.not_empty,
-            Cause::Root => self.root,
-            Cause::Inside => self.inside,
-            Cause::NoRoom => self.no_room,
-        }
+        (self.bits >> cause.row()) & 1 == 1
     }
 
     /// Whether there is a cause in the set.
@@ -178,21 +137,10 @@ impl Causes {
 
     /// The causes of either set.
     pub(crate) fn union(self, other: Causes) -> Causes
-        ensures { (cause : declared.Cause) → in_set result cause ≡ (in_set self cause || in_set other cause) }
+        ensures { in_set result ≡ steps.joined (in_set self) (in_set other) }
     {
         Causes {
-            bad_path: self.bad_path | other.bad_path,
-            no_entry: self.no_entry | other.no_entry,
-            not_dir: self.not_dir | other.not_dir,
-            too_many_links: self.too_many_links | other.too_many_links,
-            exists: self.exists | other.exists,
-            is_dir: self.is_dir | other.is_dir,
-            not_link: self.not_link | other.not_link,
-            not_file: self.not_file | other.not_file,
-            not_empty: self.not_empty | other.not_empty,
-            root: self.root | other.root,
-            inside: self.inside | other.inside,
-            no_room: self.no_room | other.no_room,
+            bits: self.bits | other.bits,
         }
     }
 

@@ -7,7 +7,7 @@ ghost use Rattle.sftp_path.specs.Rekeying.{rekeyed};
 ghost use Rattle.sftp_treefile.specs.TreeFile.{is_root};
 ghost use Rattle.sftp_tree.specs.declared.nodes.Node.TheVariants.{Dir};
 ghost use Rattle.sftp_tree.specs.Tree as tree;
-ghost use Rattle.sftp_tree.specs.Judged as judged;
+ghost use Rattle.sftp_tree.specs.Room as rooms;
 ghost use Rattle.sftp_tree.specs.PictureParts.{only_root};
 
 mod below;
@@ -83,7 +83,7 @@ impl Entries {
 
     /// Whether no place that begins with one has more names than so many behind it.
     pub(crate) fn reaches_at_most(&self, top: &Place, room: usize) -> bool
-        ensures { result ≡ judged.reaches_at_most self.now top.now room }
+        ensures { result ≡ rooms.reaches_at_most self.now top.now room }
     {
         below::reaches_at_most(&self.places, top, room)
     }

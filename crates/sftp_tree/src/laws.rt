@@ -7,7 +7,7 @@ ghost use Rattle.sftp_path.specs.Place.{Name, Place, parent, are_names, is_good_
 ghost use Rattle.sftp_treefile.specs.TreeFile.{are_bytes};
 ghost use Rattle.sftp_tree.specs.declared.causes.Cause.{Cause};
 ghost use Rattle.sftp_tree.specs.declared.nodes.Node.TheVariants.{File};
-ghost use Rattle.sftp_tree.specs.Tree.{Names, Tree, WellFormed, IsKept, limits, fits, is_directory, node_at, content_at, times_named, times_pinned, is_named, is_held, trimmed, trim};
+ghost use Rattle.sftp_tree.specs.Tree.{Names, Tree, WellFormed, IsKept, IsTrimmed, limits, fits, is_directory, node_at, content_at, times_named, times_pinned, is_named, is_held, trimmed, trim};
 ghost use Rattle.sftp_tree.specs.Walk.{walk, reached, looked, steps_of, looked_limit, link_limit};
 ghost use Rattle.sftp_tree.specs.WalkRules.{Leads};
 ghost use Rattle.sftp_tree.specs.Steps.{target, after};
@@ -41,6 +41,7 @@ pub fn trees_are_trimmed()
     ensures tree { (t : Tree) (is_held : ℕ → Bool) → WellFormed t → WellFormed (trimmed is_held t) }
     ensures limits { (t : Tree) (is_held : ℕ → Bool) → IsTrue (fits t) → IsTrue (fits (trimmed is_held t)) }
     ensures kept { (t : Tree) → WellFormed t → IsTrue (fits t) → IsKept (trim t) }
+    ensures already { (t : Tree) → IsTrimmed t → trim t ≡ t }
     ensures files { (t : Tree) (is_held : ℕ → Bool) (number : ℕ) → WellFormed t →
         content_at (trimmed is_held t).files number ≡ (if is_named t.names number || is_held number then content_at t.files number else None) }
 {}

@@ -2,21 +2,24 @@
 //! and what they do (draft-ietf-secsh-filexfer-02, section 6).
 #![tactic(auto)]
 
+mod asks;
 mod attributes;
 mod causes;
 mod contents;
+mod ends;
 mod entries;
 mod file_numbers;
 mod files;
-mod judging;
-pub mod keeping;
+mod found;
 pub mod laws;
-mod led;
 pub mod limit_laws;
 mod nodes;
 mod owners;
 pub mod picture_laws;
 mod pictures;
+mod place_causes;
+mod plans;
+mod room;
 mod route;
 pub mod step_rows;
 mod steps;

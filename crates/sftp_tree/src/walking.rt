@@ -1,10 +1,9 @@
 //! Where paths lead (draft, section 6.2).
 ghost use Rattle.std.specs.Prelude.{◌≡◌, [], if◌then◌else◌, IfOk, IsTrue};
 ghost use Rattle.std.specs.List.{list_all};
-ghost use Rattle.sftp_path.specs.Place.{parent, is_step};
-ghost use Rattle.sftp_tree.specs.Tree as spec;
+ghost use Rattle.sftp_path.specs.Place.{is_step};
 ghost use Rattle.sftp_tree.specs.Walk as walks;
-ghost use Rattle.sftp_tree.specs.Walking.{meeting, StaysAtLink};
+ghost use Rattle.sftp_tree.specs.Walking.{meeting, StaysAtLink, IsPlaceOf};
 
 use crate::causes::Cause;
 use crate::entries::Entries;
@@ -88,8 +87,7 @@ impl Tree {
     /// `NoMemory` where memory runs out.
     pub(crate) fn reach(&self, follow: bool, path: &[u8]) -> Result<Result<Place, Cause>, NoMemory>
         ensures reached { IfOk result (λ reached. reached ≡ walks.reached self.now follow path.now) }
-        ensures parent { IfOk result (λ reached. IfOk reached
-            (λ place. IsTrue (spec.is_directory (spec.node_at self.now.names (parent place))))) }
+        ensures place { IfOk result (λ reached. IfOk reached (IsPlaceOf self.now)) }
     {
         let Ok(parts) = components(path) else {
             return Ok(Err(Cause::BadPath));
@@ -116,8 +114,7 @@ impl Tree {
         requires { IsTrue (list_all is_step route) }
         ensures reached { IfOk result
             (λ reached. reached ≡ walks.walk self.now.names follow walks.link_limit [] route.entry) }
-        ensures parent { IfOk result (λ reached. IfOk reached
-            (λ place. IsTrue (spec.is_directory (spec.node_at self.now.names (parent place))))) }
+        ensures place { IfOk result (λ reached. IfOk reached (IsPlaceOf self.now)) }
     {
         let names = self.names();
         let mut at = Place::root(self.home().allocator());

@@ -2,7 +2,7 @@
 ghost use Rattle.std.specs.Prelude.{◌≡◌};
 ghost use Rattle.sftp_path.specs.Place as places;
 ghost use Rattle.sftp_tree.specs.Tree as tree;
-ghost use Rattle.sftp_tree.specs.Judged as judged;
+ghost use Rattle.sftp_tree.specs.Room as rooms;
 
 use crate::nodes::Node;
 use sftp_path::Place;
@@ -32,7 +32,7 @@ pub(crate) fn has_entries(names: &BTreeMap<Place, Node>, place: &Place) -> bool
 /// Whether no place that begins with one has more names than so many behind it. Such places follow one another in
 /// order.
 pub(crate) fn reaches_at_most(names: &BTreeMap<Place, Node>, top: &Place, room: usize) -> bool
-    ensures { result ≡ judged.reaches_at_most names.now.entries top.now room }
+    ensures { result ≡ rooms.reaches_at_most names.now.entries top.now room }
 {
     for (place, _) in names.range((Bound::Included(top), Bound::Unbounded)) {
         if !place.starts_with(top) {

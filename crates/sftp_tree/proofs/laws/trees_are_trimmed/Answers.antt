@@ -1,4 +1,4 @@
-use Rattle.sftp_tree.proofs.KeepTrim.{well-formed-trimmed, fits-trimmed, kept-trim}
+use Rattle.sftp_tree.proofs.KeepTrim.{well-formed-trimmed, fits-trimmed, kept-trim, trimmed-already}
 use Rattle.sftp_tree.proofs.KeepFiles.{content-left}
 use Rattle.sftp_tree.proofs.laws.trees_are_trimmed.Goals as goal
 
@@ -7,5 +7,6 @@ returns c = record {
   tree = λ t is_held. well-formed-trimmed is_held t;
   limits = λ t is_held. fits-trimmed is_held t;
   kept = kept-trim;
+  already = trimmed-already;
   files = λ t is_held number well. content-left t is_held number well.numbered;
 }

@@ -7,7 +7,7 @@ use Rattle.sftp_tree.specs.Walk.{walk, start_of, meets, is_last, through}
 use Rattle.sftp_tree.specs.Walking.{meeting}
 use Rattle.sftp_tree.proofs.WalkSteps.{walk-turn, looked-turn, walk-nil, behind_link-none, behind_link-some, looked_behind-some, stays, below}
 use Rattle.sftp_tree.proofs.WalkMeetings.{steps-behind, through-link}
-use Rattle.sftp_tree.proofs.WalkPlaces.{root-stands, found-at}
+use Rattle.sftp_tree.proofs.WalkPlaces.{place-of}
 use Rattle.sftp_tree.proofs.trees.Tree.walk.Goals as goal
 
 pub loop-component-smaller-in-Enters : goal.loop-component-smaller-in-Enters
@@ -32,15 +32,15 @@ pub returns-clause-reached : goal.returns-clause-reached
 returns-clause-reached c =
     sym (c.loop-component.invariant.same ∙ ap (walk c.args.self.now.names c.args.follow c.loop-component.links_left c.loop-component.at) c.in_default.ensures.0 ∙ walk-nil c.args.self.now.names c.args.follow c.loop-component.links_left c.loop-component.at)
 
-pub returns-in-Ends-clause-parent : goal.returns-in-Ends-clause-parent
-returns-in-Ends-clause-parent c =
+pub returns-in-Ends-clause-place : goal.returns-in-Ends-clause-place
+returns-in-Ends-clause-place c =
     let answer = sym (walk-turn c.args.self.now.names c.names-names.result.now c.args.follow c.loop-component.links_left c.loop-component.at c.meet.new.at c.loop-component.route c.in-Some.component.now c.next_component.new.self c.is_done.result c.in_ok-meet.field-0 _ _ c.names-names.ensures.names c.loop-component.invariant.same c.in-Some.ensures c.is_done.ensures c.in_ok-meet.ensures.meets c.in-Ends.is) in
-    (found-at c.args.self.now c.args.follow 40 [] c.args.route c.meet.new.at c.names-names.ensures.kept (root-stands c.args.self.now c.names-names.ensures.kept) c.requires answer).parent_stands
+    place-of c.args.self.now c.args.follow c.args.route c.meet.new.at c.names-names.ensures.kept c.requires answer
 
-pub returns-clause-parent : goal.returns-clause-parent
-returns-clause-parent c =
+pub returns-clause-place : goal.returns-clause-place
+returns-clause-place c =
     let answer = sym (c.loop-component.invariant.same ∙ ap (walk c.args.self.now.names c.args.follow c.loop-component.links_left c.loop-component.at) c.in_default.ensures.0 ∙ walk-nil c.args.self.now.names c.args.follow c.loop-component.links_left c.loop-component.at) in
-    (found-at c.args.self.now c.args.follow 40 [] c.args.route c.loop-component.at c.names-names.ensures.kept (root-stands c.args.self.now c.names-names.ensures.kept) c.requires answer).parent_stands
+    place-of c.args.self.now c.args.follow c.args.route c.loop-component.at c.names-names.ensures.kept c.requires answer
 
 pub returns-in-Through-clause-reached : goal.returns-in-Through-clause-reached
 returns-in-Through-clause-reached c =

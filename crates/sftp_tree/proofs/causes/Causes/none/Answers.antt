@@ -1,0 +1,5 @@
+use Rattle.sftp_tree.proofs.CauseBits.{none-set}
+use Rattle.sftp_tree.proofs.causes.Causes.none.Goals as goal
+
+pub returns : goal.returns
+returns c = none-set

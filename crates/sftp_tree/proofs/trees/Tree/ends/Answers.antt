@@ -1,0 +1,7 @@
+use Rattle.sftp_tree.specs.Asks.{asked}
+use Rattle.sftp_tree.proofs.CauseLed.{led-is}
+use Rattle.sftp_tree.proofs.trees.Tree.ends.Goals as goal
+
+pub returns-clause-old : goal.returns-clause-old
+returns-clause-old c =
+    led-is c.args.self.now (asked c.args.ask) c.follows.result c.path.result.now c.in_ok-old.old c.path.ensures c.follows.ensures c.in_ok-old.ensures.reached

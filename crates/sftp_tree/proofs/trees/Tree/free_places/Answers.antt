@@ -1,0 +1,20 @@
+use Rattle.std.proofs.Common.{sym, ap, ◌∙◌}
+use Rattle.sftp_tree.specs.declared.causes.Refused.{Refused}
+use Rattle.sftp_tree.specs.declared.causes.Refused.TheVariants as refusals
+use Rattle.sftp_tree.specs.Steps.{CauseSet}
+use Rattle.sftp_tree.specs.Asks.{asked}
+use Rattle.sftp_tree.specs.Sets.{IsRefusal}
+use Rattle.sftp_tree.proofs.CauseLed.{exit, own-holds, lost-holds}
+use Rattle.sftp_tree.proofs.trees.Tree.free_places.Goals as goal
+
+pub returns-in_err-refuse-clause-refused : goal.returns-in_err-refuse-clause-refused
+returns-in_err-refuse-clause-refused c =
+    let cause = c.in_err-refuse.field-0.0 in
+    exit _ (λ (refused : Refused). IsRefusal c.args.self.now (asked c.args.ask) refused) (refusals.Cause cause) c.from_residual.ensures.1
+    (own-holds c.args.self.now (asked c.args.ask) cause (ap (λ (set : CauseSet). set cause) (sym c.own_causes.ensures) ∙ c.in_err-refuse.ensures.cause))
+
+pub returns-in_err-places-clause-refused : goal.returns-in_err-places-clause-refused
+returns-in_err-places-clause-refused c =
+    let cause = c.in_err-places.field-0.0 in
+    exit _ (λ (refused : Refused). IsRefusal c.args.self.now (asked c.args.ask) refused) (refusals.Cause cause) c.from_residual-in_err-places.ensures.1
+    (lost-holds c.args.self.now (asked c.args.ask) c.in_ok-ends.ends.old c.in_ok-ends.ends.new cause c.in_ok-ends.ensures.old c.in_ok-ends.ensures.new c.in_err-places.ensures.lost)

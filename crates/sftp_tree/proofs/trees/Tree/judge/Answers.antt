@@ -1,0 +1,26 @@
+use Rattle.std.proofs.Common.{◌≡◌, ◌&&◌, not, sym, subst, ap, ◌∙◌, Ok, IfOk}
+use Rattle.std.specs.List.{list_any}
+use Rattle.sftp_path.specs.Place.{Place}
+use Rattle.sftp_tree.specs.Tree.{IsKept}
+use Rattle.sftp_tree.specs.Steps.{every_cause}
+use Rattle.sftp_tree.specs.Room.{has_room_for}
+use Rattle.sftp_tree.specs.Walking.{IsPlaceOf}
+use Rattle.sftp_tree.specs.Asks.{asked}
+use Rattle.sftp_tree.specs.Sets.{in_set}
+use Rattle.sftp_tree.proofs.CausePlaces.{judged}
+use Rattle.sftp_tree.proofs.trees.Tree.judge.Goals as goal
+use Rattle.sftp_tree.proofs.trees.Tree.judge.Goals.{then-not-has_any, else-not-has_any}
+
+pub returns : goal.returns
+returns c =
+    let t = c.args.self.now in
+    let ask = asked c.args.ask in
+    let end = c.args.ends.now.old in
+    let new = c.args.ends.now.new in
+    let room = has_room_for t ask end new in
+    let lacks : c.if-not-has_any.lacks ≡ (not (list_any (in_set c.plain_causes-plain.result) every_cause) && not room) = elim c.if-not-has_any.branch [
+      | then-not-has_any w ↦ w.lacks-is ∙ ap not w.has_room_for.ensures ∙ sym (ap (λ b. b && not room) (ap not (sym c.has_any.ensures ∙ w.if-not-has_any.true)))
+      | else-not-has_any w ↦ w.lacks-is ∙ ap not w.if-not-has_any.false ∙ sym (ap (λ b. b && not room) (ap not (sym c.has_any.ensures ∙ w.if-not-has_any.false)))
+    ] in
+    let keeps : (place : Place) → end ≡ Ok place → IsKept t = λ place is. (let it : IsPlaceOf t place = subst (λ e. IfOk e (IsPlaceOf t)) is c.requires.well.0 in it.kept) in
+    c.when.ensures ∙ judged t ask end new (in_set c.plain_causes-plain.result) c.if-not-has_any.lacks c.requires.old c.requires.new keeps c.plain_causes-plain.ensures lacks

@@ -1,0 +1,6 @@
+use Rattle.std.proofs.Common.{arith}
+use Rattle.sftp_tree.proofs.PlanLaws.{bytes-are}
+use Rattle.sftp_tree.proofs.trees.Tree.link_to.Goals as goal
+
+pub returns-clause-bytes : goal.returns-clause-bytes
+returns-clause-bytes c = bytes-are c.args.target.now (λ i. omega (arith, c.type_inv.target i))

@@ -1,0 +1,7 @@
+use Rattle.std.proofs.Common.{sym, ◌∙◌, ap, option_copied}
+use Rattle.sftp_tree.proofs.CallPlaces.{node-kept}
+use Rattle.sftp_tree.proofs.trees.Tree.shown_at.Goals as goal
+
+pub shown-requires : goal.shown-requires
+shown-requires c =
+    node-kept c.args.self.now c.args.place.now c.in-Some.node.now c.standing.ensures.kept (sym c.standing.ensures.there ∙ ap option_copied c.in-Some.is)

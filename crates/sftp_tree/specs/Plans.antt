@@ -1,0 +1,100 @@
+-- What is to be done for a request.
+use Rattle.std.specs.Prelude.{◌≡◌, false, if◌then◌else◌, Option, Some, None, IsTrue}
+use Rattle.sftp_path.specs.Place.{Place, parent, are_names}
+use Rattle.sftp_treefile.specs.TreeFile.{IsOwner, are_bytes, is_root, same_place}
+use Rattle.sftp_wire.specs.declared.attributes.Attrs.{Attrs}
+use Rattle.sftp_wire.specs.declared.packets.Ask.{Ask}
+use Rattle.sftp_wire.specs.declared.packets.Ask.TheVariants.{Setstat, Remove, Mkdir, Rmdir, Rename, Symlink, PosixRename, Hardlink}
+use Rattle.sftp_tree.specs.declared.nodes.Node.{Node}
+use Rattle.sftp_tree.specs.declared.nodes.Node.TheVariants as nodes
+use Rattle.sftp_tree.specs.declared.ends.Places.{Places}
+use Rattle.sftp_tree.specs.declared.plans.Plan.{Plan}
+use Rattle.sftp_tree.specs.declared.plans.Plan.TheVariants.{Nothing, Put, Remove as Take, Move, Set}
+use Rattle.sftp_tree.specs.Tree.{Tree, IsTrimmed, IsNode, fits, node_at, is_taken, is_directory, is_file, has_entries, trim}
+use Rattle.sftp_tree.specs.Attributes.{directory_owner}
+use Rattle.sftp_tree.specs.Steps.{are_one, goes_inside, with_entry, without_entry, with_attributes, put_in_its_stead, after}
+
+-- the tree with that done; files that lost their last name are still there
+abbrev pub changed : Tree → Plan → Tree
+changed t Nothing = t
+changed t (Put place node) = with_entry t place node
+changed t (Take place) = without_entry t place
+changed t (Move old new) = put_in_its_stead t old new
+changed t (Set place attrs) = with_attributes t attrs.now place (node_at t.names place)
+
+-- ---- what can be done
+
+-- this can be put there
+pub record CanPut (t : Tree) (place : Place) (node : Node) : Type 0 where
+  pub absent : node_at t.names place ≡ None
+  pub named : IsTrue (are_names place)
+  pub above : IsTrue (is_directory (node_at t.names (parent place)))
+  pub is_node : IsNode t.files node
+  pub room : IsTrue (fits (with_entry t place node))
+
+-- what stands there can be removed
+pub record CanTake (t : Tree) (place : Place) : Type 0 where
+  pub taken : IsTrue (is_taken (node_at t.names place))
+  pub below_root : is_root place ≡ false
+  pub empty : has_entries t.names place ≡ false
+
+-- what stands at the old place can go to the new one
+pub record CanMove (t : Tree) (old new : Place) : Type 0 where
+  pub taken : IsTrue (is_taken (node_at t.names old))
+  pub old_below_root : is_root old ≡ false
+  pub new_below_root : is_root new ≡ false
+  pub outside : goes_inside t.names old new ≡ false
+  pub elsewhere : same_place old new ≡ false
+  pub named : IsTrue (are_names new)
+  pub above : IsTrue (is_directory (node_at t.names (parent new)))
+  pub alone : has_entries t.names new ≡ false
+  pub room : IsTrue (fits (put_in_its_stead t old new))
+
+abbrev pub IsReady : Tree → Plan → Type 0
+IsReady t Nothing = IsTrimmed t
+IsReady t (Put place node) = CanPut t place node
+IsReady t (Take place) = CanTake t place
+IsReady t (Move old new) = CanMove t old new
+IsReady t (Set place attrs) = IsTrue (fits (with_attributes t attrs.now place (node_at t.names place)))
+
+-- ---- what is to be done, by request
+
+abbrev pub IsSetting : Place → Attrs → Plan → Type 0
+IsSetting place attrs (Set at given) = (at ≡ place) × (given.now ≡ attrs)
+IsSetting place attrs other = ⊥
+
+-- at the place that its path leads to
+abbrev pub IsPlanAt : Tree → Ask → Place → Plan → Type 0
+IsPlanAt t (Mkdir path attrs) place plan = plan ≡ Put place (nodes.Dir (directory_owner t attrs))
+IsPlanAt t (Symlink target link) place plan = plan ≡ Put place (nodes.Link target)
+IsPlanAt t (Rmdir path) place plan = plan ≡ Take place
+IsPlanAt t (Remove path) place plan = plan ≡ Take place
+IsPlanAt t (Setstat path attrs) place plan = IsSetting place attrs plan
+IsPlanAt t other place plan = plan ≡ Nothing
+
+abbrev pub IsNaming : Option Node → Place → Plan → Type 0
+IsNaming None new plan = ⊥
+IsNaming (Some node) new plan = plan ≡ Put new node
+
+-- with the two places that its paths lead to
+abbrev pub IsPlanBetween : Tree → Ask → Place → Place → Plan → Type 0
+IsPlanBetween t (Rename oldpath newpath) old new plan = plan ≡ Move old new
+IsPlanBetween t (PosixRename oldpath newpath) old new plan = plan ≡ (if are_one t.names old new then Nothing else Move old new)
+IsPlanBetween t (Hardlink oldpath newpath) old new plan = IsNaming (node_at t.names old) new plan
+IsPlanBetween t other old new plan = plan ≡ Nothing
+
+-- the owner of a directory that is made is one, and the target of a link is bytes
+abbrev pub HasNode : Tree → Ask → Type 0
+HasNode t (Mkdir path attrs) = IsOwner (directory_owner t attrs)
+HasNode t (Symlink target link) = IsTrue (are_bytes target)
+HasNode t other = Unit {0}
+
+-- only of a file is a name made
+abbrev pub IsFileAt : Tree → Ask → Place → Type 0
+IsFileAt t (Hardlink oldpath newpath) old = IsTrue (is_file (node_at t.names old))
+IsFileAt t other old = Unit {0}
+
+-- it can be done, and leaves what the request asks for
+pub record IsPlanned (t : Tree) (ask : Ask) (plan : Plan) : Type 0 where
+  pub ready : IsReady t plan
+  pub done : trim (changed t plan) ≡ after t ask

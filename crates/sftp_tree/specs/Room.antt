@@ -1,0 +1,53 @@
+-- Whether what requests ask for keeps to the limits, in numbers.
+use Rattle.std.specs.Prelude.{◌-◌, ◌&&◌, ◌||◌, not, nat_le, Bool, true, length, ℕ, Option, Some, None, Result, Ok, Err}
+use Rattle.std.specs.List.{list_all}
+use Rattle.sftp_path.specs.Place.{Place, begins, depth_limit}
+use Rattle.sftp_treefile.specs.declared.limits.TreeLimits.{TreeLimits}
+use Rattle.sftp_wire.specs.declared.packets.Ask.{Ask}
+use Rattle.sftp_wire.specs.declared.packets.Ask.TheVariants.{Setstat, Mkdir, Rename, Symlink, PosixRename, Hardlink}
+use Rattle.sftp_tree.specs.declared.nodes.Node.{Node}
+use Rattle.sftp_tree.specs.declared.causes.Cause.{Cause}
+use Rattle.sftp_tree.specs.Tree.{Tree, Names, limits, node_at, is_file, depth_fits}
+use Rattle.sftp_tree.specs.Steps.{are_one}
+
+-- whether one entry more, at a new place, keeps to the limits: the root is one of the places and no entry
+abbrev pub has_room : Tree → Place → Bool
+has_room t place = nat_le (length t.names) (limits t).entries && depth_fits place
+
+-- whether a file may have the size that is given, where one is
+abbrev pub size_fits : TreeLimits → Option ℕ → Bool
+size_fits bounds None = true
+size_fits bounds (Some size) = nat_le size bounds.file_bytes
+
+-- the same, where a file stands
+abbrev pub size_fits_at : TreeLimits → Option ℕ → Option Node → Bool
+size_fits_at bounds size standing = not (is_file standing) || size_fits bounds size
+
+-- whether no place that the first begins has more names than so many behind it
+abbrev pub reaches_at_most : Names → Place → ℕ → Bool
+reaches_at_most names top room = list_all (λ e. not (begins top e.0) || nat_le (length e.0 - length top) room) names
+
+-- whether what stands at the old place, with all below it, keeps to the most names of a place at the new one
+abbrev pub move_fits : Names → Place → Place → Bool
+move_fits names old new = nat_le (length new) depth_limit && reaches_at_most names old (depth_limit - length new)
+
+-- by request, at the place that its path leads to
+abbrev pub has_room_at : Tree → Ask → Place → Bool
+has_room_at t (Mkdir path attrs) place = has_room t place
+has_room_at t (Symlink target link) place = has_room t place
+has_room_at t (Setstat path attrs) place = size_fits_at (limits t) attrs.size (node_at t.names place)
+has_room_at t other place = true
+
+-- and with the two places that its paths lead to
+abbrev pub has_room_between : Tree → Ask → Place → Place → Bool
+has_room_between t (Rename oldpath newpath) old new = move_fits t.names old new
+has_room_between t (PosixRename oldpath newpath) old new = are_one t.names old new || move_fits t.names old new
+has_room_between t (Hardlink oldpath newpath) old new = has_room t new
+has_room_between t other old new = true
+
+-- by where its paths lead
+abbrev pub has_room_for : Tree → Ask → Result Place Cause → Option (Result Place Cause) → Bool
+has_room_for t ask (Ok place) None = has_room_at t ask place
+has_room_for t ask (Ok old) (Some (Ok new)) = has_room_between t ask old new
+has_room_for t ask (Ok old) (Some (Err cause)) = true
+has_room_for t ask (Err cause) new = true

@@ -1,0 +1,176 @@
+//! Where the paths of a request lead, and which causes hold of it then.
+ghost use Rattle.std.specs.Prelude.{◌≡◌, ◌⊎◌, Some, Err, IfOk, IfErr, IfSome, IsTrue};
+ghost use Rattle.sftp_path.specs.Place.{parent};
+ghost use Rattle.sftp_tree.specs.declared.causes.Cause.{Cause as cause};
+ghost use Rattle.sftp_tree.specs.Tree as tree;
+ghost use Rattle.sftp_tree.specs.Steps as steps;
+ghost use Rattle.sftp_tree.specs.Asks.{asked};
+ghost use Rattle.sftp_tree.specs.Sets.{in_set, IsFree, IsRefusal};
+ghost use Rattle.sftp_tree.specs.Ends as spec;
+ghost use Rattle.sftp_tree.specs.Room as room;
+
+use crate::asks::{PathAsk, path_ask};
+use crate::causes::{Cause, Causes, Refused};
+use crate::trees::Tree;
+use sftp_path::{NoMemory, Place};
+use sftp_wire::Ask;
+
+/// Where the paths of a request lead, or why they lead nowhere; the second is a new name's.
+#[derive(Drop)]
+pub(crate) struct Ends {
+    old: Result<Place, Cause>,
+    new: Option<Result<Place, Cause>>,
+}
+
+/// The places that the paths of a request lead to.
+#[derive(Drop)]
+pub(crate) struct Places {
+    pub(crate) old: Place,
+    pub(crate) new: Option<Place>,
+}
+
+impl Ends {
+    /// The places. Of two paths that lead nowhere a bad one is told first, and else the first.
+    fn places(self) -> Result<Places, Cause>
+        ensures led { IfOk result (λ places. spec.AreLed self.old self.new places) }
+        ensures lost { IfErr result (λ cause. (self.old ≡ Err cause) ⊎ (self.new ≡ Some (Err cause))) }
+    {
+        match (self.old, self.new) {
+            (Err(Cause::BadPath), _) => Err(Cause::BadPath),
+            (_, Some(Err(Cause::BadPath))) => Err(Cause::BadPath),
+            (Err(cause), _) => Err(cause),
+            (Ok(_), Some(Err(cause))) => Err(cause),
+            (Ok(old), Some(Ok(new))) => Ok(Places {
+                old,
+                new: Some(new),
+            }),
+            (Ok(old), None) => Ok(Places { old, new: None }),
+        }
+    }
+}
+
+impl Tree {
+    /// Every cause that holds of a request for what a path names. There is none of a request on a handle, and none of
+    /// one that is not judged yet.
+    ///
+    /// # Errors
+    ///
+    /// `NoMemory` where memory runs out.
+    pub fn causes(&self, ask: &Ask) -> Result<Causes, NoMemory>
+        ensures { IfOk result (λ set. (c : cause) → in_set set c ≡ steps.causes self.now ask.now c) }
+    {
+        let _ = self.names();
+        match path_ask(ask) {
+            Some(ask) => {
+                let ends = self.ends(ask)?;
+                Ok(self.judge(ask, &ends))
+            }
+            None => Ok(Causes::none()),
+        }
+    }
+
+    /// The places that the paths of a request lead to, where no cause refuses it.
+    ///
+    /// # Errors
+    ///
+    /// The first cause that holds: of the request's own bytes, then of the walks, then in the order of the table. `NoMemory`
+    /// where memory runs out.
+    pub(crate) fn free_places(&self, ask: PathAsk<'_>) -> Result<Places, Refused>
+        ensures free { IfOk result (λ places. IsFree self.now (asked ask.entry)) }
+        ensures led { IfOk result (λ places. spec.LeadTo self.now (asked ask.entry) places) }
+        ensures well { IfOk result (λ places. spec.AreWell self.now places) }
+        ensures refused { IfErr result (λ refused. IsRefusal self.now (asked ask.entry) refused) }
+    {
+        ask.own_causes().refuse()?;
+        let ends = self.ends(ask)?;
+        let causes = self.judge(ask, &ends);
+        let places = ends.places()?;
+        causes.refuse()?;
+        Ok(places)
+    }
+
+    /// Where the paths of a request lead.
+    ///
+    /// # Errors
+    ///
+    /// `NoMemory` where memory runs out.
+    fn ends(&self, ask: PathAsk<'_>) -> Result<Ends, NoMemory>
+        ensures old { IfOk result (λ ends. steps.led self.now (asked ask.entry) ≡ Some ends.old) }
+        ensures new { IfOk result (λ ends. steps.new_led self.now (asked ask.entry) ≡ ends.new) }
+        ensures well { IfOk result (λ ends. spec.EndsAreWell self.now ends.old ends.new) }
+    {
+        let old = self.reach(ask.follows(), ask.path())?;
+        let new = match ask.new_path() {
+            Some(path) => Some(self.reach(false, path)?),
+            None => None,
+        };
+        Ok(Ends { old, new })
+    }
+
+    /// The causes of a request by where its paths lead.
+    fn judge(&self, ask: PathAsk<'_>, ends: &Ends) -> Causes
+        requires old { steps.led self.now (asked ask) ≡ Some ends.now.old }
+        requires new { steps.new_led self.now (asked ask) ≡ ends.now.new }
+        requires well { spec.EndsAreWell self.now ends.now.old ends.now.new }
+        ensures { in_set result ≡ steps.causes self.now (asked ask.entry) }
+    {
+        let plain = self.plain_causes(ask, ends);
+        let lacks = !plain.has_any() && !self.has_room_for(ask, ends);
+        plain.when(Cause::NoRoom, lacks)
+    }
+
+    /// The causes but for the want of room.
+    fn plain_causes(&self, ask: PathAsk<'_>, ends: &Ends) -> Causes
+        ensures { in_set result ≡ steps.plain_of self.now (asked ask.entry) (Some ends.now.old) ends.now.new }
+    {
+        let here = self.led_causes(ask, &ends.old);
+        let there = self.new_led_causes(ask, &ends.new);
+        let between = self.both_causes(ask, ends);
+        ask.own_causes().union(here).union(there).union(between)
+    }
+
+    /// The causes of the path; of two paths of the first.
+    fn led_causes(&self, ask: PathAsk<'_>, end: &Result<Place, Cause>) -> Causes
+        ensures { in_set result ≡ steps.led_causes (Some end.now) (steps.causes_at self.now (asked ask.entry)) }
+    {
+        match end {
+            Ok(place) => self.causes_at(ask, place),
+            Err(cause) => Causes::none().when(*cause, true),
+        }
+    }
+
+    /// The causes of the second path.
+    fn new_led_causes(&self, ask: PathAsk<'_>, end: &Option<Result<Place, Cause>>) -> Causes
+        ensures { in_set result ≡ steps.led_causes end.now (steps.new_causes_at self.now (asked ask.entry)) }
+    {
+        match end {
+            Some(Ok(place)) => self.new_causes_at(ask, place),
+            Some(Err(cause)) => Causes::none().when(*cause, true),
+            None => Causes::none(),
+        }
+    }
+
+    /// The causes of two places, where both paths lead to one.
+    fn both_causes(&self, ask: PathAsk<'_>, ends: &Ends) -> Causes
+        ensures { in_set result ≡ steps.both_causes (Some ends.now.old) ends.now.new (steps.causes_between self.now (asked ask.entry)) }
+    {
+        match (&ends.old, &ends.new) {
+            (Ok(old), Some(Ok(new))) => self.causes_between(ask, old, new),
+            (Ok(_), Some(Err(_))) => Causes::none(),
+            (Ok(_), None) => Causes::none(),
+            (Err(_), _) => Causes::none(),
+        }
+    }
+
+    /// Whether what a request asks for keeps to the limits.
+    fn has_room_for(&self, ask: PathAsk<'_>, ends: &Ends) -> bool
+        ensures { result ≡ room.has_room_for self.now (asked ask.entry) ends.now.old ends.now.new }
+    {
+        match (&ends.old, &ends.new) {
+            (Ok(place), None) => self.has_room_at(ask, place),
+            (Ok(old), Some(Ok(new))) => self.has_room_between(ask, old, new),
+            (Ok(_), Some(Err(_))) => true,
+            (Err(_), _) => true,
+        }
+    }
+}

@@ -1,0 +1,72 @@
+//! What stands at a place.
+ghost use Rattle.std.specs.Prelude.{◌≡◌, option_copied};
+ghost use Rattle.sftp_treefile.specs.TreeFile.{is_root};
+ghost use Rattle.sftp_tree.specs.Tree as tree;
+ghost use Rattle.sftp_tree.specs.Steps as steps;
+
+use crate::nodes::Node;
+use crate::trees::Tree;
+use sftp_path::Place;
+
+impl Tree {
+    /// What stands at a place.
+    #[tactic(auto, unfolding(sftp_path::specs::Table::get))]
+    pub(crate) fn standing(&self, place: &Place) -> Option<&Node>
+        ensures there { option_copied result ≡ tree.node_at self.now.names place.now }
+        ensures kept { tree.IsKept self.now }
+    {
+        self.names().get(place)
+    }
+
+    /// Whether both are one place, or names of one file.
+    pub(crate) fn are_one(&self, old: &Place, new: &Place) -> bool
+        ensures { result ≡ steps.are_one self.now.names old.now new.now }
+    {
+        old == new || are_one_file(self.standing(old), self.standing(new))
+    }
+}
+
+/// Whether anything stands there.
+pub(crate) fn is_taken(found: Option<&Node>) -> bool
+    ensures { result ≡ tree.is_taken (option_copied found.entry) }
+{
+    found.is_some()
+}
+
+/// Whether a directory stands there.
+pub(crate) fn is_directory(found: Option<&Node>) -> bool
+    ensures { result ≡ tree.is_directory (option_copied found.entry) }
+{
+    matches!(found, Some(Node::Dir(_)))
+}
+
+/// Whether a name of a file stands there.
+pub(crate) fn is_file(found: Option<&Node>) -> bool
+    ensures { result ≡ tree.is_file (option_copied found.entry) }
+{
+    matches!(found, Some(Node::File(_)))
+}
+
+/// Whether a link stands there.
+pub(crate) fn is_link(found: Option<&Node>) -> bool
+    ensures { result ≡ tree.is_link (option_copied found.entry) }
+{
+    matches!(found, Some(Node::Link(_)))
+}
+
+/// Whether both are names of one file.
+fn are_one_file(one: Option<&Node>, other: Option<&Node>) -> bool
+    ensures { result ≡ steps.are_one_file (option_copied one.entry) (option_copied other.entry) }
+{
+    match (one, other) {
+        (Some(Node::File(one)), Some(Node::File(other))) => one == other,
+        _ => false,
+    }
+}
+
+/// Whether the place is the root, which no names lead to.
+pub(crate) fn is_root(place: &Place) -> bool
+    ensures { result ≡ is_root place.now }
+{
+    place.depth() == 0
+}

@@ -1,0 +1,193 @@
+//! Which causes hold at the places that the paths of a request lead to.
+ghost use Rattle.std.specs.Prelude.{◌≡◌, Bool, option_copied};
+ghost use Rattle.sftp_tree.specs.Asks.{asked};
+ghost use Rattle.sftp_tree.specs.Sets.{in_set};
+ghost use Rattle.sftp_tree.specs.Steps as steps;
+
+use crate::asks::PathAsk;
+use crate::causes::{Cause, Causes};
+use crate::entries::is_below;
+use crate::found::{is_directory, is_file, is_link, is_root, is_taken};
+use crate::nodes::Node;
+use crate::trees::Tree;
+use sftp_path::Place;
+use sftp_wire::Attrs;
+
+impl Tree {
+    /// The causes at the place that the path leads to; of two paths the first.
+    pub(crate) fn causes_at(&self, ask: PathAsk<'_>, place: &Place) -> Causes
+        ensures { in_set result ≡ steps.causes_at self.now (asked ask.entry) place.now }
+    {
+        let found = self.standing(place);
+        match ask {
+            PathAsk::Mkdir { .. } => making(found),
+            PathAsk::Rmdir { .. } => self.removing(place),
+            PathAsk::Remove { .. } => unlinking(found),
+            PathAsk::Setstat { attrs, .. } => setting(attrs, found),
+            PathAsk::Stat { .. } => needing(found),
+            PathAsk::Lstat { .. } => needing(found),
+            PathAsk::Realpath { .. } => Causes::none(),
+            PathAsk::Readlink { .. } => reading(found),
+            PathAsk::Symlink { .. } => making(found),
+            PathAsk::Rename { .. } => self.leaving(place),
+            PathAsk::PosixRename { .. } => self.leaving(place),
+            PathAsk::Hardlink { .. } => naming(found),
+        }
+    }
+
+    /// The causes at the place that the second path leads to.
+    pub(crate) fn new_causes_at(&self, ask: PathAsk<'_>, place: &Place) -> Causes
+        ensures { in_set result ≡ steps.new_causes_at self.now (asked ask.entry) place.now }
+    {
+        match ask {
+            PathAsk::Rename { .. } => making(self.standing(place)),
+            PathAsk::PosixRename { .. } => giving(place),
+            PathAsk::Hardlink { .. } => making(self.standing(place)),
+            PathAsk::Mkdir { .. } => Causes::none(),
+            PathAsk::Rmdir { .. } => Causes::none(),
+            PathAsk::Remove { .. } => Causes::none(),
+            PathAsk::Setstat { .. } => Causes::none(),
+            PathAsk::Stat { .. } => Causes::none(),
+            PathAsk::Lstat { .. } => Causes::none(),
+            PathAsk::Realpath { .. } => Causes::none(),
+            PathAsk::Readlink { .. } => Causes::none(),
+            PathAsk::Symlink { .. } => Causes::none(),
+        }
+    }
+
+    /// The causes of two places.
+    pub(crate) fn causes_between(&self, ask: PathAsk<'_>, old: &Place, new: &Place) -> Causes
+        ensures { in_set result ≡ steps.causes_between self.now (asked ask.entry) old.now new.now }
+    {
+        match ask {
+            PathAsk::Rename { .. } => self.moving(old, new),
+            PathAsk::PosixRename { .. } => self.exchanging(old, new),
+            PathAsk::Hardlink { .. } => Causes::none(),
+            PathAsk::Mkdir { .. } => Causes::none(),
+            PathAsk::Rmdir { .. } => Causes::none(),
+            PathAsk::Remove { .. } => Causes::none(),
+            PathAsk::Setstat { .. } => Causes::none(),
+            PathAsk::Stat { .. } => Causes::none(),
+            PathAsk::Lstat { .. } => Causes::none(),
+            PathAsk::Realpath { .. } => Causes::none(),
+            PathAsk::Readlink { .. } => Causes::none(),
+            PathAsk::Symlink { .. } => Causes::none(),
+        }
+    }
+
+    /// Of a directory that is to be removed.
+    fn removing(&self, place: &Place) -> Causes
+        ensures { in_set result ≡ steps.removing_causes self.now.names place.now }
+    {
+        let found = self.standing(place);
+        let full = is_directory(found) && self.names().has_entries(place);
+        needing(found)
+            .when(Cause::NotDir, is_taken(found) && !is_directory(found))
+            .when(Cause::NotEmpty, full)
+            .when(Cause::Root, is_root(place))
+    }
+
+    /// Of what is to go from there to another place.
+    fn leaving(&self, place: &Place) -> Causes
+        ensures { in_set result ≡ steps.leaving_causes self.now.names place.now }
+    {
+        needing(self.standing(place)).when(Cause::Root, is_root(place))
+    }
+
+    /// Whether a directory would be moved into itself.
+    fn goes_inside(&self, old: &Place, new: &Place) -> bool
+        ensures { result ≡ steps.goes_inside self.now.names old.now new.now }
+    {
+        is_directory(self.standing(old)) && is_below(old, new)
+    }
+
+    /// Of what is to go to a place that is free.
+    fn moving(&self, old: &Place, new: &Place) -> Causes
+        ensures { in_set result ≡ steps.moving_causes self.now.names old.now new.now }
+    {
+        Causes::none().when(Cause::Inside, self.goes_inside(old, new))
+    }
+
+    /// Of what is to go to a place where something else may stand, in its stead. To the same place, or from one name of a file
+    /// to another, nothing goes.
+    fn exchanging(&self, old: &Place, new: &Place) -> Causes
+        ensures { in_set result ≡ steps.exchanging_causes self.now.names old.now new.now }
+    {
+        if self.are_one(old, new) {
+            return Causes::none();
+        }
+        let entries = self.names().has_entries(new);
+        clashing(self.standing(old), self.standing(new), entries).when(
+            Cause::Inside,
+            self.goes_inside(old, new),
+        )
+    }
+}
+
+/// Of what is to be made there.
+fn making(found: Option<&Node>) -> Causes
+    ensures { in_set result ≡ steps.making_causes (option_copied found.entry) }
+{
+    Causes::none().when(Cause::Exists, is_taken(found))
+}
+
+/// Of what is to be there.
+fn needing(found: Option<&Node>) -> Causes
+    ensures { in_set result ≡ steps.needing_causes (option_copied found.entry) }
+{
+    Causes::none().when(Cause::NoEntry, !is_taken(found))
+}
+
+/// Of a link that is to be there.
+fn reading(found: Option<&Node>) -> Causes
+    ensures { in_set result ≡ steps.link_causes (option_copied found.entry) }
+{
+    needing(found).when(Cause::NotLink, is_taken(found) && !is_link(found))
+}
+
+/// Of a file that is to be there.
+fn naming(found: Option<&Node>) -> Causes
+    ensures { in_set result ≡ steps.file_causes (option_copied found.entry) }
+{
+    needing(found).when(Cause::NotFile, is_taken(found) && !is_file(found))
+}
+
+/// Of what is there and is to get attributes: only a file has a size that can be set.
+fn setting(attrs: &Attrs, found: Option<&Node>) -> Causes
+    ensures { in_set result ≡ steps.setting_causes attrs.now (option_copied found.entry) }
+{
+    let sized = attrs.size.is_some() && (is_taken(found) && !is_file(found));
+    needing(found).when(Cause::NotFile, sized)
+}
+
+/// Of a name that is to be removed, which is no directory's.
+fn unlinking(found: Option<&Node>) -> Causes
+    ensures { in_set result ≡ steps.unlinking_causes (option_copied found.entry) }
+{
+    needing(found).when(Cause::IsDir, is_directory(found))
+}
+
+/// Of a place that is to be given to something else.
+fn giving(place: &Place) -> Causes
+    ensures { in_set result ≡ steps.giving_causes place.now }
+{
+    Causes::none().when(Cause::Root, is_root(place))
+}
+
+/// Of what is to come in the stead of something else.
+fn clashing(goes: Option<&Node>, stays: Option<&Node>, entries: bool) -> Causes
+    ensures { in_set result ≡ steps.clashing_causes (option_copied goes.entry) (option_copied stays.entry) entries }
+{
+    let from_directory = is_directory(goes);
+    let to_directory = is_directory(stays);
+    Causes::none()
+        .when(
+            Cause::NotDir,
+            from_directory && (is_taken(stays) && !to_directory),
+        )
+        .when(
+            Cause::IsDir,
+            (is_taken(goes) && !from_directory) && to_directory,
+        )
+        .when(Cause::NotEmpty, from_directory && (to_directory && entries))
+}

@@ -1,0 +1,200 @@
+//! What is to be done for a request, and how it is done.
+ghost use Rattle.std.specs.Prelude.{◌≡◌, Some, IfOk, IfErr, IsTrue, OnOk, OnErr};
+ghost use Rattle.sftp_treefile.specs.TreeFile.{are_bytes};
+ghost use Rattle.sftp_tree.specs.declared.nodes.Node.TheVariants.{File, Link};
+ghost use Rattle.sftp_tree.specs.Tree as tree;
+ghost use Rattle.sftp_tree.specs.Steps as steps;
+ghost use Rattle.sftp_tree.specs.Asks.{asked};
+ghost use Rattle.sftp_tree.specs.Ends.{LeadTo, AreWell};
+ghost use Rattle.sftp_tree.specs.Sets.{IsFree, IsRefusal};
+ghost use Rattle.sftp_tree.specs.Plans as spec;
+
+use crate::asks::PathAsk;
+use crate::causes::Refused;
+use crate::ends::Places;
+use crate::file_numbers::FileNo;
+use crate::nodes::Node;
+use crate::owners::changed_owner;
+use crate::trees::Tree;
+use sftp_path::{NoMemory, Place};
+use sftp_wire::{Attrs, ByteString};
+
+/// What is to be done.
+#[derive(Drop)]
+pub(crate) enum Plan<'a> {
+    /// Nothing.
+    Nothing,
+    /// Put this where nothing stands.
+    Put(Place, Node),
+    /// Remove what stands there.
+    Remove(Place),
+    /// Move what stands there, with all below it, to another place, in the stead of what stands there.
+    Move(Place, Place),
+    /// Set the attributes of what stands there.
+    Set(Place, &'a Attrs),
+}
+
+impl Tree {
+    /// What is to be done for a request, where no cause refuses it.
+    ///
+    /// # Errors
+    ///
+    /// The first cause that holds: of the request's own bytes, then of the walks, then in the order of the table. `NoMemory`
+    /// where memory runs out.
+    pub(crate) fn plan<'a>(&self, ask: PathAsk<'a>) -> Result<Plan<'a>, Refused>
+        ensures free { OnOk result (IsFree self.now (asked ask.entry)) }
+        ensures ready { IfOk result (λ plan. spec.IsReady self.now plan) }
+        ensures done { IfOk result (λ plan. tree.trim (spec.changed self.now plan) ≡ steps.after self.now (asked ask.entry)) }
+        ensures refused { IfErr result (λ refused. IsRefusal self.now (asked ask.entry) refused) }
+    {
+        let places = self.free_places(ask)?;
+        let plan = self.plan_for(ask, places)?;
+        Ok(plan)
+    }
+
+    /// What is to be done for a request at the places that its paths lead to.
+    ///
+    /// # Errors
+    ///
+    /// `NoMemory` where memory runs out.
+    fn plan_for<'a>(&self, ask: PathAsk<'a>, places: Places) -> Result<Plan<'a>, NoMemory>
+        requires free { IsFree self.now (asked ask) }
+        requires led { LeadTo self.now (asked ask) places }
+        requires well { AreWell self.now places }
+        ensures { IfOk result (λ plan. spec.IsPlanned self.now (asked ask.entry) plan) }
+    {
+        let Places { old, new } = places;
+        match new {
+            None => self.plan_at(ask, old),
+            Some(new) => Ok(self.plan_between(ask, old, new)),
+        }
+    }
+
+    /// What is to be done at the place that the path of a request leads to.
+    ///
+    /// # Errors
+    ///
+    /// `NoMemory` where memory runs out.
+    fn plan_at<'a>(&self, ask: PathAsk<'a>, place: Place) -> Result<Plan<'a>, NoMemory>
+        ensures plan { IfOk result (spec.IsPlanAt self.now (asked ask.entry) place) }
+        ensures node { IfOk result (λ plan. spec.HasNode self.now (asked ask.entry)) }
+    {
+        Ok(match ask {
+            PathAsk::Mkdir { attrs, .. } => {
+                Plan::Put(place, Node::Dir(self.directory_owner(attrs)))
+            }
+            PathAsk::Rmdir { .. } => Plan::Remove(place),
+            PathAsk::Remove { .. } => Plan::Remove(place),
+            PathAsk::Setstat { attrs, .. } => Plan::Set(place, attrs),
+            PathAsk::Symlink { target, .. } => Plan::Put(place, self.link_to(target)?),
+            PathAsk::Stat { .. } => Plan::Nothing,
+            PathAsk::Lstat { .. } => Plan::Nothing,
+            PathAsk::Realpath { .. } => Plan::Nothing,
+            PathAsk::Readlink { .. } => Plan::Nothing,
+            PathAsk::Rename { .. } => Plan::Nothing,
+            PathAsk::PosixRename { .. } => Plan::Nothing,
+            PathAsk::Hardlink { .. } => Plan::Nothing,
+        })
+    }
+
+    /// What is to be done at the two places that the paths of a request lead to.
+    fn plan_between<'a>(&self, ask: PathAsk<'a>, old: Place, new: Place) -> Plan<'a>
+        requires { spec.IsFileAt self.now (asked ask) old }
+        ensures { spec.IsPlanBetween self.now (asked ask.entry) old new result }
+    {
+        match ask {
+            PathAsk::Rename { .. } => Plan::Move(old, new),
+            PathAsk::PosixRename { .. } => {
+                if self.are_one(&old, &new) {
+                    Plan::Nothing
+                } else {
+                    Plan::Move(old, new)
+                }
+            }
+            PathAsk::Hardlink { .. } => Plan::Put(new, Node::File(self.file_at(&old))),
+            PathAsk::Mkdir { .. } => Plan::Nothing,
+            PathAsk::Rmdir { .. } => Plan::Nothing,
+            PathAsk::Remove { .. } => Plan::Nothing,
+            PathAsk::Setstat { .. } => Plan::Nothing,
+            PathAsk::Stat { .. } => Plan::Nothing,
+            PathAsk::Lstat { .. } => Plan::Nothing,
+            PathAsk::Realpath { .. } => Plan::Nothing,
+            PathAsk::Readlink { .. } => Plan::Nothing,
+            PathAsk::Symlink { .. } => Plan::Nothing,
+        }
+    }
+
+    /// Does what is to be done; a file goes with its last name.
+    ///
+    /// # Errors
+    ///
+    /// `NoMemory` where memory runs out; the tree is then as before.
+    pub(crate) fn apply(&mut self, plan: Plan<'_>) -> Result<(), NoMemory>
+        requires { spec.IsReady self.old plan }
+        ensures ok { OnOk result (self.new ≡ tree.trim (spec.changed self.old plan.entry)) }
+        ensures err { OnErr result (self.new ≡ self.old) }
+    {
+        match plan {
+            Plan::Nothing => Ok(()),
+            Plan::Put(place, node) => self.put(place, node),
+            Plan::Remove(place) => {
+                self.remove_at(&place);
+                Ok(())
+            }
+            Plan::Move(old, new) => self.move_to(&old, new),
+            Plan::Set(place, attrs) => self.set_attributes(&place, attrs),
+        }
+    }
+
+    /// A link with these bytes for its target.
+    ///
+    /// # Errors
+    ///
+    /// `NoMemory` where memory runs out.
+    fn link_to(&self, target: &[u8]) -> Result<Node, NoMemory>
+        ensures node { IfOk result (λ node. node ≡ Link target.now) }
+        ensures bytes { OnOk result (IsTrue (are_bytes target.now)) }
+    {
+        let target = ByteString::from_slice(self.home().allocator(), target)?;
+        Ok(Node::Link(target))
+    }
+
+    /// The number of the file that a place is a name of.
+    fn file_at(&self, place: &Place) -> FileNo
+        requires { IsTrue (tree.is_file (tree.node_at self.now.names place.now)) }
+        ensures { tree.node_at self.now.names place.now ≡ Some (File result) }
+    {
+        match self.standing(place) {
+            Some(Node::File(number)) => *number,
+            Some(Node::Dir(_)) => unreachable!(),
+            Some(Node::Link(_)) => unreachable!(),
+            None => unreachable!(),
+        }
+    }
+
+    /// Sets the attributes of what stands at a place.
+    ///
+    /// # Errors
+    ///
+    /// `NoMemory` where memory runs out; the tree is then as before.
+    fn set_attributes(&mut self, place: &Place, attrs: &Attrs) -> Result<(), NoMemory>
+        requires { IsTrue (tree.fits (steps.with_attributes self.old attrs.now place.now (tree.node_at self.old.names place.now))) }
+        ensures ok { OnOk result
+            (self.new ≡ tree.trim (steps.with_attributes self.old attrs.now place.now (tree.node_at self.old.names place.now))) }
+        ensures err { OnErr result (self.new ≡ self.old) }
+    {
+        match self.standing(place) {
+            Some(Node::Dir(owner)) => {
+                let owner = changed_owner(attrs, *owner);
+                self.set_owner(place, owner);
+                Ok(())
+            }
+            Some(Node::File(number)) => {
+                let number = *number;
+                self.change_file(number, attrs)
+            }
+            Some(Node::Link(_)) => Ok(()),
+            None => Ok(()),
+        }
+    }
+}

@@ -1,0 +1,84 @@
+//! Whether what requests ask for keeps to the limits of the tree, in numbers.
+ghost use Rattle.std.specs.Prelude.{◌≡◌};
+ghost use Rattle.sftp_tree.specs.Asks.{asked};
+ghost use Rattle.sftp_tree.specs.Room as room;
+ghost use Rattle.sftp_tree.specs.Tree as tree;
+
+use crate::asks::PathAsk;
+use crate::found::is_file;
+use crate::trees::Tree;
+use sftp_path::{DEPTH_LIMIT, Place};
+use sftp_wire::Attrs;
+
+impl Tree {
+    /// Whether what a request asks for at a place keeps to the limits.
+    pub(crate) fn has_room_at(&self, ask: PathAsk<'_>, place: &Place) -> bool
+        ensures { result ≡ room.has_room_at self.now (asked ask.entry) place.now }
+    {
+        match ask {
+            PathAsk::Mkdir { .. } => self.has_room(place),
+            PathAsk::Symlink { .. } => self.has_room(place),
+            PathAsk::Setstat { attrs, .. } => self.size_fits_at(attrs, place),
+            PathAsk::Rmdir { .. } => true,
+            PathAsk::Remove { .. } => true,
+            PathAsk::Stat { .. } => true,
+            PathAsk::Lstat { .. } => true,
+            PathAsk::Realpath { .. } => true,
+            PathAsk::Readlink { .. } => true,
+            PathAsk::Rename { .. } => true,
+            PathAsk::PosixRename { .. } => true,
+            PathAsk::Hardlink { .. } => true,
+        }
+    }
+
+    /// Whether what a request asks for with two places keeps to the limits.
+    pub(crate) fn has_room_between(&self, ask: PathAsk<'_>, old: &Place, new: &Place) -> bool
+        ensures { result ≡ room.has_room_between self.now (asked ask.entry) old.now new.now }
+    {
+        match ask {
+            PathAsk::Rename { .. } => self.move_fits(old, new),
+            PathAsk::PosixRename { .. } => self.are_one(old, new) || self.move_fits(old, new),
+            PathAsk::Hardlink { .. } => self.has_room(new),
+            PathAsk::Mkdir { .. } => true,
+            PathAsk::Rmdir { .. } => true,
+            PathAsk::Remove { .. } => true,
+            PathAsk::Setstat { .. } => true,
+            PathAsk::Stat { .. } => true,
+            PathAsk::Lstat { .. } => true,
+            PathAsk::Realpath { .. } => true,
+            PathAsk::Readlink { .. } => true,
+            PathAsk::Symlink { .. } => true,
+        }
+    }
+
+    /// Whether one entry more, at a new place, keeps to the limits. The root is one of the places, and no entry.
+    fn has_room(&self, place: &Place) -> bool
+        ensures { result ≡ room.has_room self.now place.now }
+    {
+        self.names().len() <= self.tree_limits().entries as usize && place.depth() <= DEPTH_LIMIT
+    }
+
+    /// Whether what stands at the old place, with all below it, keeps to the most names of a place at the new one.
+    fn move_fits(&self, old: &Place, new: &Place) -> bool
+        ensures { result ≡ room.move_fits self.now.names old.now new.now }
+    {
+        new.depth() <= DEPTH_LIMIT && self.names().reaches_at_most(old, DEPTH_LIMIT - new.depth())
+    }
+
+    /// Whether a file may have the size that is given, where one is.
+    fn size_fits(&self, attrs: &Attrs) -> bool
+        ensures { result ≡ room.size_fits (tree.limits self.now) attrs.now.size }
+    {
+        match attrs.size {
+            Some(size) => size <= u64::from(self.tree_limits().file_bytes),
+            None => true,
+        }
+    }
+
+    /// Whether a file that stands at the place may have the size that is given, where one is.
+    fn size_fits_at(&self, attrs: &Attrs, place: &Place) -> bool
+        ensures { result ≡ room.size_fits_at (tree.limits self.now) attrs.now.size (tree.node_at self.now.names place.now) }
+    {
+        !is_file(self.standing(place)) || self.size_fits(attrs)
+    }
+}
