@@ -145,7 +145,6 @@ fn shows_at(tree: &Tree, path: &ByteString, follow: bool, attrs: &Attrs) -> Resu
     ensures answered { IfOk result (λ ok. ok ≡ is_answer tree.now (stat_ask follow path.now) (answers.Attrs attrs.now)) }
     ensures kept { IfOk result (λ ok. IsTrue ok → trees.IsKept tree.now) }
 {
-    tree.see();
     match value_of(tree.stat(path.as_slice(), follow))? {
         Some(shown) => Ok(same_attributes(&shown, attrs)),
         None => Ok(false),
@@ -188,7 +187,6 @@ fn tells_place(tree: &Tree, path: &ByteString, names: &Names) -> Result<bool, No
     ensures answered { IfOk result (λ ok. ok ≡ is_answer tree.now (Realpath path.now) (answers.Name names.now)) }
     ensures kept { IfOk result (λ ok. IsTrue ok → trees.IsKept tree.now) }
 {
-    tree.see();
     match value_of(tree.real_path(path.as_slice()))? {
         Some(text) => Ok(is_one_name(text.as_slice(), names)),
         None => Ok(false),
@@ -200,7 +198,6 @@ fn tells_target(tree: &Tree, path: &ByteString, names: &Names) -> Result<bool, N
     ensures answered { IfOk result (λ ok. ok ≡ is_answer tree.now (Readlink path.now) (answers.Name names.now)) }
     ensures kept { IfOk result (λ ok. IsTrue ok → trees.IsKept tree.now) }
 {
-    tree.see();
     match value_of(tree.read_link(path.as_slice()))? {
         Some(target) => Ok(is_one_name(target.as_slice(), names)),
         None => Ok(false),

@@ -14,8 +14,7 @@ use Rattle.sftp_tree.specs.declared.nodes.Node.{Node}
 use Rattle.sftp_tree.specs.declared.nodes.Node.TheVariants.{Dir, File, Link}
 use Rattle.sftp_tree.specs.Tree.{Names, Tree, IsKept, IsNode, node_at, is_taken, is_directory, is_file}
 use Rattle.sftp_tree.specs.Steps.{moved, put_in_its_stead}
-use Rattle.sftp_tree.proofs.WalkMeetings.{lookup_holds}
-use Rattle.sftp_tree.proofs.KeepTables.{each-all}
+use Rattle.sftp_tree.proofs.KeepTables.{each-all, lookup_holds}
 
 pub absent-of : (found : Option Node) → is_taken found ≡ false → found ≡ None
 absent-of None e = refl

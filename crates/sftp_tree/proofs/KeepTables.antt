@@ -1,8 +1,8 @@
 -- What holds of each entry of a table, by what stands at its keys; for any keys and values.
-use Rattle.std.proofs.Common.{◌≡◌, Bool, true, false, cond, List, [], ◌∷◌, refl, sym, ap, subst, ◌∙◌, Some, None, IsTrue}
+use Rattle.std.proofs.Common.{◌≡◌, Bool, true, false, cond, List, [], ◌∷◌, refl, sym, ap, subst, ◌∙◌, Option, Some, None, IsTrue}
 use Rattle.std.specs.Ordering.{is_eq}
 use Rattle.std.specs.declared.cmp.Ordering.{Ordering}
-use Rattle.std.specs.Map.{keys_of}
+use Rattle.std.specs.Map.{keys_of, lookup}
 use Rattle.std.specs.List.{AllByRecursion, list_all, filter}
 use Rattle.std.specs.Cmp.{IsTotalOrder, Equal-is}
 use Rattle.std.specs.FinMap.{IsAntisymmetric}
@@ -99,3 +99,16 @@ module _ {K X : Type 0} where
 
           found : (at : K) (v : X) → get cmp (put cmp es key value) at ≡ Some v → P (at, v)
           found at v there = by at v (is_eq (cmp at key)) refl (sym (get-put cmp total es key value at) ∙ there)
+
+-- ---- what is found
+
+-- what holds of each value holds of one that is found
+found_by : {X : Type 0} (P : X → Type 0) (b : Bool) (y x : X) (o : Option X) → cond b (Some y) o ≡ Some x → P y → (o ≡ Some x → P x) → P x
+found_by P true y x o e here there =
+    let same : y ≡ x = cc in
+    subst P same here
+found_by P false y x o e here there = there e
+
+pub lookup_holds : {K X : Type 0} (P : X → Type 0) (test : K → Bool) (es : List (K × X)) (x : X) → AllByRecursion (λ e. P e.1) es → lookup test es ≡ Some x → P x
+lookup_holds P test [] x h e = cc
+lookup_holds P test (entry ∷ es) x h e = found_by P (test entry.0) entry.1 x (lookup test es) e h.0 (lookup_holds P test es x h.1)

@@ -1,7 +1,6 @@
 -- What a walk meets, by what stands there.
 use Rattle.std.proofs.Common.{◌≡◌, ◌||◌, Bool, true, false, cond, nat_eq, if◌then◌else◌, List, [], ◌∷◌, ◌++◌, ℕ, refl, sym, ◌∙◌, ap, subst, Option, Some, None, IsTrue}
 use Rattle.std.specs.List.{list_all, AllByRecursion}
-use Rattle.std.specs.Map.{lookup}
 use Rattle.std.specs.BTreeMap.{is_at}
 use Rattle.std.proofs.lemmas.Bool.{and_parts, and_from, and_right, false≢true}
 use Rattle.std.proofs.lemmas.List.Folds.{list_all-append}
@@ -16,7 +15,7 @@ use Rattle.sftp_tree.specs.declared.causes.Cause.TheVariants.{NoEntry, NotDir}
 use Rattle.sftp_tree.specs.Tree.{Names, node_at, Tree, IsNode, link_fits, home_fits, IsKept}
 use Rattle.sftp_tree.specs.Walk.{Meeting, enters, ends, fails, through, is_last, met_link, met, meets}
 use Rattle.sftp_tree.specs.WalkRules.{IsPlain, GoesThrough, not_last, followed}
-use Rattle.sftp_tree.proofs.KeepTables.{each-all}
+use Rattle.sftp_tree.proofs.KeepTables.{each-all, lookup_holds}
 use Rattle.sftp_tree.proofs.KeepFits.{fits-parts}
 
 -- ---- each meeting, with what it is by
@@ -83,17 +82,6 @@ met-through target place follow [] (followed is) = ap (met_link target place tru
 met-through target place follow (next ∷ rest) (not_last n r) = refl
 
 -- ---- what stands in a tree
-
--- what holds of each value holds of one that is found
-found_by : {X : Type 0} (P : X → Type 0) (b : Bool) (y x : X) (o : Option X) → cond b (Some y) o ≡ Some x → P y → (o ≡ Some x → P x) → P x
-found_by P true y x o e here there =
-    let same : y ≡ x = cc in
-    subst P same here
-found_by P false y x o e here there = there e
-
-pub lookup_holds : {K X : Type 0} (P : X → Type 0) (test : K → Bool) (es : List (K × X)) (x : X) → AllByRecursion (λ e. P e.1) es → lookup test es ≡ Some x → P x
-lookup_holds P test [] x h e = cc
-lookup_holds P test (entry ∷ es) x h e = found_by P (test entry.0) entry.1 x (lookup test es) e h.0 (lookup_holds P test es x h.1)
 
 pub home-fits : (t : Tree) → IsKept t → home_fits t ≡ true
 home-fits t kept = (fits-parts t kept.within_limits).home

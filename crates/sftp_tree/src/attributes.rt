@@ -65,8 +65,6 @@ impl Tree {
         requires { IsTrue (is_some (tree.content_at self.now.files number)) }
         ensures { option_map spec.shown_content (tree.content_at self.now.files number) ≡ Some result }
     {
-        // This contract says that the tree is kept, so that the file's permissions have twelve bits.
-        let _ = self.names();
         match self.content(number) {
             Some(content) => said(
                 content.bytes.as_slice().len() as u64,

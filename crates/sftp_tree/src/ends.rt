@@ -59,10 +59,10 @@ impl Tree {
     pub fn causes(&self, ask: &Ask) -> Result<Causes, NoMemory>
         ensures { IfOk result (λ set. (c : cause) → in_set set c ≡ steps.causes self.now ask.now c) }
     {
-        let _ = self.names();
+        let home = self.home();
         match path_ask(ask) {
             Some(ask) => {
-                let ends = self.ends(ask)?;
+                let ends = self.ends(home, ask)?;
                 Ok(self.judge(ask, &ends))
             }
             None => Ok(Causes::none()),
@@ -82,7 +82,7 @@ impl Tree {
         ensures refused { IfErr result (λ refused. IsRefusal self.now (asked ask.entry) refused) }
     {
         ask.own_causes().refuse()?;
-        let ends = self.ends(ask)?;
+        let ends = self.ends(self.home(), ask)?;
         let causes = self.judge(ask, &ends);
         let places = ends.places()?;
         causes.refuse()?;
@@ -94,14 +94,15 @@ impl Tree {
     /// # Errors
     ///
     /// `NoMemory` where memory runs out.
-    fn ends(&self, ask: PathAsk<'_>) -> Result<Ends, NoMemory>
+    fn ends(&self, home: &Place, ask: PathAsk<'_>) -> Result<Ends, NoMemory>
+        requires { home.now ≡ self.now.home }
         ensures old { IfOk result (λ ends. steps.led self.now (asked ask.entry) ≡ Some ends.old) }
         ensures new { IfOk result (λ ends. steps.new_led self.now (asked ask.entry) ≡ ends.new) }
         ensures well { IfOk result (λ ends. spec.EndsAreWell self.now ends.old ends.new) }
     {
-        let old = self.reach(ask.follows(), ask.path())?;
+        let old = self.reach(home, ask.follows(), ask.path())?;
         let new = match ask.new_path() {
-            Some(path) => Some(self.reach(false, path)?),
+            Some(path) => Some(self.reach(home, false, path)?),
             None => None,
         };
         Ok(Ends { old, new })

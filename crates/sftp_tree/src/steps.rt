@@ -165,6 +165,7 @@ impl Tree {
         ensures free { OnOk result (IsFree self.now (stat_ask follow path.now)) }
         ensures shown { IfOk result (λ attrs. steps.shown_to self.now (stat_ask follow path.now) ≡ Some attrs) }
         ensures refused { IfErr result (λ refused. IsRefusal self.now (stat_ask follow path.now) refused) }
+        ensures kept { OnOk result (tree.IsKept self.now) }
     {
         let ask = if follow {
             PathAsk::Stat { path }
@@ -184,6 +185,7 @@ impl Tree {
         ensures free { OnOk result (IsFree self.now (Realpath path.now)) }
         ensures text { IfOk result (λ text. steps.text_to self.now (Realpath path.now) ≡ Some text.items) }
         ensures refused { IfErr result (λ refused. IsRefusal self.now (Realpath path.now) refused) }
+        ensures kept { OnOk result (tree.IsKept self.now) }
     {
         let places = self.free_places(PathAsk::Realpath { path })?;
         Ok(absolute(self.home().allocator(), places.old.names())?)
@@ -198,6 +200,7 @@ impl Tree {
         ensures free { OnOk result (IsFree self.now (Readlink path.now)) }
         ensures target { IfOk result (λ target. steps.target_to self.now (Readlink path.now) ≡ Some target.items) }
         ensures refused { IfErr result (λ refused. IsRefusal self.now (Readlink path.now) refused) }
+        ensures kept { OnOk result (tree.IsKept self.now) }
     {
         let places = self.free_places(PathAsk::Readlink { path })?;
         let target = self.target_at(&places.old);

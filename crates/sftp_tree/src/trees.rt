@@ -78,7 +78,8 @@ impl Tree {
 
     /// The file of a number.
     pub(crate) fn content(&self, number: FileNo) -> Option<&Content>
-        ensures { option_copied result ≡ tree.content_at self.now.files number }
+        ensures there { option_copied result ≡ tree.content_at self.now.files number }
+        ensures kept { tree.IsKept self.now }
     {
         self.files.get(number)
     }
@@ -92,7 +93,8 @@ impl Tree {
 
     /// Where relative paths start.
     pub(crate) fn home(&self) -> &Place
-        ensures { result.now ≡ self.now.home }
+        ensures home { result.now ≡ self.now.home }
+        ensures kept { tree.IsKept self.now }
     {
         &self.home
     }

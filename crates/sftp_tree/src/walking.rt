@@ -85,20 +85,22 @@ impl Tree {
     /// # Errors
     ///
     /// `NoMemory` where memory runs out.
-    pub(crate) fn reach(&self, follow: bool, path: &[u8]) -> Result<Result<Place, Cause>, NoMemory>
+    pub(crate) fn reach(
+        &self,
+        home: &Place,
+        follow: bool,
+        path: &[u8],
+    ) -> Result<Result<Place, Cause>, NoMemory>
+        requires { home.now ≡ self.now.home }
         ensures reached { IfOk result (λ reached. reached ≡ walks.reached self.now follow path.now) }
         ensures place { IfOk result (λ reached. IfOk reached (IsPlaceOf self.now)) }
     {
         let Ok(parts) = components(path) else {
             return Ok(Err(Cause::BadPath));
         };
-        let home = if parts.absolute {
-            &[]
-        } else {
-            self.home().names()
-        };
-        let route = Route::new(self.home().allocator(), home, parts);
-        self.walk(follow, route)
+        let names = if parts.absolute { &[] } else { home.names() };
+        let route = Route::new(home.allocator(), names, parts);
+        self.follow_route(follow, route)
     }
 
     /// The place to which a route leads from the root, or why it leads nowhere.
@@ -106,7 +108,7 @@ impl Tree {
     /// # Errors
     ///
     /// `NoMemory` where memory runs out.
-    fn walk<'a>(
+    fn follow_route<'a>(
         &'a self,
         follow: bool,
         mut route: Route<'a>,

@@ -19,23 +19,23 @@ route c =
     let left : c.in-Ok.parts.left ≡ components c.args.path.now = ap (λ (s : Split). s.left) c.in-Ok.ensures.parts in
     c.new-route.ensures
     ∙ elim c.if-parts.branch [
-      | then-parts w ↦ steps-absolute c.args.self.now c.args.path.now c.parts.inside.absolute c.if-parts.home.now c.in-Ok.parts.left absolute w.if-parts.true (ap (λ h. h.now) w.home-is) left
-      | else-parts w ↦ steps-relative c.args.self.now c.args.path.now c.parts.inside.absolute c.if-parts.home.now c.in-Ok.parts.left absolute w.if-parts.false (ap (λ h. h.now) w.home-is ∙ w.names-home.ensures.names ∙ w.home.ensures) left
+      | then-parts w ↦ steps-absolute c.args.self.now c.args.path.now c.parts.inside.absolute c.if-parts.names.now c.in-Ok.parts.left absolute w.if-parts.true (ap (λ h. h.now) w.names-is) left
+      | else-parts w ↦ steps-relative c.args.self.now c.args.path.now c.parts.inside.absolute c.if-parts.names.now c.in-Ok.parts.left absolute w.if-parts.false (ap (λ h. h.now) w.names-is ∙ w.names-names.ensures.names ∙ c.requires) left
     ]
 
-pub walk-requires : goal.walk-requires
-walk-requires c =
+pub follow_route-requires : goal.follow_route-requires
+follow_route-requires c =
     let path = c.args.path.now in
     let left : c.in-Ok.parts.left ≡ components path = ap (λ (s : Split). s.left) c.in-Ok.ensures.parts in
     let bytes = list_all-octets path c.type_inv.path in
-    ap (list_all is_step) c.new-route.ensures ∙ ap (λ l. list_all is_step (c.if-parts.home.now ++ l)) left
+    ap (list_all is_step) c.new-route.ensures ∙ ap (λ l. list_all is_step (c.if-parts.names.now ++ l)) left
     ∙ elim c.if-parts.branch [
-      | then-parts w ↦ ap (λ h. list_all is_step (h.now ++ components path)) w.home-is ∙ steps-from [] path refl c.in-Ok.ensures.good bytes
+      | then-parts w ↦ ap (λ h. list_all is_step (h.now ++ components path)) w.names-is ∙ steps-from [] path refl c.in-Ok.ensures.good bytes
       | else-parts w ↦
-          ap (λ h. list_all is_step (h.now ++ components path)) w.home-is
-          ∙ steps-from w.names-home.result.now path (ap are_names w.names-home.ensures.names ∙ w.names-home.ensures.named) c.in-Ok.ensures.good bytes
+          ap (λ h. list_all is_step (h.now ++ components path)) w.names-is
+          ∙ steps-from w.names-names.result.now path (ap are_names w.names-names.ensures.names ∙ w.names-names.ensures.named) c.in-Ok.ensures.good bytes
     ]
 
 pub returns-clause-reached : goal.returns-clause-reached
 returns-clause-reached c =
-    subst (λ w. IfOk c.walk.result (λ r. r ≡ w)) (ap (walk c.args.self.now.names c.args.follow link_limit []) (route c) ∙ sym (reached-good c.args.self.now c.args.follow c.args.path.now c.in-Ok.ensures.good)) c.walk.ensures.reached
+    subst (λ w. IfOk c.follow_route.result (λ r. r ≡ w)) (ap (walk c.args.self.now.names c.args.follow link_limit []) (route c) ∙ sym (reached-good c.args.self.now c.args.follow c.args.path.now c.in-Ok.ensures.good)) c.follow_route.ensures.reached

@@ -2,7 +2,7 @@ use Rattle.std.proofs.Common.{◌≡◌, [], true}
 use Rattle.std.specs.List.{list_all}
 use Rattle.sftp_path.specs.Place.{is_step}
 use Rattle.sftp_tree.specs.Walk as walks
-use Rattle.sftp_tree.proofs.trees.Tree.walk.Given as goal
+use Rattle.sftp_tree.proofs.trees.Tree.follow_route.Given as goal
 
 abbrev pub invariant-loop-component : goal.invariant-loop-component
 invariant-loop-component l = record {

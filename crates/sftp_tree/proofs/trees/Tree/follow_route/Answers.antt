@@ -8,7 +8,7 @@ use Rattle.sftp_tree.specs.Walking.{meeting}
 use Rattle.sftp_tree.proofs.WalkSteps.{walk-turn, looked-turn, walk-nil, behind_link-none, behind_link-some, looked_behind-some, stays, below}
 use Rattle.sftp_tree.proofs.WalkMeetings.{steps-behind, through-link}
 use Rattle.sftp_tree.proofs.WalkPlaces.{place-of}
-use Rattle.sftp_tree.proofs.trees.Tree.walk.Goals as goal
+use Rattle.sftp_tree.proofs.trees.Tree.follow_route.Goals as goal
 
 pub loop-component-smaller-in-Enters : goal.loop-component-smaller-in-Enters
 loop-component-smaller-in-Enters c =
