@@ -5,7 +5,7 @@ use Rattle.sftp_wire.specs.declared.names.NameItem.{NameItem}
 use Rattle.sftp_wire.specs.declared.packets.Ask.TheVariants.{Opendir, Mkdir, Rmdir, Stat, Lstat, Realpath, Readlink}
 use Rattle.sftp_wire.specs.declared.packets.Ask.TheVariants.{Symlink}
 use Rattle.sftp_wire.specs.declared.packets.Answer.TheVariants.{Status, Data, Name, Attrs as attributes}
-use Rattle.sftp_wire.specs.Rows.{hex, no_attributes, version_bytes}
+use Rattle.sftp_wire.specs.Examples.{hex, no_attributes, version_bytes}
 use Rattle.sftp_audit.specs.declared.events.Event.{Event}
 use Rattle.sftp_audit.specs.declared.events.Event.TheVariants.{Asked, Replied}
 use Rattle.sftp_path.specs.Place.{Place}

@@ -8,11 +8,11 @@ pub mod Sets
 pub mod Asks
 pub mod Picture
 pub mod PictureParts
-pub mod PictureRows
+pub mod PictureExamples
 pub mod Room
 pub mod Ends
 pub mod Plans
-pub mod StepRows
+pub mod RequestExamples
 pub mod Route
 pub mod Walking
-pub mod WalkRows
+pub mod WalkExamples

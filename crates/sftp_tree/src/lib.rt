@@ -19,12 +19,12 @@ pub mod picture_laws;
 mod pictures;
 mod place_causes;
 mod plans;
+pub mod request_examples;
 mod room;
 mod route;
-pub mod step_rows;
 mod steps;
 mod trees;
-pub mod walk_rows;
+pub mod walk_examples;
 mod walking;
 
 pub use causes::{Cause, Causes, Refused};

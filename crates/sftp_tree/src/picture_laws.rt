@@ -7,7 +7,7 @@ ghost use Rattle.sftp_treefile.specs.declared.files.TreeFile.{TreeFile};
 ghost use Rattle.sftp_tree.specs.Tree.{Tree, WellFormed, IsKept, fits};
 ghost use Rattle.sftp_tree.specs.Picture.{IsStart, file_of, picture, blank};
 ghost use Rattle.sftp_tree.specs.PictureParts.{tree_of};
-ghost use Rattle.sftp_tree.specs.PictureRows.{linked, linked_front, linked_root, linked_directory, linked_link, two_names, two_names_bytes};
+ghost use Rattle.sftp_tree.specs.PictureExamples.{linked, linked_front, linked_root, linked_directory, linked_link, two_names, two_names_bytes};
 
 /// Bytes are the tree file of one tree.
 pub fn starts_are_one()

@@ -4,6 +4,7 @@
 
 mod attributes;
 mod errors;
+pub mod examples;
 mod extensions;
 mod fields;
 mod framing;
@@ -14,7 +15,6 @@ mod names;
 mod open_flags;
 mod packets;
 mod reading;
-pub mod rows;
 mod slices;
 mod strings;
 mod writing;

@@ -7,7 +7,7 @@ use Rattle.sftp_wire.specs.declared.packets.Answer.TheVariants as replies
 use Rattle.sftp_wire.specs.declared.packets.Packet.TheVariants.{Reply as reply_packet}
 use Rattle.sftp_wire.specs.declared.packets.Reply.{Reply}
 use Rattle.sftp_wire.specs.Spelling.{spelling, string, attributes, FitsString, FitsAttrs, HasSpelling}
-use Rattle.sftp_wire.specs.Rows.{no_attributes}
+use Rattle.sftp_wire.specs.Examples.{no_attributes}
 use Rattle.sftp_tree.specs.Attributes.{said}
 
 empty : FitsString []

@@ -5,7 +5,7 @@ use Rattle.std.proofs.lemmas.Bool.{and_parts}
 use Rattle.std.specs.List.{list_all, flat_map, AllByRecursion}
 use Rattle.sftp_wire.specs.declared.packets.Packet.TheVariants.{Init, Version}
 use Rattle.sftp_wire.specs.Spelling.{spelling, AreBytes, FitsString, FitsPair, FitsAttrs, HasSpelling}
-use Rattle.sftp_wire.specs.Rows.{hex, no_attributes, server_extensions}
+use Rattle.sftp_wire.specs.Examples.{hex, no_attributes, server_extensions}
 use Rattle.sftp_audit.specs.declared.events.Event.{Event}
 use Rattle.sftp_audit.specs.Transcript.{IsEvent, IsRecord, event_record, transcript_opening, packet_of}
 use Rattle.sftp_audit.proofs.answers.PlaceTexts.{bytes_by}

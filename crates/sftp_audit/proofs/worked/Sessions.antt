@@ -1,6 +1,6 @@
 -- Worked examples: sessions on the blank tree that are explained, and sessions that are not.
 use Rattle.std.proofs.Common.{◌≡◌, [], Some, None, refl, sym, subst, ◌∙◌}
-use Rattle.sftp_wire.specs.Rows.{hex}
+use Rattle.sftp_wire.specs.Examples.{hex}
 use Rattle.sftp_path.specs.Place.{parts, components, is_good_path}
 use Rattle.sftp_path.specs.Table.{retain, get, put, without}
 use Rattle.sftp_treefile.specs.TreeFile.{spelled}

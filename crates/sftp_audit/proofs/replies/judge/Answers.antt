@@ -1,7 +1,7 @@
 use Rattle.std.proofs.Common.{◌≡◌, IsTrue, sym, subst}
 use Rattle.sftp_wire.specs.declared.packets.Answer.TheVariants as replies
 use Rattle.sftp_tree.specs.Tree.{IsKept}
-use Rattle.sftp_tree.proofs.KeepTrim.{trimmed-already}
+use Rattle.sftp_tree.proofs.KeptTrees.Trims.{trimmed-already}
 use Rattle.sftp_audit.specs.Verdicts.{is_answer, IsVerdict}
 use Rattle.sftp_audit.proofs.steps.Verdicts.{both_ok, verdict-attributes, verdict-names}
 use Rattle.sftp_audit.proofs.replies.judge.Goals as goal

@@ -11,7 +11,7 @@ use Rattle.sftp_treefile.specs.TreeFile.{IsOwner}
 use Rattle.sftp_tree.specs.declared.contents.Stored.{Stored}
 use Rattle.sftp_tree.specs.Attributes.{changed_owner}
 use Rattle.sftp_tree.specs.Stored.{with_attributes_set}
-use Rattle.sftp_tree.proofs.StoredFiles.{changed-nowhere, changed-written}
+use Rattle.sftp_tree.proofs.FileCounts.Changes.{changed-nowhere, changed-written}
 use Rattle.sftp_tree.proofs.files.change_at.Goals as goal
 
 pub change-requires : goal.change-requires

@@ -4,7 +4,7 @@ use Rattle.std.proofs.lemmas.Option.{MatchOption-at_some}
 use Rattle.sftp_path.specs.Table.{get}
 use Rattle.sftp_tree.specs.declared.contents.Stored.{Stored}
 use Rattle.sftp_tree.specs.Stored.{with_a_name}
-use Rattle.sftp_tree.proofs.StoredFiles.{changed-nowhere, changed-written}
+use Rattle.sftp_tree.proofs.FileCounts.Changes.{changed-nowhere, changed-written}
 use Rattle.sftp_tree.proofs.files.raise.Goals as goal
 
 pub overflow_add-stored : goal.overflow_add-stored

@@ -1,4 +1,4 @@
-use Rattle.sftp_tree.proofs.StepKeeps.{target-stands}
+use Rattle.sftp_tree.proofs.Requests.Trees.{target-stands}
 use Rattle.sftp_tree.proofs.laws.targets_are_trees.Goals as goal
 
 pub returns : goal.returns

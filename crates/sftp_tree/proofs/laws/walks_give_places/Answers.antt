@@ -1,4 +1,4 @@
-use Rattle.sftp_tree.proofs.WalkPlaces.{path-found}
+use Rattle.sftp_tree.proofs.Walks.Places.{path-found}
 use Rattle.sftp_tree.proofs.laws.walks_give_places.Goals as goal
 
 pub returns : goal.returns

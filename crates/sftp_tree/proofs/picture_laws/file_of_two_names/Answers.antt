@@ -1,6 +1,6 @@
 use Rattle.std.proofs.Common.{refl}
-use Rattle.sftp_wire.specs.Rows.{hex}
-use Rattle.sftp_tree.proofs.PictureRows.{two_names_start}
+use Rattle.sftp_wire.specs.Examples.{hex}
+use Rattle.sftp_tree.proofs.TreeFiles.Examples.{two_names_start}
 use Rattle.sftp_tree.proofs.picture_laws.file_of_two_names.Goals as goal
 
 pub returns-clause-length : goal.returns-clause-length

@@ -1,4 +1,4 @@
-use Rattle.sftp_tree.proofs.PictureFiles.{start_of_spelled, spelled_of_start}
+use Rattle.sftp_tree.proofs.TreeFiles.Files.{start_of_spelled, spelled_of_start}
 use Rattle.sftp_tree.proofs.picture_laws.starts_have_tree_files.Goals as goal
 
 pub returns : goal.returns

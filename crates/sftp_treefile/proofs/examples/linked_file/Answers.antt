@@ -1,5 +1,5 @@
 use Rattle.std.proofs.Common.{refl, arith}
-use Rattle.sftp_wire.specs.Rows.{hex}
+use Rattle.sftp_wire.specs.Examples.{hex}
 use Rattle.sftp_path.specs.Place.{components, parts, is_good_path}
 use Rattle.sftp_treefile.specs.TreeFile.{spelled, has_dir}
 use Rattle.sftp_treefile.proofs.examples.linked_file.Goals as goal

@@ -1,7 +1,7 @@
 use Rattle.std.proofs.Common.{◌*◌, ◌%◌, ◌^◌, ◌∙◌, bit_or, sym, ap}
 use Rattle.sftp_tree.specs.Steps.{when}
 use Rattle.sftp_tree.specs.Sets.{in_set}
-use Rattle.sftp_tree.proofs.CauseBits.{when-not, when-set}
+use Rattle.sftp_tree.proofs.CauseLaws.Bits.{when-not, when-set}
 use Rattle.sftp_tree.proofs.causes.Causes.when.Goals as goal
 
 pub returns-then-not-holds : goal.returns-then-not-holds

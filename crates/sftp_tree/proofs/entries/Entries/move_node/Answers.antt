@@ -1,6 +1,6 @@
 use Rattle.std.proofs.Common.{ap, ◌∙◌}
 use Rattle.sftp_tree.specs.Tree.{Names, has_entries}
-use Rattle.sftp_tree.proofs.KeepPlaces.{alone-there}
+use Rattle.sftp_tree.proofs.WellFormedTrees.Places.{alone-there}
 use Rattle.sftp_tree.proofs.entries.Entries.move_node.Goals as goal
 
 pub move_node-requires-clause-alone : goal.move_node-requires-clause-alone

@@ -1,5 +1,5 @@
 use Rattle.std.proofs.Common.{sym, ◌∙◌, ap}
-use Rattle.sftp_tree.proofs.StepBelow.{has_entries-first, first_below}
+use Rattle.sftp_tree.proofs.PlaceTables.Below.{has_entries-first, first_below}
 use Rattle.sftp_tree.proofs.entries.below.has_entries.Goals as goal
 
 pub returns-in-Some : goal.returns-in-Some

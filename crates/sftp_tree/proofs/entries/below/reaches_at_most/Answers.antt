@@ -1,5 +1,5 @@
 use Rattle.std.proofs.Common.{sym, ◌∙◌, ap}
-use Rattle.sftp_tree.proofs.CauseMoves.{row_reaches, reaches-row}
+use Rattle.sftp_tree.proofs.Limits.Depths.{row_reaches, reaches-row}
 use Rattle.sftp_tree.proofs.entries.below.reaches_at_most.Goals as goal
 
 pub loop-place-init : goal.loop-place-init

@@ -1,7 +1,7 @@
 -- The entries to come decide.
 use Rattle.std.proofs.Common.{◌≡◌}
 use Rattle.sftp_tree.specs.Room.{reaches_at_most}
-use Rattle.sftp_tree.proofs.CauseMoves.{row_reaches}
+use Rattle.sftp_tree.proofs.Limits.Depths.{row_reaches}
 use Rattle.sftp_tree.proofs.entries.below.reaches_at_most.Given as goal
 
 abbrev pub invariant-loop-place : goal.invariant-loop-place

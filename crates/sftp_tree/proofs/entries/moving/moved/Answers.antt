@@ -1,7 +1,7 @@
 use Rattle.std.proofs.Common.{◌≡◌, [], ◌∷◌, ◌++◌, sym, ap, ◌∙◌, append_assoc}
 use Rattle.sftp_tree.specs.declared.nodes.Node.{Node}
 use Rattle.sftp_path.specs.Place.{Place}
-use Rattle.sftp_tree.proofs.MovedNames.{moved-none, moved-more}
+use Rattle.sftp_tree.proofs.FileCounts.Moves.{moved-none, moved-more}
 use Rattle.sftp_tree.proofs.entries.moving.moved.Goals as goal
 
 pub loop-place-init : goal.loop-place-init

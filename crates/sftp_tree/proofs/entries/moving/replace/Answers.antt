@@ -4,7 +4,7 @@ use Rattle.sftp_path.specs.Place.{place_cmp}
 use Rattle.sftp_path.specs.Table.{get}
 use Rattle.sftp_path.proofs.Order.{place_cmp-total, place_cmp-same}
 use Rattle.sftp_tree.specs.Tree.{node_at, is_taken}
-use Rattle.sftp_tree.proofs.StoredFiles.{written-put}
+use Rattle.sftp_tree.proofs.FileCounts.Changes.{written-put}
 use Rattle.sftp_tree.proofs.entries.moving.replace.Goals as goal
 
 pub returns-in-Some : goal.returns-in-Some

@@ -5,8 +5,8 @@ use Rattle.std.proofs.lemmas.List.{nil_from_length, length-append}
 use Rattle.sftp_treefile.specs.Limits.{usual_limits}
 use Rattle.sftp_treefile.specs.TreeFile.{place_of, IsPlaceText, AreRows}
 use Rattle.sftp_tree.specs.PictureParts.{IsKnown, IsGrown}
-use Rattle.sftp_tree.proofs.PictureNumbers.{rows_join}
-use Rattle.sftp_tree.proofs.PictureStores.{kind_known, numbers_grow, grown_push, grown_room, grown_root, many_files, next_fits, row_absent, row_in_directory}
+use Rattle.sftp_tree.proofs.TreeFiles.Numbers.{rows_join}
+use Rattle.sftp_tree.proofs.TreeFiles.Stores.{kind_known, numbers_grow, grown_push, grown_room, grown_root, many_files, next_fits, row_absent, row_in_directory}
 use Rattle.sftp_tree.proofs.pictures.reading.grow.Goals as goal
 
 pub loop-row-init : goal.loop-row-init

@@ -1,5 +1,5 @@
 -- There is room for a name more.
-use Rattle.sftp_tree.proofs.PictureStores.{room_at}
+use Rattle.sftp_tree.proofs.TreeFiles.Stores.{room_at}
 use Rattle.sftp_tree.proofs.pictures.reading.node_of.Goals as goal
 
 pub count_name-requires : goal.count_name-requires

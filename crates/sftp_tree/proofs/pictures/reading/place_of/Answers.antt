@@ -1,6 +1,6 @@
 -- The components of a place's text are the place.
 use Rattle.std.proofs.lemmas.Option.{MatchOption-at_some}
-use Rattle.sftp_tree.proofs.PictureFiles.{place_found}
+use Rattle.sftp_tree.proofs.TreeFiles.Files.{place_found}
 use Rattle.sftp_tree.proofs.pictures.reading.place_of.Goals as goal
 
 pub returns : goal.returns

@@ -2,9 +2,9 @@
 use Rattle.std.proofs.Common.{length, sym, ap, subst, ◌∙◌, arith}
 use Rattle.sftp_treefile.specs.TreeFile.{place_of}
 use Rattle.sftp_tree.specs.Tree.{IsKept}
-use Rattle.sftp_tree.proofs.PictureFiles.{kept_of_file}
-use Rattle.sftp_tree.proofs.PictureNumbers.{made_few}
-use Rattle.sftp_tree.proofs.PictureStores.{many_files, tree_grown}
+use Rattle.sftp_tree.proofs.TreeFiles.Files.{kept_of_file}
+use Rattle.sftp_tree.proofs.TreeFiles.Numbers.{made_few}
+use Rattle.sftp_tree.proofs.TreeFiles.Stores.{many_files, tree_grown}
 use Rattle.sftp_tree.proofs.pictures.reading.tree_of.Goals as goal
 
 pub overflow_cast-made : goal.overflow_cast-made

@@ -5,7 +5,7 @@ use Rattle.sftp_treefile.specs.TreeFile.{row_text}
 use Rattle.sftp_treefile.specs.TreeFileParts.{head_bytes}
 use Rattle.sftp_tree.specs.Picture.{rows_behind}
 use Rattle.sftp_tree.specs.PictureParts.{head_of}
-use Rattle.sftp_tree.proofs.PictureWritten.{picture_written}
+use Rattle.sftp_tree.proofs.TreeFiles.Written.{picture_written}
 use Rattle.sftp_tree.proofs.pictures.writing.picture_of.Goals as goal
 
 pub returns : goal.returns

@@ -2,7 +2,7 @@
 use Rattle.std.proofs.Common.{◌∙◌, sym, ap, drop, arith}
 use Rattle.std.specs.Map.Iter.{deref_pair}
 use Rattle.std.proofs.lemmas.Map.Iter.{rest_more, rest_all}
-use Rattle.sftp_tree.proofs.PictureWritten.{path_short, node_short, entry_at, written_start, written_next, written_all, passed_over}
+use Rattle.sftp_tree.proofs.TreeFiles.Written.{path_short, node_short, entry_at, written_start, written_next, written_all, passed_over}
 use Rattle.sftp_tree.proofs.pictures.writing.put_entries.Goals as goal
 
 pub loop-place-init : goal.loop-place-init

@@ -1,6 +1,6 @@
 -- So many entries are written, and the others are to come.
 use Rattle.std.proofs.Common.{◌≡◌, ◌≤◌, drop}
-use Rattle.sftp_tree.proofs.PictureWritten.{Written}
+use Rattle.sftp_tree.proofs.TreeFiles.Written.{Written}
 use Rattle.sftp_tree.proofs.pictures.writing.put_entries.Given as goal
 
 abbrev pub invariant-loop-place : goal.invariant-loop-place

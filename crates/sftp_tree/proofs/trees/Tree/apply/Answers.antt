@@ -1,7 +1,7 @@
 use Rattle.std.proofs.Common.{sym, subst, ap, ◌∙◌}
 use Rattle.sftp_tree.specs.Tree.{trim}
 use Rattle.sftp_tree.specs.Plans.{changed, IsReady}
-use Rattle.sftp_tree.proofs.KeepTrim.{trimmed-already}
+use Rattle.sftp_tree.proofs.KeptTrees.Trims.{trimmed-already}
 use Rattle.sftp_tree.proofs.trees.Tree.apply.Goals as goal
 
 pub returns-in-Nothing-clause-ok : goal.returns-in-Nothing-clause-ok

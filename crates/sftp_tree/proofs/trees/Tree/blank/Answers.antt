@@ -1,8 +1,8 @@
 -- The root alone.
 use Rattle.std.proofs.Common.{[], sym, subst}
 use Rattle.sftp_tree.specs.Tree.{IsKept}
-use Rattle.sftp_tree.proofs.PictureFiles.{blank_kept}
-use Rattle.sftp_tree.proofs.PictureStores.{grown_root}
+use Rattle.sftp_tree.proofs.TreeFiles.Files.{blank_kept}
+use Rattle.sftp_tree.proofs.TreeFiles.Stores.{grown_root}
 use Rattle.sftp_tree.proofs.trees.Tree.blank.Goals as goal
 
 pub from_parts-requires-clause-kept : goal.from_parts-requires-clause-kept

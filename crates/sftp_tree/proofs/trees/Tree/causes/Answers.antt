@@ -1,6 +1,6 @@
 use Rattle.std.proofs.Common.{sym, ap, ◌∙◌}
 use Rattle.sftp_tree.specs.Steps.{CauseSet}
-use Rattle.sftp_tree.proofs.CauseLed.{unjudged}
+use Rattle.sftp_tree.proofs.CauseLaws.Places.{unjudged}
 use Rattle.sftp_tree.proofs.trees.Tree.causes.Goals as goal
 
 pub returns-in-None : goal.returns-in-None

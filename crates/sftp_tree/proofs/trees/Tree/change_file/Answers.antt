@@ -2,9 +2,9 @@ use Rattle.std.proofs.Common.{◌≡◌, sym, ap, subst, ◌∙◌}
 use Rattle.sftp_tree.specs.Tree.{Tree, IsKept, content_at}
 use Rattle.sftp_tree.specs.Steps.{with_changed_file}
 use Rattle.sftp_tree.specs.Stored.{seen, AreCounted}
-use Rattle.sftp_tree.proofs.KeepTrim.{trimmed-already}
-use Rattle.sftp_tree.proofs.KeepValues.{kept-changed}
-use Rattle.sftp_tree.proofs.StoredTrees.{owner-there, owner-changed, changed-parts}
+use Rattle.sftp_tree.proofs.KeptTrees.Trims.{trimmed-already}
+use Rattle.sftp_tree.proofs.KeptTrees.Values.{kept-changed}
+use Rattle.sftp_tree.proofs.KeptTrees.Counts.{owner-there, owner-changed, changed-parts}
 use Rattle.sftp_tree.proofs.trees.Tree.change_file.Goals as goal
 
 pub change_at-requires : goal.change_at-requires

@@ -1,5 +1,5 @@
 use Rattle.sftp_tree.specs.Asks.{asked}
-use Rattle.sftp_tree.proofs.CauseLed.{led-is}
+use Rattle.sftp_tree.proofs.CauseLaws.Places.{led-is}
 use Rattle.sftp_tree.proofs.trees.Tree.ends.Goals as goal
 
 pub returns-clause-old : goal.returns-clause-old

@@ -5,9 +5,9 @@ use Rattle.sftp_path.specs.Place.{is_step, components}
 use Rattle.sftp_path.specs.Split.{Split}
 use Rattle.sftp_tree.specs.Walk.{walk, start_of, meets, is_last, through}
 use Rattle.sftp_tree.specs.Walking.{meeting}
-use Rattle.sftp_tree.proofs.WalkSteps.{walk-turn, looked-turn, walk-nil, behind_link-none, behind_link-some, looked_behind-some, stays, below}
-use Rattle.sftp_tree.proofs.WalkMeetings.{steps-behind, through-link}
-use Rattle.sftp_tree.proofs.WalkPlaces.{place-of}
+use Rattle.sftp_tree.proofs.Walks.Steps.{walk-turn, looked-turn, walk-nil, behind_link-none, behind_link-some, looked_behind-some, stays, below}
+use Rattle.sftp_tree.proofs.Walks.Meetings.{steps-behind, through-link}
+use Rattle.sftp_tree.proofs.Walks.Places.{place-of}
 use Rattle.sftp_tree.proofs.trees.Tree.follow_route.Goals as goal
 
 pub loop-component-smaller-in-Enters : goal.loop-component-smaller-in-Enters

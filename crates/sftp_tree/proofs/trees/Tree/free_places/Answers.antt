@@ -4,7 +4,7 @@ use Rattle.sftp_tree.specs.declared.causes.Refused.TheVariants as refusals
 use Rattle.sftp_tree.specs.Steps.{CauseSet}
 use Rattle.sftp_tree.specs.Asks.{asked}
 use Rattle.sftp_tree.specs.Sets.{IsRefusal}
-use Rattle.sftp_tree.proofs.CauseLed.{exit, own-holds, lost-holds}
+use Rattle.sftp_tree.proofs.CauseLaws.Places.{exit, own-holds, lost-holds}
 use Rattle.sftp_tree.proofs.trees.Tree.free_places.Goals as goal
 
 pub returns-in_err-refuse-clause-refused : goal.returns-in_err-refuse-clause-refused

@@ -7,7 +7,7 @@ use Rattle.sftp_tree.specs.Room.{has_room_for}
 use Rattle.sftp_tree.specs.Walking.{IsPlaceOf}
 use Rattle.sftp_tree.specs.Asks.{asked}
 use Rattle.sftp_tree.specs.Sets.{in_set}
-use Rattle.sftp_tree.proofs.CausePlaces.{judged}
+use Rattle.sftp_tree.proofs.CauseLaws.Limits.{judged}
 use Rattle.sftp_tree.proofs.trees.Tree.judge.Goals as goal
 use Rattle.sftp_tree.proofs.trees.Tree.judge.Goals.{then-not-has_any, else-not-has_any}
 

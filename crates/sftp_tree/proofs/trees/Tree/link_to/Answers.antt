@@ -1,5 +1,5 @@
 use Rattle.std.proofs.Common.{arith}
-use Rattle.sftp_tree.proofs.PlanLaws.{bytes-are}
+use Rattle.sftp_tree.proofs.Requests.Plans.{bytes-are}
 use Rattle.sftp_tree.proofs.trees.Tree.link_to.Goals as goal
 
 pub returns-clause-bytes : goal.returns-clause-bytes

@@ -5,11 +5,11 @@ use Rattle.sftp_treefile.specs.TreeFile.{same_place}
 use Rattle.sftp_tree.specs.Tree.{Tree, IsKept, is_directory, node_at, without_node, has_entries, times_named, trim}
 use Rattle.sftp_tree.specs.Steps.{goes_inside, put_in_its_stead}
 use Rattle.sftp_tree.specs.Stored.{seen, AreCounted, IsChangedWhereNamed, file_named, without_a_name}
-use Rattle.sftp_tree.proofs.KeepMoves.{kept-move}
-use Rattle.sftp_tree.proofs.KeepPlaces.{apart-from, alone-there}
-use Rattle.sftp_tree.proofs.StoredNames.{one_name}
-use Rattle.sftp_tree.proofs.StoredTrees.{name-to-lose, left-parts}
-use Rattle.sftp_tree.proofs.MovedNames.{named-moved}
+use Rattle.sftp_tree.proofs.KeptTrees.Moves.{kept-move}
+use Rattle.sftp_tree.proofs.WellFormedTrees.Places.{apart-from, alone-there}
+use Rattle.sftp_tree.proofs.FileCounts.Names.{one_name}
+use Rattle.sftp_tree.proofs.KeptTrees.Counts.{name-to-lose, left-parts}
+use Rattle.sftp_tree.proofs.FileCounts.Moves.{named-moved}
 use Rattle.sftp_tree.proofs.trees.Tree.move_to.Goals as goal
 
 -- the new place is not below the old one, and nothing stands below it

@@ -4,8 +4,8 @@ use Rattle.sftp_tree.specs.Asks.{asked}
 use Rattle.sftp_tree.specs.Steps.{new_led}
 use Rattle.sftp_tree.specs.Ends.{ok_where}
 use Rattle.sftp_tree.specs.Plans.{IsPlanAt, IsPlanned, HasNode}
-use Rattle.sftp_tree.proofs.CauseLed.{free-between}
-use Rattle.sftp_tree.proofs.PlanLaws.{file-at, planned-at, planned-between, if-ok-both}
+use Rattle.sftp_tree.proofs.CauseLaws.Places.{free-between}
+use Rattle.sftp_tree.proofs.Requests.Plans.{file-at, planned-at, planned-between, if-ok-both}
 use Rattle.sftp_tree.proofs.trees.Tree.plan_for.Goals as goal
 
 pub plan_between-requires : goal.plan_between-requires

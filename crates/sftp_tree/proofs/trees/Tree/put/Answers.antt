@@ -1,9 +1,9 @@
 use Rattle.std.proofs.Common.{◌≡◌, sym, ap, subst, ◌∙◌, None}
 use Rattle.sftp_tree.specs.Tree.{Tree, IsKept, node_at, with_node}
 use Rattle.sftp_tree.specs.Stored.{seen, AreCounted, IsChangedWhereNamed, with_a_name}
-use Rattle.sftp_tree.proofs.KeepTrim.{trimmed-already}
-use Rattle.sftp_tree.proofs.StepKept.{kept-put}
-use Rattle.sftp_tree.proofs.StoredTrees.{room-to-count, put-parts}
+use Rattle.sftp_tree.proofs.KeptTrees.Trims.{trimmed-already}
+use Rattle.sftp_tree.proofs.KeptTrees.Entries.{kept-put}
+use Rattle.sftp_tree.proofs.KeptTrees.Counts.{room-to-count, put-parts}
 use Rattle.sftp_tree.proofs.trees.Tree.put.Goals as goal
 
 pub count_name-requires : goal.count_name-requires

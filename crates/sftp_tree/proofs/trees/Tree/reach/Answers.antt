@@ -4,8 +4,8 @@ use Rattle.sftp_path.specs.Place.{is_step, is_absolute, are_names, components}
 use Rattle.sftp_path.specs.Split.{Split}
 use Rattle.sftp_path.proofs.PathTexts.GoodPaths.{list_all-octets}
 use Rattle.sftp_tree.specs.Walk.{walk, link_limit, steps_of}
-use Rattle.sftp_tree.proofs.WalkSteps.{reached-good, reached-bad, steps-absolute, steps-relative}
-use Rattle.sftp_tree.proofs.WalkPlaces.{steps-from}
+use Rattle.sftp_tree.proofs.Walks.Steps.{reached-good, reached-bad, steps-absolute, steps-relative}
+use Rattle.sftp_tree.proofs.Walks.Places.{steps-from}
 use Rattle.sftp_tree.proofs.trees.Tree.reach.Goals as goal
 use Rattle.sftp_tree.proofs.trees.Tree.reach.Goals.{then-parts, else-parts}
 

@@ -4,7 +4,7 @@ use Rattle.std.proofs.lemmas.Result.{err_from_is_err_and}
 use Rattle.sftp_tree.specs.Tree.{Tree}
 use Rattle.sftp_tree.specs.Picture.{IsStart, file_of}
 use Rattle.sftp_tree.specs.PictureParts.{tree_of}
-use Rattle.sftp_tree.proofs.PictureFiles.{stands_of_start, tree_again, spelled_of_start, start_of_spelled}
+use Rattle.sftp_tree.proofs.TreeFiles.Files.{stands_of_start, tree_again, spelled_of_start, start_of_spelled}
 use Rattle.sftp_tree.proofs.trees.Tree.read.Goals as goal
 
 pub returns-in_err-file-clause-only : goal.returns-in_err-file-clause-only

@@ -1,4 +1,4 @@
-use Rattle.sftp_tree.proofs.PlanLaws.{read-link, link-told}
+use Rattle.sftp_tree.proofs.Requests.Plans.{read-link, link-told}
 use Rattle.sftp_tree.proofs.trees.Tree.read_link.Goals as goal
 
 pub target_at-target-requires : goal.target_at-target-requires

@@ -1,6 +1,6 @@
 use Rattle.std.proofs.Common.{◌∙◌, ap}
 use Rattle.sftp_path.specs.Place.{absolute}
-use Rattle.sftp_tree.proofs.PlanLaws.{path-told}
+use Rattle.sftp_tree.proofs.Requests.Plans.{path-told}
 use Rattle.sftp_tree.proofs.trees.Tree.real_path.Goals as goal
 
 pub returns-clause-text : goal.returns-clause-text

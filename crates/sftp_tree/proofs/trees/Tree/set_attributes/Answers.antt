@@ -1,7 +1,7 @@
 use Rattle.std.proofs.Common.{refl, sym, ◌∙◌, ap, Some, None, option_copied}
 use Rattle.sftp_tree.specs.declared.nodes.Node.TheVariants.{Dir, Link}
-use Rattle.sftp_tree.proofs.CallPlaces.{node-kept}
-use Rattle.sftp_tree.proofs.PlanLaws.{unchanged}
+use Rattle.sftp_tree.proofs.WellFormedTrees.Found.{node-kept}
+use Rattle.sftp_tree.proofs.Requests.Plans.{unchanged}
 use Rattle.sftp_tree.proofs.trees.Tree.set_attributes.Goals as goal
 
 pub changed_owner-owner-requires : goal.changed_owner-owner-requires

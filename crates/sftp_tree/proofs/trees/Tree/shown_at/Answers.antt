@@ -1,5 +1,5 @@
 use Rattle.std.proofs.Common.{sym, ◌∙◌, ap, option_copied}
-use Rattle.sftp_tree.proofs.CallPlaces.{node-kept}
+use Rattle.sftp_tree.proofs.WellFormedTrees.Found.{node-kept}
 use Rattle.sftp_tree.proofs.trees.Tree.shown_at.Goals as goal
 
 pub shown-requires : goal.shown-requires

@@ -4,7 +4,7 @@ use Rattle.std.specs.Prelude.{option_copied}
 use Rattle.std.specs.Ordering.{nat_cmp}
 use Rattle.sftp_path.specs.Table.{get}
 use Rattle.sftp_tree.specs.Tree.{IsContent, content_at}
-use Rattle.sftp_tree.proofs.KeepTables.{lookup_holds}
+use Rattle.sftp_tree.proofs.PlaceTables.Each.{lookup_holds}
 use Rattle.sftp_tree.proofs.trees.Tree.shown_file.Goals as goal
 
 -- what is found in a tree is the content of a file, whose permissions have twelve bits

@@ -1,0 +1,216 @@
+-- The numbers say whether what a request asks for keeps to the limits.
+use Rattle.std.proofs.Common.{◌≡◌, ℕ, ◌-◌, Bool, true, false, ◌&&◌, ◌||◌, not, List, ◌∷◌, ◌++◌, length, take, replicate, refl, sym, ◌∙◌, ap, arith, Option, Some, None, IsTrue, nat_le, unwrap_or, if◌then◌else◌, Result, Ok, Err}
+use Rattle.std.specs.Option.{is_some, option_map}
+use Rattle.std.specs.List.{list_any}
+use Rattle.std.proofs.lemmas.Bool.{not-false, or_parts}
+use Rattle.std.proofs.lemmas.List.{length-append, length-take, length-replicate}
+use Rattle.std.proofs.Math.Bool.{and-true}
+use Rattle.sftp_wire.specs.declared.attributes.Attrs.{Attrs}
+use Rattle.sftp_wire.specs.declared.packets.Ask.{Ask}
+use Rattle.sftp_wire.specs.declared.packets.Ask.TheVariants.{Setstat, Remove, Mkdir, Rmdir, Rename, Symlink, PosixRename, Hardlink}
+use Rattle.sftp_path.specs.Place.{Name, Place, parent, begins}
+use Rattle.sftp_treefile.specs.declared.limits.TreeLimits.{TreeLimits}
+use Rattle.sftp_treefile.specs.TreeFile.{is_root, same_place, is_target}
+use Rattle.sftp_tree.specs.declared.contents.Content.{Content}
+use Rattle.sftp_tree.specs.declared.nodes.Node.{Node}
+use Rattle.sftp_tree.specs.declared.nodes.Node.TheVariants.{Dir, File, Link}
+use Rattle.sftp_tree.specs.declared.causes.Cause.{Cause}
+use Rattle.sftp_tree.specs.declared.causes.Cause.TheVariants.{BadPath, NoEntry, NotDir, Exists, IsDir, NotLink, NotFile, NotEmpty, Root, Inside, NoRoom}
+use Rattle.sftp_tree.specs.Tree.{Tree, WellFormed, IsKept, limits, fits, node_at, content_at, is_taken, is_directory, is_file, is_link, has_entries}
+use Rattle.sftp_tree.specs.Attributes.{directory_owner, changed_owner, changed_content, resized}
+use Rattle.sftp_tree.specs.Steps.{CauseSet, every_cause, is_none, led, new_led, causes, no_causes, when, making_causes, needing_causes, link_causes, file_causes, removing_causes, unlinking_causes, leaving_causes, giving_causes, moving_causes, clashing_causes, replacing_causes, exchanging_causes, goes_inside, are_one, are_one_file, causes_at, new_causes_at, causes_between, target_causes, target_at, target_between, target_led, plain_of, with_changed_file, with_attributes, with_further_name, moved, put_in_its_stead}
+use Rattle.sftp_tree.specs.Room.{has_room, size_fits, size_fits_at, move_fits, has_room_at, has_room_between, has_room_for}
+use Rattle.sftp_tree.proofs.CauseLaws.Places.{plain-parts, lost-first, causes-are}
+use Rattle.sftp_tree.proofs.CauseLaws.Sets.{none-each}
+use Rattle.sftp_tree.proofs.Limits.Entries.{fits-put, fits-without, fits-again, fits-content, content-fits}
+use Rattle.sftp_tree.proofs.Limits.Moves.{fits-moved, fits-put_in_stead, nothing-from}
+use Rattle.sftp_tree.proofs.FileCounts.Moves as left
+use Rattle.sftp_tree.proofs.WellFormedTrees.Places.{apart-from, nothing-below, alone-there}
+use Rattle.sftp_tree.proofs.WellFormedTrees.Found.{absent-of, node-kept, below-root, apart-of}
+
+-- ---- what a place's causes say where none holds
+
+-- nothing stands where something is to be made
+pub free-place : (found : Option Node) → ((c : Cause) → making_causes found c ≡ false) → found ≡ None
+unfolding when no_causes
+free-place found none = absent-of found (or_parts (is_taken found) false (none Exists)).0
+
+-- something stands where it is needed
+pub taken-place : (found : Option Node) → needing_causes found NoEntry ≡ false → is_taken found ≡ true
+unfolding when no_causes
+taken-place found none = not-false (is_taken found) (or_parts (not (is_taken found)) false none).0
+
+-- a file stands where one is needed
+pub file-place : (found : Option Node) → ((c : Cause) → file_causes found c ≡ false) → (number : ℕ) × (found ≡ Some (File number))
+unfolding when no_causes
+file-place None none = let there = none NoEntry in absurd cc
+file-place (Some (Dir owner)) none = let file = none NotFile in absurd cc
+file-place (Some (File number)) none = (number, refl)
+file-place (Some (Link goal)) none = let file = none NotFile in absurd cc
+
+-- a link stands where one is needed
+pub link-place : (found : Option Node) → ((c : Cause) → link_causes found c ≡ false) → is_link found ≡ true
+unfolding when no_causes
+link-place None none = let there = none NoEntry in absurd cc
+link-place (Some (Dir owner)) none = let link = none NotLink in absurd cc
+link-place (Some (File number)) none = let link = none NotLink in absurd cc
+link-place (Some (Link goal)) none = refl
+
+-- no directory stands where a name is to be removed
+pub name-place : (found : Option Node) → ((c : Cause) → unlinking_causes found c ≡ false) → is_directory found ≡ false
+unfolding when no_causes
+name-place found none = (or_parts (is_directory found) false (none IsDir)).0
+
+-- what may go from there
+pub record MayLeave (t : Tree) (old : Place) : Type 0 where
+  pub taken : is_taken (node_at t.names old) ≡ true
+  pub below_root : is_root old ≡ false
+
+pub may-leave : (t : Tree) (old : Place) → ((c : Cause) → leaving_causes t.names old c ≡ false) → MayLeave t old
+unfolding when no_causes
+may-leave t old none = record {
+  taken = not-false (is_taken (node_at t.names old)) (or_parts (not (is_taken (node_at t.names old))) false (none NoEntry)).0;
+  below_root = (or_parts (is_root old) (false) (none Root)).0;
+}
+
+pub outside-of : (t : Tree) (old new : Place) → ((c : Cause) → moving_causes t.names old new c ≡ false) → goes_inside t.names old new ≡ false
+unfolding when no_causes
+outside-of t old new none = (or_parts (goes_inside t.names old new) false (none Inside)).0
+
+pub given-below : (new : Place) → ((c : Cause) → giving_causes new c ≡ false) → is_root new ≡ false
+unfolding when no_causes
+given-below new none = (or_parts (is_root new) false (none Root)).0
+
+-- what is replaced has nothing below it
+replaced-empty : (goes stays : Option Node) (entries : Bool) → is_taken goes ≡ true → ((c : Cause) → clashing_causes goes stays entries c ≡ false) → (is_directory stays ≡ false → entries ≡ false) → entries ≡ false
+unfolding when no_causes
+replaced-empty None stays entries there none below = absurd cc
+replaced-empty (Some (Dir owner)) None entries there none below = below refl
+replaced-empty (Some (Dir owner)) (Some (Dir other)) entries there none below = (or_parts entries false (none NotEmpty)).0
+replaced-empty (Some (Dir owner)) (Some (File number)) entries there none below = below refl
+replaced-empty (Some (Dir owner)) (Some (Link goal)) entries there none below = below refl
+replaced-empty (Some (File number)) None entries there none below = below refl
+replaced-empty (Some (File number)) (Some (Dir other)) entries there none below = let clash = none IsDir in absurd cc
+replaced-empty (Some (File number)) (Some (File other)) entries there none below = below refl
+replaced-empty (Some (File number)) (Some (Link goal)) entries there none below = below refl
+replaced-empty (Some (Link goal)) None entries there none below = below refl
+replaced-empty (Some (Link goal)) (Some (Dir other)) entries there none below = let clash = none IsDir in absurd cc
+replaced-empty (Some (Link goal)) (Some (File other)) entries there none below = below refl
+replaced-empty (Some (Link goal)) (Some (Link other)) entries there none below = below refl
+
+-- what comes in the stead of something else, where the places are not one
+pub record MayReplace (t : Tree) (old new : Place) : Type 0 where
+  pub outside : goes_inside t.names old new ≡ false
+  pub elsewhere : same_place old new ≡ false
+  pub alone : has_entries t.names new ≡ false
+
+may-by : (t : Tree) (old new : Place) (one : Bool) → one ≡ false → ((c : Cause) → (if one then no_causes else replacing_causes t.names old new) c ≡ false) → (c : Cause) → replacing_causes t.names old new c ≡ false
+may-by t old new true apart none = absurd cc
+may-by t old new false apart none = none
+
+pub may-replace : (t : Tree) (old new : Place) → WellFormed t → MayLeave t old → ((c : Cause) → exchanging_causes t.names old new c ≡ false) → are_one t.names old new ≡ false → MayReplace t old new
+unfolding when
+may-replace t old new well leave none apart =
+    let each = may-by t old new (are_one t.names old new) apart none in
+    let goes = node_at t.names old in
+    let stays = node_at t.names new in
+    let parts = λ (c : Cause). or_parts _ (clashing_causes goes stays (has_entries t.names new) c) (each c) in
+    record {
+      outside = (parts Inside).0;
+      elsewhere = (or_parts (same_place old new) (are_one_file goes stays) apart).0;
+      alone = replaced-empty goes stays (has_entries t.names new) leave.taken (λ c. (parts c).1) (nothing-below t.names new well.ordered well.parents);
+    }
+
+-- ---- files
+
+length-resized : (size : ℕ) (bytes : List ℕ) → length (resized size bytes) ≡ size
+length-resized size bytes =
+    omega (arith, length-append (take size bytes) (replicate (size - length bytes) 0), length-take size bytes, length-replicate {A = ℕ} (size - length bytes) 0)
+
+changed-fits : (bounds : TreeLimits) (size : Option ℕ) (bytes : List ℕ) → nat_le (length bytes) bounds.file_bytes ≡ true → nat_le (length (unwrap_or (option_map (λ n. resized n bytes) size) bytes)) bounds.file_bytes ≡ size_fits bounds size
+changed-fits bounds None bytes fit = fit
+changed-fits bounds (Some size) bytes fit = ap (λ n. nat_le n bounds.file_bytes) (length-resized size bytes)
+
+changed-room : (t : Tree) (attrs : Attrs) (number : ℕ) → IsKept t → (content : Option Content) → content_at t.files number ≡ content → IsTrue (is_some content) → fits (with_changed_file t attrs number content) ≡ size_fits (limits t) attrs.size
+changed-room t attrs number kept None is there = absurd cc
+changed-room t attrs number kept (Some content) is there =
+    fits-content t number (changed_content attrs content) kept.within_limits
+    ∙ changed-fits (limits t) attrs.size content.bytes (content-fits t number content kept.within_limits is)
+
+set-room : (t : Tree) (attrs : Attrs) (place : Place) (found : Option Node) → IsKept t → node_at t.names place ≡ found → size_fits_at (limits t) attrs.size found ≡ fits (with_attributes t attrs place found)
+set-room t attrs place None kept is = sym kept.within_limits
+set-room t attrs place (Some (Dir owner)) kept is = sym (fits-again t place (Dir owner) (Dir (changed_owner attrs owner)) kept.within_limits kept.well_formed.ordered is refl)
+set-room t attrs place (Some (File number)) kept is = sym (changed-room t attrs number kept (content_at t.files number) refl (node-kept t place (File number) kept is))
+set-room t attrs place (Some (Link goal)) kept is = sym kept.within_limits
+
+-- ---- at the place that a path leads to
+
+good-target : (target link : List ℕ) → ((c : Cause) → target_causes (Symlink target link) c ≡ false) → is_target target ≡ true
+unfolding when no_causes
+good-target target link none = not-false (is_target target) (or_parts (not (is_target target)) false (none BadPath)).0
+
+room-at : (t : Tree) (ask : Ask) (place : Place) → IsKept t → ((c : Cause) → target_causes ask c ≡ false) → ((c : Cause) → causes_at t ask place c ≡ false) → has_room_at t ask place ≡ fits (target_at t ask place)
+room-at t (Mkdir path attrs) place kept own none =
+    sym (fits-put t place (Dir (directory_owner t attrs)) kept.within_limits (free-place (node_at t.names place) none) ∙ and-true (has_room t place))
+room-at t (Symlink target link) place kept own none =
+    sym (fits-put t place (Link target) kept.within_limits (free-place (node_at t.names place) none) ∙ ap (λ b. has_room t place && b) (good-target target link own) ∙ and-true (has_room t place))
+room-at t (Rmdir path) place kept own none = sym (fits-without t place kept.within_limits)
+room-at t (Remove path) place kept own none = sym (fits-without t place kept.within_limits)
+room-at t (Setstat path attrs) place kept own none = set-room t attrs place (node_at t.names place) kept refl
+room-at t other place kept own none = sym kept.within_limits
+
+-- ---- with the two places that both paths lead to
+
+-- nothing is at a free place, nor below it
+nothing-at : (t : Tree) (place : Place) → IsKept t → node_at t.names place ≡ None → has_entries t.names place ≡ false
+nothing-at t place kept free =
+    nothing-below t.names place kept.well_formed.ordered kept.well_formed.parents (ap is_directory free)
+
+pub free-alone : (t : Tree) (place : Place) → IsKept t → node_at t.names place ≡ None → has_entries t.names place ≡ false
+free-alone = nothing-at
+
+replace-room : (t : Tree) (old new : Place) (one : Bool) → are_one t.names old new ≡ one → IsKept t → MayLeave t old → ((c : Cause) → exchanging_causes t.names old new c ≡ false) → (one || move_fits t.names old new) ≡ fits (if one then t else put_in_its_stead t old new)
+replace-room t old new true is kept leave none = sym kept.within_limits
+replace-room t old new false is kept leave none =
+    let may = may-replace t old new kept.well_formed leave none is in
+    sym (fits-put_in_stead t old new kept leave.taken (left.nothing-from t.names new kept.well_formed.ordered (alone-there t.names new may.alone))
+    (λ there. apart-from t.names old new kept.well_formed.parents may.outside may.elsewhere (kept.well_formed.parents new there)))
+
+room-between : (t : Tree) (ask : Ask) (old new : Place) → IsKept t → ((c : Cause) → causes_at t ask old c ≡ false) → ((c : Cause) → new_causes_at t ask new c ≡ false) → ((c : Cause) → causes_between t ask old new c ≡ false) → has_room_between t ask old new ≡ fits (target_between t ask old new)
+room-between t (Rename oldpath newpath) old new kept here there both =
+    let free = free-place (node_at t.names new) there in
+    sym (fits-moved t old new kept (may-leave t old here).taken (nothing-from t.names new free (alone-there t.names new (nothing-at t new kept free))))
+room-between t (PosixRename oldpath newpath) old new kept here there both = replace-room t old new (are_one t.names old new) refl kept (may-leave t old here) both
+room-between t (Hardlink oldpath newpath) old new kept here there both =
+    let file = file-place (node_at t.names old) here in
+    sym (ap (λ found. fits (with_further_name t found new)) file.1 ∙ fits-put t new (File file.0) kept.within_limits (free-place (node_at t.names new) there) ∙ and-true (has_room t new))
+room-between t other old new kept here there both = sym kept.within_limits
+
+-- ---- by where the paths lead
+
+pub room-for : (t : Tree) (ask : Ask) (end : Result Place Cause) (new : Option (Result Place Cause)) → ((place : Place) → end ≡ Ok place → IsKept t) → ((c : Cause) → plain_of t ask (Some end) new c ≡ false) → has_room_for t ask end new ≡ fits (target_led t ask (Some end) new)
+room-for t ask (Ok place) None keeps none =
+    let parts = plain-parts t ask (Some (Ok place)) None none in
+    room-at t ask place (keeps place refl) parts.own parts.here
+room-for t ask (Ok old) (Some (Ok new)) keeps none =
+    let parts = plain-parts t ask (Some (Ok old)) (Some (Ok new)) none in
+    room-between t ask old new (keeps old refl) parts.here parts.there parts.both
+room-for t ask (Ok old) (Some (Err cause)) keeps none = sym (keeps old refl).within_limits
+room-for t ask (Err cause) new keeps none =
+    let holds = lost-first t ask cause new in
+    let not_so = none cause in
+    absurd cc
+
+-- a set with the want of room, as the code finds it, is the request's
+pub judged : (t : Tree) (ask : Ask) (end : Result Place Cause) (new : Option (Result Place Cause)) (plain : CauseSet) (lacks : Bool) → led t ask ≡ Some end → new_led t ask ≡ new → ((place : Place) → end ≡ Ok place → IsKept t) → plain ≡ plain_of t ask (Some end) new → lacks ≡ (not (list_any plain every_cause) && not (has_room_for t ask end new)) → when plain NoRoom lacks ≡ causes t ask
+judged t ask end new plain lacks one two keeps same is =
+    let all = plain_of t ask (Some end) new in
+    (λ i. when (same i) NoRoom (lack (is_none all) refl i))
+    ∙ sym (causes-are t ask (Some end) new one two)
+  where
+    both : (b : Bool) → is_none (plain_of t ask (Some end) new) ≡ b → (b && not (has_room_for t ask end new)) ≡ (b && not (fits (target_led t ask (Some end) new)))
+    both true none = ap not (room-for t ask end new keeps (none-each (plain_of t ask (Some end) new) none))
+    both false none = refl
+
+    lack : (b : Bool) → is_none (plain_of t ask (Some end) new) ≡ b → lacks ≡ (is_none (plain_of t ask (Some end) new) && not (fits (target_led t ask (Some end) new)))
+    lack b none = is ∙ ap (λ s. is_none s && not (has_room_for t ask end new)) same ∙ both (is_none (plain_of t ask (Some end) new)) refl

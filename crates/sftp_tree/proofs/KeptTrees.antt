@@ -1,0 +1,7 @@
+-- What every tree keeps: that each change of one keeps it.
+pub mod Entries
+pub mod Trims
+pub mod Values
+pub mod Moves
+pub mod Files
+pub mod Counts

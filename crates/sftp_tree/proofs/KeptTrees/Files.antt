@@ -1,0 +1,146 @@
+-- Files and their numbers, in the trees that requests ask for: none is made, and each goes with its last name.
+use Rattle.std.proofs.Common.{◌≡◌, ◌≢◌, ◌<◌, ◌≤◌, ℕ, ◌||◌, Bool, true, false, cond, refl, sym, ap, subst, ◌∙◌, arith, Option, Some, None, is_some, nat_lt, Result, Ok, Err, IsTrue, if◌then◌else◌, inl, inr}
+use Rattle.std.specs.Prelude.{◌⊎◌, ◌↔◌}
+use Rattle.std.specs.Ordering.{nat_cmp}
+use Rattle.std.specs.FinMap.{nat_cmp-IsAntisymmetric}
+use Rattle.std.proofs.lemmas.Cmp.{nat_cmp_total}
+use Rattle.std.proofs.lemmas.Bool.{ltb-false, cases_lt, both_ways, or_parts}
+use Rattle.sftp_wire.specs.declared.attributes.Attrs.{Attrs}
+use Rattle.sftp_wire.specs.declared.packets.Ask.{Ask}
+use Rattle.sftp_wire.specs.declared.packets.Ask.TheVariants.{Mkdir, Rmdir, Remove, Setstat, Symlink, Rename, PosixRename, Hardlink}
+use Rattle.sftp_path.specs.Place.{Place, place_cmp}
+use Rattle.sftp_path.specs.Table.{InOrder, kept}
+use Rattle.sftp_path.specs.Rekeying.{rekeyed}
+use Rattle.sftp_path.proofs.Order.{place_cmp-same}
+use Rattle.sftp_path.proofs.Table.Laws.{InOrder-put, get-retain}
+use Rattle.sftp_tree.specs.declared.contents.Content.{Content}
+use Rattle.sftp_tree.specs.declared.nodes.Node.{Node}
+use Rattle.sftp_tree.specs.declared.nodes.Node.TheVariants.{Dir, File, Link}
+use Rattle.sftp_tree.specs.declared.causes.Cause.{Cause}
+use Rattle.sftp_tree.specs.Tree.{Names, Tree, WellFormed, IsNode, node_at, with_node, without_node, content_at, with_content, times_named, times_pinned, is_named, is_pinned, is_held, trimmed}
+use Rattle.sftp_tree.specs.Attributes.{directory_owner, changed_owner, changed_content}
+use Rattle.sftp_tree.specs.Steps.{led, new_led, are_one, with_changed_file, with_attributes, put_in_its_stead, with_further_name, target_at, target_between, target_on, led_to, target, after}
+use Rattle.sftp_tree.proofs.PlaceTables.Each.{each-get}
+use Rattle.sftp_tree.proofs.KeptTrees.Trims.{stays}
+
+-- ---- what requests ask for
+
+-- a request asks for the tree, the tree with other names, or with another content of a file
+module _ (t : Tree) (P : Tree → Type 0) (same : P t) (renamed : (names : Names) → P (record t { names = names })) (changed : (number : ℕ) (before content : Content) → content_at t.files number ≡ Some before → P (record t { files = with_content t.files number content })) where
+  by-file : (attrs : Attrs) (number : ℕ) (o : Option Content) → content_at t.files number ≡ o → P (with_changed_file t attrs number o)
+  by-file attrs number None is = same
+  by-file attrs number (Some content) is = changed number content (changed_content attrs content) is
+
+  by-attributes : (attrs : Attrs) (place : Place) (o : Option Node) → P (with_attributes t attrs place o)
+  by-attributes attrs place None = same
+  by-attributes attrs place (Some (Dir owner)) = renamed (with_node t.names place (Dir (changed_owner attrs owner)))
+  by-attributes attrs place (Some (File number)) = by-file attrs number (content_at t.files number) refl
+  by-attributes attrs place (Some (Link goal)) = same
+
+  by-place : (ask : Ask) (place : Place) → P (target_at t ask place)
+  by-place (Mkdir path attrs) place = renamed (with_node t.names place (Dir (directory_owner t attrs)))
+  by-place (Rmdir path) place = renamed (without_node t.names place)
+  by-place (Remove path) place = renamed (without_node t.names place)
+  by-place (Setstat path attrs) place = by-attributes attrs place (node_at t.names place)
+  by-place (Symlink goal link) place = renamed (with_node t.names place (Link goal))
+  by-place other place = same
+
+  by-one : (one : Bool) (old new : Place) → P (if one then t else put_in_its_stead t old new)
+  by-one true old new = same
+  by-one false old new = renamed (rekeyed old new (without_node t.names new))
+
+  by-further : (o : Option Node) (new : Place) → P (with_further_name t o new)
+  by-further None new = same
+  by-further (Some it) new = renamed (with_node t.names new it)
+
+  by-places : (ask : Ask) (old new : Place) → P (target_between t ask old new)
+  by-places (Rename oldpath newpath) old new = renamed (rekeyed old new t.names)
+  by-places (PosixRename oldpath newpath) old new = by-one (are_one t.names old new) old new
+  by-places (Hardlink oldpath newpath) old new = by-further (node_at t.names old) new
+  by-places other old new = same
+
+  by-led : (ask : Ask) (l n : Option (Result Place Cause)) → P (led_to t l (λ place. target_on t ask place n))
+  by-led ask None n = same
+  by-led ask (Some (Err failed)) n = same
+  by-led ask (Some (Ok place)) None = by-place ask place
+  by-led ask (Some (Ok place)) (Some (Err failed)) = same
+  by-led ask (Some (Ok place)) (Some (Ok new)) = by-places ask place new
+
+  pub by-target : (ask : Ask) → P (target t ask)
+  unfolding target
+  by-target ask = by-led ask (led t ask) (new_led t ask)
+
+-- ---- numbers
+
+pub made-stays : (t : Tree) (ask : Ask) → t.made ≤ (target t ask).made
+made-stays t = by-target t (λ x. t.made ≤ x.made) (omega arith) (λ names. omega arith) (λ number before content there. omega arith)
+
+pub numbered-target : (t : Tree) (ask : Ask) → InOrder nat_cmp t.files → InOrder nat_cmp (target t ask).files
+numbered-target t ask order =
+    by-target t (λ x. InOrder nat_cmp x.files) order (λ names. order) (λ number before content there. InOrder-put nat_cmp nat_cmp_total t.files number content order) ask
+
+-- no number that was not given has a file
+pub not-given : (t : Tree) (number : ℕ) → WellFormed t → t.made ≤ number → content_at t.files number ≡ None
+not-given t number well late = by (content_at t.files number) refl
+  where
+    by : (o : Option Content) → content_at t.files number ≡ o → o ≡ None
+    by None is = refl
+    by (Some content) is =
+        let early : number < t.made = each-get nat_cmp nat_cmp-IsAntisymmetric (λ e. e.0 < t.made) t.files number content well.given is in
+        absurd (omega arith)
+
+some-of : (o : Option Content) → IsTrue (is_some o) → o ≢ None
+some-of None h is = cc
+some-of (Some content) h is = cc
+
+-- each number that a name has was given
+pub named-given : (t : Tree) (place : Place) (number : ℕ) → WellFormed t → node_at t.names place ≡ Some (File number) → number < t.made
+named-given t place number well there =
+    let file = each-get place_cmp place_cmp-same (λ e. IsNode t.files e.1) t.names place (File number) well.nodes there in
+    elim (cases_lt number t.made) [
+      | inl early ↦ early
+      | inr late ↦ absurd (some-of (content_at t.files number) file (not-given t number well late))
+    ]
+
+-- ---- files that stay, and those that go
+
+kept-by : (keeps : ℕ × Content → Bool) (number : ℕ) (b : Bool) (o : Option Content) → ((content : Content) → keeps (number, content) ≡ b) → kept keeps number o ≡ (if b then o else None)
+kept-by keeps number true None is = refl
+kept-by keeps number false None is = refl
+kept-by keeps number true (Some content) is = ap (λ b. cond b (Some content) None) (is content)
+kept-by keeps number false (Some content) is = ap (λ b. cond b (Some content) None) (is content)
+
+-- a file stays where it has a name or something holds it
+pub content-left : (t : Tree) (is_held : ℕ → Bool) (number : ℕ) → InOrder nat_cmp t.files → content_at (trimmed is_held t).files number ≡ (if is_named t.names number || is_held number then content_at t.files number else None)
+content-left t is_held number order =
+    get-retain nat_cmp nat_cmp_total nat_cmp-IsAntisymmetric t.files (stays is_held t.names) number order
+    ∙ kept-by (stays is_held t.names) number (is_named t.names number || is_held number) (content_at t.files number) (λ content. refl)
+
+pub content-after : (t : Tree) (ask : Ask) (number : ℕ) → WellFormed t → content_at (after t ask).files number ≡ (if is_held (target t ask) number then content_at (target t ask).files number else None)
+content-after t ask number well = content-left (target t ask) (is_pinned (target t ask).pins) number (numbered-target t ask well.numbered)
+
+none-left : (n : ℕ) → nat_lt 0 n ≡ false → n ≡ 0
+none-left n none =
+    let few = ltb-false 0 n none in
+    omega arith
+
+gone-by : (n p : ℕ) (b : Bool) (o : Option Content) → (nat_lt 0 n || nat_lt 0 p) ≡ b → ((if b then o else None) ≡ None) ↔ ((o ≡ None) ⊎ ((n ≡ 0) × (p ≡ 0)))
+gone-by n p true o is = (λ gone. inl gone, λ either. elim either [ inl gone ↦ gone | inr none ↦ absurd (both_ways (nat_lt 0 n || nat_lt 0 p) (λ i. nat_lt 0 (none.0 i) || nat_lt 0 (none.1 i)) is) ])
+gone-by n p false o is =
+    let parts = or_parts (nat_lt 0 n) (nat_lt 0 p) is in
+    (λ gone. inr (none-left n parts.0, none-left p parts.1), λ either. refl)
+
+-- a file is gone just where there was none, or no name of it is left and nothing pins it
+pub gone-after : (t : Tree) (ask : Ask) (number : ℕ) → WellFormed t
+    → (content_at (after t ask).files number ≡ None) ↔ ((content_at (target t ask).files number ≡ None) ⊎ ((times_named (target t ask).names number ≡ 0) × (times_pinned (target t ask).pins number ≡ 0)))
+gone-after t ask number well =
+    subst (λ o. (o ≡ None) ↔ ((content_at (target t ask).files number ≡ None) ⊎ ((times_named (target t ask).names number ≡ 0) × (times_pinned (target t ask).pins number ≡ 0)))) (sym (content-after t ask number well))
+    (gone-by (times_named (target t ask).names number) (times_pinned (target t ask).pins number) (is_held (target t ask) number) (content_at (target t ask).files number) refl)
+
+-- ---- what requests leave as it was
+
+pub pins-stay : (t : Tree) (ask : Ask) → (target t ask).pins ≡ t.pins
+pins-stay t = by-target t (λ x. x.pins ≡ t.pins) refl (λ names. refl) (λ number before content there. refl)
+
+pub limits-stay : (t : Tree) (ask : Ask) → (target t ask).limits ≡ t.limits
+limits-stay t = by-target t (λ x. x.limits ≡ t.limits) refl (λ names. refl) (λ number before content there. refl)

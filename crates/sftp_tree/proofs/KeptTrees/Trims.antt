@@ -1,0 +1,110 @@
+-- A tree without the files that have no name and that nothing else holds: it is a tree again, within the limits.
+use Rattle.std.proofs.Common.{◌≡◌, ℕ, ◌<◌, Bool, true, cond, ◌||◌, refl, ap, ◌∙◌, Option, Some, None, is_some, IsTrue}
+use Rattle.std.specs.Ordering.{nat_cmp}
+use Rattle.std.specs.List.{AllByRecursion}
+use Rattle.std.specs.FinMap.{nat_cmp-IsAntisymmetric}
+use Rattle.std.proofs.lemmas.Bool.{lt-ltb, eq-eqb, or_left}
+use Rattle.std.proofs.lemmas.Cmp.{nat_cmp_total}
+use Rattle.sftp_path.specs.Place.{Place, place_cmp}
+use Rattle.sftp_path.specs.Table.{retain, kept}
+use Rattle.sftp_path.proofs.Order.{place_cmp-total, place_cmp-same}
+use Rattle.sftp_path.proofs.PathTexts.GoodPaths.{filter_all}
+use Rattle.sftp_path.proofs.Table.Laws.{InOrder-retain, get-retain}
+use Rattle.sftp_path.proofs.Table.Counts.{count-found}
+use Rattle.sftp_tree.specs.declared.contents.Content.{Content}
+use Rattle.sftp_tree.specs.declared.nodes.Node.{Node}
+use Rattle.sftp_tree.specs.declared.nodes.Node.TheVariants.{Dir, File, Link}
+use Rattle.sftp_tree.specs.Tree.{Names, Files, Tree, WellFormed, IsKept, IsTrimmed, IsNode, IsContent, limits, fits, files_fit, content_fits, node_at, content_at, names_file, times_named, is_named, is_pinned, trimmed, trim}
+use Rattle.sftp_tree.proofs.PlaceTables.Each.{each-retain, each-get, get-each, each-all, all-each}
+use Rattle.sftp_tree.proofs.Limits.Tests.{fits-parts, fits-from}
+
+-- ---- the files that stay
+
+-- which of the files stay
+abbrev pub stays : (ℕ → Bool) → Names → ℕ × Content → Bool
+stays is_held names e = is_named names e.0 || is_held e.0
+
+-- a number that a name has is named
+pub named-there : (names : Names) (place : Place) (number : ℕ) → node_at names place ≡ Some (File number) → IsTrue (is_named names number)
+named-there names place number there =
+    lt-ltb 0 (times_named names number) (count-found place_cmp names place (File number) (names_file number) there (eq-eqb number number refl))
+
+-- what is left of a file's content
+pub content-trimmed : (is_held : ℕ → Bool) (t : Tree) (number : ℕ) → WellFormed t → content_at (trimmed is_held t).files number ≡ kept (stays is_held t.names) number (content_at t.files number)
+content-trimmed is_held t number well =
+    get-retain nat_cmp nat_cmp_total nat_cmp-IsAntisymmetric t.files (stays is_held t.names) number well.numbered
+
+kept-passing : (keeps : ℕ × Content → Bool) (number : ℕ) (o : Option Content) → ((content : Content) → keeps (number, content) ≡ true) → kept keeps number o ≡ o
+kept-passing keeps number None passing = refl
+kept-passing keeps number (Some content) passing = ap (λ b. cond b (Some content) None) (passing content)
+
+-- the file of a number that is named stays as it was
+pub content-of_named : (is_held : ℕ → Bool) (t : Tree) (number : ℕ) → WellFormed t → IsTrue (is_named t.names number) → content_at (trimmed is_held t).files number ≡ content_at t.files number
+content-of_named is_held t number well named =
+    content-trimmed is_held t number well
+    ∙ kept-passing (stays is_held t.names) number (content_at t.files number) (λ content. or_left (is_named t.names number) (is_held number) named)
+
+node-trimmed : (is_held : ℕ → Bool) (t : Tree) (place : Place) (it : Node) → WellFormed t → node_at t.names place ≡ Some it → IsNode t.files it → IsNode (trimmed is_held t).files it
+node-trimmed is_held t place (Dir owner) well there is_node = is_node
+node-trimmed is_held t place (File number) well there is_node =
+    ap is_some (content-of_named is_held t number well (named-there t.names place number there)) ∙ is_node
+node-trimmed is_held t place (Link target) well there is_node = is_node
+
+-- ---- the tree
+
+pub well-formed-trimmed : (is_held : ℕ → Bool) (t : Tree) → WellFormed t → WellFormed (trimmed is_held t)
+well-formed-trimmed is_held t well = record {
+  ordered = well.ordered;
+  named = well.named;
+  nodes =
+      get-each place_cmp place_cmp-same place_cmp-total (λ e. IsNode (trimmed is_held t).files e.1) t.names well.ordered
+      (λ place it there. node-trimmed is_held t place it well there (each-get place_cmp place_cmp-same (λ e. IsNode t.files e.1) t.names place it well.nodes there));
+  root = well.root;
+  parents = well.parents;
+  numbered = InOrder-retain nat_cmp t.files (stays is_held t.names) well.numbered;
+  contents = each-retain (λ e. IsContent e.1) (λ e. IsContent e.1) t.files (stays is_held t.names) (λ e h passed. h) well.contents;
+  given = each-retain (λ e. e.0 < t.made) (λ e. e.0 < t.made) t.files (stays is_held t.names) (λ e h passed. h) well.given;
+  pins = well.pins;
+  limits = well.limits;
+  home = well.home;
+  uid = well.uid;
+  gid = well.gid;
+}
+
+pub files-trimmed : (is_held : ℕ → Bool) (t : Tree) → IsTrue (files_fit t) → IsTrue (files_fit (trimmed is_held t))
+files-trimmed is_held t fit =
+    all-each (λ e. content_fits (limits t) e.1) (retain t.files (stays is_held t.names))
+    (each-retain (λ e. IsTrue (content_fits (limits t) e.1)) (λ e. IsTrue (content_fits (limits t) e.1)) t.files (stays is_held t.names) (λ e h passed. h) (each-all (λ e. content_fits (limits t) e.1) t.files fit))
+
+pub fits-trimmed : (is_held : ℕ → Bool) (t : Tree) → IsTrue (fits t) → IsTrue (fits (trimmed is_held t))
+fits-trimmed is_held t h =
+    let parts = fits-parts t h in
+    fits-from (trimmed is_held t) (record {
+      entries = parts.entries;
+      depths = parts.depths;
+      home = parts.home;
+      links = parts.links;
+      files = files-trimmed is_held t parts.files;
+      numbers = parts.numbers;
+    })
+
+pub is-trimmed : (t : Tree) → WellFormed t → IsTrimmed (trim t)
+is-trimmed t well =
+    each-retain (λ e. e.0 < t.made) (λ e. IsTrue (stays (is_pinned t.pins) t.names e)) t.files (stays (is_pinned t.pins) t.names) (λ e h passed. passed) well.given
+
+-- a tree within the limits is one of the program when it is trimmed
+pub kept-trim : (t : Tree) → WellFormed t → IsTrue (fits t) → IsKept (trim t)
+kept-trim t well within = record {
+  well_formed = well-formed-trimmed (is_pinned t.pins) t well;
+  within_limits = fits-trimmed (is_pinned t.pins) t within;
+  trimmed = is-trimmed t well;
+}
+
+retain-all : (files : Files) (keeps : ℕ × Content → Bool) → AllByRecursion (λ e. IsTrue (keeps e)) files → retain files keeps ≡ files
+unfolding retain
+retain-all files keeps h = filter_all keeps files (all-each keeps files h)
+
+pub trimmed-already : (t : Tree) → IsTrimmed t → trim t ≡ t
+trimmed-already t h =
+    let same = retain-all t.files (stays (is_pinned t.pins) t.names) h in
+    λ i. record t { files = same i }

@@ -1,0 +1,103 @@
+-- Which moves keep to the most names of a place.
+use Rattle.std.proofs.Common.{◌≡◌, ℕ, ◌-◌, Bool, true, false, ◌&&◌, ◌||◌, not, cond, [], ◌∷◌, length, refl, sym, ◌∙◌, ap, nat_le}
+use Rattle.std.specs.Cmp.Lexicographic.{bytes_decides, texts_ties, nat_list_cmp_total}
+use Rattle.std.specs.Ordering.{ordering_then, is_eq, is_le}
+use Rattle.std.specs.declared.cmp.Ordering.{Ordering}
+use Rattle.std.specs.declared.cmp.Ordering.TheVariants.{Less, Equal, Greater}
+use Rattle.std.specs.declared.ops.Bound.TheVariants.{Included, Unbounded}
+use Rattle.std.specs.List.{list_all, filter, AllByRecursion}
+use Rattle.std.specs.List.Sorted.{IsStrictlySortedBy}
+use Rattle.std.specs.Map.{keys_of}
+use Rattle.std.specs.BTreeMap.Range.{entries_between}
+use Rattle.std.proofs.lemmas.Bool.{and_parts}
+use Rattle.std.proofs.lemmas.Map.Keys.{sorted_head, sorted_tail}
+use Rattle.std.specs.Cmp.{Equal-is}
+use Rattle.sftp_path.specs.Place.{Place, name_cmp, place_cmp, same_bytes, begins}
+use Rattle.sftp_tree.specs.declared.nodes.Node.{Node}
+use Rattle.sftp_tree.specs.Tree.{Names}
+use Rattle.sftp_tree.specs.Room.{reaches_at_most}
+use Rattle.sftp_tree.proofs.PlaceTables.Below.{between-names}
+
+-- ---- the places that a place begins stand in a row, from it on
+
+-- what stands between a place and one that it begins, it begins too
+begins-between : (p a b : Place) → place_cmp p a ≡ Less → place_cmp a b ≡ Less → begins p b ≡ true → begins p a ≡ true
+begins-between [] a b after before begun = refl
+begins-between (m ∷ ms) [] b after before begun = cc
+begins-between (m ∷ ms) (k ∷ ks) [] after before begun = cc
+begins-between (m ∷ ms) (k ∷ ks) (n ∷ ns) after before begun =
+    let parts = and_parts (same_bytes m n) (begins ms ns) begun in
+    let is = (bytes_decides m n).0 parts.0 in
+    let back : ordering_then (name_cmp k m) (place_cmp ks ns) ≡ Less = ap (λ x. ordering_then (name_cmp k x) (place_cmp ks ns)) is ∙ before in
+    let found = between-names (name_cmp m k) (name_cmp k m) (place_cmp ms ks) (place_cmp ks ns) (nat_list_cmp_total.antisymm m k) after back in
+    let same : same_bytes m k ≡ true = texts_ties m k ∙ ap is_eq found.0 in
+    ap (λ x. x && begins ms ks) same ∙ begins-between ms ks ns found.1 found.2 parts.1
+
+-- a place comes before those that it begins, or is one of them
+begins-le : (p k : Place) → begins p k ≡ true → is_le (place_cmp p k) ≡ true
+begins-le [] [] begun = refl
+begins-le [] (n ∷ ns) begun = refl
+begins-le (m ∷ ms) [] begun = cc
+begins-le (m ∷ ms) (n ∷ ns) begun =
+    let parts = and_parts (same_bytes m n) (begins ms ns) begun in
+    ap (λ o. is_le (ordering_then o (place_cmp ms ns))) ((Equal-is (name_cmp m n)).0 (sym (texts_ties m n) ∙ parts.0)) ∙ begins-le ms ns parts.1
+
+begins-equal : (p k : Place) → place_cmp p k ≡ Equal → begins p k ≡ true
+begins-equal [] [] e = refl
+begins-equal [] (n ∷ ns) e = cc
+begins-equal (m ∷ ms) [] e = cc
+begins-equal (m ∷ ms) (n ∷ ns) e =
+    let parts = both-equal (name_cmp m n) (place_cmp ms ns) e in
+    ap (λ b. b && begins ms ns) (texts_ties m n ∙ ap is_eq parts.0) ∙ begins-equal ms ns parts.1
+  where
+    both-equal : (o x : Ordering) → ordering_then o x ≡ Equal → (o ≡ Equal) × (x ≡ Equal)
+    both-equal Less x h = cc
+    both-equal Equal x h = (refl, h)
+    both-equal Greater x h = cc
+
+-- ---- the row
+
+-- whether each entry of the row in front reaches at most so far
+abbrev pub row_reaches : Place → ℕ → Names → Bool
+row_reaches top room [] = true
+row_reaches top room (e ∷ es) = cond (begins top e.0) (nat_le (length e.0 - length top) room && row_reaches top room es) true
+
+reaches : Place → ℕ → Place × Node → Bool
+reaches top room e = not (begins top e.0) || nat_le (length e.0 - length top) room
+
+none-further : (top : Place) (room : ℕ) (a : Place) (es : Names) → place_cmp top a ≡ Less → begins top a ≡ false → AllByRecursion (λ k. place_cmp a k ≡ Less) (keys_of es) → list_all (reaches top room) es ≡ true
+unfolding reaches
+none-further top room a [] after apart further = refl
+none-further top room a (e ∷ es) after apart further =
+    (λ i. (not (out (begins top e.0) refl i) || nat_le (length e.0 - length top) room) && none-further top room a es after apart further.1 i)
+  where
+    out : (b : Bool) → begins top e.0 ≡ b → begins top e.0 ≡ false
+    out true begun = let it = begins-between top a e.0 after further.0 begun in cc
+    out false begun = begun
+
+row-turn : (top : Place) (room : ℕ) (e : Place × Node) (es row : Names) (o : Ordering) → place_cmp top e.0 ≡ o → AllByRecursion (λ k. place_cmp e.0 k ≡ Less) (keys_of es) → list_all (reaches top room) es ≡ row_reaches top room row → (reaches top room e && list_all (reaches top room) es) ≡ row_reaches top room (cond (is_le o && true) (e ∷ row) row)
+unfolding reaches
+row-turn top room e es row Less is further rest = by (begins top e.0) refl
+  where
+    by : (b : Bool) → begins top e.0 ≡ b → ((not b || nat_le (length e.0 - length top) room) && list_all (reaches top room) es) ≡ cond b (nat_le (length e.0 - length top) room && row_reaches top room row) true
+    by true begun = ap (λ b. nat_le (length e.0 - length top) room && b) rest
+    by false apart = none-further top room e.0 es is apart further
+row-turn top room e es row Equal is further rest = by (begins top e.0) (begins-equal top e.0 is)
+  where
+    by : (b : Bool) → b ≡ true → ((not b || nat_le (length e.0 - length top) room) && list_all (reaches top room) es) ≡ cond b (nat_le (length e.0 - length top) room && row_reaches top room row) true
+    by true begun = ap (λ b. nat_le (length e.0 - length top) room && b) rest
+    by false apart = cc
+row-turn top room e es row Greater is further rest = by (begins top e.0) refl ∙ rest
+  where
+    by : (b : Bool) → begins top e.0 ≡ b → ((not b || nat_le (length e.0 - length top) room) && list_all (reaches top room) es) ≡ list_all (reaches top room) es
+    by true begun = let le = sym (ap is_le is) ∙ begins-le top e.0 begun in cc
+    by false apart = refl
+
+row-is : (top : Place) (room : ℕ) (es : Names) → IsStrictlySortedBy place_cmp (keys_of es) → list_all (reaches top room) es ≡ row_reaches top room (filter (λ e. is_le (place_cmp top e.0) && true) es)
+row-is top room [] ordered = refl
+row-is top room (e ∷ es) ordered =
+    row-turn top room e es (filter (λ e. is_le (place_cmp top e.0) && true) es) (place_cmp top e.0) refl (sorted_head place_cmp e.0 (keys_of es) ordered) (row-is top room es (sorted_tail place_cmp e.0 (keys_of es) ordered))
+
+pub reaches-row : (top : Place) (room : ℕ) (es : Names) → IsStrictlySortedBy place_cmp (keys_of es) → reaches_at_most es top room ≡ row_reaches top room (entries_between place_cmp (Included top) Unbounded es)
+unfolding reaches
+reaches-row top room es ordered = row-is top room es ordered

@@ -1,0 +1,5 @@
+-- Tables of places: what holds of each entry, in what order entries stand, and what is left without one.
+pub mod Rising
+pub mod Below
+pub mod Removals
+pub mod Each

@@ -1,0 +1,3 @@
+-- Requests: what is planned for them, and the trees that they leave.
+pub mod Plans
+pub mod Trees

@@ -1,0 +1,322 @@
+-- What a tree's file says is a tree file, whose tree is that tree with its files numbered anew; and what a tree file says is what
+-- its tree's says.
+use Rattle.std.proofs.Common.{◌≡◌, ℕ, ◌+◌, ◌-◌, ◌<◌, ◌≤◌, ◌^◌, ◌||◌, cond, List, [], ◌∷◌, ◌++◌, length, Some, refl, sym, ap, subst, ◌∙◌, arith}
+use Rattle.std.specs.Prelude.{IsTrue, is_some}
+use Rattle.std.specs.List.{AllByRecursion, filter}
+use Rattle.std.proofs.lemmas.Bool.{leb-true, ltb-true, le-leb, lt-ltb, or_left}
+use Rattle.std.proofs.lemmas.List.{length-append}
+use Rattle.std.proofs.lemmas.List.Elements.{filter-append}
+use Rattle.sftp_path.specs.Place.{Place, are_names, components}
+use Rattle.sftp_path.specs.Table.{retain}
+use Rattle.sftp_path.specs.Text.{IsTextOf}
+use Rattle.sftp_path.proofs.PathTexts.AbsoluteTexts.{components-absolute}
+use Rattle.sftp_treefile.specs.declared.files.Owner.{Owner}
+use Rattle.sftp_treefile.specs.declared.files.Kind.{Kind}
+use Rattle.sftp_treefile.specs.declared.files.Kind.TheVariants as kinds
+use Rattle.sftp_treefile.specs.declared.files.Row.{Row}
+use Rattle.sftp_treefile.specs.declared.files.TreeFile.{TreeFile}
+use Rattle.sftp_treefile.specs.declared.limits.TreeLimits.{TreeLimits}
+use Rattle.sftp_treefile.specs.Limits.{usual_limits}
+use Rattle.sftp_treefile.specs.TreeFile.{place_of, IsOwner, IsKind, AreRows, IsTreeFile, spelled, IsSpelled}
+use Rattle.sftp_treefile.proofs.Texts.Files.{one_file}
+use Rattle.sftp_tree.specs.declared.contents.Content.{Content}
+use Rattle.sftp_tree.specs.declared.nodes.Node.{Node}
+use Rattle.sftp_tree.specs.declared.nodes.Node.TheVariants.{Dir, File, Link}
+use Rattle.sftp_tree.specs.Tree.{Names, Files, Tree, WellFormed, IsKept, IsNode, IsContent, limits, node_at, content_at, names_file, times_named, is_named, is_pinned, fits, depths_fit, depth_fits, home_fits, links_fit, link_fits, files_fit, content_fits}
+use Rattle.sftp_tree.specs.Picture.{rows_behind, root_owner, is_numbered, file_of, picture, IsStart, blank}
+use Rattle.sftp_tree.specs.PictureParts.{content_of, contents_of, node_of, entry_of, entries_behind, only_root, names_of, numbered_from, tree_of}
+use Rattle.sftp_tree.proofs.PlaceTables.Rising.{all_both, all_together, all_right}
+use Rattle.sftp_tree.proofs.TreeFiles.Tables.{IsPlace, IsFitNode, IsTable, bare_names, text_place, root_table, table_of_rows, rows_of_table, root_first, root_at, entries_below}
+use Rattle.sftp_tree.proofs.TreeFiles.Shapes.{table_bare, table_from_bare, names_bare}
+use Rattle.sftp_tree.proofs.TreeFiles.Numbers.{made_by, made_few, first_of_number, names_split, length-entries, IsBelow, AreBelow, all_below, first_names}
+use Rattle.sftp_tree.proofs.TreeFiles.Contents.{numbered_contents, numbered_there, each_number, each_content, numbered_order, numbered_again}
+use Rattle.sftp_tree.proofs.TreeFiles.Named.{IsBelowRoot, IsFitContent, length-rows, place_text, entry_texts, rows_bare, kinds_fit}
+use Rattle.sftp_tree.proofs.TreeFiles.Again.{rows_again, rows_numbered, entries_again}
+use Rattle.sftp_tree.proofs.PlaceTables.Each.{each-all, all-each, each-weaker}
+use Rattle.sftp_tree.proofs.Limits.Tests.{Stands, fits-parts, fits-from}
+
+-- ---- the limits, entry by entry
+
+pub record Limits (t : Tree) : Type 0 where
+  pub entries : length t.names ≤ t.limits.entries + 1
+  pub depths : IsTrue (depths_fit t)
+  pub home : IsTrue (home_fits t)
+  pub links : IsTrue (links_fit t)
+  pub files : IsTrue (files_fit t)
+  pub numbers : t.made < 2 ^ 32
+
+pub limits_from : (t : Tree) → IsTrue (fits t) → Limits t
+limits_from t h =
+    let parts = fits-parts t h in
+    record { entries = omega (arith, leb-true (length t.names - 1) t.limits.entries parts.entries); depths = parts.depths; home = parts.home; links = parts.links; files = parts.files; numbers = ltb-true t.made (2 ^ 32) parts.numbers }
+
+pub limits_fit : (t : Tree) → Limits t → IsTrue (fits t)
+limits_fit t l =
+    fits-from t (record { entries = le-leb (length t.names - 1) t.limits.entries (omega (arith, l.entries)); depths = l.depths; home = l.home; links = l.links; files = l.files; numbers = lt-ltb t.made (2 ^ 32) l.numbers })
+
+pub usual-entries : (t : Tree) → Stands t → t.limits.entries ≡ usual_limits.entries
+usual-entries t kept = ap (λ (bounds : TreeLimits). bounds.entries) kept.well_formed.limits
+
+-- ---- what the files of rows keep
+
+fit_contents : (earlier : List Row) (kind : Kind) → IsKind usual_limits earlier kind → AllByRecursion IsFitContent (content_of kind)
+fit_contents earlier (kinds.Dir owner) fits = tt
+fit_contents earlier (kinds.First owner bytes) fits = (fits, tt)
+fit_contents earlier (kinds.Further entry) fits = tt
+fit_contents earlier (kinds.Link target) fits = tt
+
+rows_contents : (earlier rows : List Row) → AreRows usual_limits earlier rows → AllByRecursion IsFitContent (contents_of rows)
+rows_contents earlier [] fit = tt
+rows_contents earlier (row ∷ rows) fit =
+    all_both IsFitContent (content_of row.kind) (contents_of rows) (fit_contents earlier row.kind fit.0.kind) (rows_contents (earlier ++ row ∷ []) rows fit.1)
+
+node_kept : (files : Files) (made : ℕ) → ((n : ℕ) → n < made → IsTrue (is_some (content_at files n))) → (standing : Node) → IsFitNode standing → IsBelow made standing → IsNode files standing
+node_kept files made there (Dir owner) fits below = fits
+node_kept files made there (File number) fits below = there number below
+node_kept files made there (Link target) fits below = fits.0
+
+nodes_kept : (files : Files) (made : ℕ) → ((n : ℕ) → n < made → IsTrue (is_some (content_at files n))) → (names : Names) → AllByRecursion (λ e. IsFitNode e.1) names → AreBelow made names → AllByRecursion (λ e. IsNode files e.1) names
+nodes_kept files made there [] fits below = tt
+nodes_kept files made there (e ∷ es) fits below = (node_kept files made there e.1 fits.0 below.0, nodes_kept files made there es fits.1 below.1)
+
+fit_link : (standing : Node) → IsFitNode standing → IsTrue (link_fits standing)
+fit_link (Dir owner) fits = refl
+fit_link (File number) fits = refl
+fit_link (Link target) fits = fits.1
+
+-- each file that rows come with has a name
+
+named_between : (number : ℕ) (xs : Names) (e : Place × Node) (ys : Names) → IsTrue (names_file number e.1) → 0 < times_named (xs ++ e ∷ ys) number
+unfolding retain
+named_between number xs e ys is =
+    let test = λ (q : Place × Node). names_file number q.1 in
+    let here : filter test (e ∷ ys) ≡ e ∷ filter test ys = ap (λ b. cond b (e ∷ filter test ys) (filter test ys)) is in
+    omega (arith, ap length (filter-append test xs (e ∷ ys)), length-append (filter test xs) (filter test (e ∷ ys)), ap length here)
+
+names_each : (root : Owner) (rows : List Row) (number : ℕ) → number < made_by rows → IsTrue (is_named (names_of root rows) number)
+names_each root rows number below =
+    let f = first_of_number rows number below in
+    let here : IsTrue (names_file number (node_of f.at.front f.at.row.kind)) = subst (λ n. IsTrue (names_file n (node_of f.at.front f.at.row.kind))) f.number_is (first_names f.at.front f.at.row.kind f.at.first) in
+    let many = named_between number (names_of root f.at.front) (entry_of f.at.front f.at.row) (entries_behind (f.at.front ++ f.at.row ∷ []) f.at.rest) here in
+    subst (λ (names : Names). IsTrue (is_named names number)) (sym (ap (names_of root) f.at.rows_are ∙ names_split root f.at.front (f.at.row ∷ f.at.rest))) (lt-ltb 0 (times_named (names_of root f.at.front ++ entries_behind f.at.front (f.at.row ∷ f.at.rest)) number) many)
+
+-- ---- from a tree file to its tree
+
+pub table_of_file : (root : Owner) (rows : List Row) → IsOwner root → AreRows usual_limits [] rows → IsTable root (names_of root rows)
+table_of_file root rows fits fit = table_from_bare root (names_of root rows) (subst (IsTable root) (sym (names_bare root rows)) (table_of_rows root rows fits fit))
+
+rows_fit : (file : TreeFile) → IsTreeFile file → AreRows usual_limits [] file.rows
+rows_fit file is = subst (λ (bounds : TreeLimits). AreRows bounds [] file.rows) is.limits is.rows
+
+pub kept_of_file : (file : TreeFile) → IsTreeFile file → IsKept (tree_of file)
+kept_of_file file is =
+    let names = names_of file.root file.rows in
+    let contents = contents_of file.rows in
+    let files = numbered_from 0 contents in
+    let made = length contents in
+    let rows = rows_fit file is in
+    let t = table_of_file file.root file.rows is.root rows in
+    let fit = rows_contents [] file.rows rows in
+    let home = text_place file.home is.home in
+    let many : length names ≡ length file.rows + 1 = omega (arith, length-entries [] file.rows) in
+    let there = λ (n : ℕ) (below : n < made). numbered_there 0 contents n (omega arith) (omega arith) in
+    record {
+      well_formed = record {
+        ordered = t.ordered;
+        named = each-weaker (λ (e : Place × Node). IsPlace e.0) (λ (e : Place × Node). IsTrue (are_names e.0)) (λ e p. p.0) names t.places;
+        nodes = nodes_kept files made there names t.nodes (all_below file.root file.rows rows);
+        root = rw t.root_is refl;
+        parents = t.parents;
+        numbered = numbered_order 0 contents;
+        contents = each_content IsContent 0 contents (each-weaker IsFitContent IsContent (λ c f. (f.0, f.2)) contents fit);
+        given = each_number (λ n. n < made) 0 contents (λ n above below. omega arith);
+        pins = numbered_order 0 [];
+        limits = is.limits;
+        home = home.0;
+        uid = is.uid;
+        gid = is.gid;
+      };
+      within_limits = limits_fit (tree_of file) (record {
+        entries = omega (arith, many, is.count);
+        depths = all-each (λ (e : Place × Node). depth_fits e.0) names (each-weaker (λ (e : Place × Node). IsPlace e.0) (λ (e : Place × Node). IsTrue (depth_fits e.0)) (λ e p. p.1) names t.places);
+        home = home.1;
+        links = all-each (λ (e : Place × Node). link_fits e.1) names (each-weaker (λ (e : Place × Node). IsFitNode e.1) (λ (e : Place × Node). IsTrue (link_fits e.1)) (λ e p. fit_link e.1 p) names t.nodes);
+        files = all-each (λ (e : ℕ × Content). content_fits (limits (tree_of file)) e.1) files (each_content (λ c. IsTrue (content_fits (limits (tree_of file)) c)) 0 contents (each-weaker IsFitContent (λ c. IsTrue (content_fits (limits (tree_of file)) c)) (λ c f. subst (λ (bounds : TreeLimits). IsTrue (content_fits bounds c)) (sym is.limits) (le-leb (length c.bytes) usual_limits.file_bytes f.1)) contents fit));
+        numbers = omega (arith, made_few file.rows, is.count, ap (λ (bounds : TreeLimits). bounds.entries) is.limits);
+      });
+      trimmed = each_number (λ n. IsTrue (is_named names n || is_pinned [] n)) 0 contents (λ n above below. or_left (is_named names n) (is_pinned [] n) (names_each file.root file.rows n (omega arith)));
+    }
+
+pub numbered_of_file : (file : TreeFile) → IsTreeFile file → IsTrue (is_numbered 0 (tree_of file).names (tree_of file).made)
+numbered_of_file file is = rows_numbered [] file.rows (rows_fit file is)
+
+pub file_again : (file : TreeFile) → IsTreeFile file → file_of (tree_of file) ≡ file
+file_again file is =
+    let root : root_owner (node_at (names_of file.root file.rows) []) ≡ file.root = ap root_owner (root_at file.root (entries_behind [] file.rows)) in
+    let rows : rows_behind (numbered_from 0 (contents_of file.rows)) (only_root file.root) (entries_behind [] file.rows) ≡ file.rows =
+    rows_again file.root (numbered_from 0 (contents_of file.rows)) [] file.rows tt (rows_fit file is) (numbered_contents (contents_of file.rows)) in
+    λ i. record { limits = file.limits; home = sym is.home.one i; uid = file.uid; gid = file.gid; root = root i; rows = rows i }
+
+-- ---- from a tree to its file
+
+-- the root and what stands below it
+pub record Split (t : Tree) : Type 0 where
+  pub root : Owner
+  pub entries : Names
+  pub names_are : t.names ≡ only_root root ++ entries
+  pub table : IsTable root (only_root root ++ entries)
+  pub below : AllByRecursion IsBelowRoot entries
+  pub nodes : AllByRecursion (λ e. IsNode t.files e.1) entries
+  pub few : length entries ≤ t.limits.entries
+
+split_by : (t : Tree) → Stands t → (root : Owner) (entries : Names) → t.names ≡ only_root root ++ entries → IsTable root (only_root root ++ entries) → Split t
+split_by t kept root entries names_are table = record {
+  root = root;
+  entries = entries;
+  names_are = names_are;
+  table = table;
+  below = all_together (λ (e : Place × Node). IsPlace e.0) (λ (e : Place × Node). 0 < length e.0) entries (all_right (λ (e : Place × Node). IsPlace e.0) (only_root root) entries table.places) (entries_below root entries table.ordered);
+  nodes = all_right (λ (e : Place × Node). IsNode t.files e.1) (only_root root) entries (subst (λ (names : Names). AllByRecursion (λ e. IsNode t.files e.1) names) names_are kept.well_formed.nodes);
+  few = omega (arith, ap length names_are, (limits_from t kept.within_limits).entries);
+}
+
+node_fits : (files : Files) (standing : Node) → IsNode files standing → IsTrue (link_fits standing) → IsFitNode standing
+node_fits files (Dir owner) is fits = is
+node_fits files (File number) is fits = tt
+node_fits files (Link target) is fits = (is, fits)
+
+nodes_fit : (files : Files) (names : Names) → AllByRecursion (λ e. IsNode files e.1) names → AllByRecursion (λ e. IsTrue (link_fits e.1)) names → AllByRecursion (λ e. IsFitNode e.1) names
+nodes_fit files [] are fit = tt
+nodes_fit files (e ∷ es) are fit = (node_fits files e.1 are.0 fit.0, nodes_fit files es are.1 fit.1)
+
+table_of_tree : (t : Tree) → Stands t → (root : Owner) → node_at t.names [] ≡ Some (Dir root) → IsTable root t.names
+table_of_tree t kept root root_is =
+    let w = kept.well_formed in
+    let l = limits_from t kept.within_limits in
+    record {
+      ordered = w.ordered;
+      places = all_together (λ (e : Place × Node). IsTrue (are_names e.0)) (λ (e : Place × Node). IsTrue (depth_fits e.0)) t.names w.named (each-all (λ (e : Place × Node). depth_fits e.0) t.names l.depths);
+      nodes = nodes_fit t.files t.names w.nodes (each-all (λ (e : Place × Node). link_fits e.1) t.names l.links);
+      root_is = root_is;
+      parents = w.parents;
+    }
+
+pub split_tree : (t : Tree) → Stands t → Split t
+split_tree t kept =
+    let f = root_first t.names kept.well_formed.ordered kept.well_formed.root in
+    let table = table_of_tree t kept f.0 (ap (λ (n : Names). node_at n []) f.2 ∙ root_at f.0 f.1) in
+    split_by t kept f.0 f.1 f.2 (subst (IsTable f.0) f.2 table)
+
+pub root_of_split : (t : Tree) (s : Split t) → root_owner (node_at t.names []) ≡ s.root
+root_of_split t s = ap (λ (n : Names). root_owner (node_at n [])) s.names_are ∙ ap root_owner s.table.root_is
+
+content_fit : (files : Files) → AllByRecursion (λ e. IsContent e.1) files → AllByRecursion (λ e. IsTrue (content_fits usual_limits e.1)) files → AllByRecursion (λ e. IsFitContent e.1) files
+content_fit [] are fit = tt
+content_fit (e ∷ files) are fit = ((are.0.0, leb-true (length e.1.bytes) usual_limits.file_bytes fit.0, are.0.1), content_fit files are.1 fit.1)
+
+pub fit_files : (t : Tree) → Stands t → AllByRecursion (λ e. IsFitContent e.1) t.files
+fit_files t kept =
+    let fit = each-all (λ (e : ℕ × Content). content_fits (limits t) e.1) t.files (limits_from t kept.within_limits).files in
+    content_fit t.files kept.well_formed.contents (subst (λ (bounds : TreeLimits). AllByRecursion (λ (e : ℕ × Content). IsTrue (content_fits bounds e.1)) t.files) kept.well_formed.limits fit)
+
+rows_of_split : (t : Tree) → Stands t → (s : Split t) → AreRows usual_limits [] (rows_behind t.files (only_root s.root) s.entries)
+rows_of_split t kept s =
+    let rows = rows_behind t.files (only_root s.root) s.entries in
+    let table : IsTable s.root (bare_names s.root rows) =
+    subst (IsTable s.root) (ap (λ (es : Names). only_root s.root ++ es) (sym (rows_bare t.files (only_root s.root) s.entries s.below))) (table_bare s.root (only_root s.root ++ s.entries) s.table) in
+    let fit = all_right (λ (e : Place × Node). IsFitNode e.1) (only_root s.root) s.entries s.table.nodes in
+    rows_of_table s.root [] rows table (entry_texts t.files (only_root s.root) s.entries s.below)
+    (kinds_fit t.files s.root [] s.entries fit s.nodes (fit_files t kept) tt s.below (omega (arith, s.few, usual-entries t kept)))
+
+pub file_of_tree : (t : Tree) → Stands t → IsTreeFile (file_of t)
+file_of_tree t kept =
+    let s = split_tree t kept in
+    let l = limits_from t kept.within_limits in
+    let rows : rows_behind t.files [] t.names ≡ rows_behind t.files (only_root s.root) s.entries = ap (rows_behind t.files []) s.names_are in
+    record {
+      limits = kept.well_formed.limits;
+      home = place_text t.home (kept.well_formed.home, l.home);
+      uid = kept.well_formed.uid;
+      gid = kept.well_formed.gid;
+      count = omega (arith, ap length rows, length-rows t.files (only_root s.root) s.entries s.below, s.few);
+      root = subst IsOwner (sym (root_of_split t s)) s.table.nodes.0;
+      rows = subst (λ (bounds : TreeLimits). AreRows bounds [] (rows_behind t.files [] t.names)) (sym kept.well_formed.limits) (subst (AreRows usual_limits []) (sym rows) (rows_of_split t kept s));
+    }
+
+pub tree_again : (t : Tree) → Stands t → t.pins ≡ [] → IsTrue (is_numbered 0 t.names t.made) → tree_of (file_of t) ≡ t
+tree_again t kept unpinned numbered =
+    let s = split_tree t kept in
+    let fit = rows_of_split t kept s in
+    let rows : rows_behind t.files [] t.names ≡ rows_behind t.files (only_root s.root) s.entries = ap (rows_behind t.files []) s.names_are in
+    let a = entries_again s.root t.files [] (only_root s.root) s.entries t.made refl tt fit s.below s.nodes (subst (λ (names : Names). IsTrue (is_numbered 0 names t.made)) s.names_are numbered) in
+    let names : names_of (root_owner (node_at t.names [])) (rows_behind t.files [] t.names) ≡ t.names =
+    (λ i. names_of (root_of_split t s i) (rows i)) ∙ ap (λ (es : Names). only_root s.root ++ es) a.entries_are ∙ sym s.names_are in
+    let made : made_by (rows_behind t.files [] t.names) ≡ t.made = ap made_by rows ∙ a.made_is in
+    let files : numbered_from 0 (contents_of (rows_behind t.files [] t.names)) ≡ t.files =
+    ap (λ (rs : List Row). numbered_from 0 (contents_of rs)) rows
+    ∙ numbered_again t.files (contents_of (rows_behind t.files (only_root s.root) s.entries)) kept.well_formed.numbered (subst (λ n. AllByRecursion (λ e. e.0 < n) t.files) (sym a.made_is) kept.well_formed.given) a.contents in
+    λ i. record { names = names i; files = files i; made = made i; pins = sym unpinned i; limits = t.limits; home = components-absolute t.home kept.well_formed.home i; uid = t.uid; gid = t.gid }
+
+-- the place that a text was found to be of
+pub place_found : (text : List ℕ) (place : Place) → IsTextOf text place → place ≡ place_of text
+place_found text place is = sym (ap components is.1 ∙ components-absolute place is.0)
+
+-- ---- the blank tree
+
+pub blank_kept : IsKept blank
+blank_kept =
+    let t = root_table (record { uid = 0; gid = 0; permissions = 0o755 }) (omega arith, omega arith, omega arith) in
+    record {
+      well_formed = record {
+        ordered = t.ordered;
+        named = (refl, tt);
+        nodes = (t.nodes.0, tt);
+        root = rw t.root_is refl;
+        parents = t.parents;
+        numbered = numbered_order 0 [];
+        contents = tt;
+        given = tt;
+        pins = numbered_order 0 [];
+        limits = refl;
+        home = refl;
+        uid = omega arith;
+        gid = omega arith;
+      };
+      within_limits = limits_fit blank (record { entries = omega arith; depths = refl; home = refl; links = refl; files = refl; numbers = omega arith });
+      trimmed = tt;
+    }
+
+-- ---- starts
+
+pub stands_of_start : (t : Tree) (bytes : List ℕ) → IsStart t bytes → Stands t
+stands_of_start t bytes start = record { well_formed = start.well_formed; within_limits = start.within_limits }
+
+pub spelled_of_start : (t : Tree) (bytes : List ℕ) → IsStart t bytes → IsSpelled (file_of t) bytes
+unfolding picture
+spelled_of_start t bytes start = record { may_be = file_of_tree t (stands_of_start t bytes start); bytes_are = start.picture_is }
+
+pub start_of_spelled : (file : TreeFile) (bytes : List ℕ) → IsSpelled file bytes → IsStart (tree_of file) bytes
+unfolding picture
+start_of_spelled file bytes is =
+    let kept = kept_of_file file is.may_be in
+    record {
+      well_formed = kept.well_formed;
+      within_limits = kept.within_limits;
+      trimmed = kept.trimmed;
+      unpinned = refl;
+      numbered = numbered_of_file file is.may_be;
+      picture_is = is.bytes_are ∙ ap spelled (sym (file_again file is.may_be));
+    }
+
+-- the tree file of a tree is that of the tree whose files are numbered anew
+pub start_of_picture : (t : Tree) → WellFormed t → IsTrue (fits t) → IsStart (tree_of (file_of t)) (picture t)
+unfolding picture
+start_of_picture t well within =
+    start_of_spelled (file_of t) (picture t) (record { may_be = file_of_tree t (record { well_formed = well; within_limits = within }); bytes_are = refl })
+
+-- bytes are the tree file of one tree
+pub one_start : (t u : Tree) (bytes : List ℕ) → IsStart t bytes → IsStart u bytes → t ≡ u
+one_start t u bytes t-start u-start =
+    sym (tree_again t (stands_of_start t bytes t-start) t-start.unpinned t-start.numbered)
+    ∙ ap tree_of (one_file (file_of t) (file_of u) bytes (spelled_of_start t bytes t-start) (spelled_of_start u bytes u-start))
+    ∙ tree_again u (stands_of_start u bytes u-start) u-start.unpinned u-start.numbered

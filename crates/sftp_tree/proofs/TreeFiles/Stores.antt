@@ -1,0 +1,324 @@
+-- The files of the rows so far, as the code keeps them: each with the count of its names.
+use Rattle.std.proofs.Common.{◌≡◌, ◌≢◌, ℕ, zero, suc, ◌+◌, ◌-◌, ◌^◌, ◌<◌, ◌≤◌, Bool, true, false, cond, if◌then◌else◌, List, [], ◌∷◌, ◌++◌, length, take, Option, Some, None, refl, sym, ap, subst, ◌∙◌, arith}
+use Rattle.std.specs.Prelude.{IsTrue, not, slice_index}
+use Rattle.std.specs.List.{filter, AllByRecursion}
+use Rattle.std.specs.List.Sorted.{IsStrictlySortedBy}
+use Rattle.std.specs.Map.{keys_of}
+use Rattle.std.specs.Option.{IfSome}
+use Rattle.std.specs.Ordering.{nat_cmp, is_eq, ordering_reverse}
+use Rattle.std.specs.declared.cmp.Ordering.TheVariants.{Less}
+use Rattle.std.specs.Cmp.{nat_cmp_total, nat_cmp_is}
+use Rattle.std.specs.FinMap.{nat_cmp-IsAntisymmetric}
+use Rattle.std.proofs.lemmas.Bool.{eq-eqb, ne_eqb}
+use Rattle.std.proofs.lemmas.List.{length-append, append-nil, length-map}
+use Rattle.std.proofs.lemmas.List.Elements.{filter-append}
+use Rattle.std.proofs.lemmas.List.Filters.{length-filter_both}
+use Rattle.std.proofs.lemmas.Map.Made.{keys_of-map_values}
+use Rattle.sftp_path.specs.Place.{Place, place_cmp, parent}
+use Rattle.sftp_path.specs.Table.{InOrder, get, put, retain}
+use Rattle.sftp_path.proofs.Order.{place_cmp-total}
+use Rattle.sftp_path.proofs.Table.Laws.{get-empty, get-cons}
+use Rattle.sftp_path.proofs.Table.Values.{with_values-put}
+use Rattle.sftp_treefile.specs.declared.files.Owner.{Owner}
+use Rattle.sftp_treefile.specs.declared.files.Kind.{Kind}
+use Rattle.sftp_treefile.specs.declared.files.Kind.TheVariants as kinds
+use Rattle.sftp_treefile.specs.declared.files.Row.{Row}
+use Rattle.sftp_treefile.specs.declared.files.TreeFile.{TreeFile}
+use Rattle.sftp_treefile.specs.Limits.{usual_limits}
+use Rattle.sftp_treefile.specs.TreeFile.{place_of, IsOwner, IsKind, IsNext, AreRows}
+use Rattle.sftp_tree.specs.declared.contents.Content.{Content}
+use Rattle.sftp_tree.specs.declared.contents.Stored.{Stored}
+use Rattle.sftp_tree.specs.declared.nodes.Node.{Node}
+use Rattle.sftp_tree.specs.declared.nodes.Node.TheVariants.{Dir, File, Link}
+use Rattle.sftp_tree.specs.Tree.{Names, Files, node_at, with_node, is_directory, names_file, times_named}
+use Rattle.sftp_tree.specs.Stored.{contents, seen, AreCounted, file_named, IsChangedWhereNamed, with_a_name}
+use Rattle.sftp_tree.specs.PictureParts.{content_of, contents_of, node_of, only_root, names_of, numbered_from, numbers_from, known_number, known_node, IsKnown, Stores, HaveRoom, AreWithEntry, IsGrown, tree_of}
+use Rattle.sftp_tree.proofs.PlaceTables.Each.{each-get}
+use Rattle.sftp_tree.proofs.FileCounts.Names.{raised}
+use Rattle.sftp_tree.proofs.PlaceTables.Rising.{all_both, all_from_map, insert_last}
+use Rattle.sftp_tree.proofs.TreeFiles.Tables.{later_than_all, row_parent, bare_names}
+use Rattle.sftp_tree.proofs.TreeFiles.Shapes.{bare, directory_bare, names_bare}
+use Rattle.sftp_tree.proofs.TreeFiles.Numbers.{made_by, made_few, contents_split, FirstAt, first_at, names_push, length-entries, IsBelow, AreBelow, all_below}
+use Rattle.sftp_tree.proofs.TreeFiles.Contents.{each_number, numbered_order}
+
+-- ---- room for a name more
+
+pub room_at : (stores : Stores) (number : ℕ) → HaveRoom stores → IfSome (get nat_cmp stores number) (λ s. s.names + 1 < 2 ^ 32)
+room_at stores number room = by (get nat_cmp stores number) refl
+  where
+    by : (found : Option Stored) → get nat_cmp stores number ≡ found → IfSome found (λ s. s.names + 1 < 2 ^ 32)
+    by None is = tt
+    by (Some s) is = each-get nat_cmp nat_cmp-IsAntisymmetric (λ e. e.1.names + 1 < 2 ^ 32) stores number s room is
+
+counted_room : (names : Names) (stores : Stores) → AreCounted names stores → length names + 1 < 2 ^ 32 → HaveRoom stores
+unfolding retain
+counted_room names [] counted few = tt
+counted_room names (e ∷ stores) counted few =
+    (omega (arith, counted.0, length-filter_both (λ (q : Place × Node). names_file e.0 q.1) (λ (q : Place × Node). not (names_file e.0 q.1)) (λ q. refl) names), counted_room names stores counted.1 few)
+
+-- ---- the numbers of the entries before
+
+pub length-numbers : (number : ℕ) (rows : List Row) → length (numbers_from number rows) ≡ length rows
+length-numbers number [] = refl
+length-numbers number (row ∷ rows) = ap suc (length-numbers (number + length (content_of row.kind)) rows)
+
+number_at : (number : ℕ) (rows : List Row) (i : ℕ) → i < length rows → slice_index (numbers_from number rows) i ≡ number + made_by (take i rows)
+number_at number [] i below = absurd (omega arith)
+number_at number (row ∷ rows) zero below = omega arith
+number_at number (row ∷ rows) (suc i) below =
+    number_at (number + length (content_of row.kind)) rows i (omega arith) ∙ omega (arith, length-append (content_of row.kind) (contents_of (take i rows)))
+
+pub numbers_push : (number : ℕ) (rows : List Row) (row : Row) → numbers_from number (rows ++ row ∷ []) ≡ numbers_from number rows ++ (number + made_by rows) ∷ []
+numbers_push number [] row = let same : number ≡ number + 0 = omega arith in ap (λ n. n ∷ []) same
+numbers_push number (r ∷ rows) row =
+    let same : number + length (content_of r.kind) + made_by rows ≡ number + made_by (r ∷ rows) = omega (arith, length-append (content_of r.kind) (contents_of rows)) in
+    ap (λ (ns : List ℕ). number ∷ ns) (numbers_push (number + length (content_of r.kind)) rows row ∙ ap (λ n. numbers_from (number + length (content_of r.kind)) rows ++ n ∷ []) same)
+
+within : (rows : List Row) (entry : ℕ) → FirstAt rows entry → (1 ≤ entry) × (entry ≤ length rows)
+within rows entry f = (omega (arith, f.entry_is), omega (arith, f.entry_is, ap length f.rows_are, length-append f.front (f.row ∷ f.rest)))
+
+pub kind_known : (rows : List Row) (kind : Kind) → IsKind usual_limits rows kind → IsKnown (numbers_from 0 rows) kind
+kind_known rows (kinds.Dir owner) fits = tt
+kind_known rows (kinds.First owner bytes) fits = tt
+kind_known rows (kinds.Further entry) fits =
+    let w = within rows entry (first_at rows entry fits.1) in
+    (w.0, omega (arith, w.1, length-numbers 0 rows))
+kind_known rows (kinds.Link target) fits = tt
+
+number_known : (rows : List Row) (entry : ℕ) → FirstAt rows entry → known_number (numbers_from 0 rows) entry ≡ made_by (take (entry - 1) rows)
+number_known rows entry f =
+    let w = within rows entry f in
+    number_at 0 rows (entry - 1) (omega (arith, w.0, w.1)) ∙ omega arith
+
+pub node_known : (rows : List Row) (kind : Kind) → IsKind usual_limits rows kind → known_node (numbers_from 0 rows) (made_by rows) kind ≡ node_of rows kind
+node_known rows (kinds.Dir owner) fits = refl
+node_known rows (kinds.First owner bytes) fits = refl
+node_known rows (kinds.Further entry) fits = ap (λ n. File n) (number_known rows entry (first_at rows entry fits.1))
+node_known rows (kinds.Link target) fits = refl
+
+-- ---- counts
+
+one_if : Bool → ℕ
+one_if b = if b then 1 else 0
+
+times_push : (names : Names) (e : Place × Node) (number : ℕ) (b : Bool) → names_file number e.1 ≡ b → times_named (names ++ e ∷ []) number ≡ times_named names number + one_if b
+unfolding retain one_if
+times_push names e number b is =
+    let test = λ (q : Place × Node). names_file number q.1 in
+    let last : length (filter test (e ∷ [])) ≡ one_if b = ap (λ x. length (cond x (e ∷ []) [])) is ∙ by b in
+    omega (arith, ap length (filter-append test names (e ∷ [])), length-append (filter test names) (filter test (e ∷ [])), last)
+  where
+    by : (x : Bool) → length (cond x (e ∷ []) []) ≡ (if x then 1 else 0)
+    by true = refl
+    by false = refl
+
+times_same : (names : Names) (e : Place × Node) (number : ℕ) → names_file number e.1 ≡ false → times_named (names ++ e ∷ []) number ≡ times_named names number
+unfolding one_if
+times_same names e number is = omega (arith, times_push names e number false is)
+
+times_more : (names : Names) (e : Place × Node) (number : ℕ) → names_file number e.1 ≡ true → times_named (names ++ e ∷ []) number ≡ times_named names number + 1
+unfolding one_if
+times_more names e number is = times_push names e number true is
+
+none_of : (number : ℕ) (names : Names) → AreBelow number names → times_named names number ≡ 0
+unfolding retain
+none_of number [] below = refl
+none_of number (e ∷ es) below = by e.1 below.0 (none_of number es below.1)
+  where
+    by : (standing : Node) → IsBelow number standing → length (filter (λ q. names_file number q.1) es) ≡ 0 → length (cond (names_file number standing) (e ∷ filter (λ q. names_file number q.1) es) (filter (λ q. names_file number q.1) es)) ≡ 0
+    by (Dir owner) below is = is
+    by (File n) below is =
+        let other : n ≢ number = omega arith in
+        rw (ne_eqb n number other) is
+    by (Link target) below is = is
+
+-- the entry is no name of a file of these
+counted_same : (names : Names) (e : Place × Node) (stores : Stores) → AllByRecursion (λ s. names_file s.0 e.1 ≡ false) stores → AreCounted names stores → AreCounted (names ++ e ∷ []) stores
+counted_same names e [] other counted = tt
+counted_same names e (s ∷ stores) other counted = (counted.0 ∙ sym (times_same names e s.0 other.0), counted_same names e stores other.1 counted.1)
+
+-- ---- the tables
+
+keys_below : (stores : Stores) (cs : List Content) → contents stores ≡ numbered_from 0 cs → AllByRecursion (λ s. s.0 < length cs) stores
+keys_below stores cs same =
+    all_from_map (λ (s : ℕ × Stored). (s.0, s.1.content)) (λ (e : ℕ × Content). e.0 < length cs) stores
+    (subst (λ (files : Files). AllByRecursion (λ e. e.0 < length cs) files) (sym same) (each_number (λ n. n < length cs) 0 cs (λ n above below. omega arith)))
+
+stores_order : (stores : Stores) (cs : List Content) → contents stores ≡ numbered_from 0 cs → InOrder nat_cmp stores
+stores_order stores cs same =
+    subst (IsStrictlySortedBy nat_cmp) (ap keys_of (sym same) ∙ keys_of-map_values (λ (s : Stored). s.content) stores) (numbered_order 0 cs)
+
+below_less : {X : Type 0} (n : ℕ) (es : List (ℕ × X)) → AllByRecursion (λ e. e.0 < n) es → AllByRecursion (λ q. nat_cmp q n ≡ Less) (keys_of es)
+below_less n [] below = tt
+below_less n (e ∷ es) below = (sym (nat_cmp_is e.0 n Less below.0), below_less n es below.1)
+
+numbered_push : (s : ℕ) (cs : List Content) (c : Content) → numbered_from s (cs ++ c ∷ []) ≡ numbered_from s cs ++ (s + length cs, c) ∷ []
+numbered_push s [] c = let same : s ≡ s + 0 = omega arith in ap (λ n. (n, c) ∷ []) same
+numbered_push s (x ∷ cs) c =
+    let same : suc s + length cs ≡ s + length (x ∷ cs) = omega arith in
+    ap (λ (fs : Files). (s, x) ∷ fs) (numbered_push (suc s) cs c ∙ ap (λ n. numbered_from (suc s) cs ++ (n, c) ∷ []) same)
+
+-- ---- a new file
+
+first_put : (stores : Stores) (cs : List Content) (s : Stored) → contents stores ≡ numbered_from 0 cs → put nat_cmp stores (length cs) s ≡ stores ++ (length cs, s) ∷ []
+unfolding put
+first_put stores cs s same = insert_last nat_cmp_total stores (length cs) s (below_less (length cs) stores (keys_below stores cs same))
+
+last_number : (cs : List Content) (c : Content) → put nat_cmp (numbered_from 0 cs) (length cs) c ≡ numbered_from 0 (cs ++ c ∷ [])
+unfolding put
+last_number cs c =
+    let below = each_number (λ n. n < length cs) 0 cs (λ n above below. omega arith) in
+    let zero_more : length cs ≡ 0 + length cs = omega arith in
+    insert_last nat_cmp_total (numbered_from 0 cs) (length cs) c (below_less (length cs) (numbered_from 0 cs) below)
+    ∙ ap (λ n. numbered_from 0 cs ++ (n, c) ∷ []) zero_more
+    ∙ sym (numbered_push 0 cs c)
+
+first_contents : (stores : Stores) (cs : List Content) (s : Stored) → contents stores ≡ numbered_from 0 cs → contents (put nat_cmp stores (length cs) s) ≡ numbered_from 0 (cs ++ s.content ∷ [])
+first_contents stores cs s same =
+    with_values-put nat_cmp (λ (x : Stored). x.content) stores (length cs) s
+    ∙ ap (λ (fs : Files). put nat_cmp fs (length cs) s.content) same
+    ∙ last_number cs s.content
+
+not_last : (n : ℕ) (stores : Stores) → AllByRecursion (λ s. s.0 < n) stores → AllByRecursion (λ s. names_file s.0 (File n) ≡ false) stores
+not_last n [] below = tt
+not_last n (s ∷ stores) below = let other : n ≢ s.0 = omega (arith, below.0) in (ne_eqb n s.0 other, not_last n stores below.1)
+
+first_counted : (names : Names) (place : Place) (stores : Stores) (cs : List Content) (s : Stored) → contents stores ≡ numbered_from 0 cs → s.names ≡ 1 → AreBelow (length cs) names → AreCounted names stores
+    → AreCounted (names ++ (place, File (length cs)) ∷ []) (put nat_cmp stores (length cs) s)
+first_counted names place stores cs s same one below counted =
+    let e : Place × Node = (place, File (length cs)) in
+    let more = names ++ e ∷ [] in
+    let old = counted_same names e stores (not_last (length cs) stores (keys_below stores cs same)) counted in
+    let new : s.names ≡ times_named more (length cs) = one ∙ omega (arith, times_more names e (length cs) (eq-eqb (length cs) (length cs) refl), none_of (length cs) names below) in
+    subst (AreCounted more) (sym (first_put stores cs s same)) (all_both (λ (q : ℕ × Stored). q.1.names ≡ times_named more q.0) stores ((length cs, s) ∷ []) old (new, tt))
+
+-- ---- an entry more
+
+-- the files with an entry more, at whatever place it is
+pub record Pushed (root : Owner) (rows : List Row) (place : Place) (kind : Kind) (stores : Stores) : Type 0 where
+  pub contents_are : contents stores ≡ numbered_from 0 (contents_of rows ++ content_of kind)
+  pub counted : AreCounted (names_of root rows ++ (place, node_of rows kind) ∷ []) stores
+
+-- with an entry that comes with no file
+counted_push : (root : Owner) (rows : List Row) (place : Place) (standing : Node) (stores after : Stores) → contents stores ≡ numbered_from 0 (contents_of rows) → AreCounted (names_of root rows) stores
+    → IsChangedWhereNamed with_a_name (file_named (Some standing)) stores after → (contents after ≡ contents stores) × AreCounted (names_of root rows ++ (place, standing) ∷ []) after
+unfolding one_if
+counted_push root rows place standing stores after same counted changed =
+    let names = names_of root rows in
+    raised names (names ++ (place, standing) ∷ []) stores standing (λ n. times_push names (place, standing) n (names_file n standing) refl) after (stores_order stores (contents_of rows) same) counted changed
+
+pushed_none : (root : Owner) (rows : List Row) (place : Place) (standing : Node) (stores after : Stores) → contents stores ≡ numbered_from 0 (contents_of rows) → AreCounted (names_of root rows) stores
+    → IsChangedWhereNamed with_a_name (file_named (Some standing)) stores after → (contents after ≡ numbered_from 0 (contents_of rows ++ [])) × AreCounted (names_of root rows ++ (place, standing) ∷ []) after
+pushed_none root rows place standing stores after same counted changed =
+    let p = counted_push root rows place standing stores after same counted changed in
+    (p.0 ∙ same ∙ ap (numbered_from 0) (sym (append-nil (contents_of rows))), p.1)
+
+pushed : (root : Owner) (rows : List Row) (place : Place) (kind : Kind) (stores after : Stores) → AreRows usual_limits [] rows → IsKind usual_limits rows kind → contents stores ≡ numbered_from 0 (contents_of rows) → AreCounted (names_of root rows) stores
+    → AreWithEntry (numbers_from 0 rows) (made_by rows) kind stores after → Pushed root rows place kind after
+pushed root rows place (kinds.Dir owner) stores after fit fits same counted is =
+    let p = pushed_none root rows place (Dir owner) stores after same counted is in
+    record { contents_are = p.0; counted = p.1 }
+pushed root rows place (kinds.First owner bytes) stores after fit fits same counted is =
+    let s : Stored = record { content = record { owner = owner; bytes = bytes }; names = 1 } in
+    record {
+      contents_are = ap contents is ∙ first_contents stores (contents_of rows) s same;
+      counted = subst (AreCounted (names_of root rows ++ (place, File (made_by rows)) ∷ [])) (sym is) (first_counted (names_of root rows) place stores (contents_of rows) s same refl (all_below root rows fit) counted);
+    }
+pushed root rows place (kinds.Further entry) stores after fit fits same counted changed =
+    let p = pushed_none root rows place (File (known_number (numbers_from 0 rows) entry)) stores after same counted changed in
+    record {
+      contents_are = p.0;
+      counted = subst (λ n. AreCounted (names_of root rows ++ (place, File n) ∷ []) after) (number_known rows entry (first_at rows entry fits.1)) p.1;
+    }
+pushed root rows place (kinds.Link target) stores after fit fits same counted is =
+    let p = pushed_none root rows place (Link target) stores after same counted is in
+    record { contents_are = p.0; counted = p.1 }
+
+-- the place of the next row is free
+later_absent : (names : Names) (place : Place) → AllByRecursion (λ q. place_cmp q place ≡ Less) (keys_of names) → node_at names place ≡ None
+later_absent [] place later = get-empty place_cmp place
+later_absent (e ∷ es) place later =
+    let differ : is_eq (place_cmp place e.0) ≡ false = ap is_eq (place_cmp-total.antisymm place e.0 ∙ ap ordering_reverse later.0) in
+    get-cons place_cmp e es place ∙ ap (λ b. cond b (Some e.1) (node_at es place)) differ ∙ later_absent es place later.1
+
+keys_before : (root : Owner) (rows : List Row) (row : Row) → IsNext usual_limits rows row → AllByRecursion (λ q. place_cmp q (place_of row.path) ≡ Less) (keys_of (names_of root rows))
+keys_before root rows row next =
+    let keys : keys_of (bare_names root rows) ≡ keys_of (names_of root rows) = ap keys_of (sym (names_bare root rows)) ∙ keys_of-map_values bare (names_of root rows) in
+    subst (λ (ks : List Place). AllByRecursion (λ q. place_cmp q (place_of row.path) ≡ Less) ks) keys (later_than_all root rows row next)
+
+pub row_absent : (root : Owner) (rows : List Row) (row : Row) (names : Names) (place : Place) → IsNext usual_limits rows row → names ≡ names_of root rows → place ≡ place_of row.path → node_at names place ≡ None
+row_absent root rows row names place next names-are place-is =
+    (λ i. node_at (names-are i) (place-is i)) ∙ later_absent (names_of root rows) (place_of row.path) (keys_before root rows row next)
+
+-- and its parent is a directory
+pub row_in_directory : (root : Owner) (rows : List Row) (row : Row) (names : Names) (place : Place) → IsOwner root → AreRows usual_limits [] rows → IsNext usual_limits rows row → names ≡ names_of root rows → place ≡ place_of row.path
+    → IsTrue (is_directory (node_at names (parent place)))
+row_in_directory root rows row names place owner fit next names-are place-is =
+    (λ i. is_directory (node_at (names-are i) (parent (place-is i)))) ∙ sym (directory_bare (names_of root rows) (parent (place_of row.path)))
+    ∙ ap (λ (ns : Names). is_directory (node_at ns (parent (place_of row.path)))) (names_bare root rows) ∙ row_parent root rows row owner fit next
+
+entry_put : (root : Owner) (rows : List Row) (row : Row) (names new : Names) (place : Place) (standing : Node) → IsNext usual_limits rows row → names ≡ names_of root rows
+    → place ≡ place_of row.path → standing ≡ node_of rows row.kind → new ≡ with_node names place standing → new ≡ names_of root (rows ++ row ∷ [])
+unfolding put
+entry_put root rows row names new place standing next names-are place-is node-is put-is =
+    put-is ∙ (λ i. with_node (names-are i) (place-is i) (node-is i))
+    ∙ insert_last place_cmp-total (names_of root rows) (place_of row.path) (node_of rows row.kind) (keys_before root rows row next)
+    ∙ sym (names_push root rows row)
+
+pub grown_push : (root : Owner) (rows : List Row) (row : Row) (names new-names : Names) (stores new-stores : Stores) (numbers : List ℕ) (next : ℕ) (place : Place) (standing : Node)
+    → AreRows usual_limits [] rows → IsNext usual_limits rows row → IsGrown root rows names stores → numbers ≡ numbers_from 0 rows → next ≡ made_by rows
+    → place ≡ place_of row.path → standing ≡ known_node numbers next row.kind → new-names ≡ with_node names place standing → AreWithEntry numbers next row.kind stores new-stores
+    → IsGrown root (rows ++ row ∷ []) new-names new-stores
+grown_push root rows row names new-names stores new-stores numbers next place standing fit is-next grown numbers-are next-is place-is node-is names-put stores-put =
+    let node : standing ≡ node_of rows row.kind = node-is ∙ (λ i. known_node (numbers-are i) (next-is i) row.kind) ∙ node_known rows row.kind is-next.kind in
+    let put = entry_put root rows row names new-names place standing is-next grown.names_are place-is node names-put in
+    let with_entry = subst (λ n. AreWithEntry (numbers_from 0 rows) n row.kind stores new-stores) next-is (subst (λ (ns : List ℕ). AreWithEntry ns next row.kind stores new-stores) numbers-are stores-put) in
+    let p = pushed root rows (place_of row.path) row.kind stores new-stores fit is-next.kind grown.contents_are (subst (λ (ns : Names). AreCounted ns stores) grown.names_are grown.counted) with_entry in
+    record {
+      names_are = put;
+      contents_are = p.contents_are ∙ ap (numbered_from 0) (sym (contents_more rows row));
+      counted = subst (λ (ns : Names). AreCounted ns new-stores) (sym (put ∙ names_push root rows row)) p.counted;
+    }
+  where
+    contents_more : (rows : List Row) (row : Row) → contents_of (rows ++ row ∷ []) ≡ contents_of rows ++ content_of row.kind
+    contents_more rows row = contents_split rows (row ∷ []) ∙ ap (λ (cs : List Content). contents_of rows ++ cs) (append-nil (content_of row.kind))
+
+-- how many files there are
+pub many_files : (root : Owner) (rows : List Row) (names : Names) (stores : Stores) → IsGrown root rows names stores → length stores ≡ made_by rows
+many_files root rows names stores grown =
+    sym (length-map stores (λ (s : ℕ × Stored). (s.0, s.1.content))) ∙ ap length grown.contents_are ∙ length-numbered 0 (contents_of rows)
+  where
+    length-numbered : (s : ℕ) (cs : List Content) → length (numbered_from s cs) ≡ length cs
+    length-numbered s [] = refl
+    length-numbered s (c ∷ cs) = ap suc (length-numbered (suc s) cs)
+
+pub grown_room : (root : Owner) (rows : List Row) (names : Names) (stores : Stores) → IsGrown root rows names stores → length rows ≤ usual_limits.entries → HaveRoom stores
+grown_room root rows names stores grown few =
+    counted_room names stores grown.counted (omega (arith, ap length grown.names_are, length-entries [] rows))
+
+-- nothing but the root
+pub grown_root : (root : Owner) (names : Names) (stores : Stores) → names ≡ only_root root → stores ≡ [] → IsGrown root [] names stores
+grown_root root names stores alone none = record {
+  names_are = alone;
+  contents_are = ap contents none;
+  counted = subst (AreCounted names) (sym none) tt;
+}
+
+-- the number of the next file fits its field
+pub next_fits : (root : Owner) (rows rest : List Row) (names : Names) (stores : Stores) → IsGrown root rows names stores → length (rows ++ rest) ≤ usual_limits.entries → length stores ≤ usual_limits.entries
+next_fits root rows rest names stores grown few =
+    omega (arith, many_files root rows names stores grown, made_few rows, length-append rows rest)
+
+pub numbers_grow : (rows : List Row) (row : Row) (numbers new : List ℕ) (next : ℕ) → new ≡ numbers ++ next ∷ [] → numbers ≡ numbers_from 0 rows → next ≡ made_by rows → new ≡ numbers_from 0 (rows ++ row ∷ [])
+numbers_grow rows row numbers new next put are is =
+    let zero_more : next ≡ 0 + made_by rows = omega (arith, is) in
+    put ∙ (λ i. are i ++ zero_more i ∷ []) ∙ sym (numbers_push 0 rows row)
+
+-- ---- the tree
+
+pub tree_grown : (file : TreeFile) (rows : List Row) (names : Names) (stores : Stores) (made : ℕ) (home : Place) → rows ≡ file.rows → IsGrown file.root rows names stores → made ≡ length stores → home ≡ place_of file.home
+    → seen names stores made file.limits home file.uid file.gid ≡ tree_of file
+tree_grown file rows names stores made home rows-are grown made-is home-is =
+    let g : IsGrown file.root file.rows names stores = subst (λ (rs : List Row). IsGrown file.root rs names stores) rows-are grown in
+    let many = made-is ∙ many_files file.root file.rows names stores g in
+    λ i. record { names = g.names_are i; files = g.contents_are i; made = many i; pins = []; limits = file.limits; home = home-is i; uid = file.uid; gid = file.gid }

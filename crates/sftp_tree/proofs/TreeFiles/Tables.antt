@@ -1,0 +1,276 @@
+-- The table of a root and of rows, each of which may stand behind those before it, is the table of a tree, and the
+-- rows of each tree's table are such. Here all names of files are of the file 0: what stands where does not hang on which file
+-- it is.
+use Rattle.std.proofs.Common.{◌≡◌, ℕ, ◌<◌, Bool, true, false, ◌&&◌, ◌||◌, cond, List, [], ◌∷◌, ◌++◌, length, map, Option, Some, None, refl, sym, ap, subst, ◌∙◌, append_assoc, arith}
+use Rattle.std.specs.Prelude.{IsTrue}
+use Rattle.std.specs.BTreeMap.{is_at}
+use Rattle.std.specs.Map.{keys_of}
+use Rattle.std.specs.List.{AllByRecursion, list_any}
+use Rattle.std.specs.List.Sorted.{IsStrictlySortedBy}
+use Rattle.std.specs.Ordering.{is_eq}
+use Rattle.std.specs.declared.cmp.Ordering.{Ordering}
+use Rattle.std.specs.declared.cmp.Ordering.TheVariants.{Less, Equal, Greater}
+use Rattle.std.proofs.lemmas.Bool.{le-leb}
+use Rattle.std.proofs.lemmas.Cmp.{tied_itself}
+use Rattle.std.proofs.lemmas.List.{append-nil, map-append}
+use Rattle.std.proofs.lemmas.Map.{lookup-none}
+use Rattle.std.proofs.lemmas.Map.Entries.{none_below_head}
+use Rattle.std.proofs.lemmas.Map.Keys.{sorted_head, sorted_tail}
+use Rattle.std.specs.Cmp.{Equal-is}
+use Rattle.sftp_path.specs.Place.{Place, place_cmp, parent, are_names}
+use Rattle.sftp_path.specs.Table.{InOrder, get}
+use Rattle.sftp_path.proofs.Order.{place_cmp-total, place_cmp-same}
+use Rattle.sftp_path.proofs.Table.Laws.{get-below}
+use Rattle.sftp_treefile.specs.declared.files.Owner.{Owner}
+use Rattle.sftp_treefile.specs.declared.files.Kind.{Kind}
+use Rattle.sftp_treefile.specs.declared.files.Kind.TheVariants as kinds
+use Rattle.sftp_treefile.specs.declared.files.Row.{Row}
+use Rattle.sftp_treefile.specs.Limits.{usual_limits}
+use Rattle.sftp_treefile.specs.TreeFile.{place_of, same_place, is_dir, is_dir_at, has_dir, is_target, are_bytes, IsOwner, IsKind, IsPlaceText, IsNext, AreRows}
+use Rattle.sftp_tree.specs.declared.nodes.Node.{Node}
+use Rattle.sftp_tree.specs.declared.nodes.Node.TheVariants.{Dir, File, Link}
+use Rattle.sftp_tree.specs.Tree.{Names, node_at, is_directory, is_taken, depth_fits}
+use Rattle.sftp_tree.specs.PictureParts.{only_root}
+use Rattle.sftp_tree.proofs.PlaceTables.Rising.{all_both, all_from_map, all_to_map, sorted_push, sorted_before, sorted_right, sorted_left, keys_append, lookup_left, lookup_right, lookup_found, places_tie, parent_less, root_before}
+use Rattle.sftp_tree.proofs.PlaceTables.Each.{each-weaker}
+
+-- ---- tables
+
+-- a place within the limit
+abbrev pub IsPlace : Place → Type 0
+IsPlace place = IsTrue (are_names place) × IsTrue (depth_fits place)
+
+-- what may stand there
+abbrev pub IsFitNode : Node → Type 0
+IsFitNode (Dir owner) = IsOwner owner
+IsFitNode (File number) = Unit {0}
+IsFitNode (Link target) = IsTrue (are_bytes target) × IsTrue (is_target target)
+
+-- an entry's node, where all names are of the file 0
+abbrev pub bare_kind : Kind → Node
+bare_kind (kinds.Dir owner) = Dir owner
+bare_kind (kinds.First owner bytes) = File 0
+bare_kind (kinds.Further number) = File 0
+bare_kind (kinds.Link target) = Link target
+
+abbrev pub bare_entry : Row → Place × Node
+bare_entry row = (place_of row.path, bare_kind row.kind)
+
+abbrev pub bare_names : Owner → List Row → Names
+bare_names root rows = only_root root ++ map bare_entry rows
+
+-- each kind may stand behind the rows before it
+abbrev pub AreKinds : List Row → List Row → Type 0
+AreKinds earlier [] = Unit {0}
+AreKinds earlier (row ∷ rows) = IsKind usual_limits earlier row.kind × AreKinds (earlier ++ row ∷ []) rows
+
+-- what holds of the table of a tree within the limits, but for their number
+pub record IsTable (root : Owner) (names : Names) : Type 0 where
+  pub ordered : InOrder place_cmp names
+  pub places : AllByRecursion (λ e. IsPlace e.0) names
+  pub nodes : AllByRecursion (λ e. IsFitNode e.1) names
+  pub root_is : node_at names [] ≡ Some (Dir root)
+  pub parents : (place : Place) → IsTrue (is_taken (node_at names place)) → IsTrue (is_directory (node_at names (parent place)))
+
+-- ---- look-ups in a table and in its front
+
+pub at_left : (xs ys : Names) (p : Place) (v : Node) → node_at xs p ≡ Some v → node_at (xs ++ ys) p ≡ Some v
+unfolding get
+at_left xs ys p v h = lookup_left (is_at (place_cmp p)) xs ys v h
+
+at_right : (xs ys : Names) (p : Place) → node_at xs p ≡ None → node_at (xs ++ ys) p ≡ node_at ys p
+unfolding get
+at_right xs ys p h = lookup_right (is_at (place_cmp p)) xs ys h
+
+at_found : (xs : Names) (e : Place × Node) (ys : Names) → (v : Node) × (node_at (xs ++ e ∷ ys) e.0 ≡ Some v)
+unfolding get
+at_found xs e ys = lookup_found (is_at (place_cmp e.0)) xs e ys (ap is_eq (tied_itself place_cmp-total e.0))
+
+directory_is_some : (o : Option Node) → IsTrue (is_directory o) → (owner : Owner) × (o ≡ Some (Dir owner))
+directory_is_some None h = absurd cc
+directory_is_some (Some (Dir owner)) h = (owner, refl)
+directory_is_some (Some (File number)) h = absurd cc
+directory_is_some (Some (Link target)) h = absurd cc
+
+directory_left : (xs ys : Names) (p : Place) → IsTrue (is_directory (node_at xs p)) → IsTrue (is_directory (node_at (xs ++ ys) p))
+directory_left xs ys p h =
+    let d = directory_is_some (node_at xs p) h in
+    rw (at_left xs ys p (Dir d.0) d.1) refl
+
+-- what is not behind stands in front
+directory_in_front : (xs ys : Names) (p : Place) (o : Option Node) → node_at xs p ≡ o → node_at ys p ≡ None → IsTrue (is_directory (node_at (xs ++ ys) p)) → IsTrue (is_directory (node_at xs p))
+directory_in_front xs ys p None e none h = absurd (let b : is_directory None ≡ true = subst (λ (o : Option Node). is_directory o ≡ true) (at_right xs ys p e ∙ none) h in cc)
+directory_in_front xs ys p (Some v) e none h = subst (λ (o : Option Node). IsTrue (is_directory o)) (at_left xs ys p v e ∙ sym e) h
+
+only_equal : (p : Place) (e : Place × Node) → IsTrue (is_taken (node_at (e ∷ []) p)) → place_cmp p e.0 ≡ Equal
+unfolding get
+only_equal p e h = by (place_cmp p e.0) h
+  where
+    by : (o : Ordering) → IsTrue (is_taken (cond (is_eq o) (Some e.1) None)) → o ≡ Equal
+    by Less h = absurd cc
+    by Equal h = refl
+    by Greater h = absurd cc
+
+-- ---- a row at a place is what stands there
+
+kind_is : (kind : Kind) → is_dir kind ≡ is_directory (Some (bare_kind kind))
+kind_is (kinds.Dir owner) = refl
+kind_is (kinds.First owner bytes) = refl
+kind_is (kinds.Further number) = refl
+kind_is (kinds.Link target) = refl
+
+kind_fits : (earlier : List Row) (kind : Kind) → IsKind usual_limits earlier kind → IsFitNode (bare_kind kind)
+kind_fits earlier (kinds.Dir owner) fits = fits
+kind_fits earlier (kinds.First owner bytes) fits = tt
+kind_fits earlier (kinds.Further number) fits = tt
+kind_fits earlier (kinds.Link target) fits = (fits.1, fits.0)
+
+here_or_behind : (dir same : Bool) (node : Node) (more : Bool) (o : Option Node) → dir ≡ is_directory (Some node) → more ≡ is_directory o → (same ≡ true → o ≡ None) → ((dir && same) || more) ≡ is_directory (cond same (Some node) o)
+here_or_behind true true node more o dir-is more-is none = dir-is
+here_or_behind false true node more o dir-is more-is none = more-is ∙ ap is_directory (none refl) ∙ dir-is
+here_or_behind true false node more o dir-is more-is none = more-is
+here_or_behind false false node more o dir-is more-is none = more-is
+
+row_stands : (rows : List Row) (p : Place) → InOrder place_cmp (map bare_entry rows) → list_any (is_dir_at p) rows ≡ is_directory (node_at (map bare_entry rows) p)
+unfolding get
+row_stands [] p sorted = refl
+row_stands (row ∷ rows) p sorted =
+    let place = place_of row.path in
+    let behind : node_at (map bare_entry rows) place ≡ None = get-below place_cmp place (map bare_entry rows) (sorted_head place_cmp place (keys_of (map bare_entry rows)) sorted) in
+    let none : same_place place p ≡ true → node_at (map bare_entry rows) p ≡ None = (λ same. ap (node_at (map bare_entry rows)) (place_cmp-same p place ((Equal-is (place_cmp p place)).0 (places_tie p place ∙ same))) ∙ behind) in
+    here_or_behind (is_dir row.kind) (same_place place p) (bare_kind row.kind) (list_any (is_dir_at p) rows) (node_at (map bare_entry rows) p) (kind_is row.kind) (row_stands rows p (sorted_tail place_cmp place (keys_of (map bare_entry rows)) sorted)) none
+    ∙ ap (λ b. is_directory (cond b (Some (bare_kind row.kind)) (node_at (map bare_entry rows) p))) (sym (places_tie p place))
+
+pub has_dir_is : (root : Owner) (rows : List Row) (p : Place) → InOrder place_cmp (bare_names root rows) → has_dir rows p ≡ is_directory (node_at (bare_names root rows) p)
+unfolding get has_dir
+has_dir_is root rows [] sorted = refl
+has_dir_is root rows (n ∷ ns) sorted = row_stands rows (n ∷ ns) (sorted_tail place_cmp [] (keys_of (map bare_entry rows)) sorted)
+
+-- ---- from the root, row by row
+
+root_parents : (root : Owner) (place : Place) → IsTrue (is_taken (node_at (only_root root) place)) → IsTrue (is_directory (node_at (only_root root) (parent place)))
+unfolding get
+root_parents root [] h = refl
+root_parents root (n ∷ ns) h = absurd cc
+
+pub root_table : (root : Owner) → IsOwner root → IsTable root (only_root root)
+unfolding get IsStrictlySortedBy
+root_table root fits = record {
+  ordered = (tt, tt);
+  places = ((refl, refl), tt);
+  nodes = (fits, tt);
+  root_is = refl;
+  parents = root_parents root;
+}
+
+parents_push : (root : Owner) (names : Names) (e : Place × Node) → IsTable root names → IsTrue (is_directory (node_at names (parent e.0))) → (place : Place) (o : Option Node) → node_at names place ≡ o
+    → IsTrue (is_taken (node_at (names ++ e ∷ []) place)) → IsTrue (is_directory (node_at (names ++ e ∷ []) (parent place)))
+parents_push root names e t there place (Some v) is h = directory_left names (e ∷ []) (parent place) (t.parents place (rw is refl))
+parents_push root names e t there place None is h =
+    let taken : IsTrue (is_taken (node_at (e ∷ []) place)) = subst (λ (o : Option Node). IsTrue (is_taken o)) (at_right names (e ∷ []) place is) h in
+    let same : place ≡ e.0 = place_cmp-same place e.0 (only_equal place e taken) in
+    subst (λ (p : Place). IsTrue (is_directory (node_at (names ++ e ∷ []) (parent p)))) (sym same) (directory_left names (e ∷ []) (parent e.0) there)
+
+table_push : (root : Owner) (names : Names) (e : Place × Node) → IsTable root names → IsPlace e.0 → IsFitNode e.1 → AllByRecursion (λ q. place_cmp q e.0 ≡ Less) (keys_of names)
+    → IsTrue (is_directory (node_at names (parent e.0))) → IsTable root (names ++ e ∷ [])
+table_push root names e t place node later there = record {
+  ordered = subst (IsStrictlySortedBy place_cmp) (sym (keys_append names (e ∷ []))) (sorted_push place_cmp (keys_of names) e.0 t.ordered later);
+  places = all_both (λ (e : Place × Node). IsPlace e.0) names (e ∷ []) t.places (place, tt);
+  nodes = all_both (λ (e : Place × Node). IsFitNode e.1) names (e ∷ []) t.nodes (node, tt);
+  root_is = at_left names (e ∷ []) [] (Dir root) t.root_is;
+  parents = λ place. parents_push root names e t there place (node_at names place) refl;
+}
+
+later_places : (earlier : List Row) (place : Place) → AllByRecursion (λ (r : Row). place_cmp (place_of r.path) place ≡ Less) earlier → AllByRecursion (λ q. place_cmp q place ≡ Less) (keys_of (map bare_entry earlier))
+later_places earlier place later =
+    all_to_map (λ (e : Place × Node). e.0) (λ q. place_cmp q place ≡ Less) (map bare_entry earlier) (all_to_map bare_entry (λ (e : Place × Node). place_cmp e.0 place ≡ Less) earlier later)
+
+-- the place of a row comes after all places before it
+pub later_than_all : (root : Owner) (earlier : List Row) (row : Row) → IsNext usual_limits earlier row → AllByRecursion (λ q. place_cmp q (place_of row.path) ≡ Less) (keys_of (bare_names root earlier))
+later_than_all root earlier row next = (root_before (place_of row.path) next.below_root, later_places earlier (place_of row.path) next.later)
+
+pub text_place : (text : List ℕ) → IsPlaceText text → IsPlace (place_of text)
+text_place text is = (is.names, le-leb (length (place_of text)) 64 is.depth)
+
+names_split : (root : Owner) (earlier rows : List Row) → bare_names root (earlier ++ rows) ≡ bare_names root earlier ++ map bare_entry rows
+names_split root earlier rows = ap (λ (es : Names). ([], Dir root) ∷ es) (map-append bare_entry earlier rows)
+
+-- one row more
+pub names_push : (root : Owner) (earlier : List Row) (row : Row) → bare_names root (earlier ++ row ∷ []) ≡ bare_names root earlier ++ bare_entry row ∷ []
+names_push root earlier row = names_split root earlier (row ∷ [])
+
+row_push : (root : Owner) (earlier : List Row) (row : Row) → IsTable root (bare_names root earlier) → IsNext usual_limits earlier row → IsTable root (bare_names root (earlier ++ row ∷ []))
+row_push root earlier row t next =
+    subst (IsTable root) (sym (names_push root earlier row))
+    (table_push root (bare_names root earlier) (bare_entry row) t (text_place row.path next.path) (kind_fits earlier row.kind next.kind) (later_than_all root earlier row next) (sym (has_dir_is root earlier (parent (place_of row.path)) t.ordered) ∙ next.parent))
+
+rows_table : (root : Owner) (earlier rows : List Row) → IsTable root (bare_names root earlier) → AreRows usual_limits earlier rows → IsTable root (bare_names root (earlier ++ rows))
+rows_table root earlier [] t grown = rw append-nil t
+rows_table root earlier (row ∷ rows) t grown =
+    subst (λ (rs : List Row). IsTable root (bare_names root rs)) (append_assoc earlier (row ∷ []) rows) (rows_table root (earlier ++ row ∷ []) rows (row_push root earlier row t grown.0) grown.1)
+
+pub table_of_rows : (root : Owner) (rows : List Row) → IsOwner root → AreRows usual_limits [] rows → IsTable root (bare_names root rows)
+table_of_rows root rows fits grown = rows_table root [] rows (root_table root fits) grown
+
+-- a row's parent is a directory among the rows before it
+pub row_parent : (root : Owner) (rows : List Row) (row : Row) → IsOwner root → AreRows usual_limits [] rows → IsNext usual_limits rows row → IsTrue (is_directory (node_at (bare_names root rows) (parent (place_of row.path))))
+row_parent root rows row fits grown next =
+    sym (has_dir_is root rows (parent (place_of row.path)) (table_of_rows root rows fits grown).ordered) ∙ next.parent
+
+-- ---- and back
+
+below_root : (p : Place) → place_cmp [] p ≡ Less → 0 < length p
+below_root [] less = absurd cc
+below_root (n ∷ ns) less = omega arith
+
+none_behind : (e : Place × Node) (entries : Names) (p : Place) → IsStrictlySortedBy place_cmp (keys_of (e ∷ entries)) → place_cmp p e.0 ≡ Less → node_at (e ∷ entries) p ≡ None
+unfolding get
+none_behind e entries p sorted less = lookup-none (is_at (place_cmp p)) (e ∷ entries) (none_below_head place_cmp-total p e entries sorted less)
+
+next_of_table : (root : Owner) (earlier : List Row) (row : Row) (rows : List Row) → IsTable root (bare_names root (earlier ++ row ∷ rows)) → IsPlaceText row.path → IsKind usual_limits earlier row.kind → IsNext usual_limits earlier row
+next_of_table root earlier row rows whole text kind =
+    let place = place_of row.path in
+    let front = bare_names root earlier in
+    let back : Names = bare_entry row ∷ map bare_entry rows in
+    let t : IsTable root (front ++ back) = subst (IsTable root) (names_split root earlier (row ∷ rows)) whole in
+    let sorted : IsStrictlySortedBy place_cmp (keys_of front ++ keys_of back) = subst (IsStrictlySortedBy place_cmp) (keys_append front back) t.ordered in
+    let later = sorted_before place_cmp (keys_of front) place (keys_of (map bare_entry rows)) sorted in
+    let below = below_root place later.0 in
+    let found = at_found front (bare_entry row) (map bare_entry rows) in
+    let there_in_all : IsTrue (is_directory (node_at (front ++ back) (parent place))) = t.parents place (rw found.1 refl) in
+    let behind = none_behind (bare_entry row) (map bare_entry rows) (parent place) (sorted_right place_cmp (keys_of front) (keys_of back) sorted) (parent_less place below) in
+    let there = directory_in_front front back (parent place) (node_at front (parent place)) refl behind there_in_all in
+    record {
+      path = text;
+      below_root = below;
+      later = all_from_map bare_entry (λ (e : Place × Node). place_cmp e.0 place ≡ Less) earlier (all_from_map (λ (e : Place × Node). e.0) (λ q. place_cmp q place ≡ Less) (map bare_entry earlier) later.1);
+      parent = has_dir_is root earlier (parent place) (sorted_left place_cmp (keys_of front) (keys_of back) sorted) ∙ there;
+      kind = kind;
+    }
+
+pub rows_of_table : (root : Owner) (earlier rows : List Row) → IsTable root (bare_names root (earlier ++ rows)) → AllByRecursion (λ (r : Row). IsPlaceText r.path) rows → AreKinds earlier rows → AreRows usual_limits earlier rows
+rows_of_table root earlier [] t texts fit = tt
+rows_of_table root earlier (row ∷ rows) t texts fit =
+    let split : IsTable root (bare_names root ((earlier ++ row ∷ []) ++ rows)) = subst (λ (rs : List Row). IsTable root (bare_names root rs)) (sym (append_assoc earlier (row ∷ []) rows)) t in
+    (next_of_table root earlier row rows t texts.0 fit.0, rows_of_table root (earlier ++ row ∷ []) rows split texts.1 fit.1)
+
+-- the root stands first
+pub root_first : (names : Names) → InOrder place_cmp names → IsTrue (is_directory (node_at names [])) → (root : Owner) × (entries : Names) × (names ≡ only_root root ++ entries)
+unfolding get
+root_first [] sorted there = absurd cc
+root_first (([], Dir root) ∷ entries) sorted there = (root, entries, refl)
+root_first (([], File number) ∷ entries) sorted there = absurd cc
+root_first (([], Link target) ∷ entries) sorted there = absurd cc
+root_first ((n ∷ ns, node) ∷ entries) sorted there =
+    let none = none_behind (n ∷ ns, node) entries [] sorted refl in
+    absurd (let b : is_directory None ≡ true = subst (λ (o : Option Node). is_directory o ≡ true) none there in cc)
+
+-- and all else stands below it
+pub entries_below : (root : Owner) (entries : Names) → InOrder place_cmp (only_root root ++ entries) → AllByRecursion (λ e. 0 < length e.0) entries
+entries_below root entries sorted =
+    each-weaker (λ (e : Place × Node). place_cmp [] e.0 ≡ Less) (λ (e : Place × Node). 0 < length e.0) (λ e less. below_root e.0 less) entries
+    (all_from_map (λ (e : Place × Node). e.0) (λ q. place_cmp [] q ≡ Less) entries (sorted_head place_cmp [] (keys_of entries) sorted))
+
+pub root_at : (root : Owner) (entries : Names) → node_at (only_root root ++ entries) [] ≡ Some (Dir root)
+unfolding get
+root_at root entries = refl

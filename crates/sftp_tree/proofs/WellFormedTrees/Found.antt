@@ -1,0 +1,74 @@
+-- What stands at the places that paths lead to, as the calls for requests find it.
+use Rattle.std.proofs.Common.{◌≡◌, Bool, true, false, ◌&&◌, not, [], ◌∷◌, nat_eq, refl, sym, ap, Option, Some, None, IsTrue}
+use Rattle.std.specs.declared.cmp.Ordering.{Ordering}
+use Rattle.std.specs.BTreeMap.{is_at}
+use Rattle.std.specs.List.{AllByRecursion, list_all}
+use Rattle.std.specs.Cmp.{first_so, second_so}
+use Rattle.std.specs.Cmp.Lexicographic.{pointwise, same_text}
+use Rattle.sftp_path.specs.Place.{Place, place_cmp}
+use Rattle.sftp_path.specs.Rekeying.{rekeyed}
+use Rattle.sftp_path.specs.Table.{Table, get}
+use Rattle.sftp_path.proofs.Table.Entries.{without-absent}
+use Rattle.sftp_treefile.specs.TreeFile.{is_root, same_place}
+use Rattle.sftp_tree.specs.declared.nodes.Node.{Node}
+use Rattle.sftp_tree.specs.declared.nodes.Node.TheVariants.{Dir, File, Link}
+use Rattle.sftp_tree.specs.Tree.{Names, Tree, IsKept, IsNode, node_at, is_taken, is_directory, is_file}
+use Rattle.sftp_tree.specs.Steps.{moved, put_in_its_stead}
+use Rattle.sftp_tree.proofs.PlaceTables.Each.{each-all, lookup_holds}
+
+pub absent-of : (found : Option Node) → is_taken found ≡ false → found ≡ None
+absent-of None e = refl
+absent-of (Some it) e = cc
+
+pub taken-of : (found : Option Node) (it : Node) → found ≡ Some it → is_taken found ≡ true
+taken-of found it e = ap is_taken e
+
+-- what is there and may be nothing but a file is one
+pub file-of : (found : Option Node) → is_taken found ≡ true → (is_taken found && not (is_file found)) ≡ false → is_file found ≡ true
+file-of None there may = cc
+file-of (Some (Dir owner)) there may = cc
+file-of (Some (File number)) there may = refl
+file-of (Some (Link goal)) there may = cc
+
+-- the root is a directory
+pub below-root : (t : Tree) (place : Place) → IsKept t → is_directory (node_at t.names place) ≡ false → is_root place ≡ false
+below-root t [] kept none =
+    let above : is_directory (node_at t.names []) ≡ true = kept.well_formed.root in cc
+below-root t (n ∷ ns) kept none = refl
+
+same-names : (p q : Place) → pointwise (pointwise nat_eq) p q ≡ true → p ≡ q
+same-names [] [] e = refl
+same-names [] (n ∷ ns) e = cc
+same-names (m ∷ ms) [] e = cc
+same-names (m ∷ ms) (n ∷ ns) e =
+    λ i. same_text m n (sym (first_so (pointwise nat_eq m n) (pointwise (pointwise nat_eq) ms ns) e)) i ∷ same-names ms ns (second_so (pointwise nat_eq m n) (pointwise (pointwise nat_eq) ms ns) e) i
+
+-- what is there does not stand where nothing is
+pub apart-of : (names : Names) (old new : Place) → is_taken (node_at names old) ≡ true → node_at names new ≡ None → same_place old new ≡ false
+apart-of names old new there free = by (same_place old new) refl
+  where
+    by : (b : Bool) → same_place old new ≡ b → b ≡ false
+    by false e = refl
+    by true e =
+        let one : is_taken (node_at names old) ≡ is_taken (node_at names new) = ap (λ place. is_taken (node_at names place)) (same-names old new e) in
+        let none : is_taken (node_at names new) ≡ false = ap is_taken free in
+        cc
+
+-- what goes to a place where nothing is replaces nothing
+pub moved-is : (t : Tree) (old new : Place) → node_at t.names new ≡ None → moved t old new ≡ put_in_its_stead t old new
+moved-is t old new free =
+    λ i. record t { names = rekeyed old new (sym (without-absent place_cmp t.names new free) i) }
+
+-- ---- what is found in a table keeps what each entry keeps
+
+pub found-keeps : {K X : Type 0} (cmp : K → K → Ordering) (P : X → Type 0) (key : K) (value : X) (es : Table K X) → AllByRecursion (λ e. P e.1) es → get cmp es key ≡ Some value → P value
+unfolding get
+found-keeps cmp P key value es all there = lookup_holds P (is_at (cmp key)) es value all there
+
+pub found-passes : {K X : Type 0} (cmp : K → K → Ordering) (passes : X → Bool) (key : K) (value : X) (es : Table K X) → list_all (λ e. passes e.1) es ≡ true → get cmp es key ≡ Some value → passes value ≡ true
+found-passes cmp passes key value es all there = found-keeps cmp (λ x. IsTrue (passes x)) key value es (each-all (λ e. passes e.1) es all) there
+
+-- what stands at a place of a tree is a node of one
+pub node-kept : (t : Tree) (place : Place) (it : Node) → IsKept t → node_at t.names place ≡ Some it → IsNode t.files it
+node-kept t place it kept there =
+    found-keeps place_cmp (IsNode t.files) place it t.names kept.well_formed.nodes there

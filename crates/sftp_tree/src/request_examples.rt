@@ -1,0 +1,159 @@
+//! Worked rows: what requests do to small trees, what they are told and why they are refused, computed by the
+//! checker on the definitions that the contracts name. The functions do nothing; each promise is in the contract.
+#![tactic(auto, unfolding(crate::specs::Steps::led, crate::specs::Steps::no_causes, crate::specs::Steps::when, crate::specs::Steps::joined, crate::specs::Steps::plain_causes, crate::specs::Steps::causes, crate::specs::Steps::target, crate::specs::Steps::shown_to, crate::specs::Steps::target_to, crate::specs::Steps::text_to, crate::specs::Walk::meets, crate::specs::Walk::walk_parts, crate::specs::Walk::walk, crate::specs::Walk::reached, crate::specs::Tree::has_entries, crate::specs::Tree::fits, sftp_path::specs::Place::components, sftp_path::specs::Place::parts, sftp_path::specs::Place::is_good_path, sftp_path::specs::Table::get, sftp_path::specs::Table::put, sftp_path::specs::Table::without, sftp_path::specs::Table::retain, sftp_path::specs::Table::from_entries, sftp_path::specs::Rekeying::rekeyed))]
+
+ghost use Rattle.std.specs.Prelude.{◌≡◌, true, false, [], ◌∷◌, ◌++◌, Some, None, codes};
+ghost use Rattle.sftp_wire.specs.declared.packets.Ask.TheVariants.{Lstat, Setstat, Remove, Mkdir, Rmdir, Realpath, Stat, Rename, Readlink, Symlink, PosixRename, Hardlink};
+ghost use Rattle.sftp_wire.specs.Examples.{no_attributes};
+ghost use Rattle.sftp_tree.specs.declared.causes.Cause.TheVariants.{BadPath, NoEntry, NotDir, Exists, IsDir, NotLink, NotFile, NotEmpty, Root, Inside};
+ghost use Rattle.sftp_tree.specs.Picture.{blank};
+ghost use Rattle.sftp_tree.specs.Steps.{causes, allow, is_none, target, after, shown_to, target_to, text_to};
+ghost use Rattle.sftp_tree.specs.RequestExamples.{linked, with_directory, private_attributes, shown_link, shown_directory, with_file, with_two_names, without_file, shown_file, open_attributes, with_open_file, size_attributes, sized_attributes, with_text, with_two_files, with_moved_file, before_move, after_move, with_directories};
+
+/// SYMLINK has the target first. The link has that target, as it came, its length for its size, and the tree's owner;
+/// what it leads to is absent.
+pub fn symlink_to_nothing()
+    ensures free { is_none (causes blank (Symlink (codes "x y") (codes "/l"))) ≡ true }
+    ensures made { target blank (Symlink (codes "x y") (codes "/l")) ≡ linked }
+    ensures shown { shown_to linked (Lstat (codes "/l")) ≡ Some shown_link }
+    ensures read { target_to linked (Readlink (codes "/l")) ≡ Some (codes "x y") }
+    ensures followed { causes linked (Stat (codes "/l")) NoEntry ≡ true }
+    ensures nothing { shown_to linked (Stat (codes "/l")) ≡ None }
+{}
+
+/// MKDIR takes the owner that is given, and the low twelve bits of the permissions; STAT shows them with the type bits.
+pub fn mkdir_with_attributes()
+    ensures free { is_none (causes blank (Mkdir (codes "d/") private_attributes)) ≡ true }
+    ensures made { target blank (Mkdir (codes "d/") private_attributes) ≡ with_directory }
+    ensures shown { shown_to with_directory (Stat (codes "/d")) ≡ Some shown_directory }
+    ensures gone { target with_directory (Rmdir (codes "/d")) ≡ blank }
+{}
+
+/// What is taken is not made again, and each cause is told.
+pub fn taken_places()
+    ensures link { causes linked (Mkdir (codes "/l") no_attributes) Exists ≡ true }
+    ensures root { causes blank (Mkdir (codes "/") no_attributes) Exists ≡ true }
+    ensures one_code { allow (causes linked (Mkdir (codes "/l") no_attributes)) 4 ≡ true }
+    ensures no_other { allow (causes linked (Mkdir (codes "/l") no_attributes)) 2 ≡ false }
+{}
+
+/// A link has no empty target; where its place is taken too, both causes hold.
+pub fn empty_targets()
+    ensures bad { causes blank (Symlink [] (codes "/l")) BadPath ≡ true }
+    ensures alone { allow (causes blank (Symlink [] (codes "/l"))) 2 ≡ false }
+    ensures bad_too { causes linked (Symlink [] (codes "/l")) BadPath ≡ true }
+    ensures taken_too { causes linked (Symlink [] (codes "/l")) Exists ≡ true }
+{}
+
+/// The root is not removed, nor a link, nor what is absent.
+pub fn refused_removals()
+    ensures root { causes blank (Rmdir (codes "/")) Root ≡ true }
+    ensures empty { causes blank (Rmdir (codes "/")) NotEmpty ≡ false }
+    ensures entries { causes linked (Rmdir (codes "/..")) NotEmpty ≡ true }
+    ensures link { causes linked (Rmdir (codes "/l")) NotDir ≡ true }
+    ensures absent { causes linked (Rmdir (codes "/d")) NoEntry ≡ true }
+{}
+
+/// Only a link is read.
+pub fn refused_readings()
+    ensures directory { causes with_directory (Readlink (codes "/d")) NotLink ≡ true }
+    ensures absent { causes with_directory (Readlink (codes "/l")) NoEntry ≡ true }
+{}
+
+/// The real path of the root's parent is the root's, and that of an absent name is its place's.
+pub fn real_paths()
+    ensures above { text_to blank (Realpath (codes "/../..")) ≡ Some (codes "/") }
+    ensures absent { text_to linked (Realpath (codes "./l")) ≡ Some (codes "/x y") }
+    ensures lost { text_to blank (Realpath (codes "/d/e")) ≡ None }
+    ensures why { causes blank (Realpath (codes "/d/e")) NoEntry ≡ true }
+{}
+
+/// STAT and LSTAT show the count of a file's bytes, its owner, and its permissions with the type bits of a file.
+pub fn shown_files()
+    ensures followed { shown_to with_file (Stat (codes "/f")) ≡ Some shown_file }
+    ensures not_followed { shown_to with_file (Lstat (codes "/f")) ≡ Some shown_file }
+    ensures slash { shown_to with_file (Stat (codes "/f/")) ≡ Some shown_file }
+    ensures lost { causes with_file (Stat (codes "/f/.")) NotDir ≡ true }
+{}
+
+/// A file goes with its last name, and not before.
+pub fn removed_names()
+    ensures free { is_none (causes with_two_names (Remove (codes "/g"))) ≡ true }
+    ensures one { after with_two_names (Remove (codes "/g")) ≡ with_file }
+    ensures free_too { is_none (causes with_file (Remove (codes "/f"))) ≡ true }
+    ensures last { after with_file (Remove (codes "/f")) ≡ without_file }
+{}
+
+/// A hard link is one more name of a file, and no file more; only a file has one.
+pub fn further_names()
+    ensures free { is_none (causes with_file (Hardlink (codes "/f") (codes "/g"))) ≡ true }
+    ensures made { after with_file (Hardlink (codes "/f") (codes "/g")) ≡ with_two_names }
+    ensures taken { causes with_two_names (Hardlink (codes "/f") (codes "/g")) Exists ≡ true }
+    ensures directory { causes with_directories (Hardlink (codes "/x") (codes "/y")) NotFile ≡ true }
+{}
+
+/// A directory goes to another place with all that stands below it.
+pub fn moved_directories()
+    ensures free { is_none (causes before_move (Rename (codes "/d") (codes "/x"))) ≡ true }
+    ensures moved { after before_move (Rename (codes "/d") (codes "/x")) ≡ after_move }
+{}
+
+/// No directory goes into itself, nor the root to any place; and RENAME wants a place that is free.
+pub fn refused_moves()
+    ensures inside { causes with_directories (Rename (codes "/x") (codes "/x/e/y")) Inside ≡ true }
+    ensures one_code { allow (causes with_directories (Rename (codes "/x") (codes "/x/e/y"))) 4 ≡ true }
+    ensures not_2 { allow (causes with_directories (Rename (codes "/x") (codes "/x/e/y"))) 2 ≡ false }
+    ensures not_5 { allow (causes with_directories (Rename (codes "/x") (codes "/x/e/y"))) 5 ≡ false }
+    ensures root { causes with_directories (Rename (codes "/") (codes "/z")) Root ≡ true }
+    ensures taken { causes with_directories (Rename (codes "/x") (codes "/x")) Exists ≡ true }
+{}
+
+/// To its own place anything goes by OpenSSH's posix-rename, and nothing changes.
+pub fn unmoved_places()
+    ensures free { is_none (causes with_directories (PosixRename (codes "/x") (codes "/x"))) ≡ true }
+    ensures same { after with_directories (PosixRename (codes "/x") (codes "/x")) ≡ with_directories }
+    ensures free_too { is_none (causes with_two_names (PosixRename (codes "/f") (codes "/g"))) ≡ true }
+    ensures same_file { after with_two_names (PosixRename (codes "/f") (codes "/g")) ≡ with_two_names }
+{}
+
+/// OpenSSH's posix-rename puts nothing in the stead of a directory with entries, no file in that of a directory, and
+/// no directory in that of a file.
+pub fn refused_replacements()
+    ensures entries { causes with_directories (PosixRename (codes "/x/e") (codes "/x")) NotEmpty ≡ true }
+    ensures directory { causes with_directories (PosixRename (codes "/f") (codes "/x/e")) IsDir ≡ true }
+    ensures file { causes with_directories (PosixRename (codes "/x/e") (codes "/f")) NotDir ≡ true }
+    ensures missing { allow (causes with_directories (PosixRename (codes "/x/e") (codes "/f"))) 2 ≡ true }
+    ensures failed { allow (causes with_directories (PosixRename (codes "/x/e") (codes "/f"))) 4 ≡ true }
+    ensures no_other { allow (causes with_directories (PosixRename (codes "/x/e") (codes "/f"))) 5 ≡ false }
+{}
+
+/// A file in whose stead another comes is gone with its last name.
+pub fn replaced_files()
+    ensures free { is_none (causes with_two_files (PosixRename (codes "/f") (codes "/g"))) ≡ true }
+    ensures replaced { after with_two_files (PosixRename (codes "/f") (codes "/g")) ≡ with_moved_file }
+    ensures taken { causes with_two_files (Rename (codes "/f") (codes "/g")) Exists ≡ true }
+{}
+
+/// REMOVE takes the name of a link and not that of a directory.
+pub fn removed_links()
+    ensures free { is_none (causes linked (Remove (codes "/l"))) ≡ true }
+    ensures gone { after linked (Remove (codes "/l")) ≡ blank }
+    ensures directory { causes with_directory (Remove (codes "/d")) IsDir ≡ true }
+    ensures absent { causes blank (Remove (codes "/d")) NoEntry ≡ true }
+{}
+
+/// SETSTAT takes the low twelve bits of the permissions, and leaves the rest as it was.
+pub fn set_permissions()
+    ensures free { is_none (causes with_file (Setstat (codes "/f") open_attributes)) ≡ true }
+    ensures set { after with_file (Setstat (codes "/f") open_attributes) ≡ with_open_file }
+{}
+
+/// SETSTAT with a size cuts the bytes of a file, or fills them with zeros. Only a file has a size that can be set,
+/// whatever else is asked for.
+pub fn set_sizes()
+    ensures cut { after with_file (Setstat (codes "/f") (size_attributes 2)) ≡ with_text (codes "he") }
+    ensures filled { after with_file (Setstat (codes "/f") (size_attributes 7)) ≡ with_text (codes "hello" ++ 0 ∷ 0 ∷ []) }
+    ensures directory { causes with_directory (Setstat (codes "/d") sized_attributes) NotFile ≡ true }
+    ensures one_code { allow (causes with_directory (Setstat (codes "/d") sized_attributes)) 4 ≡ true }
+    ensures no_other { allow (causes with_directory (Setstat (codes "/d") sized_attributes)) 2 ≡ false }
+{}
