@@ -12,5 +12,5 @@ overflow_cast-head c = omega (arith, c.len.ensures, ap length c.names-2.ensures.
 
 pub put_head-requires : goal.put_head-requires
 put_head-requires c =
-    let home = c.new.ensures ∙ c.in_ok-home.ensures ∙ ap absolute (c.names.ensures.names ∙ c.home-2.ensures) in
+    let home = c.new.ensures ∙ c.in_ok-home.ensures ∙ ap absolute (c.names.ensures.names ∙ c.home-2.ensures.home) in
     omega (arith, ap length home, home_short c.args.tree.now c.names-2.ensures.kept)

@@ -13,7 +13,7 @@ pub returns-in_default-clause-reached : goal.returns-in_default-clause-reached
 returns-in_default-clause-reached c = sym (reached-bad c.args.self.now c.args.follow c.args.path.now c.in_default.ensures.bad)
 
 -- the route has the components that a walk goes over
-route : (c : goal.After-walk) → c.new-route.result ≡ steps_of c.args.self.now c.args.path.now
+route : (c : goal.After-follow_route) → c.new-route.result ≡ steps_of c.args.self.now c.args.path.now
 route c =
     let absolute : c.parts.inside.absolute ≡ is_absolute c.args.path.now = ap (λ (s : Split). s.absolute) (c.parts.view_is ∙ c.in-Ok.ensures.parts) in
     let left : c.in-Ok.parts.left ≡ components c.args.path.now = ap (λ (s : Split). s.left) c.in-Ok.ensures.parts in
