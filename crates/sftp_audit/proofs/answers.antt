@@ -1,4 +1,3 @@
-pub mod WalkFailures
 pub mod FreeRequests
 pub mod KeptNodes
 pub mod PlaceTexts

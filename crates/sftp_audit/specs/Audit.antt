@@ -1,5 +1,5 @@
 -- Which files an auditor accepts: those of a starting tree and of a recorded session that account for a run.
-use Rattle.std.specs.Prelude.{ℕ, ◌^◌, ◌-◌, min, List, [], ◌∷◌, length}
+use Rattle.std.specs.Prelude.{ℕ, ◌^◌, ◌-◌, min, List, length}
 use Rattle.sftp_audit.specs.declared.events.Event.{Event}
 use Rattle.sftp_treefile.specs.declared.errors.TreeError.{TreeError}
 use Rattle.sftp_treefile.specs.declared.errors.TreeError.TheVariants as tree_errors
@@ -58,12 +58,3 @@ IsPlain (audit_errors.Tree tree_errors.NoMemory) = ⊥
 IsPlain (audit_errors.Transcript transcript_errors.NoMemory) = ⊥
 IsPlain (audit_errors.Refused refusals.NoMemory) = ⊥
 IsPlain _ = Unit {0}
-
--- the tree file of the blank tree: `SFTREE01`, the home `/`, uid and gid 0, no entries, and the root with uid and gid 0
--- and
--- permissions 0o755
-abbrev pub blank_bytes : List ℕ
-blank_bytes =
-    0x53 ∷ 0x46 ∷ 0x54 ∷ 0x52 ∷ 0x45 ∷ 0x45 ∷ 0x30 ∷ 0x31 ∷ 0x00 ∷ 0x00 ∷ 0x00 ∷ 0x01 ∷ 0x2f ∷ 0x00 ∷ 0x00 ∷ 0x00
-    ∷ 0x00 ∷ 0x00 ∷ 0x00 ∷ 0x00 ∷ 0x00 ∷ 0x00 ∷ 0x00 ∷ 0x00 ∷ 0x00 ∷ 0x00 ∷ 0x00 ∷ 0x00 ∷ 0x00 ∷ 0x00 ∷ 0x00 ∷ 0x00
-    ∷ 0x00 ∷ 0x00 ∷ 0x00 ∷ 0x01 ∷ 0xed ∷ []

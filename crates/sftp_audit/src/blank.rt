@@ -1,10 +1,9 @@
 //! The blank tree's file.
 ghost use Rattle.std.specs.Prelude.{◌≡◌, IfOk};
 ghost use Rattle.sftp_tree.specs.Picture.{picture, blank, IsStart};
-ghost use Rattle.sftp_audit.specs.Audit.{blank_bytes};
+ghost use Rattle.sftp_treefile.specs.Examples.{blank_bytes};
 
 use sftp_tree::NoMemory;
-use sftp_tree::picture_laws::blank_is_a_start;
 use std::alloc::Global;
 
 /// The bytes of the blank tree's file.
@@ -13,13 +12,13 @@ const BLANK: [u8; 37] = [
     0, 0, 0, 0, 0, 0, 0, 0, 0, 0, 0, 0, 1, 0xed,
 ];
 
-/// The tree file of the blank tree: its home is the root, which has uid and gid 0 and permissions 0o755
-/// and no entries, and uid and gid 0 own what is made with no owner given.
+/// The tree file of the blank tree. Its home is the root, which has uid 0, gid 0 and permissions 0o755 and is empty.
+/// New entries without a given owner get uid 0 and gid 0.
 ///
 /// # Errors
 ///
-/// `NoMemory` where memory runs out.
-#[tactic(auto, unfolding(sftp_tree::specs::Picture::picture, sftp_treefile::specs::TreeFile::spelled, sftp_path::specs::Table::get))]
+/// `NoMemory` if memory runs out.
+#[tactic(auto, unfolding(sftp_tree::specs::Picture::picture, sftp_treefile::specs::TreeFile::spelled, sftp_path::specs::Table::get, sftp_wire::specs::Examples::hex))]
 pub fn blank_tree(alloc: Global) -> Result<Vec<u8>, NoMemory>
     ensures bytes { IfOk result (λ v. v.items ≡ blank_bytes) }
     ensures picture { IfOk result (λ v. v.items ≡ picture blank) }
@@ -30,6 +29,4 @@ pub fn blank_tree(alloc: Global) -> Result<Vec<u8>, NoMemory>
 /// The bytes of `blank_tree` are the tree file of the blank tree.
 pub fn blank_tree_is_a_start()
     ensures { IsStart blank blank_bytes }
-{
-    blank_is_a_start();
-}
+{}

@@ -16,18 +16,18 @@ use Rattle.sftp_wire.specs.declared.packets.Packet.TheVariants.{Reply as reply_p
 use Rattle.sftp_wire.specs.declared.packets.Request.{Request}
 use Rattle.sftp_wire.specs.Spelling.{AreBytes, HasSpelling}
 use Rattle.sftp_path.specs.Place.{Place, parent, absolute, are_names, components, is_good_path, name_limit}
+use Rattle.sftp_treefile.specs.Limits.{usual_limits}
 use Rattle.sftp_treefile.specs.TreeFile.{are_bytes, is_target}
 use Rattle.sftp_tree.specs.declared.contents.Content.{Content}
 use Rattle.sftp_tree.specs.declared.nodes.Node.{Node}
 use Rattle.sftp_tree.specs.declared.nodes.Node.TheVariants.{Dir, File, Link}
 use Rattle.sftp_tree.specs.declared.causes.Cause.{Cause}
-use Rattle.sftp_tree.specs.declared.causes.Cause.TheVariants.{BadPath, NoEntry, NotDir, Loop, Exists, IsDir, NotLink}
-use Rattle.sftp_tree.specs.declared.causes.Cause.TheVariants.{NotFile, NotEmpty, Root, Inside, NoRoom}
+use Rattle.sftp_tree.specs.declared.causes.Cause.TheVariants.{NoEntry, NotDir, Loop, NotLink}
 use Rattle.sftp_tree.specs.Tree.{Tree, IsKept, IsNode, IsContent, link_fits, node_at, content_at, is_directory}
 use Rattle.sftp_tree.specs.Walk.{reached}
 use Rattle.sftp_tree.specs.Attributes.{said, shown_content, shown}
 use Rattle.sftp_tree.specs.Steps.{CauseSet, every_cause, needing_causes, allows, has_step, causes, led, led_to, after}
-use Rattle.sftp_tree.specs.Steps.{shown_at, shown_to, target_of, target_to, text_to}
+use Rattle.sftp_tree.specs.Steps.{told_at, attributes_of, name_of, shown_at, shown_to, target_of, target_to, text_to}
 use Rattle.sftp_audit.specs.Replies.{same_attributes, is_shown, is_named, answers}
 use Rattle.sftp_audit.specs.Laws.{IsAskable, IsAnswerable}
 use Rattle.sftp_audit.proofs.answers.FreeRequests.{IsFree, led-stat, led-lstat, led-real_path, led-read_link, there}
@@ -116,7 +116,7 @@ shown_said t id standing size uid gid permissions is spelled =
     record { attrs = said size uid gid permissions; is = is; same = same_said size uid gid permissions; spelled = spelled }
 
 shown_file : (t : Tree) (id : ℕ) (number : ℕ) (content : Content) → id < 2 ^ 32
-    → content_at t.files number ≡ Some content → IsContent content → length content.bytes ≤ 16777216
+    → content_at t.files number ≡ Some content → IsContent content → length content.bytes ≤ usual_limits.file_bytes
     → IsShown t id (File number)
 shown_file t id number content small is fits size =
     shown_said t id (File number) (length content.bytes) content.owner.uid content.owner.gid
@@ -137,58 +137,62 @@ shown_spelled t id (Link linktarget) kept small fits link =
     (attributes_spelled id (length linktarget) t.uid t.gid 0o120777 small (omega (arith, target_length linktarget link)) kept.well_formed.uid kept.well_formed.gid (lit< tt))
 
 shown-at : (t : Tree) (ask : Ask) (place : Place) (standing : Node) → led t ask ≡ Some (Ok place)
+    → attributes_of (told_at t ask place) ≡ shown_at t (node_at t.names place)
     → node_at t.names place ≡ Some standing → shown_to t ask ≡ shown t standing
 unfolding shown_to
-shown-at t ask place standing leads is =
-    ap (λ r. led_to None r (λ p. shown_at t (node_at t.names p))) leads ∙ ap (shown_at t) is
+shown-at t ask place standing leads tells is =
+    ap (λ r. led_to None r (λ p. attributes_of (told_at t ask p))) leads ∙ (tells ∙ ap (shown_at t) is)
 
-target-at : (t : Tree) (ask : Ask) (place : Place) (linktarget : List ℕ) → led t ask ≡ Some (Ok place)
-    → node_at t.names place ≡ Some (Link linktarget) → target_to t ask ≡ Some linktarget
+target-at : (t : Tree) (path : List ℕ) (place : Place) (linktarget : List ℕ)
+    → led t (Readlink path) ≡ Some (Ok place) → node_at t.names place ≡ Some (Link linktarget)
+    → target_to t (Readlink path) ≡ Some linktarget
 unfolding target_to
-target-at t ask place linktarget leads is =
-    ap (λ r. led_to None r (λ p. target_of (node_at t.names p))) leads ∙ ap target_of is
+target-at t path place linktarget leads is =
+    ap (λ r. led_to None r (λ p. name_of (told_at t (Readlink path) p))) leads ∙ ap target_of is
 
-text-at : (t : Tree) (ask : Ask) (place : Place) → led t ask ≡ Some (Ok place) → text_to t ask ≡ Some (absolute place)
+text-at : (t : Tree) (path : List ℕ) (place : Place) → led t (Realpath path) ≡ Some (Ok place)
+    → text_to t (Realpath path) ≡ Some (absolute place)
 unfolding text_to
-text-at t ask place leads = ap (λ r. led_to None r (λ p. Some (absolute p))) leads
+text-at t path place leads = ap (λ r. led_to None r (λ p. name_of (told_at t (Realpath path) p))) leads
 
 -- a request for attributes is answered by those of the node that its path leads to
 attributes_answered : (t : Tree) (id : ℕ) (ask : Ask) (place : Place) → IsKept t → id < 2 ^ 32 → IsTrue (has_step ask)
     → IsFree t ask → led t ask ≡ Some (Ok place) → needing_causes (node_at t.names place) NoEntry ≡ false
+    → attributes_of (told_at t ask place) ≡ shown_at t (node_at t.names place)
     → ((attrs : Attrs) → answers t ask (replies.Attrs attrs) ≡ is_shown (shown_to t ask) (replies.Attrs attrs))
     → IsAnswerable t (request_of id ask)
-attributes_answered t id ask place kept small judged free leads standing is =
+attributes_answered t id ask place kept small judged free leads standing tells is =
     let found = there (node_at t.names place) standing in
     let fits = node_kept t kept place found.0 found.1 in
     let given = shown_spelled t id found.0 kept small fits.0 fits.1 in
     answered t id ask (replies.Attrs given.attrs) judged free
-    (is given.attrs ∙ ap (λ o. is_shown o (replies.Attrs given.attrs)) (shown-at t ask place found.0 leads found.1 ∙ given.is) ∙ given.same) given.spelled
+    (is given.attrs ∙ ap (λ o. is_shown o (replies.Attrs given.attrs)) (shown-at t ask place found.0 leads tells found.1 ∙ given.is) ∙ given.same) given.spelled
 
 stat_answered : (t : Tree) (id : ℕ) (path : List ℕ) → IsKept t → id < 2 ^ 32 → IsFree t (Stat path)
     → IsAnswerable t (request_of id (Stat path))
 stat_answered t id path kept small free =
     let led = led-stat t path free in
-    attributes_answered t id (Stat path) led.place kept small refl free led.led_is (led.at NoEntry (λ e. cc))
-    (λ attrs. refl)
+    attributes_answered t id (Stat path) led.place kept small refl free led.led_is (led.at NoEntry)
+    refl (λ attrs. refl)
 
 lstat_answered : (t : Tree) (id : ℕ) (path : List ℕ) → IsKept t → id < 2 ^ 32 → IsFree t (Lstat path)
     → IsAnswerable t (request_of id (Lstat path))
 lstat_answered t id path kept small free =
     let led = led-lstat t path free in
-    attributes_answered t id (Lstat path) led.place kept small refl free led.led_is (led.at NoEntry (λ e. cc))
-    (λ attrs. refl)
+    attributes_answered t id (Lstat path) led.place kept small refl free led.led_is (led.at NoEntry)
+    refl (λ attrs. refl)
 
 read_link_answered : (t : Tree) (id : ℕ) (path : List ℕ) → IsKept t → id < 2 ^ 32 → IsFree t (Readlink path)
     → IsAnswerable t (request_of id (Readlink path))
 read_link_answered t id path kept small free =
     let led = led-read_link t path free in
-    let found = link_there (node_at t.names led.place) (led.at NoEntry (λ e. cc)) (led.at NotLink (λ e. cc)) in
+    let found = link_there (node_at t.names led.place) (led.at NoEntry) (led.at NotLink) in
     let fits = node_kept t kept led.place (Link found.0) found.1 in
     let short = target_length found.0 fits.1 in
     let spelled = name_spelled id found.0 small
     (record { bytes_fit = bytes_by found.0 fits.0; length_fits = omega (arith, short) }) (omega (arith, short)) in
     answered t id (Readlink path) (name_reply id found.0).answer refl free
-    (ap (λ o. is_named o (name_reply id found.0).answer) (target-at t (Readlink path) led.place found.0 led.led_is found.1) ∙ nat_list_eq_equiv.refl found.0) spelled
+    (ap (λ o. is_named o (name_reply id found.0).answer) (target-at t path led.place found.0 led.led_is found.1) ∙ nat_list_eq_equiv.refl found.0) spelled
 
 -- that walks give places
 abbrev pub WalksGivePlaces : Type 0
@@ -204,7 +208,7 @@ real_path_answered walks t id path kept small bytes free =
     let at = walks t true path led.place kept bytes led.answer_is in
     let fits = text_fits t led.place kept at.0 at.1 in
     answered t id (Realpath path) (name_reply id (absolute led.place)).answer refl free
-    (ap (λ o. is_named o (name_reply id (absolute led.place)).answer) (text-at t (Realpath path) led.place led.led_is) ∙ nat_list_eq_equiv.refl (absolute led.place)) (name_spelled id (absolute led.place) small fits.0 fits.1)
+    (ap (λ o. is_named o (name_reply id (absolute led.place)).answer) (text-at t path led.place led.led_is) ∙ nat_list_eq_equiv.refl (absolute led.place)) (name_spelled id (absolute led.place) small fits.0 fits.1)
 
 -- ---- each request
 

@@ -1,6 +1,6 @@
 -- What is known of the nodes and the places of a tree that is kept.
 use Rattle.std.proofs.Common.{◌≡◌, ◌&&◌, ℕ, ◌≤◌, Bool, true, false, List, [], ◌∷◌, length, Option, Some, None, refl}
-use Rattle.std.proofs.Common.{subst, cond, leb-true}
+use Rattle.std.proofs.Common.{subst, cond, leb-true, ap, sym, ◌∙◌}
 use Rattle.std.proofs.lemmas.Bool.{and_parts}
 use Rattle.std.specs.Ordering.{nat_cmp}
 use Rattle.std.specs.List.{list_all, AllByRecursion}
@@ -9,6 +9,8 @@ use Rattle.std.specs.Map.{lookup}
 use Rattle.std.specs.BTreeMap.{is_at}
 use Rattle.sftp_path.specs.Place.{Place, place_cmp}
 use Rattle.sftp_path.specs.Table.{get}
+use Rattle.sftp_treefile.specs.declared.limits.TreeLimits.{TreeLimits}
+use Rattle.sftp_treefile.specs.Limits.{usual_limits}
 use Rattle.sftp_tree.specs.declared.contents.Content.{Content}
 use Rattle.sftp_tree.specs.declared.nodes.Node.{Node}
 use Rattle.sftp_tree.specs.Tree.{Tree, IsKept, IsNode, IsContent, node_at, content_at, limits, entries_fit, depths_fit}
@@ -63,11 +65,11 @@ content_there (Some content) is = (content, refl)
 
 -- and so does a file
 pub content_kept : (t : Tree) → IsKept t → (number : ℕ) (content : Content) → content_at t.files number ≡ Some content
-    → IsContent content × (length content.bytes ≤ 16777216)
+    → IsContent content × (length content.bytes ≤ usual_limits.file_bytes)
 unfolding get
 content_kept t kept number content is =
     let l = limits_of t kept in (
       found-all IsContent (is_at (nat_cmp number)) t.files content kept.well_formed.contents is,
-      leb-true (length content.bytes) 16777216
-          (found-all (λ c. content_fits (limits t) c ≡ true) (is_at (nat_cmp number)) t.files content (tested-all (λ e. content_fits (limits t) e.1) t.files l.files) is),
+      leb-true (length content.bytes) usual_limits.file_bytes
+          (ap (λ (bounds : TreeLimits). content_fits bounds content) (sym kept.well_formed.limits) ∙ found-all (λ c. content_fits (limits t) c ≡ true) (is_at (nat_cmp number)) t.files content (tested-all (λ e. content_fits (limits t) e.1) t.files l.files) is),
     )

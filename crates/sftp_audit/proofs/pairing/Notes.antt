@@ -1,5 +1,5 @@
 -- What noting an event does to what the ledger stands for.
-use Rattle.std.proofs.Common.{◌≡◌, ◌≢◌, ◌⊎◌, ℕ, ◌+◌, ◌<◌, true, false, List, [], ◌∷◌, ◌++◌, Some, None, Result, Ok, Err}
+use Rattle.std.proofs.Common.{◌≡◌, ◌≢◌, ◌⊎◌, ℕ, ◌+◌, ◌<◌, true, false, List, [], ◌∷◌, ◌++◌, None, Result, Ok, Err}
 use Rattle.std.proofs.Common.{IsTrue, length, take, drop, get_or, sym, ap, subst, ◌∙◌, inl, inr}
 use Rattle.std.specs.Result.{OnOk, IfOk, IfErr, IsErrAnd}
 use Rattle.std.proofs.lemmas.List.{take-append-drop, drop_more}

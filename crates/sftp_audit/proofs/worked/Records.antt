@@ -1,10 +1,9 @@
 -- A worked example: the bytes of a transcript file record its events.
-use Rattle.std.proofs.Common.{◌≡◌, ◌&&◌, nat_lt, Bool, true, false, ℕ, ◌^◌, ◌<◌, ◌≤◌, ◌++◌, length, codes, List, []}
-use Rattle.std.proofs.Common.{◌∷◌, IsTrue, refl, lit<, lit≤, ltb-true}
-use Rattle.std.proofs.lemmas.Bool.{and_parts}
+use Rattle.std.proofs.Common.{◌≡◌, nat_lt, ℕ, ◌^◌, ◌<◌, ◌≤◌, ◌++◌, length, codes, List, []}
+use Rattle.std.proofs.Common.{◌∷◌, IsTrue, refl, lit<, lit≤}
 use Rattle.std.specs.List.{list_all, flat_map, AllByRecursion}
 use Rattle.sftp_wire.specs.declared.packets.Packet.TheVariants.{Init, Version}
-use Rattle.sftp_wire.specs.Spelling.{spelling, AreBytes, FitsString, FitsPair, FitsAttrs, HasSpelling}
+use Rattle.sftp_wire.specs.Spelling.{spelling, FitsString, FitsPair, FitsAttrs, HasSpelling}
 use Rattle.sftp_wire.specs.Examples.{hex, no_attributes, server_extensions}
 use Rattle.sftp_audit.specs.declared.events.Event.{Event}
 use Rattle.sftp_audit.specs.Transcript.{IsEvent, IsRecord, event_record, transcript_opening, packet_of}

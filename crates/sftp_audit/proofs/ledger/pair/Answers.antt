@@ -1,13 +1,11 @@
-use Rattle.std.proofs.Common.{◌≡◌, ◌∷◌, ◌++◌, ◌+◌, [], List, take, drop, sym, ap, subst, ◌∙◌, IsTrue}
-use Rattle.std.specs.Result.{IfOk, IfErr}
-use Rattle.std.proofs.lemmas.List.{take_more, take_all, take-append-drop, drop_more}
-use Rattle.std.proofs.lemmas.Result.{err_from_is_err_and}
+use Rattle.std.proofs.Common.{◌≡◌, ◌∷◌, ◌++◌, ◌+◌, [], List, take, sym, ap, subst, ◌∙◌}
+use Rattle.std.specs.Result.{IfOk}
+use Rattle.std.proofs.lemmas.List.{take_more, take_all}
 use Rattle.sftp_audit.specs.declared.events.Event.{Event}
-use Rattle.sftp_audit.specs.Explained.{Matching, in_window}
 use Rattle.sftp_audit.specs.Ledger.{IsComplete}
 use Rattle.sftp_audit.specs.Exchanges.{ledger_of}
 use Rattle.sftp_audit.proofs.pairing.Standing.{stands_from_start}
-use Rattle.sftp_audit.proofs.pairing.Notes.{IsLost, all_answered, one_unanswered, lost_at}
+use Rattle.sftp_audit.proofs.pairing.Notes.{all_answered, one_unanswered, lost_at}
 use Rattle.sftp_audit.proofs.ledger.pair.Goals as goal
 
 pub loop-event-init : goal.loop-event-init
