@@ -22,7 +22,7 @@ use sftp_wire::ByteString;
 use std::alloc::Global;
 use std::collections::BTreeMap;
 
-/// Who owns what has no owner.
+/// The owner of what has none.
 const NO_OWNER: Owner = Owner {
     uid: 0,
     gid: 0,
@@ -127,7 +127,7 @@ fn put_entries(out: &mut Vec<u8>, tree: &Tree) -> Result<(), NoMemory>
     Ok(())
 }
 
-/// The tree file of a tree. The room for it is taken at once, so that the bytes of files are copied once.
+/// The tree file of a tree. Memory for it is taken at once, so that the bytes of files are copied once.
 pub(super) fn picture_of(tree: &Tree) -> Result<Vec<u8>, NoMemory>
     ensures { IfOk result (λ v. v.items ≡ spec.picture tree.now) }
 {
