@@ -142,7 +142,8 @@ fn shows(tree: &Tree, ask: &Ask, attrs: &Attrs) -> Result<bool, NoMemory>
 
 /// Whether a path leads to what has these attributes.
 fn shows_at(tree: &Tree, path: &ByteString, follow: bool, attrs: &Attrs) -> Result<bool, NoMemory>
-    ensures answered { IfOk result (λ ok. ok ≡ is_answer tree.now (stat_ask follow path.now) (answers.Attrs attrs.now)) }
+    ensures answered { IfOk result
+        (λ ok. ok ≡ is_answer tree.now (stat_ask follow path.now) (answers.Attrs attrs.now)) }
     ensures kept { IfOk result (λ ok. IsTrue ok → trees.IsKept tree.now) }
 {
     match value_of(tree.stat(path.as_slice(), follow))? {

@@ -41,13 +41,15 @@ pub fn rekeyed_is_one<X>()
     ensures left { (old new : Place) (table other : Table Place X) → InOrder place_cmp other → NothingFrom table new →
         ((rest : Place) → get place_cmp other (new ++ rest) ≡ get place_cmp table (old ++ rest)) →
         NothingFrom other old →
-        ((place : Place) → begins old place ≡ false → begins new place ≡ false → get place_cmp other place ≡ get place_cmp table place) →
+        ((place : Place) → begins old place ≡ false → begins new place ≡ false →
+        get place_cmp other place ≡ get place_cmp table place) →
         other ≡ rekeyed old new table }
     ensures left_beside { (old new : Place) (table other : Table Place X) → InOrder place_cmp other →
         NothingFrom table new →
         ((rest : Place) → get place_cmp other (new ++ rest) ≡ get place_cmp table (old ++ rest)) →
         ((place : Place) → begins old place ≡ true → begins new place ≡ false → get place_cmp other place ≡ None) →
-        ((place : Place) → begins old place ≡ false → begins new place ≡ false → get place_cmp other place ≡ get place_cmp table place) →
+        ((place : Place) → begins old place ≡ false → begins new place ≡ false →
+        get place_cmp other place ≡ get place_cmp table place) →
         other ≡ rekeyed old new table }
 {}
 

@@ -1,11 +1,13 @@
 //! Laws of tables, the finite maps of which the definitions of trees and sessions are made. The functions do nothing:
 //! each publishes its laws in its contract.
-ghost use Rattle.std.specs.Prelude.{◌≡◌, ◌≢◌, ◌+◌, ◌<◌, ◌&&◌, ℕ, Bool, List, [], Some, None, if◌then◌else◌, IsTrue, option_map};
+ghost use Rattle.std.specs.Prelude.{◌≡◌, ◌≢◌, ◌+◌, ◌<◌, ◌&&◌, ℕ, Bool, List, []};
+ghost use Rattle.std.specs.Prelude.{Some, None, if◌then◌else◌, IsTrue, option_map};
 ghost use Rattle.std.specs.List.{list_all};
 ghost use Rattle.std.specs.Ordering.{nat_cmp};
 ghost use Rattle.std.specs.declared.cmp.Ordering.TheVariants.{Equal};
 ghost use Rattle.sftp_path.specs.Place.{Place, bytes_cmp, place_cmp};
-ghost use Rattle.sftp_path.specs.Table.{Table, InOrder, get, put, without, retain, from_entries, size, count, kept, with_values};
+ghost use Rattle.sftp_path.specs.Table.{Table, InOrder, get, put, without, retain};
+ghost use Rattle.sftp_path.specs.Table.{from_entries, size, count, kept, with_values};
 
 /// What a key has after each operation, for keys of any order and any values.
 pub fn answers<K: Ord, X>()

@@ -153,7 +153,8 @@ impl Tree {
 
     /// The causes of two places, if each path leads to one.
     fn both_causes(&self, ask: PathAsk<'_>, ends: &Ends) -> Causes
-        ensures { in_set result ≡ steps.both_causes (Some ends.now.old) ends.now.new (steps.causes_between self.now (asked ask.entry)) }
+        ensures { in_set result
+            ≡ steps.both_causes (Some ends.now.old) ends.now.new (steps.causes_between self.now (asked ask.entry)) }
     {
         match (&ends.old, &ends.new) {
             (Ok(old), Some(Ok(new))) => self.causes_between(ask, old, new),

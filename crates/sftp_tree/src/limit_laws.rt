@@ -8,7 +8,9 @@ ghost use Rattle.sftp_path.specs.Table.{InOrder};
 ghost use Rattle.sftp_path.specs.Rekeying.{renamed, NothingFrom};
 ghost use Rattle.sftp_tree.specs.declared.contents.Content.{Content};
 ghost use Rattle.sftp_tree.specs.declared.nodes.Node.{Node};
-ghost use Rattle.sftp_tree.specs.Tree.{Tree, limits, fits, entries_fit, depths_fit, home_fits, links_fit, files_fit, numbers_fit, depth_fits, link_fits, content_fits, node_at, with_node, without_node, content_at, with_content};
+ghost use Rattle.sftp_tree.specs.Tree.{Tree, limits, fits, entries_fit, depths_fit, home_fits, links_fit};
+ghost use Rattle.sftp_tree.specs.Tree.{files_fit, numbers_fit, depth_fits, link_fits, content_fits};
+ghost use Rattle.sftp_tree.specs.Tree.{node_at, with_node, without_node, content_at, with_content};
 ghost use Rattle.sftp_tree.specs.Steps.{moved};
 
 /// A tree is within the limits exactly if it is within each of them.
@@ -19,7 +21,8 @@ pub fn limits_are_six()
     ensures links { (t : Tree) → IsTrue (fits t) → IsTrue (links_fit t) }
     ensures files { (t : Tree) → IsTrue (fits t) → IsTrue (files_fit t) }
     ensures numbers { (t : Tree) → IsTrue (fits t) → IsTrue (numbers_fit t) }
-    ensures all { (t : Tree) → IsTrue (entries_fit t) → IsTrue (depths_fit t) → IsTrue (home_fits t) → IsTrue (links_fit t) → IsTrue (files_fit t) →
+    ensures all { (t : Tree) → IsTrue (entries_fit t) → IsTrue (depths_fit t) → IsTrue (home_fits t) →
+        IsTrue (links_fit t) → IsTrue (files_fit t) →
         IsTrue (numbers_fit t) → IsTrue (fits t) }
 {}
 
@@ -35,7 +38,8 @@ pub fn limits_with_an_entry()
 
 /// With another node at a taken place.
 pub fn limits_with_another_entry()
-    ensures entries { (t : Tree) (place : Place) (before it : Node) → InOrder place_cmp t.names → node_at t.names place ≡ Some before →
+    ensures entries { (t : Tree) (place : Place) (before it : Node) → InOrder place_cmp t.names →
+        node_at t.names place ≡ Some before →
         entries_fit (record t { names = with_node t.names place it }) ≡ entries_fit t }
     ensures depths { (t : Tree) (place : Place) (before it : Node) → node_at t.names place ≡ Some before →
         depths_fit (record t { names = with_node t.names place it }) ≡ depths_fit t }
@@ -45,23 +49,30 @@ pub fn limits_with_another_entry()
 
 /// With one entry less.
 pub fn limits_without_an_entry()
-    ensures entries { (t : Tree) (place : Place) → IsTrue (entries_fit t) → IsTrue (entries_fit (record t { names = without_node t.names place })) }
-    ensures depths { (t : Tree) (place : Place) → IsTrue (depths_fit t) → IsTrue (depths_fit (record t { names = without_node t.names place })) }
-    ensures links { (t : Tree) (place : Place) → IsTrue (links_fit t) → IsTrue (links_fit (record t { names = without_node t.names place })) }
+    ensures entries { (t : Tree) (place : Place) → IsTrue (entries_fit t) →
+        IsTrue (entries_fit (record t { names = without_node t.names place })) }
+    ensures depths { (t : Tree) (place : Place) → IsTrue (depths_fit t) →
+        IsTrue (depths_fit (record t { names = without_node t.names place })) }
+    ensures links { (t : Tree) (place : Place) → IsTrue (links_fit t) →
+        IsTrue (links_fit (record t { names = without_node t.names place })) }
 {}
 
 /// With the node at a place, and all below it, moved to a free place.
 pub fn limits_after_a_move()
-    ensures entries { (t : Tree) (old new : Place) → InOrder place_cmp t.names → NothingFrom t.names new → entries_fit (moved t old new) ≡ entries_fit t }
+    ensures entries { (t : Tree) (old new : Place) → InOrder place_cmp t.names → NothingFrom t.names new →
+        entries_fit (moved t old new) ≡ entries_fit t }
     ensures depths { (t : Tree) (old new : Place) → InOrder place_cmp t.names → NothingFrom t.names new →
         depths_fit (moved t old new) ≡ list_all (λ e. depth_fits (renamed old new e.0)) t.names }
-    ensures links { (t : Tree) (old new : Place) → InOrder place_cmp t.names → NothingFrom t.names new → links_fit (moved t old new) ≡ links_fit t }
+    ensures links { (t : Tree) (old new : Place) → InOrder place_cmp t.names → NothingFrom t.names new →
+        links_fit (moved t old new) ≡ links_fit t }
 {}
 
 /// With a file of a new number, or with another content of a file.
 pub fn limits_of_files()
     ensures new { (t : Tree) (number : ℕ) (content : Content) → content_at t.files number ≡ None →
-        files_fit (record t { files = with_content t.files number content }) ≡ (content_fits (limits t) content && files_fit t) }
-    ensures again { (t : Tree) (number : ℕ) (content : Content) → IsTrue (files_fit t) → IsTrue (content_fits (limits t) content) →
+        files_fit (record t { files = with_content t.files number content })
+        ≡ (content_fits (limits t) content && files_fit t) }
+    ensures again { (t : Tree) (number : ℕ) (content : Content) → IsTrue (files_fit t) →
+        IsTrue (content_fits (limits t) content) →
         IsTrue (files_fit (record t { files = with_content t.files number content })) }
 {}

@@ -7,7 +7,8 @@ ghost use Rattle.sftp_treefile.specs.declared.files.TreeFile.{TreeFile};
 ghost use Rattle.sftp_tree.specs.Tree.{Tree, WellFormed, IsKept, fits};
 ghost use Rattle.sftp_tree.specs.Picture.{IsStart, file_of, picture, blank};
 ghost use Rattle.sftp_tree.specs.PictureParts.{tree_of};
-ghost use Rattle.sftp_tree.specs.PictureExamples.{linked, linked_front, linked_root, linked_directory, linked_link, two_names, two_names_bytes};
+ghost use Rattle.sftp_tree.specs.PictureExamples.{linked, linked_front, linked_root, linked_directory};
+ghost use Rattle.sftp_tree.specs.PictureExamples.{linked_link, two_names, two_names_bytes};
 
 /// No two starts have the same tree file.
 pub fn starts_are_one()

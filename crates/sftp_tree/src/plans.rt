@@ -44,7 +44,8 @@ impl Tree {
     pub(crate) fn plan<'a>(&self, ask: PathAsk<'a>) -> Result<Plan<'a>, Refused>
         ensures free { OnOk result (IsFree self.now (asked ask.entry)) }
         ensures ready { IfOk result (λ plan. spec.IsReady self.now plan) }
-        ensures done { IfOk result (λ plan. tree.trim (spec.changed self.now plan) ≡ steps.after self.now (asked ask.entry)) }
+        ensures done { IfOk result
+            (λ plan. tree.trim (spec.changed self.now plan) ≡ steps.after self.now (asked ask.entry)) }
         ensures refused { IfErr result (λ refused. IsRefusal self.now (asked ask.entry) refused) }
     {
         let places = self.free_places(ask)?;
@@ -178,9 +179,11 @@ impl Tree {
     ///
     /// `NoMemory` if memory runs out; the tree is then as before.
     fn set_attributes(&mut self, place: &Place, attrs: &Attrs) -> Result<(), NoMemory>
-        requires { IsTrue (tree.fits (steps.with_attributes self.old attrs.now place.now (tree.node_at self.old.names place.now))) }
+        requires { IsTrue (tree.fits
+            (steps.with_attributes self.old attrs.now place.now (tree.node_at self.old.names place.now))) }
         ensures ok { OnOk result
-            (self.new ≡ tree.trim (steps.with_attributes self.old attrs.now place.now (tree.node_at self.old.names place.now))) }
+            (self.new
+            ≡ tree.trim (steps.with_attributes self.old attrs.now place.now (tree.node_at self.old.names place.now))) }
         ensures err { OnErr result (self.new ≡ self.old) }
     {
         match self.standing(place) {

@@ -3,12 +3,19 @@
 #![tactic(auto, unfolding(crate::specs::Steps::led, crate::specs::Steps::no_causes, crate::specs::Steps::when, crate::specs::Steps::joined, crate::specs::Steps::plain_causes, crate::specs::Steps::causes, crate::specs::Steps::target, crate::specs::Steps::shown_to, crate::specs::Steps::target_to, crate::specs::Steps::text_to, crate::specs::Walk::meets, crate::specs::Walk::walk_parts, crate::specs::Walk::walk, crate::specs::Walk::reached, crate::specs::Tree::has_entries, crate::specs::Tree::fits, sftp_path::specs::Place::components, sftp_path::specs::Place::parts, sftp_path::specs::Place::is_good_path, sftp_path::specs::Table::get, sftp_path::specs::Table::put, sftp_path::specs::Table::without, sftp_path::specs::Table::retain, sftp_path::specs::Table::from_entries, sftp_path::specs::Rekeying::rekeyed))]
 
 ghost use Rattle.std.specs.Prelude.{◌≡◌, true, false, [], ◌∷◌, ◌++◌, Some, None, codes};
-ghost use Rattle.sftp_wire.specs.declared.packets.Ask.TheVariants.{Lstat, Setstat, Remove, Mkdir, Rmdir, Realpath, Stat, Rename, Readlink, Symlink, PosixRename, Hardlink};
+ghost use Rattle.sftp_wire.specs.declared.packets.Ask.TheVariants.{Lstat, Setstat, Remove, Mkdir, Rmdir};
+ghost use Rattle.sftp_wire.specs.declared.packets.Ask.TheVariants.{Realpath, Stat, Rename, Readlink};
+ghost use Rattle.sftp_wire.specs.declared.packets.Ask.TheVariants.{Symlink, PosixRename, Hardlink};
 ghost use Rattle.sftp_wire.specs.Examples.{no_attributes};
-ghost use Rattle.sftp_tree.specs.declared.causes.Cause.TheVariants.{BadPath, NoEntry, NotDir, Exists, IsDir, NotLink, NotFile, NotEmpty, Root, Inside};
+ghost use Rattle.sftp_tree.specs.declared.causes.Cause.TheVariants.{BadPath, NoEntry, NotDir, Exists, IsDir};
+ghost use Rattle.sftp_tree.specs.declared.causes.Cause.TheVariants.{NotLink, NotFile, NotEmpty, Root, Inside};
 ghost use Rattle.sftp_tree.specs.Picture.{blank};
 ghost use Rattle.sftp_tree.specs.Steps.{causes, allow, is_none, target, after, shown_to, target_to, text_to};
-ghost use Rattle.sftp_tree.specs.RequestExamples.{linked, with_directory, private_attributes, shown_link, shown_directory, with_file, with_two_names, without_file, shown_file, open_attributes, with_open_file, size_attributes, sized_attributes, with_text, with_two_files, with_moved_file, before_move, after_move, with_directories};
+ghost use Rattle.sftp_tree.specs.RequestExamples.{linked, with_directory, private_attributes, shown_link};
+ghost use Rattle.sftp_tree.specs.RequestExamples.{shown_directory, with_file, with_two_names, without_file};
+ghost use Rattle.sftp_tree.specs.RequestExamples.{shown_file, open_attributes, with_open_file, size_attributes};
+ghost use Rattle.sftp_tree.specs.RequestExamples.{sized_attributes, with_text, with_two_files, with_moved_file};
+ghost use Rattle.sftp_tree.specs.RequestExamples.{before_move, after_move, with_directories};
 
 /// SYMLINK has the target first. The link has that target unchanged, the target's length for its size, and the tree's
 /// owner. What it leads to does not exist.
@@ -152,7 +159,8 @@ pub fn set_permissions()
 /// whatever else is asked for.
 pub fn set_sizes()
     ensures cut { after with_file (Setstat (codes "/f") (size_attributes 2)) ≡ with_text (codes "he") }
-    ensures filled { after with_file (Setstat (codes "/f") (size_attributes 7)) ≡ with_text (codes "hello" ++ 0 ∷ 0 ∷ []) }
+    ensures filled { after with_file (Setstat (codes "/f") (size_attributes 7))
+        ≡ with_text (codes "hello" ++ 0 ∷ 0 ∷ []) }
     ensures directory { causes with_directory (Setstat (codes "/d") sized_attributes) NotFile ≡ true }
     ensures one_code { allow (causes with_directory (Setstat (codes "/d") sized_attributes)) 4 ≡ true }
     ensures no_other { allow (causes with_directory (Setstat (codes "/d") sized_attributes)) 2 ≡ false }

@@ -79,7 +79,8 @@ impl Tree {
     /// Whether a file at the place may have the size that is given, if one is. A node that is not a file keeps to the
     /// limits.
     fn size_fits_at(&self, attrs: &Attrs, place: &Place) -> bool
-        ensures { result ≡ room.size_fits_at (tree.limits self.now) attrs.now.size (tree.node_at self.now.names place.now) }
+        ensures { result
+            ≡ room.size_fits_at (tree.limits self.now) attrs.now.size (tree.node_at self.now.names place.now) }
     {
         !is_file(self.standing(place)) || self.size_fits(attrs)
     }

@@ -181,7 +181,8 @@ impl Tree {
     pub(crate) fn set_owner(&mut self, place: &Place, owner: Owner)
         requires directory { IsTrue (tree.is_directory (tree.node_at self.old.names place.now)) }
         requires owner { IsOwner owner }
-        ensures { self.new ≡ tree.trim (record self.old { names = tree.with_node self.old.names place.now (Dir owner) }) }
+        ensures { self.new
+            ≡ tree.trim (record self.old { names = tree.with_node self.old.names place.now (Dir owner) }) }
     {
         self.names.set_owner(place, owner);
     }
@@ -193,9 +194,11 @@ impl Tree {
     ///
     /// `NoMemory` if memory runs out; the tree is then as before.
     pub(crate) fn change_file(&mut self, number: FileNo, attrs: &Attrs) -> Result<(), NoMemory>
-        requires { IsTrue (tree.fits (steps.with_changed_file self.old attrs.now number (tree.content_at self.old.files number))) }
+        requires { IsTrue (tree.fits
+            (steps.with_changed_file self.old attrs.now number (tree.content_at self.old.files number))) }
         ensures ok { OnOk result
-            (self.new ≡ tree.trim (steps.with_changed_file self.old attrs.now number (tree.content_at self.old.files number))) }
+            (self.new
+            ≡ tree.trim (steps.with_changed_file self.old attrs.now number (tree.content_at self.old.files number))) }
         ensures err { OnErr result (self.new ≡ self.old) }
     {
         self.files.change_at(number, attrs)?;

@@ -5,7 +5,9 @@
 ghost use Rattle.std.specs.Prelude.{◌≡◌, [], ◌∷◌, Bool, true, false, Ok, Err, codes};
 ghost use Rattle.sftp_tree.specs.declared.causes.Cause.TheVariants.{BadPath, NoEntry, NotDir, Loop};
 ghost use Rattle.sftp_tree.specs.Walk.{reached};
-ghost use Rattle.sftp_tree.specs.WalkExamples.{tree_of, with_file, with_link, with_target, with_home, with_linked_home, with_two_links, with_both_targets, letters, with_chain, with_chained_file, chained};
+ghost use Rattle.sftp_tree.specs.WalkExamples.{tree_of, with_file, with_link, with_target, with_home};
+ghost use Rattle.sftp_tree.specs.WalkExamples.{with_linked_home, with_two_links, with_both_targets};
+ghost use Rattle.sftp_tree.specs.WalkExamples.{letters, with_chain, with_chained_file, chained};
 
 /// `..` behind a link leads to the parent of what the link leads to, and not to the link's; above the root it leads to
 /// the root.
@@ -30,7 +32,8 @@ pub fn links_to_themselves()
 
 /// A path that is not absolute starts at the home, whose own names are walked too; the last name need not exist.
 pub fn homes()
-    ensures absent { (follow : Bool) → reached with_home follow (codes "x/./y") ≡ Ok (codes "home" ∷ codes "u" ∷ codes "x" ∷ codes "y" ∷ []) }
+    ensures absent { (follow : Bool) →
+        reached with_home follow (codes "x/./y") ≡ Ok (codes "home" ∷ codes "u" ∷ codes "x" ∷ codes "y" ∷ []) }
     ensures absolute { (follow : Bool) → reached with_home follow (codes "/x") ≡ Ok (codes "x" ∷ []) }
     ensures nothing { (follow : Bool) → reached with_home follow [] ≡ Ok (codes "home" ∷ codes "u" ∷ []) }
     ensures linked { (follow : Bool) → reached with_linked_home follow (codes "x") ≡ Ok (codes "d" ∷ codes "x" ∷ []) }
@@ -58,7 +61,8 @@ pub fn bad_paths()
 /// The components of a target come in front of the rest, and those of a second link in front of both: `/a/z` leads
 /// over `b`, `x` and `z`, and so over `c`, `x` and `z`.
 pub fn two_links()
-    ensures { (follow : Bool) → reached with_two_links follow (codes "/a/z") ≡ Ok (codes "c" ∷ codes "x" ∷ codes "z" ∷ []) }
+    ensures { (follow : Bool) →
+        reached with_two_links follow (codes "/a/z") ≡ Ok (codes "c" ∷ codes "x" ∷ codes "z" ∷ []) }
 {}
 
 /// A target that is absolute starts at the root, and any other in the link's directory.

@@ -118,7 +118,8 @@ fn put_moved(
 ) -> Result<(), NoMemory>
     ensures { OnOk result
         (moved.new.entries
-        ≡ (if same_place place.now new.now then moved.old.entries else with_node moved.old.entries (renamed old.now new.now place.now) node.now)) }
+        ≡ (if same_place place.now new.now then moved.old.entries
+        else with_node moved.old.entries (renamed old.now new.now place.now) node.now)) }
 {
     if place == new {
         return Ok(());
