@@ -33,11 +33,11 @@ pub struct Accepted {
 ///
 /// The tree file is judged first, then the transcript file, then the session.
 ///
-/// - `Tree` where the bytes are not a tree file; the fault is the first one from left to right.
-/// - `Transcript` where the tree file is good, but the bytes are not a transcript file or record a request that cannot
-///   be judged yet; the fault is the first one from left to right.
-/// - `Refused` where both files are good and the tree does not explain the session.
-/// - `NoMemory` where memory ran out. The other errors never have `NoMemory` inside.
+/// - `Tree` if the bytes are not a tree file; the fault is the first one from left to right.
+/// - `Transcript` if the tree file is good, but the bytes are not a transcript file or record a request that cannot be
+///   judged yet; the fault is the first one from left to right.
+/// - `Refused` if both files are good and the tree does not explain the session.
+/// - `NoMemory` if memory ran out. The other errors never have `NoMemory` inside.
 pub fn audit(alloc: Global, tree: &[u8], transcript: &[u8]) -> Result<Accepted, AuditError>
     // An accepted session accounts for a run, and the result is the tree where it ends.
     ensures accepted { IfOk result (λ accepted. (start : values.Tree) × (events : List _) × (end : values.Tree)

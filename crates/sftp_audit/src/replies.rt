@@ -17,7 +17,7 @@ use sftp_wire::{Answer, Ask, Attrs, ByteString, Names, Reply, Request};
 ///
 /// # Errors
 ///
-/// `NoMemory` where memory runs out; the tree is then unchanged.
+/// `NoMemory` if memory runs out; the tree is then unchanged.
 pub fn accept(tree: &mut Tree, request: &Request, reply: &Reply) -> Result<bool, NoMemory>
     ensures allowed { IfOk result
         (λ ok. IsTrue ok → spec.Allowed tree.old request.now reply.now tree.new) }

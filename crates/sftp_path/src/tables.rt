@@ -61,7 +61,7 @@ pub fn counts<K: Ord, X>()
         IsTrue (passes value) → 0 < count table passes }
 {}
 
-/// To remove a key that is absent changes nothing.
+/// Removing a key that does not exist changes nothing.
 pub fn absent_keys<K: Ord, X>()
     ensures without { (table : Table K X) (key : K) → get K.cmp table key ≡ None → without K.cmp table key ≡ table }
 {}

@@ -13,7 +13,7 @@ fn is_fault(alloc: Global, side: Side, bytes: &[u8], fault: Fault) -> Result<boo
     Ok(alone.as_str() == expected.as_str() && followed.as_str() == expected.as_str())
 }
 
-/// Bytes that nothing can be told of yet: they are no whole packet, and the length is in range.
+/// Bytes that nothing can be said of yet: they are not a whole packet, and the length is in range.
 const BEGINNINGS: &[(Side, &[u8])] = &[
     (Side::Client, b""),
     (Side::Server, b""),
@@ -74,8 +74,8 @@ fn types(rt: HostRuntime) -> Result<(), Fail> {
     Ok(())
 }
 
-/// Who sends them, the bytes, and the first fault. After pairs that go to the end nothing can stand: a further byte
-/// begins a pair.
+/// Who sends them, the bytes, and the first fault. Nothing can follow pairs that go to the end: a further byte begins a
+/// pair.
 const ROWS: &[(Side, &[u8], Fault)] = &[
     // A length field of 0, and one of 33,997 and more.
     (Side::Client, b"\0\0\0\0", Fault::Length),
