@@ -24,10 +24,9 @@ pub struct Accepted {
 /// Says whether a tree allows every reply of a recorded session, in whatever order the replies came, and what
 /// tree the session ends in.
 ///
-/// It accepts exactly where the bytes of the tree file are a tree, those of the transcript file record a
-/// session, each reply answers one earlier request, each request is answered before 1,024 more are asked, and
-/// doing the requests one at a time in the order asked makes every reply one that the tree allows
-/// (draft-ietf-secsh-filexfer-02, section 6.1).
+/// It accepts exactly if the bytes of the tree file are a tree, those of the transcript file record a session, each
+/// reply answers one earlier request, each request is answered before 1,024 more are asked, and doing the requests one
+/// at a time in the order asked makes every reply one that the tree allows (draft-ietf-secsh-filexfer-02, section 6.1).
 ///
 /// # Errors
 ///

@@ -122,8 +122,8 @@ impl<'a> Ledger<'a> {
         Ok(())
     }
 
-    /// Notes an event: the ledger then stands for the events so far and this one. It is refused only where
-    /// nothing that comes later could put the session right.
+    /// Notes an event: the ledger then stands for the events so far and this one. It is refused only if nothing that
+    /// comes later could put the session right.
     fn note(&mut self, event: &'a Event, record: u64) -> Result<(), Refusal>
         ensures stands { OnOk result ((seen : List _) → StandsFor self.old seen →
             StandsFor self.new (seen ++ event.now ∷ [])) }

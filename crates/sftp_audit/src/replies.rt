@@ -58,7 +58,7 @@ fn judge_status(tree: &mut Tree, ask: &Ask, code: u32) -> Result<bool, NoMemory>
     Ok(causes.allow(code))
 }
 
-/// Does a request that changes the tree, where no cause refuses it. Another request is not done.
+/// Does a request that changes the tree, if no cause refuses it. Another request is not done.
 fn perform(tree: &mut Tree, ask: &Ask) -> Result<bool, NoMemory>
     ensures ok { IfOk result (λ ok. IsDone tree.old ask.now ok tree.new) }
     ensures err { OnErr result (tree.new ≡ tree.old) }
@@ -183,7 +183,7 @@ fn tells(tree: &Tree, ask: &Ask, names: &Names) -> Result<bool, NoMemory>
     }
 }
 
-/// Whether the only name is the text of the place where a path leads.
+/// Whether the only name is the text of the place that a path leads to.
 fn tells_place(tree: &Tree, path: &ByteString, names: &Names) -> Result<bool, NoMemory>
     ensures answered { IfOk result (λ ok. ok ≡ is_answer tree.now (Realpath path.now) (answers.Name names.now)) }
     ensures kept { IfOk result (λ ok. IsTrue ok → trees.IsKept tree.now) }
@@ -194,7 +194,7 @@ fn tells_place(tree: &Tree, path: &ByteString, names: &Names) -> Result<bool, No
     }
 }
 
-/// Whether the only name is the target of the link where a path leads.
+/// Whether the only name is the target of the link that a path leads to.
 fn tells_target(tree: &Tree, path: &ByteString, names: &Names) -> Result<bool, NoMemory>
     ensures answered { IfOk result (λ ok. ok ≡ is_answer tree.now (Readlink path.now) (answers.Name names.now)) }
     ensures kept { IfOk result (λ ok. IsTrue ok → trees.IsKept tree.now) }

@@ -18,7 +18,7 @@ pub fn components_of_paths()
     ensures dots { components (codes "./../x") ≡ codes "." ∷ codes ".." ∷ codes "x" ∷ [] }
 {}
 
-/// A path starts at the root where its first byte is a `/`.
+/// A path starts at the root if its first byte is a `/`.
 pub fn absolute_paths()
     ensures root { is_absolute (codes "/") ≡ true }
     ensures name { is_absolute (codes "a/") ≡ false }

@@ -60,7 +60,7 @@ pub fn counts_after_rekeying<X>()
         count (rekeyed old new table) passes ≡ count table passes }
 {}
 
-/// All entries pass a test after the move just where each one before it passes the test with its place renamed.
+/// All entries pass a test after the move exactly if each one before it passes the test with its place renamed.
 pub fn tests_after_rekeying<X>()
     ensures { (old new : Place) (table : Table Place X) (keeps : Place × X → Bool) → InOrder place_cmp table →
         NothingFrom table new →

@@ -46,8 +46,8 @@ pub fn sizes<K: Ord, X>()
         size (without K.cmp table key) + 1 ≡ size table }
 {}
 
-/// How many values pass a test: a new key adds its value to the count, a new value of a key takes the place of the
-/// old one, a removed key takes its value from the count, and the count is not 0 where some value passes.
+/// How many values pass a test: a new key adds its value to the count, a new value of a key takes the place of the old
+/// one, a removed key takes its value from the count, and the count is not 0 if some value passes.
 pub fn counts<K: Ord, X>()
     ensures put_new { (table : Table K X) (key : K) (value : X) (passes : X → Bool) → get K.cmp table key ≡ None →
         count (put K.cmp table key value) passes ≡ count table passes + (if passes value then 1 else 0) }

@@ -193,7 +193,7 @@ enum Step<'a> {
     IsBefore(&'a [u8], bool),
 }
 
-/// The place of a text, or the root where it is empty or no place's.
+/// The place of a text, or the root if it is empty or no place's.
 fn place_of(alloc: Global, text: &[u8]) -> Result<Place, NoMemory> {
     Ok(match place_of_text(alloc, text)? {
         Some(place) => place,

@@ -48,7 +48,7 @@ const OF_THE_CLIENT: &[u8] = &[
 /// The types of a server's packets.
 const OF_THE_SERVER: &[u8] = &[2, 101, 102, 103, 104, 105, 201];
 
-/// Whether a packet of that type and no field is short where the type is one of these, and else of the wrong type.
+/// Whether a packet of that type and no field is short if the type is one of these, and else of the wrong type.
 fn is_judged(alloc: Global, side: Side, types: &[u8], kind: u8) -> Result<bool, AllocError> {
     let fault = if types.contains(&kind) {
         Fault::Short
