@@ -8,7 +8,8 @@ ghost use Rattle.sftp_audit.specs.Explained.{Explained};
 ghost use Rattle.sftp_audit.specs.Examples.{with_a, with_a_and_b, with_a_and_b_bytes, with_link, handshake_bytes};
 ghost use Rattle.sftp_audit.specs.Examples.{backward_replies, backward_replies_bytes, one_unanswered};
 ghost use Rattle.sftp_audit.specs.Examples.{same_directory_twice, data_for_mkdir, opendir_of_nothing, link_session};
-ghost use Rattle.sftp_audit.specs.Examples.{one_answered_twice, of_link, with_no_permissions, above_the_root, Unexplained};
+ghost use Rattle.sftp_audit.specs.Examples.{one_answered_twice, of_link, with_no_permissions};
+ghost use Rattle.sftp_audit.specs.Examples.{above_the_root, Unexplained};
 
 /// A session without a request ends where it starts.
 pub fn nothing_asked()
@@ -26,14 +27,14 @@ pub fn out_of_order_run()
     ensures recorded { IsRecord (backward_replies 4) backward_replies_bytes }
 {}
 
-/// The same session is not explained where the removal says OK, nor where it says NO_SUCH_FILE, which would
-/// be right only in the order in which the replies came.
+/// The same session is not explained if the removal says OK, nor if it says NO_SUCH_FILE, which would be right only in
+/// the order in which the replies came.
 pub fn wrong_codes()
     ensures removed { Unexplained (backward_replies 0) }
     ensures in_order_of_arrival { Unexplained (backward_replies 2) }
 {}
 
-/// The same session is not explained where a request has no reply, nor where one has two.
+/// The same session is not explained if a request has no reply, nor if one has two.
 pub fn wrong_turns()
     ensures unanswered { Unexplained one_unanswered }
     ensures answered_twice { Unexplained one_answered_twice }
@@ -59,13 +60,13 @@ pub fn link_is_made()
     ensures { Explained Allowed blank (link_session (codes "x y" ∷ []) (of_link 3)) with_link }
 {}
 
-/// The same session is not explained where LSTAT gives another size, or leaves the permissions out.
+/// The same session is not explained if LSTAT gives another size, or leaves the permissions out.
 pub fn wrong_attributes()
     ensures other_size { Unexplained (link_session (codes "x y" ∷ []) (of_link 4)) }
     ensures no_permissions { Unexplained (link_session (codes "x y" ∷ []) (with_no_permissions 3)) }
 {}
 
-/// The same session is not explained where READLINK gives another text, or two names.
+/// The same session is not explained if READLINK gives another text, or two names.
 pub fn wrong_names()
     ensures other_text { Unexplained (link_session (codes "x" ∷ []) (of_link 3)) }
     ensures two_names { Unexplained (link_session (codes "x y" ∷ codes "x y" ∷ []) (of_link 3)) }

@@ -74,8 +74,8 @@ impl<'a> Ledger<'a> {
     ///
     /// # Errors
     ///
-    /// `IdInUse` where the id is that of an unanswered request, `Window` where the oldest unanswered request is
-    /// `WINDOW` requests back or more, and `NoMemory` where memory runs out.
+    /// `IdInUse` if the id is that of an unanswered request, `Window` if the oldest unanswered request is `WINDOW`
+    /// requests back or more, and `NoMemory` if memory runs out.
     fn ask(&mut self, request: &'a Request, record: u64) -> Result<(), Refusal>
         ensures noted { OnOk result (self.new ≡ self.old ++ (request.now, None) ∷ []) }
         ensures apart { OnOk result (is_open request.now.id self.old ≡ false) }
@@ -105,7 +105,7 @@ impl<'a> Ledger<'a> {
     ///
     /// # Errors
     ///
-    /// `UnknownReply` where no unanswered request has its id.
+    /// `UnknownReply` if no unanswered request has its id.
     fn answer(&mut self, reply: &'a Reply, record: u64) -> Result<(), Refusal>
         ensures noted { OnOk result (HasAnswer self.old reply.now self.new) }
         ensures refused { IfErr result (λ e. is_open reply.now.id self.old ≡ false) }
@@ -122,8 +122,8 @@ impl<'a> Ledger<'a> {
         Ok(())
     }
 
-    /// Notes an event: the ledger then stands for the events so far and this one. It is refused only where
-    /// nothing that comes later could put the session right.
+    /// Notes an event: the ledger then stands for the events so far and this one. It is refused only if nothing that
+    /// comes later could put the session right.
     fn note(&mut self, event: &'a Event, record: u64) -> Result<(), Refusal>
         ensures stands { OnOk result ((seen : List _) → StandsFor self.old seen →
             StandsFor self.new (seen ++ event.now ∷ [])) }
@@ -159,9 +159,9 @@ impl<'a> Ledger<'a> {
 ///
 /// # Errors
 ///
-/// A `Refusal` where a reply answers no unanswered request, a request has the id of an unanswered one, a
-/// request comes `WINDOW` requests or more after an unanswered one, or a request has no reply in the end;
-/// and `NoMemory` where memory runs out.
+/// A `Refusal` if a reply answers no unanswered request, a request has the id of an unanswered one, a request comes
+/// `WINDOW` requests or more after an unanswered one, or a request has no reply in the end; and `NoMemory` if memory
+/// runs out.
 pub fn pair(alloc: Global, events: &[Event]) -> Result<Vec<Exchange<'_>>, Refusal>
     ensures paired { IfOk result (λ exchanges. IsComplete (ledger_of exchanges.items) events.now) }
     ensures refused { IfErr result (λ e. e ≢ NoMemory → Matching events.now → IsTrue (in_window events.now) → ⊥) }

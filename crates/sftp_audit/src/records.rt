@@ -34,15 +34,13 @@ const PROTOCOL_VERSION: u32 = 3;
 /// The first fault from left to right, with the number of its record. Records count from 1, the opening has
 /// the number 0, and a number is capped at 2^64 - 1.
 ///
-/// - `Magic` where the file does not begin with `SFTPTR01`.
-/// - `Start` where the first record is no INIT of version 3 or more from the client, or the second is no
-///   VERSION 3 from the server, or the file ends before one of them begins, or a later record is an INIT or
-///   a VERSION.
-/// - `Direction` where the byte before a packet is neither `C` nor `S`.
-/// - `Wire` where a packet cannot be read; its fault is `WrongType` where the packet is a request that cannot be
-///   judged yet.
-/// - `Truncated` where the file ends inside a record.
-/// - `NoMemory` where memory runs out.
+/// - `Magic` if the file does not begin with `SFTPTR01`.
+/// - `Start` if the first record is no INIT of version 3 or more from the client, or the second is no VERSION 3 from
+///   the server, or the file ends before one of them begins, or a later record is an INIT or a VERSION.
+/// - `Direction` if the byte before a packet is neither `C` nor `S`.
+/// - `Wire` if a packet cannot be read; its fault is `WrongType` if the packet is a request that cannot be judged yet.
+/// - `Truncated` if the file ends inside a record.
+/// - `NoMemory` if memory runs out.
 pub fn read_events(alloc: Global, bytes: &[u8]) -> Result<Vec<Event>, TranscriptError>
     // The result is what the bytes record.
     ensures found { IfOk result (λ events. IsRecord events.items bytes.now) }
@@ -142,7 +140,7 @@ fn take_event(alloc: Global, bytes: &[u8], number: u64) -> Result<(Event, &[u8])
     Ok((event, rest))
 }
 
-/// The event of a packet: `Start` where the packet is an INIT or a VERSION.
+/// The event of a packet: `Start` if the packet is an INIT or a VERSION.
 fn event_of(packet: Packet, number: u64) -> Result<Event, TranscriptError>
     ensures found { IfOk result (λ event. (packet ≡ packet_of event) × IsTrue (is_judged event)) }
     ensures none { IfErr result (λ _. (event : Event) → packet ≡ packet_of event → IsTrue (is_judged event) → ⊥) }
@@ -155,7 +153,7 @@ fn event_of(packet: Packet, number: u64) -> Result<Event, TranscriptError>
     }
 }
 
-/// The event of a request: `WrongType` where the request cannot be judged yet.
+/// The event of a request: `WrongType` if the request cannot be judged yet.
 fn event_of_request(request: Request, number: u64) -> Result<Event, TranscriptError>
     ensures found { IfOk result (λ event. (event ≡ Asked request) × IsTrue (is_judged event)) }
     ensures none { IfErr result (λ _. has_step request.ask ≡ false) }
@@ -169,7 +167,7 @@ fn event_of_request(request: Request, number: u64) -> Result<Event, TranscriptEr
     Ok(Event::Asked(request))
 }
 
-/// The packet of the record in front, and the bytes behind it. `Start` where no byte is left.
+/// The packet of the record in front, and the bytes behind it. `Start` if no byte is left.
 fn take_record(alloc: Global, bytes: &[u8], number: u64) -> Result<(Packet, &[u8]), TranscriptError>
     ensures found { IfOk result (λ taken. Begins bytes.now taken.0 taken.1.now) }
     ensures only { (packet : Packet) (rest : List ℕ) → Begins bytes.now packet rest →

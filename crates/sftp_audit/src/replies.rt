@@ -17,7 +17,7 @@ use sftp_wire::{Answer, Ask, Attrs, ByteString, Names, Reply, Request};
 ///
 /// # Errors
 ///
-/// `NoMemory` where memory runs out; the tree is then unchanged.
+/// `NoMemory` if memory runs out; the tree is then unchanged.
 pub fn accept(tree: &mut Tree, request: &Request, reply: &Reply) -> Result<bool, NoMemory>
     ensures allowed { IfOk result
         (λ ok. IsTrue ok → spec.Allowed tree.old request.now reply.now tree.new) }
@@ -58,7 +58,7 @@ fn judge_status(tree: &mut Tree, ask: &Ask, code: u32) -> Result<bool, NoMemory>
     Ok(causes.allow(code))
 }
 
-/// Does a request that changes the tree, where no cause refuses it. Another request is not done.
+/// Does a request that changes the tree, if no cause refuses it. Another request is not done.
 fn perform(tree: &mut Tree, ask: &Ask) -> Result<bool, NoMemory>
     ensures ok { IfOk result (λ ok. IsDone tree.old ask.now ok tree.new) }
     ensures err { OnErr result (tree.new ≡ tree.old) }
@@ -142,7 +142,8 @@ fn shows(tree: &Tree, ask: &Ask, attrs: &Attrs) -> Result<bool, NoMemory>
 
 /// Whether a path leads to what has these attributes.
 fn shows_at(tree: &Tree, path: &ByteString, follow: bool, attrs: &Attrs) -> Result<bool, NoMemory>
-    ensures answered { IfOk result (λ ok. ok ≡ is_answer tree.now (stat_ask follow path.now) (answers.Attrs attrs.now)) }
+    ensures answered { IfOk result
+        (λ ok. ok ≡ is_answer tree.now (stat_ask follow path.now) (answers.Attrs attrs.now)) }
     ensures kept { IfOk result (λ ok. IsTrue ok → trees.IsKept tree.now) }
 {
     match value_of(tree.stat(path.as_slice(), follow))? {
@@ -182,7 +183,7 @@ fn tells(tree: &Tree, ask: &Ask, names: &Names) -> Result<bool, NoMemory>
     }
 }
 
-/// Whether the only name is the text of the place where a path leads.
+/// Whether the only name is the text of the place that a path leads to.
 fn tells_place(tree: &Tree, path: &ByteString, names: &Names) -> Result<bool, NoMemory>
     ensures answered { IfOk result (λ ok. ok ≡ is_answer tree.now (Realpath path.now) (answers.Name names.now)) }
     ensures kept { IfOk result (λ ok. IsTrue ok → trees.IsKept tree.now) }
@@ -193,7 +194,7 @@ fn tells_place(tree: &Tree, path: &ByteString, names: &Names) -> Result<bool, No
     }
 }
 
-/// Whether the only name is the target of the link where a path leads.
+/// Whether the only name is the target of the link that a path leads to.
 fn tells_target(tree: &Tree, path: &ByteString, names: &Names) -> Result<bool, NoMemory>
     ensures answered { IfOk result (λ ok. ok ≡ is_answer tree.now (Readlink path.now) (answers.Name names.now)) }
     ensures kept { IfOk result (λ ok. IsTrue ok → trees.IsKept tree.now) }

@@ -15,7 +15,7 @@ use sftp_tree::Tree;
 ///
 /// # Errors
 ///
-/// `NotAllowed` at the record of the first reply that is not allowed, and `NoMemory` where memory runs out.
+/// `NotAllowed` at the record of the first reply that is not allowed, and `NoMemory` if memory runs out.
 pub fn run(tree: &mut Tree, exchanges: &[Exchange<'_>]) -> Result<(), Refusal>
     ensures ran { OnOk result (Run Allowed tree.old (leading_pairs (ledger_of exchanges.now)) tree.new) }
     ensures refused { IfErr result (λ e. e ≢ no_memory → (end : values.Tree) →

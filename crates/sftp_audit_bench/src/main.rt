@@ -1,5 +1,6 @@
 //! The program `sftp_audit_bench`: how fast sessions are audited by `sftp_audit`, and tree files read and written by
-//! `sftp_tree`. With the word `measure` it prints figures; without arguments it does a small round of each, and prints counts only.
+//! `sftp_tree`. With the word `measure` it prints figures; without arguments it does a small round of each, and
+//! prints counts only.
 #![tactic(auto)]
 
 mod errors;

@@ -23,8 +23,8 @@ pub(crate) struct Session {
 }
 
 impl Session {
-    /// A tree with so many directories in its root, each with 99 directories and 10 links to some of them, and a session of
-    /// so many requests about it.
+    /// A tree with so many directories in its root, each with 99 directories and 10 links to some of them, and a
+    /// session of so many requests about it.
     pub(crate) fn new(alloc: Global, groups: u32, requests: u32) -> Result<Session, BenchError> {
         let groups = groups.max(1);
         let tree = grown(alloc, groups)?;

@@ -85,8 +85,8 @@ pub(crate) fn print_counts<R: AllocGlobal + Print>(rt: &R) -> Result<(), BenchEr
     Ok(())
 }
 
-/// Reads and writes a tree file of 65,536 entries and some 100 MB of file bytes, and prints how fast that was, beside a copy of its
-/// bytes; and how long a directory takes to move.
+/// Reads and writes a tree file of 65,536 entries and some 100 MB of file bytes, and prints how fast that was, beside
+/// a copy of its bytes; and how long a directory takes to move.
 pub(crate) fn print_figures<R: AllocGlobal + Clock + Print>(rt: &R) -> Result<(), BenchError> {
     let bytes = [7; FILE_BYTES];
     let file = tree_file(rt.alloc(), GROUPS, MEMBERS, &bytes)?;

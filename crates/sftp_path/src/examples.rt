@@ -3,7 +3,8 @@
 ghost use Rattle.std.specs.Prelude.{◌≡◌, ℕ, List, [], ◌∷◌, true, false, codes, Some, None};
 ghost use Rattle.std.specs.Ordering.{nat_cmp};
 ghost use Rattle.std.specs.declared.cmp.Ordering.TheVariants.{Less, Equal, Greater};
-ghost use Rattle.sftp_path.specs.Place.{Place, is_name, name_cmp, place_cmp, parent, begins, is_below, absolute, components, is_absolute, is_good_path};
+ghost use Rattle.sftp_path.specs.Place.{Place, is_name, name_cmp, place_cmp, parent, begins};
+ghost use Rattle.sftp_path.specs.Place.{is_below, absolute, components, is_absolute, is_good_path};
 ghost use Rattle.sftp_path.specs.Table.{get, put, without, from_entries};
 ghost use Rattle.sftp_path.specs.Rekeying.{renamed, rekeyed};
 
@@ -17,7 +18,7 @@ pub fn components_of_paths()
     ensures dots { components (codes "./../x") ≡ codes "." ∷ codes ".." ∷ codes "x" ∷ [] }
 {}
 
-/// A path starts at the root where its first byte is a `/`.
+/// A path starts at the root if its first byte is a `/`.
 pub fn absolute_paths()
     ensures root { is_absolute (codes "/") ≡ true }
     ensures name { is_absolute (codes "a/") ≡ false }
@@ -96,8 +97,12 @@ pub fn renamed_places()
 /// `/d` moves to `/x` with what is below it, and the entries come in their new order; `/dd` and `/f` stay.
 #[tactic(auto, unfolding(crate::specs::Rekeying::rekeyed, crate::specs::Table::from_entries, crate::specs::Table::put))]
 pub fn rekeyed_tables()
-    ensures moved { rekeyed {X = ℕ} (codes "d" ∷ []) (codes "x" ∷ []) ((codes "d" ∷ [], 1) ∷ (codes "d" ∷ codes "e" ∷ [], 2) ∷ (codes "f" ∷ [], 3) ∷ []) ≡ (codes "f" ∷ [], 3) ∷ (codes "x" ∷ [], 1) ∷ (codes "x" ∷ codes "e" ∷ [], 2) ∷ [] }
-    ensures beside { rekeyed {X = ℕ} (codes "d" ∷ []) (codes "x" ∷ []) ((codes "d" ∷ [], 1) ∷ (codes "dd" ∷ [], 2) ∷ []) ≡ (codes "dd" ∷ [], 2) ∷ (codes "x" ∷ [], 1) ∷ [] }
+    ensures moved { rekeyed {X = ℕ} (codes "d" ∷ []) (codes "x" ∷ [])
+        ((codes "d" ∷ [], 1) ∷ (codes "d" ∷ codes "e" ∷ [], 2) ∷ (codes "f" ∷ [], 3) ∷ [])
+        ≡ (codes "f" ∷ [], 3) ∷ (codes "x" ∷ [], 1) ∷ (codes "x" ∷ codes "e" ∷ [], 2) ∷ [] }
+    ensures beside { rekeyed {X = ℕ} (codes "d" ∷ []) (codes "x" ∷ [])
+        ((codes "d" ∷ [], 1) ∷ (codes "dd" ∷ [], 2) ∷ [])
+        ≡ (codes "dd" ∷ [], 2) ∷ (codes "x" ∷ [], 1) ∷ [] }
 {}
 
 /// What the premises of the laws exclude. If there is an entry at the new place, the entry that moves may be lost. What
@@ -108,5 +113,7 @@ pub fn rekeyed_without_premises()
         ≡ (codes "d" ∷ [], 1) ∷ [] }
     ensures below_itself { rekeyed {X = ℕ} (codes "d" ∷ []) (codes "d" ∷ codes "e" ∷ []) ((codes "d" ∷ [], 1) ∷ [])
         ≡ (codes "d" ∷ codes "e" ∷ [], 1) ∷ [] }
-    ensures up { rekeyed {X = ℕ} (codes "d" ∷ codes "e" ∷ []) (codes "d" ∷ []) ((codes "d" ∷ codes "e" ∷ codes "e" ∷ [], 1) ∷ []) ≡ (codes "d" ∷ codes "e" ∷ [], 1) ∷ [] }
+    ensures up { rekeyed {X = ℕ} (codes "d" ∷ codes "e" ∷ []) (codes "d" ∷ [])
+        ((codes "d" ∷ codes "e" ∷ codes "e" ∷ [], 1) ∷ [])
+        ≡ (codes "d" ∷ codes "e" ∷ [], 1) ∷ [] }
 {}

@@ -1,8 +1,10 @@
 //! Laws of paths, texts and places. The functions do nothing: each publishes its laws, theorems on the definitions
 //! that other contracts name, in its contract.
-ghost use Rattle.std.specs.Prelude.{◌≡◌, ◌&&◌, ◌++◌, ◌∷◌, nat_lt, true, ℕ, List, [], Option, Some, IsTrue, IfSome, IfNone, length, drop};
+ghost use Rattle.std.specs.Prelude.{◌≡◌, ◌&&◌, ◌++◌, ◌∷◌, nat_lt, true, ℕ, List, []};
+ghost use Rattle.std.specs.Prelude.{Option, Some, IsTrue, IfSome, IfNone, length, drop};
 ghost use Rattle.std.specs.List.{list_all};
-ghost use Rattle.sftp_path.specs.Place.{Name, Place, are_names, is_step, is_inner, begins, is_below, parent, absolute, parts, components, is_absolute, is_good_path};
+ghost use Rattle.sftp_path.specs.Place.{Name, Place, are_names, is_step, is_inner, begins, is_below};
+ghost use Rattle.sftp_path.specs.Place.{parent, absolute, parts, components, is_absolute, is_good_path};
 ghost use Rattle.sftp_path.specs.Text.{IsTextOf, with_slashes};
 
 /// Two places whose absolute texts are equal are equal.

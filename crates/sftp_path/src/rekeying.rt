@@ -41,13 +41,15 @@ pub fn rekeyed_is_one<X>()
     ensures left { (old new : Place) (table other : Table Place X) → InOrder place_cmp other → NothingFrom table new →
         ((rest : Place) → get place_cmp other (new ++ rest) ≡ get place_cmp table (old ++ rest)) →
         NothingFrom other old →
-        ((place : Place) → begins old place ≡ false → begins new place ≡ false → get place_cmp other place ≡ get place_cmp table place) →
+        ((place : Place) → begins old place ≡ false → begins new place ≡ false →
+        get place_cmp other place ≡ get place_cmp table place) →
         other ≡ rekeyed old new table }
     ensures left_beside { (old new : Place) (table other : Table Place X) → InOrder place_cmp other →
         NothingFrom table new →
         ((rest : Place) → get place_cmp other (new ++ rest) ≡ get place_cmp table (old ++ rest)) →
         ((place : Place) → begins old place ≡ true → begins new place ≡ false → get place_cmp other place ≡ None) →
-        ((place : Place) → begins old place ≡ false → begins new place ≡ false → get place_cmp other place ≡ get place_cmp table place) →
+        ((place : Place) → begins old place ≡ false → begins new place ≡ false →
+        get place_cmp other place ≡ get place_cmp table place) →
         other ≡ rekeyed old new table }
 {}
 
@@ -58,7 +60,7 @@ pub fn counts_after_rekeying<X>()
         count (rekeyed old new table) passes ≡ count table passes }
 {}
 
-/// All entries pass a test after the move just where each one before it passes the test with its place renamed.
+/// All entries pass a test after the move exactly if each one before it passes the test with its place renamed.
 pub fn tests_after_rekeying<X>()
     ensures { (old new : Place) (table : Table Place X) (keeps : Place × X → Bool) → InOrder place_cmp table →
         NothingFrom table new →

@@ -1,11 +1,13 @@
 //! Laws of tables, the finite maps of which the definitions of trees and sessions are made. The functions do nothing:
 //! each publishes its laws in its contract.
-ghost use Rattle.std.specs.Prelude.{◌≡◌, ◌≢◌, ◌+◌, ◌<◌, ◌&&◌, ℕ, Bool, List, [], Some, None, if◌then◌else◌, IsTrue, option_map};
+ghost use Rattle.std.specs.Prelude.{◌≡◌, ◌≢◌, ◌+◌, ◌<◌, ◌&&◌, ℕ, Bool, List, []};
+ghost use Rattle.std.specs.Prelude.{Some, None, if◌then◌else◌, IsTrue, option_map};
 ghost use Rattle.std.specs.List.{list_all};
 ghost use Rattle.std.specs.Ordering.{nat_cmp};
 ghost use Rattle.std.specs.declared.cmp.Ordering.TheVariants.{Equal};
 ghost use Rattle.sftp_path.specs.Place.{Place, bytes_cmp, place_cmp};
-ghost use Rattle.sftp_path.specs.Table.{Table, InOrder, get, put, without, retain, from_entries, size, count, kept, with_values};
+ghost use Rattle.sftp_path.specs.Table.{Table, InOrder, get, put, without, retain};
+ghost use Rattle.sftp_path.specs.Table.{from_entries, size, count, kept, with_values};
 
 /// What a key has after each operation, for keys of any order and any values.
 pub fn answers<K: Ord, X>()
@@ -44,8 +46,8 @@ pub fn sizes<K: Ord, X>()
         size (without K.cmp table key) + 1 ≡ size table }
 {}
 
-/// How many values pass a test: a new key adds its value to the count, a new value of a key takes the place of the
-/// old one, a removed key takes its value from the count, and the count is not 0 where some value passes.
+/// How many values pass a test: a new key adds its value to the count, a new value of a key takes the place of the old
+/// one, a removed key takes its value from the count, and the count is not 0 if some value passes.
 pub fn counts<K: Ord, X>()
     ensures put_new { (table : Table K X) (key : K) (value : X) (passes : X → Bool) → get K.cmp table key ≡ None →
         count (put K.cmp table key value) passes ≡ count table passes + (if passes value then 1 else 0) }
@@ -59,7 +61,7 @@ pub fn counts<K: Ord, X>()
         IsTrue (passes value) → 0 < count table passes }
 {}
 
-/// To remove a key that is absent changes nothing.
+/// Removing a key that does not exist changes nothing.
 pub fn absent_keys<K: Ord, X>()
     ensures without { (table : Table K X) (key : K) → get K.cmp table key ≡ None → without K.cmp table key ≡ table }
 {}

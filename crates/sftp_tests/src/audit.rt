@@ -39,7 +39,7 @@ enum Verdict<'a> {
     Accepted(u64, &'a [u8]),
     /// The session is refused.
     Refused(Refusal),
-    /// The transcript file is none.
+    /// The transcript file is not one.
     Transcript(TranscriptError),
 }
 

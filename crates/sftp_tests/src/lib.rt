@@ -1,5 +1,5 @@
 //! Tests of the public calls of all libraries of this repository, in modules by crate. A crate with tests is
-//! proved twice, so they stand here, and the libraries have none.
+//! proved twice, so they are here, and the libraries have none.
 //!
 //! A test goes over a table of cases, each with what it has to give, worked out by hand. The assertion names the
 //! case that fails.

@@ -80,7 +80,7 @@ fn names(alloc: Global, component: &[u8]) -> Result<bool, NoMemory> {
     }
 }
 
-/// Whether it is none, and no `Name` is made of it.
+/// Whether it is not a name, and no `Name` is made of it.
 fn names_nothing(alloc: Global, component: &[u8]) -> Result<bool, NoMemory> {
     Ok(!is_name(component) && Name::from_slice(alloc, component)?.is_none())
 }
@@ -110,7 +110,7 @@ fn dots(rt: HostRuntime) {
     assert!(rt; is_dot_dot(b"..") && !is_dot_dot(b".") && !is_dot_dot(b"..."));
 }
 
-/// Whether one name stands before the other, and is its own copy.
+/// Whether one name is before the other, and is its own copy.
 fn are_in_order(low: &Name, high: &Name, copy: &Name) -> bool {
     low < high && low != high && copy == low
 }
@@ -187,13 +187,13 @@ enum Step<'a> {
     IsRoot,
     /// It has this text and so many names.
     Is(&'a [u8], usize),
-    /// The place of this text stands before it, and lies above it where this says so.
+    /// The place of this text is before it, and is above it if this says so.
     IsBehind(&'a [u8], bool),
-    /// The place of this text stands behind it, and lies below it where this says so.
+    /// The place of this text is behind it, and is below it if this says so.
     IsBefore(&'a [u8], bool),
 }
 
-/// The place of a text, or the root where it is empty or no place's.
+/// The place of a text, or the root if it is empty or no place's.
 fn place_of(alloc: Global, text: &[u8]) -> Result<Place, NoMemory> {
     Ok(match place_of_text(alloc, text)? {
         Some(place) => place,
@@ -225,7 +225,7 @@ fn is_there(alloc: Global, place: &Place, text: &[u8], depth: usize) -> Result<b
     )
 }
 
-/// Whether the place of a text stands before another, and lies above it where this says so.
+/// Whether the place of a text is before another, and is above it if `lies_above` says so.
 fn is_behind(
     alloc: Global,
     place: &Place,
@@ -236,7 +236,7 @@ fn is_behind(
     Ok(other < *place && place.starts_with(&other) == lies_above && !other.starts_with(place))
 }
 
-/// Whether the place of a text stands behind another, and lies below it where this says so.
+/// Whether the place of a text is behind another, and is below it if `lies_below` says so.
 fn is_before(
     alloc: Global,
     place: &Place,
@@ -297,7 +297,7 @@ fn first_wrong(
     Ok(None)
 }
 
-/// From `/a` on. `/a/z` stands before `/a!`, though its text is greater.
+/// From `/a` on. `/a/z` is before `/a!`, though its text is greater.
 const WAY: &[Step] = &[
     Step::Is(b"/a", 1),
     Step::Enter(b"b"),

@@ -14,7 +14,7 @@ mod pictures;
 #[derive(Clone, Copy)]
 enum Given {
     Nothing,
-    /// An owner and permissions, and a size, which counts for nothing where a directory is made.
+    /// An owner and permissions, and a size, which counts for nothing when a directory is made.
     Owner(u32, u32, u32),
     Permissions(u32),
     Size(u64),
@@ -98,7 +98,7 @@ enum Step<'a> {
     Done(Call<'a>),
     /// The request is refused with the cause.
     Refused(Call<'a>, Cause),
-    /// STAT, or LSTAT where a last link is not followed, shows the size, the owner and the permissions alone.
+    /// STAT, or LSTAT if a last link is not followed, shows the size, the owner and the permissions alone.
     Shows(&'a [u8], bool, u64, (u32, u32), u32),
     /// REALPATH gives the text.
     Leads(&'a [u8], &'a [u8]),
@@ -114,7 +114,7 @@ enum Step<'a> {
     Chains(u8),
 }
 
-/// Whether STAT, or LSTAT where links are not followed, shows the size, the owner and the permissions alone.
+/// Whether STAT, or LSTAT if links are not followed, shows the size, the owner and the permissions alone.
 fn shows(tree: &Tree, path: &[u8], follow: bool, size: u64, owner: (u32, u32), bits: u32) -> bool {
     match tree.stat(path, follow) {
         Ok(attrs) => {

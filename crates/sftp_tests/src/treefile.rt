@@ -59,7 +59,7 @@ const F: &[u8] = b"F\0\0\0\0\0\0\0\0\0\0\x01\xa4\0\0\0\x03abc";
 /// `H` with the number 1.
 const H: &[u8] = b"H\0\0\0\x01";
 
-/// The blank tree's head but for the count, and then these pieces.
+/// The blank tree's head without the count, and then these pieces.
 fn with_pieces(alloc: Global, count: u32, pieces: &[&[u8]]) -> Result<Vec<u8>, AllocError> {
     let mut file = Vec::from_slice(alloc, b"SFTREE01\0\0\0\x01/\0\0\0\0\0\0\0\0")?;
     file.extend_from_slice(&count.to_be_bytes())?;
@@ -190,7 +190,7 @@ fn whole_files(rt: HostRuntime) -> Result<(), Fail> {
     Ok(())
 }
 
-/// The blank tree's head, but for the count.
+/// The blank tree's head, without the count.
 fn head(alloc: Global, count: u32) -> Result<Head, AllocError>
     ensures { IfOk result (λ head. length head.home < 2 ^ 32) }
 {

@@ -1,4 +1,4 @@
--- Tables of places: what holds of each entry, in what order entries stand, and what is left without one.
+-- Tables of places: what holds of each entry, in what order the entries are, and what is left without one.
 pub mod Rising
 pub mod Below
 pub mod Removals

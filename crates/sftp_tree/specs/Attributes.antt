@@ -1,5 +1,5 @@
--- What attributes say of a request and of an entry (draft-ietf-secsh-filexfer-02, section 5). What stands for those
--- that are not given is this profile's own.
+-- What attributes say of a request and of an entry (draft-ietf-secsh-filexfer-02, section 5). The defaults are this
+-- profile's own.
 use Rattle.std.specs.Prelude.{ℕ, ◌+◌, ◌-◌, ◌%◌, ◌^◌, List, ◌++◌, length, take, replicate, Option, Some, None, unwrap_or}
 use Rattle.std.specs.Option.{option_map}
 use Rattle.sftp_wire.specs.declared.attributes.Attrs.{Attrs}
@@ -9,7 +9,8 @@ use Rattle.sftp_tree.specs.declared.nodes.Node.{Node}
 use Rattle.sftp_tree.specs.declared.nodes.Node.TheVariants.{Dir, File, Link}
 use Rattle.sftp_tree.specs.Tree.{Tree, content_at}
 
--- the owner of a new directory: that given, else the tree's, and of the permissions given the low twelve bits, else 0o755
+-- the owner of a new directory: that given, else the tree's, and of the permissions given the low twelve bits, else
+-- 0o755
 abbrev pub directory_owner : Tree → Attrs → Owner
 directory_owner t attrs = record {
   uid = unwrap_or (option_map (λ o. o.0) attrs.owner) t.uid;
@@ -17,8 +18,8 @@ directory_owner t attrs = record {
   permissions = unwrap_or (option_map (λ p. p % 2 ^ 12) attrs.permissions) 0o755;
 }
 
--- the owner of what is there already: that given, else as it was, and of the permissions given the low twelve bits, else as they
--- were
+-- the owner of an existing entry: that given, else as it was, and of the permissions given the low twelve bits, else as
+-- they were
 abbrev pub changed_owner : Attrs → Owner → Owner
 changed_owner attrs owner = record {
   uid = unwrap_or (option_map (λ o. o.0) attrs.owner) owner.uid;
@@ -45,8 +46,8 @@ said size uid gid permissions = record { size = Some size; owner = Some (uid, gi
 abbrev pub shown_content : Content → Attrs
 shown_content content = said (length content.bytes) content.owner.uid content.owner.gid (0o100000 + content.owner.permissions)
 
--- what is shown of an entry: of a directory the size 0, of a file its bytes' count, of a link its target's length and the tree's
--- owner; the permissions with the bits of the type
+-- the attributes shown of an entry: of a directory the size 0, of a file its bytes' count, of a link its target's
+-- length and the tree's owner; the permissions with the bits of the type
 abbrev pub shown : Tree → Node → Option Attrs
 shown t (Dir owner) = Some (said 0 owner.uid owner.gid (0o040000 + owner.permissions))
 shown t (File number) = option_map shown_content (content_at t.files number)

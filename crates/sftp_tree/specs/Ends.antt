@@ -8,7 +8,7 @@ use Rattle.sftp_tree.specs.Tree.{Tree}
 use Rattle.sftp_tree.specs.Walking.{IsPlaceOf}
 use Rattle.sftp_tree.specs.Steps.{led, new_led}
 
--- the place of a second path, where there is one
+-- the place of a second path, if there is one
 abbrev pub ok_where : Option Place → Option (Result Place Cause)
 ok_where None = None
 ok_where (Some place) = Some (Ok place)

@@ -18,7 +18,7 @@ use Rattle.sftp_tree.specs.Tree.{Names, Files, Tree, WellFormed, IsTrimmed, fits
 
 -- ---- what the tree file of a tree says
 
--- the number of the first entry that is a name of the file of this number; the root, which is none, comes first with
+-- the number of the first entry that is a name of the file of this number; the root, which is not one, comes first with
 -- the number 0
 abbrev pub entry_naming : ℕ → Names → Option ℕ
 entry_naming number [] = None
@@ -27,7 +27,7 @@ entry_naming number (e ∷ es) = if names_file number e.1 then Some 0 else optio
 abbrev pub no_owner : Owner
 no_owner = record { uid = 0; gid = 0; permissions = 0 }
 
--- a name of a file is a further one where an earlier entry is its name; the first one comes with the file
+-- a name of a file is a further one if an earlier entry is its name; the first one comes with the file
 abbrev pub naming : Option ℕ → Option Content → Kind
 naming (Some entry) content = kinds.Further entry
 naming None (Some content) = kinds.First content.owner content.bytes
@@ -73,7 +73,7 @@ picture t = spelled (file_of t)
 
 -- ---- the tree of a tree file
 
--- where so many numbers are given to files, whether a name's number is one of them or the next
+-- whether a name's number is one of so many that were given to files, or the next
 abbrev pub is_given_or_next : Node → ℕ → Bool
 is_given_or_next (Dir owner) given = true
 is_given_or_next (File number) given = nat_le number given
@@ -103,6 +103,6 @@ pub record IsStart (t : Tree) (bytes : List ℕ) : Type 0 where
 abbrev pub GivesTree : Result Tree TreeError → Tree → Type 0
 GivesTree result t = MatchResult result (λ u. u ≡ t) (λ error. error ≡ NoMemory)
 
--- nothing but a root with permissions 0o755, which is the home; the user and the group 0 own everything
+-- the root alone, with permissions 0o755, which is the home; the user 0 and the group 0 own everything
 abbrev pub blank : Tree
 blank = record { names = ([], Dir (record { uid = 0; gid = 0; permissions = 0o755 })) ∷ []; files = []; made = 0; pins = []; limits = usual_limits; home = []; uid = 0; gid = 0 }

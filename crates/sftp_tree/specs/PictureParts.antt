@@ -1,4 +1,4 @@
--- The tree that a tree file speaks of, and what the code keeps on its way from the one to the other.
+-- The tree that a tree file describes, and what the code keeps on its way from the one to the other.
 use Rattle.std.specs.Prelude.{◌≡◌, ℕ, suc, ◌+◌, ◌-◌, ◌≤◌, ◌<◌, ◌^◌, List, [], ◌∷◌, ◌++◌, length, take, slice_index, Option, Some, None, IfSome}
 use Rattle.std.specs.List.{flat_map, AllByRecursion}
 use Rattle.std.specs.Ordering.{nat_cmp}
@@ -30,7 +30,7 @@ content_of (kinds.Link target) = []
 abbrev pub contents_of : List Row → List Content
 contents_of rows = flat_map (λ (r : Row). content_of r.kind) rows
 
--- the entry behind these; a further name is of the file of the first name that it tells the number of
+-- the entry behind these; a further name is of the file of the first name whose number it has
 abbrev pub node_of : List Row → Kind → Node
 node_of earlier (kinds.Dir owner) = Dir owner
 node_of earlier (kinds.First owner bytes) = File (length (contents_of earlier))
@@ -56,7 +56,7 @@ abbrev pub numbered_from : ℕ → List Content → Files
 numbered_from number [] = []
 numbered_from number (content ∷ contents) = (number, content) ∷ numbered_from (suc number) contents
 
--- the tree that a tree file speaks of
+-- the tree that a tree file describes
 abbrev pub tree_of : TreeFile → Tree
 tree_of file = record {
   names = names_of file.root file.rows;
@@ -71,7 +71,7 @@ tree_of file = record {
 
 -- ---- on the way to the tree
 
--- for each entry how many files those before it come with, which is the number of its own file where it comes with one
+-- for each entry how many files those before it come with, which is the number of its own file if it comes with one
 abbrev pub numbers_from : ℕ → List Row → List ℕ
 numbers_from number [] = []
 numbers_from number (row ∷ rows) = number ∷ numbers_from (number + length (content_of row.kind)) rows
@@ -110,7 +110,7 @@ AreWithEntry numbers next (kinds.First owner bytes) before after =
 AreWithEntry numbers next (kinds.Further entry) before after = IsChanged with_a_name (known_number numbers entry) before after
 AreWithEntry numbers next (kinds.Link target) before after = after ≡ before
 
--- these are the entries and the files where a tree file has these rows
+-- these are the entries and the files of a tree file with these rows
 pub record IsGrown (root : Owner) (rows : List Row) (names : Names) (stores : Stores) : Type 0 where
   pub names_are : names ≡ names_of root rows
   pub contents_are : contents stores ≡ numbered_from 0 (contents_of rows)

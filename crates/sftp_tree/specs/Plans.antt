@@ -1,4 +1,4 @@
--- What is to be done for a request.
+-- The plans of requests.
 use Rattle.std.specs.Prelude.{◌≡◌, false, if◌then◌else◌, Option, Some, None, IsTrue}
 use Rattle.sftp_path.specs.Place.{Place, parent, are_names}
 use Rattle.sftp_treefile.specs.TreeFile.{IsOwner, are_bytes, is_root, same_place}
@@ -14,7 +14,7 @@ use Rattle.sftp_tree.specs.Tree.{Tree, IsTrimmed, IsNode, fits, node_at, is_take
 use Rattle.sftp_tree.specs.Attributes.{directory_owner}
 use Rattle.sftp_tree.specs.Steps.{are_one, goes_inside, with_entry, without_entry, with_attributes, put_in_its_stead, after}
 
--- the tree with that done; files that lost their last name are still there
+-- the tree with the plan carried out; files that lost their last name still exist
 abbrev pub changed : Tree → Plan → Tree
 changed t Nothing = t
 changed t (Put place node) = with_entry t place node
@@ -24,7 +24,7 @@ changed t (Set place attrs) = with_attributes t attrs.now place (node_at t.names
 
 -- ---- what can be done
 
--- this can be put there
+-- the node can be put at the place
 pub record CanPut (t : Tree) (place : Place) (node : Node) : Type 0 where
   pub absent : node_at t.names place ≡ None
   pub named : IsTrue (are_names place)
@@ -32,13 +32,13 @@ pub record CanPut (t : Tree) (place : Place) (node : Node) : Type 0 where
   pub is_node : IsNode t.files node
   pub room : IsTrue (fits (with_entry t place node))
 
--- what stands there can be removed
+-- the node at the place can be removed
 pub record CanTake (t : Tree) (place : Place) : Type 0 where
   pub taken : IsTrue (is_taken (node_at t.names place))
   pub below_root : is_root place ≡ false
   pub empty : has_entries t.names place ≡ false
 
--- what stands at the old place can go to the new one
+-- the node at the old place can move to the new one
 pub record CanMove (t : Tree) (old new : Place) : Type 0 where
   pub taken : IsTrue (is_taken (node_at t.names old))
   pub old_below_root : is_root old ≡ false
@@ -83,18 +83,18 @@ IsPlanBetween t (PosixRename oldpath newpath) old new plan = plan ≡ (if are_on
 IsPlanBetween t (Hardlink oldpath newpath) old new plan = IsNaming (node_at t.names old) new plan
 IsPlanBetween t other old new plan = plan ≡ Nothing
 
--- the owner of a directory that is made is one, and the target of a link is bytes
+-- the owner of a new directory is an owner, and the target of a new link is bytes
 abbrev pub HasNode : Tree → Ask → Type 0
 HasNode t (Mkdir path attrs) = IsOwner (directory_owner t attrs)
 HasNode t (Symlink target link) = IsTrue (are_bytes target)
 HasNode t other = Unit {0}
 
--- only of a file is a name made
+-- only a file gets a further name
 abbrev pub IsFileAt : Tree → Ask → Place → Type 0
 IsFileAt t (Hardlink oldpath newpath) old = IsTrue (is_file (node_at t.names old))
 IsFileAt t other old = Unit {0}
 
--- it can be done, and leaves what the request asks for
+-- the plan can be carried out, and leaves the tree after the request
 pub record IsPlanned (t : Tree) (ask : Ask) (plan : Plan) : Type 0 where
   pub ready : IsReady t plan
   pub done : trim (changed t plan) ≡ after t ask

@@ -1,4 +1,5 @@
--- What the worked rows of requests name: small trees whose home is the root, and what is shown of their entries.
+-- What the worked examples of requests name: small trees whose home is the root, and the attributes shown of their
+-- entries.
 use Rattle.std.specs.Prelude.{ℕ, List, [], ◌∷◌, Some, codes}
 use Rattle.sftp_wire.specs.declared.attributes.Attrs.{Attrs}
 use Rattle.sftp_wire.specs.Examples.{no_attributes}
@@ -27,7 +28,7 @@ with_directory = tree_with (codes "d" ∷ []) (Dir (record { uid = 1000; gid = 1
 abbrev pub private_attributes : Attrs
 private_attributes = record no_attributes { owner = Some (1000, 100); permissions = Some 0o100700 }
 
--- what is shown of the link, and of the directory
+-- the attributes shown of the link, and of the directory
 abbrev pub shown_link : Attrs
 shown_link = record no_attributes { size = Some 3; owner = Some (0, 0); permissions = Some 0o120777 }
 
@@ -52,11 +53,11 @@ with_text bytes = holding ((codes "f" ∷ [], File 0) ∷ []) (record hello { by
 abbrev pub with_two_names : Tree
 with_two_names = holding ((codes "f" ∷ [], File 0) ∷ (codes "g" ∷ [], File 0) ∷ []) hello
 
--- the file is gone, and its number is not given again
+-- the file does not exist any more, and its number is not given again
 abbrev pub without_file : Tree
 without_file = record (tree_of []) { made = 1 }
 
--- what is shown of it
+-- the attributes shown of it
 abbrev pub shown_file : Attrs
 shown_file = record no_attributes { size = Some 5; owner = Some (1000, 100); permissions = Some 0o100644 }
 
@@ -80,7 +81,7 @@ sized_attributes = record no_attributes { size = Some 0; owner = Some (1000, 100
 abbrev pub with_two_files : Tree
 with_two_files = record (tree_of ((codes "f" ∷ [], File 0) ∷ (codes "g" ∷ [], File 1) ∷ [])) { files = (0, hello) ∷ (1, empty_file) ∷ []; made = 2 }
 
--- `/g` is the name of the first, and the other is gone
+-- `/g` is the name of the first, and the other does not exist any more
 abbrev pub with_moved_file : Tree
 with_moved_file = record (holding ((codes "g" ∷ [], File 0) ∷ []) hello) { made = 2 }
 
@@ -90,7 +91,7 @@ with_moved_file = record (holding ((codes "g" ∷ [], File 0) ∷ []) hello) { m
 abbrev pub before_move : Tree
 before_move = holding ((codes "d" ∷ [], directory) ∷ (codes "d" ∷ codes "e" ∷ [], directory) ∷ (codes "d" ∷ codes "e" ∷ codes "f" ∷ [], File 0) ∷ (codes "t" ∷ [], directory) ∷ []) hello
 
--- `/x` with all below it in the stead of `/d`
+-- `/x` with all below it in place of `/d`
 abbrev pub after_move : Tree
 after_move = holding ((codes "t" ∷ [], directory) ∷ (codes "x" ∷ [], directory) ∷ (codes "x" ∷ codes "e" ∷ [], directory) ∷ (codes "x" ∷ codes "e" ∷ codes "f" ∷ [], File 0) ∷ []) hello
 

@@ -10,24 +10,24 @@ use Rattle.sftp_tree.specs.declared.causes.Cause.{Cause}
 use Rattle.sftp_tree.specs.Tree.{Tree, Names, limits, node_at, is_file, depth_fits}
 use Rattle.sftp_tree.specs.Steps.{are_one}
 
--- whether one entry more, at a new place, keeps to the limits: the root is one of the places and no entry
+-- whether one more entry, at a new place, keeps to the limits; the root is a place, but does not count as an entry
 abbrev pub has_room : Tree → Place → Bool
 has_room t place = nat_le (length t.names) (limits t).entries && depth_fits place
 
--- whether a file may have the size that is given, where one is
+-- whether a file may have the size that is given, if one is
 abbrev pub size_fits : TreeLimits → Option ℕ → Bool
 size_fits bounds None = true
 size_fits bounds (Some size) = nat_le size bounds.file_bytes
 
--- the same, where a file stands
+-- the same, if the node is a file
 abbrev pub size_fits_at : TreeLimits → Option ℕ → Option Node → Bool
 size_fits_at bounds size standing = not (is_file standing) || size_fits bounds size
 
--- whether no place that the first begins has more names than so many behind it
+-- whether each place that begins with the first has at most so many names behind it
 abbrev pub reaches_at_most : Names → Place → ℕ → Bool
 reaches_at_most names top room = list_all (λ e. not (begins top e.0) || nat_le (length e.0 - length top) room) names
 
--- whether what stands at the old place, with all below it, keeps to the most names of a place at the new one
+-- whether the node at the old place, with all below it, keeps to the limit of names in a place at the new one
 abbrev pub move_fits : Names → Place → Place → Bool
 move_fits names old new = nat_le (length new) depth_limit && reaches_at_most names old (depth_limit - length new)
 

@@ -17,7 +17,7 @@ in_set s cause = bit_at s.bits (row cause) == 1
 abbrev pub IsFree : Tree → Ask → Type 0
 IsFree t ask = IsTrue (is_none (causes t ask))
 
--- a refusal is a cause that holds, or tells that memory ran out
+-- a refusal is a cause that holds, or says that memory ran out
 abbrev pub IsRefusal : Tree → Ask → Refused → Type 0
 IsRefusal t ask (Cause cause) = IsTrue (causes t ask cause)
 IsRefusal t ask NoMemory = Unit {0}

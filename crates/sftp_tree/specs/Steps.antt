@@ -1,6 +1,6 @@
 -- Why requests are refused, and what they do to a tree (draft-ietf-secsh-filexfer-02, sections 6.5 to 6.11; OpenSSH's
--- PROTOCOL, section 4.1 for the order of SYMLINK's arguments, 4.3 for posix-rename and 4.5 for hardlink). The causes, the codes that
--- each of them allows, and which walks follow a last link are this profile's own.
+-- PROTOCOL, section 4.1 for the order of SYMLINK's arguments, 4.3 for posix-rename and 4.5 for hardlink). The causes,
+-- the codes that each of them allows, and which walks follow a last link are this profile's own.
 use Rattle.std.specs.Prelude.{◌==◌, ◌&&◌, ◌||◌, not, ℕ, Bool, true, false, if◌then◌else◌, List, [], ◌∷◌, Option, Some, None, is_some, Result, Ok, Err}
 use Rattle.std.specs.Option.{option_map}
 use Rattle.std.specs.List.{list_any}
@@ -43,8 +43,8 @@ row NoRoom = 11
 abbrev pub every_cause : List Cause
 every_cause = BadPath ∷ NoEntry ∷ NotDir ∷ Loop ∷ Exists ∷ IsDir ∷ NotLink ∷ NotFile ∷ NotEmpty ∷ Root ∷ Inside ∷ NoRoom ∷ []
 
--- the status codes that a cause allows (draft, section 7): 2 says that there is no such file, 4 that the request failed, 5 that
--- the message is bad
+-- the status codes that a cause allows (draft, section 7): 2 says that there is no such file, 4 that the request
+-- failed, 5 that the message is bad
 abbrev pub allows : Cause → ℕ → Bool
 allows BadPath code = code == 4 || code == 5
 allows NoEntry code = code == 2
@@ -59,11 +59,11 @@ only one cause = row one == row cause
 unfoldable pub no_causes : CauseSet
 no_causes cause = false
 
--- the set with this cause too, where that holds
+-- the set with this cause too, if it holds
 unfoldable pub when : CauseSet → Cause → Bool → CauseSet
 when set one holds cause = only one cause && holds || set cause
 
--- the causes of either set
+-- the causes that are in either set
 unfoldable pub joined : CauseSet → CauseSet → CauseSet
 joined one other cause = one cause || other cause
 
@@ -77,23 +77,23 @@ allow causes code = list_any (λ cause. causes cause && allows cause code) every
 
 -- ---- the causes at the place that a path leads to
 
--- of what is to be made there
+-- of a node that is to be made
 abbrev pub making_causes : Option Node → CauseSet
 making_causes standing = when no_causes Exists (is_taken standing)
 
--- of what is to be there
+-- of a node that must exist
 abbrev pub needing_causes : Option Node → CauseSet
 needing_causes standing = when no_causes NoEntry (not (is_taken standing))
 
--- of a link that is to be there
+-- of a node that must be a link
 abbrev pub link_causes : Option Node → CauseSet
 link_causes standing = when (needing_causes standing) NotLink (is_taken standing && not (is_link standing))
 
--- of a file that is to be there
+-- of a node that must be a name of a file
 abbrev pub file_causes : Option Node → CauseSet
 file_causes standing = when (needing_causes standing) NotFile (is_taken standing && not (is_file standing))
 
--- of what is there and is to get these attributes: only a file has a size that can be set
+-- of a node that is to get these attributes: only a file has a size that can be set
 abbrev pub setting_causes : Attrs → Option Node → CauseSet
 setting_causes attrs standing = when (needing_causes standing) NotFile (is_some attrs.size && (is_taken standing && not (is_file standing)))
 
@@ -102,15 +102,15 @@ abbrev pub removing_causes : Names → Place → CauseSet
 removing_causes names place =
     when (when (when (needing_causes (node_at names place)) NotDir (is_taken (node_at names place) && not (is_directory (node_at names place)))) NotEmpty (is_directory (node_at names place) && has_entries names place)) Root (is_root place)
 
--- of a name that is to be removed, which is no directory's
+-- of a name that is to be removed, and must not be a directory
 abbrev pub unlinking_causes : Option Node → CauseSet
 unlinking_causes standing = when (needing_causes standing) IsDir (is_directory standing)
 
--- of what is to go from there to another place
+-- of a node that is to move to another place
 abbrev pub leaving_causes : Names → Place → CauseSet
 leaving_causes names place = when (needing_causes (node_at names place)) Root (is_root place)
 
--- of a place that is to be given to something else
+-- of a place that is to get another node
 abbrev pub giving_causes : Place → CauseSet
 giving_causes place = when no_causes Root (is_root place)
 
@@ -133,20 +133,21 @@ are_one_file _ _ = false
 abbrev pub are_one : Names → Place → Place → Bool
 are_one names old new = same_place old new || are_one_file (node_at names old) (node_at names new)
 
--- of what is to go to a place that is free
+-- of a move to a free place
 abbrev pub moving_causes : Names → Place → Place → CauseSet
 moving_causes names old new = when no_causes Inside (goes_inside names old new)
 
--- of what is to come in the stead of something else: a directory replaces an empty directory, and anything else what is no directory
+-- of a node that is to replace another: a directory replaces an empty directory, and any other node one that is not a
+-- directory
 abbrev pub clashing_causes : Option Node → Option Node → Bool → CauseSet
 clashing_causes goes stays entries =
     when (when (when no_causes NotDir (is_directory goes && (is_taken stays && not (is_directory stays)))) IsDir ((is_taken goes && not (is_directory goes)) && is_directory stays)) NotEmpty (is_directory goes && (is_directory stays && entries))
 
--- of what is to go to a place where something else may stand, in its stead
+-- of a move that replaces the node at the new place, if there is one
 abbrev pub replacing_causes : Names → Place → Place → CauseSet
 replacing_causes names old new = when (clashing_causes (node_at names old) (node_at names new) (has_entries names new)) Inside (goes_inside names old new)
 
--- to the same place, or from one name of a file to another, nothing goes
+-- nothing moves if both are the same place, or names of one file
 abbrev pub exchanging_causes : Names → Place → Place → CauseSet
 exchanging_causes names old new = if are_one names old new then no_causes else replacing_causes names old new
 
@@ -157,45 +158,46 @@ abbrev pub with_changed_file : Tree → Attrs → ℕ → Option Content → Tre
 with_changed_file t attrs number None = t
 with_changed_file t attrs number (Some content) = record t { files = with_content t.files number (changed_content attrs content) }
 
--- the attributes of what stands at a place are set; those of a link stay, and no request sets them, since SETSTAT follows links
+-- the attributes of the node at a place are set; those of a link stay, and no request sets them, since SETSTAT follows
+-- links
 abbrev pub with_attributes : Tree → Attrs → Place → Option Node → Tree
 with_attributes t attrs place None = t
 with_attributes t attrs place (Some (Dir owner)) = record t { names = with_node t.names place (Dir (changed_owner attrs owner)) }
 with_attributes t attrs place (Some (File number)) = with_changed_file t attrs number (content_at t.files number)
 with_attributes t attrs place (Some (Link target)) = t
 
--- this stands at the place
+-- with the node at the place
 abbrev pub with_entry : Tree → Place → Node → Tree
 with_entry t place it = record t { names = with_node t.names place it }
 
--- nothing stands at the place
+-- with the place free
 abbrev pub without_entry : Tree → Place → Tree
 without_entry t place = record t { names = without_node t.names place }
 
--- what stands at the old place, with all below it, goes to the new one
+-- the node at the old place, with all below it, moves to the new one
 abbrev pub moved : Tree → Place → Place → Tree
 moved t old new = record t { names = rekeyed old new t.names }
 
--- the same after what stood at the new place is gone
+-- the same after the node at the new place is removed
 abbrev pub put_in_its_stead : Tree → Place → Place → Tree
 put_in_its_stead t old new = record t { names = rekeyed old new (without_node t.names new) }
 
--- the same, where that changes anything
+-- the same, unless both are the same place, or names of one file
 abbrev pub exchanged : Tree → Place → Place → Tree
 exchanged t old new = if are_one t.names old new then t else put_in_its_stead t old new
 
--- what stands there gets the new place too
+-- the node gets the new place too
 abbrev pub with_further_name : Tree → Option Node → Place → Tree
 with_further_name t None new = t
 with_further_name t (Some standing) new = record t { names = with_node t.names new standing }
 
--- ---- what a reply tells
+-- ---- what a reply says
 
--- what a reply to a request that was done tells
+-- what the reply to a request that was done says
 pub data Told : Type 0 where
   -- that it was done
   done : Told
-  -- the attributes of what stands at the place
+  -- the attributes of the node at the place
   attributes : Option Attrs → Told
   -- a name of these bytes
   name : Option (List ℕ) → Told
@@ -214,11 +216,11 @@ target_of None = None
 
 -- what there is to say of a request
 pub record Row : Type 0 where
-  -- the path that it walks; of two paths the first
+  -- the path that it walks, or the first of two
   pub path : Option (List ℕ)
   -- the second path, of a request that has two: a new name
   pub new_path : Option (List ℕ)
-  -- whether a link that is last is followed
+  -- whether a last link is followed
   pub follows : Bool
   -- the causes of its own bytes
   pub own : CauseSet
@@ -229,7 +231,7 @@ pub record Row : Type 0 where
   -- what it does at the one place, or with the two
   pub change : Tree → Place → Tree
   pub exchange : Tree → Place → Place → Tree
-  -- what it tells of the place
+  -- what its reply says of the place
   pub told : Tree → Place → Told
 
 -- of a request that is not judged yet
@@ -251,7 +253,7 @@ no_step = record {
 abbrev pub making_row : List ℕ → Row
 making_row path = record no_step { path = Some path; here = λ t place. making_causes (node_at t.names place) }
 
--- of a request that tells the attributes of what stands at the end of its path
+-- of a request for the attributes of the node at the end of its path
 abbrev pub showing_row : List ℕ → Row
 showing_row path = record no_step {
   path = Some path;
@@ -343,7 +345,7 @@ told_at t ask = (row_of ask).told t
 unfoldable pub led : Tree → Ask → Option (Result Place Cause)
 led t ask = option_map (reached t (follows ask)) (path_of ask)
 
--- where its new name leads; a link that is last is not followed
+-- where its new name leads; a last link is not followed
 abbrev pub new_led : Tree → Ask → Option (Result Place Cause)
 new_led t ask = option_map (reached t false) (new_path_of ask)
 
@@ -355,12 +357,12 @@ led_causes None at = no_causes
 led_causes (Some (Ok place)) at = at place
 led_causes (Some (Err failed)) at = when no_causes failed true
 
--- causes of two places hold where both paths lead to one
+-- causes of two places hold if each path leads to one
 abbrev pub both_causes : Option (Result Place Cause) → Option (Result Place Cause) → (Place → Place → CauseSet) → CauseSet
 both_causes (Some (Ok old)) (Some (Ok new)) between = between old new
 both_causes _ _ between = no_causes
 
--- the causes but for the want of room, by where the paths lead
+-- the causes other than `NoRoom`, by where the paths lead
 abbrev pub plain_of : Tree → Ask → Option (Result Place Cause) → Option (Result Place Cause) → CauseSet
 plain_of t ask end new_end =
     joined (joined (joined (target_causes ask) (led_causes end (causes_at t ask))) (led_causes new_end (new_causes_at t ask))) (both_causes end new_end (causes_between t ask))
@@ -375,7 +377,7 @@ led_to otherwise None at = otherwise
 led_to otherwise (Some (Ok place)) at = at place
 led_to otherwise (Some (Err cause)) at = otherwise
 
--- with the place of a first path, and of a second one where there is one
+-- with the place of a first path, and of a second one if there is one
 abbrev pub target_on : Tree → Ask → Place → Option (Result Place Cause) → Tree
 target_on t ask place None = target_at t ask place
 target_on t ask place (Some (Ok new)) = target_between t ask place new
@@ -385,15 +387,15 @@ target_on t ask place (Some (Err cause)) = t
 abbrev pub target_led : Tree → Ask → Option (Result Place Cause) → Option (Result Place Cause) → Tree
 target_led t ask end new_end = led_to t end (λ place. target_on t ask place new_end)
 
--- the tree that a request which no cause refuses asks for; files that lost their last name are still there
+-- the tree that a request which no cause refuses asks for; files that lost their last name still exist
 unfoldable pub target : Tree → Ask → Tree
 target t ask = target_led t ask (led t ask) (new_led t ask)
 
--- the tree after such a request: a file goes with its last name
+-- the tree after such a request: a file is removed with its last name
 abbrev pub after : Tree → Ask → Tree
 after t ask = trim (target t ask)
 
--- there is no room where no other cause holds and what would stand afterwards breaks a limit
+-- `NoRoom` holds if no other cause holds and the tree asked for breaks a limit
 abbrev pub with_room : CauseSet → Tree → CauseSet
 with_room plain asked = when plain NoRoom (is_none plain && not (fits asked))
 
@@ -401,7 +403,7 @@ with_room plain asked = when plain NoRoom (is_none plain && not (fits asked))
 unfoldable pub causes : Tree → Ask → CauseSet
 causes t ask = with_room (plain_causes t ask) (target t ask)
 
--- ---- what a request is told
+-- ---- what the reply to a request says
 
 abbrev pub attributes_of : Told → Option Attrs
 attributes_of (attributes shown) = shown
@@ -413,14 +415,14 @@ name_of (name bytes) = bytes
 name_of (attributes shown) = None
 name_of done = None
 
--- the attributes of what stands where its path leads
+-- the attributes of the node that its path leads to
 unfoldable pub shown_to : Tree → Ask → Option Attrs
 shown_to t ask = led_to None (led t ask) (λ place. attributes_of (told_at t ask place))
 
--- the target of the link that stands where its path leads
+-- the target of the link that its path leads to
 unfoldable pub target_to : Tree → Ask → Option (List ℕ)
 target_to t ask = led_to None (led t ask) (λ place. name_of (told_at t ask place))
 
--- the text of the place where its path leads
+-- the text of the place that its path leads to
 unfoldable pub text_to : Tree → Ask → Option (List ℕ)
 text_to t ask = led_to None (led t ask) (λ place. name_of (told_at t ask place))

@@ -37,7 +37,7 @@ file_named (Some (Link target)) = None
 abbrev pub with_a_name : Stored → Option Stored
 with_a_name s = Some (record s { names = s.names + 1 })
 
--- it loses a name, and goes with the last one
+-- it loses a name, and is removed with the last one
 abbrev pub without_a_name : Stored → Option Stored
 without_a_name s = if nat_le s.names 1 then None else Some (record s { names = s.names - 1 })
 
@@ -45,13 +45,13 @@ without_a_name s = if nat_le s.names 1 then None else Some (record s { names = s
 abbrev pub with_attributes_set : Attrs → Stored → Option Stored
 with_attributes_set attrs s = Some (record s { content = changed_content attrs s.content })
 
--- the file of a number is changed, where there is one; the others stay
+-- the file of a number is changed, if there is one; the others stay
 pub record IsChanged (change : Stored → Option Stored) (number : ℕ) (before after : Table ℕ Stored) : Type 0 where
   pub here : get nat_cmp after number ≡ option_and_then change (get nat_cmp before number)
   pub others : (other : ℕ) → other ≢ number → get nat_cmp after other ≡ get nat_cmp before other
   pub ordered : InOrder nat_cmp after
 
--- the file that is named is changed, where one is
+-- the file that is named is changed, if one is
 abbrev pub IsChangedWhereNamed : (Stored → Option Stored) → Option ℕ → Table ℕ Stored → Table ℕ Stored → Type 0
 IsChangedWhereNamed change None before after = after ≡ before
 IsChangedWhereNamed change (Some number) before after = IsChanged change number before after

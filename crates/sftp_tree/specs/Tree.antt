@@ -21,11 +21,11 @@ Names = Table Place Node
 abbrev pub node_at : Names → Place → Option Node
 node_at names place = get place_cmp names place
 
--- with this at the place
+-- with the node at the place
 abbrev pub with_node : Names → Place → Node → Names
 with_node names place node = put place_cmp names place node
 
--- with nothing at the place
+-- with the place free
 abbrev pub without_node : Names → Place → Names
 without_node names place = without place_cmp names place
 
@@ -65,7 +65,7 @@ Files = Table ℕ Content
 abbrev pub content_at : Files → ℕ → Option Content
 content_at files number = get nat_cmp files number
 
--- with this for the file of a number
+-- with this content for the file of a number
 abbrev pub with_content : Files → ℕ → Content → Files
 with_content files number content = put nat_cmp files number content
 
@@ -102,7 +102,7 @@ pub record Tree : Type 0 where
   pub names : Names
   -- the files
   pub files : Files
-  -- how many numbers were given to files; none is given again
+  -- how many numbers were given to files; no number is given twice
   pub made : ℕ
   -- how often each file is pinned
   pub pins : Pins
@@ -135,9 +135,9 @@ IsNode files (Link target) = IsTrue (are_bytes target)
 abbrev pub IsContent : Content → Type 0
 IsContent content = IsOwner content.owner × IsTrue (are_bytes content.bytes)
 
--- What makes it a tree: its places are lists of names, in order and each but once, the root is a directory, each other
--- place's parent is one, names of files are names of files that are there, the numbers of files were given, and each
--- number fits its field. Today the limits are the usual ones.
+-- What makes it a tree: its places are lists of names, in order and each once, the root is a directory, each other
+-- place's parent is one, names of files are names of files that exist, the numbers of files were given, and each number
+-- fits its field. Today the limits are the usual ones.
 pub record WellFormed (t : Tree) : Type 0 where
   pub ordered : InOrder place_cmp t.names
   pub named : AllByRecursion (λ e. IsTrue (are_names e.0)) t.names

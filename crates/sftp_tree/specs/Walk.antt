@@ -23,18 +23,18 @@ abbrev pub is_last : List Name → Bool
 is_last [] = true
 is_last (c ∷ cs) = false
 
--- a link that is last is the answer of a walk that does not follow it
+-- a last link is the answer of a walk that does not follow it
 abbrev pub met_link : List ℕ → Place → Bool → Bool → Meeting
 met_link target place true false = ends place
 met_link target place true true = through target
 met_link target place false follow = through target
 
--- a file that is last is the answer, and nothing lies behind it
+-- a file is the answer if it is last, and no walk leads through it
 abbrev pub met_file : Place → Bool → Meeting
 met_file place true = ends place
 met_file place false = fails NotDir
 
--- what is absent is the answer if the name is the last, as the place of something to be made
+-- a free place is the answer if its name is the last, since a node can be made there
 abbrev pub met_nothing : Place → Bool → Meeting
 met_nothing place true = ends place
 met_nothing place false = fails NoEntry

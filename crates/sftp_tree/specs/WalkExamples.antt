@@ -1,4 +1,4 @@
--- What the worked rows of walks name: trees with links, and with a file.
+-- What the worked examples of walks name: trees with links, and with a file.
 use Rattle.std.specs.Prelude.{ℕ, zero, suc, ◌+◌, List, [], ◌∷◌, ◌++◌, replicate, codes}
 use Rattle.sftp_treefile.specs.Limits.{usual_limits}
 use Rattle.sftp_tree.specs.declared.contents.Content.{Content}

@@ -1,5 +1,5 @@
--- Where a path leads, once more: the rules of a walk, one by one (draft-ietf-secsh-filexfer-02, section 6.2). The
--- function of `Walk` is by them.
+-- Where a path leads, as the rules of a walk, one by one (draft-ietf-secsh-filexfer-02, section 6.2). The function of
+-- `Walk` leads where they lead.
 use Rattle.std.specs.Prelude.{◌≡◌, ℕ, zero, suc, Bool, false, List, [], ◌∷◌, ◌++◌, Some, None, Result, Ok, Err, IsTrue}
 use Rattle.sftp_treefile.specs.declared.files.Owner.{Owner}
 use Rattle.sftp_path.specs.Place.{Name, Place, parent, is_dot, is_dot_dot, components}
@@ -13,14 +13,14 @@ use Rattle.sftp_tree.specs.Walk.{start_of}
 abbrev pub IsPlain : Name → Type 0
 IsPlain name = (is_dot name ≡ false) × (is_dot_dot name ≡ false)
 
--- a link is the answer only where it is last and not followed
+-- a link is the answer only if it is last and not followed
 pub data GoesThrough (follow : Bool) : List Name → Type 0 where
   not_last : (name : Name) (rest : List Name) → GoesThrough follow (name ∷ rest)
   followed : IsTrue follow → GoesThrough follow []
 
 -- with so many links left, the components lead from a directory to an answer
 pub data Leads (names : Names) (follow : Bool) : ℕ → Place → List Name → Result Place Cause → Type 0 where
-  -- with no component left, the answer is where the walk stands
+  -- with no component left, the answer is the place of the walk
   done : (left : ℕ) (at : Place) → Leads names follow left at [] (Ok at)
   -- `.` stays
   stays : (left : ℕ) (at : Place) (name : Name) (rest : List Name) (answer : Result Place Cause) →
@@ -28,7 +28,7 @@ pub data Leads (names : Names) (follow : Bool) : ℕ → Place → List Name →
   -- `..` goes to the parent
   goes_up : (left : ℕ) (at : Place) (name : Name) (rest : List Name) (answer : Result Place Cause) →
       IsTrue (is_dot_dot name) → Leads names follow left (parent at) rest answer → Leads names follow left at (name ∷ rest) answer
-  -- what is absent is the answer if it is last
+  -- a free place is the answer if its name is last
   is_absent : (left : ℕ) (at : Place) (name : Name) → IsPlain name →
       node_at names (at ++ name ∷ []) ≡ None → Leads names follow left at (name ∷ []) (Ok (at ++ name ∷ []))
   -- and leads nowhere if it is not
@@ -43,7 +43,7 @@ pub data Leads (names : Names) (follow : Bool) : ℕ → Place → List Name →
   -- and leads nowhere if it is not
   stops_at_file : (left : ℕ) (at : Place) (name next : Name) (rest : List Name) (number : ℕ) → IsPlain name →
       node_at names (at ++ name ∷ []) ≡ Some (File number) → Leads names follow left at (name ∷ next ∷ rest) (Err NotDir)
-  -- a link that is last is the answer of a walk that does not follow it
+  -- a last link is the answer of a walk that does not follow it
   finds_link : (left : ℕ) (at : Place) (name : Name) (target : List ℕ) → IsPlain name →
       follow ≡ false → node_at names (at ++ name ∷ []) ≡ Some (Link target) → Leads names follow left at (name ∷ []) (Ok (at ++ name ∷ []))
   -- any other link is replaced by its target's components, in front of the rest

@@ -6,14 +6,14 @@ use Rattle.sftp_tree.specs.declared.walking.Met.TheVariants.{Enters, Ends, Fails
 use Rattle.sftp_tree.specs.Tree.{Tree, IsKept, node_at, is_directory}
 use Rattle.sftp_tree.specs.Walk.{Meeting, enters, ends, fails, through}
 
--- the meeting at the place that the walk stands at
+-- the meeting at the place of the walk
 abbrev pub meeting : Met → Place → Meeting
 meeting Enters at = enters at
 meeting Ends at = ends at
 meeting (Fails cause) at = fails cause
 meeting (Through target) at = through target.now
 
--- at a link the walk stands where it stood
+-- at a link the walk does not move
 abbrev pub StaysAtLink : Met → Place → Place → Type 0
 StaysAtLink Enters before after = Unit {0}
 StaysAtLink Ends before after = Unit {0}

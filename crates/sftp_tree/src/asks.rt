@@ -26,7 +26,7 @@ pub(crate) enum PathAsk<'a> {
     Hardlink { old: &'a [u8], new: &'a [u8] },
 }
 
-/// A request that is judged by its paths, of all requests.
+/// The request as one that is judged by its paths, or `None` if it is not one.
 pub(crate) fn path_ask(ask: &Ask) -> Option<PathAsk<'_>>
     ensures { MatchOption result (steps.row_of ask.now ≡ steps.no_step) (λ it. asked it ≡ ask.now) }
 {
@@ -90,7 +90,7 @@ pub(crate) fn path_ask(ask: &Ask) -> Option<PathAsk<'_>>
 }
 
 impl<'a> PathAsk<'a> {
-    /// The path that it walks; of two paths the first.
+    /// The path that it walks, or the first of two.
     pub(crate) fn path(self) -> &'a [u8]
         ensures { steps.path_of (asked self.entry) ≡ Some result.now }
     {
@@ -130,7 +130,7 @@ impl<'a> PathAsk<'a> {
         }
     }
 
-    /// Whether a link that is last is followed.
+    /// Whether the walk of its path follows a last link.
     pub(crate) fn follows(self) -> bool
         ensures { result ≡ steps.follows (asked self.entry) }
     {

@@ -12,7 +12,7 @@ use crate::trees::Tree;
 use sftp_treefile::Owner;
 use sftp_wire::Attrs;
 
-/// The permissions of a directory that is made with none given. This profile's own.
+/// The permissions of a new directory if none are given. This profile's own.
 const DEFAULT_PERMISSIONS: u32 = 0o755;
 
 /// The type bits of a directory, as POSIX has them.
@@ -21,12 +21,12 @@ const DIRECTORY_BITS: u32 = 0o040000;
 /// The type bits of a file, as POSIX has them.
 const FILE_BITS: u32 = 0o100000;
 
-/// The type bits of a link, as POSIX has them, with permissions that let everything be done.
+/// The type bits of a link, as POSIX has them, with permissions that allow everything.
 const LINK_PERMISSIONS: u32 = 0o120777;
 
 impl Tree {
-    /// The owner that attributes give a new directory, and the tree's where they give none; of permissions the low
-    /// twelve bits.
+    /// The owner of a new directory: the user and group of the attributes, or else the tree's, and the low twelve bits
+    /// of their permissions, or else 0o755.
     pub(crate) fn directory_owner(&self, attrs: &Attrs) -> Owner
         ensures owner { result ≡ spec.directory_owner self.now attrs.now }
         ensures fits { IsOwner result }
@@ -39,8 +39,8 @@ impl Tree {
         changed_owner(attrs, usual)
     }
 
-    /// What is shown of an entry: of a directory the size 0, of a file the count of its bytes, of a link its target's
-    /// length and the tree's owner.
+    /// The attributes shown of an entry. The size is 0 for a directory, the count of its bytes for a file, and the
+    /// length of its target for a link, which has the tree's owner.
     pub(crate) fn shown(&self, node: &Node) -> Attrs
         requires { tree.IsNode self.now.files node.now }
         ensures { spec.shown self.now node.now ≡ Some result }
@@ -60,7 +60,7 @@ impl Tree {
         }
     }
 
-    /// What is shown of the file of a number.
+    /// The attributes shown of the file of a number.
     fn shown_file(&self, number: FileNo) -> Attrs
         requires { IsTrue (is_some (tree.content_at self.now.files number)) }
         ensures { option_map spec.shown_content (tree.content_at self.now.files number) ≡ Some result }

@@ -11,14 +11,14 @@ use thiserror::Error;
 /// Why a request is refused: a row of the status table.
 #[derive(Clone, Copy, Debug, PartialEq, Eq, Error)]
 pub enum Cause {
-    /// A path has a byte 0, more than 4,096 bytes, or a component of more than 255; the target of a link also where
-    /// it is empty.
+    /// A path has a byte 0, more than 4,096 bytes, or a component of more than 255, or the target of a new link is
+    /// empty.
     #[error("BadPath")]
     BadPath,
-    /// A place that is needed, or a directory on the way to it, is absent.
+    /// The entry that is needed, or a directory on the way to it, does not exist.
     #[error("NoEntry")]
     NoEntry,
-    /// What stands where a directory is needed is none.
+    /// The node where a directory is needed is not one.
     #[error("NotDir")]
     NotDir,
     /// More than 40 links on the way.
@@ -27,25 +27,25 @@ pub enum Cause {
     /// The new place is taken.
     #[error("Exists")]
     Exists,
-    /// The request is none for directories, and one stands there.
+    /// The node is a directory, and the request is not for directories.
     #[error("IsDir")]
     IsDir,
-    /// The target is asked of what is no link.
+    /// The node whose target is asked for is not a link.
     #[error("NotLink")]
     NotLink,
-    /// The request gives a further name or a size, which only files have.
+    /// The request gives a further name or a size to a node that is not a file.
     #[error("NotFile")]
     NotFile,
     /// A directory that must be empty is not.
     #[error("NotEmpty")]
     NotEmpty,
-    /// The root would go, or something else come in its place.
+    /// The root would be removed, moved or replaced.
     #[error("Root")]
     Root,
-    /// The new place of a directory lies below the directory.
+    /// The new place of a directory is below the directory.
     #[error("Inside")]
     Inside,
-    /// No other cause holds, and what would stand after the request breaks a limit.
+    /// No other cause holds, and the request's change would break a limit of the tree.
     #[error("NoRoom")]
     NoRoom,
 }
@@ -102,14 +102,14 @@ pub struct Causes {
 }
 
 impl Causes {
-    /// The set of no cause.
+    /// The empty set.
     pub(crate) fn none() -> Causes
         ensures { in_set result ≡ steps.no_causes }
     {
         Causes { bits: 0 }
     }
 
-    /// The set with this cause too, where that holds.
+    /// The set with this cause too, if it holds.
     pub(crate) fn when(self, cause: Cause, holds: bool) -> Causes
         ensures { in_set result ≡ steps.when (in_set self) cause holds }
     {
@@ -128,14 +128,14 @@ impl Causes {
         (self.bits >> cause.row()) & 1 == 1
     }
 
-    /// Whether there is a cause in the set.
+    /// Whether the set has a cause.
     pub fn has_any(&self) -> bool
         ensures { result ≡ list_any (in_set self.now) steps.every_cause }
     {
         EVERY_CAUSE.iter().any(|cause| self.holds(*cause))
     }
 
-    /// The causes of either set.
+    /// The causes that are in either set.
     pub(crate) fn union(self, other: Causes) -> Causes
         ensures { in_set result ≡ steps.joined (in_set self) (in_set other) }
     {
@@ -148,7 +148,7 @@ impl Causes {
     ///
     /// # Errors
     ///
-    /// A cause of the set, where it has one.
+    /// The first cause of the set, if it has one.
     pub(crate) fn refuse(&self) -> Result<(), Cause>
         ensures free { OnOk result (IsTrue (steps.is_none (in_set self.now))) }
         ensures cause { IfErr result (λ cause. IsTrue (in_set self.now cause)) }

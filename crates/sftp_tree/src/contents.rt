@@ -1,4 +1,4 @@
-//! What files hold.
+//! The content of files.
 ghost use Rattle.std.specs.Prelude.{◌≡◌, OnOk, OnErr};
 ghost use Rattle.sftp_treefile.specs.TreeFile.{IsOwner};
 ghost use Rattle.sftp_tree.specs.Attributes.{resized, changed_owner, changed_content};
@@ -39,12 +39,11 @@ impl FileBytes {
         self.bytes.as_slice()
     }
 
-    /// Cuts the bytes behind so many of them, or fills them with zeros to so many. Bytes that stay are not moved but
-    /// where the allocator has to.
+    /// Cuts the bytes to a size, or appends zeros up to it. The bytes that stay are moved only if the allocator has to.
     ///
     /// # Errors
     ///
-    /// `NoMemory` where memory runs out; the bytes are then as before.
+    /// `NoMemory` if memory runs out; the bytes are then as before.
     pub fn resize(&mut self, size: usize) -> Result<(), NoMemory>
         ensures ok { OnOk result (self.new ≡ resized size self.old) }
         ensures err { OnErr result (self.new ≡ self.old) }
@@ -54,30 +53,29 @@ impl FileBytes {
     }
 }
 
-/// What a file is.
+/// The content of a file.
 #[derive(Debug, Drop)]
 pub struct Content {
     /// Its user, its group, and its permissions of twelve bits.
     pub owner: Owner,
-    /// Its bytes, of which the limits say how many there may be.
+    /// Its bytes; the limits say how many there may be.
     pub bytes: FileBytes,
 }
 
 /// A file as a tree keeps it.
 #[derive(Debug, Drop)]
 pub struct Stored {
-    /// What it is.
+    /// The content of the file.
     pub content: Content,
     /// How many names the file has.
     pub names: u32,
 }
 
-/// Sets the attributes of a file: its size, its owner and the low twelve bits of its permissions, each where it is
-/// given.
+/// Sets the attributes of a file: its size, its owner and the low twelve bits of its permissions, each if it is given.
 ///
 /// # Errors
 ///
-/// `NoMemory` where memory runs out; the file is then as before.
+/// `NoMemory` if memory runs out; the file is then as before.
 pub(crate) fn change(content: &mut Content, attrs: &Attrs) -> Result<(), NoMemory>
     requires { IsOwner content.old.owner }
     ensures ok { OnOk result (content.new ≡ changed_content attrs.now content.old) }

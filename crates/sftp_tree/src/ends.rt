@@ -1,4 +1,4 @@
-//! Where the paths of a request lead, and which causes hold of it then.
+//! Where the paths of a request lead, and which causes hold then.
 ghost use Rattle.std.specs.Prelude.{◌≡◌, ◌⊎◌, Some, Err, IfOk, IfErr, IfSome, IsTrue};
 ghost use Rattle.sftp_path.specs.Place.{parent};
 ghost use Rattle.sftp_tree.specs.declared.causes.Cause.{Cause as cause};
@@ -15,7 +15,7 @@ use crate::trees::Tree;
 use sftp_path::{NoMemory, Place};
 use sftp_wire::Ask;
 
-/// Where the paths of a request lead, or why they lead nowhere; the second is a new name's.
+/// Where the paths of a request lead, or why they lead nowhere. `new` is of the second path, if there is one.
 #[derive(Drop)]
 pub(crate) struct Ends {
     old: Result<Place, Cause>,
@@ -30,7 +30,7 @@ pub(crate) struct Places {
 }
 
 impl Ends {
-    /// The places. Of two paths that lead nowhere a bad one is told first, and else the first.
+    /// The places. If both paths lead nowhere, `BadPath` is returned first, and else the cause of the first path.
     fn places(self) -> Result<Places, Cause>
         ensures led { IfOk result (λ places. spec.AreLed self.old self.new places) }
         ensures lost { IfErr result (λ cause. (self.old ≡ Err cause) ⊎ (self.new ≡ Some (Err cause))) }
@@ -50,12 +50,12 @@ impl Ends {
 }
 
 impl Tree {
-    /// Every cause that holds of a request for what a path names. There is none of a request on a handle, and none of
-    /// one that is not judged yet.
+    /// Every cause that holds of a request that is judged by its paths. A request on a handle, and one that is not
+    /// judged yet, has none.
     ///
     /// # Errors
     ///
-    /// `NoMemory` where memory runs out.
+    /// `NoMemory` if memory runs out.
     pub fn causes(&self, ask: &Ask) -> Result<Causes, NoMemory>
         ensures { IfOk result (λ set. (c : cause) → in_set set c ≡ steps.causes self.now ask.now c) }
     {
@@ -69,12 +69,12 @@ impl Tree {
         }
     }
 
-    /// The places that the paths of a request lead to, where no cause refuses it.
+    /// The places that the paths of a request lead to, if no cause refuses it.
     ///
     /// # Errors
     ///
-    /// The first cause that holds: of the request's own bytes, then of the walks, then in the order of the table. `NoMemory`
-    /// where memory runs out.
+    /// The first cause that holds: of the request's own bytes, then of the walks, then in the order of the table.
+    /// `NoMemory` if memory runs out.
     pub(crate) fn free_places(&self, ask: PathAsk<'_>) -> Result<Places, Refused>
         ensures free { IfOk result (λ places. IsFree self.now (asked ask.entry)) }
         ensures led { IfOk result (λ places. spec.LeadTo self.now (asked ask.entry) places) }
@@ -93,7 +93,7 @@ impl Tree {
     ///
     /// # Errors
     ///
-    /// `NoMemory` where memory runs out.
+    /// `NoMemory` if memory runs out.
     fn ends(&self, home: &Place, ask: PathAsk<'_>) -> Result<Ends, NoMemory>
         requires { home.now ≡ self.now.home }
         ensures old { IfOk result (λ ends. steps.led self.now (asked ask.entry) ≡ Some ends.old) }
@@ -120,7 +120,7 @@ impl Tree {
         plain.when(Cause::NoRoom, lacks)
     }
 
-    /// The causes but for the want of room.
+    /// The causes other than `NoRoom`.
     fn plain_causes(&self, ask: PathAsk<'_>, ends: &Ends) -> Causes
         ensures { in_set result ≡ steps.plain_of self.now (asked ask.entry) (Some ends.now.old) ends.now.new }
     {
@@ -130,7 +130,7 @@ impl Tree {
         ask.own_causes().union(here).union(there).union(between)
     }
 
-    /// The causes of the path; of two paths of the first.
+    /// The causes of the path, or of the first of two.
     fn led_causes(&self, ask: PathAsk<'_>, end: &Result<Place, Cause>) -> Causes
         ensures { in_set result ≡ steps.led_causes (Some end.now) (steps.causes_at self.now (asked ask.entry)) }
     {
@@ -151,9 +151,10 @@ impl Tree {
         }
     }
 
-    /// The causes of two places, where both paths lead to one.
+    /// The causes of two places, if each path leads to one.
     fn both_causes(&self, ask: PathAsk<'_>, ends: &Ends) -> Causes
-        ensures { in_set result ≡ steps.both_causes (Some ends.now.old) ends.now.new (steps.causes_between self.now (asked ask.entry)) }
+        ensures { in_set result
+            ≡ steps.both_causes (Some ends.now.old) ends.now.new (steps.causes_between self.now (asked ask.entry)) }
     {
         match (&ends.old, &ends.new) {
             (Ok(old), Some(Ok(new))) => self.causes_between(ask, old, new),

@@ -1,4 +1,4 @@
-//! The entries of a tree: its places, each with its node. Nothing outside knows how they are kept.
+//! The entries of a tree: its places, each with its node. No other module knows how they are kept.
 ghost use Rattle.std.specs.Prelude.{◌≡◌, length, false, None, IfOk, OnOk, OnErr, IsTrue, option_copied};
 ghost use Rattle.std.specs.Iterator.{item_count};
 ghost use Rattle.std.specs.Map.Iter.{TakesFirst, deref_pair};
@@ -40,7 +40,7 @@ impl Entries {
     ///
     /// # Errors
     ///
-    /// `NoMemory` where memory runs out.
+    /// `NoMemory` if memory runs out.
     #[tactic(auto, unfolding(sftp_path::specs::Table::put))]
     pub(crate) fn root(alloc: Global, owner: Owner) -> Result<Entries, NoMemory>
         ensures { IfOk result (λ entries. entries ≡ only_root owner) }
@@ -81,7 +81,7 @@ impl Entries {
         below::has_entries(&self.places, place)
     }
 
-    /// Whether no place that begins with one has more names than so many behind it.
+    /// Whether each place that begins with `top` has at most `room` names behind it.
     pub(crate) fn reaches_at_most(&self, top: &Place, room: usize) -> bool
         ensures { result ≡ rooms.reaches_at_most self.now top.now room }
     {
@@ -92,7 +92,7 @@ impl Entries {
     ///
     /// # Errors
     ///
-    /// `NoMemory` where memory runs out; the entries are then as before.
+    /// `NoMemory` if memory runs out; the entries are then as before.
     #[tactic(auto, unfolding(sftp_path::specs::Table::put))]
     pub(crate) fn put(&mut self, place: Place, node: Node) -> Result<(), NoMemory>
         requires absent { tree.node_at self.old place ≡ None }
@@ -128,7 +128,7 @@ impl Entries {
     ///
     /// # Errors
     ///
-    /// `NoMemory` where memory runs out; the entries are then as before.
+    /// `NoMemory` if memory runs out; the entries are then as before.
     pub(crate) fn move_node(&mut self, old: &Place, new: Place) -> Result<Option<Node>, NoMemory>
         requires taken { IsTrue (tree.is_taken (tree.node_at self.old old.now)) }
         requires old_below_root { is_root old.now ≡ false }
@@ -145,7 +145,7 @@ impl Entries {
     }
 }
 
-/// The entries that are still to come, in the places' order.
+/// The entries that are left, in the places' order.
 #[derive(Drop)]
 pub(crate) struct Iter<'a> {
     left: btree_map::Iter<'a, Place, Node>,

@@ -6,7 +6,7 @@ ghost use Rattle.std.specs.Cmp.{partial_equiv_from_equiv, nat_eq_equiv, nat_cmp_
 use std::cmp::Ordering;
 use std::marker::Model;
 
-/// The number of a file in a tree. None is given again. An entry of a tree file has a number of another kind.
+/// The number of a file in a tree. No number is given twice. The number of an entry in a tree file is of another kind.
 #[derive(Clone, Copy, Debug)]
 pub struct FileNo {
     number: u32,

@@ -1,11 +1,12 @@
-//! The files of a tree, by their numbers. Nothing outside knows how they are kept.
+//! The files of a tree, by their numbers. No other module knows how they are kept.
 ghost use Rattle.std.specs.Prelude.{◌≡◌, ◌+◌, ◌<◌, ◌^◌, [], length, OnOk, OnErr, IfSome, option_copied};
 ghost use Rattle.std.specs.Ordering.{nat_cmp};
 ghost use Rattle.sftp_path.specs.Table.{get, put};
 ghost use Rattle.sftp_treefile.specs.TreeFile.{IsOwner};
 ghost use Rattle.sftp_tree.specs.Tree.{content_at};
 ghost use Rattle.sftp_tree.specs.Attributes.{changed_owner};
-ghost use Rattle.sftp_tree.specs.Stored.{IsChanged, IsChangedWhereNamed, contents, with_a_name, without_a_name, with_attributes_set};
+ghost use Rattle.sftp_tree.specs.Stored.{IsChanged, IsChangedWhereNamed, contents};
+ghost use Rattle.sftp_tree.specs.Stored.{with_a_name, without_a_name, with_attributes_set};
 
 use crate::contents::{Content, Stored, change};
 use crate::file_numbers::FileNo;
@@ -54,7 +55,7 @@ impl Files {
         Some(&stored.content)
     }
 
-    /// How many bytes the files have, at most: a number that does not fit is the largest that does.
+    /// How many bytes the files have, or the largest `usize` if the count does not fit.
     pub(crate) fn size(&self) -> usize {
         let mut size: usize = 0;
         for stored in self.by_number.values() {
@@ -67,7 +68,7 @@ impl Files {
     ///
     /// # Errors
     ///
-    /// `NoMemory` where memory runs out; the files are then as before.
+    /// `NoMemory` if memory runs out; the files are then as before.
     #[tactic(auto, unfolding(sftp_path::specs::Table::put))]
     pub(crate) fn put(&mut self, number: FileNo, content: Content) -> Result<(), NoMemory>
         ensures ok { OnOk result (self.new ≡ put nat_cmp self.old number (record { content = content; names = 1 })) }
@@ -77,7 +78,7 @@ impl Files {
         Ok(())
     }
 
-    /// Counts a further name of a file, where one is named.
+    /// Counts a further name of a file, if one is named.
     pub(crate) fn count_name(&mut self, named: Option<FileNo>)
         requires { IfSome named (λ number. IfSome (get nat_cmp self.old number) (λ s. s.names + 1 < 2 ^ 32)) }
         ensures { IsChangedWhereNamed with_a_name named self.old self.new }
@@ -85,7 +86,7 @@ impl Files {
         count_name(&mut self.by_number, named);
     }
 
-    /// Counts a name less of a file, where one is named. The file goes with its last name.
+    /// Counts one name less of a file, if one is named. The file is removed with its last name.
     pub(crate) fn forget_name(&mut self, named: Option<FileNo>)
         requires { IfSome named (λ number. IfSome (get nat_cmp self.old number) (λ s. 0 < s.names)) }
         ensures { IsChangedWhereNamed without_a_name named self.old self.new }
@@ -93,11 +94,11 @@ impl Files {
         forget_name(&mut self.by_number, named);
     }
 
-    /// Sets the attributes of the file of a number, where there is one.
+    /// Sets the attributes of the file of a number, if there is one.
     ///
     /// # Errors
     ///
-    /// `NoMemory` where memory runs out; the files are then as before.
+    /// `NoMemory` if memory runs out; the files are then as before.
     pub(crate) fn change_at(&mut self, number: FileNo, attrs: &Attrs) -> Result<(), NoMemory>
         requires { IfSome (get nat_cmp self.old number) (λ s. IsOwner s.content.owner) }
         ensures ok { OnOk result (IsChanged (with_attributes_set attrs.now) number self.old self.new) }
@@ -110,7 +111,7 @@ impl Files {
     }
 }
 
-/// Counts a further name of a file, where one is named.
+/// Counts a further name of a file, if one is named.
 fn count_name(files: &mut BTreeMap<FileNo, Stored>, named: Option<FileNo>)
     requires { IfSome named (λ number. IfSome (get nat_cmp files.old.entries number) (λ s. s.names + 1 < 2 ^ 32)) }
     ensures { IsChangedWhereNamed with_a_name named files.old.entries files.new.entries }
@@ -120,7 +121,7 @@ fn count_name(files: &mut BTreeMap<FileNo, Stored>, named: Option<FileNo>)
     }
 }
 
-/// Counts a name less of a file, where one is named. The file goes with its last name.
+/// Counts one name less of a file, if one is named. The file is removed with its last name.
 fn forget_name(files: &mut BTreeMap<FileNo, Stored>, named: Option<FileNo>)
     requires { IfSome named (λ number. IfSome (get nat_cmp files.old.entries number) (λ s. 0 < s.names)) }
     ensures { IsChangedWhereNamed without_a_name named files.old.entries files.new.entries }
@@ -130,7 +131,7 @@ fn forget_name(files: &mut BTreeMap<FileNo, Stored>, named: Option<FileNo>)
     }
 }
 
-/// A file gets a further name.
+/// Counts a further name of the file of a number, if there is one.
 fn raise(files: &mut BTreeMap<FileNo, Stored>, number: FileNo)
     requires { IfSome (get nat_cmp files.old.entries number) (λ s. s.names + 1 < 2 ^ 32) }
     ensures { IsChanged with_a_name number files.old.entries files.new.entries }
@@ -140,7 +141,7 @@ fn raise(files: &mut BTreeMap<FileNo, Stored>, number: FileNo)
     }
 }
 
-/// A file loses a name, and goes with the last one.
+/// Counts one name less of the file of a number, if there is one. The file is removed with its last name.
 fn lower(files: &mut BTreeMap<FileNo, Stored>, number: FileNo)
     requires { IfSome (get nat_cmp files.old.entries number) (λ s. 0 < s.names) }
     ensures { IsChanged without_a_name number files.old.entries files.new.entries }
@@ -154,11 +155,11 @@ fn lower(files: &mut BTreeMap<FileNo, Stored>, number: FileNo)
     }
 }
 
-/// Sets the attributes of the file of a number, where there is one.
+/// Sets the attributes of the file of a number, if there is one.
 ///
 /// # Errors
 ///
-/// `NoMemory` where memory runs out; the files are then as before.
+/// `NoMemory` if memory runs out; the files are then as before.
 fn change_at(
     files: &mut BTreeMap<FileNo, Stored>,
     number: FileNo,

@@ -1,4 +1,4 @@
-//! What stands at a place.
+//! The node at a place.
 ghost use Rattle.std.specs.Prelude.{◌≡◌, option_copied};
 ghost use Rattle.sftp_treefile.specs.TreeFile.{is_root};
 ghost use Rattle.sftp_tree.specs.Tree as tree;
@@ -9,7 +9,7 @@ use crate::trees::Tree;
 use sftp_path::Place;
 
 impl Tree {
-    /// What stands at a place.
+    /// The node at a place.
     #[tactic(auto, unfolding(sftp_path::specs::Table::get))]
     pub(crate) fn standing(&self, place: &Place) -> Option<&Node>
         ensures there { option_copied result ≡ tree.node_at self.now.names place.now }
@@ -26,28 +26,28 @@ impl Tree {
     }
 }
 
-/// Whether anything stands there.
+/// Whether there is a node.
 pub(crate) fn is_taken(found: Option<&Node>) -> bool
     ensures { result ≡ tree.is_taken (option_copied found.entry) }
 {
     found.is_some()
 }
 
-/// Whether a directory stands there.
+/// Whether the node is a directory.
 pub(crate) fn is_directory(found: Option<&Node>) -> bool
     ensures { result ≡ tree.is_directory (option_copied found.entry) }
 {
     matches!(found, Some(Node::Dir(_)))
 }
 
-/// Whether a name of a file stands there.
+/// Whether the node is a name of a file.
 pub(crate) fn is_file(found: Option<&Node>) -> bool
     ensures { result ≡ tree.is_file (option_copied found.entry) }
 {
     matches!(found, Some(Node::File(_)))
 }
 
-/// Whether a link stands there.
+/// Whether the node is a link.
 pub(crate) fn is_link(found: Option<&Node>) -> bool
     ensures { result ≡ tree.is_link (option_copied found.entry) }
 {
@@ -64,7 +64,7 @@ fn are_one_file(one: Option<&Node>, other: Option<&Node>) -> bool
     }
 }
 
-/// Whether the place is the root, which no names lead to.
+/// Whether the place is the root, which has no names.
 pub(crate) fn is_root(place: &Place) -> bool
     ensures { result ≡ is_root place.now }
 {

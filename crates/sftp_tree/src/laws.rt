@@ -1,13 +1,15 @@
 //! Laws of trees, as theorems on the definitions that the contracts name. The functions do nothing; each promise is in
 //! the contract.
-ghost use Rattle.std.specs.Prelude.{◌≡◌, ◌↔◌, ◌⊎◌, ◌<◌, ◌≤◌, ◌||◌, ℕ, Bool, if◌then◌else◌, List, Some, None, Result, Ok, [], IsTrue};
+ghost use Rattle.std.specs.Prelude.{◌≡◌, ◌↔◌, ◌⊎◌, ◌<◌, ◌≤◌, ◌||◌, ℕ, Bool, if◌then◌else◌};
+ghost use Rattle.std.specs.Prelude.{List, Some, None, Result, Ok, [], IsTrue};
 ghost use Rattle.sftp_wire.specs.declared.packets.Ask.{Ask};
 ghost use Rattle.sftp_wire.specs.Spelling.{FitsAsk};
 ghost use Rattle.sftp_path.specs.Place.{Name, Place, parent, are_names, is_good_path};
 ghost use Rattle.sftp_treefile.specs.TreeFile.{are_bytes};
 ghost use Rattle.sftp_tree.specs.declared.causes.Cause.{Cause};
 ghost use Rattle.sftp_tree.specs.declared.nodes.Node.TheVariants.{File};
-ghost use Rattle.sftp_tree.specs.Tree.{Names, Tree, WellFormed, IsKept, IsTrimmed, limits, fits, is_directory, node_at, content_at, times_named, times_pinned, is_named, is_held, trimmed, trim};
+ghost use Rattle.sftp_tree.specs.Tree.{Names, Tree, WellFormed, IsKept, IsTrimmed, limits, fits, is_directory, node_at};
+ghost use Rattle.sftp_tree.specs.Tree.{content_at, times_named, times_pinned, is_named, is_held, trimmed, trim};
 ghost use Rattle.sftp_tree.specs.Walk.{walk, reached, looked, steps_of, looked_limit, link_limit};
 ghost use Rattle.sftp_tree.specs.WalkRules.{Leads};
 ghost use Rattle.sftp_tree.specs.Steps.{target, after};
@@ -26,57 +28,64 @@ pub fn steps_keep()
     walks_give_places();
 }
 
-/// The same where the tree has files that have no name and are not pinned: what it asks for is a tree, and within the
+/// The same for a tree with files that have no name and are not pinned: the request's change makes a tree within the
 /// limits.
 pub fn targets_are_trees()
-    ensures tree { (t : Tree) (ask : Ask) → WellFormed t → IsTrue (fits t) → FitsAsk ask → IsFree t ask → WellFormed (target t ask) }
-    ensures limits { (t : Tree) (ask : Ask) → WellFormed t → IsTrue (fits t) → FitsAsk ask → IsFree t ask → IsTrue (fits (target t ask)) }
+    ensures tree { (t : Tree) (ask : Ask) → WellFormed t → IsTrue (fits t) → FitsAsk ask → IsFree t ask →
+        WellFormed (target t ask) }
+    ensures limits { (t : Tree) (ask : Ask) → WellFormed t → IsTrue (fits t) → FitsAsk ask → IsFree t ask →
+        IsTrue (fits (target t ask)) }
 {
     walks_give_places();
 }
 
-/// Without the files that have no name and that nothing holds, a tree within the limits is one. A file stays where it has
-/// a name or is held.
+/// A tree within the limits stays one when it is trimmed. A file stays if it has a name or is held.
 pub fn trees_are_trimmed()
     ensures tree { (t : Tree) (is_held : ℕ → Bool) → WellFormed t → WellFormed (trimmed is_held t) }
     ensures limits { (t : Tree) (is_held : ℕ → Bool) → IsTrue (fits t) → IsTrue (fits (trimmed is_held t)) }
     ensures kept { (t : Tree) → WellFormed t → IsTrue (fits t) → IsKept (trim t) }
     ensures already { (t : Tree) → IsTrimmed t → trim t ≡ t }
     ensures files { (t : Tree) (is_held : ℕ → Bool) (number : ℕ) → WellFormed t →
-        content_at (trimmed is_held t).files number ≡ (if is_named t.names number || is_held number then content_at t.files number else None) }
+        content_at (trimmed is_held t).files number
+        ≡ (if is_named t.names number || is_held number then content_at t.files number else None) }
 {}
 
-/// How many numbers were given never falls, and each number of a file or of a name was given: so none is given twice.
+/// The count of numbers given never falls, and the number of each file and of each name was given: so no number is
+/// given twice.
 pub fn numbers_are_never_given_again()
     ensures target { (t : Tree) (ask : Ask) → t.made ≤ (target t ask).made }
     ensures after { (t : Tree) (ask : Ask) → t.made ≤ (after t ask).made }
     ensures files { (t : Tree) (number : ℕ) → WellFormed t → t.made ≤ number → content_at t.files number ≡ None }
-    ensures names { (t : Tree) (place : Place) (number : ℕ) → WellFormed t → node_at t.names place ≡ Some (File number) → number < t.made }
+    ensures names { (t : Tree) (place : Place) (number : ℕ) → WellFormed t →
+        node_at t.names place ≡ Some (File number) → number < t.made }
 {}
 
-/// After a request a file is gone just where there was none, or no name of it is left and nothing pins it; any other is
-/// as the request asks for. No request changes how often files are pinned.
+/// After a request a number has no file exactly if the request's change leaves it none, or leaves the file no name and
+/// no pin; any other file is as the change leaves it. No request changes how often files are pinned.
 pub fn files_live_while_held()
     ensures gone { (t : Tree) (ask : Ask) (number : ℕ) → WellFormed t →
-        (content_at (after t ask).files number ≡ None) ↔ ((content_at (target t ask).files number ≡ None) ⊎ ((times_named (target t ask).names number ≡ 0) × (times_pinned (target t ask).pins number ≡ 0))) }
+        (content_at (after t ask).files number ≡ None)
+        ↔ ((content_at (target t ask).files number ≡ None)
+        ⊎ ((times_named (target t ask).names number ≡ 0) × (times_pinned (target t ask).pins number ≡ 0))) }
     ensures left { (t : Tree) (ask : Ask) (number : ℕ) → WellFormed t →
-        content_at (after t ask).files number ≡ (if is_held (target t ask) number then content_at (target t ask).files number else None) }
+        content_at (after t ask).files number
+        ≡ (if is_held (target t ask) number then content_at (target t ask).files number else None) }
     ensures pins { (t : Tree) (ask : Ask) → (after t ask).pins ≡ t.pins }
 {}
 
-/// The function of walks is by the rules of walks, and no rule leads elsewhere.
+/// The function of walks leads where the rules of walks lead, and nowhere else.
 pub fn walks_are_by_the_rules()
     ensures { (names : Names) (follow : Bool) (left : ℕ) (at : Place) (path : List Name) (answer : Result Place Cause) →
         Leads names follow left at path answer ↔ (walk names follow left at path ≡ answer) }
 {}
 
-/// A walk over a path of a tree within the limits looks at 84,032 components at most.
+/// A walk over a path of a tree within the limits looks at no more than 84,032 components.
 pub fn walks_end()
     ensures { (t : Tree) (follow : Bool) (path : List ℕ) → IsKept t → IsTrue (is_good_path path) →
         looked t.names follow link_limit [] (steps_of t path) ≤ looked_limit }
 {}
 
-/// A path leads to a list of names, whose parent is a directory.
+/// A path leads to a place that is a list of names and whose parent is a directory.
 pub fn walks_give_places()
     ensures names { (t : Tree) (follow : Bool) (path : List ℕ) (place : Place) → IsKept t → IsTrue (are_bytes path) →
         reached t follow path ≡ Ok place → IsTrue (are_names place) }

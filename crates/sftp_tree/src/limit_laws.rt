@@ -1,6 +1,6 @@
 //! How each change of a tree bears on each of its limits, as theorems on the definitions that the contracts name. The
-//! functions do nothing; each promise is in the contract. A limit that a law does not name holds after the change just
-//! where it held before.
+//! functions do nothing; each promise is in the contract. A limit that a law does not name holds after the change
+//! exactly if it held before.
 ghost use Rattle.std.specs.Prelude.{◌≡◌, ◌&&◌, nat_le, ℕ, Some, None, length, IsTrue};
 ghost use Rattle.std.specs.List.{list_all};
 ghost use Rattle.sftp_path.specs.Place.{Place, place_cmp};
@@ -8,10 +8,12 @@ ghost use Rattle.sftp_path.specs.Table.{InOrder};
 ghost use Rattle.sftp_path.specs.Rekeying.{renamed, NothingFrom};
 ghost use Rattle.sftp_tree.specs.declared.contents.Content.{Content};
 ghost use Rattle.sftp_tree.specs.declared.nodes.Node.{Node};
-ghost use Rattle.sftp_tree.specs.Tree.{Tree, limits, fits, entries_fit, depths_fit, home_fits, links_fit, files_fit, numbers_fit, depth_fits, link_fits, content_fits, node_at, with_node, without_node, content_at, with_content};
+ghost use Rattle.sftp_tree.specs.Tree.{Tree, limits, fits, entries_fit, depths_fit, home_fits, links_fit};
+ghost use Rattle.sftp_tree.specs.Tree.{files_fit, numbers_fit, depth_fits, link_fits, content_fits};
+ghost use Rattle.sftp_tree.specs.Tree.{node_at, with_node, without_node, content_at, with_content};
 ghost use Rattle.sftp_tree.specs.Steps.{moved};
 
-/// A tree is within the limits just where it is within each.
+/// A tree is within the limits exactly if it is within each of them.
 pub fn limits_are_six()
     ensures entries { (t : Tree) → IsTrue (fits t) → IsTrue (entries_fit t) }
     ensures depths { (t : Tree) → IsTrue (fits t) → IsTrue (depths_fit t) }
@@ -19,11 +21,12 @@ pub fn limits_are_six()
     ensures links { (t : Tree) → IsTrue (fits t) → IsTrue (links_fit t) }
     ensures files { (t : Tree) → IsTrue (fits t) → IsTrue (files_fit t) }
     ensures numbers { (t : Tree) → IsTrue (fits t) → IsTrue (numbers_fit t) }
-    ensures all { (t : Tree) → IsTrue (entries_fit t) → IsTrue (depths_fit t) → IsTrue (home_fits t) → IsTrue (links_fit t) → IsTrue (files_fit t) →
+    ensures all { (t : Tree) → IsTrue (entries_fit t) → IsTrue (depths_fit t) → IsTrue (home_fits t) →
+        IsTrue (links_fit t) → IsTrue (files_fit t) →
         IsTrue (numbers_fit t) → IsTrue (fits t) }
 {}
 
-/// With an entry at a place that was free.
+/// With an entry at a free place.
 pub fn limits_with_an_entry()
     ensures entries { (t : Tree) (place : Place) (it : Node) → node_at t.names place ≡ None →
         entries_fit (record t { names = with_node t.names place it }) ≡ nat_le (length t.names) (limits t).entries }
@@ -33,9 +36,10 @@ pub fn limits_with_an_entry()
         links_fit (record t { names = with_node t.names place it }) ≡ (link_fits it && links_fit t) }
 {}
 
-/// With something else at a place that is taken.
+/// With another node at a taken place.
 pub fn limits_with_another_entry()
-    ensures entries { (t : Tree) (place : Place) (before it : Node) → InOrder place_cmp t.names → node_at t.names place ≡ Some before →
+    ensures entries { (t : Tree) (place : Place) (before it : Node) → InOrder place_cmp t.names →
+        node_at t.names place ≡ Some before →
         entries_fit (record t { names = with_node t.names place it }) ≡ entries_fit t }
     ensures depths { (t : Tree) (place : Place) (before it : Node) → node_at t.names place ≡ Some before →
         depths_fit (record t { names = with_node t.names place it }) ≡ depths_fit t }
@@ -43,25 +47,32 @@ pub fn limits_with_another_entry()
         IsTrue (links_fit (record t { names = with_node t.names place it })) }
 {}
 
-/// With an entry less.
+/// With one entry less.
 pub fn limits_without_an_entry()
-    ensures entries { (t : Tree) (place : Place) → IsTrue (entries_fit t) → IsTrue (entries_fit (record t { names = without_node t.names place })) }
-    ensures depths { (t : Tree) (place : Place) → IsTrue (depths_fit t) → IsTrue (depths_fit (record t { names = without_node t.names place })) }
-    ensures links { (t : Tree) (place : Place) → IsTrue (links_fit t) → IsTrue (links_fit (record t { names = without_node t.names place })) }
+    ensures entries { (t : Tree) (place : Place) → IsTrue (entries_fit t) →
+        IsTrue (entries_fit (record t { names = without_node t.names place })) }
+    ensures depths { (t : Tree) (place : Place) → IsTrue (depths_fit t) →
+        IsTrue (depths_fit (record t { names = without_node t.names place })) }
+    ensures links { (t : Tree) (place : Place) → IsTrue (links_fit t) →
+        IsTrue (links_fit (record t { names = without_node t.names place })) }
 {}
 
-/// With all from one place on moved to another that was free.
+/// With the node at a place, and all below it, moved to a free place.
 pub fn limits_after_a_move()
-    ensures entries { (t : Tree) (old new : Place) → InOrder place_cmp t.names → NothingFrom t.names new → entries_fit (moved t old new) ≡ entries_fit t }
+    ensures entries { (t : Tree) (old new : Place) → InOrder place_cmp t.names → NothingFrom t.names new →
+        entries_fit (moved t old new) ≡ entries_fit t }
     ensures depths { (t : Tree) (old new : Place) → InOrder place_cmp t.names → NothingFrom t.names new →
         depths_fit (moved t old new) ≡ list_all (λ e. depth_fits (renamed old new e.0)) t.names }
-    ensures links { (t : Tree) (old new : Place) → InOrder place_cmp t.names → NothingFrom t.names new → links_fit (moved t old new) ≡ links_fit t }
+    ensures links { (t : Tree) (old new : Place) → InOrder place_cmp t.names → NothingFrom t.names new →
+        links_fit (moved t old new) ≡ links_fit t }
 {}
 
 /// With a file of a new number, or with another content of a file.
 pub fn limits_of_files()
     ensures new { (t : Tree) (number : ℕ) (content : Content) → content_at t.files number ≡ None →
-        files_fit (record t { files = with_content t.files number content }) ≡ (content_fits (limits t) content && files_fit t) }
-    ensures again { (t : Tree) (number : ℕ) (content : Content) → IsTrue (files_fit t) → IsTrue (content_fits (limits t) content) →
+        files_fit (record t { files = with_content t.files number content })
+        ≡ (content_fits (limits t) content && files_fit t) }
+    ensures again { (t : Tree) (number : ℕ) (content : Content) → IsTrue (files_fit t) →
+        IsTrue (content_fits (limits t) content) →
         IsTrue (files_fit (record t { files = with_content t.files number content })) }
 {}

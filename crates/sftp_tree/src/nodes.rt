@@ -6,7 +6,7 @@ use crate::file_numbers::FileNo;
 use sftp_treefile::Owner;
 use sftp_wire::ByteString;
 
-/// What is at a place.
+/// The node at a place.
 #[derive(Debug, Drop)]
 pub enum Node {
     /// A directory.

@@ -9,8 +9,8 @@ use sftp_wire::Attrs;
 /// Permissions have twelve bits.
 const PERMISSION_BITS: u32 = 0o7777;
 
-/// The owner of what is there already, where attributes are set: that given, else as it was; of permissions the low
-/// twelve bits.
+/// The owner of an existing entry after attributes are set: what they give, and else as it was. Of the permissions
+/// given the low twelve bits count.
 pub(crate) fn changed_owner(attrs: &Attrs, owner: Owner) -> Owner
     requires { IsOwner owner }
     ensures owner { result ≡ spec.changed_owner attrs.now owner }

@@ -7,9 +7,10 @@ ghost use Rattle.sftp_treefile.specs.declared.files.TreeFile.{TreeFile};
 ghost use Rattle.sftp_tree.specs.Tree.{Tree, WellFormed, IsKept, fits};
 ghost use Rattle.sftp_tree.specs.Picture.{IsStart, file_of, picture, blank};
 ghost use Rattle.sftp_tree.specs.PictureParts.{tree_of};
-ghost use Rattle.sftp_tree.specs.PictureExamples.{linked, linked_front, linked_root, linked_directory, linked_link, two_names, two_names_bytes};
+ghost use Rattle.sftp_tree.specs.PictureExamples.{linked, linked_front, linked_root, linked_directory};
+ghost use Rattle.sftp_tree.specs.PictureExamples.{linked_link, two_names, two_names_bytes};
 
-/// Bytes are the tree file of one tree.
+/// No two starts have the same tree file.
 pub fn starts_are_one()
     ensures { (t u : Tree) (bytes : List ℕ) → IsStart t bytes → IsStart u bytes → t ≡ u }
 {}
@@ -26,7 +27,7 @@ pub fn starts_have_tree_files()
     ensures file { (t : Tree) (bytes : List ℕ) → IsStart t bytes → IsSpelled (file_of t) bytes }
 {}
 
-/// The tree of nothing but a root is one that the program may have, and these 37 bytes are its tree file.
+/// The blank tree is one that the program may have, and these 37 bytes are its tree file.
 pub fn blank_is_a_start()
     ensures kept { IsKept blank }
     ensures bytes { picture blank ≡ blank_bytes }

@@ -17,12 +17,12 @@ use std::alloc::Global;
 use writing::picture_of;
 
 impl Tree {
-    /// The tree of nothing but a root: it is the home, it has permissions 0o755, and the user and the group 0 own it
+    /// The blank tree: the root alone, which is the home and has permissions 0o755. The user 0 and the group 0 own it,
     /// and what is made with no owner given.
     ///
     /// # Errors
     ///
-    /// `NoMemory` where memory runs out.
+    /// `NoMemory` if memory runs out.
     pub fn blank(alloc: Global) -> Result<Tree, NoMemory>
         ensures { IfOk result (λ t. t ≡ blank) }
     {
@@ -41,7 +41,7 @@ impl Tree {
     ///
     /// # Errors
     ///
-    /// `NoMemory` where memory runs out, and otherwise the fault of the tree file, as `sftp_treefile::read_rows` has
+    /// `NoMemory` if memory runs out, and otherwise the fault of the tree file, as `sftp_treefile::read_rows` returns
     /// it.
     pub fn read(alloc: Global, bytes: &[u8]) -> Result<Tree, TreeError>
         ensures found { IfOk result (λ t. IsStart t bytes.now) }
@@ -56,7 +56,7 @@ impl Tree {
     ///
     /// # Errors
     ///
-    /// `NoMemory` where memory runs out.
+    /// `NoMemory` if memory runs out.
     pub fn write(&self) -> Result<Vec<u8>, NoMemory>
         ensures { IfOk result (λ v. v.items ≡ picture self.now) }
     {

@@ -14,7 +14,7 @@ use sftp_path::Place;
 use sftp_wire::Attrs;
 
 impl Tree {
-    /// The causes at the place that the path leads to; of two paths the first.
+    /// The causes at the place that the path, or the first of two, leads to.
     pub(crate) fn causes_at(&self, ask: PathAsk<'_>, place: &Place) -> Causes
         ensures { in_set result ≡ steps.causes_at self.now (asked ask.entry) place.now }
     {
@@ -75,7 +75,7 @@ impl Tree {
         }
     }
 
-    /// Of a directory that is to be removed.
+    /// The causes of a directory that is to be removed.
     fn removing(&self, place: &Place) -> Causes
         ensures { in_set result ≡ steps.removing_causes self.now.names place.now }
     {
@@ -87,7 +87,7 @@ impl Tree {
             .when(Cause::Root, is_root(place))
     }
 
-    /// Of what is to go from there to another place.
+    /// The causes of a node that is to move to another place.
     fn leaving(&self, place: &Place) -> Causes
         ensures { in_set result ≡ steps.leaving_causes self.now.names place.now }
     {
@@ -101,15 +101,15 @@ impl Tree {
         is_directory(self.standing(old)) && is_below(old, new)
     }
 
-    /// Of what is to go to a place that is free.
+    /// The causes of a move to a free place.
     fn moving(&self, old: &Place, new: &Place) -> Causes
         ensures { in_set result ≡ steps.moving_causes self.now.names old.now new.now }
     {
         Causes::none().when(Cause::Inside, self.goes_inside(old, new))
     }
 
-    /// Of what is to go to a place where something else may stand, in its stead. To the same place, or from one name of a file
-    /// to another, nothing goes.
+    /// The causes of a move that replaces the node at the new place, if there is one. Nothing moves if both are the
+    /// same place, or names of one file.
     fn exchanging(&self, old: &Place, new: &Place) -> Causes
         ensures { in_set result ≡ steps.exchanging_causes self.now.names old.now new.now }
     {
@@ -124,35 +124,35 @@ impl Tree {
     }
 }
 
-/// Of what is to be made there.
+/// The causes of a node that is to be made.
 fn making(found: Option<&Node>) -> Causes
     ensures { in_set result ≡ steps.making_causes (option_copied found.entry) }
 {
     Causes::none().when(Cause::Exists, is_taken(found))
 }
 
-/// Of what is to be there.
+/// The causes of a node that must exist.
 fn needing(found: Option<&Node>) -> Causes
     ensures { in_set result ≡ steps.needing_causes (option_copied found.entry) }
 {
     Causes::none().when(Cause::NoEntry, !is_taken(found))
 }
 
-/// Of a link that is to be there.
+/// The causes of a node that must be a link.
 fn reading(found: Option<&Node>) -> Causes
     ensures { in_set result ≡ steps.link_causes (option_copied found.entry) }
 {
     needing(found).when(Cause::NotLink, is_taken(found) && !is_link(found))
 }
 
-/// Of a file that is to be there.
+/// The causes of a node that must be a name of a file.
 fn naming(found: Option<&Node>) -> Causes
     ensures { in_set result ≡ steps.file_causes (option_copied found.entry) }
 {
     needing(found).when(Cause::NotFile, is_taken(found) && !is_file(found))
 }
 
-/// Of what is there and is to get attributes: only a file has a size that can be set.
+/// The causes of a node that is to get attributes: only a file has a size that can be set.
 fn setting(attrs: &Attrs, found: Option<&Node>) -> Causes
     ensures { in_set result ≡ steps.setting_causes attrs.now (option_copied found.entry) }
 {
@@ -160,21 +160,21 @@ fn setting(attrs: &Attrs, found: Option<&Node>) -> Causes
     needing(found).when(Cause::NotFile, sized)
 }
 
-/// Of a name that is to be removed, which is no directory's.
+/// The causes of a name that is to be removed, and must not be a directory.
 fn unlinking(found: Option<&Node>) -> Causes
     ensures { in_set result ≡ steps.unlinking_causes (option_copied found.entry) }
 {
     needing(found).when(Cause::IsDir, is_directory(found))
 }
 
-/// Of a place that is to be given to something else.
+/// The causes of a place that is to get another node.
 fn giving(place: &Place) -> Causes
     ensures { in_set result ≡ steps.giving_causes place.now }
 {
     Causes::none().when(Cause::Root, is_root(place))
 }
 
-/// Of what is to come in the stead of something else.
+/// The causes of a node that is to replace another.
 fn clashing(goes: Option<&Node>, stays: Option<&Node>, entries: bool) -> Causes
     ensures { in_set result ≡ steps.clashing_causes (option_copied goes.entry) (option_copied stays.entry) entries }
 {

@@ -1,4 +1,4 @@
-//! What is to be done for a request, and how it is done.
+//! The plans of requests, and how they are carried out.
 ghost use Rattle.std.specs.Prelude.{◌≡◌, Some, IfOk, IfErr, IsTrue, OnOk, OnErr};
 ghost use Rattle.sftp_treefile.specs.TreeFile.{are_bytes};
 ghost use Rattle.sftp_tree.specs.declared.nodes.Node.TheVariants.{File, Link};
@@ -19,32 +19,33 @@ use crate::trees::Tree;
 use sftp_path::{NoMemory, Place};
 use sftp_wire::{Attrs, ByteString};
 
-/// What is to be done.
+/// What is to be done for a request that no cause refuses.
 #[derive(Drop)]
 pub(crate) enum Plan<'a> {
     /// Nothing.
     Nothing,
-    /// Put this where nothing stands.
+    /// Put the node at the place, which is free.
     Put(Place, Node),
-    /// Remove what stands there.
+    /// Remove the node at the place.
     Remove(Place),
-    /// Move what stands there, with all below it, to another place, in the stead of what stands there.
+    /// Move the node at the first place, with all below it, to the second, and replace the node there.
     Move(Place, Place),
-    /// Set the attributes of what stands there.
+    /// Set the attributes of the node at the place.
     Set(Place, &'a Attrs),
 }
 
 impl Tree {
-    /// What is to be done for a request, where no cause refuses it.
+    /// The plan of a request, if no cause refuses it.
     ///
     /// # Errors
     ///
-    /// The first cause that holds: of the request's own bytes, then of the walks, then in the order of the table. `NoMemory`
-    /// where memory runs out.
+    /// The first cause that holds: of the request's own bytes, then of the walks, then in the order of the table.
+    /// `NoMemory` if memory runs out.
     pub(crate) fn plan<'a>(&self, ask: PathAsk<'a>) -> Result<Plan<'a>, Refused>
         ensures free { OnOk result (IsFree self.now (asked ask.entry)) }
         ensures ready { IfOk result (λ plan. spec.IsReady self.now plan) }
-        ensures done { IfOk result (λ plan. tree.trim (spec.changed self.now plan) ≡ steps.after self.now (asked ask.entry)) }
+        ensures done { IfOk result
+            (λ plan. tree.trim (spec.changed self.now plan) ≡ steps.after self.now (asked ask.entry)) }
         ensures refused { IfErr result (λ refused. IsRefusal self.now (asked ask.entry) refused) }
     {
         let places = self.free_places(ask)?;
@@ -52,11 +53,11 @@ impl Tree {
         Ok(plan)
     }
 
-    /// What is to be done for a request at the places that its paths lead to.
+    /// The plan of a request at the places that its paths lead to.
     ///
     /// # Errors
     ///
-    /// `NoMemory` where memory runs out.
+    /// `NoMemory` if memory runs out.
     fn plan_for<'a>(&self, ask: PathAsk<'a>, places: Places) -> Result<Plan<'a>, NoMemory>
         requires free { IsFree self.now (asked ask) }
         requires led { LeadTo self.now (asked ask) places }
@@ -70,11 +71,11 @@ impl Tree {
         }
     }
 
-    /// What is to be done at the place that the path of a request leads to.
+    /// The plan of a request at the place that its path leads to.
     ///
     /// # Errors
     ///
-    /// `NoMemory` where memory runs out.
+    /// `NoMemory` if memory runs out.
     fn plan_at<'a>(&self, ask: PathAsk<'a>, place: Place) -> Result<Plan<'a>, NoMemory>
         ensures plan { IfOk result (spec.IsPlanAt self.now (asked ask.entry) place) }
         ensures node { IfOk result (λ plan. spec.HasNode self.now (asked ask.entry)) }
@@ -97,7 +98,7 @@ impl Tree {
         })
     }
 
-    /// What is to be done at the two places that the paths of a request lead to.
+    /// The plan of a request at the two places that its paths lead to.
     fn plan_between<'a>(&self, ask: PathAsk<'a>, old: Place, new: Place) -> Plan<'a>
         requires { spec.IsFileAt self.now (asked ask) old }
         ensures { spec.IsPlanBetween self.now (asked ask.entry) old new result }
@@ -124,11 +125,11 @@ impl Tree {
         }
     }
 
-    /// Does what is to be done; a file goes with its last name.
+    /// Carries out a plan. A file is removed with its last name.
     ///
     /// # Errors
     ///
-    /// `NoMemory` where memory runs out; the tree is then as before.
+    /// `NoMemory` if memory runs out; the tree is then as before.
     pub(crate) fn apply(&mut self, plan: Plan<'_>) -> Result<(), NoMemory>
         requires { spec.IsReady self.old plan }
         ensures ok { OnOk result (self.new ≡ tree.trim (spec.changed self.old plan.entry)) }
@@ -150,7 +151,7 @@ impl Tree {
     ///
     /// # Errors
     ///
-    /// `NoMemory` where memory runs out.
+    /// `NoMemory` if memory runs out.
     fn link_to(&self, target: &[u8]) -> Result<Node, NoMemory>
         ensures node { IfOk result (λ node. node ≡ Link target.now) }
         ensures bytes { OnOk result (IsTrue (are_bytes target.now)) }
@@ -172,15 +173,17 @@ impl Tree {
         }
     }
 
-    /// Sets the attributes of what stands at a place.
+    /// Sets the attributes of the node at a place.
     ///
     /// # Errors
     ///
-    /// `NoMemory` where memory runs out; the tree is then as before.
+    /// `NoMemory` if memory runs out; the tree is then as before.
     fn set_attributes(&mut self, place: &Place, attrs: &Attrs) -> Result<(), NoMemory>
-        requires { IsTrue (tree.fits (steps.with_attributes self.old attrs.now place.now (tree.node_at self.old.names place.now))) }
+        requires { IsTrue (tree.fits
+            (steps.with_attributes self.old attrs.now place.now (tree.node_at self.old.names place.now))) }
         ensures ok { OnOk result
-            (self.new ≡ tree.trim (steps.with_attributes self.old attrs.now place.now (tree.node_at self.old.names place.now))) }
+            (self.new
+            ≡ tree.trim (steps.with_attributes self.old attrs.now place.now (tree.node_at self.old.names place.now))) }
         ensures err { OnErr result (self.new ≡ self.old) }
     {
         match self.standing(place) {

@@ -51,21 +51,22 @@ impl Tree {
         }
     }
 
-    /// Whether one entry more, at a new place, keeps to the limits. The root is one of the places, and no entry.
+    /// Whether one more entry, at a new place, keeps to the limits. The root is a place, but does not count as an
+    /// entry.
     fn has_room(&self, place: &Place) -> bool
         ensures { result ≡ room.has_room self.now place.now }
     {
         self.names().len() <= self.tree_limits().entries as usize && place.depth() <= DEPTH_LIMIT
     }
 
-    /// Whether what stands at the old place, with all below it, keeps to the most names of a place at the new one.
+    /// Whether the node at the old place, with all below it, keeps to the limit of names in a place at the new one.
     fn move_fits(&self, old: &Place, new: &Place) -> bool
         ensures { result ≡ room.move_fits self.now.names old.now new.now }
     {
         new.depth() <= DEPTH_LIMIT && self.names().reaches_at_most(old, DEPTH_LIMIT - new.depth())
     }
 
-    /// Whether a file may have the size that is given, where one is.
+    /// Whether a file may have the size that is given, if one is.
     fn size_fits(&self, attrs: &Attrs) -> bool
         ensures { result ≡ room.size_fits (tree.limits self.now) attrs.now.size }
     {
@@ -75,9 +76,11 @@ impl Tree {
         }
     }
 
-    /// Whether a file that stands at the place may have the size that is given, where one is.
+    /// Whether a file at the place may have the size that is given, if one is. A node that is not a file keeps to the
+    /// limits.
     fn size_fits_at(&self, attrs: &Attrs, place: &Place) -> bool
-        ensures { result ≡ room.size_fits_at (tree.limits self.now) attrs.now.size (tree.node_at self.now.names place.now) }
+        ensures { result
+            ≡ room.size_fits_at (tree.limits self.now) attrs.now.size (tree.node_at self.now.names place.now) }
     {
         !is_file(self.standing(place)) || self.size_fits(attrs)
     }

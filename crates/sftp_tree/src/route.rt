@@ -63,7 +63,7 @@ impl<'a> Targets<'a> {
     ///
     /// # Errors
     ///
-    /// `NoMemory` where memory runs out.
+    /// `NoMemory` if memory runs out.
     fn push_front(&mut self, target: Parts<'a>) -> Result<(), NoMemory>
         ensures { OnOk result (self.new ≡ target.entry.left ++ self.old) }
     {
@@ -138,7 +138,7 @@ impl<'a> Route<'a> {
     ///
     /// # Errors
     ///
-    /// `NoMemory` where memory runs out.
+    /// `NoMemory` if memory runs out.
     pub(crate) fn go_through(&mut self, target: Parts<'a>) -> Result<(), NoMemory>
         ensures { OnOk result (self.new ≡ target.entry.left ++ self.old) }
     {

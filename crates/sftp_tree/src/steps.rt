@@ -1,7 +1,8 @@
-//! What requests do to a tree, and what they are told (draft, sections 6.5 to 6.11; OpenSSH's PROTOCOL, sections 4.3 and
+//! What requests do to a tree, and what they return (draft, sections 6.5 to 6.11; OpenSSH's PROTOCOL, sections 4.3 and
 //! 4.5). A bad path has the cause `BadPath`, and one that leads nowhere the walk's: `NoEntry`, `NotDir` or `Loop`.
 ghost use Rattle.std.specs.Prelude.{◌≡◌, Some, IfOk, IfErr, IsTrue, OnOk, OnErr};
-ghost use Rattle.sftp_wire.specs.declared.packets.Ask.TheVariants.{Setstat, Remove, Mkdir, Rmdir, Realpath, Rename, Readlink, Symlink, PosixRename, Hardlink};
+ghost use Rattle.sftp_wire.specs.declared.packets.Ask.TheVariants.{Setstat, Remove, Mkdir, Rmdir, Realpath, Rename};
+ghost use Rattle.sftp_wire.specs.declared.packets.Ask.TheVariants.{Readlink, Symlink, PosixRename, Hardlink};
 ghost use Rattle.sftp_tree.specs.declared.nodes.Node.TheVariants.{Link};
 ghost use Rattle.sftp_tree.specs.Tree as tree;
 ghost use Rattle.sftp_tree.specs.Steps as steps;
@@ -15,12 +16,12 @@ use sftp_path::{Place, absolute};
 use sftp_wire::Attrs;
 
 impl Tree {
-    /// MKDIR: makes an empty directory. What the attributes do not give is the tree's owner, and permissions 0o755;
-    /// of the permissions given the low twelve bits count, and all else is passed over.
+    /// MKDIR: makes an empty directory. If the attributes give no owner, it gets the tree's; if they give no
+    /// permissions, 0o755. Of the permissions given the low twelve bits count; other attributes are ignored.
     ///
     /// # Errors
     ///
-    /// The first cause that holds: `BadPath`, the walk's, `Exists` or `NoRoom`. `NoMemory` where memory runs out. The tree
+    /// The first cause that holds: `BadPath`, the walk's, `Exists` or `NoRoom`. `NoMemory` if memory runs out. The tree
     /// is then as before.
     pub fn mkdir(&mut self, path: &[u8], attrs: &Attrs) -> Result<(), Refused>
         ensures free { OnOk result (IsFree self.old (Mkdir path.now attrs.now)) }
@@ -37,7 +38,7 @@ impl Tree {
     ///
     /// # Errors
     ///
-    /// The first cause that holds: `BadPath`, the walk's, `NoEntry`, `NotDir`, `NotEmpty` or `Root`. `NoMemory` where
+    /// The first cause that holds: `BadPath`, the walk's, `NoEntry`, `NotDir`, `NotEmpty` or `Root`. `NoMemory` if
     /// memory runs out. The tree is then as before.
     pub fn rmdir(&mut self, path: &[u8]) -> Result<(), Refused>
         ensures free { OnOk result (IsFree self.old (Rmdir path.now)) }
@@ -50,11 +51,11 @@ impl Tree {
         Ok(())
     }
 
-    /// REMOVE: removes a name of a file, or a link. A file goes with its last name.
+    /// REMOVE: removes a name of a file, or a link. A file is removed with its last name.
     ///
     /// # Errors
     ///
-    /// The first cause that holds: `BadPath`, the walk's, `NoEntry` or `IsDir`. `NoMemory` where memory runs out. The tree
+    /// The first cause that holds: `BadPath`, the walk's, `NoEntry` or `IsDir`. `NoMemory` if memory runs out. The tree
     /// is then as before.
     pub fn remove(&mut self, path: &[u8]) -> Result<(), Refused>
         ensures free { OnOk result (IsFree self.old (Remove path.now)) }
@@ -67,13 +68,13 @@ impl Tree {
         Ok(())
     }
 
-    /// SETSTAT: sets the size of a file, which cuts its bytes or fills them with zeros, and the owner and the low twelve
-    /// bits of the permissions of a file or a directory, each where it is given. All else is passed over.
+    /// SETSTAT: sets the size of a file, which cuts its bytes or fills them with zeros, and the owner and the low
+    /// twelve bits of the permissions of a file or a directory, each if it is given. Other attributes are ignored.
     ///
     /// # Errors
     ///
-    /// The first cause that holds: `BadPath`, the walk's, `NoEntry`, `NotFile` where a directory is given a size, or
-    /// `NoRoom`. `NoMemory` where memory runs out. The tree is then as before.
+    /// The first cause that holds: `BadPath`, the walk's, `NoEntry`, `NotFile` if a directory is given a size, or
+    /// `NoRoom`. `NoMemory` if memory runs out. The tree is then as before.
     pub fn set_stat(&mut self, path: &[u8], attrs: &Attrs) -> Result<(), Refused>
         ensures free { OnOk result (IsFree self.old (Setstat path.now attrs.now)) }
         ensures done { OnOk result (self.new ≡ steps.after self.old (Setstat path.now attrs.now)) }
@@ -85,12 +86,12 @@ impl Tree {
         Ok(())
     }
 
-    /// RENAME: gives what stands at the old path, with all below it, a new place that is free.
+    /// RENAME: moves the node at the old path, with all below it, to a new place that is free.
     ///
     /// # Errors
     ///
     /// The first cause that holds: `BadPath`, the walk's of the old path and then of the new one, `NoEntry`, `Exists`,
-    /// `Root`, `Inside` or `NoRoom`. `NoMemory` where memory runs out. The tree is then as before.
+    /// `Root`, `Inside` or `NoRoom`. `NoMemory` if memory runs out. The tree is then as before.
     pub fn rename(&mut self, old: &[u8], new: &[u8]) -> Result<(), Refused>
         ensures free { OnOk result (IsFree self.old (Rename old.now new.now)) }
         ensures done { OnOk result (self.new ≡ steps.after self.old (Rename old.now new.now)) }
@@ -102,14 +103,14 @@ impl Tree {
         Ok(())
     }
 
-    /// posix-rename (OpenSSH's PROTOCOL, section 4.3): gives what stands at the old path, with all below it, the new place,
-    /// where a directory replaces an empty directory, and what is no directory replaces what is none. Nothing is done where
-    /// both are one place, or names of one file. A file goes with its last name.
+    /// posix-rename (OpenSSH's PROTOCOL, section 4.3): moves the node at the old path, with all below it, to the new
+    /// place. A directory replaces an empty directory, and any other node replaces one that is not a directory. Nothing
+    /// is done if both are the same place, or names of one file. A file is removed with its last name.
     ///
     /// # Errors
     ///
     /// The first cause that holds: `BadPath`, the walk's of the old path and then of the new one, `NoEntry`, `NotDir`,
-    /// `IsDir`, `NotEmpty`, `Root`, `Inside` or `NoRoom`. `NoMemory` where memory runs out. The tree is then as before.
+    /// `IsDir`, `NotEmpty`, `Root`, `Inside` or `NoRoom`. `NoMemory` if memory runs out. The tree is then as before.
     pub fn posix_rename(&mut self, old: &[u8], new: &[u8]) -> Result<(), Refused>
         ensures free { OnOk result (IsFree self.old (PosixRename old.now new.now)) }
         ensures done { OnOk result (self.new ≡ steps.after self.old (PosixRename old.now new.now)) }
@@ -126,7 +127,7 @@ impl Tree {
     /// # Errors
     ///
     /// The first cause that holds: `BadPath`, the walk's of the old path and then of the new one, `NoEntry`, `Exists`,
-    /// `NotFile` or `NoRoom`. `NoMemory` where memory runs out. The tree is then as before.
+    /// `NotFile` or `NoRoom`. `NoMemory` if memory runs out. The tree is then as before.
     pub fn hardlink(&mut self, old: &[u8], new: &[u8]) -> Result<(), Refused>
         ensures free { OnOk result (IsFree self.old (Hardlink old.now new.now)) }
         ensures done { OnOk result (self.new ≡ steps.after self.old (Hardlink old.now new.now)) }
@@ -138,12 +139,12 @@ impl Tree {
         Ok(())
     }
 
-    /// SYMLINK: makes a link with these bytes for its target, as they came.
+    /// SYMLINK: makes a link with these bytes, unchanged, for its target.
     ///
     /// # Errors
     ///
     /// The first cause that holds: `BadPath`, of the target or of the link's path, the walk's, `Exists` or `NoRoom`.
-    /// `NoMemory` where memory runs out. The tree is then as before.
+    /// `NoMemory` if memory runs out. The tree is then as before.
     pub fn symlink(&mut self, target: &[u8], link: &[u8]) -> Result<(), Refused>
         ensures free { OnOk result (IsFree self.old (Symlink target.now link.now)) }
         ensures done { OnOk result (self.new ≡ steps.after self.old (Symlink target.now link.now)) }
@@ -155,12 +156,12 @@ impl Tree {
         Ok(())
     }
 
-    /// STAT where a link that is last is followed, LSTAT where it is not: the size, the owner and the permissions, with the
-    /// bits of the type, of what stands there.
+    /// STAT if a last link is followed, LSTAT if it is not: the size, the owner and the permissions, with the bits of
+    /// the type, of the node that the path leads to.
     ///
     /// # Errors
     ///
-    /// The first cause that holds: `BadPath`, the walk's, or `NoEntry`. `NoMemory` where memory runs out.
+    /// The first cause that holds: `BadPath`, the walk's, or `NoEntry`. `NoMemory` if memory runs out.
     pub fn stat(&self, path: &[u8], follow: bool) -> Result<Attrs, Refused>
         ensures free { OnOk result (IsFree self.now (stat_ask follow path.now)) }
         ensures shown { IfOk result (λ attrs. steps.shown_to self.now (stat_ask follow path.now) ≡ Some attrs) }
@@ -176,11 +177,11 @@ impl Tree {
         Ok(self.shown_at(&places.old))
     }
 
-    /// REALPATH: the absolute text of the place that the path leads to. Its last name may be absent.
+    /// REALPATH: the absolute text of the place that the path leads to. Its last name need not exist.
     ///
     /// # Errors
     ///
-    /// The first cause that holds: `BadPath`, or the walk's. `NoMemory` where memory runs out.
+    /// The first cause that holds: `BadPath`, or the walk's. `NoMemory` if memory runs out.
     pub fn real_path(&self, path: &[u8]) -> Result<Vec<u8>, Refused>
         ensures free { OnOk result (IsFree self.now (Realpath path.now)) }
         ensures text { IfOk result (λ text. steps.text_to self.now (Realpath path.now) ≡ Some text.items) }
@@ -195,7 +196,7 @@ impl Tree {
     ///
     /// # Errors
     ///
-    /// The first cause that holds: `BadPath`, the walk's, `NoEntry` or `NotLink`. `NoMemory` where memory runs out.
+    /// The first cause that holds: `BadPath`, the walk's, `NoEntry` or `NotLink`. `NoMemory` if memory runs out.
     pub fn read_link(&self, path: &[u8]) -> Result<Vec<u8>, Refused>
         ensures free { OnOk result (IsFree self.now (Readlink path.now)) }
         ensures target { IfOk result (λ target. steps.target_to self.now (Readlink path.now) ≡ Some target.items) }
@@ -207,7 +208,7 @@ impl Tree {
         Ok(Vec::from_slice(self.home().allocator(), target)?)
     }
 
-    /// What is shown of what stands at a place.
+    /// The attributes shown of the node at a place.
     fn shown_at(&self, place: &Place) -> Attrs
         requires { IsTrue (tree.is_taken (tree.node_at self.now.names place.now)) }
         ensures { steps.shown_at self.now (tree.node_at self.now.names place.now) ≡ Some result }
@@ -218,7 +219,7 @@ impl Tree {
         }
     }
 
-    /// The target of the link that stands at a place.
+    /// The target of the link at a place.
     fn target_at(&self, place: &Place) -> &[u8]
         requires { IsTrue (tree.is_link (tree.node_at self.now.names place.now)) }
         ensures { steps.target_of (tree.node_at self.now.names place.now) ≡ Some result.now }

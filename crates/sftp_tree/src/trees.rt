@@ -124,7 +124,7 @@ impl Tree {
     ///
     /// # Errors
     ///
-    /// `NoMemory` where memory runs out; the tree is then as before.
+    /// `NoMemory` if memory runs out; the tree is then as before.
     pub(crate) fn put(&mut self, place: Place, node: Node) -> Result<(), NoMemory>
         requires absent { tree.node_at self.old.names place ≡ None }
         requires named { IsTrue (are_names place) }
@@ -141,8 +141,8 @@ impl Tree {
         Ok(())
     }
 
-    /// Removes the node at a place: a link, a name of a file, or an empty directory that is not the root. A file goes
-    /// with its last name.
+    /// Removes the node at a place: a link, a name of a file, or an empty directory that is not the root. A file is
+    /// removed with its last name.
     pub(crate) fn remove_at(&mut self, place: &Place)
         requires taken { IsTrue (tree.is_taken (tree.node_at self.old.names place.now)) }
         requires below_root { is_root place.now ≡ false }
@@ -153,12 +153,12 @@ impl Tree {
         self.files.forget_name(file_named(gone.as_ref()));
     }
 
-    /// Moves the node at the old place, with all below it, to the new one, and replaces the node there; a file goes
-    /// with its last name. Neither place is the root, and no directory goes inside itself.
+    /// Moves the node at the old place, with all below it, to the new one, and replaces the node there; a file is
+    /// removed with its last name. Neither place is the root, and no directory goes inside itself.
     ///
     /// # Errors
     ///
-    /// `NoMemory` where memory runs out; the tree is then as before.
+    /// `NoMemory` if memory runs out; the tree is then as before.
     pub(crate) fn move_to(&mut self, old: &Place, new: Place) -> Result<(), NoMemory>
         requires taken { IsTrue (tree.is_taken (tree.node_at self.old.names old.now)) }
         requires old_below_root { is_root old.now ≡ false }
@@ -181,21 +181,24 @@ impl Tree {
     pub(crate) fn set_owner(&mut self, place: &Place, owner: Owner)
         requires directory { IsTrue (tree.is_directory (tree.node_at self.old.names place.now)) }
         requires owner { IsOwner owner }
-        ensures { self.new ≡ tree.trim (record self.old { names = tree.with_node self.old.names place.now (Dir owner) }) }
+        ensures { self.new
+            ≡ tree.trim (record self.old { names = tree.with_node self.old.names place.now (Dir owner) }) }
     {
         self.names.set_owner(place, owner);
     }
 
     /// Sets the attributes of a file: its size, which cuts the bytes or fills them with zeros, its owner and the low
-    /// twelve bits of its permissions, each where it is given. The limits allow the size.
+    /// twelve bits of its permissions, each if it is given. The limits allow the size.
     ///
     /// # Errors
     ///
-    /// `NoMemory` where memory runs out; the tree is then as before.
+    /// `NoMemory` if memory runs out; the tree is then as before.
     pub(crate) fn change_file(&mut self, number: FileNo, attrs: &Attrs) -> Result<(), NoMemory>
-        requires { IsTrue (tree.fits (steps.with_changed_file self.old attrs.now number (tree.content_at self.old.files number))) }
+        requires { IsTrue (tree.fits
+            (steps.with_changed_file self.old attrs.now number (tree.content_at self.old.files number))) }
         ensures ok { OnOk result
-            (self.new ≡ tree.trim (steps.with_changed_file self.old attrs.now number (tree.content_at self.old.files number))) }
+            (self.new
+            ≡ tree.trim (steps.with_changed_file self.old attrs.now number (tree.content_at self.old.files number))) }
         ensures err { OnErr result (self.new ≡ self.old) }
     {
         self.files.change_at(number, attrs)?;

@@ -15,8 +15,8 @@ use sftp_path::{NoMemory, Parts, Place, components, is_dot, is_dot_dot};
 /// The most links that one walk follows. The limit is this profile's own.
 const LINK_LIMIT: usize = 40;
 
-/// What a walk meets at a component. It was moved to the place where it goes on or ends; at a link that it goes
-/// through it stands where it stood.
+/// What a walk meets at a component. The walk has moved to the place where it goes on or ends; at a link that it goes
+/// through, it has not moved.
 #[derive(Clone, Copy)]
 pub(crate) enum Met<'a> {
     /// It goes on.
@@ -29,11 +29,11 @@ pub(crate) enum Met<'a> {
     Through(&'a [u8]),
 }
 
-/// Goes on by one component from `at`, with one look-up at most. Where the walk leads nowhere, `at` may have moved.
+/// Goes on by one component from `at`, with one look-up at most. If the walk leads nowhere, `at` may have moved.
 ///
 /// # Errors
 ///
-/// `NoMemory` where memory runs out.
+/// `NoMemory` if memory runs out.
 #[tactic(auto, unfolding(crate::specs::Walk::meets, sftp_path::specs::Table::get))]
 fn meet<'a>(
     names: &'a Entries,
@@ -69,7 +69,7 @@ fn meet<'a>(
     })
 }
 
-/// Goes from a link to where its target starts: to the root where the target is absolute.
+/// Goes from a link to where its target starts: to the root if the target is absolute.
 fn go_to_start(at: &mut Place, target: &Parts<'_>)
     ensures { at.new ≡ (if target.now.absolute then [] else at.old) }
 {
@@ -79,12 +79,12 @@ fn go_to_start(at: &mut Place, target: &Parts<'_>)
 }
 
 impl Tree {
-    /// Where a path leads, or why it leads nowhere. A path that is not absolute follows the home's components; a
-    /// link that is last is followed where `follow` says so.
+    /// Where a path leads, or why it leads nowhere. A path that is not absolute follows the home's components; a last
+    /// link is followed if `follow` says so.
     ///
     /// # Errors
     ///
-    /// `NoMemory` where memory runs out.
+    /// `NoMemory` if memory runs out.
     pub(crate) fn reach(
         &self,
         home: &Place,
@@ -107,7 +107,7 @@ impl Tree {
     ///
     /// # Errors
     ///
-    /// `NoMemory` where memory runs out.
+    /// `NoMemory` if memory runs out.
     fn follow_route<'a>(
         &'a self,
         follow: bool,

@@ -2,9 +2,11 @@
 //! bytes after it.
 ghost use Rattle.std.specs.Prelude.{◌≡◌, [], ◌∷◌, IfOk, IfErr, IsTrue};
 ghost use Rattle.sftp_wire.specs.Spelling.{uint32, string};
-ghost use Rattle.sftp_treefile.specs.TreeFile.{place_of, owner_text, kind_text, are_bytes, is_first_row, entry_at, IsPlaceText, IsOwner, IsKind};
+ghost use Rattle.sftp_treefile.specs.TreeFile.{place_of, owner_text, kind_text, are_bytes};
+ghost use Rattle.sftp_treefile.specs.TreeFile.{is_first_row, entry_at, IsPlaceText, IsOwner, IsKind};
 ghost use Rattle.sftp_treefile.specs.TreeFile as spec;
-ghost use Rattle.sftp_treefile.specs.TreeFileParts.{Reads, ReadsNone, OutOfMemoryOr, IsAt, IsNumber, IsPermissions, IsTarget, IsFileBytes, IsFile, file_text, IsFirstAmong};
+ghost use Rattle.sftp_treefile.specs.TreeFileParts.{Reads, ReadsNone, OutOfMemoryOr, IsAt, IsNumber, IsPermissions};
+ghost use Rattle.sftp_treefile.specs.TreeFileParts.{IsTarget, IsFileBytes, IsFile, file_text, IsFirstAmong};
 
 use crate::errors::TreeError;
 use crate::files::{Kind, Owner, Row};

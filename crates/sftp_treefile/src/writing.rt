@@ -80,7 +80,8 @@ pub fn put_head(out: &mut Vec<u8>, head: &Head) -> Result<(), NoMemory>
 /// `NoMemory` if memory runs out; `out` then holds a part of what was to be written.
 pub fn put_directory(out: &mut Vec<u8>, path: &[u8], owner: &Owner) -> Result<(), NoMemory>
     requires { length path.now < 2 ^ 32 }
-    ensures { OnOk result (out.new.items ≡ out.old.items ++ row_text (record { path = path.now; kind = Dir owner.now })) }
+    ensures { OnOk result
+        (out.new.items ≡ out.old.items ++ row_text (record { path = path.now; kind = Dir owner.now })) }
 {
     put_string(out, path)?;
     out.push(b'D')?;
@@ -96,7 +97,8 @@ pub fn put_directory(out: &mut Vec<u8>, path: &[u8], owner: &Owner) -> Result<()
 pub fn put_file(out: &mut Vec<u8>, path: &[u8], owner: &Owner, bytes: &[u8]) -> Result<(), NoMemory>
     requires path { length path.now < 2 ^ 32 }
     requires bytes { length bytes.now < 2 ^ 32 }
-    ensures { OnOk result (out.new.items ≡ out.old.items ++ row_text (record { path = path.now; kind = First owner.now bytes.now })) }
+    ensures { OnOk result
+        (out.new.items ≡ out.old.items ++ row_text (record { path = path.now; kind = First owner.now bytes.now })) }
 {
     put_string(out, path)?;
     out.push(b'F')?;
@@ -112,7 +114,8 @@ pub fn put_file(out: &mut Vec<u8>, path: &[u8], owner: &Owner, bytes: &[u8]) -> 
 /// `NoMemory` if memory runs out; `out` then holds a part of what was to be written.
 pub fn put_further_name(out: &mut Vec<u8>, path: &[u8], number: u32) -> Result<(), NoMemory>
     requires { length path.now < 2 ^ 32 }
-    ensures { OnOk result (out.new.items ≡ out.old.items ++ row_text (record { path = path.now; kind = Further number })) }
+    ensures { OnOk result
+        (out.new.items ≡ out.old.items ++ row_text (record { path = path.now; kind = Further number })) }
 {
     put_string(out, path)?;
     out.push(b'H')?;
@@ -128,7 +131,8 @@ pub fn put_further_name(out: &mut Vec<u8>, path: &[u8], number: u32) -> Result<(
 pub fn put_link(out: &mut Vec<u8>, path: &[u8], target: &[u8]) -> Result<(), NoMemory>
     requires path { length path.now < 2 ^ 32 }
     requires target { length target.now < 2 ^ 32 }
-    ensures { OnOk result (out.new.items ≡ out.old.items ++ row_text (record { path = path.now; kind = Link target.now })) }
+    ensures { OnOk result
+        (out.new.items ≡ out.old.items ++ row_text (record { path = path.now; kind = Link target.now })) }
 {
     put_string(out, path)?;
     out.push(b'L')?;

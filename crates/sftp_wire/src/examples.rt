@@ -80,7 +80,8 @@ pub fn requests_on_handles()
 /// The extensions that have requests of their own (OpenSSH's PROTOCOL, sections 4.3, 4.5 and 4.6), and an unknown one.
 pub fn extensions()
     ensures posix_rename { IsAsked
-        (codes "0000002d c8 00000001 00000018 706f7369782d72656e616d65406f70656e7373682e636f6d 00000002 2f61 00000002 2f62") 1
+        (codes
+        "0000002d c8 00000001 00000018 706f7369782d72656e616d65406f70656e7373682e636f6d 00000002 2f61 00000002 2f62") 1
         (Ask.PosixRename (codes "/a") (codes "/b")) }
     ensures hardlink { IsAsked
         (codes "00000027 c8 00000001 00000014 686172646c696e6b406f70656e7373682e636f6d 00000002 2f61 00000000") 1
@@ -101,7 +102,8 @@ pub fn replies()
     ensures handle { IsAnswered (codes "0000000b 66 00000011 00000002 0001") 17 (Answer.Handle (hex (codes "0001"))) }
     ensures bytes { IsAnswered (codes "0000000c 67 00000012 00000003 00ff7f") 18 (Answer.Data (hex (codes "00ff7f"))) }
     ensures names { IsAnswered
-        (codes "00000029 68 00000013 00000002 00000001 61 00000001 62 00000004 000081a4 00000002 c3a9 00000000 00000000") 19
+        (codes
+        "00000029 68 00000013 00000002 00000001 61 00000001 62 00000004 000081a4 00000002 c3a9 00000000 00000000") 19
         (Answer.Name ((record {
           filename = codes "a";
           longname = codes "b";
@@ -146,7 +148,8 @@ pub fn handles_too_long()
     ensures asked { front_of Side.Client (hex (codes "0000000d 04 00000001 00000101 00000000"))
         ≡ Err Fault.HandleTooLong }
     ensures asked_within { front_of Side.Client (hex (codes "00000009 04 00000001 00000100")) ≡ Err Fault.Short }
-    ensures fsync { front_of Side.Client (hex (codes "0000001e c8 00000001 00000011 6673796e63406f70656e7373682e636f6d 00000101"))
+    ensures fsync { front_of Side.Client
+        (hex (codes "0000001e c8 00000001 00000011 6673796e63406f70656e7373682e636f6d 00000101"))
         ≡ Err Fault.HandleTooLong }
     ensures given { front_of Side.Server (hex (codes "0000000d 66 00000001 00000101 00000000"))
         ≡ Err Fault.HandleTooLong }

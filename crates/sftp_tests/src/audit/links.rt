@@ -9,7 +9,7 @@ pub(super) const LINK_TO_ITSELF: &[u8] =
     b"SFTREE01\0\0\0\x01/\0\0\0\0\0\0\0\0\0\0\0\x01\0\0\0\0\0\0\0\0\0\0\x01\xed\
 \0\0\0\x02/lL\0\0\0\x01l";
 
-/// The tree with the one link `/l` to `n`, where nothing stands.
+/// The tree with the one link `/l` to `n`, which does not exist.
 const LINK_TO_NOTHING: &[u8] =
     b"SFTREE01\0\0\0\x01/\0\0\0\0\0\0\0\0\0\0\0\x01\0\0\0\0\0\0\0\0\0\0\x01\xed\
 \0\0\0\x02/lL\0\0\0\x01n";
@@ -122,7 +122,7 @@ pub(super) const SESSIONS: &[Session] = &[
         &[REAL_PATH_Y, NAME_Y],
         Verdict::Accepted(1, WITH_HOME),
     ),
-    // The last name behind a link may be absent.
+    // The last name behind a link need not exist.
     (
         "an absent name",
         LINK_TO_NOTHING,

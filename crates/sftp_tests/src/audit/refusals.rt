@@ -1,4 +1,4 @@
-//! Requests that are refused, for each cause, and the codes that tell so: each code of 0 to 9 is tried as the reply.
+//! Requests that are refused, for each cause, and the codes that say so: each code of 0 to 9 is tried as the reply.
 use super::files::{
     BELOW_X, DIRECTORY_AND_FILE, REMOVE_W, RENAME_F_TO_G, RENAME_INTO_ITSELF, RENAME_THE_ROOT,
     RENAME_X_TO_X, REPLACE_W_BY_X, REPLACE_X_BY_E, REPLACE_X_BY_W, SET_HUGE_SIZE, SET_SIZE,
@@ -77,7 +77,7 @@ const ROWS: &[Row] = &[
     ("Root and Inside: RENAME", BELOW_X, RENAME_THE_ROOT, &[4]),
     ("Inside", BELOW_X, RENAME_INTO_ITSELF, &[4]),
     ("NoRoom", TWO_NAMES, SET_HUGE_SIZE, &[4]),
-    // Of two causes either may be told: a bad target, or a bad new path, and a path that leads nowhere.
+    // Of two causes either may be returned: a bad target, or a bad new path, and a path that leads nowhere.
     (
         "BadPath and NoEntry: an empty target",
         BLANK,
@@ -132,7 +132,7 @@ fn allows_just(
     Ok(true)
 }
 
-/// What stands before the entries of a tree file of so many.
+/// The bytes before the entries of a tree file of so many.
 fn head(alloc: Global, count: u8) -> Result<Vec<u8>, AllocError> {
     let mut tree = Vec::from_slice(alloc, b"SFTREE01\0\0\0\x01/\0\0\0\0\0\0\0\0\0\0\0")?;
     tree.push(count)?;

@@ -22,7 +22,7 @@ const PATHS: &[&[u8]] = &[
     b"\0\0\0\x03/a\0",
 ];
 
-/// What stands behind the path of an only entry `/a`, and is out of range.
+/// The bytes behind the path of an only entry `/a`, which are out of range.
 const KINDS: &[&[u8]] = &[
     b"d\0\0\0\0\0\0\0\0\0\0\x01\xed",
     b"f\0\0\0\0\0\0\0\0\0\0\x01\xed\0\0\0\0",
@@ -136,7 +136,7 @@ const TARGETS: &[File] = &[
 ];
 
 const ORDERS: &[File] = &[
-    // What stands below `/a` stands before `/a!`, though its text is greater.
+    // An entry below `/a` comes before `/a!`, though its text is greater.
     (
         "rising",
         4,
@@ -167,7 +167,7 @@ const ORDERS: &[File] = &[
         &[AT_B, D, AT_A, D],
         Some(TreeError::Order { entry: 2 }),
     ),
-    // The order is judged before the parent, which is absent.
+    // The order is judged before the parent, which does not exist.
     (
         "before the parent",
         2,
@@ -184,7 +184,7 @@ const ORDERS: &[File] = &[
 ];
 
 const PARENTS: &[File] = &[
-    // A parent may be the last entry, stand above it, or be the root.
+    // A parent may be the last entry, be above it, or be the root.
     (
         "all parents",
         5,

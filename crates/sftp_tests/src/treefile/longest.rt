@@ -45,7 +45,7 @@ fn refuses_path(alloc: Global, front: &[u8], expected: TreeError) -> Result<bool
     refuses(alloc, 1, &pieces, expected)
 }
 
-/// A path may have 64 names, the parent of which is absent here, and not 65.
+/// A path may have 64 names, the parent of which does not exist here, and not 65.
 #[test]
 fn names_and_paths(rt: HostRuntime) -> Result<(), Fail> {
     let alloc = rt.alloc();
@@ -61,7 +61,7 @@ fn names_and_paths(rt: HostRuntime) -> Result<(), Fail> {
 /// `F` of `/f`, with the uid 1, the gid 2 and the permissions 0o7777.
 const FILE: &[u8] = b"\0\0\0\x02/fF\0\0\0\x01\0\0\0\x02\0\0\x0f\xff";
 
-/// Whether a file of these bytes, whose size stands in front, is accepted.
+/// Whether a file of these bytes, with their size in front, is accepted.
 fn accepts_bytes(alloc: Global, size: &[u8], bytes: &[u8]) -> Result<bool, NoMemory> {
     accepts(alloc, 1, &[FILE, size, bytes])
 }

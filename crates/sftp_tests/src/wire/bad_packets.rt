@@ -13,7 +13,7 @@ fn is_fault(alloc: Global, side: Side, bytes: &[u8], fault: Fault) -> Result<boo
     Ok(alone.as_str() == expected.as_str() && followed.as_str() == expected.as_str())
 }
 
-/// Bytes that nothing can be told of yet: they are no whole packet, and the length is in range.
+/// Bytes that nothing can be said of yet: they are not a whole packet, and the length is in range.
 const BEGINNINGS: &[(Side, &[u8])] = &[
     (Side::Client, b""),
     (Side::Server, b""),
@@ -48,7 +48,7 @@ const OF_THE_CLIENT: &[u8] = &[
 /// The types of a server's packets.
 const OF_THE_SERVER: &[u8] = &[2, 101, 102, 103, 104, 105, 201];
 
-/// Whether a packet of that type and no field is short where the type is one of these, and else of the wrong type.
+/// Whether a packet of that type and no field is short if the type is one of these, and else of the wrong type.
 fn is_judged(alloc: Global, side: Side, types: &[u8], kind: u8) -> Result<bool, AllocError> {
     let fault = if types.contains(&kind) {
         Fault::Short
@@ -74,8 +74,8 @@ fn types(rt: HostRuntime) -> Result<(), Fail> {
     Ok(())
 }
 
-/// Who sends them, the bytes, and the first fault. After pairs that go to the end nothing can stand: a further byte
-/// begins a pair.
+/// Who sends them, the bytes, and the first fault. Nothing can follow pairs that go to the end: a further byte begins a
+/// pair.
 const ROWS: &[(Side, &[u8], Fault)] = &[
     // A length field of 0, and one of 33,997 and more.
     (Side::Client, b"\0\0\0\0", Fault::Length),

@@ -128,7 +128,7 @@ const MORE_THAN_A_PACKET: &[Call] = &[
     Call::Room(33_995),
 ];
 
-/// A fault stands at its packet for good, and nothing more is taken.
+/// A fault stays at its packet for good, and nothing more is taken.
 const WRONG_TYPE_BEHIND_INIT: &[Call] = &[
     Call::Push(INIT, 9),
     Call::Push(b"\0\0\0\x01\x63", 5),
@@ -265,7 +265,7 @@ fn passes_all(alloc: Global, frames: &mut FrameBuf) -> Result<bool, AllocError> 
     Ok(true)
 }
 
-/// The fault stands behind 22,615 packets of 13 bytes.
+/// The fault is behind 22,615 packets of 13 bytes.
 const FAULT_BEHIND_ALL: &[Call] = &[
     Call::Room(34_000),
     Call::Push(b"\0\0\0\0", 4),

@@ -17,7 +17,7 @@ fn is_refused(kept: Vec<u8>, packet: Packet, expected: WireError) -> bool {
     said == Err(expected) && out.as_slice() == KEPT
 }
 
-/// The requests that hold a handle, by their types; FSYNC where it is the type of extensions.
+/// The requests that hold a handle, by their types; FSYNC for the type of extensions.
 fn with_handle(alloc: Global, kind: u8, handle: ByteString) -> Ask {
     match kind {
         4 => Ask::Close { handle },

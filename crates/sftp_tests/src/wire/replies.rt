@@ -2,8 +2,7 @@
 use super::Row;
 use sftp_wire::Side;
 
-/// Any code may stand in STATUS. Extended attributes that are there without a pair are written again as the same
-/// bytes.
+/// STATUS may have any code. Extended attributes that are there without a pair are written again as the same bytes.
 pub(super) const REPLIES: &[Row] = &[
     (
         Side::Server,

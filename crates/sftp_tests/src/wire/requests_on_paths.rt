@@ -2,7 +2,7 @@
 use super::Row;
 use sftp_wire::Side;
 
-/// In SYMLINK the target stands first.
+/// In SYMLINK the target comes first.
 pub(super) const REQUESTS_ON_PATHS: &[Row] = &[
     (
         Side::Client,

@@ -30,17 +30,17 @@ use Rattle.sftp_tree.proofs.WellFormedTrees.Found.{absent-of, node-kept, below-r
 
 -- ---- what a place's causes say where none holds
 
--- nothing stands where something is to be made
+-- the place where a node is to be made is free
 pub free-place : (found : Option Node) → ((c : Cause) → making_causes found c ≡ false) → found ≡ None
 unfolding when no_causes
 free-place found none = absent-of found (or_parts (is_taken found) false (none Exists)).0
 
--- something stands where it is needed
+-- a node is where one is needed
 pub taken-place : (found : Option Node) → needing_causes found NoEntry ≡ false → is_taken found ≡ true
 unfolding when no_causes
 taken-place found none = not-false (is_taken found) (or_parts (not (is_taken found)) false none).0
 
--- a file stands where one is needed
+-- a file is where one is needed
 pub file-place : (found : Option Node) → ((c : Cause) → file_causes found c ≡ false) → (number : ℕ) × (found ≡ Some (File number))
 unfolding when no_causes
 file-place None none = let there = none NoEntry in absurd cc
@@ -48,7 +48,7 @@ file-place (Some (Dir owner)) none = let file = none NotFile in absurd cc
 file-place (Some (File number)) none = (number, refl)
 file-place (Some (Link goal)) none = let file = none NotFile in absurd cc
 
--- a link stands where one is needed
+-- a link is where one is needed
 pub link-place : (found : Option Node) → ((c : Cause) → link_causes found c ≡ false) → is_link found ≡ true
 unfolding when no_causes
 link-place None none = let there = none NoEntry in absurd cc
@@ -56,7 +56,7 @@ link-place (Some (Dir owner)) none = let link = none NotLink in absurd cc
 link-place (Some (File number)) none = let link = none NotLink in absurd cc
 link-place (Some (Link goal)) none = refl
 
--- no directory stands where a name is to be removed
+-- no directory is where a name is to be removed
 pub name-place : (found : Option Node) → ((c : Cause) → unlinking_causes found c ≡ false) → is_directory found ≡ false
 unfolding when no_causes
 name-place found none = (or_parts (is_directory found) false (none IsDir)).0
@@ -98,7 +98,7 @@ replaced-empty (Some (Link goal)) (Some (Dir other)) entries there none below = 
 replaced-empty (Some (Link goal)) (Some (File other)) entries there none below = below refl
 replaced-empty (Some (Link goal)) (Some (Link other)) entries there none below = below refl
 
--- what comes in the stead of something else, where the places are not one
+-- a node that replaces another, if the places are not one
 pub record MayReplace (t : Tree) (old new : Place) : Type 0 where
   pub outside : goes_inside t.names old new ≡ false
   pub elsewhere : same_place old new ≡ false
@@ -201,7 +201,7 @@ room-for t ask (Err cause) new keeps none =
     let not_so = none cause in
     absurd cc
 
--- a set with the want of room, as the code finds it, is the request's
+-- a set with `NoRoom`, as the code finds it, is the request's
 pub judged : (t : Tree) (ask : Ask) (end : Result Place Cause) (new : Option (Result Place Cause)) (plain : CauseSet) (lacks : Bool) → led t ask ≡ Some end → new_led t ask ≡ new → ((place : Place) → end ≡ Ok place → IsKept t) → plain ≡ plain_of t ask (Some end) new → lacks ≡ (not (list_any plain every_cause) && not (has_room_for t ask end new)) → when plain NoRoom lacks ≡ causes t ask
 judged t ask end new plain lacks one two keeps same is =
     let all = plain_of t ask (Some end) new in

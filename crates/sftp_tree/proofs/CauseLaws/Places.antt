@@ -25,7 +25,7 @@ pub causes-are : (t : Tree) (ask : Ask) (end new : Option (Result Place Cause)) 
 unfolding causes plain_causes target
 causes-are t ask end new one two = λ i. with_room (plain_of t ask (one i) (two i)) (target_led t ask (one i) (two i))
 
--- one of the causes but for the want of room is one of them all
+-- one of the causes other than `NoRoom` is one of them all
 pub plain-holds : (t : Tree) (ask : Ask) (end new : Option (Result Place Cause)) (c : Cause) → led t ask ≡ end → new_led t ask ≡ new → plain_of t ask end new c ≡ true → IsTrue (causes t ask c)
 plain-holds t ask end new c one two holds =
     ap (λ (set : CauseSet). set c) (causes-are t ask end new one two) ∙ in-plain (plain_of t ask end new) (target_led t ask end new) c holds

@@ -1,4 +1,4 @@
--- Sets of causes: what is in none, and the want of room.
+-- Sets of causes: what is in none, and `NoRoom`.
 use Rattle.std.proofs.Common.{◌≡◌, ℕ, zero, suc, Bool, true, false, ◌==◌, ◌&&◌, ◌||◌, not, List, [], ◌∷◌, refl, sym, ap, ◌∙◌, IsTrue}
 use Rattle.std.specs.List.{list_any}
 use Rattle.std.proofs.lemmas.Bool.{or_parts, not-true, not-false, eq-eqb}
@@ -48,7 +48,7 @@ some-found set c holds = by (list_any set every_cause) refl
 pub only-itself : (c : Cause) → only c c ≡ true
 only-itself c = eq-eqb (row c) (row c) refl
 
--- ---- the want of room
+-- ---- `NoRoom`
 
 -- no cause is in the set, and what is asked for keeps to the limits
 pub record IsFreeOf (plain : CauseSet) (asked : Tree) : Type 0 where
@@ -63,7 +63,7 @@ free-of plain asked free =
     let here = (or_parts (is_none plain && not (fits asked)) (plain NoRoom) (each NoRoom)).0 in
     record { none = none; room = not-false (fits asked) (ap (λ b. b && not (fits asked)) (sym (each-none plain none)) ∙ here) }
 
--- a cause that is in the set is with the want of room too
+-- a cause that is in the set is in it with `NoRoom` too
 pub in-plain : (plain : CauseSet) (asked : Tree) (c : Cause) → plain c ≡ true → with_room plain asked c ≡ true
 unfolding when
 in-plain plain asked c holds =

@@ -1,4 +1,4 @@
--- What stands where, after what stood at one place went to another in the stead of what stood there.
+-- Which nodes are where, after the node at one place moved to another and replaced the node there.
 use Rattle.std.proofs.Common.{◌≡◌, ◌≢◌, ℕ, ◌+◌, Bool, true, false, cond, [], ◌∷◌, ◌++◌, refl, sym, ap, subst, ◌∙◌, Option, Some, None, if◌then◌else◌}
 use Rattle.std.specs.Ordering.{is_eq}
 use Rattle.std.specs.declared.cmp.Ordering.TheVariants.{Equal}
@@ -35,7 +35,7 @@ module _ (names : Names) (new : Place) (order : InOrder place_cmp names) where
   nothing-freed place none =
       get-without place_cmp place_cmp-total names new place order ∙ cond-none (is_eq (place_cmp new place)) (node_at names place) none
 
-  -- nothing stands there or below it, where nothing stood below it
+  -- nothing is there or below it, if nothing was below it
   pub nothing-from : ((n : Name) (ns : Place) → node_at names (new ++ n ∷ ns) ≡ None) → NothingFrom (without_node names new) new
   nothing-from alone [] = ap (node_at (without_node names new)) (append-nil new) ∙ get-without_here place_cmp place_cmp-total names new order
   nothing-from alone (n ∷ ns) = nothing-freed (new ++ n ∷ ns) (alone n ns)
@@ -44,7 +44,7 @@ module _ (names : Names) (new : Place) (order : InOrder place_cmp names) where
   either-way true x y c same none = refl
   either-way false x y c same none = ap (λ b. cond b none y) same
 
-  -- what is put there is put in the stead of what stood there
+  -- what is put there replaces the node that was there
   pub put-freed : (it : Node) → with_node (without_node names new) new it ≡ with_node names new it
   put-freed it =
       same_table place_cmp place_cmp-total place_cmp-same (with_node (without_node names new) new it) (with_node names new it)
@@ -55,7 +55,7 @@ module _ (names : Names) (new : Place) (order : InOrder place_cmp names) where
       ∙ either-way (is_eq (place_cmp at new)) (Some it) (node_at names at) (is_eq (place_cmp new at)) (ap is_eq (place_cmp-total.antisymm new at) ∙ reversed (place_cmp at new)) None
       ∙ sym (get-put place_cmp place_cmp-total names new it at))
 
--- ---- what stands alone
+-- ---- a node with nothing below it
 
 apart-from : (old new : Place) → begins old new ≡ false → place_cmp new old ≢ Equal
 apart-from old new apart tie =
@@ -63,7 +63,7 @@ apart-from old new apart tie =
     let begun : begins old new ≡ true = ap (begins old) (one ∙ sym (append-nil old)) ∙ begins-append old [] in
     cc
 
--- what stands at the old place with nothing below it is put at the new one, and taken from the old one
+-- the node at the old place with nothing below it is put at the new one, and taken from the old one
 pub alone-moved : (names : Names) (old new : Place) (it : Node) → InOrder place_cmp names → node_at names old ≡ Some it → has_entries names old ≡ false → begins old new ≡ false → ((n : Name) (ns : Place) → node_at names (new ++ n ∷ ns) ≡ None) → rekeyed old new (without_node names new) ≡ without_node (with_node names new it) old
 alone-moved names old new it order there empty apart alone =
     rekeyed-alone_put_first old new (without_node names new) it (InOrder-without place_cmp names new order)
@@ -150,7 +150,7 @@ moved-none old new none is = is
 
 -- ---- names of files
 
--- no name of a file comes or goes but that of what stood at the new place
+-- no name of a file comes or goes but the one at the new place
 pub named-moved : (names : Names) (old new : Place) → InOrder place_cmp names → ((n : Name) (ns : Place) → node_at names (new ++ n ∷ ns) ≡ None) → (gone : Option Node) → node_at names new ≡ gone → (number : ℕ) → times_named (rekeyed old new (without_node names new)) number + one_name gone number ≡ times_named names number
 named-moved names old new order alone gone there number =
     ap (λ n. n + one_name gone number) (count-rekeyed old new (without_node names new) (names_file number) (InOrder-without place_cmp names new order) (nothing-from names new order alone)) ∙ named-without names new gone there number

@@ -1,4 +1,5 @@
--- Counts of names: that they stay right where a name of a file comes or goes, and that a file goes with its last name.
+-- Counts of names: that they stay right when a name of a file comes or goes, and that a file is removed with its last
+-- name.
 use Rattle.std.proofs.Common.{◌≡◌, ◌≢◌, ℕ, ◌+◌, ◌-◌, ◌<◌, Bool, true, false, cond, not, nat_lt, nat_le, refl, sym, ap, subst, ◌∙◌, arith, inl, inr, Option, Some, None, IsTrue, if◌then◌else◌, option_map, option_and_then}
 use Rattle.std.specs.Ordering.{nat_cmp}
 use Rattle.std.specs.Cmp.{nat_cmp_total}
@@ -40,12 +41,12 @@ count-at names = at-number (λ number (s : Stored). s.names ≡ times_named name
 
 -- ---- names of a file, place by place
 
--- 1 where what stands there is a name of the file
+-- 1 if the node there is a name of the file
 abbrev pub one_name : Option Node → ℕ → ℕ
 one_name None number = 0
 one_name (Some standing) number = if names_file number standing then 1 else 0
 
--- a name that comes to a place where nothing stood
+-- a name that comes to a free place
 pub named-put : (names : Names) (place : Place) (it : Node) → node_at names place ≡ None → (number : ℕ) → times_named (with_node names place it) number ≡ times_named names number + one_name (Some it) number
 named-put names place it absent number = count-put_new place_cmp names place it (names_file number) absent
 
@@ -230,7 +231,8 @@ module _ (names others : Names) (files : Table ℕ Stored) where
       subst (AreCounted others) (sym same) (counted-again names others files order alike counted),
     )
 
-    -- with a name less of the file that it named, or without that file, the counts are right again and each file left has a name
+    -- with a name less of the file that it named, or without that file, the counts are right again and each file left
+    -- has a name
     pub lowered : (gone : Option Node) → ((other : ℕ) → times_named others other + one_name gone other ≡ times_named names other) → (after : Table ℕ Stored) → IsChangedWhereNamed without_a_name (file_named gone) files after → (contents after ≡ retain (contents files) (keeps_a_name others)) × AreCounted others after
     lowered None less after same = lost-none after (λ other. let l = less other in omega arith) same
     lowered (Some (Dir owner)) less after same = lost-none after (λ other. let l = less other in omega arith) same
@@ -239,7 +241,7 @@ module _ (names others : Names) (files : Table ℕ Stored) where
 
 -- ---- the attributes of a file
 
--- where each file is as it was, or another in its stead has as many names, the counts are right
+-- if each file is as it was, or another in its place has as many names, the counts are right
 changed-names : (attrs : Attrs) (o : Option Stored) (s : Stored) (n : ℕ) → option_and_then (with_attributes_set attrs) o ≡ Some s → ((before : Stored) → o ≡ Some before → before.names ≡ n) → s.names ≡ n
 changed-names attrs None s n is counted = cc
 changed-names attrs (Some before) s n is counted = sym (ap (λ (s : Stored). s.names) (same_Some _ s is)) ∙ counted before refl

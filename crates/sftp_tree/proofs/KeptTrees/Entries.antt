@@ -41,7 +41,7 @@ kept-put t place it kept named absent above is_node within = record {
 
 -- ---- one entry less
 
--- a tree stays one without a place that is not the root and has no entries; a file goes with its last name
+-- a tree stays one without a place that is not the root and has no entries; a file is removed with its last name
 pub kept-without : (t : Tree) (place : Place) → IsKept t → is_root place ≡ false → has_entries t.names place ≡ false → IsKept (trim (record t { names = without_node t.names place }))
 kept-without t place kept apart empty =
     kept-trim (record t { names = without_node t.names place })

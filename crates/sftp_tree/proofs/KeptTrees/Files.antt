@@ -1,4 +1,4 @@
--- Files and their numbers, in the trees that requests ask for: none is made, and each goes with its last name.
+-- Files and their numbers, in the trees that requests ask for: none is made, and each is removed with its last name.
 use Rattle.std.proofs.Common.{◌≡◌, ◌≢◌, ◌<◌, ◌≤◌, ℕ, ◌||◌, Bool, true, false, cond, refl, sym, ap, subst, ◌∙◌, arith, Option, Some, None, is_some, nat_lt, Result, Ok, Err, IsTrue, if◌then◌else◌, inl, inr}
 use Rattle.std.specs.Prelude.{◌⊎◌, ◌↔◌}
 use Rattle.std.specs.Ordering.{nat_cmp}

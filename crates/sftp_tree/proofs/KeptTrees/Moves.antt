@@ -98,7 +98,7 @@ module _ (old new : Place) (names : Names) (nothing : NothingFrom names new) whe
       (λ q not_old not_new taken.
       directory-elsewhere (parent q) (apart-parent old q not_old) (parents q (ap is_taken (sym (get-rekeyed_elsewhere old new names q not_old not_new)) ∙ taken)))
 
-  -- after a move to a place where nothing stands, nor below it, and whose parent is a directory
+  -- after a move to a free place with nothing below it, whose parent is a directory
   pub names-moved : (files : Files) → NamesFit files names → IsTrue (are_names new) → is_root old ≡ false → begins old new ≡ false → IsTrue (is_directory (node_at names (parent new))) → NamesFit files (rekeyed old new names)
   names-moved files fit named not_root apart above = record {
     ordered = InOrder-rekeyed old new names;

@@ -57,7 +57,7 @@ kept-owner t place before owner kept there is_owner = record {
       (λ e h. ap (λ n. nat_lt 0 n || is_pinned t.pins e.0) (times_named-owner t.names place before owner e.0 kept.well_formed.ordered there) ∙ h) t.files kept.trimmed;
 }
 
--- of a directory that stands there
+-- of a directory at a place
 pub kept-owner-there : (t : Tree) (place : Place) (owner : Owner) → IsKept t → IsTrue (is_directory (node_at t.names place)) → IsOwner owner → IsKept (record t { names = with_node t.names place (Dir owner) })
 kept-owner-there t place owner kept directory is_owner = by (node_at t.names place) refl directory
   where

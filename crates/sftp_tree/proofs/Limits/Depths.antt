@@ -18,9 +18,9 @@ use Rattle.sftp_tree.specs.Tree.{Names}
 use Rattle.sftp_tree.specs.Room.{reaches_at_most}
 use Rattle.sftp_tree.proofs.PlaceTables.Below.{between-names}
 
--- ---- the places that a place begins stand in a row, from it on
+-- ---- the places that a place begins are in a row, from it on
 
--- what stands between a place and one that it begins, it begins too
+-- what is between a place and one that it begins, it begins too
 begins-between : (p a b : Place) → place_cmp p a ≡ Less → place_cmp a b ≡ Less → begins p b ≡ true → begins p a ≡ true
 begins-between [] a b after before begun = refl
 begins-between (m ∷ ms) [] b after before begun = cc

@@ -123,7 +123,7 @@ fits-moved t old new kept taken nothing =
     (tests.all-rekeyed old new t.names (λ e. link_fits e.1) order nothing ∙ fit.links)
     ∙ and-true (move_fits t.names old new)
 
--- with what stood at the new place gone
+-- with the node at the new place removed
 pub fits-put_in_stead : (t : Tree) (old new : Place) → IsKept t → is_taken (node_at t.names old) ≡ true → NothingFrom (without_node t.names new) new → (is_taken (node_at t.names new) ≡ true → begins old new ≡ false) → fits (put_in_its_stead t old new) ≡ move_fits t.names old new
 fits-put_in_stead t old new kept taken nothing apart =
     let fit = fits-parts t kept.within_limits in
@@ -145,7 +145,7 @@ fits-put_in_stead t old new kept taken nothing apart =
             let here = ap is_taken there in
             all-but (λ place. depth_fits (renamed old new place)) new t.names (ap depth_fits (renamed-outside old new new (apart here)) ∙ place-passes depth_fits new t.names fit.depths here)
 
--- ---- nothing stands at the new place, nor below it
+-- ---- the new place is free, and nothing is below it
 
 pub nothing-from : (names : Names) (place : Place) → node_at names place ≡ None → ((n : Name) (ns : Place) → node_at names (place ++ n ∷ ns) ≡ None) → NothingFrom names place
 nothing-from names place here below [] = ap (node_at names) (append-nil place) ∙ here

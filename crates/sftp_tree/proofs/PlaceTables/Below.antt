@@ -1,4 +1,4 @@
--- What stands below a place: it comes right after the place, and all of it in a row.
+-- What is below a place: it comes right after the place, and all of it in a row.
 use Rattle.std.proofs.Common.{◌≡◌, ◌-◌, ◌<◌, ◌&&◌, ◌||◌, ℕ, zero, suc, Bool, true, false, cond, Some, [], ◌∷◌, length, take, refl, sym, ◌∙◌, ap, arith}
 use Rattle.std.specs.Cmp.Lexicographic.{bytes_decides, texts_ties, nat_list_cmp_total, nat_list_eq_equiv}
 use Rattle.std.specs.Cmp.{first_so, second_so, Equal-is}
@@ -24,7 +24,7 @@ use Rattle.sftp_tree.specs.Tree.{Names, node_at, is_taken, has_entries}
 same_bytes-cmp : (m n : Name) → same_bytes m n ≡ true → name_cmp m n ≡ Equal
 same_bytes-cmp m n same = (Equal-is (name_cmp m n)).0 (sym (texts_ties m n) ∙ same)
 
--- what stands below a place comes after it
+-- what is below a place comes after it
 pub less-from_below : (p b : Place) → is_below p b ≡ true → place_cmp p b ≡ Less
 less-from_below [] [] below = cc
 less-from_below [] (n ∷ ns) below = refl
@@ -42,7 +42,7 @@ between-names Equal Equal x y turned first second = (refl, first, second)
 between-names Equal Greater x y turned first second = cc
 between-names Greater q x y turned first second = cc
 
--- what stands between a place and one below it is below it too
+-- what is between a place and one below it is below it too
 pub below-between : (p a b : Place) → place_cmp p a ≡ Less → place_cmp a b ≡ Less → is_below p b ≡ true → is_below p a ≡ true
 below-between [] [] b after before below = cc
 below-between [] (k ∷ ks) b after before below = refl
@@ -56,9 +56,9 @@ below-between (m ∷ ms) (k ∷ ks) (n ∷ ns) after before below =
     let rest = below-between ms ks ns found.1 found.2 (second_so (same_bytes m n) (is_below ms ns) below) in
     ap (λ x. x && is_below ms ks) same ∙ rest
 
--- ---- in a table in order, the first entry after a place tells whether anything stands below it
+-- ---- in a table in order, the first entry after a place shows whether anything is below it
 
--- whether the first of some entries stands below a place
+-- whether the first of some entries is below a place
 abbrev pub first_below : Place → Names → Bool
 first_below p [] = false
 first_below p (e ∷ es) = is_below p e.0
@@ -107,11 +107,11 @@ below-front (n ∷ ns) (suc k) less =
     let fewer : k < length ns = omega arith in
     ap (λ b. b && is_below (take k ns) ns) (nat_list_eq_equiv.refl n) ∙ below-front ns k fewer
 
--- what has names stands below its parent
+-- what has names is below its parent
 pub below-parent : (q : Place) → 0 < length q → is_below (parent q) q ≡ true
 below-parent q some = let less : length q - 1 < length q = omega arith in below-front q (length q - 1) less
 
--- what stands below a place is one of its entries
+-- what is below a place is one of its entries
 has-turn : (p q : Place) (e : Place × Node) (es : Names) → is_below p q ≡ true → (is_taken (lookup (is_at (place_cmp q)) es) ≡ true → list_any (λ e. is_below p e.0) es ≡ true) → (b : Bool) → is_eq (place_cmp q e.0) ≡ b → is_taken (cond b (Some e.1) (lookup (is_at (place_cmp q)) es)) ≡ true → (is_below p e.0 || list_any (λ e. is_below p e.0) es) ≡ true
 has-turn p q e es below rest true same taken =
     let one : q ≡ e.0 = place_cmp-same q e.0 ((Equal-is (place_cmp q e.0)).0 same) in
@@ -129,7 +129,7 @@ pub has_entries-below : (p q : Place) (es : Names) → is_below p q ≡ true →
 unfolding has_entries get
 has_entries-below p q es below taken = has-below p q es below taken
 
--- where no entry stands below a place, it has none
+-- if no entry is below a place, it has none
 pub has_entries-none : (p : Place) (es : Names) → AllByRecursion (λ e. is_below p e.0 ≡ false) es → has_entries es p ≡ false
 unfolding has_entries
 has_entries-none p es h = none p es h
@@ -138,7 +138,7 @@ has_entries-none p es h = none p es h
     none p [] h = refl
     none p (e ∷ es) h = ap (λ b. b || list_any (λ e. is_below p e.0) es) h.0 ∙ none p es h.1
 
--- a place whose parent it is stands below a place
+-- the parent of a taken place has entries
 pub has_entries-child : (q : Place) (es : Names) → 0 < length q → is_taken (node_at es q) ≡ true → has_entries es (parent q) ≡ true
 unfolding has_entries get
 has_entries-child q es some taken = has-below (parent q) q es (below-parent q some) taken

@@ -1,4 +1,4 @@
--- What holds of each entry of a table, by what stands at its keys; for any keys and values.
+-- What holds of each entry of a table, by the values at its keys; for any keys and values.
 use Rattle.std.proofs.Common.{◌≡◌, Bool, true, false, cond, List, [], ◌∷◌, refl, sym, ap, subst, ◌∙◌, Option, Some, None, IsTrue}
 use Rattle.std.specs.Ordering.{is_eq}
 use Rattle.std.specs.declared.cmp.Ordering.{Ordering}

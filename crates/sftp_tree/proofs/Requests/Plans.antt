@@ -169,7 +169,7 @@ pub bytes-are : (bytes : List ℕ) → ((i : ℕ) → get_or bytes i 0 < 256) �
 bytes-are [] h = refl
 bytes-are (b ∷ bytes) h = λ i. lt-ltb b 256 (h 0) i && bytes-are bytes (λ k. h (suc k)) i
 
--- ---- what is told
+-- ---- what replies say
 
 pub stat-taken : (t : Tree) (given : Ask) (follow : Bool) (path : List ℕ) (place : Place) → given ≡ stat_ask follow path → IsFree t given → led t given ≡ Some (Ok place) → is_taken (node_at t.names place) ≡ true
 stat-taken t given true path place is free leads =

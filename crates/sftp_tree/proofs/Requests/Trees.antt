@@ -1,4 +1,4 @@
--- What stands after a request that no cause refuses is a tree within the limits.
+-- The tree after a request that no cause refuses is within the limits.
 use Rattle.std.proofs.Common.{◌≡◌, ℕ, ◌&&◌, not, List, [], ◌∷◌, refl, sym, subst, ap, ◌∙◌, Option, Some, None, IsTrue, Result, Ok, Err, Bool, true, false, if◌then◌else◌}
 use Rattle.std.specs.Option.{option_map, IfSome}
 use Rattle.std.proofs.lemmas.Bool.{both_ways, false_from_ne_true, not-false, or_parts}
@@ -81,7 +81,7 @@ place-led t ask place well fits is = led-well t (follows ask) (path_of ask) plac
 new-place-led : (t : Tree) (ask : Ask) (place : Place) → LeadsWell t → FitsAsk ask → new_led t ask ≡ Some (Ok place) → Led t place
 new-place-led t ask place well fits is = led-well t false (new_path_of ask) place well (new-path-bytes ask fits) is
 
--- ---- what stands at a place
+-- ---- the node at a place
 
 absent-nothing : (names : Names) (place : Place) → node_at names place ≡ None → is_directory (node_at names place) ≡ false
 absent-nothing names place absent = ap is_directory absent
@@ -94,7 +94,7 @@ not-root t (n ∷ ns) well none = refl
 empty-there : (t : Tree) (place : Place) → WellFormed t → is_directory (node_at t.names place) ≡ false → has_entries t.names place ≡ false
 empty-there t place well = nothing-below t.names place well.ordered well.parents
 
--- where nothing stands at a place, nothing stands below it
+-- if a place is free, nothing is below it
 free-from : (t : Tree) (place : Place) → WellFormed t → node_at t.names place ≡ None → NothingFrom t.names place
 free-from t place well absent =
     nothing-from t.names place absent (alone-there t.names place (empty-there t place well (absent-nothing t.names place absent)))

@@ -84,7 +84,7 @@ rows_numbered earlier (row ∷ rows) fit =
 
 -- ---- entries, from their rows
 
--- what the row of what stands behind rows says
+-- what the row of an entry behind rows says
 pub record Comes (root : Owner) (files : Files) (rows : List Row) (standing : Node) (kind : Kind) : Type 0 where
   pub again : node_of rows kind ≡ standing
   pub given : given_with standing (made_by rows) ≡ made_by rows + length (content_of kind)
@@ -130,7 +130,7 @@ contents_join files number (x ∷ xs) ys a b =
     let same : number + length (x ∷ xs) ≡ suc number + length xs = omega arith in
     (a.0, contents_join files (suc number) xs ys a.1 (subst (λ n. AreContents files n ys) same b))
 
--- entries behind rows, whose own rows stand behind them
+-- entries behind rows, whose own rows come behind them
 pub record Again (files : Files) (earlier rows : List Row) (entries : Names) (made : ℕ) : Type 0 where
   pub entries_are : entries_behind earlier rows ≡ entries
   pub made_is : made_by (earlier ++ rows) ≡ made

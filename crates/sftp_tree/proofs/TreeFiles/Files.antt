@@ -159,7 +159,7 @@ file_again file is =
 
 -- ---- from a tree to its file
 
--- the root and what stands below it
+-- the root and what is below it
 pub record Split (t : Tree) : Type 0 where
   pub root : Owner
   pub entries : Names

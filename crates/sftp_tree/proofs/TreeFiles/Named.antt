@@ -135,7 +135,7 @@ named_within number (e ∷ es) m is = by (names_file number e.1) (entry_naming n
     by false None m is more = absurd cc
     by false (Some k) m is more = let s : suc k ≡ m = cc in omega (arith, more k refl)
 
--- ---- each kind may stand where it does
+-- ---- each kind may be where it is
 
 -- what tree files ask of files
 abbrev pub IsFitContent : Content → Type 0

@@ -1,6 +1,6 @@
--- The table of a root and of rows, each of which may stand behind those before it, is the table of a tree, and the
--- rows of each tree's table are such. Here all names of files are of the file 0: what stands where does not hang on which file
--- it is.
+-- The table of a root and of rows, each of which may come behind those before it, is the table of a tree, and the rows
+-- of each tree's table are such. Here all names of files are of the file 0: which places have entries of which kind
+-- does not depend on the file.
 use Rattle.std.proofs.Common.{◌≡◌, ℕ, ◌<◌, Bool, true, false, ◌&&◌, ◌||◌, cond, List, [], ◌∷◌, ◌++◌, length, map, Option, Some, None, refl, sym, ap, subst, ◌∙◌, append_assoc, arith}
 use Rattle.std.specs.Prelude.{IsTrue}
 use Rattle.std.specs.BTreeMap.{is_at}
@@ -40,7 +40,7 @@ use Rattle.sftp_tree.proofs.PlaceTables.Each.{each-weaker}
 abbrev pub IsPlace : Place → Type 0
 IsPlace place = IsTrue (are_names place) × IsTrue (depth_fits place)
 
--- what may stand there
+-- what may be there
 abbrev pub IsFitNode : Node → Type 0
 IsFitNode (Dir owner) = IsOwner owner
 IsFitNode (File number) = Unit {0}
@@ -59,7 +59,7 @@ bare_entry row = (place_of row.path, bare_kind row.kind)
 abbrev pub bare_names : Owner → List Row → Names
 bare_names root rows = only_root root ++ map bare_entry rows
 
--- each kind may stand behind the rows before it
+-- each kind may come behind the rows before it
 abbrev pub AreKinds : List Row → List Row → Type 0
 AreKinds earlier [] = Unit {0}
 AreKinds earlier (row ∷ rows) = IsKind usual_limits earlier row.kind × AreKinds (earlier ++ row ∷ []) rows
@@ -97,7 +97,7 @@ directory_left xs ys p h =
     let d = directory_is_some (node_at xs p) h in
     rw (at_left xs ys p (Dir d.0) d.1) refl
 
--- what is not behind stands in front
+-- what is not behind is in front
 directory_in_front : (xs ys : Names) (p : Place) (o : Option Node) → node_at xs p ≡ o → node_at ys p ≡ None → IsTrue (is_directory (node_at (xs ++ ys) p)) → IsTrue (is_directory (node_at xs p))
 directory_in_front xs ys p None e none h = absurd (let b : is_directory None ≡ true = subst (λ (o : Option Node). is_directory o ≡ true) (at_right xs ys p e ∙ none) h in cc)
 directory_in_front xs ys p (Some v) e none h = subst (λ (o : Option Node). IsTrue (is_directory o)) (at_left xs ys p v e ∙ sym e) h
@@ -111,7 +111,7 @@ only_equal p e h = by (place_cmp p e.0) h
     by Equal h = refl
     by Greater h = absurd cc
 
--- ---- a row at a place is what stands there
+-- ---- a row at a place is the node there
 
 kind_is : (kind : Kind) → is_dir kind ≡ is_directory (Some (bare_kind kind))
 kind_is (kinds.Dir owner) = refl
@@ -254,7 +254,7 @@ rows_of_table root earlier (row ∷ rows) t texts fit =
     let split : IsTable root (bare_names root ((earlier ++ row ∷ []) ++ rows)) = subst (λ (rs : List Row). IsTable root (bare_names root rs)) (sym (append_assoc earlier (row ∷ []) rows)) t in
     (next_of_table root earlier row rows t texts.0 fit.0, rows_of_table root (earlier ++ row ∷ []) rows split texts.1 fit.1)
 
--- the root stands first
+-- the root comes first
 pub root_first : (names : Names) → InOrder place_cmp names → IsTrue (is_directory (node_at names [])) → (root : Owner) × (entries : Names) × (names ≡ only_root root ++ entries)
 unfolding get
 root_first [] sorted there = absurd cc
@@ -265,7 +265,7 @@ root_first ((n ∷ ns, node) ∷ entries) sorted there =
     let none = none_behind (n ∷ ns, node) entries [] sorted refl in
     absurd (let b : is_directory None ≡ true = subst (λ (o : Option Node). is_directory o ≡ true) none there in cc)
 
--- and all else stands below it
+-- and all else is below it
 pub entries_below : (root : Owner) (entries : Names) → InOrder place_cmp (only_root root ++ entries) → AllByRecursion (λ e. 0 < length e.0) entries
 entries_below root entries sorted =
     each-weaker (λ (e : Place × Node). place_cmp [] e.0 ≡ Less) (λ (e : Place × Node). 0 < length e.0) (λ e less. below_root e.0 less) entries

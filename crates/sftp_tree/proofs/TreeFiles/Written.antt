@@ -151,7 +151,7 @@ known files firsts front (Link target) are = refl
 
 -- ---- the loop
 
--- what is written behind what stood there, of so many entries
+-- what is written behind the earlier bytes, of so many entries
 pub record Written (t : Tree) (start out : List ℕ) (firsts : Firsts) (entry : ℕ) : Type 0 where
   pub out_is : out ≡ start ++ flat_map row_text (rows_behind t.files [] (take entry t.names))
   pub firsts_are : AreFirsts firsts (take entry t.names)

@@ -1,4 +1,4 @@
--- What a walk meets, by what stands there.
+-- What a walk meets, by the node there.
 use Rattle.std.proofs.Common.{◌≡◌, ◌||◌, Bool, true, false, cond, nat_eq, if◌then◌else◌, List, [], ◌∷◌, ◌++◌, ℕ, refl, sym, ◌∙◌, ap, subst, Option, Some, None, IsTrue}
 use Rattle.std.specs.List.{list_all, AllByRecursion}
 use Rattle.std.specs.BTreeMap.{is_at}
@@ -81,7 +81,7 @@ pub met-through : (target : List ℕ) (place : Place) (follow : Bool) (rest : Li
 met-through target place follow [] (followed is) = ap (met_link target place true) is
 met-through target place follow (next ∷ rest) (not_last n r) = refl
 
--- ---- what stands in a tree
+-- ---- the nodes of a tree
 
 pub home-fits : (t : Tree) → IsKept t → home_fits t ≡ true
 home-fits t kept = (fits-parts t kept.within_limits).home
@@ -113,7 +113,7 @@ steps-behind t kept place target rest there steps =
     list_all-append is_step (components target) rest
     ∙ and_from (list_all is_step (components target)) (list_all is_step rest) (target-steps t kept place target there) steps
 
--- of a meeting with a link, what stands there
+-- of a meeting with a link, the node there
 linked : (names : Names) (follow : Bool) (at : Place) (name : Name) (rest : List Name) (m : Meeting) (target : List ℕ) → MetBy names follow at name rest m → m ≡ through target → node_at names (at ++ name ∷ []) ≡ Some (Link target)
 linked names follow at name rest m target (by_dot r d) e = cc
 linked names follow at name rest m target (by_dot_dot r d dd) e = cc

@@ -17,7 +17,7 @@ use Rattle.sftp_tree.proofs.Walks.Steps.{behind_link, walk_on, walk-nil, walk-co
 use Rattle.sftp_tree.proofs.Walks.Meetings.{MetBy, by_dot, by_dot_dot, by_directory, by_last_file, by_file, by_link, by_last_link, by_last_absent, by_absent, met_by, plain-is_name, steps-behind}
 use Rattle.sftp_tree.proofs.WellFormedTrees.Places.{directory-taken}
 
--- a walk stands at a directory
+-- a walk is at a directory
 pub record Stands (t : Tree) (at : Place) : Type 0 where
   pub names : are_names at ≡ true
   pub directory : IsTrue (is_directory (node_at t.names at))
@@ -94,7 +94,7 @@ start-stands : (t : Tree) → IsKept t → (at : Place) (absolute : Bool) → St
 start-stands t kept at true stands = root-stands t kept
 start-stands t kept at false stands = stands
 
--- a walk that stands at a directory, over steps
+-- a walk at a directory, over steps
 pub found : (t : Tree) (follow : Bool) (left : ℕ) → IsKept t → (at : Place) (path : List Name) → Stands t at → list_all is_step path ≡ true → FoundBy t (walk t.names follow left at path)
 found t follow zero kept = found-parts t follow zero kept (λ at name target rest stands there steps. tt)
 found t follow (suc left) kept =

@@ -78,7 +78,7 @@ looked_behind-some names follow left left' at at' target rest rest' some starts 
     ap (λ n. looked_behind names follow n at target rest) some
     ∙ ap (λ p. looked names follow left' p (components target ++ rest)) (sym starts) ∙ ap (looked names follow left' at') (sym goes)
 
--- where the walk stands at a link
+-- where the walk is at a link
 pub stays : (met : Met) (target : Bor (List ℕ)) (before after : Place) → StaysAtLink met before after → met ≡ Through target → after ≡ before
 stays met target before after at_link is = subst (λ m. StaysAtLink m before after) is at_link
 

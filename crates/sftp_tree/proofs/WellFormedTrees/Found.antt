@@ -1,4 +1,4 @@
--- What stands at the places that paths lead to, as the calls for requests find it.
+-- The nodes at the places that paths lead to, as the calls for requests find them.
 use Rattle.std.proofs.Common.{◌≡◌, Bool, true, false, ◌&&◌, not, [], ◌∷◌, nat_eq, refl, sym, ap, Option, Some, None, IsTrue}
 use Rattle.std.specs.declared.cmp.Ordering.{Ordering}
 use Rattle.std.specs.BTreeMap.{is_at}
@@ -43,7 +43,7 @@ same-names (m ∷ ms) [] e = cc
 same-names (m ∷ ms) (n ∷ ns) e =
     λ i. same_text m n (sym (first_so (pointwise nat_eq m n) (pointwise (pointwise nat_eq) ms ns) e)) i ∷ same-names ms ns (second_so (pointwise nat_eq m n) (pointwise (pointwise nat_eq) ms ns) e) i
 
--- what is there does not stand where nothing is
+-- a taken place and a free one are not the same
 pub apart-of : (names : Names) (old new : Place) → is_taken (node_at names old) ≡ true → node_at names new ≡ None → same_place old new ≡ false
 apart-of names old new there free = by (same_place old new) refl
   where
@@ -68,7 +68,7 @@ found-keeps cmp P key value es all there = lookup_holds P (is_at (cmp key)) es v
 pub found-passes : {K X : Type 0} (cmp : K → K → Ordering) (passes : X → Bool) (key : K) (value : X) (es : Table K X) → list_all (λ e. passes e.1) es ≡ true → get cmp es key ≡ Some value → passes value ≡ true
 found-passes cmp passes key value es all there = found-keeps cmp (λ x. IsTrue (passes x)) key value es (each-all (λ e. passes e.1) es all) there
 
--- what stands at a place of a tree is a node of one
+-- the node at a place of a tree is a node of one
 pub node-kept : (t : Tree) (place : Place) (it : Node) → IsKept t → node_at t.names place ≡ Some it → IsNode t.files it
 node-kept t place it kept there =
     found-keeps place_cmp (IsNode t.files) place it t.names kept.well_formed.nodes there

@@ -80,7 +80,7 @@ names-put files names place it fit named absent above is_node = record {
 
 -- ---- another owner of a directory
 
--- a directory for another, or not: whatever tells no directory from another says the same of each place
+-- a directory for another, or not: whatever does not tell one directory from another says the same of each place
 same-put : (tells : Option Node → Bool) (names : Names) (place : Place) (before owner : Owner) (q : Place) → node_at names place ≡ Some (Dir before) → tells (Some (Dir owner)) ≡ tells (Some (Dir before)) → tells (node_at (with_node names place (Dir owner)) q) ≡ tells (node_at names q)
 same-put tells names place before owner q there alike =
     ap tells (get-put place_cmp place_cmp-total names place (Dir owner) q) ∙ by (is_eq (place_cmp q place)) refl

@@ -1,4 +1,4 @@
--- Places of a tree, above and below one another: what a taken place stands below is a directory.
+-- Places of a tree, above and below one another: each place above a taken one is a directory.
 use Rattle.std.proofs.Common.{◌≡◌, ℕ, zero, suc, ◌+◌, ◌-◌, ◌<◌, ◌≤◌, ◌&&◌, Bool, true, false, [], ◌∷◌, ◌++◌, length, take, drop, refl, sym, ap, subst, ◌∙◌, arith, Option, Some, None, IsTrue, nat_lt, inl, inr}
 use Rattle.std.specs.Cmp.Lexicographic.{nat_list_eq_equiv}
 use Rattle.std.proofs.Math.Seq.{take-append_seam}
@@ -29,7 +29,7 @@ pub below-further : (p : Place) (n : Name) (ns : Place) → is_below p (p ++ n �
 below-further [] n ns = refl
 below-further (m ∷ ms) n ns = ap (λ b. b && is_below ms (ms ++ n ∷ ns)) (nat_list_eq_equiv.refl m) ∙ below-further ms n ns
 
--- a place stands in front of what is below it
+-- a place is in front of what is below it
 pub take-below : (p q : Place) → is_below p q ≡ true → (take (length p) q ≡ p) × (length p < length q)
 take-below p q below =
     let parts = and_parts (begins p q) (nat_lt (length p) (length q)) (sym (below-begins p q) ∙ below) in
@@ -62,7 +62,7 @@ climb names parents (suc more) q n is taken =
     subst (λ p. IsTrue (is_directory (node_at names p))) (take-take n (length q - 1) q less)
     (climb names parents more (parent q) n (omega arith) (directory-taken (node_at names (parent q)) (parents q taken)))
 
--- what something taken stands below is a directory
+-- each place above a taken one is a directory
 pub above-directory : (names : Names) (p q : Place) → HaveParents names → is_below p q ≡ true → IsTrue (is_taken (node_at names q)) → IsTrue (is_directory (node_at names p))
 above-directory names p q parents below taken =
     let front = take-below p q below in
@@ -88,7 +88,7 @@ begins-or-same p q begun apart =
     let none = second-false (begins p q) (nat_lt (length p) (length q)) begun (sym (below-begins p q) ∙ apart) in
     ap (same_place p) (sym (take_all (length p) q (ltb-false (length p) (length q) none))) ∙ begins-is p q ∙ begun
 
--- a place whose parent is a directory stands below no other but a directory
+-- a place whose parent is a directory is below no other but a directory
 pub apart-from : (names : Names) (old new : Place) → HaveParents names → goes_inside names old new ≡ false → same_place old new ≡ false → IsTrue (is_directory (node_at names (parent new))) → begins old new ≡ false
 apart-from names old new parents outside differ above = false_from_ne_true (begins old new) begun
   where

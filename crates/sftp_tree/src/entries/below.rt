@@ -29,7 +29,7 @@ pub(crate) fn has_entries(names: &BTreeMap<Place, Node>, place: &Place) -> bool
     }
 }
 
-/// Whether no place that begins with one has more names than so many behind it. Such places follow one another in
+/// Whether each place that begins with `top` has at most `room` names behind it. Such places follow one another in
 /// order.
 pub(crate) fn reaches_at_most(names: &BTreeMap<Place, Node>, top: &Place, room: usize) -> bool
     ensures { result ≡ rooms.reaches_at_most names.now.entries top.now room }

@@ -1,4 +1,4 @@
-//! The node at a place is replaced, or moves to another place.
+//! How the node at a place is replaced, and how it moves to another place.
 ghost use Rattle.std.specs.Prelude.{◌≡◌, ◌∷◌, ◌++◌, List, Some, None, false, if◌then◌else◌, IfOk, OnOk, OnErr, IsTrue};
 ghost use Rattle.sftp_path.specs.Place.{Name, begins};
 ghost use Rattle.sftp_path.specs.Rekeying.{renamed, rekeyed};
@@ -26,7 +26,7 @@ pub(crate) fn replace(names: &mut BTreeMap<Place, Node>, place: &Place, node: No
 ///
 /// # Errors
 ///
-/// `NoMemory` where memory runs out; the entries are then as before.
+/// `NoMemory` if memory runs out; the entries are then as before.
 pub(crate) fn move_node(
     names: &mut BTreeMap<Place, Node>,
     old: &Place,
@@ -71,7 +71,7 @@ fn move_alone(
     Ok(gone)
 }
 
-/// Moves the node at the old place, with all below it, by a table of its own.
+/// Moves the node at the old place, with all below it, by making a new table.
 #[tactic(auto, unfolding(sftp_path::specs::Table::get))]
 fn move_all(
     names: &mut BTreeMap<Place, Node>,
@@ -118,7 +118,8 @@ fn put_moved(
 ) -> Result<(), NoMemory>
     ensures { OnOk result
         (moved.new.entries
-        ≡ (if same_place place.now new.now then moved.old.entries else with_node moved.old.entries (renamed old.now new.now place.now) node.now)) }
+        ≡ (if same_place place.now new.now then moved.old.entries
+        else with_node moved.old.entries (renamed old.now new.now place.now) node.now)) }
 {
     if place == new {
         return Ok(());

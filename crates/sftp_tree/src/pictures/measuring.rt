@@ -1,5 +1,5 @@
-//! How many bytes a tree file takes, at most, found before memory is asked for. A number that does not fit is the
-//! largest that does.
+//! How many bytes a tree file takes at most, computed before memory is requested. A count that does not fit is the
+//! largest `usize`.
 use crate::nodes::Node;
 use crate::trees::Tree;
 use sftp_path::Place;
@@ -13,7 +13,7 @@ const OWNED: usize = 13;
 /// The length of a string.
 const LENGTH: usize = 4;
 
-/// The absolute text of a place, with its length.
+/// The size of the absolute text of a place, with its length.
 fn path_size(place: &Place) -> usize {
     let mut size = LENGTH + 1;
     for name in place.names() {
@@ -22,7 +22,7 @@ fn path_size(place: &Place) -> usize {
     size
 }
 
-/// The kind of an entry and what it says, but for the bytes of a file.
+/// The size of an entry's kind and fields, without the bytes of a file.
 fn node_size(node: &Node) -> usize {
     match node {
         Node::Dir(_) => OWNED,

@@ -14,7 +14,7 @@ use sftp_path::{NoMemory, Place, place_of_text};
 use sftp_treefile::{Kind, Owner, Row, TreeFile};
 use std::alloc::Global;
 
-/// The place that this is the absolute text of.
+/// The place whose absolute text this is.
 fn place_of(alloc: Global, text: &[u8]) -> Result<Place, NoMemory>
     requires { IsPlaceText text.now }
     ensures { IfOk result (λ place. place ≡ place_of text.now) }
@@ -25,8 +25,8 @@ fn place_of(alloc: Global, text: &[u8]) -> Result<Place, NoMemory>
     }
 }
 
-/// What an entry is, as a node. A file that comes with it is put among the others, and a further name is counted:
-/// `numbers` has for each entry before it the number that its file has, if it comes with one.
+/// The node of an entry. A file that comes with the entry is added to `files`, and a further name is counted. `numbers`
+/// has for each entry before it the number of its file, if it comes with one.
 fn node_of(
     files: &mut Files,
     numbers: &[FileNo],
@@ -83,7 +83,7 @@ fn grow(alloc: Global, root: Owner, rows: Vec<Row>) -> Result<Grown, NoMemory>
     Ok(Grown { names, files })
 }
 
-/// The tree that a tree file speaks of.
+/// The tree that a tree file describes.
 pub(super) fn tree_of(alloc: Global, file: TreeFile) -> Result<Tree, NoMemory>
     requires { IsTreeFile file }
     ensures { IfOk result (λ t. t ≡ parts.tree_of file) }

@@ -22,7 +22,7 @@ use sftp_wire::ByteString;
 use std::alloc::Global;
 use std::collections::BTreeMap;
 
-/// Who owns what has no owner.
+/// The owner of what has none.
 const NO_OWNER: Owner = Owner {
     uid: 0,
     gid: 0,
@@ -73,7 +73,8 @@ fn put_name(
     ensures out { OnOk result (out.new.items ≡ out.old.items
         ++ row_text (record { path = path.now; kind = spec.naming (get nat_cmp firsts.old.entries number) (content_at tree.now.files number) })) }
     ensures firsts { OnOk result
-        (firsts.new.entries ≡ parts.with_first firsts.old.entries entry number (get nat_cmp firsts.old.entries number)) }
+        (firsts.new.entries
+        ≡ parts.with_first firsts.old.entries entry number (get nat_cmp firsts.old.entries number)) }
 {
     if let Some(first) = firsts.get(&number) {
         put_further_name(out, path, *first)?;
@@ -99,7 +100,8 @@ fn put_entry(
     requires path { length (absolute place.now) < 2 ^ 32 }
     requires node { parts.IsShort tree.now.files node.now }
     ensures out { OnOk result (out.new.items ≡ out.old.items
-        ++ row_text (record { path = absolute place.now; kind = parts.known_kind tree.now.files firsts.old.entries node.now })) }
+        ++ row_text
+        (record { path = absolute place.now; kind = parts.known_kind tree.now.files firsts.old.entries node.now })) }
     ensures firsts { OnOk result (firsts.new.entries ≡ parts.firsts_with firsts.old.entries entry node.now) }
 {
     let path = absolute(place.allocator(), place.names())?;
@@ -114,7 +116,8 @@ fn put_entry(
 /// Appends the entries below the root.
 fn put_entries(out: &mut Vec<u8>, tree: &Tree) -> Result<(), NoMemory>
     ensures kept { IsKept tree.now }
-    ensures out { OnOk result (out.new.items ≡ out.old.items ++ flat_map row_text (spec.rows_behind tree.now.files [] tree.now.names)) }
+    ensures out { OnOk result (out.new.items
+        ≡ out.old.items ++ flat_map row_text (spec.rows_behind tree.now.files [] tree.now.names)) }
 {
     let mut firsts = BTreeMap::new(tree.home().allocator());
     let mut entries = tree.names().iter();
@@ -127,7 +130,7 @@ fn put_entries(out: &mut Vec<u8>, tree: &Tree) -> Result<(), NoMemory>
     Ok(())
 }
 
-/// The tree file of a tree. The room for it is taken at once, so that the bytes of files are copied once.
+/// The tree file of a tree. Memory for it is taken at once, so that the bytes of files are copied once.
 pub(super) fn picture_of(tree: &Tree) -> Result<Vec<u8>, NoMemory>
     ensures { IfOk result (λ v. v.items ≡ spec.picture tree.now) }
 {

@@ -12,7 +12,7 @@ use Rattle.sftp_tree.proofs.KeptTrees.Counts.{name-to-lose, left-parts}
 use Rattle.sftp_tree.proofs.FileCounts.Moves.{named-moved}
 use Rattle.sftp_tree.proofs.trees.Tree.move_to.Goals as goal
 
--- the new place is not below the old one, and nothing stands below it
+-- the new place is not below the old one, and nothing is below it
 apart : (t : Tree) (old new : Place) → IsKept t → goes_inside t.names old new ≡ false → same_place old new ≡ false → IsTrue (is_directory (node_at t.names (parent new))) → begins old new ≡ false
 apart t old new kept = apart-from t.names old new kept.well_formed.parents
 
