@@ -68,3 +68,9 @@ pub in-plain : (plain : CauseSet) (asked : Tree) (c : Cause) → plain c ≡ tru
 unfolding when
 in-plain plain asked c holds =
     ap (λ b. only NoRoom c && (is_none plain && not (fits asked)) || b) holds ∙ or-true (only NoRoom c && (is_none plain && not (fits asked)))
+
+-- where no cause is in a set with a cause more, none is in the set
+pub fewer : (set : CauseSet) (one : Cause) (holds : Bool) → ((c : Cause) → when set one holds c ≡ false) → (c : Cause)
+    → set c ≡ false
+unfolding when
+fewer set one holds none c = (or_parts (only one c && holds) (set c) (none c)).1
