@@ -1,9 +1,9 @@
 pub mod PlaceTables
-pub mod TreeFiles
-pub mod Walks
+pub mod WellFormedTrees
+pub mod Limits
+pub mod FileCounts
 pub mod KeptTrees
+pub mod Walks
 pub mod CauseLaws
 pub mod Requests
-pub mod Limits
-pub mod WellFormedTrees
-pub mod FileCounts
+pub mod TreeFiles
