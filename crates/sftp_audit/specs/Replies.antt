@@ -12,7 +12,8 @@ use Rattle.sftp_wire.specs.declared.packets.Request.{Request}
 use Rattle.sftp_wire.specs.declared.packets.Reply.{Reply}
 use Rattle.sftp_path.specs.Place.{same_bytes}
 use Rattle.sftp_tree.specs.Tree.{Tree}
-use Rattle.sftp_tree.specs.Steps.{CauseSet, has_step, causes, is_none, allow, after, shown_to, target_to, text_to}
+use Rattle.sftp_tree.specs.Causes.{CauseSet, is_none, allow}
+use Rattle.sftp_tree.specs.Requests.{has_step, causes, after, shown_to, target_to, text_to}
 
 -- ---- what a reply says
 

@@ -9,7 +9,8 @@ use Rattle.sftp_path.specs.declared.errors.NoMemory.{NoMemory}
 use Rattle.sftp_tree.specs.declared.causes.Refused.{Refused}
 use Rattle.sftp_tree.specs.declared.causes.Refused.TheVariants as refusals
 use Rattle.sftp_tree.specs.Tree.{Tree}
-use Rattle.sftp_tree.specs.Steps.{causes, is_none, after}
+use Rattle.sftp_tree.specs.Causes.{is_none}
+use Rattle.sftp_tree.specs.Requests.{causes, after}
 use Rattle.sftp_audit.specs.Replies.{answers, Refuses, Does}
 
 -- the value of a call of the tree, or none where a cause refused it; `NoMemory` where memory ran out

@@ -4,8 +4,8 @@ ghost use Rattle.std.specs.Prelude.{◌≡◌, ℕ, List, IfOk, OnErr, IsTrue, f
 ghost use Rattle.sftp_wire.specs.declared.packets.Ask.TheVariants.{Realpath, Readlink};
 ghost use Rattle.sftp_wire.specs.declared.packets.Answer.TheVariants as answers;
 ghost use Rattle.sftp_tree.specs.Tree as trees;
-ghost use Rattle.sftp_tree.specs.Steps as steps;
-ghost use Rattle.sftp_tree.specs.Sets.{stat_ask};
+ghost use Rattle.sftp_tree.specs.Requests as requests;
+ghost use Rattle.sftp_tree.specs.Refusals.{stat_ask};
 ghost use Rattle.sftp_audit.specs.Replies as spec;
 ghost use Rattle.sftp_audit.specs.Verdicts.{value_of, is_done, is_answer, IsDone, IsVerdict};
 
@@ -264,7 +264,7 @@ fn is_one_name(text: &[u8], names: &Names) -> bool
 
 /// Whether the request can be judged: the requests on handles cannot yet.
 pub fn has_step(ask: &Ask) -> bool
-    ensures { result ≡ steps.has_step ask.now }
+    ensures { result ≡ requests.has_step ask.now }
 {
     match ask {
         Ask::Open { .. } => false,

@@ -6,7 +6,7 @@ use Rattle.sftp_tree.specs.declared.causes.Cause.{Cause}
 use Rattle.sftp_tree.specs.declared.ends.Places.{Places}
 use Rattle.sftp_tree.specs.Tree.{Tree}
 use Rattle.sftp_tree.specs.Walking.{IsPlaceOf}
-use Rattle.sftp_tree.specs.Steps.{led, new_led}
+use Rattle.sftp_tree.specs.Requests.{led, new_led}
 
 -- the place of a second path, if there is one
 abbrev pub ok_where : Option Place → Option (Result Place Cause)

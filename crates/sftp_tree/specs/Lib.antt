@@ -1,10 +1,13 @@
 pub mod Tree
-pub mod Stored
+pub mod StoredFiles
 pub mod Walk
 pub mod WalkRules
 pub mod Attributes
-pub mod Steps
-pub mod Sets
+pub mod Causes
+pub mod PlaceCauses
+pub mod Changes
+pub mod Requests
+pub mod Refusals
 pub mod Asks
 pub mod Picture
 pub mod PictureParts

@@ -11,12 +11,12 @@ use Rattle.sftp_treefile.specs.declared.files.Row.{Row}
 use Rattle.sftp_treefile.specs.declared.files.TreeFile.{TreeFile}
 use Rattle.sftp_treefile.specs.declared.heads.Head.{Head}
 use Rattle.sftp_treefile.specs.TreeFile.{place_of}
-use Rattle.sftp_tree.specs.declared.contents.Content.{Content}
-use Rattle.sftp_tree.specs.declared.contents.Stored.{Stored}
+use Rattle.sftp_tree.specs.declared.file_contents.Content.{Content}
+use Rattle.sftp_tree.specs.declared.file_contents.Stored.{Stored}
 use Rattle.sftp_tree.specs.declared.nodes.Node.{Node}
 use Rattle.sftp_tree.specs.declared.nodes.Node.TheVariants.{Dir, File, Link}
 use Rattle.sftp_tree.specs.Tree.{Names, Files, Tree, node_at, content_at}
-use Rattle.sftp_tree.specs.Stored.{contents, AreCounted, IsChanged, with_a_name}
+use Rattle.sftp_tree.specs.StoredFiles.{contents, AreCounted, IsChanged, with_a_name}
 use Rattle.sftp_tree.specs.Picture.{naming, root_owner}
 
 -- the file that an entry comes with

@@ -12,7 +12,9 @@ use Rattle.sftp_tree.specs.declared.plans.Plan.{Plan}
 use Rattle.sftp_tree.specs.declared.plans.Plan.TheVariants.{Nothing, Put, Remove as Take, Move, Set}
 use Rattle.sftp_tree.specs.Tree.{Tree, IsTrimmed, IsNode, fits, node_at, is_taken, is_directory, is_file, has_entries, trim}
 use Rattle.sftp_tree.specs.Attributes.{directory_owner}
-use Rattle.sftp_tree.specs.Steps.{are_one, goes_inside, with_entry, without_entry, with_attributes, put_in_its_stead, after}
+use Rattle.sftp_tree.specs.PlaceCauses.{are_one, goes_inside}
+use Rattle.sftp_tree.specs.Changes.{with_entry, without_entry, with_attributes, put_in_its_stead}
+use Rattle.sftp_tree.specs.Requests.{after}
 
 -- the tree with the plan carried out; files that lost their last name still exist
 abbrev pub changed : Tree → Plan → Tree

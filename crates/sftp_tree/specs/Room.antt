@@ -8,7 +8,7 @@ use Rattle.sftp_wire.specs.declared.packets.Ask.TheVariants.{Setstat, Mkdir, Ren
 use Rattle.sftp_tree.specs.declared.nodes.Node.{Node}
 use Rattle.sftp_tree.specs.declared.causes.Cause.{Cause}
 use Rattle.sftp_tree.specs.Tree.{Tree, Names, limits, node_at, is_file, depth_fits}
-use Rattle.sftp_tree.specs.Steps.{are_one}
+use Rattle.sftp_tree.specs.PlaceCauses.{are_one}
 
 -- whether one more entry, at a new place, keeps to the limits; the root is a place, but does not count as an entry
 abbrev pub has_room : Tree → Place → Bool

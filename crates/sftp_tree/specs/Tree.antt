@@ -8,7 +8,7 @@ use Rattle.sftp_path.specs.Table.{Table, InOrder, get, put, without, retain, cou
 use Rattle.sftp_treefile.specs.declared.limits.TreeLimits.{TreeLimits}
 use Rattle.sftp_treefile.specs.Limits.{usual_limits}
 use Rattle.sftp_treefile.specs.TreeFile.{IsOwner, is_target, are_bytes}
-use Rattle.sftp_tree.specs.declared.contents.Content.{Content}
+use Rattle.sftp_tree.specs.declared.file_contents.Content.{Content}
 use Rattle.sftp_tree.specs.declared.nodes.Node.{Node}
 use Rattle.sftp_tree.specs.declared.nodes.Node.TheVariants.{Dir, File, Link}
 

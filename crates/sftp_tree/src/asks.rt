@@ -1,8 +1,8 @@
 //! The requests that are judged by the paths that they name: their paths, and the causes of their own bytes.
 ghost use Rattle.std.specs.Prelude.{◌≡◌, Some, MatchOption, option_copied};
 ghost use Rattle.sftp_treefile.specs.TreeFile.{is_target};
-ghost use Rattle.sftp_tree.specs.Steps as steps;
-ghost use Rattle.sftp_tree.specs.Sets.{in_set};
+ghost use Rattle.sftp_tree.specs.Requests as requests;
+ghost use Rattle.sftp_tree.specs.Refusals.{in_set};
 ghost use Rattle.sftp_tree.specs.Asks.{asked};
 
 use crate::causes::{Cause, Causes};
@@ -28,7 +28,7 @@ pub(crate) enum PathAsk<'a> {
 
 /// The request as one that is judged by its paths, or `None` if it is not one.
 pub(crate) fn path_ask(ask: &Ask) -> Option<PathAsk<'_>>
-    ensures { MatchOption result (steps.row_of ask.now ≡ steps.no_step) (λ it. asked it ≡ ask.now) }
+    ensures { MatchOption result (requests.row_of ask.now ≡ requests.no_step) (λ it. asked it ≡ ask.now) }
 {
     match ask {
         Ask::Mkdir { path, attrs } => Some(PathAsk::Mkdir {
@@ -92,7 +92,7 @@ pub(crate) fn path_ask(ask: &Ask) -> Option<PathAsk<'_>>
 impl<'a> PathAsk<'a> {
     /// The path that it walks, or the first of two.
     pub(crate) fn path(self) -> &'a [u8]
-        ensures { steps.path_of (asked self.entry) ≡ Some result.now }
+        ensures { requests.path_of (asked self.entry) ≡ Some result.now }
     {
         match self {
             PathAsk::Mkdir { path, .. } => path,
@@ -112,7 +112,7 @@ impl<'a> PathAsk<'a> {
 
     /// The second path of a request that has two: a new name.
     pub(crate) fn new_path(self) -> Option<&'a [u8]>
-        ensures { steps.new_path_of (asked self.entry) ≡ option_copied result }
+        ensures { requests.new_path_of (asked self.entry) ≡ option_copied result }
     {
         match self {
             PathAsk::Rename { new, .. } => Some(new),
@@ -132,7 +132,7 @@ impl<'a> PathAsk<'a> {
 
     /// Whether the walk of its path follows a last link.
     pub(crate) fn follows(self) -> bool
-        ensures { result ≡ steps.follows (asked self.entry) }
+        ensures { result ≡ requests.follows (asked self.entry) }
     {
         match self {
             PathAsk::Setstat { .. } => true,
@@ -152,7 +152,7 @@ impl<'a> PathAsk<'a> {
 
     /// The causes of its own bytes.
     pub(crate) fn own_causes(self) -> Causes
-        ensures { in_set result ≡ steps.target_causes (asked self.entry) }
+        ensures { in_set result ≡ requests.own_causes (asked self.entry) }
     {
         let none = Causes::none();
         match self {

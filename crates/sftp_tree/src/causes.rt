@@ -1,8 +1,8 @@
 //! Why requests are refused, and with which status codes (draft, section 7).
 ghost use Rattle.std.specs.Prelude.{◌≡◌, ◌<◌, IfErr, IsTrue, OnOk};
 ghost use Rattle.std.specs.List.{list_any};
-ghost use Rattle.sftp_tree.specs.Steps as steps;
-ghost use Rattle.sftp_tree.specs.Sets.{in_set};
+ghost use Rattle.sftp_tree.specs.Causes as sets;
+ghost use Rattle.sftp_tree.specs.Refusals.{in_set};
 
 use sftp_path::NoMemory;
 use std::alloc::{AllocError, AllocFailed};
@@ -69,7 +69,7 @@ const EVERY_CAUSE: [Cause; 12] = [
 impl Cause {
     /// The number of its row in the table.
     fn row(self) -> u32
-        ensures row { result ≡ steps.row self }
+        ensures row { result ≡ sets.row self }
         ensures few { result < 16 }
     {
         self as u32
@@ -77,7 +77,7 @@ impl Cause {
 
     /// Whether this cause allows the status code.
     pub fn allows(self, code: u32) -> bool
-        ensures { result ≡ steps.allows self code }
+        ensures { result ≡ sets.allows self code }
     {
         match self {
             Cause::BadPath => code == 4 || code == 5,
@@ -104,14 +104,14 @@ pub struct Causes {
 impl Causes {
     /// The empty set.
     pub(crate) fn none() -> Causes
-        ensures { in_set result ≡ steps.no_causes }
+        ensures { in_set result ≡ sets.no_causes }
     {
         Causes { bits: 0 }
     }
 
     /// The set with this cause too, if it holds.
     pub(crate) fn when(self, cause: Cause, holds: bool) -> Causes
-        ensures { in_set result ≡ steps.when (in_set self) cause holds }
+        ensures { in_set result ≡ sets.when (in_set self) cause holds }
     {
         if !holds {
             return self;
@@ -130,14 +130,14 @@ impl Causes {
 
     /// Whether the set has a cause.
     pub fn has_any(&self) -> bool
-        ensures { result ≡ list_any (in_set self.now) steps.every_cause }
+        ensures { result ≡ list_any (in_set self.now) sets.every_cause }
     {
         EVERY_CAUSE.iter().any(|cause| self.holds(*cause))
     }
 
     /// The causes that are in either set.
     pub(crate) fn union(self, other: Causes) -> Causes
-        ensures { in_set result ≡ steps.joined (in_set self) (in_set other) }
+        ensures { in_set result ≡ sets.joined (in_set self) (in_set other) }
     {
         Causes {
             bits: self.bits | other.bits,
@@ -150,7 +150,7 @@ impl Causes {
     ///
     /// The first cause of the set, if it has one.
     pub(crate) fn refuse(&self) -> Result<(), Cause>
-        ensures free { OnOk result (IsTrue (steps.is_none (in_set self.now))) }
+        ensures free { OnOk result (IsTrue (sets.is_none (in_set self.now))) }
         ensures cause { IfErr result (λ cause. IsTrue (in_set self.now cause)) }
     {
         match EVERY_CAUSE.iter().find(|cause| self.holds(**cause)) {
@@ -161,7 +161,7 @@ impl Causes {
 
     /// Whether one of the causes allows the status code.
     pub fn allow(&self, code: u32) -> bool
-        ensures { result ≡ steps.allow (in_set self.now) code }
+        ensures { result ≡ sets.allow (in_set self.now) code }
     {
         EVERY_CAUSE
             .iter()

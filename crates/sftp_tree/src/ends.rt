@@ -3,9 +3,9 @@ ghost use Rattle.std.specs.Prelude.{◌≡◌, ◌⊎◌, Some, Err, IfOk, IfErr
 ghost use Rattle.sftp_path.specs.Place.{parent};
 ghost use Rattle.sftp_tree.specs.declared.causes.Cause.{Cause as cause};
 ghost use Rattle.sftp_tree.specs.Tree as tree;
-ghost use Rattle.sftp_tree.specs.Steps as steps;
+ghost use Rattle.sftp_tree.specs.Requests as requests;
 ghost use Rattle.sftp_tree.specs.Asks.{asked};
-ghost use Rattle.sftp_tree.specs.Sets.{in_set, IsFree, IsRefusal};
+ghost use Rattle.sftp_tree.specs.Refusals.{in_set, IsFree, IsRefusal};
 ghost use Rattle.sftp_tree.specs.Ends as spec;
 ghost use Rattle.sftp_tree.specs.Room as room;
 
@@ -57,7 +57,7 @@ impl Tree {
     ///
     /// `NoMemory` if memory runs out.
     pub fn causes(&self, ask: &Ask) -> Result<Causes, NoMemory>
-        ensures { IfOk result (λ set. (c : cause) → in_set set c ≡ steps.causes self.now ask.now c) }
+        ensures { IfOk result (λ set. (c : cause) → in_set set c ≡ requests.causes self.now ask.now c) }
     {
         let home = self.home();
         match path_ask(ask) {
@@ -96,8 +96,8 @@ impl Tree {
     /// `NoMemory` if memory runs out.
     fn ends(&self, home: &Place, ask: PathAsk<'_>) -> Result<Ends, NoMemory>
         requires { home.now ≡ self.now.home }
-        ensures old { IfOk result (λ ends. steps.led self.now (asked ask.entry) ≡ Some ends.old) }
-        ensures new { IfOk result (λ ends. steps.new_led self.now (asked ask.entry) ≡ ends.new) }
+        ensures old { IfOk result (λ ends. requests.led self.now (asked ask.entry) ≡ Some ends.old) }
+        ensures new { IfOk result (λ ends. requests.new_led self.now (asked ask.entry) ≡ ends.new) }
         ensures well { IfOk result (λ ends. spec.EndsAreWell self.now ends.old ends.new) }
     {
         let old = self.reach(home, ask.follows(), ask.path())?;
@@ -110,10 +110,10 @@ impl Tree {
 
     /// The causes of a request by where its paths lead.
     fn judge(&self, ask: PathAsk<'_>, ends: &Ends) -> Causes
-        requires old { steps.led self.now (asked ask) ≡ Some ends.now.old }
-        requires new { steps.new_led self.now (asked ask) ≡ ends.now.new }
+        requires old { requests.led self.now (asked ask) ≡ Some ends.now.old }
+        requires new { requests.new_led self.now (asked ask) ≡ ends.now.new }
         requires well { spec.EndsAreWell self.now ends.now.old ends.now.new }
-        ensures { in_set result ≡ steps.causes self.now (asked ask.entry) }
+        ensures { in_set result ≡ requests.causes self.now (asked ask.entry) }
     {
         let plain = self.plain_causes(ask, ends);
         let lacks = !plain.has_any() && !self.has_room_for(ask, ends);
@@ -122,7 +122,7 @@ impl Tree {
 
     /// The causes other than `NoRoom`.
     fn plain_causes(&self, ask: PathAsk<'_>, ends: &Ends) -> Causes
-        ensures { in_set result ≡ steps.plain_of self.now (asked ask.entry) (Some ends.now.old) ends.now.new }
+        ensures { in_set result ≡ requests.plain_of self.now (asked ask.entry) (Some ends.now.old) ends.now.new }
     {
         let here = self.led_causes(ask, &ends.old);
         let there = self.new_led_causes(ask, &ends.new);
@@ -132,7 +132,7 @@ impl Tree {
 
     /// The causes of the path, or of the first of two.
     fn led_causes(&self, ask: PathAsk<'_>, end: &Result<Place, Cause>) -> Causes
-        ensures { in_set result ≡ steps.led_causes (Some end.now) (steps.causes_at self.now (asked ask.entry)) }
+        ensures { in_set result ≡ requests.led_causes (Some end.now) (requests.causes_at self.now (asked ask.entry)) }
     {
         match end {
             Ok(place) => self.causes_at(ask, place),
@@ -142,7 +142,7 @@ impl Tree {
 
     /// The causes of the second path.
     fn new_led_causes(&self, ask: PathAsk<'_>, end: &Option<Result<Place, Cause>>) -> Causes
-        ensures { in_set result ≡ steps.led_causes end.now (steps.new_causes_at self.now (asked ask.entry)) }
+        ensures { in_set result ≡ requests.led_causes end.now (requests.new_causes_at self.now (asked ask.entry)) }
     {
         match end {
             Some(Ok(place)) => self.new_causes_at(ask, place),
@@ -154,7 +154,7 @@ impl Tree {
     /// The causes of two places, if each path leads to one.
     fn both_causes(&self, ask: PathAsk<'_>, ends: &Ends) -> Causes
         ensures { in_set result
-            ≡ steps.both_causes (Some ends.now.old) ends.now.new (steps.causes_between self.now (asked ask.entry)) }
+            ≡ requests.both_causes (Some ends.now.old) ends.now.new (requests.causes_between self.now (asked ask.entry)) }
     {
         match (&ends.old, &ends.new) {
             (Ok(old), Some(Ok(new))) => self.causes_between(ask, old, new),

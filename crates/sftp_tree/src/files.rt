@@ -5,10 +5,10 @@ ghost use Rattle.sftp_path.specs.Table.{get, put};
 ghost use Rattle.sftp_treefile.specs.TreeFile.{IsOwner};
 ghost use Rattle.sftp_tree.specs.Tree.{content_at};
 ghost use Rattle.sftp_tree.specs.Attributes.{changed_owner};
-ghost use Rattle.sftp_tree.specs.Stored.{IsChanged, IsChangedWhereNamed, contents};
-ghost use Rattle.sftp_tree.specs.Stored.{with_a_name, without_a_name, with_attributes_set};
+ghost use Rattle.sftp_tree.specs.StoredFiles.{IsChanged, IsChangedWhereNamed, contents};
+ghost use Rattle.sftp_tree.specs.StoredFiles.{with_a_name, without_a_name, with_attributes_set};
 
-use crate::contents::{Content, Stored, change};
+use crate::file_contents::{Content, Stored, change};
 use crate::file_numbers::FileNo;
 use sftp_path::NoMemory;
 use sftp_wire::Attrs;

@@ -2,7 +2,7 @@
 ghost use Rattle.std.specs.Prelude.{◌≡◌, option_copied};
 ghost use Rattle.sftp_treefile.specs.TreeFile.{is_root};
 ghost use Rattle.sftp_tree.specs.Tree as tree;
-ghost use Rattle.sftp_tree.specs.Steps as steps;
+ghost use Rattle.sftp_tree.specs.PlaceCauses as place_causes;
 
 use crate::nodes::Node;
 use crate::trees::Tree;
@@ -20,7 +20,7 @@ impl Tree {
 
     /// Whether both are one place, or names of one file.
     pub(crate) fn are_one(&self, old: &Place, new: &Place) -> bool
-        ensures { result ≡ steps.are_one self.now.names old.now new.now }
+        ensures { result ≡ place_causes.are_one self.now.names old.now new.now }
     {
         old == new || are_one_file(self.standing(old), self.standing(new))
     }
@@ -56,7 +56,7 @@ pub(crate) fn is_link(found: Option<&Node>) -> bool
 
 /// Whether both are names of one file.
 fn are_one_file(one: Option<&Node>, other: Option<&Node>) -> bool
-    ensures { result ≡ steps.are_one_file (option_copied one.entry) (option_copied other.entry) }
+    ensures { result ≡ place_causes.are_one_file (option_copied one.entry) (option_copied other.entry) }
 {
     match (one, other) {
         (Some(Node::File(one)), Some(Node::File(other))) => one == other,

@@ -12,12 +12,12 @@ ghost use Rattle.sftp_tree.specs.Tree.{Names, Tree, WellFormed, IsKept, IsTrimme
 ghost use Rattle.sftp_tree.specs.Tree.{content_at, times_named, times_pinned, is_named, is_held, trimmed, trim};
 ghost use Rattle.sftp_tree.specs.Walk.{walk, reached, looked, steps_of, looked_limit, link_limit};
 ghost use Rattle.sftp_tree.specs.WalkRules.{Leads};
-ghost use Rattle.sftp_tree.specs.Steps.{target, after};
-ghost use Rattle.sftp_tree.specs.Sets.{IsFree};
+ghost use Rattle.sftp_tree.specs.Requests.{outcome, after};
+ghost use Rattle.sftp_tree.specs.Refusals.{IsFree};
 
 /// No request changes the limits of a tree.
 pub fn limits_stay()
-    ensures target { (t : Tree) (ask : Ask) → limits (target t ask) ≡ limits t }
+    ensures outcome { (t : Tree) (ask : Ask) → limits (outcome t ask) ≡ limits t }
     ensures after { (t : Tree) (ask : Ask) → limits (after t ask) ≡ limits t }
 {}
 
@@ -30,11 +30,11 @@ pub fn steps_keep()
 
 /// The same for a tree with files that have no name and are not pinned: the request's change makes a tree within the
 /// limits.
-pub fn targets_are_trees()
+pub fn outcomes_are_trees()
     ensures tree { (t : Tree) (ask : Ask) → WellFormed t → IsTrue (fits t) → FitsAsk ask → IsFree t ask →
-        WellFormed (target t ask) }
+        WellFormed (outcome t ask) }
     ensures limits { (t : Tree) (ask : Ask) → WellFormed t → IsTrue (fits t) → FitsAsk ask → IsFree t ask →
-        IsTrue (fits (target t ask)) }
+        IsTrue (fits (outcome t ask)) }
 {
     walks_give_places();
 }
@@ -53,7 +53,7 @@ pub fn trees_are_trimmed()
 /// The count of numbers given never falls, and the number of each file and of each name was given: so no number is
 /// given twice.
 pub fn numbers_are_never_given_again()
-    ensures target { (t : Tree) (ask : Ask) → t.made ≤ (target t ask).made }
+    ensures outcome { (t : Tree) (ask : Ask) → t.made ≤ (outcome t ask).made }
     ensures after { (t : Tree) (ask : Ask) → t.made ≤ (after t ask).made }
     ensures files { (t : Tree) (number : ℕ) → WellFormed t → t.made ≤ number → content_at t.files number ≡ None }
     ensures names { (t : Tree) (place : Place) (number : ℕ) → WellFormed t →
@@ -65,11 +65,11 @@ pub fn numbers_are_never_given_again()
 pub fn files_live_while_held()
     ensures gone { (t : Tree) (ask : Ask) (number : ℕ) → WellFormed t →
         (content_at (after t ask).files number ≡ None)
-        ↔ ((content_at (target t ask).files number ≡ None)
-        ⊎ ((times_named (target t ask).names number ≡ 0) × (times_pinned (target t ask).pins number ≡ 0))) }
+        ↔ ((content_at (outcome t ask).files number ≡ None)
+        ⊎ ((times_named (outcome t ask).names number ≡ 0) × (times_pinned (outcome t ask).pins number ≡ 0))) }
     ensures left { (t : Tree) (ask : Ask) (number : ℕ) → WellFormed t →
         content_at (after t ask).files number
-        ≡ (if is_held (target t ask) number then content_at (target t ask).files number else None) }
+        ≡ (if is_held (outcome t ask) number then content_at (outcome t ask).files number else None) }
     ensures pins { (t : Tree) (ask : Ask) → (after t ask).pins ≡ t.pins }
 {}
 

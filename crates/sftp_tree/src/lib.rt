@@ -4,10 +4,11 @@
 
 mod asks;
 mod attributes;
+mod calls;
 mod causes;
-mod contents;
 mod ends;
 mod entries;
+mod file_contents;
 mod file_numbers;
 mod files;
 mod found;
@@ -22,7 +23,6 @@ mod plans;
 pub mod request_examples;
 mod room;
 mod route;
-mod steps;
 mod trees;
 pub mod walk_examples;
 mod walking;

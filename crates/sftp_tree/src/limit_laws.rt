@@ -6,12 +6,12 @@ ghost use Rattle.std.specs.List.{list_all};
 ghost use Rattle.sftp_path.specs.Place.{Place, place_cmp};
 ghost use Rattle.sftp_path.specs.Table.{InOrder};
 ghost use Rattle.sftp_path.specs.Rekeying.{renamed, NothingFrom};
-ghost use Rattle.sftp_tree.specs.declared.contents.Content.{Content};
+ghost use Rattle.sftp_tree.specs.declared.file_contents.Content.{Content};
 ghost use Rattle.sftp_tree.specs.declared.nodes.Node.{Node};
 ghost use Rattle.sftp_tree.specs.Tree.{Tree, limits, fits, entries_fit, depths_fit, home_fits, links_fit};
 ghost use Rattle.sftp_tree.specs.Tree.{files_fit, numbers_fit, depth_fits, link_fits, content_fits};
 ghost use Rattle.sftp_tree.specs.Tree.{node_at, with_node, without_node, content_at, with_content};
-ghost use Rattle.sftp_tree.specs.Steps.{moved};
+ghost use Rattle.sftp_tree.specs.Changes.{moved};
 
 /// A tree is within the limits exactly if it is within each of them.
 pub fn limits_are_six()

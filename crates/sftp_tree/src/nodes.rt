@@ -1,6 +1,6 @@
 //! The nodes of a tree.
 ghost use Rattle.std.specs.Prelude.{◌≡◌, option_copied};
-ghost use Rattle.sftp_tree.specs.Stored.{file_named};
+ghost use Rattle.sftp_tree.specs.StoredFiles.{file_named};
 
 use crate::file_numbers::FileNo;
 use sftp_treefile::Owner;

@@ -3,10 +3,11 @@ ghost use Rattle.std.specs.Prelude.{◌≡◌, Some, IfOk, IfErr, IsTrue, OnOk, 
 ghost use Rattle.sftp_treefile.specs.TreeFile.{are_bytes};
 ghost use Rattle.sftp_tree.specs.declared.nodes.Node.TheVariants.{File, Link};
 ghost use Rattle.sftp_tree.specs.Tree as tree;
-ghost use Rattle.sftp_tree.specs.Steps as steps;
+ghost use Rattle.sftp_tree.specs.Changes as changes;
+ghost use Rattle.sftp_tree.specs.Requests as requests;
 ghost use Rattle.sftp_tree.specs.Asks.{asked};
 ghost use Rattle.sftp_tree.specs.Ends.{LeadTo, AreWell};
-ghost use Rattle.sftp_tree.specs.Sets.{IsFree, IsRefusal};
+ghost use Rattle.sftp_tree.specs.Refusals.{IsFree, IsRefusal};
 ghost use Rattle.sftp_tree.specs.Plans as spec;
 
 use crate::asks::PathAsk;
@@ -45,7 +46,7 @@ impl Tree {
         ensures free { OnOk result (IsFree self.now (asked ask.entry)) }
         ensures ready { IfOk result (λ plan. spec.IsReady self.now plan) }
         ensures done { IfOk result
-            (λ plan. tree.trim (spec.changed self.now plan) ≡ steps.after self.now (asked ask.entry)) }
+            (λ plan. tree.trim (spec.changed self.now plan) ≡ requests.after self.now (asked ask.entry)) }
         ensures refused { IfErr result (λ refused. IsRefusal self.now (asked ask.entry) refused) }
     {
         let places = self.free_places(ask)?;
@@ -180,10 +181,10 @@ impl Tree {
     /// `NoMemory` if memory runs out; the tree is then as before.
     fn set_attributes(&mut self, place: &Place, attrs: &Attrs) -> Result<(), NoMemory>
         requires { IsTrue (tree.fits
-            (steps.with_attributes self.old attrs.now place.now (tree.node_at self.old.names place.now))) }
+            (changes.with_attributes self.old attrs.now place.now (tree.node_at self.old.names place.now))) }
         ensures ok { OnOk result
             (self.new
-            ≡ tree.trim (steps.with_attributes self.old attrs.now place.now (tree.node_at self.old.names place.now))) }
+            ≡ tree.trim (changes.with_attributes self.old attrs.now place.now (tree.node_at self.old.names place.now))) }
         ensures err { OnErr result (self.new ≡ self.old) }
     {
         match self.standing(place) {

@@ -1,6 +1,6 @@
 //! Worked examples: what requests do to small trees, what they return and why they are refused, computed by the checker
 //! on the definitions that the contracts name. The functions do nothing; each promise is in the contract.
-#![tactic(auto, unfolding(crate::specs::Steps::led, crate::specs::Steps::no_causes, crate::specs::Steps::when, crate::specs::Steps::joined, crate::specs::Steps::plain_causes, crate::specs::Steps::causes, crate::specs::Steps::target, crate::specs::Steps::shown_to, crate::specs::Steps::target_to, crate::specs::Steps::text_to, crate::specs::Walk::meets, crate::specs::Walk::walk_parts, crate::specs::Walk::walk, crate::specs::Walk::reached, crate::specs::Tree::has_entries, crate::specs::Tree::fits, sftp_path::specs::Place::components, sftp_path::specs::Place::parts, sftp_path::specs::Place::is_good_path, sftp_path::specs::Table::get, sftp_path::specs::Table::put, sftp_path::specs::Table::without, sftp_path::specs::Table::retain, sftp_path::specs::Table::from_entries, sftp_path::specs::Rekeying::rekeyed))]
+#![tactic(auto, unfolding(crate::specs::Requests::led, crate::specs::Causes::no_causes, crate::specs::Causes::when, crate::specs::Causes::joined, crate::specs::Requests::plain_causes, crate::specs::Requests::causes, crate::specs::Requests::outcome, crate::specs::Requests::shown_to, crate::specs::Requests::target_to, crate::specs::Requests::text_to, crate::specs::Walk::meets, crate::specs::Walk::walk_parts, crate::specs::Walk::walk, crate::specs::Walk::reached, crate::specs::Tree::has_entries, crate::specs::Tree::fits, sftp_path::specs::Place::components, sftp_path::specs::Place::parts, sftp_path::specs::Place::is_good_path, sftp_path::specs::Table::get, sftp_path::specs::Table::put, sftp_path::specs::Table::without, sftp_path::specs::Table::retain, sftp_path::specs::Table::from_entries, sftp_path::specs::Rekeying::rekeyed))]
 
 ghost use Rattle.std.specs.Prelude.{◌≡◌, true, false, [], ◌∷◌, ◌++◌, Some, None, codes};
 ghost use Rattle.sftp_wire.specs.declared.packets.Ask.TheVariants.{Lstat, Setstat, Remove, Mkdir, Rmdir};
@@ -10,7 +10,8 @@ ghost use Rattle.sftp_wire.specs.Examples.{no_attributes};
 ghost use Rattle.sftp_tree.specs.declared.causes.Cause.TheVariants.{BadPath, NoEntry, NotDir, Exists, IsDir};
 ghost use Rattle.sftp_tree.specs.declared.causes.Cause.TheVariants.{NotLink, NotFile, NotEmpty, Root, Inside};
 ghost use Rattle.sftp_tree.specs.Picture.{blank};
-ghost use Rattle.sftp_tree.specs.Steps.{causes, allow, is_none, target, after, shown_to, target_to, text_to};
+ghost use Rattle.sftp_tree.specs.Causes.{allow, is_none};
+ghost use Rattle.sftp_tree.specs.Requests.{causes, outcome, after, shown_to, target_to, text_to};
 ghost use Rattle.sftp_tree.specs.RequestExamples.{linked, with_directory, private_attributes, shown_link};
 ghost use Rattle.sftp_tree.specs.RequestExamples.{shown_directory, with_file, with_two_names, without_file};
 ghost use Rattle.sftp_tree.specs.RequestExamples.{shown_file, open_attributes, with_open_file, size_attributes};
@@ -21,7 +22,7 @@ ghost use Rattle.sftp_tree.specs.RequestExamples.{before_move, after_move, with_
 /// owner. What it leads to does not exist.
 pub fn symlink_to_nothing()
     ensures free { is_none (causes blank (Symlink (codes "x y") (codes "/l"))) ≡ true }
-    ensures made { target blank (Symlink (codes "x y") (codes "/l")) ≡ linked }
+    ensures made { outcome blank (Symlink (codes "x y") (codes "/l")) ≡ linked }
     ensures shown { shown_to linked (Lstat (codes "/l")) ≡ Some shown_link }
     ensures read { target_to linked (Readlink (codes "/l")) ≡ Some (codes "x y") }
     ensures followed { causes linked (Stat (codes "/l")) NoEntry ≡ true }
@@ -31,9 +32,9 @@ pub fn symlink_to_nothing()
 /// MKDIR takes the owner that is given, and the low twelve bits of the permissions; STAT shows them with the type bits.
 pub fn mkdir_with_attributes()
     ensures free { is_none (causes blank (Mkdir (codes "d/") private_attributes)) ≡ true }
-    ensures made { target blank (Mkdir (codes "d/") private_attributes) ≡ with_directory }
+    ensures made { outcome blank (Mkdir (codes "d/") private_attributes) ≡ with_directory }
     ensures shown { shown_to with_directory (Stat (codes "/d")) ≡ Some shown_directory }
-    ensures gone { target with_directory (Rmdir (codes "/d")) ≡ blank }
+    ensures gone { outcome with_directory (Rmdir (codes "/d")) ≡ blank }
 {}
 
 /// Nothing is made at a taken place: the cause is `Exists`, which allows the code 4 and not 2.

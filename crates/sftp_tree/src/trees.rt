@@ -3,8 +3,8 @@ ghost use Rattle.std.specs.Prelude.{◌≡◌, false, None, option_copied, OnOk,
 ghost use Rattle.sftp_path.specs.Place.{are_names, parent};
 ghost use Rattle.sftp_treefile.specs.TreeFile.{IsOwner, is_root, same_place};
 
-use crate::contents::Content;
 use crate::entries::Entries;
+use crate::file_contents::Content;
 use crate::file_numbers::FileNo;
 use crate::files::Files;
 use crate::nodes::{Node, file_named};
@@ -27,7 +27,7 @@ pub struct Tree {
 
 impl Model for Tree {
     ghost use Rattle.sftp_tree.specs.Tree as tree;
-    ghost use Rattle.sftp_tree.specs.Stored as stored;
+    ghost use Rattle.sftp_tree.specs.StoredFiles as stored;
 
     ghost Value = { tree.Tree };
 
@@ -40,8 +40,9 @@ impl Model for Tree {
 impl Tree {
     ghost use Rattle.sftp_tree.specs.declared.nodes.Node.TheVariants.{Dir};
     ghost use Rattle.sftp_tree.specs.Tree as tree;
-    ghost use Rattle.sftp_tree.specs.Stored as stored;
-    ghost use Rattle.sftp_tree.specs.Steps as steps;
+    ghost use Rattle.sftp_tree.specs.StoredFiles as stored;
+    ghost use Rattle.sftp_tree.specs.PlaceCauses as place_causes;
+    ghost use Rattle.sftp_tree.specs.Changes as changes;
 
     /// A tree of these parts. It takes no memory.
     pub(crate) fn from_parts(
@@ -163,13 +164,13 @@ impl Tree {
         requires taken { IsTrue (tree.is_taken (tree.node_at self.old.names old.now)) }
         requires old_below_root { is_root old.now ≡ false }
         requires new_below_root { is_root new ≡ false }
-        requires outside { steps.goes_inside self.old.names old.now new ≡ false }
+        requires outside { place_causes.goes_inside self.old.names old.now new ≡ false }
         requires elsewhere { same_place old.now new ≡ false }
         requires named { IsTrue (are_names new) }
         requires parent { IsTrue (tree.is_directory (tree.node_at self.old.names (parent new))) }
         requires alone { tree.has_entries self.old.names new ≡ false }
-        requires fits { IsTrue (tree.fits (steps.put_in_its_stead self.old old.now new)) }
-        ensures ok { OnOk result (self.new ≡ tree.trim (steps.put_in_its_stead self.old old.now new)) }
+        requires fits { IsTrue (tree.fits (changes.put_in_its_stead self.old old.now new)) }
+        ensures ok { OnOk result (self.new ≡ tree.trim (changes.put_in_its_stead self.old old.now new)) }
         ensures err { OnErr result (self.new ≡ self.old) }
     {
         let gone = self.names.move_node(old, new)?;
@@ -195,10 +196,10 @@ impl Tree {
     /// `NoMemory` if memory runs out; the tree is then as before.
     pub(crate) fn change_file(&mut self, number: FileNo, attrs: &Attrs) -> Result<(), NoMemory>
         requires { IsTrue (tree.fits
-            (steps.with_changed_file self.old attrs.now number (tree.content_at self.old.files number))) }
+            (changes.with_changed_file self.old attrs.now number (tree.content_at self.old.files number))) }
         ensures ok { OnOk result
             (self.new
-            ≡ tree.trim (steps.with_changed_file self.old attrs.now number (tree.content_at self.old.files number))) }
+            ≡ tree.trim (changes.with_changed_file self.old attrs.now number (tree.content_at self.old.files number))) }
         ensures err { OnErr result (self.new ≡ self.old) }
     {
         self.files.change_at(number, attrs)?;

@@ -18,7 +18,7 @@ use Rattle.sftp_wire.specs.Spelling.{AreBytes, HasSpelling}
 use Rattle.sftp_path.specs.Place.{Place, parent, absolute, are_names, components, is_good_path, name_limit}
 use Rattle.sftp_treefile.specs.Limits.{usual_limits}
 use Rattle.sftp_treefile.specs.TreeFile.{are_bytes, is_target}
-use Rattle.sftp_tree.specs.declared.contents.Content.{Content}
+use Rattle.sftp_tree.specs.declared.file_contents.Content.{Content}
 use Rattle.sftp_tree.specs.declared.nodes.Node.{Node}
 use Rattle.sftp_tree.specs.declared.nodes.Node.TheVariants.{Dir, File, Link}
 use Rattle.sftp_tree.specs.declared.causes.Cause.{Cause}
@@ -26,8 +26,10 @@ use Rattle.sftp_tree.specs.declared.causes.Cause.TheVariants.{NoEntry, NotDir, L
 use Rattle.sftp_tree.specs.Tree.{Tree, IsKept, IsNode, IsContent, link_fits, node_at, content_at, is_directory}
 use Rattle.sftp_tree.specs.Walk.{reached}
 use Rattle.sftp_tree.specs.Attributes.{said, shown_content, shown}
-use Rattle.sftp_tree.specs.Steps.{CauseSet, every_cause, needing_causes, allows, has_step, causes, led, led_to, after}
-use Rattle.sftp_tree.specs.Steps.{told_at, attributes_of, name_of, shown_at, shown_to, target_of, target_to, text_to}
+use Rattle.sftp_tree.specs.Causes.{CauseSet, every_cause, allows}
+use Rattle.sftp_tree.specs.PlaceCauses.{needing_causes}
+use Rattle.sftp_tree.specs.Requests.{has_step, causes, led, led_to, after}
+use Rattle.sftp_tree.specs.Requests.{told_at, attributes_of, name_of, shown_at, shown_to, target_of, target_to, text_to}
 use Rattle.sftp_audit.specs.Replies.{same_attributes, is_shown, is_named, answers}
 use Rattle.sftp_audit.specs.Laws.{IsAskable, IsAnswerable}
 use Rattle.sftp_audit.proofs.answers.FreeRequests.{IsFree, led-stat, led-lstat, led-real_path, led-read_link, there}

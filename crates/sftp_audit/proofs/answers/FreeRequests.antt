@@ -10,8 +10,10 @@ use Rattle.sftp_tree.specs.declared.causes.Cause.{Cause}
 use Rattle.sftp_tree.specs.declared.causes.Cause.TheVariants.{NoEntry, NotLink}
 use Rattle.sftp_tree.specs.Tree.{Tree}
 use Rattle.sftp_tree.specs.Walk.{reached}
-use Rattle.sftp_tree.specs.Steps.{every_cause, no_causes, when, led, new_led, causes, causes_at, needing_causes}
-use Rattle.sftp_tree.specs.Steps.{link_causes}
+use Rattle.sftp_tree.specs.Causes.{every_cause, no_causes, when}
+use Rattle.sftp_tree.specs.PlaceCauses.{needing_causes}
+use Rattle.sftp_tree.specs.Requests.{led, new_led, causes, causes_at}
+use Rattle.sftp_tree.specs.PlaceCauses.{link_causes}
 use Rattle.sftp_tree.proofs.CauseLaws.Places.{free-led, plain-parts, lost-first}
 
 -- no cause refuses the request

@@ -11,7 +11,7 @@ use Rattle.sftp_path.specs.Place.{Place, place_cmp}
 use Rattle.sftp_path.specs.Table.{get}
 use Rattle.sftp_treefile.specs.declared.limits.TreeLimits.{TreeLimits}
 use Rattle.sftp_treefile.specs.Limits.{usual_limits}
-use Rattle.sftp_tree.specs.declared.contents.Content.{Content}
+use Rattle.sftp_tree.specs.declared.file_contents.Content.{Content}
 use Rattle.sftp_tree.specs.declared.nodes.Node.{Node}
 use Rattle.sftp_tree.specs.Tree.{Tree, IsKept, IsNode, IsContent, node_at, content_at, limits, entries_fit, depths_fit}
 use Rattle.sftp_tree.specs.Tree.{home_fits, links_fit, link_fits, files_fit, content_fits, numbers_fit, fits}

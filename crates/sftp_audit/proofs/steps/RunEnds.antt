@@ -9,7 +9,8 @@ use Rattle.sftp_wire.specs.declared.packets.Request.{Request}
 use Rattle.sftp_wire.specs.declared.packets.Reply.{Reply}
 use Rattle.sftp_tree.specs.declared.causes.Cause.{Cause}
 use Rattle.sftp_tree.specs.Tree.{Tree}
-use Rattle.sftp_tree.specs.Steps.{CauseSet, every_cause, allows, has_step, is_none, causes, after as tree_after}
+use Rattle.sftp_tree.specs.Causes.{CauseSet, every_cause, allows, is_none}
+use Rattle.sftp_tree.specs.Requests.{has_step, causes, after as tree_after}
 use Rattle.sftp_audit.specs.Replies.{refuses, answers, Allowed}
 use Rattle.sftp_audit.specs.Explained.{Run}
 

@@ -14,8 +14,9 @@ use Rattle.sftp_wire.specs.declared.packets.Answer.TheVariants as replies
 use Rattle.sftp_path.specs.Place.{Place}
 use Rattle.sftp_tree.specs.declared.causes.Cause.{Cause}
 use Rattle.sftp_tree.specs.Tree.{Tree, trim}
-use Rattle.sftp_tree.specs.Steps.{CauseSet, every_cause, allows, allow, is_none, causes, led, led_to, target, shown_to}
-use Rattle.sftp_tree.specs.Steps.{text_to, target_to}
+use Rattle.sftp_tree.specs.Causes.{CauseSet, every_cause, allows, allow, is_none}
+use Rattle.sftp_tree.specs.Requests.{causes, led, led_to, outcome, shown_to}
+use Rattle.sftp_tree.specs.Requests.{text_to, target_to}
 use Rattle.sftp_audit.specs.Replies.{refuses, is_shown, is_named, answers}
 use Rattle.sftp_audit.specs.Verdicts.{changes, is_answer, IsDone, IsVerdict}
 
@@ -105,17 +106,17 @@ led_to-same t (Some (Ok place)) = refl
 led_to-same t (Some (Err cause)) = refl
 
 -- they leave the tree
-pub target-still : (t : Tree) (ask : Ask) → changes ask ≡ false → target t ask ≡ t
-unfolding target
-target-still t (Mkdir path attrs) still = cc
-target-still t (Rmdir path) still = cc
-target-still t (Remove path) still = cc
-target-still t (Setstat path given) still = cc
-target-still t (Rename oldpath newpath) still = cc
-target-still t (PosixRename oldpath newpath) still = cc
-target-still t (Hardlink oldpath newpath) still = cc
-target-still t (Symlink linktarget link) still = cc
-target-still t other still = led_to-same t (led t other)
+pub outcome-still : (t : Tree) (ask : Ask) → changes ask ≡ false → outcome t ask ≡ t
+unfolding outcome
+outcome-still t (Mkdir path attrs) still = cc
+outcome-still t (Rmdir path) still = cc
+outcome-still t (Remove path) still = cc
+outcome-still t (Setstat path given) still = cc
+outcome-still t (Rename oldpath newpath) still = cc
+outcome-still t (PosixRename oldpath newpath) still = cc
+outcome-still t (Hardlink oldpath newpath) still = cc
+outcome-still t (Symlink linktarget link) still = cc
+outcome-still t other still = led_to-same t (led t other)
 
 -- an answer that is no status, to a request that changes nothing if the answer is its
 verdict-still : (t : Tree) (ask : Ask) (answer : Answer) (ok : Bool) → (IsTrue ok → trim t ≡ t)
@@ -124,7 +125,7 @@ verdict-still : (t : Tree) (ask : Ask) (answer : Answer) (ok : Bool) → (IsTrue
 verdict-still t ask answer ok trimmed unlike still is = record {
   allowed =
       λ h. let parts = and_parts (is_none (causes t ask)) (answers t ask answer) (sym is ∙ h) in inr
-      (record { free = parts.0; answered = parts.1; changed = sym (ap trim (target-still t ask (still parts.1)) ∙ trimmed h) });
+      (record { free = parts.0; answered = parts.1; changed = sym (ap trim (outcome-still t ask (still parts.1)) ∙ trimmed h) });
   refused = λ h after step. elim step [ inl w ↦ no_refusal w.cause | inr w ↦ no_answer h w.free w.answered ];
   kept = λ _. refl;
 }

@@ -4,7 +4,8 @@ use Rattle.sftp_path.specs.Place.{parts, components, is_good_path}
 use Rattle.sftp_path.specs.Table.{retain, get, put}
 use Rattle.sftp_tree.specs.Tree.{fits}
 use Rattle.sftp_tree.specs.Walk.{meets, walk, walk_parts, reached}
-use Rattle.sftp_tree.specs.Steps.{led, no_causes, when, joined, plain_causes, causes, target, shown_to, target_to, text_to}
+use Rattle.sftp_tree.specs.Causes.{no_causes, when, joined}
+use Rattle.sftp_tree.specs.Requests.{led, plain_causes, causes, outcome, shown_to, target_to, text_to}
 use Rattle.sftp_tree.specs.Picture.{blank}
 use Rattle.sftp_audit.specs.Replies.{Allowed}
 use Rattle.sftp_audit.specs.Explained.{turn_after, next_reply, exchanges_of, leading_pairs, requests_before_reply}
@@ -15,7 +16,7 @@ use Rattle.sftp_audit.proofs.pairing.Turns.{Matching-from_ids}
 use Rattle.sftp_audit.proofs.steps.RunEnds.{run_end, run-of_run_end, no_run-of_run_end}
 
 made_end : run_end blank (leading_pairs (exchanges_of (link_session (codes "x y" ∷ []) (of_link 3)))) ≡ Some with_link
-unfolding leading_pairs exchanges_of next_reply causes plain_causes no_causes when joined led target shown_to target_to reached walk walk_parts meets is_good_path components parts get put fits retain
+unfolding leading_pairs exchanges_of next_reply causes plain_causes no_causes when joined led outcome shown_to target_to reached walk walk_parts meets is_good_path components parts get put fits retain
 made_end = refl
 
 pub made : Explained Allowed blank (link_session (codes "x y" ∷ []) (of_link 3)) with_link
@@ -30,7 +31,7 @@ made = record {
 }
 
 other_size_end : run_end blank (leading_pairs (exchanges_of (link_session (codes "x y" ∷ []) (of_link 4)))) ≡ None
-unfolding leading_pairs exchanges_of next_reply causes plain_causes no_causes when joined led target shown_to target_to reached walk walk_parts meets is_good_path components parts get put fits retain
+unfolding leading_pairs exchanges_of next_reply causes plain_causes no_causes when joined led outcome shown_to target_to reached walk walk_parts meets is_good_path components parts get put fits retain
 other_size_end = refl
 
 pub other_size : Unexplained (link_session (codes "x y" ∷ []) (of_link 4))
@@ -39,7 +40,7 @@ other_size end e =
     (leading_pairs (exchanges_of (link_session (codes "x y" ∷ []) (of_link 4)))) other_size_end end e.run
 
 no_permissions_end : run_end blank (leading_pairs (exchanges_of (link_session (codes "x y" ∷ []) (with_no_permissions 3)))) ≡ None
-unfolding leading_pairs exchanges_of next_reply causes plain_causes no_causes when joined led target shown_to target_to reached walk walk_parts meets is_good_path components parts get put fits retain
+unfolding leading_pairs exchanges_of next_reply causes plain_causes no_causes when joined led outcome shown_to target_to reached walk walk_parts meets is_good_path components parts get put fits retain
 no_permissions_end = refl
 
 pub no_permissions : Unexplained (link_session (codes "x y" ∷ []) (with_no_permissions 3))
@@ -48,7 +49,7 @@ no_permissions end e =
     (leading_pairs (exchanges_of (link_session (codes "x y" ∷ []) (with_no_permissions 3)))) no_permissions_end end e.run
 
 other_text_end : run_end blank (leading_pairs (exchanges_of (link_session (codes "x" ∷ []) (of_link 3)))) ≡ None
-unfolding leading_pairs exchanges_of next_reply causes plain_causes no_causes when joined led target shown_to target_to reached walk walk_parts meets is_good_path components parts get put fits retain
+unfolding leading_pairs exchanges_of next_reply causes plain_causes no_causes when joined led outcome shown_to target_to reached walk walk_parts meets is_good_path components parts get put fits retain
 other_text_end = refl
 
 pub other_text : Unexplained (link_session (codes "x" ∷ []) (of_link 3))
@@ -57,7 +58,7 @@ other_text end e =
     (leading_pairs (exchanges_of (link_session (codes "x" ∷ []) (of_link 3)))) other_text_end end e.run
 
 two_names_end : run_end blank (leading_pairs (exchanges_of (link_session (codes "x y" ∷ codes "x y" ∷ []) (of_link 3)))) ≡ None
-unfolding leading_pairs exchanges_of next_reply causes plain_causes no_causes when joined led target shown_to target_to reached walk walk_parts meets is_good_path components parts get put fits retain
+unfolding leading_pairs exchanges_of next_reply causes plain_causes no_causes when joined led outcome shown_to target_to reached walk walk_parts meets is_good_path components parts get put fits retain
 two_names_end = refl
 
 pub two_names : Unexplained (link_session (codes "x y" ∷ codes "x y" ∷ []) (of_link 3))
@@ -66,7 +67,7 @@ two_names end e =
     (leading_pairs (exchanges_of (link_session (codes "x y" ∷ codes "x y" ∷ []) (of_link 3)))) two_names_end end e.run
 
 above_end : run_end blank (leading_pairs (exchanges_of above_the_root)) ≡ Some blank
-unfolding leading_pairs exchanges_of next_reply causes plain_causes no_causes when joined led target text_to reached walk walk_parts meets is_good_path components parts get fits retain
+unfolding leading_pairs exchanges_of next_reply causes plain_causes no_causes when joined led outcome text_to reached walk walk_parts meets is_good_path components parts get fits retain
 above_end = refl
 
 pub above : Explained Allowed blank above_the_root blank

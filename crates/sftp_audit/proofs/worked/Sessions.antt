@@ -6,7 +6,8 @@ use Rattle.sftp_path.specs.Table.{retain, get, put, without}
 use Rattle.sftp_treefile.specs.TreeFile.{spelled}
 use Rattle.sftp_tree.specs.Tree.{has_entries, fits}
 use Rattle.sftp_tree.specs.Walk.{meets, walk, walk_parts, reached}
-use Rattle.sftp_tree.specs.Steps.{led, no_causes, when, joined, plain_causes, causes, target}
+use Rattle.sftp_tree.specs.Causes.{no_causes, when, joined}
+use Rattle.sftp_tree.specs.Requests.{led, plain_causes, causes, outcome}
 use Rattle.sftp_tree.specs.Picture.{picture, blank}
 use Rattle.sftp_audit.specs.Replies.{Allowed}
 use Rattle.sftp_audit.specs.Explained.{closed, waiting, broken, turn_after, next_reply, exchanges_of, leading_pairs}
@@ -26,7 +27,7 @@ nothing_asked = record { matching = λ id. refl; within_window = refl; run = ref
 -- ---- the replies come backwards
 
 backwards_end : run_end blank (leading_pairs (exchanges_of (backward_replies 4))) ≡ Some with_a_and_b
-unfolding leading_pairs exchanges_of next_reply causes plain_causes no_causes when joined led target reached walk walk_parts meets is_good_path components parts get put without has_entries fits retain
+unfolding leading_pairs exchanges_of next_reply causes plain_causes no_causes when joined led outcome reached walk walk_parts meets is_good_path components parts get put without has_entries fits retain
 backwards_end = refl
 
 pub backwards : Explained Allowed blank (backward_replies 4) with_a_and_b
@@ -43,7 +44,7 @@ backwards_picture = refl
 
 -- the removal would have to succeed after what came before it in the order asked
 removed_end : run_end blank (leading_pairs (exchanges_of (backward_replies 0))) ≡ None
-unfolding leading_pairs exchanges_of next_reply causes plain_causes no_causes when joined led target reached walk walk_parts meets is_good_path components parts get put without has_entries fits retain
+unfolding leading_pairs exchanges_of next_reply causes plain_causes no_causes when joined led outcome reached walk walk_parts meets is_good_path components parts get put without has_entries fits retain
 removed_end = refl
 
 pub removed : Unexplained (backward_replies 0)
@@ -51,7 +52,7 @@ removed end e = no_run-of_run_end blank (leading_pairs (exchanges_of (backward_r
 
 -- in the order in which the replies came the removal would be of what is absent
 arrival_end : run_end blank (leading_pairs (exchanges_of (backward_replies 2))) ≡ None
-unfolding leading_pairs exchanges_of next_reply causes plain_causes no_causes when joined led target reached walk walk_parts meets is_good_path components parts get put without has_entries fits retain
+unfolding leading_pairs exchanges_of next_reply causes plain_causes no_causes when joined led outcome reached walk walk_parts meets is_good_path components parts get put without has_entries fits retain
 arrival_end = refl
 
 pub in_order_of_arrival : Unexplained (backward_replies 2)
@@ -83,7 +84,7 @@ answered_twice end e = broken_open (sym first_breaks ∙ e.matching 1)
 -- ---- one place in two spellings
 
 made_twice_end : run_end blank (leading_pairs (exchanges_of (same_directory_twice 4))) ≡ Some with_a
-unfolding leading_pairs exchanges_of next_reply causes plain_causes no_causes when joined led target reached walk walk_parts meets is_good_path components parts get put without has_entries fits retain
+unfolding leading_pairs exchanges_of next_reply causes plain_causes no_causes when joined led outcome reached walk walk_parts meets is_good_path components parts get put without has_entries fits retain
 made_twice_end = refl
 
 pub taken : Explained Allowed blank (same_directory_twice 4) with_a
@@ -95,7 +96,7 @@ taken = record {
 }
 
 absent_end : run_end blank (leading_pairs (exchanges_of (same_directory_twice 2))) ≡ None
-unfolding leading_pairs exchanges_of next_reply causes plain_causes no_causes when joined led target reached walk walk_parts meets is_good_path components parts get put without has_entries fits retain
+unfolding leading_pairs exchanges_of next_reply causes plain_causes no_causes when joined led outcome reached walk walk_parts meets is_good_path components parts get put without has_entries fits retain
 absent_end = refl
 
 pub not_absent : Unexplained (same_directory_twice 2)
@@ -104,7 +105,7 @@ not_absent end e = no_run-of_run_end blank (leading_pairs (exchanges_of (same_di
 -- ---- packets of other kinds
 
 told_end : run_end blank (leading_pairs (exchanges_of data_for_mkdir)) ≡ None
-unfolding leading_pairs exchanges_of next_reply causes plain_causes no_causes when joined led target reached walk walk_parts meets is_good_path components parts get put without has_entries fits retain
+unfolding leading_pairs exchanges_of next_reply causes plain_causes no_causes when joined led outcome reached walk walk_parts meets is_good_path components parts get put without has_entries fits retain
 told_end = refl
 
 pub other_reply : Unexplained data_for_mkdir

@@ -10,8 +10,8 @@ use Rattle.std.proofs.lemmas.Nat.Bits.{bit_at-zero, bit_at_or, bit_at_set_same, 
 use Rattle.sftp_tree.specs.declared.causes.Cause.{Cause}
 use Rattle.sftp_tree.specs.declared.causes.Cause.TheVariants.{BadPath}
 use Rattle.sftp_tree.specs.declared.causes.Causes.{Causes}
-use Rattle.sftp_tree.specs.Steps.{CauseSet, row, no_causes, when, joined}
-use Rattle.sftp_tree.specs.Sets.{in_set}
+use Rattle.sftp_tree.specs.Causes.{CauseSet, row, no_causes, when, joined}
+use Rattle.sftp_tree.specs.Refusals.{in_set}
 
 -- each cause has a bit
 pub row-few : (c : Cause) → row c < 16

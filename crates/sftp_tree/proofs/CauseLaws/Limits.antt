@@ -11,14 +11,17 @@ use Rattle.sftp_wire.specs.declared.packets.Ask.TheVariants.{Setstat, Remove, Mk
 use Rattle.sftp_path.specs.Place.{Name, Place, parent, begins}
 use Rattle.sftp_treefile.specs.declared.limits.TreeLimits.{TreeLimits}
 use Rattle.sftp_treefile.specs.TreeFile.{is_root, same_place, is_target}
-use Rattle.sftp_tree.specs.declared.contents.Content.{Content}
+use Rattle.sftp_tree.specs.declared.file_contents.Content.{Content}
 use Rattle.sftp_tree.specs.declared.nodes.Node.{Node}
 use Rattle.sftp_tree.specs.declared.nodes.Node.TheVariants.{Dir, File, Link}
 use Rattle.sftp_tree.specs.declared.causes.Cause.{Cause}
 use Rattle.sftp_tree.specs.declared.causes.Cause.TheVariants.{BadPath, NoEntry, NotDir, Exists, IsDir, NotLink, NotFile, NotEmpty, Root, Inside, NoRoom}
 use Rattle.sftp_tree.specs.Tree.{Tree, WellFormed, IsKept, limits, fits, node_at, content_at, is_taken, is_directory, is_file, is_link, has_entries}
 use Rattle.sftp_tree.specs.Attributes.{directory_owner, changed_owner, changed_content, resized}
-use Rattle.sftp_tree.specs.Steps.{CauseSet, every_cause, is_none, led, new_led, causes, no_causes, when, making_causes, needing_causes, link_causes, file_causes, removing_causes, unlinking_causes, leaving_causes, giving_causes, moving_causes, clashing_causes, replacing_causes, exchanging_causes, goes_inside, are_one, are_one_file, causes_at, new_causes_at, causes_between, target_causes, target_at, target_between, target_led, plain_of, with_changed_file, with_attributes, with_further_name, moved, put_in_its_stead}
+use Rattle.sftp_tree.specs.Causes.{CauseSet, every_cause, is_none, no_causes, when}
+use Rattle.sftp_tree.specs.PlaceCauses.{making_causes, needing_causes, link_causes, file_causes, removing_causes, unlinking_causes, leaving_causes, giving_causes, moving_causes, clashing_causes, replacing_causes, exchanging_causes, goes_inside, are_one, are_one_file}
+use Rattle.sftp_tree.specs.Changes.{with_changed_file, with_attributes, with_further_name, moved, put_in_its_stead}
+use Rattle.sftp_tree.specs.Requests.{led, new_led, causes, causes_at, new_causes_at, causes_between, own_causes, outcome_at, outcome_between, outcome_led, plain_of}
 use Rattle.sftp_tree.specs.Room.{has_room, size_fits, size_fits_at, move_fits, has_room_at, has_room_between, has_room_for}
 use Rattle.sftp_tree.proofs.CauseLaws.Places.{plain-parts, lost-first, causes-are}
 use Rattle.sftp_tree.proofs.CauseLaws.Sets.{none-each}
@@ -145,11 +148,11 @@ set-room t attrs place (Some (Link goal)) kept is = sym kept.within_limits
 
 -- ---- at the place that a path leads to
 
-good-target : (target link : List ℕ) → ((c : Cause) → target_causes (Symlink target link) c ≡ false) → is_target target ≡ true
+good-target : (target link : List ℕ) → ((c : Cause) → own_causes (Symlink target link) c ≡ false) → is_target target ≡ true
 unfolding when no_causes
 good-target target link none = not-false (is_target target) (or_parts (not (is_target target)) false (none BadPath)).0
 
-room-at : (t : Tree) (ask : Ask) (place : Place) → IsKept t → ((c : Cause) → target_causes ask c ≡ false) → ((c : Cause) → causes_at t ask place c ≡ false) → has_room_at t ask place ≡ fits (target_at t ask place)
+room-at : (t : Tree) (ask : Ask) (place : Place) → IsKept t → ((c : Cause) → own_causes ask c ≡ false) → ((c : Cause) → causes_at t ask place c ≡ false) → has_room_at t ask place ≡ fits (outcome_at t ask place)
 room-at t (Mkdir path attrs) place kept own none =
     sym (fits-put t place (Dir (directory_owner t attrs)) kept.within_limits (free-place (node_at t.names place) none) ∙ and-true (has_room t place))
 room-at t (Symlink target link) place kept own none =
@@ -176,7 +179,7 @@ replace-room t old new false is kept leave none =
     sym (fits-put_in_stead t old new kept leave.taken (left.nothing-from t.names new kept.well_formed.ordered (alone-there t.names new may.alone))
     (λ there. apart-from t.names old new kept.well_formed.parents may.outside may.elsewhere (kept.well_formed.parents new there)))
 
-room-between : (t : Tree) (ask : Ask) (old new : Place) → IsKept t → ((c : Cause) → causes_at t ask old c ≡ false) → ((c : Cause) → new_causes_at t ask new c ≡ false) → ((c : Cause) → causes_between t ask old new c ≡ false) → has_room_between t ask old new ≡ fits (target_between t ask old new)
+room-between : (t : Tree) (ask : Ask) (old new : Place) → IsKept t → ((c : Cause) → causes_at t ask old c ≡ false) → ((c : Cause) → new_causes_at t ask new c ≡ false) → ((c : Cause) → causes_between t ask old new c ≡ false) → has_room_between t ask old new ≡ fits (outcome_between t ask old new)
 room-between t (Rename oldpath newpath) old new kept here there both =
     let free = free-place (node_at t.names new) there in
     sym (fits-moved t old new kept (may-leave t old here).taken (nothing-from t.names new free (alone-there t.names new (nothing-at t new kept free))))
@@ -188,7 +191,7 @@ room-between t other old new kept here there both = sym kept.within_limits
 
 -- ---- by where the paths lead
 
-pub room-for : (t : Tree) (ask : Ask) (end : Result Place Cause) (new : Option (Result Place Cause)) → ((place : Place) → end ≡ Ok place → IsKept t) → ((c : Cause) → plain_of t ask (Some end) new c ≡ false) → has_room_for t ask end new ≡ fits (target_led t ask (Some end) new)
+pub room-for : (t : Tree) (ask : Ask) (end : Result Place Cause) (new : Option (Result Place Cause)) → ((place : Place) → end ≡ Ok place → IsKept t) → ((c : Cause) → plain_of t ask (Some end) new c ≡ false) → has_room_for t ask end new ≡ fits (outcome_led t ask (Some end) new)
 room-for t ask (Ok place) None keeps none =
     let parts = plain-parts t ask (Some (Ok place)) None none in
     room-at t ask place (keeps place refl) parts.own parts.here
@@ -208,9 +211,9 @@ judged t ask end new plain lacks one two keeps same is =
     (λ i. when (same i) NoRoom (lack (is_none all) refl i))
     ∙ sym (causes-are t ask (Some end) new one two)
   where
-    both : (b : Bool) → is_none (plain_of t ask (Some end) new) ≡ b → (b && not (has_room_for t ask end new)) ≡ (b && not (fits (target_led t ask (Some end) new)))
+    both : (b : Bool) → is_none (plain_of t ask (Some end) new) ≡ b → (b && not (has_room_for t ask end new)) ≡ (b && not (fits (outcome_led t ask (Some end) new)))
     both true none = ap not (room-for t ask end new keeps (none-each (plain_of t ask (Some end) new) none))
     both false none = refl
 
-    lack : (b : Bool) → is_none (plain_of t ask (Some end) new) ≡ b → lacks ≡ (is_none (plain_of t ask (Some end) new) && not (fits (target_led t ask (Some end) new)))
+    lack : (b : Bool) → is_none (plain_of t ask (Some end) new) ≡ b → lacks ≡ (is_none (plain_of t ask (Some end) new) && not (fits (outcome_led t ask (Some end) new)))
     lack b none = is ∙ ap (λ s. is_none s && not (has_room_for t ask end new)) same ∙ both (is_none (plain_of t ask (Some end) new)) refl

@@ -11,24 +11,25 @@ use Rattle.sftp_tree.specs.declared.causes.Cause.{Cause}
 use Rattle.sftp_tree.specs.declared.causes.Cause.TheVariants.{NoRoom}
 use Rattle.sftp_tree.specs.Tree.{Tree, fits}
 use Rattle.sftp_tree.specs.Walk.{reached}
-use Rattle.sftp_tree.specs.Steps.{Row, row_of, no_step, path_of, follows, CauseSet, led, new_led, only, is_none, no_causes, when, joined, with_room, causes_at, new_causes_at, causes_between, target_causes, led_causes, both_causes, plain_of, plain_causes, target_at, target_between, target_led, target, causes}
-use Rattle.sftp_tree.specs.Sets.{IsFree}
+use Rattle.sftp_tree.specs.Causes.{CauseSet, only, is_none, no_causes, when, joined}
+use Rattle.sftp_tree.specs.Requests.{Row, row_of, no_step, path_of, follows, led, new_led, with_room, causes_at, new_causes_at, causes_between, own_causes, led_causes, both_causes, plain_of, plain_causes, outcome_at, outcome_between, outcome_led, outcome, causes}
+use Rattle.sftp_tree.specs.Refusals.{IsFree}
 use Rattle.sftp_tree.proofs.CauseLaws.Sets.{IsFreeOf, free-of, in-plain, only-itself}
 
 -- ---- by both ends
 
-pub target-is : (t : Tree) (ask : Ask) (end new : Option (Result Place Cause)) → led t ask ≡ end → new_led t ask ≡ new → target t ask ≡ target_led t ask end new
-unfolding target
-target-is t ask end new one two = λ i. target_led t ask (one i) (two i)
+pub outcome-is : (t : Tree) (ask : Ask) (end new : Option (Result Place Cause)) → led t ask ≡ end → new_led t ask ≡ new → outcome t ask ≡ outcome_led t ask end new
+unfolding outcome
+outcome-is t ask end new one two = λ i. outcome_led t ask (one i) (two i)
 
-pub causes-are : (t : Tree) (ask : Ask) (end new : Option (Result Place Cause)) → led t ask ≡ end → new_led t ask ≡ new → causes t ask ≡ with_room (plain_of t ask end new) (target_led t ask end new)
-unfolding causes plain_causes target
-causes-are t ask end new one two = λ i. with_room (plain_of t ask (one i) (two i)) (target_led t ask (one i) (two i))
+pub causes-are : (t : Tree) (ask : Ask) (end new : Option (Result Place Cause)) → led t ask ≡ end → new_led t ask ≡ new → causes t ask ≡ with_room (plain_of t ask end new) (outcome_led t ask end new)
+unfolding causes plain_causes outcome
+causes-are t ask end new one two = λ i. with_room (plain_of t ask (one i) (two i)) (outcome_led t ask (one i) (two i))
 
 -- one of the causes other than `NoRoom` is one of them all
 pub plain-holds : (t : Tree) (ask : Ask) (end new : Option (Result Place Cause)) (c : Cause) → led t ask ≡ end → new_led t ask ≡ new → plain_of t ask end new c ≡ true → IsTrue (causes t ask c)
 plain-holds t ask end new c one two holds =
-    ap (λ (set : CauseSet). set c) (causes-are t ask end new one two) ∙ in-plain (plain_of t ask end new) (target_led t ask end new) c holds
+    ap (λ (set : CauseSet). set c) (causes-are t ask end new one two) ∙ in-plain (plain_of t ask end new) (outcome_led t ask end new) c holds
 
 -- ---- one path
 
@@ -56,13 +57,13 @@ lost-here failed = ap (λ b. b && true || no_causes failed) (only-itself failed)
 pub lost-first : (t : Tree) (ask : Ask) (failed : Cause) (new : Option (Result Place Cause)) → plain_of t ask (Some (Err failed)) new failed ≡ true
 unfolding joined
 lost-first t ask failed new =
-    ap (λ b. ((target_causes ask failed || b) || led_causes new (new_causes_at t ask) failed) || both_causes (Some (Err failed)) new (causes_between t ask) failed) (lost-here failed)
-    ∙ ap (λ b. (b || led_causes new (new_causes_at t ask) failed) || both_causes (Some (Err failed)) new (causes_between t ask) failed) (or-true (target_causes ask failed))
+    ap (λ b. ((own_causes ask failed || b) || led_causes new (new_causes_at t ask) failed) || both_causes (Some (Err failed)) new (causes_between t ask) failed) (lost-here failed)
+    ∙ ap (λ b. (b || led_causes new (new_causes_at t ask) failed) || both_causes (Some (Err failed)) new (causes_between t ask) failed) (or-true (own_causes ask failed))
 
 pub lost-second : (t : Tree) (ask : Ask) (failed : Cause) (end : Option (Result Place Cause)) → plain_of t ask end (Some (Err failed)) failed ≡ true
 unfolding joined
 lost-second t ask failed end =
-    let first = target_causes ask failed || led_causes end (causes_at t ask) failed in
+    let first = own_causes ask failed || led_causes end (causes_at t ask) failed in
     ap (λ b. (first || b) || both_causes end (Some (Err failed)) (causes_between t ask) failed) (lost-here failed)
     ∙ ap (λ b. b || both_causes end (Some (Err failed)) (causes_between t ask) failed) (or-true first)
 
@@ -80,19 +81,19 @@ exit r P y gives holds =
     subst (λ x. IfErr x P) (sym p.1) (subst P (sym p.2) holds)
 
 -- a cause of its own bytes
-own-in : (t : Tree) (ask : Ask) (c : Cause) → target_causes ask c ≡ true → plain_of t ask (led t ask) (new_led t ask) c ≡ true
+own-in : (t : Tree) (ask : Ask) (c : Cause) → own_causes ask c ≡ true → plain_of t ask (led t ask) (new_led t ask) c ≡ true
 unfolding joined
 own-in t ask c holds =
     ap (λ b. ((b || led_causes (led t ask) (causes_at t ask) c) || led_causes (new_led t ask) (new_causes_at t ask) c) || both_causes (led t ask) (new_led t ask) (causes_between t ask) c) holds
 
-pub own-holds : (t : Tree) (ask : Ask) (c : Cause) → target_causes ask c ≡ true → IsTrue (causes t ask c)
+pub own-holds : (t : Tree) (ask : Ask) (c : Cause) → own_causes ask c ≡ true → IsTrue (causes t ask c)
 own-holds t ask c holds = plain-holds t ask (led t ask) (new_led t ask) c refl refl (own-in t ask c holds)
 
 -- ---- where no cause holds
 
 -- of the parts of the causes none holds
 pub record ArePlain (t : Tree) (ask : Ask) (end new : Option (Result Place Cause)) : Type 0 where
-  pub own : (c : Cause) → target_causes ask c ≡ false
+  pub own : (c : Cause) → own_causes ask c ≡ false
   pub here : (c : Cause) → led_causes end (causes_at t ask) c ≡ false
   pub there : (c : Cause) → led_causes new (new_causes_at t ask) c ≡ false
   pub both : (c : Cause) → both_causes end new (causes_between t ask) c ≡ false
@@ -100,7 +101,7 @@ pub record ArePlain (t : Tree) (ask : Ask) (end new : Option (Result Place Cause
 pub plain-parts : (t : Tree) (ask : Ask) (end new : Option (Result Place Cause)) → ((c : Cause) → plain_of t ask end new c ≡ false) → ArePlain t ask end new
 unfolding joined
 plain-parts t ask end new none =
-    let own = target_causes ask in
+    let own = own_causes ask in
     let here = led_causes end (causes_at t ask) in
     let there = led_causes new (new_causes_at t ask) in
     let both = both_causes end new (causes_between t ask) in
@@ -110,22 +111,22 @@ plain-parts t ask end new none =
     record { own = λ c. (one c).0; here = λ c. (one c).1; there = λ c. (two c).1; both = λ c. (three c).1 }
 
 -- a request that no cause refuses
-pub free-led : (t : Tree) (ask : Ask) (end new : Option (Result Place Cause)) → IsFree t ask → led t ask ≡ end → new_led t ask ≡ new → IsFreeOf (plain_of t ask end new) (target_led t ask end new)
+pub free-led : (t : Tree) (ask : Ask) (end new : Option (Result Place Cause)) → IsFree t ask → led t ask ≡ end → new_led t ask ≡ new → IsFreeOf (plain_of t ask end new) (outcome_led t ask end new)
 free-led t ask end new free one two =
-    free-of (plain_of t ask end new) (target_led t ask end new) (ap is_none (sym (causes-are t ask end new one two)) ∙ free)
+    free-of (plain_of t ask end new) (outcome_led t ask end new) (ap is_none (sym (causes-are t ask end new one two)) ∙ free)
 
 -- at the one place that a path leads to
 pub record FreeAt (t : Tree) (ask : Ask) (place : Place) : Type 0 where
-  pub own : (c : Cause) → target_causes ask c ≡ false
+  pub own : (c : Cause) → own_causes ask c ≡ false
   pub none : (c : Cause) → causes_at t ask place c ≡ false
-  pub room : IsTrue (fits (target_at t ask place))
+  pub room : IsTrue (fits (outcome_at t ask place))
 
 -- at the two places that both paths lead to
 pub record FreeBetween (t : Tree) (ask : Ask) (old new : Place) : Type 0 where
   pub at_old : (c : Cause) → causes_at t ask old c ≡ false
   pub at_new : (c : Cause) → new_causes_at t ask new c ≡ false
   pub between : (c : Cause) → causes_between t ask old new c ≡ false
-  pub room : IsTrue (fits (target_between t ask old new))
+  pub room : IsTrue (fits (outcome_between t ask old new))
 
 pub free-at : (t : Tree) (ask : Ask) (place : Place) → IsFree t ask → led t ask ≡ Some (Ok place) → new_led t ask ≡ None → FreeAt t ask place
 free-at t ask place free leads alone =

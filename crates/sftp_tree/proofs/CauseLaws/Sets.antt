@@ -6,7 +6,8 @@ use Rattle.std.proofs.Math.Bool.{or-true}
 use Rattle.sftp_tree.specs.declared.causes.Cause.{Cause}
 use Rattle.sftp_tree.specs.declared.causes.Cause.TheVariants.{BadPath, NoRoom}
 use Rattle.sftp_tree.specs.Tree.{Tree, fits}
-use Rattle.sftp_tree.specs.Steps.{CauseSet, every_cause, row, only, is_none, when, with_room}
+use Rattle.sftp_tree.specs.Causes.{CauseSet, every_cause, row, only, is_none, when}
+use Rattle.sftp_tree.specs.Requests.{with_room}
 
 -- ---- the list of causes
 

@@ -9,8 +9,8 @@ use Rattle.std.specs.FinMap.{IsAntisymmetric, nat_cmp-IsAntisymmetric}
 use Rattle.std.specs.BTreeMap.{BTreeMap, IsOrdered, UpdatesBy, WritesThrough, get_by}
 use Rattle.sftp_path.specs.Table.{get, put}
 use Rattle.sftp_path.proofs.Table.Laws.{get-put, InOrder-put, same_table}
-use Rattle.sftp_tree.specs.declared.contents.Stored.{Stored}
-use Rattle.sftp_tree.specs.Stored.{IsChanged, without_a_name}
+use Rattle.sftp_tree.specs.declared.file_contents.Stored.{Stored}
+use Rattle.sftp_tree.specs.StoredFiles.{IsChanged, without_a_name}
 
 -- numbers that differ do not tie
 pub numbers-apart : (number other : ℕ) → other ≢ number → is_eq (nat_cmp number other) ≡ false

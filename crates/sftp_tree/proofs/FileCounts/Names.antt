@@ -14,12 +14,12 @@ use Rattle.sftp_path.proofs.Table.Laws.{get-put_here, get-put_elsewhere, get-ret
 use Rattle.sftp_path.proofs.Table.Counts.{count-put_new, count-without}
 use Rattle.sftp_path.proofs.Table.Entries.{without-absent}
 use Rattle.sftp_path.proofs.Table.Values.{get-with_values, InOrder-with_values}
-use Rattle.sftp_tree.specs.declared.contents.Content.{Content}
-use Rattle.sftp_tree.specs.declared.contents.Stored.{Stored}
+use Rattle.sftp_tree.specs.declared.file_contents.Content.{Content}
+use Rattle.sftp_tree.specs.declared.file_contents.Stored.{Stored}
 use Rattle.sftp_tree.specs.declared.nodes.Node.{Node}
 use Rattle.sftp_tree.specs.declared.nodes.Node.TheVariants.{Dir, File, Link}
 use Rattle.sftp_tree.specs.Tree.{Names, node_at, with_node, without_node, with_content, names_file, times_named, is_named}
-use Rattle.sftp_tree.specs.Stored.{contents, AreCounted, file_named, IsChanged, IsChangedWhereNamed, with_a_name, without_a_name, with_attributes_set}
+use Rattle.sftp_tree.specs.StoredFiles.{contents, AreCounted, file_named, IsChanged, IsChangedWhereNamed, with_a_name, without_a_name, with_attributes_set}
 use Rattle.sftp_tree.specs.Attributes.{changed_content}
 use Rattle.sftp_wire.specs.declared.attributes.Attrs.{Attrs}
 use Rattle.sftp_tree.proofs.PlaceTables.Each.{each-get, get-each}

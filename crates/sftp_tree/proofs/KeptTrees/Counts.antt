@@ -13,8 +13,8 @@ use Rattle.sftp_path.specs.Place.{Place}
 use Rattle.sftp_path.specs.Table.{Table, InOrder, get, retain}
 use Rattle.sftp_path.proofs.Table.Laws.{get-empty}
 use Rattle.sftp_path.proofs.Table.Values.{get-with_values}
-use Rattle.sftp_tree.specs.declared.contents.Content.{Content}
-use Rattle.sftp_tree.specs.declared.contents.Stored.{Stored}
+use Rattle.sftp_tree.specs.declared.file_contents.Content.{Content}
+use Rattle.sftp_tree.specs.declared.file_contents.Stored.{Stored}
 use Rattle.sftp_tree.specs.declared.nodes.Node.{Node}
 use Rattle.sftp_tree.specs.Tree.{Names, Files, Tree, IsKept, IsTrimmed, IsContent, is_directory, content_at, is_named, is_pinned, fits, entries_fit, depths_fit, home_fits, links_fit, files_fit, numbers_fit, node_at, with_node, names_file, times_named, trim}
 use Rattle.sftp_tree.specs.declared.nodes.Node.TheVariants.{Dir, File, Link}
@@ -24,8 +24,8 @@ use Rattle.sftp_treefile.specs.declared.limits.TreeLimits.{TreeLimits}
 use Rattle.sftp_treefile.specs.Limits.{usual_limits}
 use Rattle.sftp_treefile.specs.TreeFile.{IsOwner}
 use Rattle.sftp_tree.specs.Attributes.{changed_owner}
-use Rattle.sftp_tree.specs.Steps.{with_changed_file}
-use Rattle.sftp_tree.specs.Stored.{contents, seen, AreCounted, file_named, IsChanged, IsChangedWhereNamed, with_a_name, without_a_name, with_attributes_set}
+use Rattle.sftp_tree.specs.Changes.{with_changed_file}
+use Rattle.sftp_tree.specs.StoredFiles.{contents, seen, AreCounted, file_named, IsChanged, IsChangedWhereNamed, with_a_name, without_a_name, with_attributes_set}
 use Rattle.sftp_tree.proofs.PlaceTables.Each.{each-weaker}
 use Rattle.sftp_tree.proofs.KeptTrees.Values.{times_named-owner}
 use Rattle.sftp_tree.proofs.FileCounts.Names.{at-number, count-at, one_name, named-put, raised, lowered, counted-again, counted-changed, contents-changed, contents-unchanged}

@@ -13,13 +13,15 @@ use Rattle.sftp_path.specs.Table.{InOrder, kept}
 use Rattle.sftp_path.specs.Rekeying.{rekeyed}
 use Rattle.sftp_path.proofs.Order.{place_cmp-same}
 use Rattle.sftp_path.proofs.Table.Laws.{InOrder-put, get-retain}
-use Rattle.sftp_tree.specs.declared.contents.Content.{Content}
+use Rattle.sftp_tree.specs.declared.file_contents.Content.{Content}
 use Rattle.sftp_tree.specs.declared.nodes.Node.{Node}
 use Rattle.sftp_tree.specs.declared.nodes.Node.TheVariants.{Dir, File, Link}
 use Rattle.sftp_tree.specs.declared.causes.Cause.{Cause}
 use Rattle.sftp_tree.specs.Tree.{Names, Tree, WellFormed, IsNode, node_at, with_node, without_node, content_at, with_content, times_named, times_pinned, is_named, is_pinned, is_held, trimmed}
 use Rattle.sftp_tree.specs.Attributes.{directory_owner, changed_owner, changed_content}
-use Rattle.sftp_tree.specs.Steps.{led, new_led, are_one, with_changed_file, with_attributes, put_in_its_stead, with_further_name, target_at, target_between, target_on, led_to, target, after}
+use Rattle.sftp_tree.specs.PlaceCauses.{are_one}
+use Rattle.sftp_tree.specs.Changes.{with_changed_file, with_attributes, put_in_its_stead, with_further_name}
+use Rattle.sftp_tree.specs.Requests.{led, new_led, outcome_at, outcome_between, outcome_on, led_to, outcome, after}
 use Rattle.sftp_tree.proofs.PlaceTables.Each.{each-get}
 use Rattle.sftp_tree.proofs.KeptTrees.Trims.{stays}
 
@@ -37,7 +39,7 @@ module _ (t : Tree) (P : Tree → Type 0) (same : P t) (renamed : (names : Names
   by-attributes attrs place (Some (File number)) = by-file attrs number (content_at t.files number) refl
   by-attributes attrs place (Some (Link goal)) = same
 
-  by-place : (ask : Ask) (place : Place) → P (target_at t ask place)
+  by-place : (ask : Ask) (place : Place) → P (outcome_at t ask place)
   by-place (Mkdir path attrs) place = renamed (with_node t.names place (Dir (directory_owner t attrs)))
   by-place (Rmdir path) place = renamed (without_node t.names place)
   by-place (Remove path) place = renamed (without_node t.names place)
@@ -53,31 +55,31 @@ module _ (t : Tree) (P : Tree → Type 0) (same : P t) (renamed : (names : Names
   by-further None new = same
   by-further (Some it) new = renamed (with_node t.names new it)
 
-  by-places : (ask : Ask) (old new : Place) → P (target_between t ask old new)
+  by-places : (ask : Ask) (old new : Place) → P (outcome_between t ask old new)
   by-places (Rename oldpath newpath) old new = renamed (rekeyed old new t.names)
   by-places (PosixRename oldpath newpath) old new = by-one (are_one t.names old new) old new
   by-places (Hardlink oldpath newpath) old new = by-further (node_at t.names old) new
   by-places other old new = same
 
-  by-led : (ask : Ask) (l n : Option (Result Place Cause)) → P (led_to t l (λ place. target_on t ask place n))
+  by-led : (ask : Ask) (l n : Option (Result Place Cause)) → P (led_to t l (λ place. outcome_on t ask place n))
   by-led ask None n = same
   by-led ask (Some (Err failed)) n = same
   by-led ask (Some (Ok place)) None = by-place ask place
   by-led ask (Some (Ok place)) (Some (Err failed)) = same
   by-led ask (Some (Ok place)) (Some (Ok new)) = by-places ask place new
 
-  pub by-target : (ask : Ask) → P (target t ask)
-  unfolding target
-  by-target ask = by-led ask (led t ask) (new_led t ask)
+  pub by-outcome : (ask : Ask) → P (outcome t ask)
+  unfolding outcome
+  by-outcome ask = by-led ask (led t ask) (new_led t ask)
 
 -- ---- numbers
 
-pub made-stays : (t : Tree) (ask : Ask) → t.made ≤ (target t ask).made
-made-stays t = by-target t (λ x. t.made ≤ x.made) (omega arith) (λ names. omega arith) (λ number before content there. omega arith)
+pub made-stays : (t : Tree) (ask : Ask) → t.made ≤ (outcome t ask).made
+made-stays t = by-outcome t (λ x. t.made ≤ x.made) (omega arith) (λ names. omega arith) (λ number before content there. omega arith)
 
-pub numbered-target : (t : Tree) (ask : Ask) → InOrder nat_cmp t.files → InOrder nat_cmp (target t ask).files
-numbered-target t ask order =
-    by-target t (λ x. InOrder nat_cmp x.files) order (λ names. order) (λ number before content there. InOrder-put nat_cmp nat_cmp_total t.files number content order) ask
+pub numbered-outcome : (t : Tree) (ask : Ask) → InOrder nat_cmp t.files → InOrder nat_cmp (outcome t ask).files
+numbered-outcome t ask order =
+    by-outcome t (λ x. InOrder nat_cmp x.files) order (λ names. order) (λ number before content there. InOrder-put nat_cmp nat_cmp_total t.files number content order) ask
 
 -- no number that was not given has a file
 pub not-given : (t : Tree) (number : ℕ) → WellFormed t → t.made ≤ number → content_at t.files number ≡ None
@@ -116,8 +118,8 @@ content-left t is_held number order =
     get-retain nat_cmp nat_cmp_total nat_cmp-IsAntisymmetric t.files (stays is_held t.names) number order
     ∙ kept-by (stays is_held t.names) number (is_named t.names number || is_held number) (content_at t.files number) (λ content. refl)
 
-pub content-after : (t : Tree) (ask : Ask) (number : ℕ) → WellFormed t → content_at (after t ask).files number ≡ (if is_held (target t ask) number then content_at (target t ask).files number else None)
-content-after t ask number well = content-left (target t ask) (is_pinned (target t ask).pins) number (numbered-target t ask well.numbered)
+pub content-after : (t : Tree) (ask : Ask) (number : ℕ) → WellFormed t → content_at (after t ask).files number ≡ (if is_held (outcome t ask) number then content_at (outcome t ask).files number else None)
+content-after t ask number well = content-left (outcome t ask) (is_pinned (outcome t ask).pins) number (numbered-outcome t ask well.numbered)
 
 none-left : (n : ℕ) → nat_lt 0 n ≡ false → n ≡ 0
 none-left n none =
@@ -132,15 +134,15 @@ gone-by n p false o is =
 
 -- a file is gone just where there was none, or no name of it is left and nothing pins it
 pub gone-after : (t : Tree) (ask : Ask) (number : ℕ) → WellFormed t
-    → (content_at (after t ask).files number ≡ None) ↔ ((content_at (target t ask).files number ≡ None) ⊎ ((times_named (target t ask).names number ≡ 0) × (times_pinned (target t ask).pins number ≡ 0)))
+    → (content_at (after t ask).files number ≡ None) ↔ ((content_at (outcome t ask).files number ≡ None) ⊎ ((times_named (outcome t ask).names number ≡ 0) × (times_pinned (outcome t ask).pins number ≡ 0)))
 gone-after t ask number well =
-    subst (λ o. (o ≡ None) ↔ ((content_at (target t ask).files number ≡ None) ⊎ ((times_named (target t ask).names number ≡ 0) × (times_pinned (target t ask).pins number ≡ 0)))) (sym (content-after t ask number well))
-    (gone-by (times_named (target t ask).names number) (times_pinned (target t ask).pins number) (is_held (target t ask) number) (content_at (target t ask).files number) refl)
+    subst (λ o. (o ≡ None) ↔ ((content_at (outcome t ask).files number ≡ None) ⊎ ((times_named (outcome t ask).names number ≡ 0) × (times_pinned (outcome t ask).pins number ≡ 0)))) (sym (content-after t ask number well))
+    (gone-by (times_named (outcome t ask).names number) (times_pinned (outcome t ask).pins number) (is_held (outcome t ask) number) (content_at (outcome t ask).files number) refl)
 
 -- ---- what requests leave as it was
 
-pub pins-stay : (t : Tree) (ask : Ask) → (target t ask).pins ≡ t.pins
-pins-stay t = by-target t (λ x. x.pins ≡ t.pins) refl (λ names. refl) (λ number before content there. refl)
+pub pins-stay : (t : Tree) (ask : Ask) → (outcome t ask).pins ≡ t.pins
+pins-stay t = by-outcome t (λ x. x.pins ≡ t.pins) refl (λ names. refl) (λ number before content there. refl)
 
-pub limits-stay : (t : Tree) (ask : Ask) → (target t ask).limits ≡ t.limits
-limits-stay t = by-target t (λ x. x.limits ≡ t.limits) refl (λ names. refl) (λ number before content there. refl)
+pub limits-stay : (t : Tree) (ask : Ask) → (outcome t ask).limits ≡ t.limits
+limits-stay t = by-outcome t (λ x. x.limits ≡ t.limits) refl (λ names. refl) (λ number before content there. refl)

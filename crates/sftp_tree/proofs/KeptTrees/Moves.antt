@@ -14,7 +14,7 @@ use Rattle.sftp_path.proofs.Move.Laws.{nothing-at, get-rekeyed_moved, get-rekeye
 use Rattle.sftp_treefile.specs.TreeFile.{is_root}
 use Rattle.sftp_tree.specs.declared.nodes.Node.{Node}
 use Rattle.sftp_tree.specs.Tree.{Names, Files, Tree, WellFormed, IsKept, IsNode, fits, node_at, without_node, is_taken, is_directory, has_entries, trim}
-use Rattle.sftp_tree.specs.Steps.{moved, put_in_its_stead}
+use Rattle.sftp_tree.specs.Changes.{moved, put_in_its_stead}
 use Rattle.sftp_tree.proofs.PlaceTables.Each.{each-get, get-each}
 use Rattle.sftp_tree.proofs.KeptTrees.Trims.{kept-trim}
 use Rattle.sftp_tree.proofs.WellFormedTrees.Places.{HaveParents, directory-taken, apart-parent, alone-there}

@@ -11,7 +11,7 @@ use Rattle.sftp_path.proofs.Order.{place_cmp-total, place_cmp-same}
 use Rattle.sftp_path.proofs.PathTexts.GoodPaths.{filter_all}
 use Rattle.sftp_path.proofs.Table.Laws.{InOrder-retain, get-retain}
 use Rattle.sftp_path.proofs.Table.Counts.{count-found}
-use Rattle.sftp_tree.specs.declared.contents.Content.{Content}
+use Rattle.sftp_tree.specs.declared.file_contents.Content.{Content}
 use Rattle.sftp_tree.specs.declared.nodes.Node.{Node}
 use Rattle.sftp_tree.specs.declared.nodes.Node.TheVariants.{Dir, File, Link}
 use Rattle.sftp_tree.specs.Tree.{Names, Files, Tree, WellFormed, IsKept, IsTrimmed, IsNode, IsContent, limits, fits, files_fit, content_fits, node_at, content_at, names_file, times_named, is_named, is_pinned, trimmed, trim}

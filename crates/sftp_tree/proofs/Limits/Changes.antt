@@ -11,10 +11,10 @@ use Rattle.sftp_path.proofs.Table.Laws.{size-put, size-put_present}
 use Rattle.sftp_path.proofs.Table.Tests.{all-put_new, all-without, keys-put_again, values-put}
 use Rattle.sftp_path.proofs.Move.Tests.{all-rekeyed}
 use Rattle.sftp_path.proofs.Move.Laws.{size-rekeyed}
-use Rattle.sftp_tree.specs.declared.contents.Content.{Content}
+use Rattle.sftp_tree.specs.declared.file_contents.Content.{Content}
 use Rattle.sftp_tree.specs.declared.nodes.Node.{Node}
 use Rattle.sftp_tree.specs.Tree.{Tree, limits, entries_fit, depths_fit, links_fit, files_fit, depth_fits, link_fits, content_fits, node_at, with_node, without_node, content_at, with_content}
-use Rattle.sftp_tree.specs.Steps.{moved}
+use Rattle.sftp_tree.specs.Changes.{moved}
 use Rattle.sftp_tree.proofs.PlaceTables.Removals.{length-without}
 
 -- ---- an entry at a new place

@@ -8,7 +8,7 @@ use Rattle.sftp_path.specs.Table.{InOrder}
 use Rattle.sftp_path.proofs.Order.{place_cmp-total}
 use Rattle.sftp_path.proofs.Table.Laws.{get-put_here, size-put, size-put_present}
 use Rattle.sftp_path.proofs.Table.Tests.{all-put_new, all-without, values-put, keys-put_in_order}
-use Rattle.sftp_tree.specs.declared.contents.Content.{Content}
+use Rattle.sftp_tree.specs.declared.file_contents.Content.{Content}
 use Rattle.sftp_tree.specs.declared.nodes.Node.{Node}
 use Rattle.sftp_tree.specs.Tree.{Names, Tree, limits, fits, entries_fit, depths_fit, links_fit, files_fit, depth_fits, link_fits, content_fits, node_at, with_node, without_node, content_at, with_content}
 use Rattle.sftp_tree.specs.Room.{has_room}

@@ -21,7 +21,7 @@ use Rattle.sftp_path.proofs.Table.Entries.{without-absent}
 use Rattle.sftp_tree.specs.declared.nodes.Node.{Node}
 use Rattle.sftp_tree.specs.Tree.{Names, Tree, IsKept, limits, fits, depth_fits, link_fits, node_at, without_node, is_taken}
 use Rattle.sftp_tree.specs.Room.{reaches_at_most, move_fits}
-use Rattle.sftp_tree.specs.Steps.{moved, put_in_its_stead}
+use Rattle.sftp_tree.specs.Changes.{moved, put_in_its_stead}
 use Rattle.sftp_tree.proofs.Limits.Entries.{fits-names}
 use Rattle.sftp_tree.proofs.PlaceTables.Removals.{length-without}
 use Rattle.sftp_tree.proofs.Limits.Tests.{Fits, fits-parts}

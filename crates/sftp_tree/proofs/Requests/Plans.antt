@@ -15,10 +15,13 @@ use Rattle.sftp_tree.specs.declared.plans.Plan.TheVariants.{Nothing, Put, Remove
 use Rattle.sftp_tree.specs.Tree.{Tree, IsKept, IsNode, fits, node_at, is_taken, is_directory, is_file, is_link, has_entries, trim}
 use Rattle.sftp_tree.specs.Attributes.{directory_owner}
 use Rattle.sftp_tree.specs.Walking.{IsPlaceOf}
-use Rattle.sftp_tree.specs.Steps.{no_causes, when, removing_causes, unlinking_causes, are_one, leaving_causes, giving_causes, exchanging_causes, with_further_name, put_in_its_stead, causes_at, target_at, target_between, led, new_led, led_to, with_attributes, shown_at, shown_to, target_of, target_to, text_to}
-use Rattle.sftp_tree.specs.Sets.{IsFree, stat_ask}
+use Rattle.sftp_tree.specs.Causes.{no_causes, when}
+use Rattle.sftp_tree.specs.PlaceCauses.{removing_causes, unlinking_causes, are_one, leaving_causes, giving_causes, exchanging_causes}
+use Rattle.sftp_tree.specs.Changes.{with_further_name, put_in_its_stead, with_attributes}
+use Rattle.sftp_tree.specs.Requests.{causes_at, outcome_at, outcome_between, led, new_led, led_to, shown_at, shown_to, target_of, target_to, text_to}
+use Rattle.sftp_tree.specs.Refusals.{IsFree, stat_ask}
 use Rattle.sftp_tree.specs.Plans.{changed, IsReady, CanTake, HasNode, IsPlanned, IsPlanAt, IsNaming, IsPlanBetween, IsFileAt}
-use Rattle.sftp_tree.proofs.CauseLaws.Places.{FreeAt, FreeBetween, free-at, free-between, target-is}
+use Rattle.sftp_tree.proofs.CauseLaws.Places.{FreeAt, FreeBetween, free-at, free-between, outcome-is}
 use Rattle.sftp_tree.proofs.CauseLaws.Limits.{free-place, file-place, name-place, link-place, taken-place, may-leave, may-replace, outside-of, given-below, free-alone}
 use Rattle.sftp_tree.proofs.WellFormedTrees.Places.{nothing-below}
 use Rattle.sftp_tree.proofs.KeptTrees.Trims.{trimmed-already}
@@ -66,35 +69,35 @@ done-put t place it plan well free is_node room is =
     subst (IsDone t (changed t (Put place it))) (sym is)
     (record { ready = record { absent = free; named = well.named; above = well.above; is_node = is_node; room = room }; done = refl })
 
-done-set : (t : Tree) (attrs : Attrs) (place : Place) (path : List ℕ) (plan : Plan) → IsTrue (fits (target_at t (Setstat path attrs) place)) → IsPlanAt t (Setstat path attrs) place plan → IsDone t (target_at t (Setstat path attrs) place) plan
+done-set : (t : Tree) (attrs : Attrs) (place : Place) (path : List ℕ) (plan : Plan) → IsTrue (fits (outcome_at t (Setstat path attrs) place)) → IsPlanAt t (Setstat path attrs) place plan → IsDone t (outcome_at t (Setstat path attrs) place) plan
 done-set t attrs place path (Set at given) room is =
-    let same : changed t (Set at given) ≡ target_at t (Setstat path attrs) place = λ i. target_at t (Setstat path (is.1 i)) (is.0 i) in
+    let same : changed t (Set at given) ≡ outcome_at t (Setstat path attrs) place = λ i. outcome_at t (Setstat path (is.1 i)) (is.0 i) in
     record { ready = ap fits same ∙ room; done = same }
 done-set t attrs place path Nothing room is = absurd is
 done-set t attrs place path (Put at node) room is = absurd is
 done-set t attrs place path (Take at) room is = absurd is
 done-set t attrs place path (Move old new) room is = absurd is
 
-pub done-at : (t : Tree) (ask : Ask) (place : Place) (plan : Plan) → IsPlaceOf t place → FreeAt t ask place → HasNode t ask → IsPlanAt t ask place plan → IsDone t (target_at t ask place) plan
+pub done-at : (t : Tree) (ask : Ask) (place : Place) (plan : Plan) → IsPlaceOf t place → FreeAt t ask place → HasNode t ask → IsPlanAt t ask place plan → IsDone t (outcome_at t ask place) plan
 done-at t (Mkdir path attrs) place plan well free good is =
     done-put t place (nodes.Dir (directory_owner t attrs)) plan well (free-place (node_at t.names place) free.none) good free.room is
 done-at t (Symlink goal link) place plan well free good is =
     done-put t place (nodes.Link goal) plan well (free-place (node_at t.names place) free.none) good free.room is
 done-at t (Rmdir path) place plan well free good is =
-    subst (IsDone t (target_at t (Rmdir path) place)) (sym is) (record { ready = can-remove-directory t place free.none; done = refl })
+    subst (IsDone t (outcome_at t (Rmdir path) place)) (sym is) (record { ready = can-remove-directory t place free.none; done = refl })
 done-at t (Remove path) place plan well free good is =
-    subst (IsDone t (target_at t (Remove path) place)) (sym is) (record { ready = can-remove-name t place well.kept free.none; done = refl })
+    subst (IsDone t (outcome_at t (Remove path) place)) (sym is) (record { ready = can-remove-name t place well.kept free.none; done = refl })
 done-at t (Setstat path attrs) place plan well free good is = done-set t attrs place path plan free.room is
 done-at t other place plan well free good is = subst (IsDone t t) (sym is) (record { ready = well.kept.trimmed; done = refl })
 
 -- ---- with the two places that both paths lead to
 
-done-move : (t : Tree) (oldpath newpath : List ℕ) (old new : Place) (plan : Plan) → IsPlaceOf t new → FreeBetween t (Rename oldpath newpath) old new → plan ≡ Move old new → IsDone t (target_between t (Rename oldpath newpath) old new) plan
+done-move : (t : Tree) (oldpath newpath : List ℕ) (old new : Place) (plan : Plan) → IsPlaceOf t new → FreeBetween t (Rename oldpath newpath) old new → plan ≡ Move old new → IsDone t (outcome_between t (Rename oldpath newpath) old new) plan
 done-move t oldpath newpath old new plan well free is =
     let leave = may-leave t old free.at_old in
     let absent = free-place (node_at t.names new) free.at_new in
     let same = moved-is t old new absent in
-    subst (IsDone t (target_between t (Rename oldpath newpath) old new)) (sym is)
+    subst (IsDone t (outcome_between t (Rename oldpath newpath) old new)) (sym is)
     (record {
       ready = record {
         taken = leave.taken;
@@ -135,7 +138,7 @@ done-link : (t : Tree) (old new : Place) (plan : Plan) (found : Option Node) (nu
 done-link t old new plan None number there file well free room is = absurd is
 done-link t old new plan (Some it) number there file well free room is = done-put t new it plan well free (node-kept t old it well.kept there) room is
 
-pub done-between : (t : Tree) (ask : Ask) (old new : Place) (plan : Plan) → IsPlaceOf t new → FreeBetween t ask old new → IsPlanBetween t ask old new plan → IsDone t (target_between t ask old new) plan
+pub done-between : (t : Tree) (ask : Ask) (old new : Place) (plan : Plan) → IsPlaceOf t new → FreeBetween t ask old new → IsPlanBetween t ask old new plan → IsDone t (outcome_between t ask old new) plan
 done-between t (Rename oldpath newpath) old new plan well free is = done-move t oldpath newpath old new plan well free is
 done-between t (PosixRename oldpath newpath) old new plan well free is =
     done-exchange t old new plan (are_one t.names old new) refl well free.at_old free.at_new free.between free.room is
@@ -154,12 +157,12 @@ file-at t other old new free = tt
 pub planned-at : (t : Tree) (ask : Ask) (place : Place) (plan : Plan) → IsFree t ask → led t ask ≡ Some (Ok place) → new_led t ask ≡ None → IsPlaceOf t place → HasNode t ask → IsPlanAt t ask place plan → IsPlanned t ask plan
 planned-at t ask place plan free one two well good is =
     let it = done-at t ask place plan well (free-at t ask place free one two) good is in
-    record { ready = it.ready; done = ap trim (it.done ∙ sym (target-is t ask (Some (Ok place)) None one two)) }
+    record { ready = it.ready; done = ap trim (it.done ∙ sym (outcome-is t ask (Some (Ok place)) None one two)) }
 
 pub planned-between : (t : Tree) (ask : Ask) (old new : Place) (plan : Plan) → IsFree t ask → led t ask ≡ Some (Ok old) → new_led t ask ≡ Some (Ok new) → IsPlaceOf t new → IsPlanBetween t ask old new plan → IsPlanned t ask plan
 planned-between t ask old new plan free one two well is =
     let it = done-between t ask old new plan well (free-between t ask old new free one two) is in
-    record { ready = it.ready; done = ap trim (it.done ∙ sym (target-is t ask (Some (Ok old)) (Some (Ok new)) one two)) }
+    record { ready = it.ready; done = ap trim (it.done ∙ sym (outcome-is t ask (Some (Ok old)) (Some (Ok new)) one two)) }
 
 pub if-ok-both : {X E : Type 0} (r : Result X E) (P Q R : X → Type 0) → ((x : X) → P x → Q x → R x) → IfOk r P → IfOk r Q → IfOk r R
 if-ok-both (Ok x) P Q R then_so is and = then_so x is and

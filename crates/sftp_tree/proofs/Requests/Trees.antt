@@ -13,7 +13,7 @@ use Rattle.sftp_path.specs.Place.{Place, place_cmp, parent, are_names}
 use Rattle.sftp_path.specs.Rekeying.{NothingFrom}
 use Rattle.sftp_path.proofs.Order.{place_cmp-same}
 use Rattle.sftp_treefile.specs.TreeFile.{are_bytes, is_root, same_place}
-use Rattle.sftp_tree.specs.declared.contents.Content.{Content}
+use Rattle.sftp_tree.specs.declared.file_contents.Content.{Content}
 use Rattle.sftp_tree.specs.declared.nodes.Node.{Node}
 use Rattle.sftp_tree.specs.declared.nodes.Node.TheVariants.{Dir, File, Link}
 use Rattle.sftp_tree.specs.declared.causes.Cause.{Cause}
@@ -21,11 +21,13 @@ use Rattle.sftp_tree.specs.declared.causes.Cause.TheVariants.{NoEntry, NotDir, E
 use Rattle.sftp_tree.specs.Tree.{Names, Tree, WellFormed, IsKept, IsNode, IsContent, fits, node_at, with_node, without_node, content_at, is_taken, is_directory, has_entries, trim}
 use Rattle.sftp_tree.specs.Walk.{reached}
 use Rattle.sftp_tree.specs.Attributes.{directory_owner, changed_owner, changed_content}
-use Rattle.sftp_tree.specs.Steps.{path_of, new_path_of, follows, led, new_led, causes_at, new_causes_at, causes_between, goes_inside, are_one, exchanging_causes, with_changed_file, with_attributes, target_at, moved, put_in_its_stead, with_further_name, target_between, target, after}
-use Rattle.sftp_tree.specs.Sets.{IsFree}
+use Rattle.sftp_tree.specs.PlaceCauses.{goes_inside, are_one, exchanging_causes}
+use Rattle.sftp_tree.specs.Changes.{with_changed_file, with_attributes, moved, put_in_its_stead, with_further_name}
+use Rattle.sftp_tree.specs.Requests.{path_of, new_path_of, follows, led, new_led, causes_at, new_causes_at, causes_between, outcome_at, outcome_between, outcome, after}
+use Rattle.sftp_tree.specs.Refusals.{IsFree}
 use Rattle.sftp_tree.proofs.PlaceTables.Each.{each-get}
 use Rattle.sftp_tree.proofs.WellFormedTrees.Fields.{bytes-fit, owner-fits, changed-owner-fits, changed-content-fits}
-use Rattle.sftp_tree.proofs.CauseLaws.Places.{free-at, free-between, target-is}
+use Rattle.sftp_tree.proofs.CauseLaws.Places.{free-at, free-between, outcome-is}
 use Rattle.sftp_tree.proofs.WellFormedTrees.Places.{apart-from, nothing-below, alone-there, second-false}
 use Rattle.sftp_tree.proofs.WellFormedTrees.Names.{names-of, names-put, names-owner, names-without, well-formed-names}
 use Rattle.sftp_tree.proofs.KeptTrees.Values.{well-formed-content}
@@ -125,7 +127,7 @@ well-attributes t attrs place (Some (Dir owner)) is well fits =
 well-attributes t attrs place (Some (File number)) is well fits = well-file t attrs number (content_at t.files number) refl well fits
 well-attributes t attrs place (Some (Link target)) is well fits = well
 
-well-at : (t : Tree) (ask : Ask) (place : Place) → WellFormed t → FitsAsk ask → Led t place → ((c : Cause) → causes_at t ask place c ≡ false) → WellFormed (target_at t ask place)
+well-at : (t : Tree) (ask : Ask) (place : Place) → WellFormed t → FitsAsk ask → Led t place → ((c : Cause) → causes_at t ask place c ≡ false) → WellFormed (outcome_at t ask place)
 well-at t (Mkdir path attrs) place well fits leads none = well-with t place (Dir (directory_owner t attrs)) well leads (ap is_taken (free-place (node_at t.names place) none)) (owner-fits t attrs well fits.1)
 well-at t (Rmdir path) place well fits leads none =
     let may = can-remove-directory t place none in
@@ -165,7 +167,7 @@ well-further t old new None is well leads free = well
 well-further t old new (Some it) is well leads free =
     well-with t new it well leads free (each-get place_cmp place_cmp-same (λ e. IsNode t.files e.1) t.names old it well.nodes is)
 
-well-between : (t : Tree) (ask : Ask) (old new : Place) → WellFormed t → Led t new → ((c : Cause) → causes_at t ask old c ≡ false) → ((c : Cause) → new_causes_at t ask new c ≡ false) → ((c : Cause) → causes_between t ask old new c ≡ false) → WellFormed (target_between t ask old new)
+well-between : (t : Tree) (ask : Ask) (old new : Place) → WellFormed t → Led t new → ((c : Cause) → causes_at t ask old c ≡ false) → ((c : Cause) → new_causes_at t ask new c ≡ false) → ((c : Cause) → causes_between t ask old new c ≡ false) → WellFormed (outcome_between t ask old new)
 well-between t (Rename oldpath newpath) old new well leads at_old at_new between =
     let leave = may-leave t old at_old in
     well-renamed t old new well leads (ap not leave.taken) leave.below_root (ap is_taken (free-place (node_at t.names new) at_new)) (outside-of t old new between)
@@ -176,24 +178,24 @@ well-between t other old new well leads at_old at_new between = well
 
 -- ---- every request
 
-target-stands-by : (t : Tree) (ask : Ask) (l n : Option (Result Place Cause)) → led t ask ≡ l → new_led t ask ≡ n → LeadsWell t → Stands t → FitsAsk ask → IsFree t ask → Stands (target t ask)
-target-stands-by t ask None n e f leads stands fit free = subst Stands (sym (target-is t ask None n e f)) stands
-target-stands-by t ask (Some (Err failed)) n e f leads stands fit free = subst Stands (sym (target-is t ask (Some (Err failed)) n e f)) stands
-target-stands-by t ask (Some (Ok place)) None e f leads stands fit free =
+outcome-stands-by : (t : Tree) (ask : Ask) (l n : Option (Result Place Cause)) → led t ask ≡ l → new_led t ask ≡ n → LeadsWell t → Stands t → FitsAsk ask → IsFree t ask → Stands (outcome t ask)
+outcome-stands-by t ask None n e f leads stands fit free = subst Stands (sym (outcome-is t ask None n e f)) stands
+outcome-stands-by t ask (Some (Err failed)) n e f leads stands fit free = subst Stands (sym (outcome-is t ask (Some (Err failed)) n e f)) stands
+outcome-stands-by t ask (Some (Ok place)) None e f leads stands fit free =
     let none = free-at t ask place free e f in
     record {
-      well_formed = subst WellFormed (sym (target-is t ask (Some (Ok place)) None e f)) (well-at t ask place stands.well_formed fit (place-led t ask place leads fit e) none.none);
-      within_limits = subst (λ x. IsTrue (fits x)) (sym (target-is t ask (Some (Ok place)) None e f)) none.room;
+      well_formed = subst WellFormed (sym (outcome-is t ask (Some (Ok place)) None e f)) (well-at t ask place stands.well_formed fit (place-led t ask place leads fit e) none.none);
+      within_limits = subst (λ x. IsTrue (fits x)) (sym (outcome-is t ask (Some (Ok place)) None e f)) none.room;
     }
-target-stands-by t ask (Some (Ok place)) (Some (Err failed)) e f leads stands fit free =
-    subst Stands (sym (target-is t ask (Some (Ok place)) (Some (Err failed)) e f)) stands
-target-stands-by t ask (Some (Ok old)) (Some (Ok new)) e f leads stands fit free =
+outcome-stands-by t ask (Some (Ok place)) (Some (Err failed)) e f leads stands fit free =
+    subst Stands (sym (outcome-is t ask (Some (Ok place)) (Some (Err failed)) e f)) stands
+outcome-stands-by t ask (Some (Ok old)) (Some (Ok new)) e f leads stands fit free =
     let none = free-between t ask old new free e f in
     record {
       well_formed =
-          subst WellFormed (sym (target-is t ask (Some (Ok old)) (Some (Ok new)) e f))
+          subst WellFormed (sym (outcome-is t ask (Some (Ok old)) (Some (Ok new)) e f))
           (well-between t ask old new stands.well_formed (new-place-led t ask new leads fit f) none.at_old none.at_new none.between);
-      within_limits = subst (λ x. IsTrue (fits x)) (sym (target-is t ask (Some (Ok old)) (Some (Ok new)) e f)) none.room;
+      within_limits = subst (λ x. IsTrue (fits x)) (sym (outcome-is t ask (Some (Ok old)) (Some (Ok new)) e f)) none.room;
     }
 
 -- where paths of all trees within the limits lead well, the trees that requests ask for are trees
@@ -210,12 +212,12 @@ leads-untrimmed paths t stands follow path place bytes is =
     let leads = paths (trim t) (kept-trim t stands.well_formed stands.within_limits) follow path place bytes (same-walk t follow path ∙ is) in
     record { named = leads.named; above = leads.above }
 
-pub target-stands : PathsLeadWell → (t : Tree) (ask : Ask) → WellFormed t → IsTrue (fits t) → FitsAsk ask → IsFree t ask → Stands (target t ask)
-target-stands paths t ask well within =
+pub outcome-stands : PathsLeadWell → (t : Tree) (ask : Ask) → WellFormed t → IsTrue (fits t) → FitsAsk ask → IsFree t ask → Stands (outcome t ask)
+outcome-stands paths t ask well within =
     let stands : Stands t = record { well_formed = well; within_limits = within } in
-    target-stands-by t ask (led t ask) (new_led t ask) refl refl (leads-untrimmed paths t stands) stands
+    outcome-stands-by t ask (led t ask) (new_led t ask) refl refl (leads-untrimmed paths t stands) stands
 
 pub after-kept : PathsLeadWell → (t : Tree) (ask : Ask) → IsKept t → FitsAsk ask → IsFree t ask → IsKept (after t ask)
 after-kept paths t ask kept fit free =
-    let stands = target-stands paths t ask kept.well_formed kept.within_limits fit free in
-    kept-trim (target t ask) stands.well_formed stands.within_limits
+    let stands = outcome-stands paths t ask kept.well_formed kept.within_limits fit free in
+    kept-trim (outcome t ask) stands.well_formed stands.within_limits

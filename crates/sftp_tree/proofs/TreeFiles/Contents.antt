@@ -13,7 +13,7 @@ use Rattle.std.proofs.lemmas.Bool.Decides.{nat_tests}
 use Rattle.std.proofs.lemmas.List.{length-append}
 use Rattle.sftp_path.specs.Table.{InOrder}
 use Rattle.sftp_path.proofs.Table.Laws.{get-empty, get-cons, same_table}
-use Rattle.sftp_tree.specs.declared.contents.Content.{Content}
+use Rattle.sftp_tree.specs.declared.file_contents.Content.{Content}
 use Rattle.sftp_tree.specs.Tree.{Files, content_at}
 use Rattle.sftp_tree.specs.PictureParts.{numbered_from}
 

@@ -19,7 +19,7 @@ use Rattle.sftp_treefile.specs.declared.limits.TreeLimits.{TreeLimits}
 use Rattle.sftp_treefile.specs.Limits.{usual_limits}
 use Rattle.sftp_treefile.specs.TreeFile.{place_of, IsOwner, IsKind, AreRows, IsTreeFile, spelled, IsSpelled}
 use Rattle.sftp_treefile.proofs.Texts.Files.{one_file}
-use Rattle.sftp_tree.specs.declared.contents.Content.{Content}
+use Rattle.sftp_tree.specs.declared.file_contents.Content.{Content}
 use Rattle.sftp_tree.specs.declared.nodes.Node.{Node}
 use Rattle.sftp_tree.specs.declared.nodes.Node.TheVariants.{Dir, File, Link}
 use Rattle.sftp_tree.specs.Tree.{Names, Files, Tree, WellFormed, IsKept, IsNode, IsContent, limits, node_at, content_at, names_file, times_named, is_named, is_pinned, fits, depths_fit, depth_fits, home_fits, links_fit, link_fits, files_fit, content_fits}

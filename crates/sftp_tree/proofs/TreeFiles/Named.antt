@@ -14,7 +14,7 @@ use Rattle.sftp_treefile.specs.declared.files.Owner.{Owner}
 use Rattle.sftp_treefile.specs.declared.files.Row.{Row}
 use Rattle.sftp_treefile.specs.Limits.{usual_limits}
 use Rattle.sftp_treefile.specs.TreeFile.{is_first, is_first_row, are_bytes, IsOwner, IsKind, IsPlaceText}
-use Rattle.sftp_tree.specs.declared.contents.Content.{Content}
+use Rattle.sftp_tree.specs.declared.file_contents.Content.{Content}
 use Rattle.sftp_tree.specs.declared.nodes.Node.{Node}
 use Rattle.sftp_tree.specs.declared.nodes.Node.TheVariants.{Dir, File, Link}
 use Rattle.sftp_tree.specs.Tree.{Names, Files, IsNode, content_at, names_file}

@@ -26,12 +26,12 @@ use Rattle.sftp_treefile.specs.declared.files.Row.{Row}
 use Rattle.sftp_treefile.specs.declared.files.TreeFile.{TreeFile}
 use Rattle.sftp_treefile.specs.Limits.{usual_limits}
 use Rattle.sftp_treefile.specs.TreeFile.{place_of, IsOwner, IsKind, IsNext, AreRows}
-use Rattle.sftp_tree.specs.declared.contents.Content.{Content}
-use Rattle.sftp_tree.specs.declared.contents.Stored.{Stored}
+use Rattle.sftp_tree.specs.declared.file_contents.Content.{Content}
+use Rattle.sftp_tree.specs.declared.file_contents.Stored.{Stored}
 use Rattle.sftp_tree.specs.declared.nodes.Node.{Node}
 use Rattle.sftp_tree.specs.declared.nodes.Node.TheVariants.{Dir, File, Link}
 use Rattle.sftp_tree.specs.Tree.{Names, Files, node_at, with_node, is_directory, names_file, times_named}
-use Rattle.sftp_tree.specs.Stored.{contents, seen, AreCounted, file_named, IsChangedWhereNamed, with_a_name}
+use Rattle.sftp_tree.specs.StoredFiles.{contents, seen, AreCounted, file_named, IsChangedWhereNamed, with_a_name}
 use Rattle.sftp_tree.specs.PictureParts.{content_of, contents_of, node_of, only_root, names_of, numbered_from, numbers_from, known_number, known_node, IsKnown, Stores, HaveRoom, AreWithEntry, IsGrown, tree_of}
 use Rattle.sftp_tree.proofs.PlaceTables.Each.{each-get}
 use Rattle.sftp_tree.proofs.FileCounts.Names.{raised}

@@ -17,7 +17,7 @@ use Rattle.sftp_treefile.specs.TreeFile.{row_text}
 use Rattle.sftp_treefile.specs.TreeFileParts.{head_bytes}
 use Rattle.sftp_treefile.proofs.Texts.Fields.{path_length, target_length}
 use Rattle.sftp_treefile.proofs.Texts.Files.{spelled_head}
-use Rattle.sftp_tree.specs.declared.contents.Content.{Content}
+use Rattle.sftp_tree.specs.declared.file_contents.Content.{Content}
 use Rattle.sftp_tree.specs.declared.nodes.Node.{Node}
 use Rattle.sftp_tree.specs.declared.nodes.Node.TheVariants.{Dir, File, Link}
 use Rattle.sftp_tree.specs.Tree.{Names, Files, Tree, IsKept, node_at, content_at, names_file}

@@ -13,7 +13,7 @@ use Rattle.sftp_treefile.specs.TreeFile.{is_root, same_place}
 use Rattle.sftp_tree.specs.declared.nodes.Node.{Node}
 use Rattle.sftp_tree.specs.declared.nodes.Node.TheVariants.{Dir, File, Link}
 use Rattle.sftp_tree.specs.Tree.{Names, Tree, IsKept, IsNode, node_at, is_taken, is_directory, is_file}
-use Rattle.sftp_tree.specs.Steps.{moved, put_in_its_stead}
+use Rattle.sftp_tree.specs.Changes.{moved, put_in_its_stead}
 use Rattle.sftp_tree.proofs.PlaceTables.Each.{each-all, lookup_holds}
 
 pub absent-of : (found : Option Node) → is_taken found ≡ false → found ≡ None

@@ -10,7 +10,7 @@ use Rattle.sftp_path.proofs.Order.{begins-is, begins-front, below-begins, place_
 use Rattle.sftp_treefile.specs.TreeFile.{same_place}
 use Rattle.sftp_tree.specs.declared.nodes.Node.{Node}
 use Rattle.sftp_tree.specs.Tree.{Names, node_at, is_taken, is_directory, has_entries}
-use Rattle.sftp_tree.specs.Steps.{goes_inside}
+use Rattle.sftp_tree.specs.PlaceCauses.{goes_inside}
 use Rattle.sftp_tree.proofs.PlaceTables.Each.{get-each}
 use Rattle.sftp_tree.proofs.PlaceTables.Below.{has_entries-below, has_entries-none}
 use Rattle.sftp_tree.proofs.WellFormedTrees.Found.{absent-of, taken-of}

@@ -4,8 +4,8 @@ ghost use Rattle.sftp_treefile.specs.Limits.{usual_limits};
 ghost use Rattle.sftp_treefile.specs.TreeFile.{place_of, IsPlaceText, IsOwner, AreRows, IsTreeFile};
 ghost use Rattle.sftp_tree.specs.PictureParts as parts;
 
-use crate::contents::{Content, FileBytes};
 use crate::entries::Entries;
+use crate::file_contents::{Content, FileBytes};
 use crate::file_numbers::FileNo;
 use crate::files::Files;
 use crate::nodes::Node;

@@ -8,9 +8,9 @@ use Rattle.std.proofs.lemmas.Map.Steps.{set_value_same}
 use Rattle.std.proofs.lemmas.Result.{err_from_is_err_and}
 use Rattle.sftp_path.specs.Table.{get}
 use Rattle.sftp_treefile.specs.TreeFile.{IsOwner}
-use Rattle.sftp_tree.specs.declared.contents.Stored.{Stored}
+use Rattle.sftp_tree.specs.declared.file_contents.Stored.{Stored}
 use Rattle.sftp_tree.specs.Attributes.{changed_owner}
-use Rattle.sftp_tree.specs.Stored.{with_attributes_set}
+use Rattle.sftp_tree.specs.StoredFiles.{with_attributes_set}
 use Rattle.sftp_tree.proofs.FileCounts.Changes.{changed-nowhere, changed-written}
 use Rattle.sftp_tree.proofs.files.change_at.Goals as goal
 

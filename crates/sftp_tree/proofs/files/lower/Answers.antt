@@ -2,8 +2,8 @@ use Rattle.std.proofs.Common.{◌-◌, ◌<◌, sym, ap, ◌∙◌, arith}
 use Rattle.std.specs.Option.{option_copied_mut}
 use Rattle.std.proofs.lemmas.Option.{MatchOption-at_some}
 use Rattle.sftp_path.specs.Table.{get}
-use Rattle.sftp_tree.specs.declared.contents.Stored.{Stored}
-use Rattle.sftp_tree.specs.Stored.{without_a_name}
+use Rattle.sftp_tree.specs.declared.file_contents.Stored.{Stored}
+use Rattle.sftp_tree.specs.StoredFiles.{without_a_name}
 use Rattle.sftp_tree.proofs.FileCounts.Changes.{changed-nowhere, changed-written, changed-removed, without_a_name-last, without_a_name-other}
 use Rattle.sftp_tree.proofs.files.lower.Goals as goal
 

@@ -2,8 +2,8 @@ use Rattle.std.proofs.Common.{sym, refl, ap, ◌∙◌, arith, ◌+◌, ◌<◌,
 use Rattle.std.specs.Option.{option_copied_mut}
 use Rattle.std.proofs.lemmas.Option.{MatchOption-at_some}
 use Rattle.sftp_path.specs.Table.{get}
-use Rattle.sftp_tree.specs.declared.contents.Stored.{Stored}
-use Rattle.sftp_tree.specs.Stored.{with_a_name}
+use Rattle.sftp_tree.specs.declared.file_contents.Stored.{Stored}
+use Rattle.sftp_tree.specs.StoredFiles.{with_a_name}
 use Rattle.sftp_tree.proofs.FileCounts.Changes.{changed-nowhere, changed-written}
 use Rattle.sftp_tree.proofs.files.raise.Goals as goal
 

@@ -2,4 +2,4 @@ use Rattle.sftp_tree.proofs.KeptTrees.Files.{limits-stay}
 use Rattle.sftp_tree.proofs.laws.limits_stay.Goals as goal
 
 pub returns : goal.returns
-returns c = record { target = limits-stay; after = limits-stay }
+returns c = record { outcome = limits-stay; after = limits-stay }

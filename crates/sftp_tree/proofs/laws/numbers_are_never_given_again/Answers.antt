@@ -2,4 +2,4 @@ use Rattle.sftp_tree.proofs.KeptTrees.Files.{made-stays, not-given, named-given}
 use Rattle.sftp_tree.proofs.laws.numbers_are_never_given_again.Goals as goal
 
 pub returns : goal.returns
-returns c = record { target = made-stays; after = made-stays; files = not-given; names = named-given }
+returns c = record { outcome = made-stays; after = made-stays; files = not-given; names = named-given }

@@ -5,8 +5,8 @@ use Rattle.std.specs.List.{list_any, find}
 use Rattle.std.proofs.lemmas.Iterator.{YieldsList-from_slice}
 use Rattle.std.proofs.lemmas.Iterator.Search.{find_from_yields_List}
 use Rattle.sftp_tree.specs.declared.causes.Cause.{Cause}
-use Rattle.sftp_tree.specs.Steps.{every_cause}
-use Rattle.sftp_tree.specs.Sets.{in_set}
+use Rattle.sftp_tree.specs.Causes.{every_cause}
+use Rattle.sftp_tree.specs.Refusals.{in_set}
 use Rattle.sftp_tree.proofs.causes.Causes.refuse.Goals as goal
 
 none-found : (test : Cause → Bool) (xs : List Cause) → find test xs ≡ None → list_any test xs ≡ false

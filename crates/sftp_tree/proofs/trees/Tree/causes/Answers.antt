@@ -1,5 +1,5 @@
 use Rattle.std.proofs.Common.{sym, ap, ◌∙◌}
-use Rattle.sftp_tree.specs.Steps.{CauseSet}
+use Rattle.sftp_tree.specs.Causes.{CauseSet}
 use Rattle.sftp_tree.proofs.CauseLaws.Places.{unjudged}
 use Rattle.sftp_tree.proofs.trees.Tree.causes.Goals as goal
 

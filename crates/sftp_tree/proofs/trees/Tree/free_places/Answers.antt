@@ -1,9 +1,9 @@
 use Rattle.std.proofs.Common.{sym, ap, ◌∙◌}
 use Rattle.sftp_tree.specs.declared.causes.Refused.{Refused}
 use Rattle.sftp_tree.specs.declared.causes.Refused.TheVariants as refusals
-use Rattle.sftp_tree.specs.Steps.{CauseSet}
+use Rattle.sftp_tree.specs.Causes.{CauseSet}
 use Rattle.sftp_tree.specs.Asks.{asked}
-use Rattle.sftp_tree.specs.Sets.{IsRefusal}
+use Rattle.sftp_tree.specs.Refusals.{IsRefusal}
 use Rattle.sftp_tree.proofs.CauseLaws.Places.{exit, own-holds, lost-holds}
 use Rattle.sftp_tree.proofs.trees.Tree.free_places.Goals as goal
 

@@ -2,11 +2,11 @@ use Rattle.std.proofs.Common.{◌≡◌, ◌&&◌, not, sym, subst, ap, ◌∙�
 use Rattle.std.specs.List.{list_any}
 use Rattle.sftp_path.specs.Place.{Place}
 use Rattle.sftp_tree.specs.Tree.{IsKept}
-use Rattle.sftp_tree.specs.Steps.{every_cause}
+use Rattle.sftp_tree.specs.Causes.{every_cause}
 use Rattle.sftp_tree.specs.Room.{has_room_for}
 use Rattle.sftp_tree.specs.Walking.{IsPlaceOf}
 use Rattle.sftp_tree.specs.Asks.{asked}
-use Rattle.sftp_tree.specs.Sets.{in_set}
+use Rattle.sftp_tree.specs.Refusals.{in_set}
 use Rattle.sftp_tree.proofs.CauseLaws.Limits.{judged}
 use Rattle.sftp_tree.proofs.trees.Tree.judge.Goals as goal
 use Rattle.sftp_tree.proofs.trees.Tree.judge.Goals.{then-not-has_any, else-not-has_any}

@@ -3,8 +3,9 @@ use Rattle.sftp_path.specs.Place.{Name, Place, parent, begins}
 use Rattle.sftp_path.specs.Rekeying.{rekeyed}
 use Rattle.sftp_treefile.specs.TreeFile.{same_place}
 use Rattle.sftp_tree.specs.Tree.{Tree, IsKept, is_directory, node_at, without_node, has_entries, times_named, trim}
-use Rattle.sftp_tree.specs.Steps.{goes_inside, put_in_its_stead}
-use Rattle.sftp_tree.specs.Stored.{seen, AreCounted, IsChangedWhereNamed, file_named, without_a_name}
+use Rattle.sftp_tree.specs.PlaceCauses.{goes_inside}
+use Rattle.sftp_tree.specs.Changes.{put_in_its_stead}
+use Rattle.sftp_tree.specs.StoredFiles.{seen, AreCounted, IsChangedWhereNamed, file_named, without_a_name}
 use Rattle.sftp_tree.proofs.KeptTrees.Moves.{kept-move}
 use Rattle.sftp_tree.proofs.WellFormedTrees.Places.{apart-from, alone-there}
 use Rattle.sftp_tree.proofs.FileCounts.Names.{one_name}

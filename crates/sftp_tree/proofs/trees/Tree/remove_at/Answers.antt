@@ -1,6 +1,6 @@
 use Rattle.std.proofs.Common.{◌≡◌, ℕ, ◌+◌, refl, sym, ap, subst, ◌∙◌}
 use Rattle.sftp_tree.specs.Tree.{Tree, IsKept, node_at, without_node, times_named, trim}
-use Rattle.sftp_tree.specs.Stored.{seen, AreCounted, IsChangedWhereNamed, file_named, without_a_name}
+use Rattle.sftp_tree.specs.StoredFiles.{seen, AreCounted, IsChangedWhereNamed, file_named, without_a_name}
 use Rattle.sftp_tree.proofs.KeptTrees.Entries.{kept-without}
 use Rattle.sftp_tree.proofs.FileCounts.Names.{one_name, named-without}
 use Rattle.sftp_tree.proofs.KeptTrees.Counts.{name-to-lose, left-parts}

@@ -5,8 +5,8 @@ ghost use Rattle.sftp_wire.specs.declared.packets.Ask.TheVariants.{Setstat, Remo
 ghost use Rattle.sftp_wire.specs.declared.packets.Ask.TheVariants.{Readlink, Symlink, PosixRename, Hardlink};
 ghost use Rattle.sftp_tree.specs.declared.nodes.Node.TheVariants.{Link};
 ghost use Rattle.sftp_tree.specs.Tree as tree;
-ghost use Rattle.sftp_tree.specs.Steps as steps;
-ghost use Rattle.sftp_tree.specs.Sets.{IsFree, IsRefusal, stat_ask};
+ghost use Rattle.sftp_tree.specs.Requests as requests;
+ghost use Rattle.sftp_tree.specs.Refusals.{IsFree, IsRefusal, stat_ask};
 
 use crate::asks::PathAsk;
 use crate::causes::Refused;
@@ -25,7 +25,7 @@ impl Tree {
     /// is then as before.
     pub fn mkdir(&mut self, path: &[u8], attrs: &Attrs) -> Result<(), Refused>
         ensures free { OnOk result (IsFree self.old (Mkdir path.now attrs.now)) }
-        ensures done { OnOk result (self.new ≡ steps.after self.old (Mkdir path.now attrs.now)) }
+        ensures done { OnOk result (self.new ≡ requests.after self.old (Mkdir path.now attrs.now)) }
         ensures refused { IfErr result (λ refused. IsRefusal self.old (Mkdir path.now attrs.now) refused) }
         ensures kept { OnErr result (self.new ≡ self.old) }
     {
@@ -42,7 +42,7 @@ impl Tree {
     /// memory runs out. The tree is then as before.
     pub fn rmdir(&mut self, path: &[u8]) -> Result<(), Refused>
         ensures free { OnOk result (IsFree self.old (Rmdir path.now)) }
-        ensures done { OnOk result (self.new ≡ steps.after self.old (Rmdir path.now)) }
+        ensures done { OnOk result (self.new ≡ requests.after self.old (Rmdir path.now)) }
         ensures refused { IfErr result (λ refused. IsRefusal self.old (Rmdir path.now) refused) }
         ensures kept { OnErr result (self.new ≡ self.old) }
     {
@@ -59,7 +59,7 @@ impl Tree {
     /// is then as before.
     pub fn remove(&mut self, path: &[u8]) -> Result<(), Refused>
         ensures free { OnOk result (IsFree self.old (Remove path.now)) }
-        ensures done { OnOk result (self.new ≡ steps.after self.old (Remove path.now)) }
+        ensures done { OnOk result (self.new ≡ requests.after self.old (Remove path.now)) }
         ensures refused { IfErr result (λ refused. IsRefusal self.old (Remove path.now) refused) }
         ensures kept { OnErr result (self.new ≡ self.old) }
     {
@@ -77,7 +77,7 @@ impl Tree {
     /// `NoRoom`. `NoMemory` if memory runs out. The tree is then as before.
     pub fn set_stat(&mut self, path: &[u8], attrs: &Attrs) -> Result<(), Refused>
         ensures free { OnOk result (IsFree self.old (Setstat path.now attrs.now)) }
-        ensures done { OnOk result (self.new ≡ steps.after self.old (Setstat path.now attrs.now)) }
+        ensures done { OnOk result (self.new ≡ requests.after self.old (Setstat path.now attrs.now)) }
         ensures refused { IfErr result (λ refused. IsRefusal self.old (Setstat path.now attrs.now) refused) }
         ensures kept { OnErr result (self.new ≡ self.old) }
     {
@@ -94,7 +94,7 @@ impl Tree {
     /// `Root`, `Inside` or `NoRoom`. `NoMemory` if memory runs out. The tree is then as before.
     pub fn rename(&mut self, old: &[u8], new: &[u8]) -> Result<(), Refused>
         ensures free { OnOk result (IsFree self.old (Rename old.now new.now)) }
-        ensures done { OnOk result (self.new ≡ steps.after self.old (Rename old.now new.now)) }
+        ensures done { OnOk result (self.new ≡ requests.after self.old (Rename old.now new.now)) }
         ensures refused { IfErr result (λ refused. IsRefusal self.old (Rename old.now new.now) refused) }
         ensures kept { OnErr result (self.new ≡ self.old) }
     {
@@ -113,7 +113,7 @@ impl Tree {
     /// `IsDir`, `NotEmpty`, `Root`, `Inside` or `NoRoom`. `NoMemory` if memory runs out. The tree is then as before.
     pub fn posix_rename(&mut self, old: &[u8], new: &[u8]) -> Result<(), Refused>
         ensures free { OnOk result (IsFree self.old (PosixRename old.now new.now)) }
-        ensures done { OnOk result (self.new ≡ steps.after self.old (PosixRename old.now new.now)) }
+        ensures done { OnOk result (self.new ≡ requests.after self.old (PosixRename old.now new.now)) }
         ensures refused { IfErr result (λ refused. IsRefusal self.old (PosixRename old.now new.now) refused) }
         ensures kept { OnErr result (self.new ≡ self.old) }
     {
@@ -130,7 +130,7 @@ impl Tree {
     /// `NotFile` or `NoRoom`. `NoMemory` if memory runs out. The tree is then as before.
     pub fn hardlink(&mut self, old: &[u8], new: &[u8]) -> Result<(), Refused>
         ensures free { OnOk result (IsFree self.old (Hardlink old.now new.now)) }
-        ensures done { OnOk result (self.new ≡ steps.after self.old (Hardlink old.now new.now)) }
+        ensures done { OnOk result (self.new ≡ requests.after self.old (Hardlink old.now new.now)) }
         ensures refused { IfErr result (λ refused. IsRefusal self.old (Hardlink old.now new.now) refused) }
         ensures kept { OnErr result (self.new ≡ self.old) }
     {
@@ -147,7 +147,7 @@ impl Tree {
     /// `NoMemory` if memory runs out. The tree is then as before.
     pub fn symlink(&mut self, target: &[u8], link: &[u8]) -> Result<(), Refused>
         ensures free { OnOk result (IsFree self.old (Symlink target.now link.now)) }
-        ensures done { OnOk result (self.new ≡ steps.after self.old (Symlink target.now link.now)) }
+        ensures done { OnOk result (self.new ≡ requests.after self.old (Symlink target.now link.now)) }
         ensures refused { IfErr result (λ refused. IsRefusal self.old (Symlink target.now link.now) refused) }
         ensures kept { OnErr result (self.new ≡ self.old) }
     {
@@ -164,7 +164,7 @@ impl Tree {
     /// The first cause that holds: `BadPath`, the walk's, or `NoEntry`. `NoMemory` if memory runs out.
     pub fn stat(&self, path: &[u8], follow: bool) -> Result<Attrs, Refused>
         ensures free { OnOk result (IsFree self.now (stat_ask follow path.now)) }
-        ensures shown { IfOk result (λ attrs. steps.shown_to self.now (stat_ask follow path.now) ≡ Some attrs) }
+        ensures shown { IfOk result (λ attrs. requests.shown_to self.now (stat_ask follow path.now) ≡ Some attrs) }
         ensures refused { IfErr result (λ refused. IsRefusal self.now (stat_ask follow path.now) refused) }
         ensures kept { OnOk result (tree.IsKept self.now) }
     {
@@ -184,7 +184,7 @@ impl Tree {
     /// The first cause that holds: `BadPath`, or the walk's. `NoMemory` if memory runs out.
     pub fn real_path(&self, path: &[u8]) -> Result<Vec<u8>, Refused>
         ensures free { OnOk result (IsFree self.now (Realpath path.now)) }
-        ensures text { IfOk result (λ text. steps.text_to self.now (Realpath path.now) ≡ Some text.items) }
+        ensures text { IfOk result (λ text. requests.text_to self.now (Realpath path.now) ≡ Some text.items) }
         ensures refused { IfErr result (λ refused. IsRefusal self.now (Realpath path.now) refused) }
         ensures kept { OnOk result (tree.IsKept self.now) }
     {
@@ -199,7 +199,7 @@ impl Tree {
     /// The first cause that holds: `BadPath`, the walk's, `NoEntry` or `NotLink`. `NoMemory` if memory runs out.
     pub fn read_link(&self, path: &[u8]) -> Result<Vec<u8>, Refused>
         ensures free { OnOk result (IsFree self.now (Readlink path.now)) }
-        ensures target { IfOk result (λ target. steps.target_to self.now (Readlink path.now) ≡ Some target.items) }
+        ensures target { IfOk result (λ target. requests.target_to self.now (Readlink path.now) ≡ Some target.items) }
         ensures refused { IfErr result (λ refused. IsRefusal self.now (Readlink path.now) refused) }
         ensures kept { OnOk result (tree.IsKept self.now) }
     {
@@ -211,7 +211,7 @@ impl Tree {
     /// The attributes shown of the node at a place.
     fn shown_at(&self, place: &Place) -> Attrs
         requires { IsTrue (tree.is_taken (tree.node_at self.now.names place.now)) }
-        ensures { steps.shown_at self.now (tree.node_at self.now.names place.now) ≡ Some result }
+        ensures { requests.shown_at self.now (tree.node_at self.now.names place.now) ≡ Some result }
     {
         match self.standing(place) {
             Some(node) => self.shown(node),
@@ -222,7 +222,7 @@ impl Tree {
     /// The target of the link at a place.
     fn target_at(&self, place: &Place) -> &[u8]
         requires { IsTrue (tree.is_link (tree.node_at self.now.names place.now)) }
-        ensures { steps.target_of (tree.node_at self.now.names place.now) ≡ Some result.now }
+        ensures { requests.target_of (tree.node_at self.now.names place.now) ≡ Some result.now }
     {
         match self.standing(place) {
             Some(Node::Link(target)) => target.as_slice(),

@@ -1,9 +1,9 @@
-use Rattle.sftp_tree.proofs.Requests.Trees.{target-stands}
-use Rattle.sftp_tree.proofs.laws.targets_are_trees.Goals as goal
+use Rattle.sftp_tree.proofs.Requests.Trees.{outcome-stands}
+use Rattle.sftp_tree.proofs.laws.outcomes_are_trees.Goals as goal
 
 pub returns : goal.returns
 returns c =
-    let stands = target-stands (λ t kept follow path place bytes is. record {
+    let stands = outcome-stands (λ t kept follow path place bytes is. record {
       named = c.walks_give_places.ensures.names t follow path place kept bytes is;
       above = c.walks_give_places.ensures.parent t follow path place kept bytes is;
     }) in

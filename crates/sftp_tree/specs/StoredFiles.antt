@@ -6,7 +6,7 @@ use Rattle.sftp_wire.specs.declared.attributes.Attrs.{Attrs}
 use Rattle.sftp_path.specs.Place.{Place}
 use Rattle.sftp_path.specs.Table.{Table, InOrder, get, with_values}
 use Rattle.sftp_treefile.specs.declared.limits.TreeLimits.{TreeLimits}
-use Rattle.sftp_tree.specs.declared.contents.Stored.{Stored}
+use Rattle.sftp_tree.specs.declared.file_contents.Stored.{Stored}
 use Rattle.sftp_tree.specs.declared.nodes.Node.{Node}
 use Rattle.sftp_tree.specs.declared.nodes.Node.TheVariants.{Dir, File, Link}
 use Rattle.sftp_tree.specs.Tree.{Names, Files, Tree, times_named}

@@ -7,7 +7,8 @@ use Rattle.sftp_tree.specs.declared.causes.Causes.{Causes}
 use Rattle.sftp_tree.specs.declared.causes.Refused.{Refused}
 use Rattle.sftp_tree.specs.declared.causes.Refused.TheVariants.{Cause, NoMemory}
 use Rattle.sftp_tree.specs.Tree.{Tree}
-use Rattle.sftp_tree.specs.Steps.{CauseSet, row, causes, is_none}
+use Rattle.sftp_tree.specs.Causes.{CauseSet, row, is_none}
+use Rattle.sftp_tree.specs.Requests.{causes}
 
 -- the set that a value of the code stands for: the bit of each row says whether its cause is in it
 unfoldable pub in_set : Causes → CauseSet

@@ -1,0 +1,87 @@
+-- The causes that hold at the places which the paths of a request lead to (draft-ietf-secsh-filexfer-02, sections 6.5 to
+-- 6.11; OpenSSH's PROTOCOL, sections 4.3 and 4.5). They are this profile's own.
+use Rattle.std.specs.Prelude.{◌==◌, ◌&&◌, ◌||◌, not, ℕ, Bool, false, if◌then◌else◌, List, Option, Some, is_some}
+use Rattle.sftp_wire.specs.declared.attributes.Attrs.{Attrs}
+use Rattle.sftp_path.specs.Place.{Place, is_below}
+use Rattle.sftp_treefile.specs.TreeFile.{is_root, is_target, same_place}
+use Rattle.sftp_tree.specs.declared.nodes.Node.{Node}
+use Rattle.sftp_tree.specs.declared.nodes.Node.TheVariants.{File}
+use Rattle.sftp_tree.specs.declared.causes.Cause.TheVariants.{BadPath, NoEntry, NotDir, Exists, IsDir, NotLink, NotFile, NotEmpty, Root, Inside}
+use Rattle.sftp_tree.specs.Tree.{Names, node_at, is_directory, is_file, is_link, is_taken, has_entries}
+use Rattle.sftp_tree.specs.Causes.{CauseSet, no_causes, when}
+
+-- ---- the causes at the place that a path leads to
+
+-- of a node that is to be made
+abbrev pub making_causes : Option Node → CauseSet
+making_causes standing = when no_causes Exists (is_taken standing)
+
+-- of a node that must exist
+abbrev pub needing_causes : Option Node → CauseSet
+needing_causes standing = when no_causes NoEntry (not (is_taken standing))
+
+-- of a node that must be a link
+abbrev pub link_causes : Option Node → CauseSet
+link_causes standing = when (needing_causes standing) NotLink (is_taken standing && not (is_link standing))
+
+-- of a node that must be a name of a file
+abbrev pub file_causes : Option Node → CauseSet
+file_causes standing = when (needing_causes standing) NotFile (is_taken standing && not (is_file standing))
+
+-- of a node that is to get these attributes: only a file has a size that can be set
+abbrev pub setting_causes : Attrs → Option Node → CauseSet
+setting_causes attrs standing = when (needing_causes standing) NotFile (is_some attrs.size && (is_taken standing && not (is_file standing)))
+
+-- of a directory that is to be removed
+abbrev pub removing_causes : Names → Place → CauseSet
+removing_causes names place =
+    when (when (when (needing_causes (node_at names place)) NotDir (is_taken (node_at names place) && not (is_directory (node_at names place)))) NotEmpty (is_directory (node_at names place) && has_entries names place)) Root (is_root place)
+
+-- of a name that is to be removed, and must not be a directory
+abbrev pub unlinking_causes : Option Node → CauseSet
+unlinking_causes standing = when (needing_causes standing) IsDir (is_directory standing)
+
+-- of a node that is to move to another place
+abbrev pub leaving_causes : Names → Place → CauseSet
+leaving_causes names place = when (needing_causes (node_at names place)) Root (is_root place)
+
+-- of a place that is to get another node
+abbrev pub giving_causes : Place → CauseSet
+giving_causes place = when no_causes Root (is_root place)
+
+-- of a target that no link may have
+abbrev pub target_bytes_causes : List ℕ → CauseSet
+target_bytes_causes target = when no_causes BadPath (not (is_target target))
+
+-- ---- the causes of two places
+
+-- whether a directory would be moved into itself
+abbrev pub goes_inside : Names → Place → Place → Bool
+goes_inside names old new = is_directory (node_at names old) && is_below old new
+
+-- whether both are names of one file
+abbrev pub are_one_file : Option Node → Option Node → Bool
+are_one_file (Some (File m)) (Some (File n)) = m == n
+are_one_file _ _ = false
+
+-- whether both are one place, or names of one file
+abbrev pub are_one : Names → Place → Place → Bool
+are_one names old new = same_place old new || are_one_file (node_at names old) (node_at names new)
+
+-- of a move to a free place
+abbrev pub moving_causes : Names → Place → Place → CauseSet
+moving_causes names old new = when no_causes Inside (goes_inside names old new)
+
+-- of a node that is to replace another: a directory replaces an empty directory, and any other node one that is not a
+-- directory
+abbrev pub clashing_causes : Option Node → Option Node → Bool → CauseSet
+clashing_causes goes stays entries =
+    when (when (when no_causes NotDir (is_directory goes && (is_taken stays && not (is_directory stays)))) IsDir ((is_taken goes && not (is_directory goes)) && is_directory stays)) NotEmpty (is_directory goes && (is_directory stays && entries))
+
+-- of a move that replaces the node at the new place, if there is one
+abbrev pub replacing_causes : Names → Place → Place → CauseSet
+replacing_causes names old new = when (clashing_causes (node_at names old) (node_at names new) (has_entries names new)) Inside (goes_inside names old new)
+
+-- nothing moves if both are the same place, or names of one file
+abbrev pub exchanging_causes : Names → Place → Place → CauseSet
+exchanging_causes names old new = if are_one names old new then no_causes else replacing_causes names old new

@@ -1,0 +1,256 @@
+-- The table of requests, and what follows from it: where the paths of a request lead, which causes hold, the tree after
+-- it and what its reply says (draft-ietf-secsh-filexfer-02, sections 6.5 to 6.11; OpenSSH's PROTOCOL, section 4.1 for the
+-- order of SYMLINK's arguments, 4.3 for posix-rename and 4.5 for hardlink). Which walks follow a last link is this
+-- profile's own.
+use Rattle.std.specs.Prelude.{◌&&◌, not, ℕ, Bool, true, false, List, Option, Some, None, is_some, Result, Ok, Err}
+use Rattle.std.specs.Option.{option_map}
+use Rattle.sftp_wire.specs.declared.attributes.Attrs.{Attrs}
+use Rattle.sftp_wire.specs.declared.packets.Ask.{Ask}
+use Rattle.sftp_wire.specs.declared.packets.Ask.TheVariants.{Lstat, Setstat, Remove, Mkdir, Rmdir, Realpath, Stat, Rename, Readlink, Symlink, PosixRename, Hardlink}
+use Rattle.sftp_path.specs.Place.{Place, absolute}
+use Rattle.sftp_tree.specs.declared.nodes.Node.{Node}
+use Rattle.sftp_tree.specs.declared.nodes.Node.TheVariants.{Dir, File, Link}
+use Rattle.sftp_tree.specs.declared.causes.Cause.{Cause}
+use Rattle.sftp_tree.specs.declared.causes.Cause.TheVariants.{NoRoom}
+use Rattle.sftp_tree.specs.Tree.{Tree, node_at, trim, fits}
+use Rattle.sftp_tree.specs.Walk.{reached}
+use Rattle.sftp_tree.specs.Attributes.{directory_owner, shown}
+use Rattle.sftp_tree.specs.Causes.{CauseSet, no_causes, when, joined, is_none}
+use Rattle.sftp_tree.specs.PlaceCauses.{making_causes, needing_causes, link_causes, file_causes, setting_causes, removing_causes, unlinking_causes, leaving_causes, giving_causes, target_bytes_causes, moving_causes, exchanging_causes}
+use Rattle.sftp_tree.specs.Changes.{with_attributes, with_entry, without_entry, moved, exchanged, with_further_name}
+
+-- ---- what a reply says
+
+-- what the reply to a request that was done says
+pub data Told : Type 0 where
+  -- that it was done
+  done : Told
+  -- the attributes of the node at the place
+  attributes : Option Attrs → Told
+  -- a name of these bytes
+  name : Option (List ℕ) → Told
+
+abbrev pub shown_at : Tree → Option Node → Option Attrs
+shown_at t None = None
+shown_at t (Some standing) = shown t standing
+
+abbrev pub target_of : Option Node → Option (List ℕ)
+target_of (Some (Link target)) = Some target
+target_of (Some (Dir owner)) = None
+target_of (Some (File number)) = None
+target_of None = None
+
+-- ---- the table of requests
+
+-- what there is to say of a request
+pub record Row : Type 0 where
+  -- the path that it walks, or the first of two
+  pub path : Option (List ℕ)
+  -- the second path, of a request that has two: a new name
+  pub new_path : Option (List ℕ)
+  -- whether a last link is followed
+  pub follows : Bool
+  -- the causes of its own bytes
+  pub own : CauseSet
+  -- the causes at the place that the path leads to, at the place that the new one leads to, and of both
+  pub here : Tree → Place → CauseSet
+  pub there : Tree → Place → CauseSet
+  pub both : Tree → Place → Place → CauseSet
+  -- what it does at the one place, or with the two
+  pub change : Tree → Place → Tree
+  pub exchange : Tree → Place → Place → Tree
+  -- what its reply says of the place
+  pub told : Tree → Place → Told
+
+-- of a request that is not judged yet
+abbrev pub no_step : Row
+no_step = record {
+  path = None;
+  new_path = None;
+  follows = false;
+  own = no_causes;
+  here = λ t place. no_causes;
+  there = λ t place. no_causes;
+  both = λ t old new. no_causes;
+  change = λ t place. t;
+  exchange = λ t old new. t;
+  told = λ t place. done;
+}
+
+-- of a request that makes something at the end of its path
+abbrev pub making_row : List ℕ → Row
+making_row path = record no_step { path = Some path; here = λ t place. making_causes (node_at t.names place) }
+
+-- of a request for the attributes of the node at the end of its path
+abbrev pub showing_row : List ℕ → Row
+showing_row path = record no_step {
+  path = Some path;
+  here = λ t place. needing_causes (node_at t.names place);
+  told = λ t place. attributes (shown_at t (node_at t.names place));
+}
+
+-- of a request that leads from an old name to a new one
+abbrev pub pair_row : List ℕ → List ℕ → Row
+pair_row oldpath newpath = record no_step { path = Some oldpath; new_path = Some newpath }
+
+abbrev pub row_of : Ask → Row
+row_of (Mkdir path attrs) = record (making_row path) { change = λ t place. with_entry t place (Dir (directory_owner t attrs)) }
+row_of (Symlink target link) = record (making_row link) { own = target_bytes_causes target; change = λ t place. with_entry t place (Link target) }
+row_of (Rmdir path) = record no_step { path = Some path; here = λ t place. removing_causes t.names place; change = without_entry }
+row_of (Remove path) = record no_step { path = Some path; here = λ t place. unlinking_causes (node_at t.names place); change = without_entry }
+row_of (Setstat path attrs) = record no_step {
+  path = Some path;
+  follows = true;
+  here = λ t place. setting_causes attrs (node_at t.names place);
+  change = λ t place. with_attributes t attrs place (node_at t.names place);
+}
+row_of (Stat path) = record (showing_row path) { follows = true }
+row_of (Lstat path) = showing_row path
+row_of (Realpath path) = record no_step { path = Some path; follows = true; told = λ t place. name (Some (absolute place)) }
+row_of (Readlink path) = record no_step {
+  path = Some path;
+  here = λ t place. link_causes (node_at t.names place);
+  told = λ t place. name (target_of (node_at t.names place));
+}
+row_of (Rename oldpath newpath) = record (pair_row oldpath newpath) {
+  here = λ t place. leaving_causes t.names place;
+  there = λ t place. making_causes (node_at t.names place);
+  both = λ t old new. moving_causes t.names old new;
+  exchange = moved;
+}
+row_of (PosixRename oldpath newpath) = record (pair_row oldpath newpath) {
+  here = λ t place. leaving_causes t.names place;
+  there = λ t place. giving_causes place;
+  both = λ t old new. exchanging_causes t.names old new;
+  exchange = exchanged;
+}
+row_of (Hardlink oldpath newpath) = record (pair_row oldpath newpath) {
+  here = λ t place. file_causes (node_at t.names place);
+  there = λ t place. making_causes (node_at t.names place);
+  exchange = λ t old new. with_further_name t (node_at t.names old) new;
+}
+row_of other = no_step
+
+-- ---- its columns
+
+abbrev pub path_of : Ask → Option (List ℕ)
+path_of ask = (row_of ask).path
+
+abbrev pub new_path_of : Ask → Option (List ℕ)
+new_path_of ask = (row_of ask).new_path
+
+abbrev pub follows : Ask → Bool
+follows ask = (row_of ask).follows
+
+-- whether the request is judged
+abbrev pub has_step : Ask → Bool
+has_step ask = is_some (path_of ask)
+
+abbrev pub own_causes : Ask → CauseSet
+own_causes ask = (row_of ask).own
+
+abbrev pub causes_at : Tree → Ask → Place → CauseSet
+causes_at t ask = (row_of ask).here t
+
+abbrev pub new_causes_at : Tree → Ask → Place → CauseSet
+new_causes_at t ask = (row_of ask).there t
+
+abbrev pub causes_between : Tree → Ask → Place → Place → CauseSet
+causes_between t ask = (row_of ask).both t
+
+abbrev pub outcome_at : Tree → Ask → Place → Tree
+outcome_at t ask = (row_of ask).change t
+
+abbrev pub outcome_between : Tree → Ask → Place → Place → Tree
+outcome_between t ask = (row_of ask).exchange t
+
+abbrev pub told_at : Tree → Ask → Place → Told
+told_at t ask = (row_of ask).told t
+
+-- ---- where paths lead
+
+-- where the path of a request leads
+unfoldable pub led : Tree → Ask → Option (Result Place Cause)
+led t ask = option_map (reached t (follows ask)) (path_of ask)
+
+-- where its new name leads; a last link is not followed
+abbrev pub new_led : Tree → Ask → Option (Result Place Cause)
+new_led t ask = option_map (reached t false) (new_path_of ask)
+
+-- ---- the causes of a request
+
+-- a path that leads nowhere has that one cause
+abbrev pub led_causes : Option (Result Place Cause) → (Place → CauseSet) → CauseSet
+led_causes None at = no_causes
+led_causes (Some (Ok place)) at = at place
+led_causes (Some (Err failed)) at = when no_causes failed true
+
+-- causes of two places hold if each path leads to one
+abbrev pub both_causes : Option (Result Place Cause) → Option (Result Place Cause) → (Place → Place → CauseSet) → CauseSet
+both_causes (Some (Ok old)) (Some (Ok new)) between = between old new
+both_causes _ _ between = no_causes
+
+-- the causes other than `NoRoom`, by where the paths lead
+abbrev pub plain_of : Tree → Ask → Option (Result Place Cause) → Option (Result Place Cause) → CauseSet
+plain_of t ask end new_end =
+    joined (joined (joined (own_causes ask) (led_causes end (causes_at t ask))) (led_causes new_end (new_causes_at t ask))) (both_causes end new_end (causes_between t ask))
+
+unfoldable pub plain_causes : Tree → Ask → CauseSet
+plain_causes t ask = plain_of t ask (led t ask) (new_led t ask)
+
+-- ---- the tree that a request asks for
+
+abbrev pub led_to : {A : Type 0} → A → Option (Result Place Cause) → (Place → A) → A
+led_to otherwise None at = otherwise
+led_to otherwise (Some (Ok place)) at = at place
+led_to otherwise (Some (Err cause)) at = otherwise
+
+-- with the place of a first path, and of a second one if there is one
+abbrev pub outcome_on : Tree → Ask → Place → Option (Result Place Cause) → Tree
+outcome_on t ask place None = outcome_at t ask place
+outcome_on t ask place (Some (Ok new)) = outcome_between t ask place new
+outcome_on t ask place (Some (Err cause)) = t
+
+-- by where the paths lead
+abbrev pub outcome_led : Tree → Ask → Option (Result Place Cause) → Option (Result Place Cause) → Tree
+outcome_led t ask end new_end = led_to t end (λ place. outcome_on t ask place new_end)
+
+-- the tree that a request which no cause refuses asks for; files that lost their last name still exist
+unfoldable pub outcome : Tree → Ask → Tree
+outcome t ask = outcome_led t ask (led t ask) (new_led t ask)
+
+-- the tree after such a request: a file is removed with its last name
+abbrev pub after : Tree → Ask → Tree
+after t ask = trim (outcome t ask)
+
+-- `NoRoom` holds if no other cause holds and the tree asked for breaks a limit
+abbrev pub with_room : CauseSet → Tree → CauseSet
+with_room plain asked = when plain NoRoom (is_none plain && not (fits asked))
+
+-- the causes that hold
+unfoldable pub causes : Tree → Ask → CauseSet
+causes t ask = with_room (plain_causes t ask) (outcome t ask)
+
+-- ---- what the reply to a request says
+
+abbrev pub attributes_of : Told → Option Attrs
+attributes_of (attributes shown) = shown
+attributes_of (name bytes) = None
+attributes_of done = None
+
+abbrev pub name_of : Told → Option (List ℕ)
+name_of (name bytes) = bytes
+name_of (attributes shown) = None
+name_of done = None
+
+-- the attributes of the node that its path leads to
+unfoldable pub shown_to : Tree → Ask → Option Attrs
+shown_to t ask = led_to None (led t ask) (λ place. attributes_of (told_at t ask place))
+
+-- the target of the link that its path leads to
+unfoldable pub target_to : Tree → Ask → Option (List ℕ)
+target_to t ask = led_to None (led t ask) (λ place. name_of (told_at t ask place))
+
+-- the text of the place that its path leads to
+unfoldable pub text_to : Tree → Ask → Option (List ℕ)
+text_to t ask = led_to None (led t ask) (λ place. name_of (told_at t ask place))
