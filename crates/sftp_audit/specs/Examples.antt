@@ -132,8 +132,7 @@ abbrev pub opendir_of_nothing : List Event
 opendir_of_nothing = open_directory 1 (codes "/a") ∷ status 1 2 ∷ []
 
 -- the link `/l` to `x y` is made and looked at: READLINK is answered with these names, STAT says that there is no such
--- file, and LSTAT
--- is answered with these attributes
+-- file, and LSTAT is answered with these attributes
 abbrev pub link_session : List (List ℕ) → Attrs → List Event
 link_session names attrs =
     symlink 1 (codes "x y") (codes "/l") ∷ status 1 0 ∷ read_link 2 (codes "/l") ∷ name_reply 2 names

@@ -1,6 +1,6 @@
--- When a session is explained: each reply answers one earlier request, each request is answered within the
--- window, and doing the requests one at a time in the order asked makes every reply one that is allowed
--- (draft-ietf-secsh-filexfer-02, section 6.1). The window is this profile's own.
+-- When a tree explains a session: replies pair off with earlier requests, none later than the window permits, and the
+-- requests, carried out singly and in sequence, allow these replies (draft-ietf-secsh-filexfer-02, section 6.1). The
+-- window is this profile's own.
 use Rattle.std.specs.Prelude.{◌≡◌, ◌==◌, ◌&&◌, nat_lt, ℕ, suc, Bool, true, if◌then◌else◌, List, [], ◌∷◌, Option, Some}
 use Rattle.std.specs.Prelude.{None, IsTrue}
 use Rattle.sftp_wire.specs.declared.packets.Request.{Request}
@@ -8,7 +8,7 @@ use Rattle.sftp_wire.specs.declared.packets.Reply.{Reply}
 use Rattle.sftp_audit.specs.declared.events.Event.{Event}
 use Rattle.sftp_audit.specs.declared.events.Event.TheVariants.{Asked, Replied}
 
--- ---- turns: of each id, requests and replies take turns, beginning with a request and ending with a reply
+-- ---- turns: with each id, a request is followed by its reply before the next request comes
 
 pub data Turn : Type 0 where
   -- a request may come

@@ -1,6 +1,5 @@
--- The ledger of a session: each request so far in the order asked, with its reply if there is one. It says of the
--- events
--- so far all that matters for what comes later.
+-- The ledger of a session: each request so far in the order asked, with its reply if there is one. It says all of the
+-- events so far that matters for what comes later.
 use Rattle.std.specs.Prelude.{◌≡◌, ◌==◌, ◌&&◌, ◌||◌, nat_lt, ℕ, ◌+◌, ◌<◌, ◌≤◌, Bool, true, false, if◌then◌else◌, List}
 use Rattle.std.specs.Prelude.{[], ◌∷◌, ◌++◌, Option, Some, None, IsTrue, length, take, slice_get, nat_eq}
 use Rattle.std.specs.List.{AllByRecursion}

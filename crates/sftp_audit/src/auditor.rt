@@ -24,9 +24,9 @@ pub struct Accepted {
 /// Says whether a tree allows every reply of a recorded session, in whatever order the replies came, and what
 /// tree the session ends in.
 ///
-/// It accepts exactly if the bytes of the tree file are a tree, those of the transcript file record a session, each
-/// reply answers one earlier request, each request is answered before 1,024 more are asked, and doing the requests one
-/// at a time in the order asked makes every reply one that the tree allows (draft-ietf-secsh-filexfer-02, section 6.1).
+/// It accepts exactly if the bytes of the tree file are a tree, those of the transcript file record a session, the
+/// replies pair off with earlier requests, each within 1,024 requests, and the tree allows each reply when the requests
+/// are carried out singly and in sequence (draft-ietf-secsh-filexfer-02, section 6.1).
 ///
 /// # Errors
 ///
@@ -35,7 +35,7 @@ pub struct Accepted {
 /// - `Tree` if the bytes are not a tree file; the fault is the first one from left to right.
 /// - `Transcript` if the tree file is good, but the bytes are not a transcript file or record a request that cannot be
 ///   judged yet; the fault is the first one from left to right.
-/// - `Refused` if both files are good and the tree does not explain the session.
+/// - `Refused` if the tree file is good and the tree does not explain the session.
 /// - `NoMemory` if memory ran out. The other errors never have `NoMemory` inside.
 pub fn audit(alloc: Global, tree: &[u8], transcript: &[u8]) -> Result<Accepted, AuditError>
     // An accepted session accounts for a run, and the result is the tree where it ends.

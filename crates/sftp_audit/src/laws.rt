@@ -20,8 +20,8 @@ pub fn one_end()
         Explained Allowed t events a → Explained Allowed t events b → a ≡ b }
 {}
 
-/// Each request that can be judged has a reply that is allowed and that can be encoded. The request is one that can be
-/// encoded, and the tree is well formed and within the limits, as every tree of the program is.
+/// Each request that can be judged has a reply that is allowed and that can be encoded. The tree is well formed and
+/// within the limits, as every tree of the program is.
 pub fn some_reply()
     ensures { (t : Tree) (request : Request) → IsKept t → IsAskable request → IsAnswerable t request }
 {

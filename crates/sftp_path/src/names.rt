@@ -18,7 +18,7 @@ pub(crate) const NAME_LIMIT: usize = 255;
 /// The byte that no path holds.
 pub(crate) const NUL: u8 = b'\0';
 
-/// One name of a directory's entry: 1 to 255 bytes, no byte 0, no `/`, and neither `.` nor `..`.
+/// One name of a directory's entry: from 1 to 255 bytes other than 0 and `/`, but not `.` and not `..`.
 #[derive(Debug, Drop)]
 pub struct Name {
     bytes: Vec<u8>,
@@ -123,7 +123,7 @@ impl Ord for Name {
     }
 }
 
-/// Whether these bytes are a name: 1 to 255 bytes, no byte 0, no `/`, and neither `.` nor `..`.
+/// Whether these bytes are a name: from 1 to 255 of them, none 0 or `/`, but not `.` and not `..`.
 pub fn is_name(component: &[u8]) -> bool
     ensures { result ≡ spec.is_name component.now }
 {

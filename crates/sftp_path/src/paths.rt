@@ -9,7 +9,7 @@ use thiserror::Error;
 /// The most bytes of a path. The limit is this profile's own.
 const PATH_LIMIT: usize = 4096;
 
-/// The path is bad: a byte 0, more than 4,096 bytes, or a component of more than 255.
+/// The path is bad: longer than 4,096 bytes, with a component longer than 255, or with a byte 0.
 #[derive(Clone, Copy, Debug, PartialEq, Eq, Error)]
 #[error("bad path")]
 pub struct BadPath;

@@ -73,7 +73,7 @@ walk_parts behind names follow at (component ∷ rest) =
     going_on (meets names follow at component (is_last rest)) (λ place. walk_parts behind names follow place rest) (λ target. behind at target rest) Ok Err
 
 -- The place to which the components lead from a directory, or why they lead nowhere. So many links are followed;
--- one more is a loop. A link is replaced by its target's components, in front of the rest.
+-- one more is a loop. Behind a link, the target's components come first, and then the rest.
 unfoldable pub walk : Names → Bool → ℕ → Place → List Name → Result Place Cause
 walk names follow zero at path = walk_parts (λ at target rest. Err Loop) names follow at path
 walk names follow (suc left) at path = walk_parts (λ at target rest. walk names follow left (start_of at target) (components target ++ rest)) names follow at path

@@ -46,7 +46,7 @@ pub data Leads (names : Names) (follow : Bool) : ℕ → Place → List Name →
   -- a last link is the answer of a walk that does not follow it
   finds_link : (left : ℕ) (at : Place) (name : Name) (target : List ℕ) → IsPlain name →
       follow ≡ false → node_at names (at ++ name ∷ []) ≡ Some (Link target) → Leads names follow left at (name ∷ []) (Ok (at ++ name ∷ []))
-  -- any other link is replaced by its target's components, in front of the rest
+  -- behind any other link, the target's components come first, and then the rest
   goes_through : (left : ℕ) (at : Place) (name : Name) (rest : List Name) (answer : Result Place Cause) (target : List ℕ) → IsPlain name →
       GoesThrough follow rest → node_at names (at ++ name ∷ []) ≡ Some (Link target) →
       Leads names follow left (start_of at target) (components target ++ rest) answer → Leads names follow (suc left) at (name ∷ rest) answer

@@ -11,14 +11,14 @@ use thiserror::Error;
 /// Why a request is refused: a row of the status table.
 #[derive(Clone, Copy, Debug, PartialEq, Eq, Error)]
 pub enum Cause {
-    /// A path has a byte 0, more than 4,096 bytes, or a component of more than 255, or the target of a new link is
-    /// empty.
+    /// A path, or the target of a new link, is longer than 4,096 bytes, has a component longer than 255, or has a byte 0;
+    /// or that target is empty.
     #[error("BadPath")]
     BadPath,
-    /// The entry that is needed, or a directory on the way to it, does not exist.
+    /// The request needs something that does not exist, or the walk does.
     #[error("NoEntry")]
     NoEntry,
-    /// The node where a directory is needed is not one.
+    /// There is something other than a directory, and the request or the walk needs one.
     #[error("NotDir")]
     NotDir,
     /// More than 40 links on the way.
@@ -36,7 +36,7 @@ pub enum Cause {
     /// The request gives a further name or a size to a node that is not a file.
     #[error("NotFile")]
     NotFile,
-    /// A directory that must be empty is not.
+    /// A directory would be removed or replaced, and is not empty.
     #[error("NotEmpty")]
     NotEmpty,
     /// The root would be removed, moved or replaced.

@@ -79,7 +79,7 @@ pub fn walks_are_by_the_rules()
         Leads names follow left at path answer ↔ (walk names follow left at path ≡ answer) }
 {}
 
-/// A walk over a path of a tree within the limits looks at no more than 84,032 components.
+/// In a tree within the limits, 84,032 components are the most that the walk of a good path looks at.
 pub fn walks_end()
     ensures { (t : Tree) (follow : Bool) (path : List ℕ) → IsKept t → IsTrue (is_good_path path) →
         looked t.names follow link_limit [] (steps_of t path) ≤ looked_limit }

@@ -25,7 +25,7 @@ pub enum TreeError {
     /// The path does not come after the one before it.
     #[error("entry {entry}: Order")]
     Order { entry: u32 },
-    /// The parent is neither the root nor an earlier directory.
+    /// No earlier entry is the directory that the path is in, and it is not in the root.
     #[error("entry {entry}: Parent")]
     Parent { entry: u32 },
     /// Memory ran out.

@@ -32,7 +32,7 @@ pub enum Kind {
 /// An entry below the root.
 #[derive(Debug, Drop)]
 pub struct Row {
-    /// The absolute text of its place: 1 to 64 names, a `/` before each.
+    /// Its place as a path from the root: 64 names at most, and not the root's. Each has a `/` before it.
     pub path: ByteString,
     pub kind: Kind,
 }

@@ -1,4 +1,4 @@
--- Words of the worked rows: bytes in hexadecimal, packets with their bytes, attributes without a field, and the
+-- Words of the worked examples: bytes in hexadecimal, packets with their bytes, attributes without a field, and the
 -- extensions that the server offers.
 use Rattle.std.specs.Prelude.{◌≡◌, ◌==◌, nat_lt, not, ℕ, ◌+◌, ◌-◌, ◌*◌, if◌then◌else◌}
 use Rattle.std.specs.Prelude.{List, [], ◌∷◌, length, filter, codes, Some, None, Ok}

@@ -37,7 +37,7 @@ room_of s = if is_some s.fault then 0 else packet_limit - length s.held
 
 -- ---- what a call returns, and what the buffer holds then
 
--- `push` takes as many bytes as there is room for: how many it takes, and what the buffer holds then
+-- `push` fills the room from the front of the bytes: how many it takes, and what the buffer holds then
 abbrev pub push_of : Frames → List ℕ → ℕ × Frames
 push_of s bytes =
     (let taken = min (room_of s) (length bytes) in
@@ -111,8 +111,7 @@ all_out (step ∷ steps) = bytes_out step.0 ++ all_out steps
 
 -- ---- the bytes of the packet in front
 
--- the bytes of the packet in front, its length field included, where its length is in range and all of them have come
--- (draft, section 3)
+-- the packet in front, length field and all, once it is complete; none if its length is out of range (draft, section 3)
 unfoldable pub whole_of : List ℕ → Option (List ℕ)
 whole_of bytes =
     if nat_lt (length bytes) 4 then None else

@@ -81,7 +81,7 @@ fn append(store: &mut Vec<u8>, start: usize, more: &[u8]) -> usize
     first
 }
 
-/// The bytes of the packet in front, where its length is in range and all of them have come.
+/// The packet in front, length field and all, once it is complete; `None` also if its length is out of range.
 #[tactic(auto, unfolding(crate::specs::Framing::whole_of))]
 fn whole(bytes: &[u8]) -> Option<&[u8]>
     ensures { option_copied result ≡ whole_of bytes.now }
@@ -100,7 +100,7 @@ impl FrameBuf {
     ///
     /// # Errors
     ///
-    /// `NoMemory` where memory runs out.
+    /// `NoMemory` if memory runs out.
     pub fn new(alloc: Global) -> Result<FrameBuf, WireError>
         ensures empty { IfOk result (λ frames. frames ≡ no_frames) }
         ensures err { IfErr result (λ error. error ≡ WireError.NoMemory) }
@@ -166,7 +166,7 @@ impl FrameBuf {
     /// # Errors
     ///
     /// `Unreadable` with the first fault from the left and the place in the stream of its packet's first byte. A fault
-    /// is permanent: each later call returns it again. `NoMemory` where memory runs out; then nothing changes. Never
+    /// is permanent: each later call returns it again. `NoMemory` if memory runs out; then nothing changes. Never
     /// `TooLong`.
     pub fn next(&mut self, side: Side) -> Result<Option<Packet>, WireError>
         ensures exact { IsStep self.old (Step.Next side result) self.new }

@@ -31,7 +31,7 @@ impl ByteString {
     ///
     /// # Errors
     ///
-    /// `AllocError` where memory runs out.
+    /// `AllocError` if memory runs out.
     pub fn from_slice(alloc: Global, bytes: &[u8]) -> Result<ByteString, AllocError>
         ensures { IfOk result (λ string. string ≡ bytes.now) }
     {

@@ -557,7 +557,7 @@ fn put_packet(out: &mut Vec<u8>, size: u32, packet: &Packet) -> Result<(), Alloc
 ///
 /// In this order: `TooLong` exactly where the whole packet would have more than `PACKET_LIMIT` bytes or its handle has
 /// more than `HANDLE_LIMIT`; `NotCanonical` exactly where an `Unknown` has the name of an extension that has a request
-/// of its own; `NoMemory` where memory runs out. The first two are checked before any memory is taken, so `NoMemory`
+/// of its own; `NoMemory` if memory runs out. The first two are checked before any memory is taken, so `NoMemory`
 /// comes only for a packet that has a spelling.
 #[tactic(auto, unfolding(crate::specs::Spelling::spelling))]
 pub fn encode(packet: &Packet, out: &mut Vec<u8>) -> Result<(), WireError>

@@ -214,10 +214,6 @@ real_path_answered walks t id path kept small bytes free =
 
 -- ---- each request
 
-are_bytes-by : (bytes : List ℕ) → AreBytes bytes → are_bytes bytes ≡ true
-are_bytes-by [] all = refl
-are_bytes-by (b ∷ bytes) all = rw (lt-ltb b 256 all.0) (are_bytes-by bytes all.1)
-
 done_answered : (t : Tree) (id : ℕ) (ask : Ask) → id < 2 ^ 32 → IsTrue (has_step ask) → IsFree t ask
     → IsTrue (answers t ask (replies.Status 0 [] [])) → IsAnswerable t (request_of id ask)
 done_answered t id ask small judged free done =
@@ -226,28 +222,28 @@ done_answered t id ask small judged free done =
 free_answered : WalksGivePlaces → (t : Tree) (id : ℕ) (ask : Ask) → IsKept t → IsAskable (request_of id ask)
     → IsFree t ask → IsAnswerable t (request_of id ask)
 free_answered walks t id (Mkdir path attrs) kept askable free =
-    done_answered t id (Mkdir path attrs) askable.spelled.fields.0 refl free refl
+    done_answered t id (Mkdir path attrs) askable.id refl free refl
 free_answered walks t id (Rmdir path) kept askable free =
-    done_answered t id (Rmdir path) askable.spelled.fields.0 refl free refl
+    done_answered t id (Rmdir path) askable.id refl free refl
 free_answered walks t id (Remove path) kept askable free =
-    done_answered t id (Remove path) askable.spelled.fields.0 refl free refl
+    done_answered t id (Remove path) askable.id refl free refl
 free_answered walks t id (Setstat path attrs) kept askable free =
-    done_answered t id (Setstat path attrs) askable.spelled.fields.0 refl free refl
+    done_answered t id (Setstat path attrs) askable.id refl free refl
 free_answered walks t id (Rename oldpath newpath) kept askable free =
-    done_answered t id (Rename oldpath newpath) askable.spelled.fields.0 refl free refl
+    done_answered t id (Rename oldpath newpath) askable.id refl free refl
 free_answered walks t id (PosixRename oldpath newpath) kept askable free =
-    done_answered t id (PosixRename oldpath newpath) askable.spelled.fields.0 refl free refl
+    done_answered t id (PosixRename oldpath newpath) askable.id refl free refl
 free_answered walks t id (Hardlink oldpath newpath) kept askable free =
-    done_answered t id (Hardlink oldpath newpath) askable.spelled.fields.0 refl free refl
+    done_answered t id (Hardlink oldpath newpath) askable.id refl free refl
 free_answered walks t id (Symlink linktarget link) kept askable free =
-    done_answered t id (Symlink linktarget link) askable.spelled.fields.0 refl free refl
-free_answered walks t id (Stat path) kept askable free = stat_answered t id path kept askable.spelled.fields.0 free
-free_answered walks t id (Lstat path) kept askable free = lstat_answered t id path kept askable.spelled.fields.0 free
+    done_answered t id (Symlink linktarget link) askable.id refl free refl
+free_answered walks t id (Stat path) kept askable free = stat_answered t id path kept askable.id free
+free_answered walks t id (Lstat path) kept askable free = lstat_answered t id path kept askable.id free
 free_answered walks t id (Readlink path) kept askable free =
-    read_link_answered t id path kept askable.spelled.fields.0 free
+    read_link_answered t id path kept askable.id free
 free_answered walks t id (Realpath path) kept askable free =
-    real_path_answered walks t id path kept askable.spelled.fields.0
-    (are_bytes-by path askable.spelled.fields.1.bytes_fit) free
+    real_path_answered walks t id path kept askable.id
+    askable.path free
 free_answered walks t id other kept askable free = absurd (let judged = askable.judged in cc)
 
 refused_answered : (t : Tree) (id : ℕ) (ask : Ask) → IsAskable (request_of id ask)
@@ -259,7 +255,7 @@ refused_answered t id ask askable one =
       end = t;
       allowed =
           record { judged = askable.judged; same_id = refl; step = inl (record { cause = found.2; unchanged = refl }) };
-      spelled = status_spelled id found.0 askable.spelled.fields.0 found.1;
+      spelled = status_spelled id found.0 askable.id found.1;
     }
 
 pub some_allowed : WalksGivePlaces → (t : Tree) (request : Request) → IsKept t → IsAskable request

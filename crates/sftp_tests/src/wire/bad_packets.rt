@@ -240,7 +240,7 @@ const ROWS: &[(Side, &[u8], Fault)] = &[
         \0\0\0\0\0\0\0\0\0\0\0\x20",
         Fault::Flags,
     ),
-    // The length of a handle is judged before its bytes are looked for, on both sides.
+    // A handle that is too long is the fault on both sides, also if its bytes have not come.
     (
         Side::Client,
         b"\0\0\0\x0d\x04\0\0\0\x01\0\0\x01\x01\0\0\0\0",
