@@ -31,9 +31,4 @@ fits-parts t h =
 
 pub fits-from : (t : Tree) → Fits t → IsTrue (fits t)
 unfolding fits
-fits-from t h =
-    and_from (entries_fit t) (depths_fit t && (home_fits t && (links_fit t && (files_fit t && numbers_fit t)))) h.entries
-    (and_from (depths_fit t) (home_fits t && (links_fit t && (files_fit t && numbers_fit t))) h.depths
-    (and_from (home_fits t) (links_fit t && (files_fit t && numbers_fit t)) h.home
-    (and_from (links_fit t) (files_fit t && numbers_fit t) h.links
-    (and_from (files_fit t) (numbers_fit t) h.files h.numbers))))
+fits-from t h = cc

@@ -192,8 +192,7 @@ read-link t path place free leads = link-place (node_at t.names place) (free-at 
 
 pub link-told : (t : Tree) (path given : List ℕ) (place : Place) (goal : List ℕ) → led t (Readlink path) ≡ Some (Ok place) → target_of (node_at t.names place) ≡ Some goal → given ≡ goal → target_to t (Readlink path) ≡ Some given
 unfolding target_to
-link-told t path given place goal leads there is =
-    ap (λ o. led_to None o (λ place. target_of (node_at t.names place))) leads ∙ there ∙ ap Some (sym is)
+link-told t path given place goal leads there is = cc
 
 pub path-told : (t : Tree) (path text : List ℕ) (place : Place) → led t (Realpath path) ≡ Some (Ok place) → text ≡ absolute place → text_to t (Realpath path) ≡ Some text
 unfolding text_to
