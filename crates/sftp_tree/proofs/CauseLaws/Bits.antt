@@ -1,3 +1,4 @@
+use Rattle.std.proofs.Common.{rules}
 -- Sets of causes as bits.
 use Rattle.std.proofs.Common.{◌≡◌, ◌≢◌, ◌==◌, ◌<◌, ℕ, ◌*◌, ◌%◌, ◌^◌, Bool, true, false, ◌&&◌, ◌||◌, cond, refl, sym, ap, ◌∙◌, lit<, arith}
 use Rattle.std.specs.Int.{bit_at, w16}
@@ -25,11 +26,7 @@ none-set = λ i c. bit_at-zero (row c) i == 1
 -- a bit that is not set
 pub when-not : (s : Causes) (one : Cause) → in_set s ≡ when (in_set s) one false
 unfolding when
-when-not s one = λ i c. by (row one == row c) (in_set s c) i
-  where
-    by : (same here : Bool) → here ≡ (same && false || here)
-    by true here = refl
-    by false here = refl
+when-not s one = search rules
 
 -- a bit that is set
 pub when-set : (s : Causes) (one : Cause) → in_set (record { bits = bit_or s.bits (1 * 2 ^ row one % 2 ^ 16) }) ≡ when (in_set s) one true

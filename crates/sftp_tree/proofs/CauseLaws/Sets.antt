@@ -1,3 +1,4 @@
+use Rattle.std.proofs.Common.{rules}
 -- Sets of causes: what is in none, and `NoRoom`.
 use Rattle.std.proofs.Common.{◌≡◌, ℕ, zero, suc, Bool, true, false, ◌==◌, ◌&&◌, ◌||◌, not, List, [], ◌∷◌, refl, sym, ap, ◌∙◌, IsTrue}
 use Rattle.std.specs.List.{list_any}
@@ -29,22 +30,14 @@ none-at set (c ∷ cs) (suc n) other none last = none-at set cs n other (or_part
 
 -- where no cause is in a set, none of them is
 pub none-each : (set : CauseSet) → IsTrue (is_none set) → (c : Cause) → set c ≡ false
-none-each set none c =
-    let empty = not-true (list_any set every_cause) none in
-    ap set (sym (listed c)) ∙ none-at set every_cause (row c) BadPath empty (or_parts (set BadPath) _ empty).0
+none-each set none c = search rules
 
 pub each-none : (set : CauseSet) → ((c : Cause) → set c ≡ false) → is_none set ≡ true
 each-none set none = λ i. is_none (λ c. none c i)
 
 -- one that is in a set is found
 pub some-found : (set : CauseSet) (c : Cause) → set c ≡ true → list_any set every_cause ≡ true
-some-found set c holds = by (list_any set every_cause) refl
-  where
-    by : (b : Bool) → list_any set every_cause ≡ b → b ≡ true
-    by true is = refl
-    by false is =
-        let none = none-each set (ap not is) c in
-        cc
+some-found set c holds = search rules
 
 pub only-itself : (c : Cause) → only c c ≡ true
 only-itself c = eq-eqb (row c) (row c) refl
@@ -58,17 +51,12 @@ pub record IsFreeOf (plain : CauseSet) (asked : Tree) : Type 0 where
 
 pub free-of : (plain : CauseSet) (asked : Tree) → IsTrue (is_none (with_room plain asked)) → IsFreeOf plain asked
 unfolding when
-free-of plain asked free =
-    let each : (c : Cause) → (only NoRoom c && (is_none plain && not (fits asked)) || plain c) ≡ false = none-each (with_room plain asked) free in
-    let none : (c : Cause) → plain c ≡ false = λ c. (or_parts (only NoRoom c && (is_none plain && not (fits asked))) (plain c) (each c)).1 in
-    let here = (or_parts (is_none plain && not (fits asked)) (plain NoRoom) (each NoRoom)).0 in
-    record { none = none; room = not-false (fits asked) (ap (λ b. b && not (fits asked)) (sym (each-none plain none)) ∙ here) }
+free-of plain asked free = search rules
 
 -- a cause that is in the set is in it with `NoRoom` too
 pub in-plain : (plain : CauseSet) (asked : Tree) (c : Cause) → plain c ≡ true → with_room plain asked c ≡ true
 unfolding when
-in-plain plain asked c holds =
-    ap (λ b. only NoRoom c && (is_none plain && not (fits asked)) || b) holds ∙ or-true (only NoRoom c && (is_none plain && not (fits asked)))
+in-plain plain asked c holds = search rules
 
 -- where no cause is in a set with a cause more, none is in the set
 pub fewer : (set : CauseSet) (one : Cause) (holds : Bool) → ((c : Cause) → when set one holds c ≡ false) → (c : Cause)

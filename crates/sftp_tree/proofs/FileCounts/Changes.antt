@@ -1,3 +1,4 @@
+use Rattle.std.proofs.Common.{rules}
 -- Files that are changed one at a time: what a call on the map makes of them.
 use Rattle.std.proofs.Common.{◌≡◌, ◌≢◌, ℕ, ◌-◌, Bool, true, false, refl, sym, ap, ◌∙◌, arith, Option, Some, None, is_some, IsSome, cond, option_and_then, nat_le, if◌then◌else◌}
 use Rattle.std.proofs.lemmas.Bool.Decides.{nat_tests}
@@ -14,11 +15,7 @@ use Rattle.sftp_tree.specs.StoredFiles.{IsChanged, without_a_name}
 
 -- numbers that differ do not tie
 pub numbers-apart : (number other : ℕ) → other ≢ number → is_eq (nat_cmp number other) ≡ false
-numbers-apart number other differ = by (is_eq (nat_cmp number other)) refl
-  where
-    by : (b : Bool) → is_eq (nat_cmp number other) ≡ b → is_eq (nat_cmp number other) ≡ false
-    by true same = absurd (differ (sym (nat_cmp-IsAntisymmetric number other ((Equal-is (nat_cmp number other)).0 same))))
-    by false apart = apart
+numbers-apart number other differ = search rules
 
 module _ (change : Stored → Option Stored) (number : ℕ) where
   -- nothing is changed where there is no file

@@ -1,3 +1,4 @@
+use Rattle.std.proofs.Common.{rules}
 -- Trees as the code has them: what a change of the names and of the counts makes of them.
 use Rattle.std.proofs.Common.{◌≡◌, ℕ, ◌+◌, ◌-◌, ◌<◌, ◌≤◌, ◌^◌, true, false, ◌&&◌, ◌||◌, not, [], unwrap_or, nat_lt, nat_le, option_map, length, refl, sym, ap, subst, ◌∙◌, arith, Option, Some, None, IfSome, IsTrue}
 use Rattle.std.specs.Ordering.{nat_cmp}
@@ -64,12 +65,7 @@ named-at_most names number =
 
 few-entries : (t : Tree) → IsKept t → length t.names ≤ usual_limits.entries + 1
 unfolding fits
-few-entries t kept =
-    let few : entries_fit t ≡ true = first_so (entries_fit t) (depths_fit t && (home_fits t && (links_fit t && (files_fit t && numbers_fit t)))) kept.within_limits in
-    at_most (length t.names) (subst (λ (bounds : TreeLimits). nat_le (length t.names - 1) bounds.entries ≡ true) kept.well_formed.limits few)
-  where
-    at_most : (n : ℕ) → nat_le (n - 1) usual_limits.entries ≡ true → n ≤ usual_limits.entries + 1
-    at_most n few = grind (arith, nat_tests)
+few-entries t kept = search rules
 
 -- there is room for a further name in each count
 pub room-to-count : (t : Tree) (files : Table ℕ Stored) → IsKept t → AreCounted t.names files → (named : Option ℕ) → IfSome named (λ number. IfSome (get nat_cmp files number) (λ s. s.names + 1 < 2 ^ 32))

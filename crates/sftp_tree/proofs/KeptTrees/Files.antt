@@ -1,3 +1,4 @@
+use Rattle.std.proofs.Common.{rules}
 -- Files and their numbers, in the trees that requests ask for: none is made, and each is removed with its last name.
 use Rattle.std.proofs.Common.{◌≡◌, ◌≢◌, ◌<◌, ◌≤◌, ℕ, ◌||◌, Bool, true, false, cond, refl, sym, ap, subst, ◌∙◌, arith, Option, Some, None, is_some, nat_lt, Result, Ok, Err, IsTrue, if◌then◌else◌, inl, inr}
 use Rattle.std.specs.Prelude.{◌⊎◌, ◌↔◌}
@@ -122,9 +123,7 @@ pub content-after : (t : Tree) (ask : Ask) (number : ℕ) → WellFormed t → c
 content-after t ask number well = content-left (outcome t ask) (is_pinned (outcome t ask).pins) number (numbered-outcome t ask well.numbered)
 
 none-left : (n : ℕ) → nat_lt 0 n ≡ false → n ≡ 0
-none-left n none =
-    let few = ltb-false 0 n none in
-    omega arith
+none-left n none = search rules
 
 gone-by : (n p : ℕ) (b : Bool) (o : Option Content) → (nat_lt 0 n || nat_lt 0 p) ≡ b → ((if b then o else None) ≡ None) ↔ ((o ≡ None) ⊎ ((n ≡ 0) × (p ≡ 0)))
 gone-by n p true o is = (λ gone. inl gone, λ either. elim either [ inl gone ↦ gone | inr none ↦ absurd (both_ways (nat_lt 0 n || nat_lt 0 p) (λ i. nat_lt 0 (none.0 i) || nat_lt 0 (none.1 i)) is) ])

@@ -1,3 +1,4 @@
+use Rattle.std.proofs.Common.{rules}
 -- How each change of a tree bears on each of its limits.
 use Rattle.std.proofs.Common.{◌≡◌, ℕ, ◌+◌, ◌-◌, ◌≤◌, true, ◌&&◌, length, ap, arith, Some, None, nat_le, IsTrue}
 use Rattle.std.specs.Ordering.{nat_cmp}
@@ -20,8 +21,7 @@ use Rattle.sftp_tree.proofs.PlaceTables.Removals.{length-without}
 -- ---- an entry at a new place
 
 pub more-entries : (n m limit : ℕ) → m ≡ n + 1 → nat_le (m - 1) limit ≡ nat_le n limit
-more-entries n m limit one_more =
-    let same : m - 1 ≡ n = omega arith in ap (λ k. nat_le k limit) same
+more-entries n m limit one_more = search rules
 
 pub entries-with : (t : Tree) (place : Place) (it : Node) → node_at t.names place ≡ None → entries_fit (record t { names = with_node t.names place it }) ≡ nat_le (length t.names) (limits t).entries
 entries-with t place it absent = more-entries (length t.names) (length (with_node t.names place it)) (limits t).entries (size-put place_cmp t.names place it absent)

@@ -1,3 +1,4 @@
+use Rattle.std.proofs.Common.{rules}
 -- Which changes of a tree keep to its limits: an entry more or less, another owner, another content.
 use Rattle.std.proofs.Common.{◌≡◌, ℕ, ◌-◌, Bool, true, false, ◌&&◌, length, refl, sym, ◌∙◌, ap, Some, None, nat_le, IsTrue}
 use Rattle.std.specs.Ordering.{nat_cmp}
@@ -20,14 +21,7 @@ use Rattle.sftp_tree.proofs.WellFormedTrees.Found.{found-passes}
 -- with other entries
 pub fits-names : (t : Tree) (names : Names) (entries depths links : Bool) → Fits t → entries_fit (record t { names = names }) ≡ entries → depths_fit (record t { names = names }) ≡ depths → links_fit (record t { names = names }) ≡ links → fits (record t { names = names }) ≡ (entries && (depths && links))
 unfolding fits
-fits-names t names entries depths links fit one two three =
-    (λ i. one i && (two i && (fit.home i && (three i && (fit.files i && fit.numbers i))))) ∙ by entries depths links
-  where
-    by : (a b d : Bool) → (a && (b && (true && (d && (true && true))))) ≡ (a && (b && d))
-    by true true true = refl
-    by true true false = refl
-    by true false d = refl
-    by false b d = refl
+fits-names t names entries depths links fit one two three = search rules
 
 -- ---- one entry more
 

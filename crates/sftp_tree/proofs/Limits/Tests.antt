@@ -1,3 +1,4 @@
+use Rattle.std.proofs.Common.{rules}
 -- Trees within the limits, and the parts of the test whether a tree is.
 use Rattle.std.proofs.Common.{◌≡◌, true, ◌&&◌, IsTrue}
 use Rattle.std.proofs.lemmas.Bool.{and_parts, and_from}
@@ -21,19 +22,8 @@ pub record Fits (t : Tree) : Type 0 where
 
 pub fits-parts : (t : Tree) → IsTrue (fits t) → Fits t
 unfolding fits
-fits-parts t h =
-    let a = and_parts (entries_fit t) (depths_fit t && (home_fits t && (links_fit t && (files_fit t && numbers_fit t)))) h in
-    let b = and_parts (depths_fit t) (home_fits t && (links_fit t && (files_fit t && numbers_fit t))) a.1 in
-    let c = and_parts (home_fits t) (links_fit t && (files_fit t && numbers_fit t)) b.1 in
-    let d = and_parts (links_fit t) (files_fit t && numbers_fit t) c.1 in
-    let e = and_parts (files_fit t) (numbers_fit t) d.1 in
-    record { entries = a.0; depths = b.0; home = c.0; links = d.0; files = e.0; numbers = e.1 }
+fits-parts t h = search rules
 
 pub fits-from : (t : Tree) → Fits t → IsTrue (fits t)
 unfolding fits
-fits-from t h =
-    and_from (entries_fit t) (depths_fit t && (home_fits t && (links_fit t && (files_fit t && numbers_fit t)))) h.entries
-    (and_from (depths_fit t) (home_fits t && (links_fit t && (files_fit t && numbers_fit t))) h.depths
-    (and_from (home_fits t) (links_fit t && (files_fit t && numbers_fit t)) h.home
-    (and_from (links_fit t) (files_fit t && numbers_fit t) h.links
-    (and_from (files_fit t) (numbers_fit t) h.files h.numbers))))
+fits-from t h = cc

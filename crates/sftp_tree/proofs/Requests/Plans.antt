@@ -1,3 +1,4 @@
+use Rattle.std.proofs.Common.{rules}
 -- What is to be done for a request can be done, and leaves what it asks for.
 use Rattle.std.proofs.Common.{◌≡◌, Bool, true, false, ◌&&◌, ◌||◌, not, List, [], ◌∷◌, ℕ, suc, ◌<◌, get_or, refl, sym, subst, ◌∙◌, ap, Option, Some, None, IsTrue, if◌then◌else◌, Result, Ok, Err, IfOk}
 use Rattle.std.proofs.lemmas.Bool.{not-false, or_parts, lt-ltb}
@@ -65,9 +66,7 @@ can-remove-name t place kept none =
 -- ---- at the place that a path leads to
 
 done-put : (t : Tree) (place : Place) (it : Node) (plan : Plan) → IsPlaceOf t place → node_at t.names place ≡ None → IsNode t.files it → IsTrue (fits (changed t (Put place it))) → plan ≡ Put place it → IsDone t (changed t (Put place it)) plan
-done-put t place it plan well free is_node room is =
-    subst (IsDone t (changed t (Put place it))) (sym is)
-    (record { ready = record { absent = free; named = well.named; above = well.above; is_node = is_node; room = room }; done = refl })
+done-put t place it plan well free is_node room is = search rules
 
 done-set : (t : Tree) (attrs : Attrs) (place : Place) (path : List ℕ) (plan : Plan) → IsTrue (fits (outcome_at t (Setstat path attrs) place)) → IsPlanAt t (Setstat path attrs) place plan → IsDone t (outcome_at t (Setstat path attrs) place) plan
 done-set t attrs place path (Set at given) room is =
@@ -192,8 +191,7 @@ read-link t path place free leads = link-place (node_at t.names place) (free-at 
 
 pub link-told : (t : Tree) (path given : List ℕ) (place : Place) (goal : List ℕ) → led t (Readlink path) ≡ Some (Ok place) → target_of (node_at t.names place) ≡ Some goal → given ≡ goal → target_to t (Readlink path) ≡ Some given
 unfolding target_to
-link-told t path given place goal leads there is =
-    ap (λ o. led_to None o (λ place. target_of (node_at t.names place))) leads ∙ there ∙ ap Some (sym is)
+link-told t path given place goal leads there is = cc
 
 pub path-told : (t : Tree) (path text : List ℕ) (place : Place) → led t (Realpath path) ≡ Some (Ok place) → text ≡ absolute place → text_to t (Realpath path) ≡ Some text
 unfolding text_to

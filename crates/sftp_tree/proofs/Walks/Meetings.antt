@@ -63,9 +63,7 @@ dot_dot-not_dot (b ∷ c ∷ name) e = and_right (nat_eq b 46) false refl
 
 meets-if : (names : Names) (follow : Bool) (at : Place) (name : Name) (last : Bool) (dot dots : Bool) → is_dot name ≡ dot → is_dot_dot name ≡ dots → meets names follow at name last ≡ (if dot then enters at else if dots then enters (parent at) else met (node_at names (at ++ name ∷ [])) (at ++ name ∷ []) last follow)
 unfolding meets
-meets-if names follow at name last dot dots d dd =
-    ap (λ b. if b then enters at else if is_dot_dot name then enters (parent at) else met (node_at names (at ++ name ∷ [])) (at ++ name ∷ []) last follow) d
-    ∙ ap (λ b. if dot then enters at else if b then enters (parent at) else met (node_at names (at ++ name ∷ [])) (at ++ name ∷ []) last follow) dd
+meets-if names follow at name last dot dots d dd = cc
 
 pub meets-dot : (names : Names) (follow : Bool) (at : Place) (name : Name) (last : Bool) → is_dot name ≡ true → meets names follow at name last ≡ enters at
 meets-dot names follow at name last d = meets-if names follow at name last true (is_dot_dot name) d refl
@@ -104,8 +102,7 @@ target-steps t kept place target there = components-steps target (target-good t 
 
 -- a step that is neither `.` nor `..` is a name
 pub plain-is_name : (name : Name) → is_step name ≡ true → IsPlain name → is_name name ≡ true
-plain-is_name name step plain =
-    ap (λ b. b || is_name name) (sym plain.1) ∙ ap (λ b. b || (is_dot_dot name || is_name name)) (sym plain.0) ∙ step
+plain-is_name name step plain = cc
 
 -- what is left behind a link are steps
 pub steps-behind : (t : Tree) → IsKept t → (place : Place) (target : List ℕ) (rest : List Name) → node_at t.names place ≡ Some (Link target) → list_all is_step rest ≡ true → list_all is_step (components target ++ rest) ≡ true

@@ -69,14 +69,10 @@ behind_link-none names follow (suc left) at target rest none = cc
 
 -- with a link left
 pub behind_link-some : (names : Names) (follow : Bool) (left left' : ℕ) (at at' : Place) (target : List ℕ) (rest rest' : List Name) → left ≡ suc left' → at' ≡ start_of at target → rest' ≡ components target ++ rest → behind_link names follow left at target rest ≡ walk names follow left' at' rest'
-behind_link-some names follow left left' at at' target rest rest' some starts goes =
-    ap (λ n. behind_link names follow n at target rest) some
-    ∙ ap (λ p. walk names follow left' p (components target ++ rest)) (sym starts) ∙ ap (walk names follow left' at') (sym goes)
+behind_link-some names follow left left' at at' target rest rest' some starts goes = cc
 
 pub looked_behind-some : (names : Names) (follow : Bool) (left left' : ℕ) (at at' : Place) (target : List ℕ) (rest rest' : List Name) → left ≡ suc left' → at' ≡ start_of at target → rest' ≡ components target ++ rest → looked_behind names follow left at target rest ≡ looked names follow left' at' rest'
-looked_behind-some names follow left left' at at' target rest rest' some starts goes =
-    ap (λ n. looked_behind names follow n at target rest) some
-    ∙ ap (λ p. looked names follow left' p (components target ++ rest)) (sym starts) ∙ ap (looked names follow left' at') (sym goes)
+looked_behind-some names follow left left' at at' target rest rest' some starts goes = cc
 
 -- where the walk is at a link
 pub stays : (met : Met) (target : Bor (List ℕ)) (before after : Place) → StaysAtLink met before after → met ≡ Through target → after ≡ before
@@ -97,9 +93,7 @@ reached-bad t follow path bad = ap (λ b. if b then walk t.names follow link_lim
 
 -- the components that the code's walk goes over
 pub steps-absolute : (t : Tree) (path : List ℕ) (absolute : Bool) (home left : List Name) → absolute ≡ is_absolute path → absolute ≡ true → home ≡ [] → left ≡ components path → home ++ left ≡ steps_of t path
-steps-absolute t path absolute home left is so none parts =
-    ap (λ h. h ++ left) none ∙ parts ∙ ap (λ b. if b then components path else t.home ++ components path) (sym (sym is ∙ so))
+steps-absolute t path absolute home left is so none parts = cc
 
 pub steps-relative : (t : Tree) (path : List ℕ) (absolute : Bool) (home left : List Name) → absolute ≡ is_absolute path → absolute ≡ false → home ≡ t.home → left ≡ components path → home ++ left ≡ steps_of t path
-steps-relative t path absolute home left is so there parts =
-    ap (λ h. h ++ left) there ∙ ap (λ l. t.home ++ l) parts ∙ ap (λ b. if b then components path else t.home ++ components path) (sym (sym is ∙ so))
+steps-relative t path absolute home left is so there parts = cc

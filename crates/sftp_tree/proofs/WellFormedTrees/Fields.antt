@@ -1,3 +1,4 @@
+use Rattle.std.proofs.Common.{rules}
 -- Fields that fit their places on the wire, as parts of a tree: paths, owners and contents.
 use Rattle.std.proofs.Common.{ℕ, zero, suc, ◌<◌, ◌^◌, ◌%◌, ◌-◌, ◌&&◌, List, [], ◌∷◌, length, take, replicate, refl, ◌∙◌, arith, Option, Some, None, unwrap_or, IsTrue, lit<, nat_lt}
 use Rattle.std.specs.Option.{option_map, IfSome}
@@ -31,13 +32,11 @@ permissions-fit (Some p) otherwise small = omega arith
 
 -- of a new directory
 pub owner-fits : (t : Tree) (attrs : Attrs) → WellFormed t → FitsAttrs attrs → IsOwner (directory_owner t attrs)
-owner-fits t attrs well fits =
-    (first-fits attrs.owner t.uid fits.owner well.uid, second-fits attrs.owner t.gid fits.owner well.gid, permissions-fit attrs.permissions 0o755 (lit< tt))
+owner-fits t attrs well fits = search rules
 
 -- of what is there already
 pub changed-owner-fits : (attrs : Attrs) (owner : Owner) → FitsAttrs attrs → IsOwner owner → IsOwner (changed_owner attrs owner)
-changed-owner-fits attrs owner fits before =
-    (first-fits attrs.owner owner.uid fits.owner before.0, second-fits attrs.owner owner.gid fits.owner before.1, permissions-fit attrs.permissions owner.permissions before.2)
+changed-owner-fits attrs owner fits before = search rules
 
 -- ---- contents
 

@@ -1,3 +1,4 @@
+use Rattle.std.proofs.Common.{rules}
 use Rattle.std.proofs.Common.{◌≡◌, sym, ap, subst, ◌∙◌, Some}
 use Rattle.std.specs.Option.{option_copied_mut, IfSome}
 use Rattle.std.specs.Ordering.{nat_cmp}
@@ -16,8 +17,7 @@ use Rattle.sftp_tree.proofs.files.change_at.Goals as goal
 
 pub change-requires : goal.change-requires
 unfolding get
-change-requires c =
-    MatchOption-at_some _ (λ (s : Stored). IsOwner s.content.owner) c.in-Some.stored.now (sym c.in-Some.ensures.value) c.requires
+change-requires c = search rules
 
 pub returns-in_err-change-clause-err : goal.returns-in_err-change-clause-err
 returns-in_err-change-clause-err c =
@@ -39,10 +39,8 @@ returns-in_default-clause-ok c =
 
 pub returns-in_ok-change-clause-owned : goal.returns-in_ok-change-clause-owned
 unfolding get
-returns-in_ok-change-clause-owned c =
-    subst (λ o. IfSome o (λ (s : Stored). IsOwner (changed_owner c.args.attrs.now s.content.owner))) c.in-Some.ensures.value c.in_ok-change.ensures.owned
+returns-in_ok-change-clause-owned c = search rules
 
 pub returns-in_default-clause-owned : goal.returns-in_default-clause-owned
 unfolding get
-returns-in_default-clause-owned c =
-    subst (λ o. IfSome o (λ (s : Stored). IsOwner (changed_owner c.args.attrs.now s.content.owner))) (sym (sym c.get_mut.ensures.value ∙ ap option_copied_mut c.in_default.is)) tt
+returns-in_default-clause-owned c = search rules

@@ -1,3 +1,4 @@
+use Rattle.std.proofs.Common.{rules}
 use Rattle.std.proofs.Common.{◌-◌, ◌<◌, sym, ap, ◌∙◌, arith}
 use Rattle.std.specs.Option.{option_copied_mut}
 use Rattle.std.proofs.lemmas.Option.{MatchOption-at_some}
@@ -13,9 +14,7 @@ returns-in_default c =
 
 pub overflow_sub-stored : goal.overflow_sub-stored
 unfolding get
-overflow_sub-stored c =
-    let some : 0 < c.in-Some.stored.now.names = MatchOption-at_some _ (λ (s : Stored). 0 < s.names) c.in-Some.stored.now (sym c.in-Some.ensures.value) c.requires in
-    omega arith
+overflow_sub-stored c = search rules
 
 pub returns-then-stored-eq0 : goal.returns-then-stored-eq0
 returns-then-stored-eq0 c =

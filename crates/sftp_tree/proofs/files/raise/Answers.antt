@@ -1,3 +1,4 @@
+use Rattle.std.proofs.Common.{rules}
 use Rattle.std.proofs.Common.{sym, refl, ap, ◌∙◌, arith, ◌+◌, ◌<◌, ◌^◌}
 use Rattle.std.specs.Option.{option_copied_mut}
 use Rattle.std.proofs.lemmas.Option.{MatchOption-at_some}
@@ -9,9 +10,7 @@ use Rattle.sftp_tree.proofs.files.raise.Goals as goal
 
 pub overflow_add-stored : goal.overflow_add-stored
 unfolding get
-overflow_add-stored c =
-    let fits : c.in-Some.stored.now.names + 1 < 2 ^ 32 = MatchOption-at_some _ (λ (s : Stored). s.names + 1 < 2 ^ 32) c.in-Some.stored.now (sym c.in-Some.ensures.value) c.requires in
-    omega arith
+overflow_add-stored c = search rules
 
 pub returns-in-Some : goal.returns-in-Some
 returns-in-Some c =

@@ -1,3 +1,4 @@
+use Rattle.std.proofs.Common.{rules}
 use Rattle.std.proofs.Common.{◌≡◌, false, sym, ap, ◌∙◌, Some, None}
 use Rattle.std.specs.Option.{option_copied}
 use Rattle.sftp_path.specs.Table.{get, put, without}
@@ -7,10 +8,7 @@ use Rattle.sftp_tree.proofs.entries.moving.move_alone.Goals as goal
 
 pub unreachable-requires : goal.unreachable-requires
 unfolding get
-unreachable-requires c =
-    let none : node_at c.args.names.now.entries c.args.old.now ≡ None = sym c.get.ensures.value ∙ ap option_copied c.in_default.is in
-    let free : is_taken (node_at c.args.names.now.entries c.args.old.now) ≡ false = ap is_taken none in
-    cc
+unreachable-requires c = search rules
 
 pub returns-clause-gone : goal.returns-clause-gone
 unfolding get

@@ -1,3 +1,4 @@
+use Rattle.std.proofs.Common.{rules}
 use Rattle.std.proofs.Common.{◌≡◌, false, sym, ap, ◌∙◌, None, is_some}
 use Rattle.std.specs.Option.{option_copied_mut}
 use Rattle.sftp_path.specs.Place.{place_cmp}
@@ -13,7 +14,4 @@ returns-in-Some c =
 
 pub returns-in_default : goal.returns-in_default
 unfolding get
-returns-in_default c =
-    let none : node_at c.args.names.now.entries c.args.place.now ≡ None = sym c.get_mut.ensures.value ∙ ap option_copied_mut c.in_default.is in
-    let free : is_taken (node_at c.args.names.now.entries c.args.place.now) ≡ false = ap is_taken none in
-    absurd cc
+returns-in_default c = search rules

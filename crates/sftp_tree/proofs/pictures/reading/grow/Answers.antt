@@ -1,3 +1,4 @@
+use Rattle.std.proofs.Common.{rules}
 -- Each row's entry comes behind all others.
 use Rattle.std.proofs.Common.{◌≡◌, [], ◌∷◌, length, ap, sym, subst, ◌∙◌, append_assoc, append-nil, arith, refl}
 use Rattle.std.specs.Vec.Iter.{into_iter_items}
@@ -10,22 +11,10 @@ use Rattle.sftp_tree.proofs.TreeFiles.Stores.{kind_known, numbers_grow, grown_pu
 use Rattle.sftp_tree.proofs.pictures.reading.grow.Goals as goal
 
 pub loop-row-init : goal.loop-row-init
-loop-row-init c =
-    let gives = c.into_iter-row-iterator.ensures.into_iter_gives in
-    record {
-      items = refl;
-      count = rw (gives.0, gives.1) c.args.rows.ok.0;
-      few = rw gives.0 c.requires.count;
-      before = tt;
-      rows = subst (AreRows usual_limits []) (sym gives.0) c.requires.rows;
-      grown = grown_root c.args.root c.in_ok-names.names c.new-files.result c.in_ok-names.ensures c.new-files.ensures;
-      numbers = c.new-numbers.ensures.items;
-    }
+loop-row-init c = search rules
 
 pub place_of-requires : goal.place_of-requires
-place_of-requires c =
-    let left = subst (AreRows usual_limits c.loop-row.yielded) c.in-Some.ensures.steps.0 c.loop-row.invariant.rows in
-    subst IsPlaceText (sym c.as_slice.ensures) left.0.path
+place_of-requires c = search rules
 
 pub overflow_cast-made : goal.overflow_cast-made
 overflow_cast-made c =

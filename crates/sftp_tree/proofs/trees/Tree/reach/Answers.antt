@@ -1,3 +1,4 @@
+use Rattle.std.proofs.Common.{rules}
 use Rattle.std.proofs.Common.{◌≡◌, ◌++◌, [], refl, sym, ap, ◌∙◌, subst, IfOk}
 use Rattle.std.specs.List.{list_all}
 use Rattle.sftp_path.specs.Place.{is_step, is_absolute, are_names, components}
@@ -14,14 +15,7 @@ returns-in_default-clause-reached c = sym (reached-bad c.args.self.now c.args.fo
 
 -- the route has the components that a walk goes over
 route : (c : goal.After-follow_route) → c.new-route.result ≡ steps_of c.args.self.now c.args.path.now
-route c =
-    let absolute : c.parts.inside.absolute ≡ is_absolute c.args.path.now = ap (λ (s : Split). s.absolute) (c.parts.view_is ∙ c.in-Ok.ensures.parts) in
-    let left : c.in-Ok.parts.left ≡ components c.args.path.now = ap (λ (s : Split). s.left) c.in-Ok.ensures.parts in
-    c.new-route.ensures
-    ∙ elim c.if-parts.branch [
-      | then-parts w ↦ steps-absolute c.args.self.now c.args.path.now c.parts.inside.absolute c.if-parts.names.now c.in-Ok.parts.left absolute w.if-parts.true (ap (λ h. h.now) w.names-is) left
-      | else-parts w ↦ steps-relative c.args.self.now c.args.path.now c.parts.inside.absolute c.if-parts.names.now c.in-Ok.parts.left absolute w.if-parts.false (ap (λ h. h.now) w.names-is ∙ w.names-names.ensures.names ∙ c.requires) left
-    ]
+route c = search rules
 
 pub follow_route-requires : goal.follow_route-requires
 follow_route-requires c =

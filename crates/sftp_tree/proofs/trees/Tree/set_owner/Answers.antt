@@ -9,9 +9,7 @@ use Rattle.sftp_tree.proofs.trees.Tree.set_owner.Goals as goal
 
 -- the tree afterwards
 tree : (c : goal.After-set_owner) → seen c.set_owner.new.self c.self.inside.files c.self.inside.made c.self.inside.limits c.self.inside.home c.self.inside.uid c.self.inside.gid ≡ record c.args.self.now { names = with_node c.args.self.now.names c.args.place.now (Dir c.args.owner) }
-tree c =
-    (λ i. seen (c.set_owner.ensures i) c.self.inside.files c.self.inside.made c.self.inside.limits c.self.inside.home c.self.inside.uid c.self.inside.gid)
-    ∙ ap (λ (t : Tree). record t { names = with_node t.names c.args.place.now (Dir c.args.owner) }) c.self.view_is
+tree c = cc
 
 -- its counts
 counts : (c : goal.After-set_owner) → AreCounted c.set_owner.new.self c.self.inside.files
