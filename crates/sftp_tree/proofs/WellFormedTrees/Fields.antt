@@ -18,18 +18,6 @@ bytes-fit (b ∷ bytes) fits = λ i. lt-ltb b 256 fits.0 i && bytes-fit bytes fi
 
 -- ---- owners
 
-first-fits : (given : Option (ℕ × ℕ)) (otherwise : ℕ) → IfSome given FitsTwo → otherwise < 2 ^ 32 → unwrap_or (option_map (λ o. o.0) given) otherwise < 2 ^ 32
-first-fits None otherwise fits small = small
-first-fits (Some o) otherwise fits small = fits.0
-
-second-fits : (given : Option (ℕ × ℕ)) (otherwise : ℕ) → IfSome given FitsTwo → otherwise < 2 ^ 32 → unwrap_or (option_map (λ o. o.1) given) otherwise < 2 ^ 32
-second-fits None otherwise fits small = small
-second-fits (Some o) otherwise fits small = fits.1
-
-permissions-fit : (given : Option ℕ) (otherwise : ℕ) → otherwise < 2 ^ 12 → unwrap_or (option_map (λ p. p % 2 ^ 12) given) otherwise < 2 ^ 12
-permissions-fit None otherwise small = small
-permissions-fit (Some p) otherwise small = omega arith
-
 -- of a new directory
 pub owner-fits : (t : Tree) (attrs : Attrs) → WellFormed t → FitsAttrs attrs → IsOwner (directory_owner t attrs)
 owner-fits t attrs well fits = search rules

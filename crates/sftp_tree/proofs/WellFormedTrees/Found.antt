@@ -23,13 +23,6 @@ absent-of (Some it) e = cc
 pub taken-of : (found : Option Node) (it : Node) → found ≡ Some it → is_taken found ≡ true
 taken-of found it e = ap is_taken e
 
--- what is there and may be nothing but a file is one
-pub file-of : (found : Option Node) → is_taken found ≡ true → (is_taken found && not (is_file found)) ≡ false → is_file found ≡ true
-file-of None there may = cc
-file-of (Some (Dir owner)) there may = cc
-file-of (Some (File number)) there may = refl
-file-of (Some (Link goal)) there may = cc
-
 -- the root is a directory
 pub below-root : (t : Tree) (place : Place) → IsKept t → is_directory (node_at t.names place) ≡ false → is_root place ≡ false
 below-root t [] kept none =

@@ -37,9 +37,6 @@ pub returns-in_default-clause-ok : goal.returns-in_default-clause-ok
 returns-in_default-clause-ok c =
     changed-nowhere (with_attributes_set c.args.attrs.now) c.args.number c.args.files.now c.get_mut.follows.lender-at-none c.get_mut.ensures.ordered (sym c.get_mut.ensures.value ∙ ap option_copied_mut c.in_default.is) c.get_mut.follows.holds-at-none
 
-pub returns-in_ok-change-clause-owned : goal.returns-in_ok-change-clause-owned
-unfolding get
-returns-in_ok-change-clause-owned c = search rules
 
 pub returns-in_default-clause-owned : goal.returns-in_default-clause-owned
 unfolding get
