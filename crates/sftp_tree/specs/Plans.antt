@@ -7,7 +7,6 @@ use Rattle.sftp_wire.specs.declared.packets.Ask.{Ask}
 use Rattle.sftp_wire.specs.declared.packets.Ask.TheVariants.{Setstat, Remove, Mkdir, Rmdir, Rename, Symlink, PosixRename, Hardlink}
 use Rattle.sftp_tree.specs.declared.nodes.Node.{Node}
 use Rattle.sftp_tree.specs.declared.nodes.Node.TheVariants as nodes
-use Rattle.sftp_tree.specs.declared.ends.Places.{Places}
 use Rattle.sftp_tree.specs.declared.plans.Plan.{Plan}
 use Rattle.sftp_tree.specs.declared.plans.Plan.TheVariants.{Nothing, Put, Remove as Take, Move, Set}
 use Rattle.sftp_tree.specs.Tree.{Tree, IsTrimmed, IsNode, fits, node_at, is_taken, is_directory, is_file, has_entries, trim}

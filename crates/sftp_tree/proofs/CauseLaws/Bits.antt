@@ -1,17 +1,16 @@
 use Rattle.std.proofs.Common.{rules}
 -- Sets of causes as bits.
-use Rattle.std.proofs.Common.{◌≡◌, ◌≢◌, ◌==◌, ◌<◌, ℕ, ◌*◌, ◌%◌, ◌^◌, Bool, true, false, ◌&&◌, ◌||◌, cond, refl, sym, ap, ◌∙◌, lit<, arith}
+use Rattle.std.proofs.Common.{◌≡◌, ◌≢◌, ◌==◌, ◌<◌, ℕ, ◌*◌, ◌%◌, ◌^◌, Bool, true, false, ◌&&◌, ◌||◌, refl, sym, ap, ◌∙◌, lit<, arith}
 use Rattle.std.specs.Int.{bit_at, w16}
 use Rattle.std.specs.Int.Bits.{bit_or}
 use Rattle.std.specs.Prelude.{max}
-use Rattle.std.proofs.Math.Dec.{eqb}
 use Rattle.std.proofs.lemmas.Bool.{eqb-true, eqb-false}
 use Rattle.std.proofs.lemmas.Bool.Decides.{nat_tests}
 use Rattle.std.proofs.lemmas.Nat.Bits.{bit_at-zero, bit_at_or, bit_at_set_same, bit_at_set_other, bit_at-lt}
 use Rattle.sftp_tree.specs.declared.causes.Cause.{Cause}
 use Rattle.sftp_tree.specs.declared.causes.Cause.TheVariants.{BadPath}
 use Rattle.sftp_tree.specs.declared.causes.Causes.{Causes}
-use Rattle.sftp_tree.specs.Causes.{CauseSet, row, no_causes, when, joined}
+use Rattle.sftp_tree.specs.Causes.{row, no_causes, when, joined}
 use Rattle.sftp_tree.specs.Refusals.{in_set}
 
 -- each cause has a bit

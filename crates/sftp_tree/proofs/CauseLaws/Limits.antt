@@ -1,5 +1,5 @@
 -- The numbers say whether what a request asks for keeps to the limits.
-use Rattle.std.proofs.Common.{◌≡◌, ℕ, ◌-◌, Bool, true, false, ◌&&◌, ◌||◌, not, List, ◌∷◌, ◌++◌, length, take, replicate, refl, sym, ◌∙◌, ap, arith, Option, Some, None, IsTrue, nat_le, unwrap_or, if◌then◌else◌, Result, Ok, Err}
+use Rattle.std.proofs.Common.{◌≡◌, ℕ, ◌-◌, Bool, true, false, ◌&&◌, ◌||◌, not, List, length, take, replicate, refl, sym, ◌∙◌, ap, arith, Option, Some, None, IsTrue, nat_le, unwrap_or, if◌then◌else◌, Result, Ok, Err}
 use Rattle.std.specs.Option.{is_some, option_map}
 use Rattle.std.specs.List.{list_any}
 use Rattle.std.proofs.lemmas.Bool.{not-false, or_parts}
@@ -8,19 +8,19 @@ use Rattle.std.proofs.Math.Bool.{and-true}
 use Rattle.sftp_wire.specs.declared.attributes.Attrs.{Attrs}
 use Rattle.sftp_wire.specs.declared.packets.Ask.{Ask}
 use Rattle.sftp_wire.specs.declared.packets.Ask.TheVariants.{Setstat, Remove, Mkdir, Rmdir, Rename, Symlink, PosixRename, Hardlink}
-use Rattle.sftp_path.specs.Place.{Name, Place, parent, begins}
+use Rattle.sftp_path.specs.Place.{Place}
 use Rattle.sftp_treefile.specs.declared.limits.TreeLimits.{TreeLimits}
 use Rattle.sftp_treefile.specs.TreeFile.{is_root, same_place, is_target}
 use Rattle.sftp_tree.specs.declared.file_contents.Content.{Content}
 use Rattle.sftp_tree.specs.declared.nodes.Node.{Node}
 use Rattle.sftp_tree.specs.declared.nodes.Node.TheVariants.{Dir, File, Link}
 use Rattle.sftp_tree.specs.declared.causes.Cause.{Cause}
-use Rattle.sftp_tree.specs.declared.causes.Cause.TheVariants.{BadPath, NoEntry, NotDir, Exists, IsDir, NotLink, NotFile, NotEmpty, Root, Inside, NoRoom}
-use Rattle.sftp_tree.specs.Tree.{Tree, WellFormed, IsKept, limits, fits, node_at, content_at, is_taken, is_directory, is_file, is_link, has_entries}
+use Rattle.sftp_tree.specs.declared.causes.Cause.TheVariants.{BadPath, NoEntry, Exists, IsDir, NotLink, NotFile, NotEmpty, Root, Inside, NoRoom}
+use Rattle.sftp_tree.specs.Tree.{Tree, WellFormed, IsKept, limits, fits, node_at, content_at, is_taken, is_directory, is_link, has_entries}
 use Rattle.sftp_tree.specs.Attributes.{directory_owner, changed_owner, changed_content, resized}
 use Rattle.sftp_tree.specs.Causes.{CauseSet, every_cause, is_none, no_causes, when}
-use Rattle.sftp_tree.specs.PlaceCauses.{making_causes, needing_causes, link_causes, file_causes, removing_causes, unlinking_causes, leaving_causes, giving_causes, moving_causes, clashing_causes, replacing_causes, exchanging_causes, goes_inside, are_one, are_one_file}
-use Rattle.sftp_tree.specs.Changes.{with_changed_file, with_attributes, with_further_name, moved, put_in_its_stead}
+use Rattle.sftp_tree.specs.PlaceCauses.{making_causes, needing_causes, link_causes, file_causes, unlinking_causes, leaving_causes, giving_causes, moving_causes, clashing_causes, replacing_causes, exchanging_causes, goes_inside, are_one, are_one_file}
+use Rattle.sftp_tree.specs.Changes.{with_changed_file, with_attributes, with_further_name, put_in_its_stead}
 use Rattle.sftp_tree.specs.Requests.{led, new_led, causes, causes_at, new_causes_at, causes_between, own_causes, outcome_at, outcome_between, outcome_led, plain_of}
 use Rattle.sftp_tree.specs.Room.{has_room, size_fits, size_fits_at, move_fits, has_room_at, has_room_between, has_room_for}
 use Rattle.sftp_tree.proofs.CauseLaws.Places.{plain-parts, lost-first, causes-are}
@@ -29,7 +29,7 @@ use Rattle.sftp_tree.proofs.Limits.Entries.{fits-put, fits-without, fits-again, 
 use Rattle.sftp_tree.proofs.Limits.Moves.{fits-moved, fits-put_in_stead, nothing-from}
 use Rattle.sftp_tree.proofs.FileCounts.Moves as left
 use Rattle.sftp_tree.proofs.WellFormedTrees.Places.{apart-from, nothing-below, alone-there}
-use Rattle.sftp_tree.proofs.WellFormedTrees.Found.{absent-of, node-kept, below-root, apart-of}
+use Rattle.sftp_tree.proofs.WellFormedTrees.Found.{absent-of, node-kept}
 
 -- ---- what a place's causes say where none holds
 

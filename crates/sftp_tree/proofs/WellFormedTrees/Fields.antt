@@ -1,11 +1,11 @@
 use Rattle.std.proofs.Common.{rules}
 -- Fields that fit their places on the wire, as parts of a tree: paths, owners and contents.
-use Rattle.std.proofs.Common.{ℕ, zero, suc, ◌<◌, ◌^◌, ◌%◌, ◌-◌, ◌&&◌, List, [], ◌∷◌, length, take, replicate, refl, ◌∙◌, arith, Option, Some, None, unwrap_or, IsTrue, lit<, nat_lt}
-use Rattle.std.specs.Option.{option_map, IfSome}
+use Rattle.std.proofs.Common.{ℕ, zero, suc, ◌-◌, ◌&&◌, List, [], ◌∷◌, length, take, replicate, refl, ◌∙◌, Option, Some, None, unwrap_or, IsTrue, nat_lt}
+use Rattle.std.specs.Option.{option_map}
 use Rattle.std.proofs.lemmas.Bool.{lt-ltb, and_parts, and_from}
 use Rattle.std.proofs.lemmas.List.Folds.{list_all-append}
 use Rattle.sftp_wire.specs.declared.attributes.Attrs.{Attrs}
-use Rattle.sftp_wire.specs.Spelling.{AreBytes, FitsTwo, FitsAttrs}
+use Rattle.sftp_wire.specs.Spelling.{AreBytes, FitsAttrs}
 use Rattle.sftp_treefile.specs.declared.files.Owner.{Owner}
 use Rattle.sftp_treefile.specs.TreeFile.{IsOwner, are_bytes}
 use Rattle.sftp_tree.specs.declared.file_contents.Content.{Content}

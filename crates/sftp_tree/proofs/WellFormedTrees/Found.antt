@@ -1,5 +1,5 @@
 -- The nodes at the places that paths lead to, as the calls for requests find them.
-use Rattle.std.proofs.Common.{◌≡◌, Bool, true, false, ◌&&◌, not, [], ◌∷◌, nat_eq, refl, sym, ap, Option, Some, None, IsTrue}
+use Rattle.std.proofs.Common.{◌≡◌, Bool, true, false, [], ◌∷◌, nat_eq, refl, sym, ap, Option, Some, None, IsTrue}
 use Rattle.std.specs.declared.cmp.Ordering.{Ordering}
 use Rattle.std.specs.BTreeMap.{is_at}
 use Rattle.std.specs.List.{AllByRecursion, list_all}
@@ -11,8 +11,7 @@ use Rattle.sftp_path.specs.Table.{Table, get}
 use Rattle.sftp_path.proofs.Table.Entries.{without-absent}
 use Rattle.sftp_treefile.specs.TreeFile.{is_root, same_place}
 use Rattle.sftp_tree.specs.declared.nodes.Node.{Node}
-use Rattle.sftp_tree.specs.declared.nodes.Node.TheVariants.{Dir, File, Link}
-use Rattle.sftp_tree.specs.Tree.{Names, Tree, IsKept, IsNode, node_at, is_taken, is_directory, is_file}
+use Rattle.sftp_tree.specs.Tree.{Names, Tree, IsKept, IsNode, node_at, is_taken, is_directory}
 use Rattle.sftp_tree.specs.Changes.{moved, put_in_its_stead}
 use Rattle.sftp_tree.proofs.PlaceTables.Each.{each-all, lookup_holds}
 

@@ -1,16 +1,13 @@
 use Rattle.std.proofs.Common.{rules}
-use Rattle.std.proofs.Common.{◌≡◌, sym, ap, subst, ◌∙◌, Some}
-use Rattle.std.specs.Option.{option_copied_mut, IfSome}
+use Rattle.std.proofs.Common.{◌≡◌, sym, ap, ◌∙◌, Some}
+use Rattle.std.specs.Option.{option_copied_mut}
 use Rattle.std.specs.Ordering.{nat_cmp}
 use Rattle.std.specs.BTreeMap.{is_at}
 use Rattle.std.specs.Map.{set_value}
-use Rattle.std.proofs.lemmas.Option.{MatchOption-at_some}
 use Rattle.std.proofs.lemmas.Map.Steps.{set_value_same}
 use Rattle.std.proofs.lemmas.Result.{err_from_is_err_and}
 use Rattle.sftp_path.specs.Table.{get}
-use Rattle.sftp_treefile.specs.TreeFile.{IsOwner}
 use Rattle.sftp_tree.specs.declared.file_contents.Stored.{Stored}
-use Rattle.sftp_tree.specs.Attributes.{changed_owner}
 use Rattle.sftp_tree.specs.StoredFiles.{with_attributes_set}
 use Rattle.sftp_tree.proofs.FileCounts.Changes.{changed-nowhere, changed-written}
 use Rattle.sftp_tree.proofs.files.change_at.Goals as goal
@@ -36,7 +33,6 @@ returns-in_ok-change-clause-ok c =
 pub returns-in_default-clause-ok : goal.returns-in_default-clause-ok
 returns-in_default-clause-ok c =
     changed-nowhere (with_attributes_set c.args.attrs.now) c.args.number c.args.files.now c.get_mut.follows.lender-at-none c.get_mut.ensures.ordered (sym c.get_mut.ensures.value ∙ ap option_copied_mut c.in_default.is) c.get_mut.follows.holds-at-none
-
 
 pub returns-in_default-clause-owned : goal.returns-in_default-clause-owned
 unfolding get

@@ -1,8 +1,7 @@
 use Rattle.std.proofs.Common.{rules}
-use Rattle.std.proofs.Common.{◌≡◌, false, sym, ap, ◌∙◌, Some, None}
-use Rattle.std.specs.Option.{option_copied}
+use Rattle.std.proofs.Common.{◌≡◌, sym, ap, ◌∙◌, Some}
 use Rattle.sftp_path.specs.Table.{get, put, without}
-use Rattle.sftp_tree.specs.Tree.{node_at, with_node, without_node, is_taken}
+use Rattle.sftp_tree.specs.Tree.{node_at, with_node, without_node}
 use Rattle.sftp_tree.proofs.FileCounts.Moves.{alone-moved}
 use Rattle.sftp_tree.proofs.entries.moving.move_alone.Goals as goal
 

@@ -1,10 +1,8 @@
 use Rattle.std.proofs.Common.{rules}
-use Rattle.std.proofs.Common.{◌≡◌, false, sym, ap, ◌∙◌, None, is_some}
-use Rattle.std.specs.Option.{option_copied_mut}
+use Rattle.std.proofs.Common.{sym, ap, is_some}
 use Rattle.sftp_path.specs.Place.{place_cmp}
 use Rattle.sftp_path.specs.Table.{get}
 use Rattle.sftp_path.proofs.Order.{place_cmp-total, place_cmp-same}
-use Rattle.sftp_tree.specs.Tree.{node_at, is_taken}
 use Rattle.sftp_tree.proofs.FileCounts.Changes.{written-put}
 use Rattle.sftp_tree.proofs.entries.moving.replace.Goals as goal
 

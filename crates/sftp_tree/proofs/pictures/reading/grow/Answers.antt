@@ -1,13 +1,13 @@
 use Rattle.std.proofs.Common.{rules}
 -- Each row's entry comes behind all others.
-use Rattle.std.proofs.Common.{◌≡◌, [], ◌∷◌, length, ap, sym, subst, ◌∙◌, append_assoc, append-nil, arith, refl}
+use Rattle.std.proofs.Common.{◌≡◌, [], ◌∷◌, length, ap, sym, subst, ◌∙◌, append_assoc, append-nil, arith}
 use Rattle.std.specs.Vec.Iter.{into_iter_items}
 use Rattle.std.proofs.lemmas.List.{nil_from_length, length-append}
 use Rattle.sftp_treefile.specs.Limits.{usual_limits}
-use Rattle.sftp_treefile.specs.TreeFile.{place_of, IsPlaceText, AreRows}
+use Rattle.sftp_treefile.specs.TreeFile.{place_of, AreRows}
 use Rattle.sftp_tree.specs.PictureParts.{IsKnown, IsGrown}
 use Rattle.sftp_tree.proofs.TreeFiles.Numbers.{rows_join}
-use Rattle.sftp_tree.proofs.TreeFiles.Stores.{kind_known, numbers_grow, grown_push, grown_room, grown_root, many_files, next_fits, row_absent, row_in_directory}
+use Rattle.sftp_tree.proofs.TreeFiles.Stores.{kind_known, numbers_grow, grown_push, grown_room, many_files, next_fits, row_absent, row_in_directory}
 use Rattle.sftp_tree.proofs.pictures.reading.grow.Goals as goal
 
 pub loop-row-init : goal.loop-row-init

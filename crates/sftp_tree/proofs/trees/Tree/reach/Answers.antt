@@ -1,11 +1,11 @@
 use Rattle.std.proofs.Common.{rules}
 use Rattle.std.proofs.Common.{◌≡◌, ◌++◌, [], refl, sym, ap, ◌∙◌, subst, IfOk}
 use Rattle.std.specs.List.{list_all}
-use Rattle.sftp_path.specs.Place.{is_step, is_absolute, are_names, components}
+use Rattle.sftp_path.specs.Place.{is_step, are_names, components}
 use Rattle.sftp_path.specs.Split.{Split}
 use Rattle.sftp_path.proofs.PathTexts.GoodPaths.{list_all-octets}
 use Rattle.sftp_tree.specs.Walk.{walk, link_limit, steps_of}
-use Rattle.sftp_tree.proofs.Walks.Steps.{reached-good, reached-bad, steps-absolute, steps-relative}
+use Rattle.sftp_tree.proofs.Walks.Steps.{reached-good, reached-bad}
 use Rattle.sftp_tree.proofs.Walks.Places.{steps-from}
 use Rattle.sftp_tree.proofs.trees.Tree.reach.Goals as goal
 use Rattle.sftp_tree.proofs.trees.Tree.reach.Goals.{then-parts, else-parts}
