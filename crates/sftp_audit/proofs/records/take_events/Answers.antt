@@ -1,5 +1,6 @@
 -- Each turn reads the one event that can be in front.
-use Rattle.std.proofs.Common.{arith}
+use Rattle.std.proofs.Common.{◌≡◌, arith}
+use Rattle.std.proofs.lemmas.Grind.{common_steps}
 use Rattle.std.proofs.lemmas.Result.{err_from_is_err_and}
 use Rattle.sftp_audit.proofs.transcripts.Reading.{IsRead-next, IsRead-refused, IsRead-only}
 use Rattle.sftp_audit.proofs.records.take_events.Goals as goal
@@ -17,4 +18,7 @@ records-preserved c =
 
 pub returns-clause-only : goal.returns-clause-only
 returns-clause-only c =
-    IsRead-only c.args.bytes.now c.records.events.items c.records.rest.now (grind arith) c.records.invariant
+    λ events are.
+    let read : c.records.events.items ≡ events =
+    IsRead-only c.args.bytes.now c.records.events.items c.records.rest.now (grind arith) c.records.invariant events are in
+    grind (arith, common_steps)
