@@ -12,13 +12,11 @@ returns-in_err-event-clause-only c =
     (IsRead-refused c.args.bytes.now c.records.events.items c.records.rest.now (grind arith) c.in_err-event.ensures.only c.records.invariant events are)
 
 pub records-preserved : goal.records-preserved
-records-preserved c =
-    rw c.in_ok-push.ensures.items
+records-preserved c = rw c.in_ok-push.ensures.items
     (IsRead-next c.args.bytes.now c.records.events.items c.in_ok-event.event c.records.rest.now c.in_ok-event.after.now (grind arith) c.in_ok-event.ensures.found.0 c.in_ok-event.ensures.found.1 c.in_ok-event.ensures.only c.records.invariant)
 
 pub returns-clause-only : goal.returns-clause-only
-returns-clause-only c =
-    λ events are.
+returns-clause-only c = λ events are.
     let read : c.records.events.items ≡ events =
     IsRead-only c.args.bytes.now c.records.events.items c.records.rest.now (grind arith) c.records.invariant events are in
     grind (arith, common_steps)
