@@ -68,8 +68,7 @@ turns_made tree transcript start events made end same told =
 -- and so is its run
 pub run_made : (tree transcript : List ℕ) (start state : Tree) (events made : List Event) (end : Tree)
     (exchanges : List RecordedExchange) → made ≡ events → state ≡ start → exchanges_of made ≡ ledger_of exchanges
-    → Accounts tree transcript start events end
-    → Run Allowed state (leading_pairs (ledger_of exchanges)) end
+    → Accounts tree transcript start events end → Run Allowed state (leading_pairs (ledger_of exchanges)) end
 run_made tree transcript start state events made end exchanges same is paired told =
     let pairs : leading_pairs (ledger_of exchanges) ≡ leading_pairs (exchanges_of events) =
     ap leading_pairs (sym paired ∙ ap exchanges_of same) in

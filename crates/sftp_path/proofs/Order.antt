@@ -9,6 +9,7 @@ use Rattle.std.proofs.Math.Bool.{and_assoc}
 use Rattle.std.proofs.Math.Seq.{take-append_seam}
 use Rattle.std.proofs.lemmas.List.{append-nil, length-append}
 use Rattle.sftp_path.specs.Place.{Name, Place, bytes_cmp, place_cmp, same_bytes, begins, is_below, parent}
+use Rattle.std.proofs.lemmas.Grind.{common_steps}
 
 -- ---- places that begin others
 
@@ -40,17 +41,12 @@ pub below-begins : (top place : Place) → is_below top place ≡ (begins top pl
 below-begins [] [] = refl
 below-begins [] (n ∷ ns) = sym (lt-ltb 0 (length (n ∷ ns)) (omega arith))
 below-begins (m ∷ ms) [] = refl
-below-begins (m ∷ ms) (n ∷ ns) =
-    ap (λ b. same_bytes m n && b) (below-begins ms ns)
-    ∙ sym (and_assoc (same_bytes m n) (begins ms ns) (nat_lt (length ms) (length ns)))
-    ∙ ap (λ b. begins (m ∷ ms) (n ∷ ns) && b) (shorter-tails (length ms) (length ns))
+below-begins (m ∷ ms) (n ∷ ns) = grind (arith, and_assoc, shorter-tails, below-begins ms ns)
 
 -- ---- the parent
 
 pub parent-entered : (place : Place) (name : Name) → parent (place ++ name ∷ []) ≡ place
-parent-entered place name =
-    let less : length (place ++ name ∷ []) - 1 ≡ length place = omega (arith, length-append place (name ∷ [])) in
-    ap (λ n. take n (place ++ name ∷ [])) less ∙ take-append_seam place (name ∷ [])
+parent-entered place name = grind (arith, common_steps, length-append, take-append_seam)
 
 -- ---- the orders of keys
 

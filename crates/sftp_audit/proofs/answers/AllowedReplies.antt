@@ -1,9 +1,9 @@
 -- Some reply to each request is allowed, and can be written.
-use Rattle.std.proofs.Common.{◌≡◌, ◌==◌, ◌&&◌, ◌||◌, nat_lt, nat_le, ℕ, ◌+◌, ◌^◌, ◌<◌, ◌≤◌, Bool, true, false, not}
+use Rattle.std.proofs.Common.{◌≡◌, ◌==◌, ◌&&◌, ◌||◌, ℕ, ◌+◌, ◌^◌, ◌<◌, ◌≤◌, Bool, true, false, not}
 use Rattle.std.proofs.Common.{List, [], ◌∷◌, length, Some, None, Ok, refl, ap, ◌∙◌, eq-eqb, IsTrue, inl, inr, lit<}
 use Rattle.std.proofs.Common.{arith, leb-true}
 use Rattle.std.specs.Cmp.Lexicographic.{nat_list_eq_equiv}
-use Rattle.std.specs.List.{list_any, list_all}
+use Rattle.std.specs.List.{list_any}
 use Rattle.std.specs.Option.{option_map}
 use Rattle.std.proofs.lemmas.Bool.{lt-ltb, and_parts}
 use Rattle.sftp_wire.specs.declared.attributes.Attrs.{Attrs}
@@ -15,7 +15,7 @@ use Rattle.sftp_wire.specs.declared.packets.Answer.TheVariants as replies
 use Rattle.sftp_wire.specs.declared.packets.Packet.TheVariants.{Reply as reply_packet}
 use Rattle.sftp_wire.specs.declared.packets.Request.{Request}
 use Rattle.sftp_wire.specs.Spelling.{AreBytes, HasSpelling}
-use Rattle.sftp_path.specs.Place.{Place, parent, absolute, are_names, components, is_good_path, name_limit}
+use Rattle.sftp_path.specs.Place.{Place, parent, absolute, are_names, is_good_path}
 use Rattle.sftp_treefile.specs.Limits.{usual_limits}
 use Rattle.sftp_treefile.specs.TreeFile.{are_bytes, is_target}
 use Rattle.sftp_tree.specs.declared.file_contents.Content.{Content}
@@ -29,7 +29,7 @@ use Rattle.sftp_tree.specs.Attributes.{said, shown_content, shown}
 use Rattle.sftp_tree.specs.Causes.{CauseSet, every_cause, allows}
 use Rattle.sftp_tree.specs.PlaceCauses.{needing_causes}
 use Rattle.sftp_tree.specs.Requests.{has_step, causes, led, led_to, after}
-use Rattle.sftp_tree.specs.Requests.{told_at, attributes_of, name_of, shown_at, shown_to, target_of, target_to, text_to}
+use Rattle.sftp_tree.specs.Requests.{told_at, attributes_of, name_of, shown_at, shown_to, target_to, text_to}
 use Rattle.sftp_audit.specs.Replies.{same_attributes, is_shown, is_named, answers}
 use Rattle.sftp_audit.specs.Laws.{IsAskable, IsAnswerable}
 use Rattle.sftp_audit.proofs.answers.FreeRequests.{IsFree, led-stat, led-lstat, led-real_path, led-read_link, there}
@@ -93,16 +93,11 @@ same_itself n = eq-eqb n n refl
 
 same_said : (size uid gid permissions : ℕ)
     → same_attributes (said size uid gid permissions) (said size uid gid permissions) ≡ true
-same_said size uid gid permissions =
-    rw (same_itself size, same_itself uid, same_itself gid, same_itself permissions) refl
+same_said size uid gid permissions = simp (same_itself)
 
 target_length : (linktarget : List ℕ) → is_target linktarget ≡ true → length linktarget ≤ 4096
 unfolding is_good_path
-target_length linktarget is =
-    let parts = and_parts (nat_lt 0 (length linktarget)) (is_good_path linktarget) is in
-    let sizes = and_parts (nat_le (length linktarget) 4096)
-    (list_all (λ b. not (b == 0)) linktarget && list_all (λ part. nat_le (length part) name_limit) (components linktarget)) parts.1 in
-    leb-true (length linktarget) 4096 sizes.0
+target_length linktarget is = grind (arith, and_parts, leb-true)
 
 -- the attributes of a node can be encoded
 record IsShown (t : Tree) (id : ℕ) (standing : Node) : Type 0 where
@@ -114,8 +109,7 @@ record IsShown (t : Tree) (id : ℕ) (standing : Node) : Type 0 where
 shown_said : (t : Tree) (id : ℕ) (standing : Node) (size uid gid permissions : ℕ)
     → shown t standing ≡ Some (said size uid gid permissions)
     → HasSpelling (reply_packet (attributes_reply id (said size uid gid permissions))) → IsShown t id standing
-shown_said t id standing size uid gid permissions is spelled =
-    record { attrs = said size uid gid permissions; is = is; same = same_said size uid gid permissions; spelled = spelled }
+shown_said t id standing size uid gid permissions is spelled = grind (arith, same_said)
 
 shown_file : (t : Tree) (id : ℕ) (number : ℕ) (content : Content) → id < 2 ^ 32
     → content_at t.files number ≡ Some content → IsContent content → length content.bytes ≤ usual_limits.file_bytes
@@ -142,15 +136,13 @@ shown-at : (t : Tree) (ask : Ask) (place : Place) (standing : Node) → led t as
     → attributes_of (told_at t ask place) ≡ shown_at t (node_at t.names place)
     → node_at t.names place ≡ Some standing → shown_to t ask ≡ shown t standing
 unfolding shown_to
-shown-at t ask place standing leads tells is =
-    ap (λ r. led_to None r (λ p. attributes_of (told_at t ask p))) leads ∙ (tells ∙ ap (shown_at t) is)
+shown-at t ask place standing leads tells is = cc
 
 target-at : (t : Tree) (path : List ℕ) (place : Place) (linktarget : List ℕ)
     → led t (Readlink path) ≡ Some (Ok place) → node_at t.names place ≡ Some (Link linktarget)
     → target_to t (Readlink path) ≡ Some linktarget
 unfolding target_to
-target-at t path place linktarget leads is =
-    ap (λ r. led_to None r (λ p. name_of (told_at t (Readlink path) p))) leads ∙ ap target_of is
+target-at t path place linktarget leads is = cc
 
 text-at : (t : Tree) (path : List ℕ) (place : Place) → led t (Realpath path) ≡ Some (Ok place)
     → text_to t (Realpath path) ≡ Some (absolute place)
@@ -174,8 +166,7 @@ stat_answered : (t : Tree) (id : ℕ) (path : List ℕ) → IsKept t → id < 2 
     → IsAnswerable t (request_of id (Stat path))
 stat_answered t id path kept small free =
     let led = led-stat t path free in
-    attributes_answered t id (Stat path) led.place kept small refl free led.led_is (led.at NoEntry)
-    refl (λ attrs. refl)
+    attributes_answered t id (Stat path) led.place kept small refl free led.led_is (led.at NoEntry) refl (λ attrs. refl)
 
 lstat_answered : (t : Tree) (id : ℕ) (path : List ℕ) → IsKept t → id < 2 ^ 32 → IsFree t (Lstat path)
     → IsAnswerable t (request_of id (Lstat path))
@@ -198,8 +189,7 @@ read_link_answered t id path kept small free =
 
 -- that walks give places
 abbrev pub WalksGivePlaces : Type 0
-WalksGivePlaces =
-    (t : Tree) (follow : Bool) (path : List ℕ) (place : Place) → IsKept t → IsTrue (are_bytes path)
+WalksGivePlaces = (t : Tree) (follow : Bool) (path : List ℕ) (place : Place) → IsKept t → IsTrue (are_bytes path)
     → reached t follow path ≡ Ok place → IsTrue (are_names place)
     × IsTrue (is_directory (node_at t.names (parent place)))
 
@@ -221,29 +211,18 @@ done_answered t id ask small judged free done =
 
 free_answered : WalksGivePlaces → (t : Tree) (id : ℕ) (ask : Ask) → IsKept t → IsAskable (request_of id ask)
     → IsFree t ask → IsAnswerable t (request_of id ask)
-free_answered walks t id (Mkdir path attrs) kept askable free =
-    done_answered t id (Mkdir path attrs) askable.id refl free refl
-free_answered walks t id (Rmdir path) kept askable free =
-    done_answered t id (Rmdir path) askable.id refl free refl
-free_answered walks t id (Remove path) kept askable free =
-    done_answered t id (Remove path) askable.id refl free refl
-free_answered walks t id (Setstat path attrs) kept askable free =
-    done_answered t id (Setstat path attrs) askable.id refl free refl
-free_answered walks t id (Rename oldpath newpath) kept askable free =
-    done_answered t id (Rename oldpath newpath) askable.id refl free refl
-free_answered walks t id (PosixRename oldpath newpath) kept askable free =
-    done_answered t id (PosixRename oldpath newpath) askable.id refl free refl
-free_answered walks t id (Hardlink oldpath newpath) kept askable free =
-    done_answered t id (Hardlink oldpath newpath) askable.id refl free refl
-free_answered walks t id (Symlink linktarget link) kept askable free =
-    done_answered t id (Symlink linktarget link) askable.id refl free refl
+free_answered walks t id (Mkdir path attrs) kept askable free = grind (arith, done_answered)
+free_answered walks t id (Rmdir path) kept askable free = grind (arith, done_answered)
+free_answered walks t id (Remove path) kept askable free = grind (arith, done_answered)
+free_answered walks t id (Setstat path attrs) kept askable free = grind (arith, done_answered)
+free_answered walks t id (Rename oldpath newpath) kept askable free = grind (arith, done_answered)
+free_answered walks t id (PosixRename oldpath newpath) kept askable free = grind (arith, done_answered)
+free_answered walks t id (Hardlink oldpath newpath) kept askable free = grind (arith, done_answered)
+free_answered walks t id (Symlink linktarget link) kept askable free = grind (arith, done_answered)
 free_answered walks t id (Stat path) kept askable free = stat_answered t id path kept askable.id free
 free_answered walks t id (Lstat path) kept askable free = lstat_answered t id path kept askable.id free
-free_answered walks t id (Readlink path) kept askable free =
-    read_link_answered t id path kept askable.id free
-free_answered walks t id (Realpath path) kept askable free =
-    real_path_answered walks t id path kept askable.id
-    askable.path free
+free_answered walks t id (Readlink path) kept askable free = grind (arith, read_link_answered)
+free_answered walks t id (Realpath path) kept askable free = grind (arith, real_path_answered)
 free_answered walks t id other kept askable free = absurd (let judged = askable.judged in cc)
 
 refused_answered : (t : Tree) (id : ℕ) (ask : Ask) → IsAskable (request_of id ask)

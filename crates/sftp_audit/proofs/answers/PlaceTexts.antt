@@ -1,5 +1,5 @@
 -- How long the text of a place is, and that it is bytes.
-use Rattle.std.proofs.Common.{◌≡◌, ◌&&◌, not, nat_lt, nat_le, ◌==◌, ℕ, ◌+◌, ◌-◌, ◌*◌, ◌≤◌, Bool, true, false, List, []}
+use Rattle.std.proofs.Common.{◌≡◌, ◌&&◌, not, nat_lt, ◌==◌, ℕ, ◌+◌, ◌-◌, ◌*◌, ◌≤◌, Bool, true, false, List, []}
 use Rattle.std.proofs.Common.{◌∷◌, ◌++◌, length, Option, Some, None, refl, sym, subst, arith, cond, ltb-true, leb-true}
 use Rattle.std.proofs.Common.{lit<}
 use Rattle.std.proofs.lemmas.Bool.{and_parts}
@@ -11,8 +11,7 @@ use Rattle.std.specs.declared.cmp.Ordering.{Ordering}
 use Rattle.std.specs.declared.cmp.Ordering.TheVariants.{Less, Equal, Greater}
 use Rattle.std.proofs.lemmas.List.{length-append, length-take}
 use Rattle.sftp_wire.specs.Spelling.{AreBytes, FitsString}
-use Rattle.sftp_path.specs.Place.{Name, Place, place_cmp, parent, absolute, are_names, is_name, is_name_byte, is_dot}
-use Rattle.sftp_path.specs.Place.{is_dot_dot}
+use Rattle.sftp_path.specs.Place.{Name, Place, place_cmp, parent, absolute, are_names, is_name, is_name_byte}
 use Rattle.sftp_path.specs.Table.{get}
 use Rattle.sftp_path.proofs.Order.{place_cmp-same}
 use Rattle.sftp_treefile.specs.TreeFile.{are_bytes}
@@ -43,12 +42,7 @@ name_bytes (b ∷ name) is =
 -- ---- names, each behind a `/`
 
 name_parts : (name : Name) → is_name name ≡ true → (length name ≤ 255) × AreBytes name
-name_parts name is =
-    let halves = and_parts (nat_lt 0 (length name) && nat_le (length name) 255)
-    (list_all is_name_byte name && (not (is_dot name) && not (is_dot_dot name))) is in
-    let sizes = and_parts (nat_lt 0 (length name)) (nat_le (length name) 255) halves.0 in
-    let inner = and_parts (list_all is_name_byte name) (not (is_dot name) && not (is_dot_dot name)) halves.1 in
-    (leb-true (length name) 255 sizes.1, name_bytes name inner.0)
+name_parts name is = grind (arith, and_parts, leb-true, name_bytes)
 
 abbrev behind_slash : Name → List ℕ
 behind_slash name = 47 ∷ name
@@ -85,8 +79,7 @@ depth_found (e ∷ names) place node all is =
   where
     by : (lookup (is_at (place_cmp place)) names ≡ Some node → depth_fits place ≡ true) → depth_fits e.0 ≡ true
         → (b : Bool) → is_eq (place_cmp place e.0) ≡ b → depth_fits place ≡ true
-    by rest here true hit =
-        subst (λ (p : Place). depth_fits p ≡ true)
+    by rest here true hit = subst (λ (p : Place). depth_fits p ≡ true)
         (sym (place_cmp-same place e.0 (equal_by (place_cmp place e.0) hit))) here
     by rest here false miss =
         rest (let f : cond false (Some e.1) (lookup (is_at (place_cmp place)) names) ≡ Some node = rw miss at is in f)
@@ -94,8 +87,7 @@ depth_found (e ∷ names) place node all is =
 directory_depth : (t : Tree) (place : Place) → IsKept t → is_directory (node_at t.names place) ≡ true
     → length place ≤ 64
 unfolding get
-directory_depth t place kept there =
-    by (node_at t.names place) refl there (limits_of t kept).depths
+directory_depth t place kept there = by (node_at t.names place) refl there (limits_of t kept).depths
   where
     by : (found : Option Node) → node_at t.names place ≡ found → is_directory found ≡ true → depths_fit t ≡ true
         → length place ≤ 64

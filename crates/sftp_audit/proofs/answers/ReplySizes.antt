@@ -48,11 +48,9 @@ name_reply id text = record { id = id; answer = replies.Name (item_of text ∷ [
 
 -- the fields behind the name
 behind : (text : List ℕ) → length ((text ++ (string [] ++ attributes no_attributes)) ++ []) ≡ length text + 8
-behind text =
-    omega (arith, length-append (text ++ (string [] ++ attributes no_attributes)) [], length-append text (string [] ++ attributes no_attributes))
+behind text = grind (arith, length-append)
 
-name-length : (id : ℕ) (text : List ℕ)
-    → length (spelling (reply_packet (name_reply id text))) ≡ 17 + length
+name-length : (id : ℕ) (text : List ℕ) → length (spelling (reply_packet (name_reply id text))) ≡ 17 + length
     ((text ++ (string [] ++ attributes no_attributes)) ++ [])
 unfolding spelling
 name-length id text = omega arith

@@ -52,41 +52,26 @@ pub open_from_place : (ledger : List Exchange) (place : ℕ) (request : Request)
     → slice_get ledger place ≡ Some (request, None) → is_open request.id ledger ≡ true
 unfolding is_open
 open_from_place [] place request at = absurd (none-some (request, None) at)
-open_from_place ((first, None) ∷ ledger) zero request at =
-    let same : first ≡ request = ap (λ (e : Exchange). e.0) (same_Some (first, None) (request, None) at) in
-    or_left (first.id == request.id) (is_open request.id ledger)
-    (eq-eqb first.id request.id (ap (λ (r : Request). r.id) same))
+open_from_place ((first, None) ∷ ledger) zero request at = grind (arith, same_Some, or_left, eq-eqb)
 open_from_place ((first, None) ∷ ledger) (suc place) request at =
     or_right (first.id == request.id) (is_open request.id ledger) (open_from_place ledger place request at)
-open_from_place ((first, Some given) ∷ ledger) zero request at =
-    let same : Some given ≡ None = ap (λ (e : Exchange). e.1) (same_Some (first, Some given) (request, None) at) in
-    absurd cc
+open_from_place ((first, Some given) ∷ ledger) zero request at = grind (arith, same_Some)
 open_from_place ((first, Some given) ∷ ledger) (suc place) request at = open_from_place ledger place request at
 
 -- ---- what the index says
 
 pub indexed_from_start : IsIndexed [] [] 0
 unfolding is_open AreApart
-indexed_from_start = record {
-  found = λ id place at. absurd (none-some place at);
-  absent = λ id none. refl;
-  apart = tt;
-  answered = tt;
-  within = omega arith;
-  waits = λ lt. absurd (omega arith);
-}
+indexed_from_start = grind (arith, none-some)
 
 in_use_if : (ledger : List Exchange) (index : List (ℕ × ℕ)) (oldest id : ℕ) (r : Option ℕ)
     → IsIndexed ledger index oldest → lookup (nat_eq id) index ≡ r → is_some r ≡ true → is_open id ledger ≡ true
 in_use_if ledger index oldest id None indexed at there = absurd (true≢false (sym there))
-in_use_if ledger index oldest id (Some place) indexed at there =
-    let held = indexed.found id place at in
-    rw held.2 at (open_from_place ledger place held.0 held.1)
+in_use_if ledger index oldest id (Some place) indexed at there = grind (arith, open_from_place)
 
 pub in_use : (ledger : List Exchange) (index : List (ℕ × ℕ)) (oldest id : ℕ) → IsIndexed ledger index oldest
     → is_some (lookup (nat_eq id) index) ≡ true → is_open id ledger ≡ true
-in_use ledger index oldest id indexed there =
-    in_use_if ledger index oldest id (lookup (nat_eq id) index) indexed refl there
+in_use ledger index oldest id indexed there = grind (arith, in_use_if)
 
 none_if : (r : Option ℕ) → is_some r ≡ false → r ≡ None
 none_if None e = refl
@@ -133,40 +118,22 @@ module _ (ledger : List Exchange) (index after : List (ℕ × ℕ)) (oldest : �
     (changed : (id : ℕ) → lookup (nat_eq id) after ≡ cond (nat_eq request.id id) (Some (length ledger)) (lookup (nat_eq id) index)) where
   found_asked : (id place : ℕ) → lookup (nat_eq id) after ≡ Some place
       → (q : Request) × (slice_get (ledger ++ (request, None) ∷ []) place ≡ Some (q, None)) × (q.id ≡ id)
-  found_asked id place at =
-      elim (cases_Bool (nat_eq request.id id)) [
-        | inl hit ↦
-            let there : Some (length ledger) ≡ Some place = rw (changed id, hit) at at in
-            (request, rw (← same_Some (length ledger) place there) (slice_get-push ledger (request, None)), eqb-true request.id id hit)
-        | inr miss ↦
-            let there : lookup (nat_eq id) index ≡ Some place = rw (changed id, miss) at at in
-            let held = indexed.found id place there in
-            (held.0, slice_get-front ledger ((request, None) ∷ []) place (held.0, None) held.1, held.2)
-      ]
+  found_asked id place at = grind (arith, cases_Bool, same_Some, slice_get-push, eqb-true, slice_get-front)
 
   absent_asked : (id : ℕ) → lookup (nat_eq id) after ≡ None → is_open id (ledger ++ (request, None) ∷ []) ≡ false
   unfolding is_open
-  absent_asked id none =
-      elim (cases_Bool (nat_eq request.id id)) [
-        | inl hit ↦
-            let there : Some (length ledger) ≡ None = rw (changed id, hit) at none in
-            absurd cc
-        | inr miss ↦
-            let there : lookup (nat_eq id) index ≡ None = rw (changed id, miss) at none in
-            rw (is_open-append id ledger ((request, None) ∷ []), indexed.absent id there, miss) refl
-      ]
+  absent_asked id none = grind (arith, cases_Bool, is_open-append)
 
   waits_asked : oldest < length (ledger ++ (request, None) ∷ [])
       → (q : Request) × (slice_get (ledger ++ (request, None) ∷ []) oldest ≡ Some (q, None))
-  waits_asked lt =
-      elim (cases_lt oldest (length ledger)) [
-        | inl before ↦
-            let held = indexed.waits before in
-            (held.0, slice_get-front ledger ((request, None) ∷ []) oldest (held.0, None) held.1)
-        | inr past ↦
-            let here : oldest ≡ length ledger = omega (arith, indexed.within) in
-            (request, rw here (slice_get-push ledger (request, None)))
-      ]
+  waits_asked lt = elim (cases_lt oldest (length ledger)) [
+    | inl before ↦
+        let held = indexed.waits before in
+        (held.0, slice_get-front ledger ((request, None) ∷ []) oldest (held.0, None) held.1)
+    | inr past ↦
+        let here : oldest ≡ length ledger = omega (arith, indexed.within) in
+        (request, rw here (slice_get-push ledger (request, None)))
+  ]
 
   pub indexed_asked : IsIndexed (ledger ++ (request, None) ∷ []) after oldest
   indexed_asked = record {
@@ -205,36 +172,22 @@ module _ (ledger : List Exchange) (index after : List (ℕ × ℕ)) (oldest plac
 
   found_replied : (id p : ℕ) → lookup (nat_eq id) after ≡ Some p
       → (q : Request) × (slice_get replied p ≡ Some (q, None)) × (q.id ≡ id)
-  found_replied id p there =
-      elim (cases_Bool (nat_eq reply.id id)) [
-        | inl hit ↦
-            let gone : None ≡ Some p = rw (changed id, hit) at there in
-            absurd (none-some p gone)
-        | inr miss ↦
-            let was : lookup (nat_eq id) index ≡ Some p = rw (changed id, miss) at there in
-            let held = indexed.found id p was in
-            let elsewhere : p ≡ place → ⊥ = λ e.
-            let both : Some (held.0, None) ≡ Some (request, None) = sym held.1 ∙ ap (slice_get ledger) e ∙ at in
-            let one : held.0 ≡ request = ap (λ (x : Exchange). x.0) (same_Some (held.0, None) (request, None) both) in
-            eqb-false reply.id id miss (sym same ∙ ap (λ (r : Request). r.id) (sym one) ∙ held.2) in
-            (held.0, slice_get-set_other ledger place p (request, Some reply) elsewhere ∙ held.1, held.2)
-      ]
+  found_replied id p there = grind (arith, cases_Bool, none-some, same_Some, eqb-false, slice_get-set_other)
 
   absent_replied : (id : ℕ) → lookup (nat_eq id) after ≡ None → is_open id replied ≡ false
   unfolding is_open
-  absent_replied id none =
-      elim (cases_Bool (nat_eq reply.id id)) [
-        | inl hit ↦
-            let is : request.id ≡ id = same ∙ eqb-true reply.id id hit in
-            let lone = alone (take place ledger) request (drop (suc place) ledger) apart_before in
-            rw (parts_after, is_open-append id (take place ledger) ((request, Some reply) ∷ drop (suc place) ledger))
-            (or_from (is_open id (take place ledger)) (is_open id (drop (suc place) ledger)) (rw is at lone.not_before) (rw is at lone.not_after))
-        | inr miss ↦
-            let was : lookup (nat_eq id) index ≡ None = rw (changed id, miss) at none in
-            let shut : is_open id (take place ledger ++ (request, None) ∷ drop (suc place) ledger) ≡ false =
-            ap (is_open id) (sym parts_before) ∙ indexed.absent id was in
-            rw parts_after (still_shut id (take place ledger) request reply (drop (suc place) ledger) shut)
-      ]
+  absent_replied id none = elim (cases_Bool (nat_eq reply.id id)) [
+    | inl hit ↦
+        let is : request.id ≡ id = same ∙ eqb-true reply.id id hit in
+        let lone = alone (take place ledger) request (drop (suc place) ledger) apart_before in
+        rw (parts_after, is_open-append id (take place ledger) ((request, Some reply) ∷ drop (suc place) ledger))
+        (or_from (is_open id (take place ledger)) (is_open id (drop (suc place) ledger)) (rw is at lone.not_before) (rw is at lone.not_after))
+    | inr miss ↦
+        let was : lookup (nat_eq id) index ≡ None = rw (changed id, miss) at none in
+        let shut : is_open id (take place ledger ++ (request, None) ∷ drop (suc place) ledger) ≡ false =
+        ap (is_open id) (sym parts_before) ∙ indexed.absent id was in
+        rw parts_after (still_shut id (take place ledger) request reply (drop (suc place) ledger) shut)
+  ]
 
   pub still_answered : AllByRecursion IsAnswered (take oldest replied)
   still_answered = answered-set oldest ledger place request reply indexed.answered
@@ -248,8 +201,7 @@ module _ (ledger : List Exchange) (index after : List (ℕ × ℕ)) (oldest plac
   indexed_replied next answered within waits = record {
     found = found_replied;
     absent = absent_replied;
-    apart =
-        subst AreApart (sym parts_after)
+    apart = subst AreApart (sym parts_after)
         (AreApart-answered (take place ledger) request reply (drop (suc place) ledger) apart_before);
     answered = answered;
     within = within;

@@ -21,8 +21,7 @@ use Rattle.sftp_audit.proofs.pairing.Standing.{no_reply_unasked, complete, no_en
 
 -- whatever comes later, the session is not explained
 abbrev pub IsLost : List Exchange → Event → Type 0
-IsLost old event =
-    (seen more : List Event) → StandsFor old seen → Matching (seen ++ event ∷ more)
+IsLost old event = (seen more : List Event) → StandsFor old seen → Matching (seen ++ event ∷ more)
     → IsTrue (in_window (seen ++ event ∷ more)) → ⊥
 
 -- the ledger stands for the event too
@@ -46,8 +45,7 @@ lost_asked old request (inl used) =
 lost_asked old request (inr late) =
     λ seen more stands matching inside. no_late_request old seen request more stands late inside
 
-pub asked_lost : {T : Type 0} (old : List Exchange) (request : Request) (r : Result T Refusal)
-    → IfErr r
+pub asked_lost : {T : Type 0} (old : List Exchange) (request : Request) (r : Result T Refusal) → IfErr r
     (λ e. e ≢ NoMemory → (is_open request.id old ≡ true) ⊎ (keeps_window (old ++ (request, None) ∷ []) [] ≡ false))
     → IfErr r (λ e. e ≢ NoMemory → IsLost old (Asked request))
 asked_lost old request (Ok x) why = tt
@@ -86,8 +84,7 @@ lost_at r refusal ledger events i event lt is stands same lost =
 -- the end, where each request is answered
 pub all_answered : (r : Result (Vec RecordedExchange) Refusal) (ledger : List Exchange) (seen : List Event)
     → StandsFor ledger seen → IfOk r (λ v. AllByRecursion IsAnswered (ledger_of v.items))
-    → IfOk r (λ v. ledger_of v.items ≡ ledger)
-    → IfOk r (λ v. IsComplete (ledger_of v.items) seen)
+    → IfOk r (λ v. ledger_of v.items ≡ ledger) → IfOk r (λ v. IsComplete (ledger_of v.items) seen)
 all_answered (Ok v) ledger seen stands answered same =
     complete (ledger_of v.items) seen (subst (λ (l : List Exchange). StandsFor l seen) (sym same) stands) answered
 all_answered (Err e) ledger seen stands answered same = tt

@@ -1,6 +1,6 @@
 -- Exchanges and their ledger, place by place.
 use Rattle.std.proofs.Common.{◌≡◌, ℕ, zero, suc, ◌+◌, ◌<◌, true, false, List, [], ◌∷◌, Option, Some, None, is_some}
-use Rattle.std.proofs.Common.{length, take, set, get_or, slice_get, refl, sym, ap, subst, ◌∙◌, arith, add-one}
+use Rattle.std.proofs.Common.{length, take, set, get_or, slice_get, refl, sym, arith, add-one}
 use Rattle.std.specs.List.{AllByRecursion}
 use Rattle.std.specs.Option.{option_map}
 use Rattle.std.proofs.lemmas.Bool.{true≢false}
@@ -16,15 +16,12 @@ use Rattle.sftp_audit.specs.Exchanges.{reply_of, exchange_of, ledger_of}
 -- the entry of the exchange that was read
 pub exchange_at : (exchanges : List RecordedExchange) (place : ℕ) (x : RecordedExchange) → place < length exchanges
     → x ≡ get_or exchanges place x → slice_get (ledger_of exchanges) place ≡ Some (exchange_of x)
-exchange_at exchanges place x lt is =
-    slice_get-map exchange_of exchanges place
-    ∙ ap (option_map exchange_of) (slice_get_read exchanges (length exchanges) place x refl lt is)
+exchange_at exchanges place x lt is = grind (arith, slice_get-map, slice_get_read)
 
 -- a place in the ledger is one in the exchanges
 pub within_exchanges : (exchanges : List RecordedExchange) (place : ℕ) (e : Exchange)
     → slice_get (ledger_of exchanges) place ≡ Some e → place < length exchanges
-within_exchanges exchanges place e at =
-    omega (arith, slice_get_within (ledger_of exchanges) place e at, length-map exchanges exchange_of)
+within_exchanges exchanges place e at = grind (arith, slice_get_within, length-map)
 
 is_answered : (x : RecordedExchange) → is_some x.reply ≡ true → IsAnswered (exchange_of x)
 is_answered x there = by x.reply there
@@ -38,8 +35,7 @@ answered_suc : (exchanges : List RecordedExchange) (place : ℕ) (x : RecordedEx
     → AllByRecursion IsAnswered (take place (ledger_of exchanges))
     → AllByRecursion IsAnswered (take (suc place) (ledger_of exchanges))
 answered_suc [] place x lt is there h = absurd (omega arith)
-answered_suc (y ∷ exchanges) zero x lt is there h =
-    (is_answered y (subst (λ (e : RecordedExchange). is_some e.reply ≡ true) is there), tt)
+answered_suc (y ∷ exchanges) zero x lt is there h = grind (arith, is_answered)
 answered_suc (y ∷ exchanges) (suc place) x lt is there h =
     (h.0, answered_suc exchanges place x (omega arith) is there h.1)
 
@@ -58,18 +54,11 @@ none_if (Some reply) e = absurd (true≢false e)
 pub waits_at : (exchanges : List RecordedExchange) (place : ℕ) (x : RecordedExchange) → place < length exchanges
     → x ≡ get_or exchanges place x → is_some x.reply ≡ false
     → slice_get (ledger_of exchanges) place ≡ Some (x.request.now, None)
-waits_at exchanges place x lt is none =
-    exchange_at exchanges place x lt is
-    ∙ ap (λ (r : Option RecordedReply). Some (x.request.now, option_map reply_of r)) (none_if x.reply none)
+waits_at exchanges place x lt is none = grind (arith, exchange_at, none_if)
 
 -- the reply that an exchange gets, in the ledger
 pub ledger_of-set : (exchanges : List RecordedExchange) (place : ℕ) (x y : RecordedExchange) (request : Request)
     (reply : Reply) → place < length exchanges → x ≡ get_or exchanges place x
-    → slice_get (ledger_of exchanges) place ≡ Some (request, None)
-    → exchange_of y ≡ (x.request.now, Some reply)
+    → slice_get (ledger_of exchanges) place ≡ Some (request, None) → exchange_of y ≡ (x.request.now, Some reply)
     → ledger_of (set exchanges place y) ≡ set (ledger_of exchanges) place (request, Some reply)
-ledger_of-set exchanges place x y request reply lt is at given =
-    let both : Some (exchange_of x) ≡ Some (request, None) = sym (exchange_at exchanges place x lt is) ∙ at in
-    let same : x.request.now ≡ request = ap (λ (e : Exchange). e.0) (same_Some (exchange_of x) (request, None) both) in
-    map-set exchange_of exchanges place y
-    ∙ ap (set (ledger_of exchanges) place) (given ∙ ap (λ (q : Request). (q, Some reply)) same)
+ledger_of-set exchanges place x y request reply lt is at given = grind (arith, exchange_at, same_Some, map-set)

@@ -10,7 +10,7 @@ use Rattle.sftp_wire.specs.declared.packets.Request.{Request}
 use Rattle.sftp_wire.specs.declared.packets.Reply.{Reply}
 use Rattle.sftp_audit.specs.declared.events.Event.{Event}
 use Rattle.sftp_audit.specs.declared.events.Event.TheVariants.{Asked, Replied}
-use Rattle.sftp_audit.specs.Explained.{Turn, closed, waiting, broken, after_event, turn_after, Matching, next_reply}
+use Rattle.sftp_audit.specs.Explained.{closed, waiting, broken, after_event, turn_after, Matching, next_reply}
 use Rattle.sftp_audit.specs.Explained.{exchanges_of, requests_before_reply, in_window, window}
 use Rattle.sftp_audit.specs.Ledger.{Exchange, with_replies, is_open, turn_of, AreApart, keeps_window, StandsFor}
 use Rattle.sftp_audit.specs.Ledger.{IsAnswered, IsComplete}
@@ -30,10 +30,8 @@ with_replies-append : (xs ys : List Exchange) (more : List Event)
     → with_replies (xs ++ ys) more ≡ with_replies xs more ++ with_replies ys more
 unfolding with_replies
 with_replies-append [] ys more = refl
-with_replies-append ((request, None) ∷ xs) ys more =
-    ap (λ (l : List Exchange). (request, next_reply request.id more) ∷ l) (with_replies-append xs ys more)
-with_replies-append ((request, Some reply) ∷ xs) ys more =
-    ap (λ (l : List Exchange). (request, Some reply) ∷ l) (with_replies-append xs ys more)
+with_replies-append ((request, None) ∷ xs) ys more = simp (with_replies-append xs ys more)
+with_replies-append ((request, Some reply) ∷ xs) ys more = simp (with_replies-append xs ys more)
 
 or_assoc : (a b c : Bool) → (a || (b || c)) ≡ ((a || b) || c)
 or_assoc true b c = refl
@@ -54,15 +52,8 @@ and_all false = refl
 pub is_open-append : (id : ℕ) (xs ys : List Exchange) → is_open id (xs ++ ys) ≡ (is_open id xs || is_open id ys)
 unfolding is_open
 is_open-append id [] ys = refl
-is_open-append id ((request, None) ∷ xs) ys =
-    ap (λ (b : Bool). (request.id == id) || b) (is_open-append id xs ys)
-    ∙ or_assoc (request.id == id) (is_open id xs) (is_open id ys)
+is_open-append id ((request, None) ∷ xs) ys = simp (or_assoc, is_open-append id xs ys)
 is_open-append id ((request, Some reply) ∷ xs) ys = is_open-append id xs ys
-
--- whose turn it is, by whether a request waits
-turn_if : Bool → Turn
-turn_if true = waiting
-turn_if false = closed
 
 turn_of-open : (ledger : List Exchange) (id : ℕ) → is_open id ledger ≡ true → turn_of ledger id ≡ waiting
 turn_of-open ledger id e = ap (λ (b : Bool). cond b waiting closed) e
@@ -74,13 +65,7 @@ turn_of-closed ledger id e = ap (λ (b : Bool). cond b waiting closed) e
 
 pub stands_from_start : StandsFor [] []
 unfolding with_replies is_open AreApart keeps_window
-stands_from_start = record {
-  exchanges_are = λ more. refl;
-  turns_are = λ id more. refl;
-  window_is = λ more. refl;
-  apart = tt;
-  in_time = refl;
-}
+stands_from_start = grind arith
 
 -- ---- one request more
 
@@ -88,27 +73,14 @@ with_replies-asked : (ledger : List Exchange) (request : Request) (more : List E
     → with_replies ledger (Asked request ∷ more) ≡ with_replies ledger more
 unfolding with_replies next_reply
 with_replies-asked [] request more = refl
-with_replies-asked ((first, None) ∷ ledger) request more =
-    ap (λ (l : List Exchange). (first, next_reply first.id more) ∷ l) (with_replies-asked ledger request more)
-with_replies-asked ((first, Some reply) ∷ ledger) request more =
-    ap (λ (l : List Exchange). (first, Some reply) ∷ l) (with_replies-asked ledger request more)
+with_replies-asked ((first, None) ∷ ledger) request more = simp (with_replies-asked ledger request more)
+with_replies-asked ((first, Some reply) ∷ ledger) request more = simp (with_replies-asked ledger request more)
 
 asked_turn : (ledger : List Exchange) (request : Request) (id : ℕ) → is_open request.id ledger ≡ false
     → after_event id (Asked request) (turn_of ledger id) ≡ turn_of (ledger ++ (request, None) ∷ []) id
 unfolding is_open
 asked_turn ledger request id none =
-    elim (cases_Bool (request.id == id)) [
-      | inl same_id ↦
-          let same : request.id ≡ id = eqb-true _ _ same_id in
-          let shut : is_open id ledger ≡ false = rw same at none in
-          let opened : is_open id (ledger ++ (request, None) ∷ []) ≡ true =
-          rw (is_open-append id ledger ((request, None) ∷ []), shut, same_id) refl in
-          rw (same_id, turn_of-closed ledger id shut, turn_of-open (ledger ++ (request, None) ∷ []) id opened) refl
-      | inr other_id ↦
-          let kept : is_open id (ledger ++ (request, None) ∷ []) ≡ is_open id ledger =
-          rw (is_open-append id ledger ((request, None) ∷ []), other_id) (or_none (is_open id ledger)) in
-          rw (other_id, kept) refl
-    ]
+    grind (arith, cases_Bool, eqb-true, is_open-append, turn_of-closed, turn_of-open, or_none)
 
 keeps_window-asked : (ledger : List Exchange) (request : Request) (more : List Event)
     → keeps_window (ledger ++ (request, None) ∷ []) more ≡
@@ -160,8 +132,7 @@ with_replies-other ((first, None) ∷ ledger) reply more none =
     let parts = or_parts (first.id == reply.id) (is_open reply.id ledger) none in
     let other = flipped first.id reply.id parts.0 in
     rw (other, with_replies-other ledger reply more parts.1) refl
-with_replies-other ((first, Some given) ∷ ledger) reply more none =
-    ap (λ (l : List Exchange). (first, Some given) ∷ l) (with_replies-other ledger reply more none)
+with_replies-other ((first, Some given) ∷ ledger) reply more none = simp (with_replies-other ledger reply more none)
 
 keeps_window-other : (ledger : List Exchange) (reply : Reply) (more : List Event) → is_open reply.id ledger ≡ false
     → keeps_window ledger (Replied reply ∷ more) ≡ keeps_window ledger more
@@ -175,8 +146,7 @@ keeps_window-other ((first, Some given) ∷ ledger) reply more none = keeps_wind
 
 length-answered : (front : List Exchange) (request : Request) (reply : Reply) (back : List Exchange)
     → length (front ++ (request, None) ∷ back) ≡ length (front ++ (request, Some reply) ∷ back)
-length-answered front request reply back =
-    omega (arith, length-append front ((request, None) ∷ back), length-append front ((request, Some reply) ∷ back))
+length-answered front request reply back = simp (length-append)
 
 broken_after : (id : ℕ) (event : Event) → after_event id event broken ≡ broken
 broken_after id (Asked request) = cond_alike (request.id == id)
@@ -211,12 +181,7 @@ is_open-answered id front request reply back = is_open-append id front ((request
 pub still_shut : (id : ℕ) (front : List Exchange) (request : Request) (reply : Reply) (back : List Exchange)
     → is_open id (front ++ (request, None) ∷ back) ≡ false → is_open id (front ++ (request, Some reply) ∷ back) ≡ false
 unfolding is_open
-still_shut id front request reply back none =
-    let joined : (is_open id front || ((request.id == id) || is_open id back)) ≡ false =
-    sym (is_open-append id front ((request, None) ∷ back)) ∙ none in
-    let split = or_parts (is_open id front) ((request.id == id) || is_open id back) joined in
-    let behind = or_parts (request.id == id) (is_open id back) split.1 in
-    is_open-answered id front request reply back ∙ or_from (is_open id front) (is_open id back) split.0 behind.1
+still_shut id front request reply back none = grind (arith, is_open-append, or_parts, is_open-answered, or_from)
 
 pub AreApart-answered : (front : List Exchange) (request : Request) (reply : Reply) (back : List Exchange)
     → AreApart (front ++ (request, None) ∷ back) → AreApart (front ++ (request, Some reply) ∷ back)
@@ -233,33 +198,29 @@ with_replies-replied : (front : List Exchange) (request : Request) (reply : Repl
     (front ++ (request, Some reply) ∷ back) more
 unfolding with_replies next_reply
 with_replies-replied front request reply back more same lone =
-    let before : is_open reply.id front ≡ false = rw same at lone.not_before in
-    let after : is_open reply.id back ≡ false = rw same at lone.not_after in
-    let hit : (reply.id == request.id) ≡ true = eq-eqb reply.id request.id (sym same) in
-    rw (with_replies-append front ((request, None) ∷ back) (Replied reply ∷ more), with_replies-append front ((request, Some reply) ∷ back) more, hit, with_replies-other front reply more before, with_replies-other back reply more after) refl
+    grind (arith, eq-eqb, with_replies-append, with_replies-other)
 
 replied_turn : (front : List Exchange) (request : Request) (reply : Reply) (back : List Exchange) (id : ℕ)
     → request.id ≡ reply.id → Alone front request back
     → after_event id (Replied reply) (turn_of (front ++ (request, None) ∷ back) id) ≡ turn_of
     (front ++ (request, Some reply) ∷ back) id
 unfolding is_open
-replied_turn front request reply back id same lone =
-    elim (cases_Bool (reply.id == id)) [
-      | inl same_id ↦
-          let is : request.id ≡ id = same ∙ eqb-true _ _ same_id in
-          let before : is_open id front ≡ false = rw is at lone.not_before in
-          let after : is_open id back ≡ false = rw is at lone.not_after in
-          let opened : is_open id (front ++ (request, None) ∷ back) ≡ true =
-          rw (is_open-append id front ((request, None) ∷ back), before, eq-eqb request.id id is) refl in
-          let shut : is_open id (front ++ (request, Some reply) ∷ back) ≡ false =
-          rw (is_open-answered id front request reply back, before, after) refl in
-          rw (same_id, turn_of-open (front ++ (request, None) ∷ back) id opened, turn_of-closed (front ++ (request, Some reply) ∷ back) id shut) refl
-      | inr other_id ↦
-          let miss : (request.id == id) ≡ false = rw (← same) at other_id in
-          let kept : is_open id (front ++ (request, None) ∷ back) ≡ is_open id (front ++ (request, Some reply) ∷ back) =
-          rw (is_open-append id front ((request, None) ∷ back), is_open-answered id front request reply back, miss) refl in
-          rw (other_id, kept) refl
-    ]
+replied_turn front request reply back id same lone = elim (cases_Bool (reply.id == id)) [
+  | inl same_id ↦
+      let is : request.id ≡ id = same ∙ eqb-true _ _ same_id in
+      let before : is_open id front ≡ false = rw is at lone.not_before in
+      let after : is_open id back ≡ false = rw is at lone.not_after in
+      let opened : is_open id (front ++ (request, None) ∷ back) ≡ true =
+      rw (is_open-append id front ((request, None) ∷ back), before, eq-eqb request.id id is) refl in
+      let shut : is_open id (front ++ (request, Some reply) ∷ back) ≡ false =
+      rw (is_open-answered id front request reply back, before, after) refl in
+      rw (same_id, turn_of-open (front ++ (request, None) ∷ back) id opened, turn_of-closed (front ++ (request, Some reply) ∷ back) id shut) refl
+  | inr other_id ↦
+      let miss : (request.id == id) ≡ false = rw (← same) at other_id in
+      let kept : is_open id (front ++ (request, None) ∷ back) ≡ is_open id (front ++ (request, Some reply) ∷ back) =
+      rw (is_open-append id front ((request, None) ∷ back), is_open-answered id front request reply back, miss) refl in
+      rw (other_id, kept) refl
+]
 
 keeps_window-replied : (front : List Exchange) (request : Request) (reply : Reply) (back : List Exchange)
     (more : List Event) → request.id ≡ reply.id → Alone front request back
@@ -267,12 +228,7 @@ keeps_window-replied : (front : List Exchange) (request : Request) (reply : Repl
     → keeps_window (front ++ (request, None) ∷ back) (Replied reply ∷ more) ≡ keeps_window
     (front ++ (request, Some reply) ∷ back) more
 unfolding keeps_window requests_before_reply is_open
-keeps_window-replied [] request reply back more same lone kept =
-    let after : is_open reply.id back ≡ false = rw same at lone.not_after in
-    let hit : (reply.id == request.id) ≡ true = eq-eqb reply.id request.id (sym same) in
-    let now : nat_lt (length back + 0) window ≡ true =
-    (and_parts (nat_lt (length back + 0) window) (keeps_window back []) kept).0 in
-    rw (hit, now) (keeps_window-other back reply more after)
+keeps_window-replied [] request reply back more same lone kept = grind (arith, eq-eqb, and_parts, keeps_window-other)
 keeps_window-replied ((first, None) ∷ front) request reply back more same lone kept =
     let parts = or_parts (first.id == request.id) (is_open request.id front) lone.not_before in
     let miss : (reply.id == first.id) ≡ false = rw (← same) (flipped first.id request.id parts.0) in
@@ -289,13 +245,11 @@ in_time-replied : (front : List Exchange) (request : Request) (reply : Reply) (b
     → keeps_window (front ++ (request, None) ∷ back) [] ≡ true
     → keeps_window (front ++ (request, Some reply) ∷ back) [] ≡ true
 unfolding keeps_window
-in_time-replied [] request reply back kept =
-    (and_parts (nat_lt (length back + requests_before_reply request.id []) window) (keeps_window back []) kept).1
+in_time-replied [] request reply back kept = grind (arith, and_parts)
 in_time-replied ((first, None) ∷ front) request reply back kept =
     let as_long : length (front ++ (request, None) ∷ back) ≡ length (front ++ (request, Some reply) ∷ back) =
     length-answered front request reply back in
-    let parts = and_parts
-    (nat_lt (length (front ++ (request, None) ∷ back) + requests_before_reply first.id []) window)
+    let parts = and_parts (nat_lt (length (front ++ (request, None) ∷ back) + requests_before_reply first.id []) window)
     (keeps_window (front ++ (request, None) ∷ back) []) kept in
     and_from (nat_lt (length (front ++ (request, Some reply) ∷ back) + requests_before_reply first.id []) window)
     (keeps_window (front ++ (request, Some reply) ∷ back) []) (rw (← as_long) parts.0)
@@ -385,11 +339,7 @@ keeps_window-later ((first, Some given) ∷ ledger) request more kept = keeps_wi
 pub no_late_request : (ledger : List Exchange) (seen : List Event) (request : Request) (more : List Event)
     → StandsFor ledger seen → keeps_window (ledger ++ (request, None) ∷ []) [] ≡ false
     → in_window (seen ++ Asked request ∷ more) ≡ true → ⊥
-no_late_request ledger seen request more stands late inside =
-    let both : (keeps_window ledger (Asked request ∷ more) && in_window (Asked request ∷ more)) ≡ true =
-    sym (stands.window_is (Asked request ∷ more)) ∙ inside in
-    let kept = (and_parts (keeps_window ledger (Asked request ∷ more)) (in_window (Asked request ∷ more)) both).0 in
-    both_ways (keeps_window (ledger ++ (request, None) ∷ []) []) late (keeps_window-later ledger request more kept)
+no_late_request ledger seen request more stands late inside = grind (arith, and_parts, both_ways, keeps_window-later)
 
 -- ---- the end
 
@@ -411,15 +361,7 @@ with_replies-answered ((first, Some given) ∷ ledger) more answered =
 pub complete : (ledger : List Exchange) (seen : List Event) → StandsFor ledger seen → AllByRecursion IsAnswered ledger
     → IsComplete ledger seen
 unfolding turn_after in_window exchanges_of
-complete ledger seen stands answered = record {
-  matching =
-      λ id. ap (turn_after id closed) (sym (append-nil seen)) ∙ stands.turns_are id []
-      ∙ turn_of-closed ledger id (none_open ledger id answered);
-  within_window = ap in_window (sym (append-nil seen)) ∙ stands.window_is [] ∙ rw stands.in_time refl;
-  exchanges_are =
-      ap exchanges_of (sym (append-nil seen)) ∙ stands.exchanges_are [] ∙ append-nil (with_replies ledger [])
-      ∙ with_replies-answered ledger [] answered;
-}
+complete ledger seen stands answered = grind (arith, append-nil, turn_of-closed, none_open, with_replies-answered)
 
 -- ---- the window, by the oldest request that waits
 
@@ -435,16 +377,11 @@ keeps_window-answered ((first, Some given) ∷ front) back more answered =
 pub keeps_window-few : (ledger : List Exchange) → length ledger ≤ window → keeps_window ledger [] ≡ true
 unfolding keeps_window requests_before_reply
 keeps_window-few [] few = refl
-keeps_window-few ((first, None) ∷ ledger) few =
-    let near : length ledger + 0 < window = omega arith in
-    and_from (nat_lt (length ledger + 0) window) (keeps_window ledger []) (lt-ltb _ _ near)
-    (keeps_window-few ledger (omega arith))
+keeps_window-few ((first, None) ∷ ledger) few = grind (arith, and_from, lt-ltb, keeps_window-few ledger (omega arith))
 keeps_window-few ((first, Some given) ∷ ledger) few = keeps_window-few ledger (omega arith)
 
 -- one that waits has too many behind it
 pub keeps_window-many : (first : Request) (ledger : List Exchange) → window ≤ length ledger
     → keeps_window ((first, None) ∷ ledger) [] ≡ false
 unfolding keeps_window requests_before_reply
-keeps_window-many first ledger many =
-    let far : nat_lt (length ledger + 0) window ≡ false = le-ltb (length ledger + 0) window (omega arith) in
-    rw far refl
+keeps_window-many first ledger many = grind (arith, le-ltb)

@@ -27,8 +27,7 @@ rest_is exchanges i x r lt is given =
 -- a reply that is allowed takes the run on
 pub run_on : (exchanges : List RecordedExchange) (i : ℕ) (x : RecordedExchange) (answer : RecordedReply)
     (t new : Tree) (whole : Option Tree) → i < length exchanges → x ≡ get_or exchanges i x → x.reply ≡ Some answer
-    → Allowed t x.request.now answer.reply.now new
-    → run_end t (leading_pairs (ledger_of (drop i exchanges))) ≡ whole
+    → Allowed t x.request.now answer.reply.now new → run_end t (leading_pairs (ledger_of (drop i exchanges))) ≡ whole
     → run_end new (leading_pairs (ledger_of (drop (i + 1) exchanges))) ≡ whole
 unfolding leading_pairs
 run_on exchanges i x answer t new whole lt is given allowed so_far =

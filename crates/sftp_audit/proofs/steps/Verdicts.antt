@@ -16,7 +16,7 @@ use Rattle.sftp_tree.specs.declared.causes.Cause.{Cause}
 use Rattle.sftp_tree.specs.Tree.{Tree, trim}
 use Rattle.sftp_tree.specs.Causes.{CauseSet, every_cause, allows, allow, is_none}
 use Rattle.sftp_tree.specs.Requests.{causes, led, led_to, outcome, shown_to}
-use Rattle.sftp_tree.specs.Requests.{text_to, target_to}
+use Rattle.sftp_tree.specs.Requests.{text_to}
 use Rattle.sftp_audit.specs.Replies.{refuses, is_shown, is_named, answers}
 use Rattle.sftp_audit.specs.Verdicts.{changes, is_answer, IsDone, IsVerdict}
 
@@ -33,8 +33,7 @@ none_allow set test (x ∷ xs) all = rw (neither (set x) (test x) all.0) (none_a
 
 -- no cause allows the code that says OK
 pub allow-zero : (set : CauseSet) → allow set 0 ≡ false
-allow-zero set =
-    none_allow set (λ cause. allows cause 0) every_cause
+allow-zero set = none_allow set (λ cause. allows cause 0) every_cause
     (refl, (refl, (refl, (refl, (refl, (refl, (refl, (refl, (refl, (refl, (refl, (refl, tt))))))))))))
 
 -- ---- requests that change the tree
@@ -63,8 +62,7 @@ answers-status t (Symlink linktarget link) code message language = refl
 answers-status t (Stat path) code message language = shown-status (shown_to t (Stat path)) code message language
 answers-status t (Lstat path) code message language = shown-status (shown_to t (Lstat path)) code message language
 answers-status t (Realpath path) code message language = named-status (text_to t (Realpath path)) code message language
-answers-status t (Readlink path) code message language =
-    named-status (target_to t (Readlink path)) code message language
+answers-status t (Readlink path) code message language = simp (named-status)
 answers-status t other code message language = refl
 
 pub verdict-done : (t : Tree) (ask : Ask) (ok : Bool) (after : Tree) (message language : List ℕ)
@@ -123,8 +121,7 @@ verdict-still : (t : Tree) (ask : Ask) (answer : Answer) (ok : Bool) → (IsTrue
     → refuses (causes t ask) answer ≡ false → (answers t ask answer ≡ true → changes ask ≡ false)
     → ok ≡ is_answer t ask answer → IsVerdict t ask answer ok t
 verdict-still t ask answer ok trimmed unlike still is = record {
-  allowed =
-      λ h. let parts = and_parts (is_none (causes t ask)) (answers t ask answer) (sym is ∙ h) in inr
+  allowed = λ h. let parts = and_parts (is_none (causes t ask)) (answers t ask answer) (sym is ∙ h) in inr
       (record { free = parts.0; answered = parts.1; changed = sym (ap trim (outcome-still t ask (still parts.1)) ∙ trimmed h) });
   refused = λ h after step. elim step [ inl w ↦ no_refusal w.cause | inr w ↦ no_answer h w.free w.answered ];
   kept = λ _. refl;

@@ -31,10 +31,7 @@ module _ (apart : (p q : Packet) (x y : List ℕ) → HasSpelling p → HasSpell
   -- one record begins the bytes at most
   pub Begins-one : (bytes : List ℕ) (p q : Packet) (x y : List ℕ) → Begins bytes p x → Begins bytes q y
       → (p ≡ q) × (x ≡ y)
-  Begins-one bytes p q x y one other =
-      let parts = same_cons (direction_of (side_of p)) (direction_of (side_of q)) (spelling p ++ x) (spelling q ++ y)
-      (sym one.bytes_are ∙ other.bytes_are) in
-      apart p q x y one.spelled other.spelled (side_from_direction (side_of p) (side_of q) parts.0) parts.1
+  Begins-one bytes p q x y one other = grind (arith, same_cons, side_from_direction)
 
   -- one list of events stands in the bytes at most
   pub AreRecords-one : (events others : List Event) (bytes : List ℕ) → AreRecords events bytes

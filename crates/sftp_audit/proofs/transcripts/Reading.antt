@@ -1,15 +1,14 @@
 -- Reading the records of a transcript one after the other.
-use Rattle.std.proofs.Common.{eqb-true, ◌≡◌, ℕ, ◌<◌, List, [], ◌∷◌, ◌++◌, length, refl, sym, ap, subst, ◌∙◌}
-use Rattle.std.proofs.Common.{append_assoc, arith, length-append}
+use Rattle.std.proofs.Common.{eqb-true, ◌≡◌, ℕ, ◌<◌, List, [], ◌∷◌, ◌++◌, length, refl, sym, ap, ◌∙◌}
+use Rattle.std.proofs.Common.{append_assoc, arith}
 use Rattle.std.specs.List.{flat_map, AllByRecursion}
 use Rattle.std.proofs.lemmas.Grind.{flat_map-append}
-use Rattle.std.proofs.lemmas.List.{append-nil, nil_from_length, append_cancel_left}
+use Rattle.std.proofs.lemmas.List.{append-nil, append_cancel_left}
 use Rattle.std.proofs.lemmas.List.Concat.{flat_map-cons}
 use Rattle.sftp_audit.specs.declared.events.Event.{Event}
 use Rattle.sftp_wire.specs.declared.packets.Packet.{Packet}
 use Rattle.sftp_wire.specs.declared.packets.Packet.TheVariants.{Init, Version}
-use Rattle.sftp_wire.specs.Spelling.{HasSpelling}
-use Rattle.sftp_audit.specs.Transcript.{transcript_opening, record_text, event_record, IsEvent, AreRecords, IsHandshake}
+use Rattle.sftp_audit.specs.Transcript.{transcript_opening, event_record, IsEvent, AreRecords, IsHandshake}
 use Rattle.sftp_audit.specs.Transcript.{IsRecord}
 use Rattle.sftp_audit.specs.Records.{Begins, IsInit, BeginsInit, IsVersion, BeginsVersion}
 
@@ -36,17 +35,6 @@ AllByRecursion-push : {A : Type 0} (P : A → Type 0) (xs : List A) (x : A) → 
 AllByRecursion-push P [] x all one = (one, tt)
 AllByRecursion-push P (y ∷ ys) x all one = (all.0, AllByRecursion-push P ys x all.1 one)
 
-pub event_record-shorter : (event : Event) (bytes rest : List ℕ) → bytes ≡ event_record event ++ rest
-    → length rest < length bytes
-event_record-shorter event bytes rest e = omega (arith, length-append (event_record event) rest, ap length e)
-
-pub IsRead-start : (bytes : List ℕ) → IsRead bytes [] bytes
-IsRead-start bytes = record {
-  spelled = tt;
-  bytes_are = refl;
-  only = λ events are. record { more = events; events_are = refl; records = are };
-}
-
 -- what follows the first of several events
 record Parts (events : List Event) (bytes : List ℕ) : Type 0 where
   first : Event
@@ -58,14 +46,7 @@ record Parts (events : List Event) (bytes : List ℕ) : Type 0 where
 
 parts_of : (events : List Event) (bytes : List ℕ) → 0 < length bytes → AreRecords events bytes → Parts events bytes
 parts_of [] bytes some are = absurd (omega (arith, ap length are.bytes_are))
-parts_of (e ∷ es) bytes some are = record {
-  first = e;
-  others = es;
-  events_are = refl;
-  is_event = are.spelled.0;
-  behind = are.spelled.1;
-  bytes_are = are.bytes_are ∙ flat_map-cons event_record e es;
-}
+parts_of (e ∷ es) bytes some are = grind (arith, flat_map-cons)
 
 Continues-next : (events seen : List Event) (event : Event) (rest after : List ℕ) → 0 < length rest
     → IsFirst event rest after → Continues events seen rest → Continues events (seen ++ event ∷ []) after
@@ -74,8 +55,7 @@ Continues-next events seen event rest after some first now =
     let same = first p.first (flat_map event_record p.others) p.is_event p.bytes_are in
     record {
       more = p.others;
-      events_are =
-          now.events_are ∙ ap (λ (es : List Event). seen ++ es)
+      events_are = now.events_are ∙ ap (λ (es : List Event). seen ++ es)
           (p.events_are ∙ ap (λ (e : Event). e ∷ p.others) (sym same.0))
           ∙ sym (append_assoc seen (event ∷ []) p.others);
       records = record { spelled = p.behind; bytes_are = same.1 };
@@ -106,26 +86,13 @@ IsRead-refused bytes seen rest some refused now events are =
     let p = parts_of left.more rest some left.records in
     refused p.first (flat_map event_record p.others) p.is_event p.bytes_are
 
-pub IsRead-found : (bytes : List ℕ) (seen : List Event) (rest : List ℕ) → length rest ≡ 0 → IsRead bytes seen rest
-    → AreRecords seen bytes
-IsRead-found bytes seen rest none now = record {
-  spelled = now.spelled;
-  bytes_are =
-      now.bytes_are ∙ ap (λ (x : List ℕ). flat_map event_record seen ++ x) (nil_from_length rest none)
-      ∙ append-nil (flat_map event_record seen);
-}
-
 pub no_events : (events : List Event) (bytes : List ℕ) → length bytes ≡ 0 → AreRecords events bytes → events ≡ []
 no_events [] bytes none are = refl
-no_events (e ∷ es) bytes none are =
-    absurd (omega (arith, event_record-shorter e bytes (flat_map event_record es) (are.bytes_are ∙ flat_map-cons event_record e es)))
+no_events (e ∷ es) bytes none are = cc
 
 pub IsRead-only : (bytes : List ℕ) (seen : List Event) (rest : List ℕ) → length rest ≡ 0 → IsRead bytes seen rest
     → (events : List Event) → AreRecords events bytes → seen ≡ events
-IsRead-only bytes seen rest none now events are =
-    let left = now.only events are in
-    sym (append-nil seen) ∙ ap (λ (es : List Event). seen ++ es) (sym (no_events left.more rest none left.records))
-    ∙ sym left.events_are
+IsRead-only bytes seen rest none now events are = grind (arith, append-nil, no_events)
 
 -- ---- the records before the events
 
@@ -139,47 +106,21 @@ pub record RecordParts (events : List Event) (opened : List ℕ) : Type 0 where
 
 handshake_parts : (events : List Event) (opened records : List ℕ) → IsHandshake opened records
     → AreRecords events records → RecordParts events opened
-handshake_parts events opened records shake are = record {
-  middle = record_text (Version 3 shake.told) ++ records;
-  records = records;
-  init =
-      record { packet = Init shake.version shake.asked; is_init = shake.high_enough; begins = record { spelled = shake.init; bytes_are = shake.bytes_are } };
-  version =
-      record { packet = Version 3 shake.told; is_version = refl; begins = record { spelled = shake.answer; bytes_are = refl } };
-  recorded = are;
-}
+handshake_parts events opened records shake are = grind arith
 
 pub record_parts : (events : List Event) (bytes opened : List ℕ) → bytes ≡ transcript_opening ++ opened
     → IsRecord events bytes → RecordParts events opened
-record_parts events bytes opened e is =
-    let same : is.opened ≡ opened = append_cancel_left transcript_opening is.opened opened (sym is.opening ∙ e) in
-    subst (RecordParts events) same (handshake_parts events is.opened is.records is.handshake is.recorded)
+record_parts events bytes opened e is = grind (arith, append_cancel_left, handshake_parts)
 
 -- an INIT and a VERSION in front are a handshake
 pub handshake_by : (p q : Packet) (opened middle records : List ℕ) → IsInit p → Begins opened p middle → IsVersion q
     → Begins middle q records → IsHandshake opened records
-handshake_by (Init version asked) (Version three told) opened middle records high first is second = record {
-  version = version;
-  asked = asked;
-  told = told;
-  high_enough = high;
-  init = first.spelled;
-  answer = subst (λ (n : ℕ). HasSpelling (Version n told)) (eqb-true three 3 is) second.spelled;
-  bytes_are =
-      first.bytes_are ∙ ap (λ (x : List ℕ). record_text (Init version asked) ++ x)
-      (second.bytes_are ∙ ap (λ (n : ℕ). record_text (Version n told) ++ records) (eqb-true three 3 is));
-}
+handshake_by (Init version asked) (Version three told) opened middle records high first is second =
+    grind (arith, eqb-true)
 handshake_by (Init version asked) other opened middle records high first is second = absurd is
 handshake_by other q opened middle records high first is second = absurd high
 
 -- the parts of what the bytes record
 pub record_by : (events : List Event) (bytes opened middle records : List ℕ) → bytes ≡ transcript_opening ++ opened
     → BeginsInit opened middle → BeginsVersion middle records → AreRecords events records → IsRecord events bytes
-record_by events bytes opened middle records opening init version are = record {
-  opened = opened;
-  records = records;
-  opening = opening;
-  handshake =
-      handshake_by init.packet version.packet opened middle records init.is_init init.begins version.is_version version.begins;
-  recorded = are;
-}
+record_by events bytes opened middle records opening init version are = grind (arith, handshake_by)

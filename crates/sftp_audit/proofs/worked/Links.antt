@@ -22,8 +22,7 @@ made_end = refl
 pub made : Explained Allowed blank (link_session (codes "x y" ∷ []) (of_link 3)) with_link
 unfolding turn_after in_window requests_before_reply
 made = record {
-  matching =
-      Matching-from_ids (link_session (codes "x y" ∷ []) (of_link 3))
+  matching = Matching-from_ids (link_session (codes "x y" ∷ []) (of_link 3))
       (refl, (refl, (refl, (refl, (refl, (refl, (refl, (refl, tt))))))));
   within_window = refl;
   run =
@@ -35,8 +34,7 @@ unfolding leading_pairs exchanges_of next_reply causes plain_causes no_causes wh
 other_size_end = refl
 
 pub other_size : Unexplained (link_session (codes "x y" ∷ []) (of_link 4))
-other_size end e =
-    no_run-of_run_end blank
+other_size end e = no_run-of_run_end blank
     (leading_pairs (exchanges_of (link_session (codes "x y" ∷ []) (of_link 4)))) other_size_end end e.run
 
 no_permissions_end : run_end blank (leading_pairs (exchanges_of (link_session (codes "x y" ∷ []) (with_no_permissions 3)))) ≡ None
@@ -44,8 +42,7 @@ unfolding leading_pairs exchanges_of next_reply causes plain_causes no_causes wh
 no_permissions_end = refl
 
 pub no_permissions : Unexplained (link_session (codes "x y" ∷ []) (with_no_permissions 3))
-no_permissions end e =
-    no_run-of_run_end blank
+no_permissions end e = no_run-of_run_end blank
     (leading_pairs (exchanges_of (link_session (codes "x y" ∷ []) (with_no_permissions 3)))) no_permissions_end end e.run
 
 other_text_end : run_end blank (leading_pairs (exchanges_of (link_session (codes "x" ∷ []) (of_link 3)))) ≡ None
@@ -53,8 +50,7 @@ unfolding leading_pairs exchanges_of next_reply causes plain_causes no_causes wh
 other_text_end = refl
 
 pub other_text : Unexplained (link_session (codes "x" ∷ []) (of_link 3))
-other_text end e =
-    no_run-of_run_end blank
+other_text end e = no_run-of_run_end blank
     (leading_pairs (exchanges_of (link_session (codes "x" ∷ []) (of_link 3)))) other_text_end end e.run
 
 two_names_end : run_end blank (leading_pairs (exchanges_of (link_session (codes "x y" ∷ codes "x y" ∷ []) (of_link 3)))) ≡ None
@@ -62,8 +58,7 @@ unfolding leading_pairs exchanges_of next_reply causes plain_causes no_causes wh
 two_names_end = refl
 
 pub two_names : Unexplained (link_session (codes "x y" ∷ codes "x y" ∷ []) (of_link 3))
-two_names end e =
-    no_run-of_run_end blank
+two_names end e = no_run-of_run_end blank
     (leading_pairs (exchanges_of (link_session (codes "x y" ∷ codes "x y" ∷ []) (of_link 3)))) two_names_end end e.run
 
 above_end : run_end blank (leading_pairs (exchanges_of above_the_root)) ≡ Some blank

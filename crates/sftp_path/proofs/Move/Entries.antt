@@ -1,6 +1,6 @@
 -- More laws of a directory that moves in a table of places: what is counted, an entry with none below it, and
 -- the move entry by entry.
-use Rattle.std.proofs.Common.{◌≡◌, ◌≢◌, ◌+◌, Bool, true, false, cond, [], ◌∷◌, ◌++◌, length, drop, map, refl, sym, ap, subst, ◌∙◌, arith, Some, None, inl, inr, true≢false}
+use Rattle.std.proofs.Common.{◌≡◌, ◌≢◌, ◌+◌, Bool, true, false, cond, [], ◌∷◌, ◌++◌, length, drop, map, refl, sym, ap, ◌∙◌, arith, Some, None, inl, inr, true≢false}
 use Rattle.std.specs.Ordering.{is_eq}
 use Rattle.std.specs.declared.cmp.Ordering.TheVariants.{Equal}
 use Rattle.std.specs.Map.{keys_of}
@@ -82,8 +82,7 @@ module _ {X : Type 0} (old new : Place) where
             let names = drop (length old) e.0 in
             ap (get place_cmp (map (renamed_entry old new) before)) (renamed-inside old new e.0 inside)
             ∙ get-moved old new before names (NothingFrom-front new before (e ∷ rest) nothing names)
-            ∙ ap (get place_cmp before) (sym (begins-front old e.0 inside))
-            ∙ once
+            ∙ ap (get place_cmp before) (sym (begins-front old e.0 inside)) ∙ once
         | inr outside ↦
             ap (get place_cmp (map (renamed_entry old new) before)) (renamed-outside old new e.0 outside)
             ∙ get-elsewhere old new before e.0 outside (first-outside old new e rest (NothingFrom-behind new before (e ∷ rest) nothing))
@@ -92,31 +91,25 @@ module _ {X : Type 0} (old new : Place) where
 
   pub rekeyed-free : (before rest : Table Place X) (e : Place × X) → InOrder place_cmp (before ++ e ∷ rest)
       → NothingFrom (before ++ e ∷ rest) new → get place_cmp (rekeyed old new before) (renamed old new e.0) ≡ None
-  rekeyed-free before rest e order nothing =
-      get-rekeyed old new before (renamed old new e.0) ∙ last-alone before e rest order nothing
+  rekeyed-free before rest e order nothing = grind (arith, get-rekeyed, last-alone)
 
   pub rekeyed-last : (before rest : Table Place X) (e : Place × X) → InOrder place_cmp (before ++ e ∷ rest)
       → NothingFrom (before ++ e ∷ rest) new
       → rekeyed old new (before ++ e ∷ []) ≡ put place_cmp (rekeyed old new before) (renamed old new e.0) e.1
   unfolding rekeyed
   rekeyed-last before rest e order nothing =
-      ap (from_entries place_cmp) (map-append (renamed_entry old new) before (e ∷ []))
-      ∙ from_entries-last place_cmp place_cmp-total place_cmp-same (map (renamed_entry old new) before) (renamed_entry old new e) (last-alone before e rest order nothing)
+      grind (arith, map-append, from_entries-last, place_cmp-total, place_cmp-same, last-alone)
 
   -- the same of a table that is these entries
   pub rekeyed-free_of : (table before rest : Table Place X) (e : Place × X) → InOrder place_cmp table
       → NothingFrom table new → before ++ e ∷ rest ≡ table
       → get place_cmp (rekeyed old new before) (renamed old new e.0) ≡ None
-  rekeyed-free_of table before rest e order nothing is =
-      rekeyed-free before rest e (subst (InOrder place_cmp) (sym is) order)
-      (λ names. ap (λ es. get place_cmp es (new ++ names)) is ∙ nothing names)
+  rekeyed-free_of table before rest e order nothing is = grind (arith, rekeyed-free)
 
   pub rekeyed-last_of : (table before rest : Table Place X) (e : Place × X) → InOrder place_cmp table
       → NothingFrom table new → before ++ e ∷ rest ≡ table
       → rekeyed old new (before ++ e ∷ []) ≡ put place_cmp (rekeyed old new before) (renamed old new e.0) e.1
-  rekeyed-last_of table before rest e order nothing is =
-      rekeyed-last before rest e (subst (InOrder place_cmp) (sym is) order)
-      (λ names. ap (λ es. get place_cmp es (new ++ names)) is ∙ nothing names)
+  rekeyed-last_of table before rest e order nothing is = grind (arith, rekeyed-last)
 
   -- ---- an entry with nothing below it
 
@@ -136,8 +129,7 @@ module _ {X : Type 0} (old new : Place) where
     -- elsewhere than at the new place
     other : (place : Place) → (place ≡ new → ⊥)
         → get place_cmp moved_alone place ≡ get place_cmp (without place_cmp table old) place
-    other place apart =
-        get-put_elsewhere place_cmp place_cmp-total (without place_cmp table old) new place value
+    other place apart = get-put_elsewhere place_cmp place_cmp-total (without place_cmp table old) new place value
         (differ place new apart)
 
     pub rekeyed-alone : InOrder place_cmp table → get place_cmp table old ≡ Some value
@@ -147,18 +139,14 @@ module _ {X : Type 0} (old new : Place) where
         sym (rekeyed-unique old new table moved_alone (InOrder-put place_cmp place_cmp-total (without place_cmp table old) new value (InOrder-without place_cmp table old order)) nothing at_new at_old beside)
       where
         at_new : (rest : Place) → get place_cmp moved_alone (new ++ rest) ≡ get place_cmp table (old ++ rest)
-        at_new [] =
-            ap (get place_cmp moved_alone) (append-nil new)
+        at_new [] = ap (get place_cmp moved_alone) (append-nil new)
             ∙ get-put_here place_cmp place_cmp-total (without place_cmp table old) new value
             ∙ sym stands ∙ ap (get place_cmp table) (sym (append-nil old))
-        at_new (name ∷ names) =
-            other (new ++ name ∷ names) (longer-apart new name names)
-            ∙ away-none table (new ++ name ∷ names) order (nothing (name ∷ names))
-            ∙ sym (alone name names)
+        at_new (name ∷ names) = other (new ++ name ∷ names) (longer-apart new name names)
+            ∙ away-none table (new ++ name ∷ names) order (nothing (name ∷ names)) ∙ sym (alone name names)
 
         below : (rest : Place) → get place_cmp (without place_cmp table old) (old ++ rest) ≡ None
-        below [] =
-            ap (get place_cmp (without place_cmp table old)) (append-nil old)
+        below [] = ap (get place_cmp (without place_cmp table old)) (append-nil old)
             ∙ get-without_here place_cmp place_cmp-total table old order
         below (name ∷ names) = away-none table (old ++ name ∷ names) order (alone name names)
 
@@ -167,22 +155,19 @@ module _ {X : Type 0} (old new : Place) where
 
         at_old : (place : Place) → begins old place ≡ true → begins new place ≡ false
             → get place_cmp moved_alone place ≡ None
-        at_old place inside outside =
-            other place (not_new place outside)
+        at_old place inside outside = other place (not_new place outside)
             ∙ ap (get place_cmp (without place_cmp table old)) (begins-front old place inside)
             ∙ below (drop (length old) place)
 
         beside : (place : Place) → begins old place ≡ false → begins new place ≡ false
             → get place_cmp moved_alone place ≡ get place_cmp table place
-        beside place not_old outside =
-            other place (not_new place outside)
+        beside place not_old outside = other place (not_new place outside)
             ∙ get-without_elsewhere place_cmp place_cmp-total table old place order (differ old place (begins-apart old old place (begins-itself old) not_old))
 
     pub rekeyed-alone_put_first : InOrder place_cmp table → get place_cmp table old ≡ Some value
         → ((name : Name) (names : Place) → get place_cmp table (old ++ name ∷ names) ≡ None) → NothingFrom table new
         → rekeyed old new table ≡ without place_cmp (put place_cmp table new value) old
-    rekeyed-alone_put_first order stands alone nothing =
-        rekeyed-alone order stands alone nothing
+    rekeyed-alone_put_first order stands alone nothing = rekeyed-alone order stands alone nothing
         ∙ put-without place_cmp place_cmp-total place_cmp-same table old new value order (differ old new apart)
       where
         apart : old ≡ new → ⊥

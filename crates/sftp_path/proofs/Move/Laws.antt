@@ -27,8 +27,7 @@ place_cmp-append (m ∷ ms) p q =
 -- a place that begins one of two places alone tells them apart
 apart : (top p q : Place) (b c : Bool) → begins top p ≡ b → begins top q ≡ c → (b ≡ c → ⊥)
     → is_eq (place_cmp p q) ≡ false
-apart top p q b c at_p at_q differ =
-    false_from_ne_true (is_eq (place_cmp p q))
+apart top p q b c at_p at_q differ = false_from_ne_true (is_eq (place_cmp p q))
     (λ tie. differ (sym at_p ∙ ap (begins top) (place_cmp-same p q ((Equal-is (place_cmp p q)).0 tie)) ∙ at_q))
 
 -- of two places that begin one place, one begins the other
@@ -50,8 +49,7 @@ pub renamed-outside : (old new place : Place) → begins old place ≡ false →
 renamed-outside old new place h = ap (λ b. if b then new ++ drop (length old) place else place) h
 
 renamed-begins : (old new place : Place) → begins old place ≡ true → begins new (renamed old new place) ≡ true
-renamed-begins old new place h =
-    ap (begins new) (renamed-inside old new place h) ∙ begins-append new (drop (length old) place)
+renamed-begins old new place h = grind (arith, renamed-inside, begins-append)
 
 pub length-renamed : (old new place : Place) → begins old place ≡ true
     → length (renamed old new place) + length old ≡ length place + length new
@@ -67,37 +65,26 @@ length-renamed old new place h =
 
 same-moved : (old new rest place : Place) → is_eq (place_cmp (new ++ rest) place) ≡ false
     → is_eq (place_cmp (new ++ rest) (renamed old new place)) ≡ is_eq (place_cmp (old ++ rest) place)
-same-moved old new rest place free =
-    elim (cases_Bool (begins old place)) [
-      | inl inside ↦
-          let behind = drop (length old) place in
-          ap (λ p. is_eq (place_cmp (new ++ rest) p)) (renamed-inside old new place inside)
-          ∙ ap is_eq (place_cmp-append new rest behind ∙ sym (place_cmp-append old rest behind))
-          ∙ ap (λ p. is_eq (place_cmp (old ++ rest) p)) (sym (begins-front old place inside))
-      | inr outside ↦
-          ap (λ p. is_eq (place_cmp (new ++ rest) p)) (renamed-outside old new place outside) ∙ free
-          ∙ sym (apart old (old ++ rest) place true false (begins-append old rest) outside true≢false)
-    ]
+same-moved old new rest place free = elim (cases_Bool (begins old place)) [
+  | inl inside ↦
+      let behind = drop (length old) place in
+      ap (λ p. is_eq (place_cmp (new ++ rest) p)) (renamed-inside old new place inside)
+      ∙ ap is_eq (place_cmp-append new rest behind ∙ sym (place_cmp-append old rest behind))
+      ∙ ap (λ p. is_eq (place_cmp (old ++ rest) p)) (sym (begins-front old place inside))
+  | inr outside ↦
+      ap (λ p. is_eq (place_cmp (new ++ rest) p)) (renamed-outside old new place outside) ∙ free
+      ∙ sym (apart old (old ++ rest) place true false (begins-append old rest) outside true≢false)
+]
 
 same-elsewhere : (old new at place : Place) → begins old at ≡ false → begins new at ≡ false
     → is_eq (place_cmp at (renamed old new place)) ≡ is_eq (place_cmp at place)
 same-elsewhere old new at place not_old not_new =
-    elim (cases_Bool (begins old place)) [
-      | inl inside ↦
-          apart new at (renamed old new place) false true not_new (renamed-begins old new place inside) false≢true
-          ∙ sym (apart old at place false true not_old inside false≢true)
-      | inr outside ↦ ap (λ p. is_eq (place_cmp at p)) (renamed-outside old new place outside)
-    ]
+    grind (arith, cases_Bool, apart, renamed-begins, false≢true, renamed-outside)
 
 never-behind : (old new at place : Place) → begins old at ≡ true → begins new at ≡ false
     → is_eq (place_cmp at (renamed old new place)) ≡ false
 never-behind old new at place in_old not_new =
-    elim (cases_Bool (begins old place)) [
-      | inl inside ↦ apart new at (renamed old new place) false true not_new (renamed-begins old new place inside) false≢true
-      | inr outside ↦
-          ap (λ p. is_eq (place_cmp at p)) (renamed-outside old new place outside)
-          ∙ apart old at place true false in_old outside true≢false
-    ]
+    grind (arith, cases_Bool, apart, renamed-begins, false≢true, renamed-outside, true≢false)
 
 -- there is no entry at a place, nor at those that it begins
 pub nothing-at : {X : Type 0} (table : Table Place X) (top place : Place) → NothingFrom table top
@@ -113,10 +100,7 @@ module _ {X : Type 0} (old new : Place) where
       → is_eq (place_cmp p (renamed old new e.0)) ≡ is_eq (place_cmp q e.0)
       → get place_cmp (map (renamed_entry old new) es) p ≡ get place_cmp es q
       → get place_cmp (map (renamed_entry old new) (e ∷ es)) p ≡ get place_cmp (e ∷ es) q
-  get-step e es p q alike others =
-      get-cons place_cmp (renamed_entry old new e) (map (renamed_entry old new) es) p
-      ∙ (λ i. cond (alike i) (Some e.1) (others i))
-      ∙ sym (get-cons place_cmp e es q)
+  get-step e es p q alike others = grind (arith, get-cons)
 
   pub get-moved : (es : Table Place X) (rest : Place) → get place_cmp es (new ++ rest) ≡ None
       → get place_cmp (map (renamed_entry old new) es) (new ++ rest) ≡ get place_cmp es (old ++ rest)
@@ -145,8 +129,7 @@ module _ {X : Type 0} (old new : Place) where
 
   -- the first entry is not at the new place, nor below it
   pub first-outside : (e : Place × X) (es : Table Place X) → NothingFrom (e ∷ es) new → begins new e.0 ≡ false
-  first-outside e es nothing =
-      false_from_ne_true (begins new e.0) (λ inside.
+  first-outside e es nothing = false_from_ne_true (begins new e.0) (λ inside.
       let rest = drop (length new) e.0 in
       let is : new ++ rest ≡ e.0 = sym (begins-front new e.0 inside) in
       let tie : is_eq (place_cmp (new ++ rest) e.0) ≡ true =
@@ -164,12 +147,10 @@ module _ {X : Type 0} (old new : Place) where
             let rest = drop (length old) e.0 in
             ap (get place_cmp (map (renamed_entry old new) es)) (renamed-inside old new e.0 inside)
             ∙ get-moved es rest (nothing-behind e es nothing rest)
-            ∙ ap (get place_cmp es) (sym (begins-front old e.0 inside))
-            ∙ once
+            ∙ ap (get place_cmp es) (sym (begins-front old e.0 inside)) ∙ once
         | inr outside ↦
             ap (get place_cmp (map (renamed_entry old new) es)) (renamed-outside old new e.0 outside)
-            ∙ get-elsewhere es e.0 outside (first-outside e es nothing)
-            ∙ once
+            ∙ get-elsewhere es e.0 outside (first-outside e es nothing) ∙ once
       ]
 
   size-made : (es : Table Place X) → InOrder place_cmp es → NothingFrom es new
@@ -180,8 +161,7 @@ module _ {X : Type 0} (old new : Place) where
       let others : Table Place X = map (renamed_entry old new) es in
       let rest : size (from_entries place_cmp others) ≡ size es =
       size-made es (sorted_tail place_cmp e.0 (keys_of es) order) (nothing-behind e es nothing) in
-      let more =
-      size-put place_cmp (from_entries place_cmp others) (renamed old new e.0) e.1
+      let more = size-put place_cmp (from_entries place_cmp others) (renamed old new e.0) e.1
       (get-from_entries place_cmp place_cmp-total others (renamed old new e.0) ∙ first-alone e es order nothing) in
       let longer : length es + 1 ≡ length (e ∷ es) = omega arith in
       more ∙ ap (λ n. n + 1) rest ∙ longer
@@ -204,8 +184,7 @@ module _ {X : Type 0} (old new : Place) where
 
   pub get-rekeyed_elsewhere : (table : Table Place X) (place : Place) → begins old place ≡ false
       → begins new place ≡ false → get place_cmp (rekeyed old new table) place ≡ get place_cmp table place
-  get-rekeyed_elsewhere table place not_old not_new =
-      get-rekeyed table place ∙ get-elsewhere table place not_old not_new
+  get-rekeyed_elsewhere table place not_old not_new = grind (arith, get-rekeyed, get-elsewhere)
 
   pub get-rekeyed_behind : (table : Table Place X) (place : Place) → begins old place ≡ true
       → begins new place ≡ false → get place_cmp (rekeyed old new table) place ≡ None
@@ -213,18 +192,17 @@ module _ {X : Type 0} (old new : Place) where
 
   pub get-rekeyed_left : (table : Table Place X) (rest : Place) → begins old new ≡ false → NothingFrom table new
       → get place_cmp (rekeyed old new table) (old ++ rest) ≡ None
-  get-rekeyed_left table rest not_inside nothing =
-      elim (cases_Bool (begins new (old ++ rest))) [
-        | inl both ↦
-            let behind = drop (length new) (old ++ rest) in
-            let between = drop (length new) old in
-            let above : old ≡ new ++ between = begins-front new old (begins-either new old rest both not_inside) in
-            ap (get place_cmp (rekeyed old new table)) (begins-front new (old ++ rest) both)
-            ∙ get-rekeyed_moved table behind (nothing behind)
-            ∙ ap (get place_cmp table) (ap (λ p. p ++ behind) above ∙ append_assoc new between behind)
-            ∙ nothing (between ++ behind)
-        | inr only_old ↦ get-rekeyed_behind table (old ++ rest) (begins-append old rest) only_old
-      ]
+  get-rekeyed_left table rest not_inside nothing = elim (cases_Bool (begins new (old ++ rest))) [
+    | inl both ↦
+        let behind = drop (length new) (old ++ rest) in
+        let between = drop (length new) old in
+        let above : old ≡ new ++ between = begins-front new old (begins-either new old rest both not_inside) in
+        ap (get place_cmp (rekeyed old new table)) (begins-front new (old ++ rest) both)
+        ∙ get-rekeyed_moved table behind (nothing behind)
+        ∙ ap (get place_cmp table) (ap (λ p. p ++ behind) above ∙ append_assoc new between behind)
+        ∙ nothing (between ++ behind)
+    | inr only_old ↦ get-rekeyed_behind table (old ++ rest) (begins-append old rest) only_old
+  ]
 
   pub InOrder-rekeyed : (table : Table Place X) → InOrder place_cmp (rekeyed old new table)
   unfolding rekeyed
@@ -242,16 +220,15 @@ module _ {X : Type 0} (old new : Place) where
       alike
     where
       alike : (place : Place) → get place_cmp other place ≡ get place_cmp (rekeyed old new table) place
-      alike place =
-          elim (cases_Bool (begins new place)) [
-            | inl in_new ↦
-                let rest = drop (length new) place in
-                let is : place ≡ new ++ rest = begins-front new place in_new in
-                ap (get place_cmp other) is ∙ moved rest ∙ sym (get-rekeyed_moved table rest (nothing rest))
-                ∙ ap (get place_cmp (rekeyed old new table)) (sym is)
-            | inr not_new ↦
-                elim (cases_Bool (begins old place)) [
-                  | inl in_old ↦ behind place in_old not_new ∙ sym (get-rekeyed_behind table place in_old not_new)
-                  | inr not_old ↦ elsewhere place not_old not_new ∙ sym (get-rekeyed_elsewhere table place not_old not_new)
-                ]
-          ]
+      alike place = elim (cases_Bool (begins new place)) [
+        | inl in_new ↦
+            let rest = drop (length new) place in
+            let is : place ≡ new ++ rest = begins-front new place in_new in
+            ap (get place_cmp other) is ∙ moved rest ∙ sym (get-rekeyed_moved table rest (nothing rest))
+            ∙ ap (get place_cmp (rekeyed old new table)) (sym is)
+        | inr not_new ↦
+            elim (cases_Bool (begins old place)) [
+              | inl in_old ↦ behind place in_old not_new ∙ sym (get-rekeyed_behind table place in_old not_new)
+              | inr not_old ↦ elsewhere place not_old not_new ∙ sym (get-rekeyed_elsewhere table place not_old not_new)
+            ]
+      ]

@@ -23,8 +23,7 @@ module _ {X : Type 0} (old new : Place) where
       (get-from_entries place_cmp place_cmp-total others (renamed old new e.0) ∙ first-alone old new e es order nothing)
       ∙ ap (λ b. keeps (renamed_entry old new e) && b) (all-made keeps es (sorted_tail place_cmp e.0 (keys_of es) order) (nothing-behind old new e es nothing))
 
-  pub all-rekeyed : (table : Table Place X) (keeps : Place × X → Bool) → InOrder place_cmp table
-      → NothingFrom table new
+  pub all-rekeyed : (table : Table Place X) (keeps : Place × X → Bool) → InOrder place_cmp table → NothingFrom table new
       → list_all keeps (rekeyed old new table) ≡ list_all (λ e. keeps (renamed_entry old new e)) table
   unfolding rekeyed
   all-rekeyed table keeps = all-made keeps table

@@ -1,32 +1,23 @@
 -- The places that absolute texts stand for.
-use Rattle.std.proofs.Common.{◌≡◌, ◌≢◌, ℕ, ◌<◌, true, false, not, ◌&&◌, nat_lt, nat_le, List, [], ◌∷◌, ◌++◌, length, refl, sym, ap, ◌∙◌, arith, filter}
+use Rattle.std.proofs.Common.{◌≡◌, ◌≢◌, ℕ, ◌<◌, true, false, List, [], ◌∷◌, ◌++◌, length, refl, sym, ap, ◌∙◌, arith}
 use Rattle.std.specs.List.{list_all, flat_map}
 use Rattle.std.specs.Option.{IfSome, IfNone}
 use Rattle.std.specs.Prelude.{Option, Some, None}
 use Rattle.std.proofs.lemmas.Bool.{and_parts, false≢true}
 use Rattle.std.proofs.lemmas.List.{append-nil}
-use Rattle.sftp_path.specs.Place.{is_inner, is_dot, is_dot_dot, is_name_byte, is_name, name_limit, are_names, absolute, parts, components, is_nonempty, is_absolute, Name, Place}
+use Rattle.sftp_path.specs.Place.{is_inner, is_name, are_names, absolute, parts, components, is_nonempty, is_absolute, Name, Place}
 use Rattle.sftp_path.specs.Text.{IsTextOf}
 use Rattle.sftp_path.specs.Cut.{begins_at_slash, parts_behind}
-use Rattle.sftp_path.proofs.PathTexts.Splitting.{is_nonzero, parts-whole, parts-append, parts-from_slash, parts-slash, components-slash, components-nil, components-are}
-use Rattle.sftp_path.proofs.PathTexts.GoodPaths.{is_octet, list_all-weaker, list_all-between, filter_all}
+use Rattle.sftp_path.proofs.PathTexts.Splitting.{parts-whole, parts-append, parts-from_slash, parts-slash, components-slash, components-nil, components-are}
+use Rattle.sftp_path.proofs.PathTexts.GoodPaths.{list_all-weaker, list_all-between, filter_all}
 
 -- ---- absolute texts
 
 name-inner : (n : List ℕ) → is_name n ≡ true → list_all is_inner n ≡ true
-name-inner n h =
-    let a =
-    and_parts (nat_lt 0 (length n) && nat_le (length n) name_limit)
-    (list_all is_name_byte n && (not (is_dot n) && not (is_dot_dot n))) h in
-    let b = and_parts (list_all is_name_byte n) (not (is_dot n) && not (is_dot_dot n)) a.1 in
-    list_all-weaker is_name_byte is_inner (λ x p. (and_parts (is_nonzero x) (is_inner x) (and_parts (is_octet x) (is_nonzero x && is_inner x) p).1).1) n b.0
+name-inner n h = grind (arith, and_parts, list_all-weaker)
 
 name-nonempty : (n : List ℕ) → is_name n ≡ true → is_nonempty n ≡ true
-name-nonempty n h =
-    let a =
-    and_parts (nat_lt 0 (length n) && nat_le (length n) name_limit)
-    (list_all is_name_byte n && (not (is_dot n) && not (is_dot_dot n))) h in
-    (and_parts (nat_lt 0 (length n)) (nat_le (length n) name_limit) a.0).0
+name-nonempty n h = grind (arith, and_parts)
 
 parts-names : (n : List ℕ) (ns : Place) → is_name n ≡ true → are_names ns ≡ true
     → parts (n ++ flat_map (λ name. 47 ∷ name) ns) ≡ n ∷ ns
@@ -38,16 +29,13 @@ parts-names n (m ∷ ms) h g =
 
 -- the parts of the absolute text of a place other than the root
 pub parts-absolute : (n : Name) (ns : Place) → are_names (n ∷ ns) ≡ true → parts (absolute (n ∷ ns)) ≡ [] ∷ n ∷ ns
-parts-absolute n ns h =
-    let a = and_parts (is_name n) (list_all is_name ns) h in
-    parts-from_slash (n ++ flat_map (λ name. 47 ∷ name) ns) ∙ ap (λ ps. [] ∷ ps) (parts-names n ns a.0 a.1)
+parts-absolute n ns h = grind (arith, and_parts, parts-from_slash, parts-names)
 
 -- the components of a place's absolute text are its names
 pub components-absolute : (place : Place) → are_names place ≡ true → components (absolute place) ≡ place
 components-absolute [] h = components-slash [] ∙ components-nil
 components-absolute (n ∷ ns) h =
-    components-are (absolute (n ∷ ns)) ∙ ap (filter is_nonempty) (parts-absolute n ns h)
-    ∙ filter_all is_nonempty (n ∷ ns) (list_all-weaker is_name is_nonempty name-nonempty (n ∷ ns) h)
+    grind (arith, components-are, parts-absolute, filter_all, list_all-weaker, name-nonempty)
 
 pub is_absolute-absolute : (place : Place) → is_absolute (absolute place) ≡ true
 is_absolute-absolute [] = refl

@@ -1,5 +1,5 @@
 -- Good paths, and what holds of each of their components.
-use Rattle.std.proofs.Common.{◌≡◌, ◌≢◌, ℕ, suc, ◌+◌, ◌<◌, ◌≤◌, Bool, true, false, cond, not, ◌&&◌, ◌||◌, ◌==◌, nat_lt, nat_le, if◌then◌else◌, List, [], ◌∷◌, ◌++◌, length, get_or, drop, refl, sym, ap, ◌∙◌, Fits, w8, arith, filter}
+use Rattle.std.proofs.Common.{◌≡◌, ◌≢◌, ℕ, suc, ◌+◌, ◌<◌, ◌≤◌, Bool, true, false, cond, not, ◌&&◌, ◌==◌, nat_lt, nat_le, if◌then◌else◌, List, [], ◌∷◌, ◌++◌, length, get_or, drop, refl, sym, ap, ◌∙◌, Fits, w8, arith, filter}
 use Rattle.std.specs.List.{list_all}
 use Rattle.std.specs.Prelude.{slice_index}
 use Rattle.std.proofs.Common.{inl, inr, zero-add}
@@ -9,6 +9,7 @@ use Rattle.std.proofs.lemmas.List.{at_drop_more, at_drop_all}
 use Rattle.std.proofs.lemmas.List.Folds.{list_all-append}
 use Rattle.sftp_path.specs.Place.{is_step, is_inner, is_dot, is_dot_dot, is_name_byte, is_name, name_limit, path_limit, with_first, parts, components, is_nonempty, is_good_path}
 use Rattle.sftp_path.proofs.PathTexts.Splitting.{is_nonzero, is_short, parts-nil, parts-slash, parts-inner, components-are, filter-nonempty}
+use Rattle.std.proofs.lemmas.Grind.{common_steps}
 
 -- ---- tests of each element
 
@@ -55,10 +56,7 @@ list_all-weaker p q w (x ∷ xs) h =
 -- what holds of each element holds of the one between
 pub list_all-between : {X : Type 0} (p : X → Bool) (before : List X) (x : X) (after : List X)
     → list_all p (before ++ x ∷ after) ≡ true → p x ≡ true
-list_all-between p before x after h =
-    let both =
-    and_parts (list_all p before) (list_all p (x ∷ after)) (sym (list_all-append p before (x ∷ after)) ∙ h) in
-    (and_parts (p x) (list_all p after) both.1).0
+list_all-between p before x after h = grind (arith, and_parts, list_all-append)
 
 -- ---- good paths
 
@@ -81,15 +79,12 @@ short_after-zero (p ∷ ps) = ap (λ n. nat_le n name_limit && list_all is_short
 short_after-with_first : (run b : ℕ) (ps : List (List ℕ)) → short_after run (with_first b ps) ≡ short_after (run + 1) ps
 unfolding short_after
 short_after-with_first run b [] = and-true (nat_le (run + 1) name_limit)
-short_after-with_first run b (p ∷ ps) =
-    let e : run + length (b ∷ p) ≡ run + 1 + length p = omega arith in
-    ap (λ n. nat_le n name_limit && list_all is_short ps) e
+short_after-with_first run b (p ∷ ps) = grind arith
 
 short_after-long : (run : ℕ) (ps : List (List ℕ)) → 255 < run → short_after run ps ≡ false
 unfolding short_after
 short_after-long run [] h = lt-leb run 255 h
-short_after-long run (p ∷ ps) h =
-    and_left (nat_le (run + length p) name_limit) (list_all is_short ps) (lt-leb (run + length p) 255 (omega arith))
+short_after-long run (p ∷ ps) h = grind (arith, and_left, lt-leb)
 
 short_after-slash : (run : ℕ) (ps : List (List ℕ)) → run ≤ 255 → short_after run ([] ∷ ps) ≡ list_all is_short ps
 unfolding short_after
@@ -98,41 +93,37 @@ short_after-slash run ps h = ap (λ v. v && list_all is_short ps) (le-leb (run +
 good_from-short : (run : ℕ) (bs : List ℕ) → run ≤ 255
     → (list_all is_nonzero bs && short_after run (parts bs)) ≡ good_from run bs
 good_from-short run [] h = ap (short_after run) parts-nil ∙ short_after-slash run [] h
-good_from-short run (b ∷ bs) h =
-    elim (cases_Bool (b == 47)) [
-      | inl slash ↦
-          let e : short_after run (parts (b ∷ bs)) ≡ short_after 0 (parts bs) =
-          ap (short_after run) (parts-slash b bs slash) ∙ short_after-slash run (parts bs) h
-          ∙ short_after-zero (parts bs) in
-          ap (λ v. list_all is_nonzero (b ∷ bs) && v) e
-          ∙ and_shuffle (is_nonzero b) (list_all is_nonzero bs) (short_after 0 (parts bs)) (good_from 0 bs) (good_from-short 0 bs (omega arith))
-          ∙ ap (λ v. is_nonzero b && cond v (good_from 0 bs) (nat_le (run + 1) name_limit && good_from (run + 1) bs)) (sym slash)
-      | inr inner ↦
-          let e : short_after run (parts (b ∷ bs)) ≡ short_after (run + 1) (parts bs) =
-          ap (short_after run) (parts-inner b bs inner) ∙ short_after-with_first run b (parts bs) in
-          let rest : (list_all is_nonzero bs && short_after (run + 1) (parts bs)) ≡ (nat_le (run + 1) name_limit && good_from (run + 1) bs) =
-          elim (cases_Bool (nat_le (run + 1) name_limit)) [
-            | inl fits ↦ good_from-short (run + 1) bs (leb-true (run + 1) 255 fits) ∙ ap (λ v. v && good_from (run + 1) bs) (sym fits)
-            | inr long ↦ and_right (list_all is_nonzero bs) (short_after (run + 1) (parts bs)) (short_after-long (run + 1) (parts bs) (leb-false (run + 1) 255 long)) ∙ ap (λ v. v && good_from (run + 1) bs) (sym long)
-          ] in
-          ap (λ v. list_all is_nonzero (b ∷ bs) && v) e
-          ∙ and_shuffle (is_nonzero b) (list_all is_nonzero bs) (short_after (run + 1) (parts bs)) (nat_le (run + 1) name_limit && good_from (run + 1) bs) rest
-          ∙ ap (λ v. is_nonzero b && cond v (good_from 0 bs) (nat_le (run + 1) name_limit && good_from (run + 1) bs)) (sym inner)
-    ]
+good_from-short run (b ∷ bs) h = elim (cases_Bool (b == 47)) [
+  | inl slash ↦
+      let e : short_after run (parts (b ∷ bs)) ≡ short_after 0 (parts bs) =
+      ap (short_after run) (parts-slash b bs slash) ∙ short_after-slash run (parts bs) h
+      ∙ short_after-zero (parts bs) in
+      ap (λ v. list_all is_nonzero (b ∷ bs) && v) e
+      ∙ and_shuffle (is_nonzero b) (list_all is_nonzero bs) (short_after 0 (parts bs)) (good_from 0 bs) (good_from-short 0 bs (omega arith))
+      ∙ ap (λ v. is_nonzero b && cond v (good_from 0 bs) (nat_le (run + 1) name_limit && good_from (run + 1) bs)) (sym slash)
+  | inr inner ↦
+      let e : short_after run (parts (b ∷ bs)) ≡ short_after (run + 1) (parts bs) =
+      ap (short_after run) (parts-inner b bs inner) ∙ short_after-with_first run b (parts bs) in
+      let rest : (list_all is_nonzero bs && short_after (run + 1) (parts bs)) ≡ (nat_le (run + 1) name_limit && good_from (run + 1) bs) =
+      elim (cases_Bool (nat_le (run + 1) name_limit)) [
+        | inl fits ↦ good_from-short (run + 1) bs (leb-true (run + 1) 255 fits) ∙ ap (λ v. v && good_from (run + 1) bs) (sym fits)
+        | inr long ↦ and_right (list_all is_nonzero bs) (short_after (run + 1) (parts bs)) (short_after-long (run + 1) (parts bs) (leb-false (run + 1) 255 long)) ∙ ap (λ v. v && good_from (run + 1) bs) (sym long)
+      ] in
+      ap (λ v. list_all is_nonzero (b ∷ bs) && v) e
+      ∙ and_shuffle (is_nonzero b) (list_all is_nonzero bs) (short_after (run + 1) (parts bs)) (nat_le (run + 1) name_limit && good_from (run + 1) bs) rest
+      ∙ ap (λ v. is_nonzero b && cond v (good_from 0 bs) (nat_le (run + 1) name_limit && good_from (run + 1) bs)) (sym inner)
+]
 
 -- an empty part is short
 list_all-short : (ps : List (List ℕ)) → list_all is_short (filter is_nonempty ps) ≡ list_all is_short ps
 list_all-short [] = refl
 list_all-short ([] ∷ ps) = list_all-short ps
-list_all-short ((b ∷ p) ∷ ps) =
-    ap (list_all is_short) (filter-nonempty (b ∷ p) ps (omega arith))
-    ∙ ap (λ v. is_short (b ∷ p) && v) (list_all-short ps)
+list_all-short ((b ∷ p) ∷ ps) = grind (arith, filter-nonempty, list_all-short ps)
 
 -- a path is good if it is short enough and good from its first byte on
 pub good_path-from : (path : List ℕ) → is_good_path path ≡ (nat_le (length path) path_limit && good_from 0 path)
 unfolding is_good_path
-good_path-from path =
-    ap (λ v. nat_le (length path) path_limit && (list_all is_nonzero path && v))
+good_path-from path = ap (λ v. nat_le (length path) path_limit && (list_all is_nonzero path && v))
     (ap (list_all is_short) (components-are path) ∙ list_all-short (parts path) ∙ short_after-zero (parts path))
     ∙ ap (λ v. nat_le (length path) path_limit && v) (good_from-short 0 path (omega arith))
 
@@ -140,21 +131,16 @@ bad_from : (path : List ℕ) → good_from 0 path ≡ false → false ≡ is_goo
 bad_from path h = sym (good_path-from path ∙ and_right (nat_le (length path) path_limit) (good_from 0 path) h)
 
 pub bad_by_length : (path : List ℕ) → path_limit < length path → false ≡ is_good_path path
-bad_by_length path h =
-    sym (good_path-from path ∙ and_left (nat_le (length path) path_limit) (good_from 0 path) (lt-leb (length path) path_limit h))
+bad_by_length path h = grind (arith, good_path-from, and_left, lt-leb)
 
 pub bad_at_zero : (path : List ℕ) (run i : ℕ) → i < length path → slice_index path i ≡ 0
     → good_from run (drop i path) ≡ good_from 0 path → false ≡ is_good_path path
-bad_at_zero path run i l zero-byte rest =
-    bad_from path (sym rest ∙ at_drop_more (good_from run) path i 0 l
-    ∙ ap (λ v. not v && (if slice_index path i == 47 then good_from 0 (drop (i + 1) path) else nat_le (run + 1) name_limit && good_from (run + 1) (drop (i + 1) path))) (eq-eqb (slice_index path i) 0 zero-byte))
+bad_at_zero path run i l zero-byte rest = grind (arith, common_steps, bad_from, at_drop_more, eq-eqb)
 
 pub bad_by_component : (path : List ℕ) (run i : ℕ) → i < length path → slice_index path i ≢ 47 → name_limit < run + 1
     → good_from run (drop i path) ≡ good_from 0 path → false ≡ is_good_path path
 bad_by_component path run i l inner long rest =
-    bad_from path (sym rest ∙ at_drop_more (good_from run) path i 0 l
-    ∙ ap (λ v. not (slice_index path i == 0) && (if v then good_from 0 (drop (i + 1) path) else nat_le (run + 1) name_limit && good_from (run + 1) (drop (i + 1) path))) (ne_eqb (slice_index path i) 47 inner)
-    ∙ and_right (not (slice_index path i == 0)) (nat_le (run + 1) name_limit && good_from (run + 1) (drop (i + 1) path)) (and_left (nat_le (run + 1) name_limit) (good_from (run + 1) (drop (i + 1) path)) (lt-leb (run + 1) name_limit long)))
+    grind (arith, common_steps, bad_from, at_drop_more, ne_eqb, and_right, and_left, lt-leb)
 
 pub good_to_the_end : (path : List ℕ) (run i : ℕ) → length path ≤ i → length path ≤ path_limit
     → good_from run (drop i path) ≡ good_from 0 path → true ≡ is_good_path path
@@ -173,9 +159,7 @@ is_octet b = nat_lt b 256
 list_all-with_first : (p : ℕ → Bool) (b : ℕ) (ps : List (List ℕ)) → p b ≡ true → list_all (list_all p) ps ≡ true
     → list_all (list_all p) (with_first b ps) ≡ true
 list_all-with_first p b [] h g = and_from (p b && true) true (and_from (p b) true h refl) refl
-list_all-with_first p b (q ∷ ps) h g =
-    let a = and_parts (list_all p q) (list_all (list_all p) ps) g in
-    and_from (p b && list_all p q) (list_all (list_all p) ps) (and_from (p b) (list_all p q) h a.0) a.1
+list_all-with_first p b (q ∷ ps) h g = cc
 
 -- what holds of each byte holds of each byte of each part
 pub list_all-parts : (p : ℕ → Bool) (bs : List ℕ) → list_all p bs ≡ true → list_all (list_all p) (parts bs) ≡ true
@@ -191,17 +175,14 @@ list_all-parts p (b ∷ bs) h =
 -- no part contains a `/`
 pub list_all-inner-parts : (bs : List ℕ) → list_all (list_all is_inner) (parts bs) ≡ true
 list_all-inner-parts [] = ap (list_all (list_all is_inner)) parts-nil
-list_all-inner-parts (b ∷ bs) =
-    elim (cases_Bool (b == 47)) [
-      | inl slash ↦ ap (list_all (list_all is_inner)) (parts-slash b bs slash) ∙ list_all-inner-parts bs
-      | inr inner ↦ ap (list_all (list_all is_inner)) (parts-inner b bs inner) ∙ list_all-with_first is_inner b (parts bs) (not_from_false (b == 47) inner) (list_all-inner-parts bs)
-    ]
+list_all-inner-parts (b ∷ bs) = elim (cases_Bool (b == 47)) [
+  | inl slash ↦ ap (list_all (list_all is_inner)) (parts-slash b bs slash) ∙ list_all-inner-parts bs
+  | inr inner ↦ ap (list_all (list_all is_inner)) (parts-inner b bs inner) ∙ list_all-with_first is_inner b (parts bs) (not_from_false (b == 47) inner) (list_all-inner-parts bs)
+]
 
 pub list_all-components : (p : ℕ → Bool) (bs : List ℕ) → list_all p bs ≡ true
     → list_all (list_all p) (components bs) ≡ true
-list_all-components p bs h =
-    ap (list_all (list_all p)) (components-are bs)
-    ∙ list_all-filter (list_all p) is_nonempty (parts bs) (list_all-parts p bs h)
+list_all-components p bs h = grind (arith, components-are, list_all-filter, list_all-parts)
 
 -- each component of a good path is nonempty and short, and has no byte 0 and no `/`
 pub components-good : (path : List ℕ) → is_good_path path ≡ true → list_all is_good_component (components path) ≡ true
@@ -223,18 +204,12 @@ components-good path h =
 
 name_bytes : (c : List ℕ) → list_all is_octet c ≡ true → list_all is_nonzero c ≡ true → list_all is_inner c ≡ true
     → list_all is_name_byte c ≡ true
-name_bytes c bytes nonzero inner =
-    list_all-both is_octet (λ b. is_nonzero b && is_inner b) c bytes (list_all-both is_nonzero is_inner c nonzero inner)
+name_bytes c bytes nonzero inner = simp (list_all-both, is_nonzero)
 
 -- a good component of bytes is a name, but for `.` and `..`
 pub good_component-is_name : (c : List ℕ) → is_good_component c ≡ true → list_all is_octet c ≡ true
     → is_dot c ≡ false → is_dot_dot c ≡ false → is_name c ≡ true
-good_component-is_name c good bytes dot dots =
-    let a = and_parts (is_nonempty c && is_short c) (list_all is_nonzero c && list_all is_inner c) good in
-    let b = and_parts (list_all is_nonzero c) (list_all is_inner c) a.1 in
-    and_from (is_nonempty c && is_short c) (list_all is_name_byte c && (not (is_dot c) && not (is_dot_dot c))) a.0
-    (and_from (list_all is_name_byte c) (not (is_dot c) && not (is_dot_dot c)) (name_bytes c bytes b.0 b.1)
-    (and_from (not (is_dot c)) (not (is_dot_dot c)) (not_from_false (is_dot c) dot) (not_from_false (is_dot_dot c) dots)))
+good_component-is_name c good bytes dot dots = grind (arith, and_parts, and_from, name_bytes, not_from_false)
 
 -- the items of a `&[u8]` are bytes, as a proof knows them
 pub list_all-octets : (c : List ℕ) → ((i : ℕ) → Fits w8 (get_or c i 0)) → list_all is_octet c ≡ true
@@ -243,24 +218,8 @@ list_all-octets (b ∷ bs) h =
     let fits : Fits w8 b = h 0 in
     and_from (is_octet b) (list_all is_octet bs) (lt-ltb b 256 (omega arith)) (list_all-octets bs (λ i. h (suc i)))
 
--- a component of a good path is a name, but for `.` and `..`
-pub component-is_name : (path : List ℕ) (before : List (List ℕ)) (c : List ℕ) (after : List (List ℕ))
-    → is_good_path path ≡ true → components path ≡ before ++ c ∷ after → list_all is_octet c ≡ true
-    → is_dot c ≡ false → is_dot_dot c ≡ false → is_name c ≡ true
-component-is_name path before c after good split =
-    good_component-is_name c (list_all-between is_good_component before c after (ap (list_all is_good_component) (sym split) ∙ components-good path good))
-
 step : (c : List ℕ) → is_good_component c ≡ true → list_all is_octet c ≡ true → is_step c ≡ true
-step c good bytes =
-    elim (cases_Bool (is_dot c)) [
-      | inl dot ↦ ap (λ b. b || (is_dot_dot c || is_name c)) dot
-      | inr no_dot ↦
-          ap (λ b. b || (is_dot_dot c || is_name c)) no_dot
-          ∙ elim (cases_Bool (is_dot_dot c)) [
-            | inl dots ↦ ap (λ b. b || is_name c) dots
-            | inr no_dots ↦ ap (λ b. b || is_name c) no_dots ∙ good_component-is_name c good bytes no_dot no_dots
-          ]
-    ]
+step c good bytes = grind (arith, cases_Bool, good_component-is_name)
 
 steps : (cs : List (List ℕ)) → list_all is_good_component cs ≡ true → list_all (list_all is_octet) cs ≡ true
     → list_all is_step cs ≡ true
@@ -273,5 +232,4 @@ steps (c ∷ cs) good bytes =
 -- each component of a good path of bytes is `.`, `..` or a name
 pub components-steps : (path : List ℕ) → is_good_path path ≡ true → list_all is_octet path ≡ true
     → list_all is_step (components path) ≡ true
-components-steps path good bytes =
-    steps (components path) (components-good path good) (list_all-components is_octet path bytes)
+components-steps path good bytes = grind (arith, steps, components-good, list_all-components)

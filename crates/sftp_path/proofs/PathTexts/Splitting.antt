@@ -42,8 +42,7 @@ pub parts-cut : (bs : List ℕ) (n : ℕ) → ((k : ℕ) → k < n → slice_ind
 parts-cut [] zero before at = parts-nil
 parts-cut [] (suc n) before at = parts-nil
 parts-cut (b ∷ bs) zero before at = parts-slash b bs (eq-eqb b 47 (at (omega arith)))
-parts-cut (b ∷ bs) (suc n) before at =
-    parts-inner b bs (ne_eqb b 47 (before 0 (omega arith)))
+parts-cut (b ∷ bs) (suc n) before at = parts-inner b bs (ne_eqb b 47 (before 0 (omega arith)))
     ∙ ap (with_first b) (parts-cut bs n (λ k h. before (suc k) (omega arith)) (λ h. at (omega arith)))
 
 -- the parts behind the first byte
@@ -68,13 +67,12 @@ parts-whole (b ∷ w) h =
 -- a path has a part, if only an empty one
 pub parts-first : (bs : List ℕ) → (w : List ℕ) × (ws : List (List ℕ)) × (parts bs ≡ w ∷ ws)
 parts-first [] = ([], [], parts-nil)
-parts-first (b ∷ bs) =
-    elim (cases_Bool (b == 47)) [
-      | inl slash ↦ ([], parts bs, parts-slash b bs slash)
-      | inr inner ↦
-          let rest = parts-first bs in
-          (b ∷ rest.0, rest.1, parts-inner b bs inner ∙ ap (with_first b) rest.2)
-    ]
+parts-first (b ∷ bs) = elim (cases_Bool (b == 47)) [
+  | inl slash ↦ ([], parts bs, parts-slash b bs slash)
+  | inr inner ↦
+      let rest = parts-first bs in
+      (b ∷ rest.0, rest.1, parts-inner b bs inner ∙ ap (with_first b) rest.2)
+]
 
 -- ---- components
 
@@ -97,32 +95,16 @@ components-behind (b ∷ bs) h = components-are (b ∷ bs) ∙ ap (filter is_non
 pub filter-nonempty : (w : List ℕ) (ws : List (List ℕ)) → 0 < length w
     → filter is_nonempty (w ∷ ws) ≡ w ∷ filter is_nonempty ws
 filter-nonempty [] ws h = absurd (omega arith)
-filter-nonempty (b ∷ w) ws h =
-    cond-true (is_nonempty (b ∷ w)) ((b ∷ w) ∷ filter is_nonempty ws) (filter is_nonempty ws)
-    (lt-ltb 0 (length (b ∷ w)) h)
-
-pub components-append : (w r : List ℕ) → 0 < length w → list_all is_inner w ≡ true
-    → components (w ++ 47 ∷ r) ≡ w ∷ components r
-components-append w r some h =
-    components-are (w ++ 47 ∷ r) ∙ ap (filter is_nonempty) (parts-append w r h) ∙ filter-nonempty w (parts r) some
-    ∙ ap (λ ws. w ∷ ws) (sym (components-are r))
-
-pub components-whole : (w : List ℕ) → 0 < length w → list_all is_inner w ≡ true → components w ≡ w ∷ []
-components-whole w some h =
-    components-are w ∙ ap (filter is_nonempty) (parts-whole w h) ∙ filter-nonempty w [] some
+filter-nonempty (b ∷ w) ws h = grind (arith, cond-true, lt-ltb)
 
 -- the first slash-less part of what a `/` or nothing follows, where that part is not empty
 pub components-cut : (bs w r : List ℕ) → parts bs ≡ w ∷ parts_behind r → begins_at_slash r ≡ true → 0 < length w
     → components bs ≡ w ∷ components r
-components-cut bs w r cut behind some =
-    components-are bs ∙ ap (filter is_nonempty) cut ∙ filter-nonempty w (parts_behind r) some
-    ∙ ap (λ ws. w ∷ ws) (sym (components-behind r behind))
+components-cut bs w r cut behind some = grind (arith, components-are, filter-nonempty, components-behind)
 
 skip-slash : (b : ℕ) (bs : List ℕ) → (b == 47) ≡ true
     → drop (position_or_len is_inner (b ∷ bs)) (b ∷ bs) ≡ drop (position_or_len is_inner bs) bs
-skip-slash b bs slash =
-    let e : 1 + position_or_len is_inner bs ≡ suc (position_or_len is_inner bs) = omega arith in
-    ap (λ v. drop (cond (not (not v)) (1 + position_or_len is_inner bs) 0) (b ∷ bs)) slash ∙ ap (λ k. drop k (b ∷ bs)) e
+skip-slash b bs slash = grind arith
 
 skip-stop : (b : ℕ) (bs : List ℕ) → (b == 47) ≡ false → drop (position_or_len is_inner (b ∷ bs)) (b ∷ bs) ≡ b ∷ bs
 skip-stop b bs inner = ap (λ v. drop (cond (not (not v)) (1 + position_or_len is_inner bs) 0) (b ∷ bs)) inner
@@ -130,29 +112,25 @@ skip-stop b bs inner = ap (λ v. drop (cond (not (not v)) (1 + position_or_len i
 -- the slashes in front change nothing
 pub components-skip : (bs : List ℕ) → components (drop (position_or_len is_inner bs) bs) ≡ components bs
 components-skip [] = refl
-components-skip (b ∷ bs) =
-    elim (cases_Bool (b == 47)) [
-      | inl slash ↦
-          ap components (skip-slash b bs slash) ∙ components-skip bs
-          ∙ sym (components-slash bs) ∙ ap (λ v. components (v ∷ bs)) (sym (eqb-true b 47 slash))
-      | inr inner ↦ ap components (skip-stop b bs inner)
-    ]
+components-skip (b ∷ bs) = elim (cases_Bool (b == 47)) [
+  | inl slash ↦
+      ap components (skip-slash b bs slash) ∙ components-skip bs
+      ∙ sym (components-slash bs) ∙ ap (λ v. components (v ∷ bs)) (sym (eqb-true b 47 slash))
+  | inr inner ↦ ap components (skip-stop b bs inner)
+]
 
 -- nothing follows them, or a byte that is not `/`
 skip-inner : (bs : List ℕ) → begins_at_slash (drop (position_or_len is_inner bs) bs) ≡ true
     → drop (position_or_len is_inner bs) bs ≡ []
 skip-inner [] h = refl
-skip-inner (b ∷ bs) h =
-    elim (cases_Bool (b == 47)) [
-      | inl slash ↦ skip-slash b bs slash ∙ skip-inner bs (ap begins_at_slash (sym (skip-slash b bs slash)) ∙ h)
-      | inr inner ↦ absurd (false≢true (sym inner ∙ ap begins_at_slash (sym (skip-stop b bs inner)) ∙ h))
-    ]
+skip-inner (b ∷ bs) h = elim (cases_Bool (b == 47)) [
+  | inl slash ↦ skip-slash b bs slash ∙ skip-inner bs (ap begins_at_slash (sym (skip-slash b bs slash)) ∙ h)
+  | inr inner ↦ absurd (false≢true (sym inner ∙ ap begins_at_slash (sym (skip-stop b bs inner)) ∙ h))
+]
 
 position-some : (bs : List ℕ) (n : ℕ) → position is_inner bs ≡ Some n
     → (position_or_len is_inner bs < length bs) × (position_or_len is_inner bs ≡ n)
-position-some bs n h =
-    let p = cond_some (nat_lt (position_or_len is_inner bs) (length bs)) (position_or_len is_inner bs) n h in
-    (ltb-true (position_or_len is_inner bs) (length bs) p.0, p.1)
+position-some bs n h = grind (arith, cond_some, ltb-true)
 
 -- from the first byte on that is no `/`, the first part is the first component
 pub components-next : (bs w r : List ℕ) (n : ℕ) → position is_inner bs ≡ Some n
@@ -168,8 +146,7 @@ components-next bs w r n found whole cut behind =
     nonempty : (v : List ℕ) → drop n bs ≡ v ++ r → 0 < length v
     nonempty [] e =
         let p = position-some bs n found in
-        let none : drop n bs ≡ [] =
-        subst (λ k. begins_at_slash (drop k bs) ≡ true → drop k bs ≡ []) p.1 (skip-inner bs)
+        let none : drop n bs ≡ [] = subst (λ k. begins_at_slash (drop k bs) ≡ true → drop k bs ≡ []) p.1 (skip-inner bs)
         (ap begins_at_slash e ∙ behind) in
         let l : length (drop n bs) ≡ 0 = ap length none in
         absurd (omega (arith, length-drop n bs, p.0, p.1))
@@ -188,22 +165,21 @@ components-end bs none =
 -- where a byte is no `/`, there is a component
 components-there : (bs : List ℕ) → position_or_len is_inner bs < length bs → 0 < length (components bs)
 components-there [] there = absurd (omega arith)
-components-there (b ∷ bs) there =
-    elim (cases_Bool (b == 47)) [
-      | inl slash ↦
-          let skipped : components (b ∷ bs) ≡ components bs =
-          ap (λ v. components (v ∷ bs)) (eqb-true b 47 slash) ∙ components-slash bs in
-          let passed : position_or_len is_inner (b ∷ bs) ≡ 1 + position_or_len is_inner bs =
-          ap (λ v. cond (not (not v)) (1 + position_or_len is_inner bs) 0) slash in
-          let further : position_or_len is_inner bs < length bs = omega arith in
-          rw skipped (components-there bs further)
-      | inr inner ↦
-          let rest = parts-first bs in
-          let first : components (b ∷ bs) ≡ (b ∷ rest.0) ∷ filter is_nonempty rest.1 =
-          components-are (b ∷ bs) ∙ ap (filter is_nonempty) (parts-inner b bs inner ∙ ap (with_first b) rest.2)
-          ∙ filter-nonempty (b ∷ rest.0) rest.1 (omega arith) in
-          omega (arith, ap length first)
-    ]
+components-there (b ∷ bs) there = elim (cases_Bool (b == 47)) [
+  | inl slash ↦
+      let skipped : components (b ∷ bs) ≡ components bs =
+      ap (λ v. components (v ∷ bs)) (eqb-true b 47 slash) ∙ components-slash bs in
+      let passed : position_or_len is_inner (b ∷ bs) ≡ 1 + position_or_len is_inner bs =
+      ap (λ v. cond (not (not v)) (1 + position_or_len is_inner bs) 0) slash in
+      let further : position_or_len is_inner bs < length bs = omega arith in
+      rw skipped (components-there bs further)
+  | inr inner ↦
+      let rest = parts-first bs in
+      let first : components (b ∷ bs) ≡ (b ∷ rest.0) ∷ filter is_nonempty rest.1 =
+      components-are (b ∷ bs) ∙ ap (filter is_nonempty) (parts-inner b bs inner ∙ ap (with_first b) rest.2)
+      ∙ filter-nonempty (b ∷ rest.0) rest.1 (omega arith) in
+      omega (arith, ap length first)
+]
 
 -- whether there is a component, by the first byte that is no `/`
 pub components-none_left : (bs : List ℕ) (found : Option ℕ) (none : Bool) → found ≡ position is_inner bs
@@ -211,18 +187,13 @@ pub components-none_left : (bs : List ℕ) (found : Option ℕ) (none : Bool) �
 components-none_left bs None true e h = sym (eq-eqb (length (components bs)) 0 (ap length (components-end bs (sym e))))
 components-none_left bs None false e h = cc
 components-none_left bs (Some n) true e h = cc
-components-none_left bs (Some n) false e h =
-    let there = components-there bs (position-some bs n (sym e)).0 in
-    sym (ne_eqb (length (components bs)) 0 (λ z. omega arith))
+components-none_left bs (Some n) false e h = grind (arith, components-there, position-some, ne_eqb)
 
 -- the first place of a `/`, or the end, cuts the first part off
 pub parts-found : (bs : List ℕ) (r : Option ℕ) → IsFirstByte (is_byte 47) bs r
     → parts bs ≡ take (unwrap_or r (length bs)) bs ∷ parts_behind (drop (unwrap_or r (length bs)) bs)
-parts-found bs None h =
-    parts-cut bs (length bs) (λ k l e. h k (omega arith) l (eq-eqb (slice_index bs k) 47 e)) (λ l. absurd (omega arith))
-parts-found bs (Some n) h =
-    parts-cut bs n (λ k l e. h.0.before k (omega arith) l (eq-eqb (slice_index bs k) 47 e))
-    (λ l. eqb-true (slice_index bs n) 47 h.1)
+parts-found bs None h = grind (arith, parts-cut, eq-eqb)
+parts-found bs (Some n) h = grind (arith, parts-cut, eq-eqb, eqb-true)
 
 -- ---- the parts make the path
 

@@ -71,8 +71,7 @@ module _ {K X : Type 0} (passes : X → Bool) where
 
     module _ (total : IsTotalOrder cmp) where
       again-turn : (key : K) (value old : X) (e : K × X) (es more : Table K X) (o : Ordering) → cmp key e.0 ≡ o
-          → InOrder cmp (e ∷ es)
-          → lookup (is_at (cmp key)) (e ∷ es) ≡ Some old
+          → InOrder cmp (e ∷ es) → lookup (is_at (cmp key)) (e ∷ es) ≡ Some old
           → cond (is_eq o) (Some e.1) (lookup (is_at (cmp key)) es) ≡ Some old
           → (lookup (is_at (cmp key)) es ≡ Some old → length (filter of_value more) + one_if (passes old) ≡ length (filter of_value es) + one_if (passes value))
           → length (filter of_value (match_ordering o ((key, value) ∷ e ∷ es) ((e.0, value) ∷ es) (e ∷ more))) + one_if (passes old) ≡ length (filter of_value (e ∷ es)) + one_if (passes value)
@@ -96,10 +95,6 @@ module _ {K X : Type 0} (passes : X → Bool) where
           (count-insert_again es key value old (sorted_tail cmp e.0 (keys_of es) order))
 
 -- ---- the laws
-
-pub count-empty : (K : Type 0) {X : Type 0} (passes : X → Bool) → count {K = K} [] passes ≡ 0
-unfolding retain
-count-empty K passes = refl
 
 module _ {K X : Type 0} where
   -- the first entry, and the others

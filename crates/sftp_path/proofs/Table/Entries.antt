@@ -86,8 +86,7 @@ module _ {K X : Type 0} (cmp : K → K → Ordering) where
     get-last [] e at absent = get-cons cmp e [] at
     get-last (x ∷ xs) e at absent =
         let parts = get-none x xs e.0 absent in
-        get-cons cmp x (xs ++ e ∷ []) at
-        ∙ ap (cond (is_eq (cmp at x.0)) (Some x.1)) (get-last xs e at parts.1)
+        get-cons cmp x (xs ++ e ∷ []) at ∙ ap (cond (is_eq (cmp at x.0)) (Some x.1)) (get-last xs e at parts.1)
         ∙ swap-choices (is_eq (cmp at x.0)) (is_eq (cmp at e.0)) (Some x.1) (Some e.1) (get cmp xs at) (never parts.0)
         ∙ ap (cond (is_eq (cmp at e.0)) (Some e.1)) (sym (get-cons cmp x xs at))
       where
@@ -103,8 +102,7 @@ module _ {K X : Type 0} (cmp : K → K → Ordering) where
     from_entries-last es e absent =
         same_table cmp total same (from_entries cmp (es ++ e ∷ [])) (put cmp (from_entries cmp es) e.0 e.1)
         (InOrder-from_entries cmp total (es ++ e ∷ []))
-        (InOrder-put cmp total (from_entries cmp es) e.0 e.1 (InOrder-from_entries cmp total es))
-        (λ at.
+        (InOrder-put cmp total (from_entries cmp es) e.0 e.1 (InOrder-from_entries cmp total es)) (λ at.
         get-from_entries cmp total (es ++ e ∷ []) at ∙ get-last es e at absent
         ∙ ap (cond (is_eq (cmp at e.0)) (Some e.1)) (sym (get-from_entries cmp total es at))
         ∙ sym (get-put cmp total (from_entries cmp es) e.0 e.1 at))
@@ -115,8 +113,7 @@ module _ {K X : Type 0} (cmp : K → K → Ordering) where
     put-without es gone key value order differ =
         same_table cmp total same (put cmp (without cmp es gone) key value) (without cmp (put cmp es key value) gone)
         (InOrder-put cmp total (without cmp es gone) key value (InOrder-without cmp es gone order))
-        (InOrder-without cmp (put cmp es key value) gone (InOrder-put cmp total es key value order))
-        (λ at.
+        (InOrder-without cmp (put cmp es key value) gone (InOrder-put cmp total es key value order)) (λ at.
         get-put cmp total (without cmp es gone) key value at
         ∙ ap (cond (is_eq (cmp at key)) (Some value)) (get-without cmp total es gone at order)
         ∙ swap-choices (is_eq (cmp at key)) (is_eq (cmp gone at)) (Some value) None (get cmp es at) (never at)

@@ -56,8 +56,7 @@ module _ {K X : Type 0} (cmp : K → K → Ordering) where
 
   insert-is : (key : K) (value : X) (es : Table K X) → insert_entry cmp es key value ≡ sorted_list.put cmp key value es
   insert-is key value [] = refl
-  insert-is key value (e ∷ es) =
-      turn (cmp key e.0) ((key, value) ∷ e ∷ es) ((e.0, value) ∷ es) _ _ (ap (λ fs. e ∷ fs) (insert-is key value es))
+  insert-is key value (e ∷ es) = grind (arith, turn, insert-is key value es)
 
   put-is : (key : K) (value : X) (es : Table K X) → put cmp es key value ≡ sorted_list.put cmp key value es
   unfolding put
@@ -74,9 +73,7 @@ module _ {K X : Type 0} (cmp : K → K → Ordering) where
   below-to : (key : K) (es : Table K X) → AllByRecursion (λ k. cmp key k ≡ Less) (keys_of es)
       → T (sorted_list.below_all cmp key es)
   below-to key [] h = tt
-  below-to key (e ∷ es) h =
-      both (is_lt (cmp key e.0)) (sorted_list.below_all cmp key es) (subst (λ o. T (is_lt o)) (sym h.0) tt)
-      (below-to key es h.1)
+  below-to key (e ∷ es) h = grind (arith, both, below-to key es h.1)
 
   below-from : (key : K) (es : Table K X) → T (sorted_list.below_all cmp key es)
       → AllByRecursion (λ k. cmp key k ≡ Less) (keys_of es)
@@ -87,8 +84,7 @@ module _ {K X : Type 0} (cmp : K → K → Ordering) where
   sorted-to : (es : Table K X) → InOrder cmp es → T (sorted_list.is_sorted cmp es)
   sorted-to [] h = tt
   sorted-to (e ∷ es) h =
-      both (sorted_list.below_all cmp e.0 es) (sorted_list.is_sorted cmp es)
-      (below-to e.0 es (sorted_head cmp e.0 (keys_of es) h)) (sorted-to es (sorted_tail cmp e.0 (keys_of es) h))
+      grind (arith, both, below-to, sorted_head, sorted_tail, sorted-to es (sorted_tail cmp e.0 (keys_of es) h))
 
   sorted-from : (es : Table K X) → T (sorted_list.is_sorted cmp es) → InOrder cmp es
   unfolding IsStrictlySortedBy
@@ -128,8 +124,7 @@ module _ {K X : Type 0} (cmp : K → K → Ordering) where
   length-insert : (es : Table K X) (key : K) (value : X) → lookup (is_at (cmp key)) es ≡ None
       → length (insert_entry cmp es key value) ≡ length es + 1
   length-insert [] key value absent = refl
-  length-insert (e ∷ es) key value absent =
-      size-turn key value e es (insert_entry cmp es key value) (cmp key e.0) absent (length-insert es key value)
+  length-insert (e ∷ es) key value absent = grind (arith, size-turn, length-insert es key value)
 
   -- an absent key makes one more
   pub size-put : (es : Table K X) (key : K) (value : X) → get cmp es key ≡ None
@@ -208,8 +203,7 @@ module _ {K X : Type 0} (cmp : K → K → Ordering) where
   module _ (total : IsTotalOrder cmp) where
     pub get-put : (es : Table K X) (key : K) (value : X) (at : K)
         → get cmp (put cmp es key value) at ≡ cond (is_eq (cmp at key)) (Some value) (get cmp es at)
-    get-put es key value at =
-        get-is at (put cmp es key value) ∙ ap (sorted_list.find cmp at) (put-is key value es)
+    get-put es key value at = get-is at (put cmp es key value) ∙ ap (sorted_list.find cmp at) (put-is key value es)
         ∙ sorted_list.find-put cmp total at key value es
         ∙ ap (cond (is_eq (cmp at key)) (Some value)) (sym (get-is at es))
 
@@ -235,8 +229,7 @@ module _ {K X : Type 0} (cmp : K → K → Ordering) where
     lookup-without : (es : Table K X) (key at : K) → InOrder cmp es
         → lookup (is_at (cmp at)) (remove_entry (is_at (cmp key)) es)
         ≡ cond (is_eq (cmp key at)) None (lookup (is_at (cmp at)) es)
-    lookup-without es key at h =
-        lookup-remove_entry (eq_by_cmp_equiv total) (is_at (cmp key))
+    lookup-without es key at h = lookup-remove_entry (eq_by_cmp_equiv total) (is_at (cmp key))
         (λ x y same. ap is_eq (total.congr key x y ((Equal-is (cmp key x)).0 same))) at es
         (IsDistinct-from_sorted cmp (keys_of es) h)
 
@@ -271,8 +264,7 @@ module _ {K X : Type 0} (cmp : K → K → Ordering) where
     module _ (same : IsAntisymmetric cmp) where
       pub same_table : (es fs : Table K X) → InOrder cmp es → InOrder cmp fs
           → ((key : K) → get cmp es key ≡ get cmp fs key) → es ≡ fs
-      same_table es fs g h alike =
-          sorted_list.same_entries cmp total same es fs (sorted-to es g) (sorted-to fs h)
+      same_table es fs g h alike = sorted_list.same_entries cmp total same es fs (sorted-to es g) (sorted-to fs h)
           (λ key. sym (get-is key es) ∙ alike key ∙ get-is key fs)
 
       pub from_entries-is : (es : Table K X) → InOrder cmp es → from_entries cmp es ≡ es

@@ -42,9 +42,7 @@ module _ {K X : Type 0} (cmp : K → K → Ordering) where
   all-insert_new : (keeps : K × X → Bool) (es : Table K X) (key : K) (value : X) → lookup (is_at (cmp key)) es ≡ None
       → list_all keeps (insert_entry cmp es key value) ≡ (keeps (key, value) && list_all keeps es)
   all-insert_new keeps [] key value absent = refl
-  all-insert_new keeps (e ∷ es) key value absent =
-      new-turn keeps key value e es (insert_entry cmp es key value) (cmp key e.0) absent
-      (all-insert_new keeps es key value)
+  all-insert_new keeps (e ∷ es) key value absent = simp (new-turn, all-insert_new keeps es key value)
 
   pub all-put_new : (es : Table K X) (key : K) (value : X) (keeps : K × X → Bool) → get cmp es key ≡ None
       → list_all keeps (put cmp es key value) ≡ (keeps (key, value) && list_all keeps es)
@@ -60,8 +58,7 @@ module _ {K X : Type 0} (cmp : K → K → Ordering) where
       let parts = and_parts (keeps e) (list_all keeps es) h in
       by (test e.0) parts.0 parts.1 (all-remove keeps test es parts.1)
     where
-      by : (b : Bool) → IsTrue (keeps e) → IsTrue (list_all keeps es)
-          → IsTrue (list_all keeps (remove_entry test es))
+      by : (b : Bool) → IsTrue (keeps e) → IsTrue (list_all keeps es) → IsTrue (list_all keeps (remove_entry test es))
           → IsTrue (list_all keeps (cond b es (e ∷ remove_entry test es)))
       by true first others left = others
       by false first others left = and_from (keeps e) (list_all keeps (remove_entry test es)) first left
@@ -77,13 +74,9 @@ module _ {K X : Type 0} (cmp : K → K → Ordering) where
       → IsTrue (passes e.1) → IsTrue (list_all (λ x. passes x.1) es) → IsTrue (passes value)
       → IsTrue (list_all (λ x. passes x.1) more)
       → IsTrue (list_all (λ x. passes x.1) (match_ordering o ((key, value) ∷ e ∷ es) ((e.0, value) ∷ es) (e ∷ more)))
-  values-turn passes key value e es more Less first others passing rest =
-      and_from (passes value) (list_all (λ x. passes x.1) (e ∷ es)) passing
-      (and_from (passes e.1) (list_all (λ x. passes x.1) es) first others)
-  values-turn passes key value e es more Equal first others passing rest =
-      and_from (passes value) (list_all (λ x. passes x.1) es) passing others
-  values-turn passes key value e es more Greater first others passing rest =
-      and_from (passes e.1) (list_all (λ x. passes x.1) more) first rest
+  values-turn passes key value e es more Less first others passing rest = cc
+  values-turn passes key value e es more Equal first others passing rest = cc
+  values-turn passes key value e es more Greater first others passing rest = cc
 
   values-insert : (passes : X → Bool) (es : Table K X) (key : K) (value : X) → IsTrue (list_all (λ e. passes e.1) es)
       → IsTrue (passes value) → IsTrue (list_all (λ e. passes e.1) (insert_entry cmp es key value))

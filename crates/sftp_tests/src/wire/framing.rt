@@ -27,6 +27,7 @@ enum Call<'a> {
     /// The words of `{:?}`.
     Next(&'a str),
     Room(usize),
+    Place(u64),
     Lent(Option<&'a [u8]>),
 }
 
@@ -44,6 +45,7 @@ fn holds(alloc: Global, frames: &mut FrameBuf, call: &Call) -> Result<bool, Allo
         Call::Push(bytes, taken) => frames.push(bytes) == *taken,
         Call::Next(words) => given(alloc, frames)?.as_str() == *words,
         Call::Room(room) => frames.room() == *room,
+        Call::Place(place) => frames.place() == *place,
         Call::Lent(bytes) => frames.lent() == *bytes,
     })
 }
@@ -167,6 +169,19 @@ const UNKNOWN_EXTENSION_BEHIND_INIT: &[Call] = &[
     Call::Next(WAITING),
 ];
 
+/// The place is 0, then behind the 19 bytes of MKDIR, and stays at the first byte of a packet of no known type.
+const PLACES: &[Call] = &[
+    Call::Place(0),
+    Call::Push(MKDIR, 19),
+    Call::Place(0),
+    Call::Next(MKDIR_WORDS),
+    Call::Place(19),
+    Call::Push(b"\0\0\0\x01\x63", 5),
+    Call::Place(19),
+    Call::Next("Err(Unreadable { fault: WrongType, place: 19 })"),
+    Call::Place(19),
+];
+
 const STREAMS: &[(&str, &[Call])] = &[
     ("bytes", BYTES),
     ("no length", NO_LENGTH),
@@ -177,6 +192,7 @@ const STREAMS: &[(&str, &[Call])] = &[
     ("wrong type", WRONG_TYPE_BEHIND_INIT),
     ("trailing", TRAILING_BEHIND_MKDIR),
     ("unknown extension", UNKNOWN_EXTENSION_BEHIND_INIT),
+    ("places", PLACES),
 ];
 
 #[test]

@@ -15,6 +15,7 @@ use Rattle.sftp_path.proofs.Order.{place_cmp-total, place_cmp-same, bytes_cmp-sa
 use Rattle.sftp_treefile.specs.declared.files.Row.{Row}
 use Rattle.sftp_treefile.specs.TreeFile.{place_of, same_place, is_root, is_dir, is_dir_at, has_dir}
 use Rattle.sftp_treefile.specs.TreeFileParts.{IsLast, Follows}
+use Rattle.std.proofs.lemmas.Grind.{common_steps}
 
 -- ---- the order of places
 
@@ -67,8 +68,7 @@ none_there : (rows : List Row) (place : Place)
     → list_any (is_dir_at place) rows ≡ false
 none_there [] place before = refl
 none_there (r ∷ rows) place before =
-    let here : is_dir_at place r ≡ false =
-    and_none (is_dir r.kind) (same_place (place_of r.path) place)
+    let here : is_dir_at place r ≡ false = and_none (is_dir r.kind) (same_place (place_of r.path) place)
     (λ h. no_self place (subst (λ (q : Place). place_cmp q place ≡ Less) (same_place_is (place_of r.path) place h) before.0)) in
     ap (λ b. b || list_any (is_dir_at place) rows) here ∙ none_there rows place before.1
 
@@ -80,9 +80,7 @@ no_dir rows (n ∷ ns) below before = none_there rows (n ∷ ns) before
 
 pub still_dir : (rows more : List Row) (place : Place) → has_dir rows place ≡ true → has_dir (rows ++ more) place ≡ true
 unfolding has_dir
-still_dir rows more place h =
-    ap (λ b. is_root place || b) (list_any-append (is_dir_at place) rows more)
-    ∙ or_left (is_root place) (list_any (is_dir_at place) rows) (list_any (is_dir_at place) more) h
+still_dir rows more place h = simp (list_any-append, or_left)
 
 pub root_dir : (rows : List Row) → has_dir rows [] ≡ true
 unfolding has_dir
@@ -101,17 +99,12 @@ module _ (rows : List Row) (last : Place) (last_is : Bool) (fits : IsLast rows l
 
   begins_by : (o : Ordering) → place_cmp last (parent place) ≡ o → has_dir rows (parent place) ≡ true
       → begins (parent place) last ≡ true
-  begins_by Less is there =
-      elim (cases_lt 0 (length (parent place))) [
-        | inl some ↦ absurd (false≢true (sym (no_dir rows (parent place) some ((fits.later (parent place) some).0 is)) ∙ there))
-        | inr none ↦ let e : parent place ≡ [] = nil_from_length (parent place) (omega (arith, none)) in rw e refl
-      ]
+  begins_by Less is there = grind (arith, cases_lt, false≢true, no_dir, nil_from_length)
   begins_by Equal is there =
       let same : last ≡ parent place = place_cmp-same last (parent place) is in
       subst (λ (q : Place). begins (parent place) q ≡ true) (append-nil (parent place) ∙ sym same)
       (begins-append (parent place) [])
-  begins_by Greater is there =
-      between (parent place) last (drop (length place - 1) place) is
+  begins_by Greater is there = between (parent place) last (drop (length place - 1) place) is
       (ap (place_cmp last) (sym (parent_front place)) ∙ behind)
 
   pub begins_last : has_dir rows (parent place) ≡ true → begins (parent place) last ≡ true
@@ -127,17 +120,11 @@ module _ (rows : List Row) (last : Place) (last_is : Bool) (fits : IsLast rows l
       (sym (ap (take (length top)) whole ∙ part), omega (arith, ap length whole, length-append top (drop (length top) last)))
 
   pub not_begun : begins (parent place) last ≡ false → has_dir rows (parent place) ≡ false
-  not_begun apart =
-      elim (cases_Bool (has_dir rows (parent place))) [
-        | inl there ↦ absurd (false≢true (sym apart ∙ begins_last there))
-        | inr none ↦ none
-      ]
+  not_begun apart = grind (arith, cases_Bool, false≢true, begins_last)
 
   pub begun_above : begins (parent place) last ≡ true → length (parent place) < length last
       → has_dir rows (parent place) ≡ true
-  begun_above h shorter =
-      let f = front_of_last (parent place) h in
-      subst (λ (q : Place). has_dir rows q ≡ true) (sym f.0) (fits.above (length (parent place)) shorter)
+  begun_above h shorter = grind (arith, common_steps, front_of_last)
 
   pub begun_whole : begins (parent place) last ≡ true → length last ≤ length (parent place)
       → has_dir rows (parent place) ≡ last_is
@@ -154,8 +141,7 @@ module _ (rows : List Row) (last : Place) (last_is : Bool) (fits : IsLast rows l
       let len : length (parent place) ≡ length place - 1 = omega (arith, length-take (length place - 1) place) in
       elim (cases_lt depth (length (parent place))) [
         | inl shorter ↦
-            let first : take depth place ≡ take depth (parent place) =
-            ap (take depth) (parent_front place)
+            let first : take depth place ≡ take depth (parent place) = ap (take depth) (parent_front place)
             ∙ take-append-le depth (parent place) (drop (length place - 1) place) (omega (arith, shorter)) in
             let second : take depth (parent place) ≡ take depth last =
             ap (take depth) f.0 ∙ take-take depth (length (parent place)) last (omega (arith, shorter)) in
@@ -194,13 +180,9 @@ all_last P [] row p = p.0
 all_last P (r ∷ rows) row p = all_last P rows row p.1
 
 later_more : (rows : List Row) (row : Row)
-    → AllByRecursion (λ (r : Row). place_cmp (place_of r.path) (place_of row.path) ≡ Less) rows
-    → (place : Place)
+    → AllByRecursion (λ (r : Row). place_cmp (place_of r.path) (place_of row.path) ≡ Less) rows → (place : Place)
     → (place_cmp (place_of row.path) place ≡ Less) ↔ AllByRecursion (λ (r : Row). place_cmp (place_of r.path) place ≡ Less) (rows ++ row ∷ [])
-later_more rows row before place = (
-  λ less. all_push (λ (r : Row). place_cmp (place_of r.path) place ≡ Less) rows row (all_weaker (λ (r : Row). place_cmp (place_of r.path) (place_of row.path) ≡ Less) (λ (r : Row). place_cmp (place_of r.path) place ≡ Less) rows (λ r earlier. place_cmp-total.trans (place_of r.path) (place_of row.path) place earlier less) before) less,
-  λ each. all_last (λ (r : Row). place_cmp (place_of r.path) place ≡ Less) rows row each,
-)
+later_more rows row before place = grind (arith, all_push, all_weaker, place_cmp-total, all_last)
 
 -- whether the new entry is a directory, since no other is at its place
 dir_itself : (rows : List Row) (row : Row) → 0 < length (place_of row.path)

@@ -20,18 +20,12 @@ row_parts x r = append_assoc (string x.path) (kind_text x.kind) r
 row_front : (limits : TreeLimits) → limits.file_bytes < 2 ^ 32 → (rows : List Row) (x y : Row) (r s : List ℕ)
     → IsPlaceText x.path → IsPlaceText y.path → IsKind limits rows x.kind → IsKind limits rows y.kind
     → row_text x ++ r ≡ row_text y ++ s → (x ≡ y) × (r ≡ s)
-row_front limits bound rows x y r s x-path y-path x-kind y-kind e =
-    let a =
-    path_front x.path y.path (kind_text x.kind ++ r) (kind_text y.kind ++ s) x-path y-path
-    (sym (row_parts x r) ∙ e ∙ row_parts y s) in
-    let b = kind_front limits bound rows x.kind y.kind r s x-kind y-kind a.1 in
-    ((λ i. record { path = a.0 i; kind = b.0 i }), b.1)
+row_front limits bound rows x y r s x-path y-path x-kind y-kind e = grind (arith, path_front, row_parts, kind_front)
 
 -- a path that cannot be an entry's
 pub path_unfit : (earlier : List Row) (bytes text rest : List ℕ) → Reads IsPlaceText string bytes text rest
     → (Follows earlier text → ⊥) → ReadsNone (Follows earlier) string bytes
-path_unfit earlier bytes text rest path unfit other r follows e =
-    unfit (subst (Follows earlier) (sym (path_front text other rest r path.0 follows.text (sym path.1 ∙ e)).0) follows)
+path_unfit earlier bytes text rest path unfit other r follows e = grind (arith, path_front)
 
 pub path_absent : (earlier : List Row) (bytes : List ℕ) → ReadsNone IsPlaceText string bytes
     → ReadsNone (Follows earlier) string bytes
@@ -39,27 +33,21 @@ path_absent earlier bytes none text rest follows e = none text rest follows.text
 
 pub follows_next : (limits : TreeLimits) (earlier : List Row) (row : Row) → IsNext limits earlier row
     → Follows earlier row.path
-follows_next limits earlier row next =
-    record { text = next.path; below_root = next.below_root; later = next.later; parent = next.parent }
+follows_next limits earlier row next = grind arith
 
 pub row_read : (limits : TreeLimits) (earlier : List Row) (bytes text middle rest : List ℕ) (kind : Kind)
     → Reads (Follows earlier) string bytes text middle → Reads (IsKind limits earlier) kind_text middle kind rest
     → Reads (IsNext limits earlier) row_text bytes (record { path = text; kind = kind }) rest
-row_read limits earlier bytes text middle rest kind path what = (
-  record { path = path.0.text; below_root = path.0.below_root; later = path.0.later; parent = path.0.parent; kind = what.0 },
-  path.1 ∙ ap (λ (t : List ℕ). string text ++ t) what.1 ∙ sym (append_assoc (string text) (kind_text kind) rest),
-)
+row_read limits earlier bytes text middle rest kind path what = grind (arith, append_assoc)
 
 pub row_absent : (limits : TreeLimits) (earlier : List Row) (bytes : List ℕ)
     → ReadsNone (Follows earlier) string bytes → ReadsNone (IsNext limits earlier) row_text bytes
-row_absent limits earlier bytes none row rest next e =
-    none row.path (kind_text row.kind ++ rest) (follows_next limits earlier row next) (e ∙ row_parts row rest)
+row_absent limits earlier bytes none row rest next e = grind (arith, follows_next, row_parts)
 
 pub kind_absent : (limits : TreeLimits) (earlier : List Row) (bytes text middle : List ℕ)
     → Reads (Follows earlier) string bytes text middle → ReadsNone (IsKind limits earlier) kind_text middle
     → ReadsNone (IsNext limits earlier) row_text bytes
-kind_absent limits earlier bytes text middle path none row rest next e =
-    none row.kind rest next.kind (path_front text row.path middle (kind_text row.kind ++ rest) path.0.text next.path (sym path.1 ∙ e ∙ row_parts row rest)).1
+kind_absent limits earlier bytes text middle path none row rest next e = grind (arith, path_front, row_parts)
 
 -- ---- entries
 
@@ -78,12 +66,10 @@ pub goes_on : (limits : TreeLimits) → limits.file_bytes < 2 ^ 32
     → (earlier front whole : List Row) (rest tail : List ℕ) → AreRows limits earlier front
     → AreRows limits earlier whole → length front ≤ length whole
     → flat_map row_text front ++ rest ≡ flat_map row_text whole ++ tail → GoesOn limits earlier front whole rest tail
-goes_on limits bound earlier [] whole rest tail front-fits whole-fits short e =
-    record { more = whole; whole_is = refl; rows_fit = rw append-nil whole-fits; rest_is = e }
+goes_on limits bound earlier [] whole rest tail front-fits whole-fits short e = grind (arith, append-nil)
 goes_on limits bound earlier (x ∷ front) [] rest tail front-fits whole-fits short e = absurd (omega arith)
 goes_on limits bound earlier (x ∷ front) (y ∷ whole) rest tail front-fits whole-fits short e =
-    let a =
-    row_front limits bound earlier x y (flat_map row_text front ++ rest) (flat_map row_text whole ++ tail)
+    let a = row_front limits bound earlier x y (flat_map row_text front ++ rest) (flat_map row_text whole ++ tail)
     front-fits.0.path whole-fits.0.path front-fits.0.kind whole-fits.0.kind
     (sym (entries_parts x front rest) ∙ e ∙ entries_parts y whole tail) in
     let same_fits : AreRows limits (earlier ++ x ∷ []) whole =
@@ -105,8 +91,7 @@ entries_are_one limits bound earlier [] [] r s x-fits y-fits len e = (refl, e)
 entries_are_one limits bound earlier [] (y ∷ ys) r s x-fits y-fits len e = absurd (omega arith)
 entries_are_one limits bound earlier (x ∷ xs) [] r s x-fits y-fits len e = absurd (omega arith)
 entries_are_one limits bound earlier (x ∷ xs) (y ∷ ys) r s x-fits y-fits len e =
-    let a =
-    row_front limits bound earlier x y (flat_map row_text xs ++ r) (flat_map row_text ys ++ s) x-fits.0.path
+    let a = row_front limits bound earlier x y (flat_map row_text xs ++ r) (flat_map row_text ys ++ s) x-fits.0.path
     y-fits.0.path x-fits.0.kind y-fits.0.kind (sym (entries_parts x xs r) ∙ e ∙ entries_parts y ys s) in
     let same_fits : AreRows limits (earlier ++ x ∷ []) ys =
     subst (λ (z : Row). AreRows limits (earlier ++ z ∷ []) ys) (sym a.0) y-fits.1 in
@@ -115,8 +100,7 @@ entries_are_one limits bound earlier (x ∷ xs) (y ∷ ys) r s x-fits y-fits len
 
 pub rows_push : (limits : TreeLimits) (earlier rows : List Row) (row : Row) → AreRows limits earlier rows
     → IsNext limits (earlier ++ rows) row → AreRows limits earlier (rows ++ row ∷ [])
-rows_push limits earlier [] row fits next =
-    (subst (λ (rows : List Row). IsNext limits rows row) (append-nil earlier) next, tt)
+rows_push limits earlier [] row fits next = grind (arith, append-nil)
 rows_push limits earlier (x ∷ rows) row fits next =
     (fits.0, rows_push limits (earlier ++ x ∷ []) rows row fits.1 (subst (λ (before : List Row). IsNext limits before row) (sym (append_assoc earlier (x ∷ []) rows)) next))
 
@@ -133,23 +117,14 @@ pub read_more : (limits : TreeLimits) (bytes : List ℕ) (rows new : List Row) (
     → Reads (IsNext limits rows) row_text rest row after → new ≡ rows ++ row ∷ [] → m ≡ n + 1
     → AreRead limits bytes new m after
 read_more limits bytes rows new n m rest after row so_far read put more =
-    rw (put, more)
-    record {
-      rows_fit = rows_push limits [] rows row so_far.rows_fit read.0;
-      count_is = length-append rows (row ∷ []) ∙ ap (λ k. k + 1) so_far.count_is;
-      bytes_are = so_far.bytes_are ∙ ap (λ (t : List ℕ). flat_map row_text rows ++ t) read.1
-          ∙ sym (append_assoc (flat_map row_text rows) (row_text row) after)
-          ∙ ap (λ (t : List ℕ). (flat_map row_text rows ++ t) ++ after) (sym (append-nil (row_text row)))
-          ∙ ap (λ (t : List ℕ). t ++ after) (sym (flat_map-append row_text rows (row ∷ [])));
-    }
+    grind (arith, rows_push, length-append, append_assoc, append-nil, flat_map-append)
 
 -- where more entries are to come, the rest starts with the next one
 pub row_none : (limits : TreeLimits) → limits.file_bytes < 2 ^ 32
     → (bytes : List ℕ) (rows : List Row) (n count : ℕ) (rest : List ℕ) → AreRead limits bytes rows n rest → n < count
     → ReadsNone (IsNext limits rows) row_text rest → AreNone limits count bytes
 row_none limits bound bytes rows n count rest so_far lt none whole tail fits count_is is =
-    let g =
-    goes_on limits bound [] rows whole rest tail so_far.rows_fit fits (omega (arith, so_far.count_is))
+    let g = goes_on limits bound [] rows whole rest tail so_far.rows_fit fits (omega (arith, so_far.count_is))
     (sym so_far.bytes_are ∙ is) in
     let len : length whole ≡ length rows + length g.more = ap length g.whole_is ∙ length-append rows g.more in
     by g.more g.rows_fit g.rest_is (omega (arith, so_far.count_is))

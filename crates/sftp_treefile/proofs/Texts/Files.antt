@@ -1,5 +1,5 @@
 -- What a tree file says is a head and its entries, and each tree file says one thing.
-use Rattle.std.proofs.Common.{◌≡◌, ℕ, ◌<◌, ◌≤◌, List, [], ◌++◌, length, sym, ap, subst, ◌∙◌, append_assoc, arith, inl, inr}
+use Rattle.std.proofs.Common.{◌≡◌, ℕ, ◌<◌, List, [], ◌++◌, length, sym, ap, subst, ◌∙◌, append_assoc, arith, inl, inr}
 use Rattle.std.specs.List.{flat_map}
 use Rattle.std.proofs.lemmas.List.{append-nil, nil_from_length}
 use Rattle.sftp_wire.specs.Spelling.{uint32, string}
@@ -24,8 +24,7 @@ head_of file =
 
 head_fits : (file : TreeFile) → IsTreeFile file → IsHead (head_of file)
 unfolding head_of
-head_fits file fits =
-    record { limits = fits.limits; home = fits.home; uid = fits.uid; gid = fits.gid; count = fits.count; root = fits.root }
+head_fits file fits = grind arith
 
 spelled_parts : (file : TreeFile) → spelled file ≡ head_bytes (head_of file) ++ flat_map row_text file.rows
 unfolding spelled head_of
@@ -37,8 +36,7 @@ spelled_parts file =
     by a b c d e f = simp append_assoc
 
 -- the same for those who write a tree by its pieces
-pub spelled_head : (file : TreeFile)
-    → spelled file
+pub spelled_head : (file : TreeFile) → spelled file
     ≡ head_bytes (record { limits = file.limits; home = file.home; uid = file.uid; gid = file.gid; count = length file.rows; root = file.root }) ++ flat_map row_text file.rows
 unfolding head_of
 spelled_head file = spelled_parts file
@@ -51,8 +49,7 @@ bytes_parts file bytes is = is.bytes_are ∙ spelled_parts file
 
 same_file : (f g : TreeFile) → head_of f ≡ head_of g → f.rows ≡ g.rows → f ≡ g
 unfolding head_of
-same_file f g h r =
-    λ i. record { limits = (ap (λ (x : Head). x.limits) h) i; home = (ap (λ (x : Head). x.home) h) i; uid = (ap (λ (x : Head). x.uid) h) i; gid = (ap (λ (x : Head). x.gid) h) i; root = (ap (λ (x : Head). x.root) h) i; rows = r i }
+same_file f g h r = grind arith
 
 same_limits : (f g : TreeFile) → head_of f ≡ head_of g → f.limits ≡ g.limits
 unfolding head_of
@@ -64,8 +61,7 @@ same_count f g h = ap (λ (x : Head). x.count) h
 
 pub one_file : (f g : TreeFile) (bytes : List ℕ) → IsSpelled f bytes → IsSpelled g bytes → f ≡ g
 one_file f g bytes f-is g-is =
-    let heads =
-    head_front (head_of f) (head_of g) (flat_map row_text f.rows) (flat_map row_text g.rows)
+    let heads = head_front (head_of f) (head_of g) (flat_map row_text f.rows) (flat_map row_text g.rows)
     (head_fits f f-is.may_be) (head_fits g g-is.may_be) (sym (bytes_parts f bytes f-is) ∙ bytes_parts g bytes g-is) in
     let texts : flat_map row_text f.rows ++ [] ≡ flat_map row_text g.rows ++ [] =
     ap (λ (x : List ℕ). x ++ []) heads.1 in
@@ -83,8 +79,7 @@ entries_behind : (file : TreeFile) (bytes rest : List ℕ) (head : Head) → Rea
     → (length file.rows ≡ head.count) × (rest ≡ flat_map row_text file.rows) × AreRows head.limits [] file.rows
 unfolding head_of
 entries_behind file bytes rest head read is =
-    let heads =
-    head_front head (head_of file) rest (flat_map row_text file.rows) read.0 (head_fits file is.may_be)
+    let heads = head_front head (head_of file) rest (flat_map row_text file.rows) read.0 (head_fits file is.may_be)
     (sym read.1 ∙ bytes_parts file bytes is) in
     (sym (ap (λ (x : Head). x.count) heads.0), heads.1, subst (λ (l : TreeLimits). AreRows l [] file.rows) (sym (ap (λ (x : Head). x.limits) heads.0)) is.may_be.rows)
 
@@ -118,18 +113,7 @@ pub file_read : (bytes rest more : List ℕ) (head : Head) (rows : List Row) →
     → AreRead head.limits rest rows head.count more → length more ≡ 0
     → IsSpelled (record { limits = head.limits; home = head.home; uid = head.uid; gid = head.gid; root = head.root; rows = rows }) bytes
 unfolding head_of
-file_read bytes rest more head rows read all ended =
-    let file : TreeFile =
-    record { limits = head.limits; home = head.home; uid = head.uid; gid = head.gid; root = head.root; rows = rows } in
-    let nothing : rest ≡ flat_map row_text rows =
-    all.bytes_are ∙ ap (λ (x : List ℕ). flat_map row_text rows ++ x) (nil_from_length more ended)
-    ∙ append-nil (flat_map row_text rows) in
-    let heads : head ≡ head_of file =
-    (λ i. record { limits = head.limits; home = head.home; uid = head.uid; gid = head.gid; count = sym all.count_is i; root = head.root }) in
-    record {
-      may_be = record { limits = read.0.limits; home = read.0.home; uid = read.0.uid; gid = read.0.gid; count = subst (λ k. k ≤ head.limits.entries) (sym all.count_is) read.0.count; root = read.0.root; rows = all.rows_fit };
-      bytes_are = read.1 ∙ ap (λ (x : List ℕ). head_bytes head ++ x) nothing ∙ ap (λ (h : Head). head_bytes h ++ flat_map row_text rows) heads ∙ sym (spelled_parts file);
-    }
+file_read bytes rest more head rows read all ended = grind (arith, nil_from_length, append-nil, head_of, spelled_parts)
 
 -- ---- written
 

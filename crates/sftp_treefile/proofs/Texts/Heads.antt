@@ -8,6 +8,7 @@ use Rattle.sftp_treefile.specs.Limits.{usual_limits}
 use Rattle.sftp_treefile.specs.TreeFile.{tree_opening, owner_text, IsPlaceText, IsOwner}
 use Rattle.sftp_treefile.specs.TreeFileParts.{Reads, ReadsNone, IsNumber, IsCount, head_bytes, IsHead}
 use Rattle.sftp_treefile.proofs.Texts.Fields.{number_front, owner_front, path_front}
+use Rattle.std.proofs.lemmas.Grind.{common_steps}
 
 -- what follows the gid, the uid, and the home
 behind_gid : Head → List ℕ → List ℕ
@@ -25,8 +26,7 @@ unfolding behind_home behind_uid behind_gid
 head_parts head rest =
     by (string head.home) (uint32 head.uid) (uint32 head.gid) (uint32 head.count) (owner_text head.root)
   where
-    by : (a b c d e : List ℕ)
-        → (tree_opening ++ (a ++ (b ++ (c ++ (d ++ e))))) ++ rest
+    by : (a b c d e : List ℕ) → (tree_opening ++ (a ++ (b ++ (c ++ (d ++ e))))) ++ rest
         ≡ tree_opening ++ (a ++ (b ++ (c ++ (d ++ (e ++ rest)))))
     by a b c d e = simp append_assoc
 
@@ -45,20 +45,12 @@ pub record NumbersRead (limits : TreeLimits) (bytes home : List ℕ) (uid gid co
 
 pub home_read : (bytes after rest home : List ℕ) → bytes ≡ tree_opening ++ after
     → Reads IsPlaceText string after home rest → HomeRead bytes home rest
-home_read bytes after rest home opened read =
-    record { fits = read.0; is = opened ∙ ap (λ (t : List ℕ). tree_opening ++ t) read.1 }
+home_read bytes after rest home opened read = grind arith
 
 pub numbers_read : (limits : TreeLimits) (bytes r0 r1 r2 r3 home : List ℕ) (uid gid count : ℕ)
     → limits ≡ usual_limits → HomeRead bytes home r0 → Reads IsNumber uint32 r0 uid r1 → Reads IsNumber uint32 r1 gid r2
     → Reads (IsCount limits) uint32 r2 count r3 → NumbersRead limits bytes home uid gid count r3
-numbers_read limits bytes r0 r1 r2 r3 home uid gid count usual h u g c = record {
-  usual = usual;
-  home_fits = h.fits;
-  uid_fits = u.0;
-  gid_fits = g.0;
-  count_fits = c.0;
-  is = h.is ∙ ap (λ (t : List ℕ). tree_opening ++ (string home ++ t)) (u.1 ∙ ap (λ (t : List ℕ). uint32 uid ++ t) (g.1 ∙ ap (λ (t : List ℕ). uint32 gid ++ t) c.1));
-}
+numbers_read limits bytes r0 r1 r2 r3 home uid gid count usual h u g c = grind arith
 
 -- ---- where no head is
 
@@ -67,8 +59,7 @@ opened_same a b e = ap (drop 8) e
 
 same_home : (bytes r rest home : List ℕ) (head : Head) → HomeRead bytes home r → IsHead head
     → bytes ≡ head_bytes head ++ rest → (home ≡ head.home) × (r ≡ behind_home head rest)
-same_home bytes r rest home head h fits e =
-    path_front home head.home r (behind_home head rest) h.fits fits.home
+same_home bytes r rest home head h fits e = path_front home head.home r (behind_home head rest) h.fits fits.home
     (opened_same (string home ++ r) (string head.home ++ behind_home head rest) (sym h.is ∙ e ∙ head_parts head rest))
 
 pub opening_none : (bytes : List ℕ) → ((rest : List ℕ) → bytes ≡ tree_opening ++ rest → ⊥)
@@ -77,9 +68,7 @@ opening_none bytes none head rest fits e = none (string head.home ++ behind_home
 
 pub home_none : (bytes r : List ℕ) → bytes ≡ tree_opening ++ r → ReadsNone IsPlaceText string r
     → ReadsNone IsHead head_bytes bytes
-home_none bytes r opened none head rest fits e =
-    none head.home (behind_home head rest) fits.home
-    (opened_same r (string head.home ++ behind_home head rest) (sym opened ∙ e ∙ head_parts head rest))
+home_none bytes r opened none head rest fits e = grind (arith, common_steps, behind_home, opened_same, head_parts)
 
 pub uid_none : (bytes r home : List ℕ) → HomeRead bytes home r → ReadsNone IsNumber uint32 r
     → ReadsNone IsHead head_bytes bytes
@@ -91,8 +80,7 @@ same_uid : (bytes r0 r1 rest home : List ℕ) (uid : ℕ) (head : Head) → Home
     → Reads IsNumber uint32 r0 uid r1 → IsHead head → bytes ≡ head_bytes head ++ rest
     → (uid ≡ head.uid) × (r1 ≡ behind_uid head rest)
 unfolding behind_home
-same_uid bytes r0 r1 rest home uid head h u fits e =
-    number_front uid head.uid r1 (behind_uid head rest) u.0 fits.uid
+same_uid bytes r0 r1 rest home uid head h u fits e = number_front uid head.uid r1 (behind_uid head rest) u.0 fits.uid
     (sym u.1 ∙ (same_home bytes r0 rest home head h fits e).1)
 
 pub gid_none : (bytes r0 r1 home : List ℕ) (uid : ℕ) → HomeRead bytes home r0 → Reads IsNumber uint32 r0 uid r1
@@ -126,8 +114,7 @@ same_numbers : (limits : TreeLimits) (bytes r rest home : List ℕ) (uid gid cou
     → (home ≡ head.home) × (uid ≡ head.uid) × (gid ≡ head.gid) × (count ≡ head.count) × (r ≡ owner_text head.root ++ rest)
 unfolding behind_home behind_uid behind_gid
 same_numbers limits bytes r rest home uid gid count head n fits e =
-    let h =
-    same_home bytes (uint32 uid ++ (uint32 gid ++ (uint32 count ++ r))) rest home head
+    let h = same_home bytes (uint32 uid ++ (uint32 gid ++ (uint32 count ++ r))) rest home head
     (record { fits = n.home_fits; is = n.is }) fits e in
     let u =
     number_front uid head.uid (uint32 gid ++ (uint32 count ++ r)) (behind_uid head rest) n.uid_fits fits.uid h.1 in
@@ -148,12 +135,7 @@ pub head_read : (limits : TreeLimits) (bytes r rest home : List ℕ) (uid gid co
     → NumbersRead limits bytes home uid gid count r → Reads IsOwner owner_text r root rest
     → Reads IsHead head_bytes bytes (record { limits = limits; home = home; uid = uid; gid = gid; count = count; root = root }) rest
 unfolding behind_home behind_uid behind_gid
-head_read limits bytes r rest home uid gid count root n read =
-    let head : Head = record { limits = limits; home = home; uid = uid; gid = gid; count = count; root = root } in (
-      record { limits = n.usual; home = n.home_fits; uid = n.uid_fits; gid = n.gid_fits; count = n.count_fits; root = read.0 },
-      n.is
-          ∙ ap (λ (t : List ℕ). tree_opening ++ (string home ++ (uint32 uid ++ (uint32 gid ++ (uint32 count ++ t))))) read.1 ∙ sym (head_parts head rest),
-    )
+head_read limits bytes r rest home uid gid count root n read = grind (arith, common_steps, head_parts)
 
 pub head_front : (x y : Head) (r s : List ℕ) → IsHead x → IsHead y → head_bytes x ++ r ≡ head_bytes y ++ s
     → (x ≡ y) × (r ≡ s)

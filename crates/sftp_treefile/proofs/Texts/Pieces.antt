@@ -1,5 +1,5 @@
 -- What is written, piece by piece.
-use Rattle.std.proofs.Common.{◌≡◌, ℕ, suc, zero, ◌<◌, ◌^◌, List, [], ◌∷◌, ◌++◌, length, get_or, sym, subst, append_assoc, arith}
+use Rattle.std.proofs.Common.{◌≡◌, ℕ, suc, zero, ◌<◌, ◌^◌, List, [], ◌∷◌, ◌++◌, length, get_or, append_assoc, arith}
 use Rattle.sftp_wire.specs.Spelling.{uint32, string}
 use Rattle.sftp_treefile.specs.declared.files.Kind.{Kind}
 use Rattle.sftp_treefile.specs.declared.files.Kind.TheVariants.{Dir, First, Further, Link}
@@ -41,7 +41,6 @@ kind_lengths limits bound earlier (Link target) fits = target_length target fits
 pub row_at_place : (limits : TreeLimits) → limits.file_bytes < 2 ^ 32 → (earlier rows : List Row) (i : ℕ) (row : Row)
     → AreRows limits earlier rows → i < length rows → row ≡ get_or rows i row → HasLengths row
 row_at_place limits bound earlier [] i row fits lt is = absurd (omega arith)
-row_at_place limits bound earlier (r ∷ rows) zero row fits lt is =
-    subst HasLengths (sym is) (record { path = path_length r.path fits.0.path; kind = kind_lengths limits bound earlier r.kind fits.0.kind })
+row_at_place limits bound earlier (r ∷ rows) zero row fits lt is = grind (arith, path_length, kind_lengths)
 row_at_place limits bound earlier (r ∷ rows) (suc i) row fits lt is =
     row_at_place limits bound (earlier ++ r ∷ []) rows i row fits.1 (omega arith) is

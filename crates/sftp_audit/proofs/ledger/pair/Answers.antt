@@ -16,8 +16,7 @@ loop-event-preserved c =
     let i = c.loop-event.event-index in
     let events = c.args.events.now in
     let event = c.event-item.result in
-    let more : take (i + 1) events ≡ take i events ++ event ∷ [] =
-    take_more events i event c.loop-event-test.true
+    let more : take (i + 1) events ≡ take i events ++ event ∷ [] = take_more events i event c.loop-event-test.true
     ∙ ap (λ (e : Event). take i events ++ e ∷ []) (sym c.event-item.is) in
     rw more (c.in_ok-note.ensures.stands (take i events) c.loop-event.invariant)
 

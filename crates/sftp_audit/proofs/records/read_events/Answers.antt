@@ -20,8 +20,7 @@ returns-in_err-records-3-clause-only c =
     rw (p.1, p.2) (c.in_err-records-3.ensures.only parts.records (rw middle parts.version))
 
 pub returns-clause-only : goal.returns-clause-only
-returns-clause-only c =
-    λ events are.
+returns-clause-only c = λ events are.
     let parts = record_parts events c.args.bytes.now c.in_ok-records.records.now c.in_ok-records.ensures.found are in
     let middle = c.in_ok-records-2.ensures.only parts.middle parts.init in
     let records = c.in_ok-records-3.ensures.only parts.records (rw middle parts.version) in

@@ -12,15 +12,13 @@ returns-then-byte-eq-NUL c =
     c.loop-byte.invariant.decides
 
 pub returns-then-component_len-gt-NAME_LIMIT : goal.returns-then-component_len-gt-NAME_LIMIT
-returns-then-component_len-gt-NAME_LIMIT c =
-    elim c.if-byte-eq47.branch [
-      | then-byte-eq47 w ↦ absurd (omega arith)
-      | else-byte-eq47 w ↦
-          bad_by_component c.args.path.now c.loop-byte.component_len c.loop-byte.byte-index (omega arith)
-          w.if-byte-eq47.false (omega arith) c.loop-byte.invariant.decides
-    ]
+returns-then-component_len-gt-NAME_LIMIT c = elim c.if-byte-eq47.branch [
+  | then-byte-eq47 w ↦ absurd (omega arith)
+  | else-byte-eq47 w ↦
+      bad_by_component c.args.path.now c.loop-byte.component_len c.loop-byte.byte-index (omega arith)
+      w.if-byte-eq47.false (omega arith) c.loop-byte.invariant.decides
+]
 
 pub returns : goal.returns
-returns c =
-    good_to_the_end c.args.path.now c.loop-byte.component_len c.loop-byte.byte-index (omega arith) (omega arith)
+returns c = good_to_the_end c.args.path.now c.loop-byte.component_len c.loop-byte.byte-index (omega arith) (omega arith)
     c.loop-byte.invariant.decides

@@ -36,14 +36,13 @@ loop-entry-preserved c = record {
 }
 
 pub returns-clause-found : goal.returns-clause-found
-returns-clause-found c =
-    elim c.loop-entry-test.branch [
-      | else-loop-entry-test w ↦
-          let all : c.loop-entry.entry - 1 ≡ c.args.count =
-          omega (arith, w.loop-entry-test.false, c.loop-entry.invariant.within) in
-          rw (c.new.ensures, w.entries-is, w.rest-is, ← all) c.loop-entry.invariant.read
-      | then-loop-entry-test+in_ok-row+in_ok-put_row+else-entry-count w ↦
-          let all : c.args.count ≡ c.loop-entry.entry - 1 + 1 = omega (arith, c.loop-entry.invariant.within) in
-          rw (c.new.ensures, w.entries-is, w.rest-is)
-          (read_more c.args.limits c.args.bytes.now c.loop-entry.entries.rows.items w.put_row.new.entries.rows.items (c.loop-entry.entry - 1) c.args.count c.loop-entry.rest.now w.in_ok-row.after.now w.in_ok-row.row c.loop-entry.invariant.read w.in_ok-row.ensures.found w.in_ok-put_row.ensures.rows all)
-    ]
+returns-clause-found c = elim c.loop-entry-test.branch [
+  | else-loop-entry-test w ↦
+      let all : c.loop-entry.entry - 1 ≡ c.args.count =
+      omega (arith, w.loop-entry-test.false, c.loop-entry.invariant.within) in
+      rw (c.new.ensures, w.entries-is, w.rest-is, ← all) c.loop-entry.invariant.read
+  | then-loop-entry-test+in_ok-row+in_ok-put_row+else-entry-count w ↦
+      let all : c.args.count ≡ c.loop-entry.entry - 1 + 1 = omega (arith, c.loop-entry.invariant.within) in
+      rw (c.new.ensures, w.entries-is, w.rest-is)
+      (read_more c.args.limits c.args.bytes.now c.loop-entry.entries.rows.items w.put_row.new.entries.rows.items (c.loop-entry.entry - 1) c.args.count c.loop-entry.rest.now w.in_ok-row.after.now w.in_ok-row.row c.loop-entry.invariant.read w.in_ok-row.ensures.found w.in_ok-put_row.ensures.rows all)
+]

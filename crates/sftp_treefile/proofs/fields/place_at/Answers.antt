@@ -14,8 +14,7 @@ returns-in_default-2-clause-none c =
     let none = MatchOption-at_none _ _ c.in_default-2.is c.in_ok-place.ensures.none in
     inr (string_none IsPlaceText path_length c.args.bytes.now c.in-Some.text.now c.in-Some.rest.now c.in-Some.ensures.length_fits c.in-Some.ensures.found (λ fits. none _ (fits.names, fits.one)))
 
-pub returns-then-depth-gt-DEPTH_LIMIT-clause-none :
-    goal.returns-then-depth-gt-DEPTH_LIMIT-clause-none
+pub returns-then-depth-gt-DEPTH_LIMIT-clause-none : goal.returns-then-depth-gt-DEPTH_LIMIT-clause-none
 returns-then-depth-gt-DEPTH_LIMIT-clause-none c =
     let found = MatchOption-at_some _ _ c.in-Some-2.place c.in-Some-2.is c.in_ok-place.ensures.found in
     inr (string_none IsPlaceText path_length c.args.bytes.now c.in-Some.text.now c.in-Some.rest.now c.in-Some.ensures.length_fits c.in-Some.ensures.found

@@ -6,8 +6,7 @@ use Rattle.sftp_treefile.proofs.Texts.Pieces.{four_pieces}
 use Rattle.sftp_treefile.proofs.writing.put_file.Goals as goal
 
 pub returns : goal.returns
-returns c =
-    four_pieces (string c.args.path.now) (70 ∷ []) (owner_text c.args.owner.now) (string c.args.bytes.now)
+returns c = four_pieces (string c.args.path.now) (70 ∷ []) (owner_text c.args.owner.now) (string c.args.bytes.now)
     c.args.out.now.items c.put_string.new.out.items c.push.new.self.items c.put_owner.new.out.items
     c.put_string-2.new.out.items
     c.in_ok-put_string.ensures c.in_ok-push.ensures.items c.in_ok-put_owner.ensures c.in_ok-put_string-2.ensures

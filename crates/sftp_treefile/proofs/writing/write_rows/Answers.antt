@@ -11,16 +11,14 @@ use Rattle.sftp_treefile.proofs.Texts.Pieces.{row_at_place}
 use Rattle.sftp_treefile.proofs.writing.write_rows.Goals as goal
 
 pub put_row-requires : goal.put_row-requires
-put_row-requires c =
-    row_at_place c.args.file.now.limits (usual_file_bytes c.args.file.now.limits c.requires.limits) []
+put_row-requires c = row_at_place c.args.file.now.limits (usual_file_bytes c.args.file.now.limits c.requires.limits) []
     c.as_slice-row-items.result.now c.loop-row.row-index c.row-item.result
     (subst (AreRows c.args.file.now.limits []) (sym c.as_slice-row-items.ensures) c.requires.rows)
     c.loop-row-test.true c.row-item.is
 
 pub returns : goal.returns
 returns c =
-    let all =
-    take_all c.loop-row.row-index c.args.file.now.rows
+    let all = take_all c.loop-row.row-index c.args.file.now.rows
     (omega (arith, c.loop-row-test.false, ap length c.as_slice-row-items.ensures)) in
     c.loop-row.invariant ∙ ap (λ (rows : List Row). head_text c.args.file.now ++ flat_map row_text rows) all
     ∙ sym (head_written c.args.file.now)

@@ -11,8 +11,7 @@ use Rattle.sftp_audit.proofs.ledger.Ledger.answer.Goals as goal
 use Rattle.sftp_audit.proofs.ledger.Ledger.answer.Goals.{After-index_mut-exchange}
 
 -- the request that the reply answers
-held : (c : After-index_mut-exchange)
-    → (request : Request) ×
+held : (c : After-index_mut-exchange) → (request : Request) ×
     (slice_get (ledger_of c.self.inside.exchanges.items) c.in-Some.place ≡ Some (request, None)) ×
     (request.id ≡ c.args.reply.now.id)
 held c = c.self.invariant.found c.args.reply.now.id c.in-Some.place (sym c.in-Some.ensures.value)

@@ -13,8 +13,7 @@ returns-in_err-start-clause-steps c =
     rw c.from_residual.ensures (none, none)
 
 pub returns-clause-steps : goal.returns-clause-steps
-returns-clause-steps c =
-    ap (λ (s : Split). s.left) (sym c.self.view_is)
+returns-clause-steps c = ap (λ (s : Split). s.left) (sym c.self.view_is)
     ∙ components-next c.self.inside.rest.now c.cut.result.0.now c.cut.result.1.now c.in_ok-start.start (sym c.first_inner.ensures ∙ c.in_ok-start.was) c.cut.ensures.whole c.cut.ensures.parts c.cut.ensures.behind
 
 pub returns-clause-goes : goal.returns-clause-goes
