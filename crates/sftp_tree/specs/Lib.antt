@@ -6,6 +6,7 @@ pub mod Attributes
 pub mod Causes
 pub mod PlaceCauses
 pub mod Changes
+pub mod FileChanges
 pub mod Requests
 pub mod Refusals
 pub mod Asks
