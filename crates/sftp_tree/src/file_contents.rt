@@ -2,6 +2,7 @@
 ghost use Rattle.std.specs.Prelude.{◌≡◌, OnOk, OnErr};
 ghost use Rattle.sftp_treefile.specs.TreeFile.{IsOwner};
 ghost use Rattle.sftp_tree.specs.Attributes.{resized, changed_owner, changed_content};
+ghost use Rattle.sftp_tree.specs.StoredFiles.{is_held_still};
 
 use crate::owners::changed_owner;
 use sftp_path::NoMemory;
@@ -69,6 +70,17 @@ pub struct Stored {
     pub content: Content,
     /// How many names the file has.
     pub names: u32,
+    /// How many pins hold the file.
+    pub pins: u64,
+}
+
+impl Stored {
+    /// Whether a name or a pin holds the file.
+    pub(crate) fn is_held(&self) -> bool
+        ensures { result ≡ is_held_still self.now }
+    {
+        self.names > 0 || self.pins > 0
+    }
 }
 
 /// Sets the attributes of a file: its size, its owner and the low twelve bits of its permissions, each if it is given.

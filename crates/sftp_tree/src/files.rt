@@ -16,7 +16,7 @@ use std::alloc::Global;
 use std::collections::BTreeMap;
 use std::marker::Model;
 
-/// The files of a tree, each with the count of its names.
+/// The files of a tree, each with the counts of its names and of its pins.
 #[derive(Debug, Drop)]
 pub(crate) struct Files {
     by_number: BTreeMap<FileNo, Stored>,
@@ -64,17 +64,24 @@ impl Files {
         size
     }
 
-    /// Puts a file of one name at a number.
+    /// Puts a file of one name and no pin at a number.
     ///
     /// # Errors
     ///
     /// `NoMemory` if memory runs out; the files are then as before.
     #[tactic(auto, unfolding(sftp_path::specs::Table::put))]
     pub(crate) fn put(&mut self, number: FileNo, content: Content) -> Result<(), NoMemory>
-        ensures ok { OnOk result (self.new ≡ put nat_cmp self.old number (record { content = content; names = 1 })) }
+        ensures ok { OnOk result (self.new ≡ put nat_cmp self.old number (record { content = content; names = 1; pins = 0 })) }
         ensures err { OnErr result (self.new ≡ self.old) }
     {
-        self.by_number.insert(number, Stored { content, names: 1 })?;
+        self.by_number.insert(
+            number,
+            Stored {
+                content,
+                names: 1,
+                pins: 0,
+            },
+        )?;
         Ok(())
     }
 
@@ -86,7 +93,7 @@ impl Files {
         count_name(&mut self.by_number, named);
     }
 
-    /// Counts one name less of a file, if one is named. The file is removed with its last name.
+    /// Counts one name less of a file, if one is named. The file is removed with its last name if it has no pin.
     pub(crate) fn forget_name(&mut self, named: Option<FileNo>)
         requires { IfSome named (λ number. IfSome (get nat_cmp self.old number) (λ s. 0 < s.names)) }
         ensures { IsChangedWhereNamed without_a_name named self.old self.new }
@@ -121,7 +128,7 @@ fn count_name(files: &mut BTreeMap<FileNo, Stored>, named: Option<FileNo>)
     }
 }
 
-/// Counts one name less of a file, if one is named. The file is removed with its last name.
+/// Counts one name less of a file, if one is named. The file is removed with its last name if it has no pin.
 fn forget_name(files: &mut BTreeMap<FileNo, Stored>, named: Option<FileNo>)
     requires { IfSome named (λ number. IfSome (get nat_cmp files.old.entries number) (λ s. 0 < s.names)) }
     ensures { IsChangedWhereNamed without_a_name named files.old.entries files.new.entries }
@@ -141,7 +148,7 @@ fn raise(files: &mut BTreeMap<FileNo, Stored>, number: FileNo)
     }
 }
 
-/// Counts one name less of the file of a number, if there is one. The file is removed with its last name.
+/// Counts one name less of the file of a number, if there is one. The file is removed with its last name if it has no pin.
 fn lower(files: &mut BTreeMap<FileNo, Stored>, number: FileNo)
     requires { IfSome (get nat_cmp files.old.entries number) (λ s. 0 < s.names) }
     ensures { IsChanged without_a_name number files.old.entries files.new.entries }
@@ -150,7 +157,7 @@ fn lower(files: &mut BTreeMap<FileNo, Stored>, number: FileNo)
         return;
     };
     stored.names -= 1;
-    if stored.names == 0 {
+    if !stored.is_held() {
         files.remove(&number);
     }
 }

@@ -23,7 +23,7 @@ use Rattle.sftp_tree.specs.PlaceCauses.{are_one}
 use Rattle.sftp_tree.specs.Changes.{with_changed_file, with_attributes, put_in_its_stead, with_further_name}
 use Rattle.sftp_tree.specs.Requests.{led, new_led, outcome_at, outcome_between, outcome_on, led_to, outcome, after}
 use Rattle.sftp_tree.proofs.PlaceTables.Each.{each-get}
-use Rattle.sftp_tree.proofs.KeptTrees.Trims.{stays}
+use Rattle.sftp_tree.proofs.FileCounts.Pins.{stays}
 
 -- ---- what requests ask for
 

@@ -1,5 +1,5 @@
 -- A tree without the files that have no name and that nothing else holds: it is a tree again, within the limits.
-use Rattle.std.proofs.Common.{◌≡◌, ℕ, ◌<◌, Bool, true, cond, ◌||◌, refl, ap, ◌∙◌, Option, Some, None, is_some, nat_lt, unwrap_or, IsTrue}
+use Rattle.std.proofs.Common.{◌≡◌, ℕ, ◌<◌, Bool, true, cond, refl, ap, ◌∙◌, Option, Some, None, is_some, nat_lt, unwrap_or, IsTrue}
 use Rattle.std.specs.Ordering.{nat_cmp}
 use Rattle.std.specs.List.{AllByRecursion}
 use Rattle.std.specs.FinMap.{nat_cmp-IsAntisymmetric}
@@ -16,13 +16,10 @@ use Rattle.sftp_tree.specs.declared.nodes.Node.{Node}
 use Rattle.sftp_tree.specs.declared.nodes.Node.TheVariants.{Dir, File, Link}
 use Rattle.sftp_tree.specs.Tree.{Names, Files, Tree, WellFormed, IsKept, IsTrimmed, IsNode, IsPin, IsContent, limits, fits, files_fit, content_fits, node_at, content_at, names_file, times_named, is_named, is_pinned, trimmed, trim}
 use Rattle.sftp_tree.proofs.PlaceTables.Each.{each-retain, each-get, get-each, each-all, all-each}
+use Rattle.sftp_tree.proofs.FileCounts.Pins.{stays}
 use Rattle.sftp_tree.proofs.Limits.Tests.{fits-parts, fits-from}
 
 -- ---- the files that stay
-
--- which of the files stay
-abbrev pub stays : (ℕ → Bool) → Names → ℕ × Content → Bool
-stays is_held names e = is_named names e.0 || is_held e.0
 
 -- a number that a name has is named
 pub named-there : (names : Names) (place : Place) (number : ℕ) → node_at names place ≡ Some (File number) → IsTrue (is_named names number)
