@@ -1,9 +1,12 @@
 -- What is read of a file by its number, and what is changed in it (draft-ietf-secsh-filexfer-02, sections 6.4, 6.8 and
 -- 6.9). An open file has a number, and the calls on handles are made on it.
-use Rattle.std.specs.Prelude.{◌==◌, ◌||◌, nat_le, ℕ, ◌+◌, min, Bool, if◌then◌else◌, List, ◌++◌, length, take, drop, Option, Some, None}
+use Rattle.std.specs.Prelude.{◌≡◌, ◌==◌, ◌||◌, nat_le, ℕ, ◌+◌, min, Bool, true, false, if◌then◌else◌, List, ◌++◌, length, take, drop, Option, Some, None}
 use Rattle.sftp_wire.specs.declared.attributes.Attrs.{Attrs}
 use Rattle.sftp_treefile.specs.declared.limits.TreeLimits.{TreeLimits}
 use Rattle.sftp_tree.specs.declared.file_contents.Content.{Content}
+use Rattle.sftp_tree.specs.declared.causes.Cause.TheVariants.{NoRoom}
+use Rattle.sftp_tree.specs.declared.causes.Refused.{Refused}
+use Rattle.sftp_tree.specs.declared.causes.Refused.TheVariants.{Cause, NoMemory}
 use Rattle.sftp_tree.specs.Tree.{Tree, content_at, with_content, with_pin, without_pin, trim}
 use Rattle.sftp_tree.specs.Attributes.{resized}
 use Rattle.sftp_tree.specs.Changes.{with_changed_file}
@@ -28,6 +31,11 @@ write_fits bounds offset new = length new == 0 || nat_le (offset + length new) b
 -- the file after a WRITE
 abbrev pub written_content : ℕ → List ℕ → Content → Content
 written_content offset new content = record content { bytes = written offset new content.bytes }
+
+-- a refusal of a request that takes room in a file: the limit would be broken, or memory ran out
+abbrev pub IsRoomRefusal : Bool → Refused → Type 0
+IsRoomRefusal fits (Cause cause) = (cause ≡ NoRoom) × (fits ≡ false)
+IsRoomRefusal fits NoMemory = fits ≡ true
 
 -- ---- the tree
 

@@ -1,11 +1,12 @@
 -- Files as the code keeps them: each with the counts of its names and of its pins.
-use Rattle.std.specs.Prelude.{◌≡◌, ◌≢◌, ℕ, ◌+◌, ◌-◌, ◌||◌, nat_lt, Bool, List, Option, Some, None, if◌then◌else◌, option_and_then}
+use Rattle.std.specs.Prelude.{◌≡◌, ◌≢◌, ℕ, ◌+◌, ◌-◌, ◌^◌, ◌<◌, ◌||◌, nat_lt, Bool, List, length, Option, Some, None, if◌then◌else◌, option_and_then}
 use Rattle.std.specs.Ordering.{nat_cmp}
 use Rattle.std.specs.List.{AllByRecursion}
 use Rattle.sftp_wire.specs.declared.attributes.Attrs.{Attrs}
 use Rattle.sftp_path.specs.Place.{Place}
 use Rattle.sftp_path.specs.Table.{Table, InOrder, get, retain, with_values}
 use Rattle.sftp_treefile.specs.declared.limits.TreeLimits.{TreeLimits}
+use Rattle.sftp_tree.specs.declared.file_contents.Content.{Content}
 use Rattle.sftp_tree.specs.declared.file_contents.Stored.{Stored}
 use Rattle.sftp_tree.specs.declared.nodes.Node.{Node}
 use Rattle.sftp_tree.specs.declared.nodes.Node.TheVariants.{Dir, File, Link}
@@ -16,6 +17,11 @@ use Rattle.sftp_tree.specs.FileChanges.{written_content}
 -- the files
 abbrev pub contents : Table ℕ Stored → Files
 contents stored = with_values (λ (s : Stored). s.content) stored
+
+-- how often a file is pinned
+abbrev pub pin_count_at : Option Stored → ℕ
+pin_count_at None = 0
+pin_count_at (Some s) = s.pins
 
 -- how often each file is pinned; those that are not pinned have no entry
 abbrev pub pins_of : Table ℕ Stored → Pins
@@ -62,13 +68,21 @@ with_a_pin s = Some (record s { pins = s.pins + 1 })
 abbrev pub without_a_pin : Stored → Option Stored
 without_a_pin s = where_held (record s { pins = s.pins - 1 })
 
--- bytes are written to it
-abbrev pub with_bytes_written : ℕ → List ℕ → Stored → Option Stored
-with_bytes_written offset new s = Some (record s { content = written_content offset new s.content })
+-- it gets another content, made of its own
+abbrev pub with_content_made : (Content → Content) → Stored → Option Stored
+with_content_made change s = Some (record s { content = change s.content })
 
 -- its attributes are set
 abbrev pub with_attributes_set : Attrs → Stored → Option Stored
-with_attributes_set attrs s = Some (record s { content = changed_content attrs s.content })
+with_attributes_set attrs = with_content_made (changed_content attrs)
+
+-- bytes are written to it
+abbrev pub with_bytes_written : ℕ → List ℕ → Stored → Option Stored
+with_bytes_written offset new = with_content_made (written_content offset new)
+
+-- bytes that are written end at a number that a size can be
+abbrev pub IsWritable : ℕ → List ℕ → Type 0
+IsWritable offset new = 0 < length new → offset + length new < 2 ^ 63
 
 -- the file of a number is changed, if there is one; the others stay
 pub record IsChanged (change : Stored → Option Stored) (number : ℕ) (before after : Table ℕ Stored) : Type 0 where

@@ -15,6 +15,7 @@ mod found;
 pub mod laws;
 pub mod limit_laws;
 mod nodes;
+mod open_files;
 mod owners;
 pub mod picture_laws;
 mod pictures;

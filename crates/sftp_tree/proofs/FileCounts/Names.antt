@@ -18,11 +18,9 @@ use Rattle.sftp_tree.specs.declared.file_contents.Stored.{Stored}
 use Rattle.sftp_tree.specs.declared.nodes.Node.{Node}
 use Rattle.sftp_tree.specs.declared.nodes.Node.TheVariants.{Dir, File, Link}
 use Rattle.sftp_tree.specs.Tree.{Names, node_at, with_node, without_node, with_content, names_file, times_named, times_pinned, is_pinned}
-use Rattle.sftp_tree.specs.StoredFiles.{contents, pins_of, AreCounted, file_named, is_held_still, where_held, IsChanged, IsChangedWhereNamed, with_a_name, without_a_name, with_attributes_set}
-use Rattle.sftp_tree.specs.Attributes.{changed_content}
-use Rattle.sftp_wire.specs.declared.attributes.Attrs.{Attrs}
+use Rattle.sftp_tree.specs.StoredFiles.{contents, pin_count_at, pins_of, AreCounted, file_named, is_held_still, where_held, IsChanged, IsChangedWhereNamed, with_a_name, without_a_name, with_content_made}
 use Rattle.sftp_tree.proofs.PlaceTables.Each.{each-get, get-each}
-use Rattle.sftp_tree.proofs.FileCounts.Pins.{by-number, stays, pins_at, times_pinned-stored}
+use Rattle.sftp_tree.proofs.FileCounts.Pins.{by-number, stays, times_pinned-stored}
 
 -- ---- entries by their numbers
 
@@ -127,7 +125,7 @@ module _ (names others : Names) (files : Table ℕ Stored) where
 
 -- ---- a name less
 
-gone-content : (number : ℕ) (keeps : ℕ × Content → Bool) (change : Stored → Stored) (o : Option Stored)
+pub gone-content : (number : ℕ) (keeps : ℕ × Content → Bool) (change : Stored → Stored) (o : Option Stored)
     → ((s : Stored) → (change s).content ≡ s.content)
     → ((s : Stored) → o ≡ Some s → is_held_still (change s) ≡ keeps (number, s.content))
     → option_map (λ (s : Stored). s.content) (option_and_then (λ s. where_held (change s)) o)
@@ -141,12 +139,12 @@ gone-content number keeps change (Some s) same still =
     by true = ap Some (same s)
     by false = refl
 
-stayed-content : (number : ℕ) (keeps : ℕ × Content → Bool) (o : Option Stored) → ((s : Stored) → o ≡ Some s → keeps (number, s.content) ≡ true) → option_map (λ (s : Stored). s.content) o ≡ kept keeps number (option_map (λ (s : Stored). s.content) o)
+pub stayed-content : (number : ℕ) (keeps : ℕ × Content → Bool) (o : Option Stored) → ((s : Stored) → o ≡ Some s → keeps (number, s.content) ≡ true) → option_map (λ (s : Stored). s.content) o ≡ kept keeps number (option_map (λ (s : Stored). s.content) o)
 stayed-content number keeps None stays = refl
 stayed-content number keeps (Some s) stays = ap (λ b. cond b (Some s.content) None) (sym (stays s refl))
 
 -- a file that is left is the one that was changed
-left-where_held : (s left : Stored) → where_held s ≡ Some left → left ≡ s
+pub left-where_held : (s left : Stored) → where_held s ≡ Some left → left ≡ s
 left-where_held s left is = by (is_held_still s) is
   where
     by : (b : Bool) → (if b then Some s else None) ≡ Some left → left ≡ s
@@ -196,7 +194,7 @@ module _ (names others : Names) (files : Table ℕ Stored) where
             let l = less number in
             let n = count-at names files counted number s there in
             let left : s.names - 1 ≡ times_named others number = omega arith in
-            let pins : s.pins ≡ times_pinned (pins_of files) number = sym (times_pinned-stored files number order ∙ ap pins_at there) in
+            let pins : s.pins ≡ times_pinned (pins_of files) number = sym (times_pinned-stored files number order ∙ ap pin_count_at there) in
             λ i. nat_lt 0 (left i) || nat_lt 0 (pins i)
 
         alike : (other : ℕ) → other ≢ number → times_named others other ≡ times_named names other
@@ -241,48 +239,48 @@ module _ (names others : Names) (files : Table ℕ Stored) where
     lowered (Some (File number)) less after changed = lowered-file number less after changed
     lowered (Some (Link target)) less after same = lost-none after (λ other. let l = less other in omega arith) same
 
--- ---- the attributes of a file
+-- ---- another content of a file
 
 -- if each file is as it was, or another in its place has as many names, the counts are right
-changed-names : (attrs : Attrs) (o : Option Stored) (s : Stored) (n : ℕ) → option_and_then (with_attributes_set attrs) o ≡ Some s → ((before : Stored) → o ≡ Some before → before.names ≡ n) → s.names ≡ n
-changed-names attrs None s n is counted = cc
-changed-names attrs (Some before) s n is counted = sym (ap (λ (s : Stored). s.names) (same_Some _ s is)) ∙ counted before refl
+changed-names : (change : Content → Content) (o : Option Stored) (s : Stored) (n : ℕ) → option_and_then (with_content_made change) o ≡ Some s → ((before : Stored) → o ≡ Some before → before.names ≡ n) → s.names ≡ n
+changed-names change None s n is counted = cc
+changed-names change (Some before) s n is counted = sym (ap (λ (s : Stored). s.names) (same_Some _ s is)) ∙ counted before refl
 
-module _ (names : Names) (files : Table ℕ Stored) (attrs : Attrs) (number : ℕ) (after : Table ℕ Stored) where
+module _ (names : Names) (files : Table ℕ Stored) (change : Content → Content) (number : ℕ) (after : Table ℕ Stored) where
   -- the counts stay
-  pub counted-changed : AreCounted names files → IsChanged (with_attributes_set attrs) number files after → AreCounted names after
+  pub counted-changed : AreCounted names files → IsChanged (with_content_made change) number files after → AreCounted names after
   counted-changed counted changed =
       at-entries (λ other (s : Stored). s.names ≡ times_named names other) after changed.ordered (λ other s there.
       by-number number other
       (λ is.
-      changed-names attrs (get nat_cmp files number) s (times_named names number) (sym changed.here ∙ ap (get nat_cmp after) (sym is) ∙ there) (count-at names files counted number)
+      changed-names change (get nat_cmp files number) s (times_named names number) (sym changed.here ∙ ap (get nat_cmp after) (sym is) ∙ there) (count-at names files counted number)
       ∙ ap (times_named names) (sym is))
       (λ differ. count-at names files counted other s (sym (changed.others other differ) ∙ there)))
 
   -- the file has its new content
-  pub contents-changed : InOrder nat_cmp files → IsChanged (with_attributes_set attrs) number files after → (s : Stored) → get nat_cmp files number ≡ Some s → contents after ≡ with_content (contents files) number (changed_content attrs s.content)
+  pub contents-changed : InOrder nat_cmp files → IsChanged (with_content_made change) number files after → (s : Stored) → get nat_cmp files number ≡ Some s → contents after ≡ with_content (contents files) number (change s.content)
   contents-changed order changed s there =
       let content : Stored → Content = λ s. s.content in
-      let new : Content = changed_content attrs s.content in
+      let new : Content = change s.content in
       same_table nat_cmp nat_cmp_total nat_cmp-IsAntisymmetric (contents after) (with_content (contents files) number new) (InOrder-with_values nat_cmp content after changed.ordered)
       (InOrder-put nat_cmp nat_cmp_total (contents files) number new (InOrder-with_values nat_cmp content files order))
       (λ other.
       get-with_values nat_cmp content after other
       ∙ by-number number other
       (λ is.
-      ap (λ k. option_map content (get nat_cmp after k)) is ∙ ap (option_map content) (changed.here ∙ ap (option_and_then (with_attributes_set attrs)) there)
+      ap (λ k. option_map content (get nat_cmp after k)) is ∙ ap (option_map content) (changed.here ∙ ap (option_and_then (with_content_made change)) there)
       ∙ sym (get-put_here nat_cmp nat_cmp_total (contents files) number new) ∙ ap (get nat_cmp (with_content (contents files) number new)) (sym is))
       (λ differ.
       ap (option_map content) (changed.others other differ) ∙ sym (get-with_values nat_cmp content files other)
       ∙ sym (get-put_elsewhere nat_cmp nat_cmp_total (contents files) number other new (λ tie. differ (nat_cmp-IsAntisymmetric other number tie)))))
 
   -- where there is no such file, all are as before
-  pub contents-unchanged : InOrder nat_cmp files → IsChanged (with_attributes_set attrs) number files after → get nat_cmp files number ≡ None → contents after ≡ contents files
+  pub contents-unchanged : InOrder nat_cmp files → IsChanged (with_content_made change) number files after → get nat_cmp files number ≡ None → contents after ≡ contents files
   contents-unchanged order changed none =
       let content : Stored → Content = λ s. s.content in
       same-contents files after order changed.ordered (λ other.
       by-number number other
       (λ is.
-      ap (λ k. option_map content (get nat_cmp after k)) is ∙ ap (option_map content) (changed.here ∙ ap (option_and_then (with_attributes_set attrs)) none ∙ sym none)
+      ap (λ k. option_map content (get nat_cmp after k)) is ∙ ap (option_map content) (changed.here ∙ ap (option_and_then (with_content_made change)) none ∙ sym none)
       ∙ ap (λ k. option_map content (get nat_cmp files k)) (sym is))
       (λ differ. ap (option_map content) (changed.others other differ)))

@@ -11,7 +11,7 @@ use Rattle.sftp_path.proofs.Table.Values.{get-with_values, InOrder-with_values}
 use Rattle.sftp_tree.specs.declared.file_contents.Content.{Content}
 use Rattle.sftp_tree.specs.declared.file_contents.Stored.{Stored}
 use Rattle.sftp_tree.specs.Tree.{Names, Pins, is_named, times_pinned, with_pins}
-use Rattle.sftp_tree.specs.StoredFiles.{pins_of, is_held_still, where_held, IsChanged}
+use Rattle.sftp_tree.specs.StoredFiles.{pin_count_at, pins_of, is_held_still, where_held, IsChanged}
 
 -- a choice by whether two numbers are one
 pub by-number : {A : Type 0} (number other : ℕ) → (other ≡ number → A) → (other ≢ number → A) → A
@@ -34,11 +34,6 @@ pin_entry-times often = by (nat_lt 0 often) refl
         let few = ltb-false 0 often none in
         omega arith
 
--- how often a stored file is pinned
-abbrev pub pins_at : Option Stored → ℕ
-pins_at None = 0
-pins_at (Some s) = s.pins
-
 -- ---- what is pinned
 
 pub InOrder-pins : (files : Table ℕ Stored) → InOrder nat_cmp files → InOrder nat_cmp (pins_of files)
@@ -46,7 +41,7 @@ InOrder-pins files order =
     InOrder-retain nat_cmp _ (λ e. nat_lt 0 e.1) (InOrder-with_values nat_cmp (λ (s : Stored). s.pins) files order)
 
 pub get-pins : (files : Table ℕ Stored) (number : ℕ) → InOrder nat_cmp files
-    → get nat_cmp (pins_of files) number ≡ pin_entry (pins_at (get nat_cmp files number))
+    → get nat_cmp (pins_of files) number ≡ pin_entry (pin_count_at (get nat_cmp files number))
 get-pins files number order =
     get-retain nat_cmp nat_cmp_total nat_cmp-IsAntisymmetric _ (λ e. nat_lt 0 e.1) number
     (InOrder-with_values nat_cmp (λ (s : Stored). s.pins) files order)
@@ -54,14 +49,14 @@ get-pins files number order =
     ∙ by (get nat_cmp files number)
   where
     by : (o : Option Stored)
-        → kept (λ (e : ℕ × ℕ). nat_lt 0 e.1) number (option_map (λ (s : Stored). s.pins) o) ≡ pin_entry (pins_at o)
+        → kept (λ (e : ℕ × ℕ). nat_lt 0 e.1) number (option_map (λ (s : Stored). s.pins) o) ≡ pin_entry (pin_count_at o)
     by None = refl
     by (Some s) = refl
 
 pub times_pinned-stored : (files : Table ℕ Stored) (number : ℕ) → InOrder nat_cmp files
-    → times_pinned (pins_of files) number ≡ pins_at (get nat_cmp files number)
+    → times_pinned (pins_of files) number ≡ pin_count_at (get nat_cmp files number)
 times_pinned-stored files number order =
-    ap (λ o. unwrap_or o 0) (get-pins files number order) ∙ pin_entry-times (pins_at (get nat_cmp files number))
+    ap (λ o. unwrap_or o 0) (get-pins files number order) ∙ pin_entry-times (pin_count_at (get nat_cmp files number))
 
 -- where no file is pinned there are no entries
 pub none_pinned : (files : Table ℕ Stored) → AllByRecursion (λ e. e.1.pins ≡ 0) files → pins_of files ≡ []
@@ -119,7 +114,7 @@ times_pinned-elsewhere pins number often other order differ =
 
 -- where each file has as many pins as before, the pins are as before
 pub same-pins : (files after : Table ℕ Stored) → InOrder nat_cmp files → InOrder nat_cmp after
-    → ((number : ℕ) → pins_at (get nat_cmp after number) ≡ pins_at (get nat_cmp files number))
+    → ((number : ℕ) → pin_count_at (get nat_cmp after number) ≡ pin_count_at (get nat_cmp files number))
     → pins_of after ≡ pins_of files
 same-pins files after order ordered alike =
     same_table nat_cmp nat_cmp_total nat_cmp-IsAntisymmetric (pins_of after) (pins_of files)
@@ -128,23 +123,23 @@ same-pins files after order ordered alike =
 
 module _ (change : Stored → Option Stored) (number : ℕ) (files after : Table ℕ Stored) where
   -- a change of one file that leaves it its pins leaves all pins
-  pub changed-pins : ((s : Stored) → pins_at (change s) ≡ s.pins) → InOrder nat_cmp files
+  pub changed-pins : ((s : Stored) → pin_count_at (change s) ≡ s.pins) → InOrder nat_cmp files
       → IsChanged change number files after → pins_of after ≡ pins_of files
   changed-pins keeps order changed =
       same-pins files after order changed.ordered (λ other.
       by-number number other
       (λ is.
-      ap (λ k. pins_at (get nat_cmp after k)) is ∙ ap pins_at changed.here ∙ by (get nat_cmp files number)
-      ∙ ap (λ k. pins_at (get nat_cmp files k)) (sym is))
-      (λ differ. ap pins_at (changed.others other differ)))
+      ap (λ k. pin_count_at (get nat_cmp after k)) is ∙ ap pin_count_at changed.here ∙ by (get nat_cmp files number)
+      ∙ ap (λ k. pin_count_at (get nat_cmp files k)) (sym is))
+      (λ differ. ap pin_count_at (changed.others other differ)))
     where
-      by : (o : Option Stored) → pins_at (option_and_then change o) ≡ pins_at o
+      by : (o : Option Stored) → pin_count_at (option_and_then change o) ≡ pin_count_at o
       by None = refl
       by (Some s) = keeps s
 
   -- and one that gives a file other pins gives them to that file alone
   pub changed-pins_to : (often : ℕ) → InOrder nat_cmp files → IsChanged change number files after
-      → pins_at (option_and_then change (get nat_cmp files number)) ≡ often
+      → pin_count_at (option_and_then change (get nat_cmp files number)) ≡ often
       → pins_of after ≡ with_pins (pins_of files) number often
   changed-pins_to often order changed is_often =
       let pins = pins_of files in
@@ -155,12 +150,12 @@ module _ (change : Stored → Option Stored) (number : ℕ) (files after : Table
       get-pins after other changed.ordered
       ∙ by-number number other
       (λ is.
-      ap (λ k. pin_entry (pins_at (get nat_cmp after k))) is
-      ∙ ap (λ o. pin_entry (pins_at o)) changed.here ∙ ap pin_entry is_often
+      ap (λ k. pin_entry (pin_count_at (get nat_cmp after k))) is
+      ∙ ap (λ o. pin_entry (pin_count_at o)) changed.here ∙ ap pin_entry is_often
       ∙ sym (get-with_pins_here pins number often in_order)
       ∙ ap (get nat_cmp (with_pins pins number often)) (sym is))
       (λ differ.
-      ap (λ o. pin_entry (pins_at o)) (changed.others other differ) ∙ sym (get-pins files other order)
+      ap (λ o. pin_entry (pin_count_at o)) (changed.others other differ) ∙ sym (get-pins files other order)
       ∙ sym (get-with_pins_elsewhere pins number often other in_order differ)))
 
 -- ---- files that are removed where nothing holds them
@@ -171,9 +166,9 @@ no-pins s none =
     omega arith
 
 -- one that is removed has no pin
-pub pins-where_held : (s : Stored) → pins_at (where_held s) ≡ s.pins
+pub pins-where_held : (s : Stored) → pin_count_at (where_held s) ≡ s.pins
 pins-where_held s = by (is_held_still s) refl
   where
-    by : (b : Bool) → is_held_still s ≡ b → pins_at (if b then Some s else None) ≡ s.pins
+    by : (b : Bool) → is_held_still s ≡ b → pin_count_at (if b then Some s else None) ≡ s.pins
     by true held = refl
     by false none = sym (no-pins s none)

@@ -15,18 +15,18 @@ use Rattle.sftp_path.proofs.Table.Values.{get-with_values}
 use Rattle.sftp_tree.specs.declared.file_contents.Content.{Content}
 use Rattle.sftp_tree.specs.declared.file_contents.Stored.{Stored}
 use Rattle.sftp_tree.specs.declared.nodes.Node.{Node}
-use Rattle.sftp_tree.specs.Tree.{Names, Tree, IsKept, IsContent, is_directory, content_at, fits, entries_fit, depths_fit, home_fits, links_fit, files_fit, numbers_fit, node_at, with_node, names_file, times_named, trim}
+use Rattle.sftp_tree.specs.Tree.{Names, Tree, IsKept, IsContent, is_directory, content_at, fits, entries_fit, depths_fit, home_fits, links_fit, files_fit, numbers_fit, node_at, with_node, with_content, names_file, times_named, trim}
 use Rattle.sftp_tree.specs.declared.nodes.Node.TheVariants.{Dir, File, Link}
 use Rattle.sftp_wire.specs.declared.attributes.Attrs.{Attrs}
 use Rattle.sftp_treefile.specs.declared.files.Owner.{Owner}
 use Rattle.sftp_treefile.specs.declared.limits.TreeLimits.{TreeLimits}
 use Rattle.sftp_treefile.specs.Limits.{usual_limits}
 use Rattle.sftp_treefile.specs.TreeFile.{IsOwner}
-use Rattle.sftp_tree.specs.Attributes.{changed_owner}
+use Rattle.sftp_tree.specs.Attributes.{changed_owner, changed_content}
 use Rattle.sftp_tree.specs.Changes.{with_changed_file}
-use Rattle.sftp_tree.specs.StoredFiles.{contents, pins_of, seen, AreCounted, file_named, IsChanged, IsChangedWhereNamed, with_a_name, without_a_name, with_attributes_set}
+use Rattle.sftp_tree.specs.StoredFiles.{contents, pin_count_at, pins_of, seen, AreCounted, file_named, IsChanged, IsChangedWhereNamed, with_a_name, without_a_name, with_content_made, with_attributes_set}
 use Rattle.sftp_tree.proofs.KeptTrees.Values.{times_named-owner}
-use Rattle.sftp_tree.proofs.FileCounts.Pins.{pins_at, changed-pins, pins-where_held}
+use Rattle.sftp_tree.proofs.FileCounts.Pins.{changed-pins, pins-where_held}
 use Rattle.sftp_tree.proofs.FileCounts.Names.{at-number, count-at, one_name, named-put, raised, lowered, counted-again, counted-changed, contents-changed, contents-unchanged}
 
 -- the files are in order where their contents are
@@ -35,7 +35,7 @@ files-in_order files = subst (IsStrictlySortedBy nat_cmp) (keys_of-map_values (�
 
 -- ---- counts fit their fields
 
-each-some : {X : Type 0} (P : X → Type 0) (o : Option X) → ((x : X) → o ≡ Some x → P x) → IfSome o P
+pub each-some : {X : Type 0} (P : X → Type 0) (o : Option X) → ((x : X) → o ≡ Some x → P x) → IfSome o P
 each-some P None each = tt
 each-some P (Some x) each = each x refl
 
@@ -78,7 +78,7 @@ name-to-lose names files counted place (Some (Link target)) there = tt
 -- ---- a change of a tree's parts
 
 -- a change of the file that is named, if one is, leaves the pins
-named-pins : (change : Stored → Option Stored) → ((s : Stored) → pins_at (change s) ≡ s.pins) → (named : Option ℕ) (files after : Table ℕ Stored) → InOrder nat_cmp files → IsChangedWhereNamed change named files after → pins_of after ≡ pins_of files
+named-pins : (change : Stored → Option Stored) → ((s : Stored) → pin_count_at (change s) ≡ s.pins) → (named : Option ℕ) (files after : Table ℕ Stored) → InOrder nat_cmp files → IsChangedWhereNamed change named files after → pins_of after ≡ pins_of files
 named-pins change keeps None files after order same = ap pins_of same
 named-pins change keeps (Some number) files after order changed = changed-pins change number files after keeps order changed
 
@@ -115,24 +115,38 @@ module _ (names : Names) (files : Table ℕ Stored) (made : ℕ) (limits : TreeL
       by (Some (File other)) there directory number = cc
       by (Some (Link target)) there directory number = cc
 
-  -- other attributes of a file
-  pub changed-parts : IsKept the_tree → AreCounted names files → (attrs : Attrs) (number : ℕ) (after : Table ℕ Stored) → IsChanged (with_attributes_set attrs) number files after → (seen names after made limits home uid gid ≡ with_changed_file the_tree attrs number (content_at (contents files) number)) × AreCounted names after
-  changed-parts kept counted attrs number after changed = (
+  -- another content of a file, made of its own
+  pub content-parts : IsKept the_tree → AreCounted names files → (change : Content → Content) (number : ℕ)
+      (after : Table ℕ Stored) → IsChanged (with_content_made change) number files after → (changed : Option Content → Tree)
+      → changed None ≡ the_tree
+      → ((content : Content) → changed (Some content) ≡ record the_tree { files = with_content (contents files) number (change content) })
+      → (seen names after made limits home uid gid ≡ changed (content_at (contents files) number)) × AreCounted names after
+  content-parts kept counted change number after is_changed changed nothing there = (
     by (get nat_cmp files number) refl
-        ∙ ap (with_changed_file the_tree attrs number) (sym (get-with_values nat_cmp (λ (s : Stored). s.content) files number)),
-    counted-changed names files attrs number after counted changed,
+        ∙ ap changed (sym (get-with_values nat_cmp (λ (s : Stored). s.content) files number)),
+    counted-changed names files change number after counted is_changed,
   )
     where
-      pins : pins_of after ≡ pins_of files
-      pins = changed-pins (with_attributes_set attrs) number files after (λ s. refl) (files-in_order files kept.well_formed.numbered) changed
+      order : InOrder nat_cmp files
+      order = files-in_order files kept.well_formed.numbered
 
-      by : (o : Option Stored) → get nat_cmp files number ≡ o → seen names after made limits home uid gid ≡ with_changed_file the_tree attrs number (option_map (λ (s : Stored). s.content) o)
+      pins : pins_of after ≡ pins_of files
+      pins = changed-pins (with_content_made change) number files after (λ s. refl) order is_changed
+
+      by : (o : Option Stored) → get nat_cmp files number ≡ o → seen names after made limits home uid gid ≡ changed (option_map (λ (s : Stored). s.content) o)
       by None none =
-          let same = contents-unchanged names files attrs number after (files-in_order files kept.well_formed.numbered) changed none in
-          λ i. record { names = names; files = same i; made = made; pins = pins i; limits = limits; home = home; uid = uid; gid = gid }
-      by (Some s) there =
-          let same = contents-changed names files attrs number after (files-in_order files kept.well_formed.numbered) changed s there in
-          λ i. record { names = names; files = same i; made = made; pins = pins i; limits = limits; home = home; uid = uid; gid = gid }
+          let same = contents-unchanged names files change number after order is_changed none in
+          (λ i. record { names = names; files = same i; made = made; pins = pins i; limits = limits; home = home; uid = uid; gid = gid })
+          ∙ sym nothing
+      by (Some s) is =
+          let same = contents-changed names files change number after order is_changed s is in
+          (λ i. record { names = names; files = same i; made = made; pins = pins i; limits = limits; home = home; uid = uid; gid = gid })
+          ∙ sym (there s.content)
+
+  -- other attributes of a file
+  pub changed-parts : IsKept the_tree → AreCounted names files → (attrs : Attrs) (number : ℕ) (after : Table ℕ Stored) → IsChanged (with_attributes_set attrs) number files after → (seen names after made limits home uid gid ≡ with_changed_file the_tree attrs number (content_at (contents files) number)) × AreCounted names after
+  changed-parts kept counted attrs number after changed =
+      content-parts kept counted (changed_content attrs) number after changed (with_changed_file the_tree attrs number) refl (λ content. refl)
 
   -- the file that is there has an owner
   pub owner-there : IsKept the_tree → (number : ℕ) → IfSome (get nat_cmp files number) (λ s. IsOwner s.content.owner)
