@@ -17,6 +17,7 @@ pub mod Room
 pub mod Ends
 pub mod Plans
 pub mod RequestExamples
+pub mod FileExamples
 pub mod Route
 pub mod Walking
 pub mod WalkExamples

@@ -9,6 +9,8 @@ mod causes;
 mod ends;
 mod entries;
 mod file_contents;
+pub mod file_examples;
+pub mod file_laws;
 mod file_numbers;
 mod files;
 mod found;

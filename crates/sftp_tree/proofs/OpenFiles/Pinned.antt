@@ -1,5 +1,5 @@
 -- A file with a pin more or less: the counts stay right, and the tree stays one within the limits.
-use Rattle.std.proofs.Common.{◌≡◌, ◌≢◌, ℕ, ◌+◌, ◌-◌, ◌<◌, ◌^◌, ◌||◌, Bool, true, false, refl, sym, ap, subst, ◌∙◌, arith, Option, Some, None, is_some, IfSome, IsTrue, nat_lt, option_map, option_and_then, if◌then◌else◌}
+use Rattle.std.proofs.Common.{◌≡◌, ◌≢◌, ℕ, ◌+◌, ◌-◌, ◌<◌, ◌^◌, ◌||◌, Bool, true, false, refl, sym, ap, subst, ◌∙◌, arith, Option, Some, None, is_some, IfSome, IsTrue, nat_lt, option_map, option_and_then, unwrap_or, if◌then◌else◌}
 use Rattle.std.specs.Ordering.{nat_cmp}
 use Rattle.std.specs.Cmp.{nat_cmp_total}
 use Rattle.std.specs.FinMap.{nat_cmp-IsAntisymmetric}
@@ -8,6 +8,7 @@ use Rattle.std.proofs.lemmas.Bool.{lt-ltb, ltb-true, or_right}
 use Rattle.std.proofs.lemmas.Option.{same_Some}
 use Rattle.sftp_path.specs.Place.{Place}
 use Rattle.sftp_path.specs.Table.{Table, InOrder, get, retain, kept}
+use Rattle.sftp_path.proofs.Table.Laws.{same_table}
 use Rattle.sftp_path.proofs.Table.Values.{get-with_values}
 use Rattle.sftp_treefile.specs.declared.limits.TreeLimits.{TreeLimits}
 use Rattle.sftp_tree.specs.declared.file_contents.Content.{Content}
@@ -17,7 +18,7 @@ use Rattle.sftp_tree.specs.StoredFiles.{contents, pin_count_at, pins_of, seen, A
 use Rattle.sftp_tree.specs.FileChanges.{after_pin, after_unpin}
 use Rattle.sftp_tree.proofs.PlaceTables.Each.{each-weaker, each-get, get-each}
 use Rattle.sftp_tree.proofs.Limits.Tests.{fits-parts, fits-from}
-use Rattle.sftp_tree.proofs.FileCounts.Pins.{by-number, stays, get-with_pins_here, get-with_pins_elsewhere, InOrder-with_pins, InOrder-pins, times_pinned-stored, times_pinned-here, times_pinned-elsewhere, changed-pins_to, pins-where_held}
+use Rattle.sftp_tree.proofs.FileCounts.Pins.{by-number, stays, pin_entry, get-with_pins_here, get-with_pins_elsewhere, InOrder-with_pins, InOrder-pins, times_pinned-stored, times_pinned-here, times_pinned-elsewhere, changed-pins_to, pins-where_held}
 use Rattle.sftp_tree.proofs.FileCounts.Names.{at-number, at-entries, count-at, same-contents, gone-content, stayed-content, left-contents, left-where_held}
 use Rattle.sftp_tree.proofs.KeptTrees.Trims.{kept-trim}
 use Rattle.sftp_tree.proofs.KeptTrees.Counts.{files-in_order, each-some}
@@ -103,6 +104,30 @@ kept-pin t number kept there = record {
       each-weaker (λ e. IsTrue (is_held t e.0)) (λ e. IsTrue (is_held (after_pin t number) e.0))
       (λ e held. held-pinned t number e.0 kept.well_formed.pins held) t.files kept.trimmed;
 }
+
+-- ---- pins as a table
+
+-- the entry of a file is its count, if that is not 0
+get-counted : (pins : Pins) (number : ℕ) → AllByRecursion (λ e. 0 < e.1) pins → get nat_cmp pins number ≡ pin_entry (times_pinned pins number)
+get-counted pins number some = by (get nat_cmp pins number) refl
+  where
+    by : (o : Option ℕ) → get nat_cmp pins number ≡ o → o ≡ pin_entry (unwrap_or o 0)
+    by None is = refl
+    by (Some often) is =
+        let more : 0 < often = each-get nat_cmp nat_cmp-IsAntisymmetric (λ e. 0 < e.1) pins number often some is in
+        ap (λ b. if b then Some often else None) (sym (lt-ltb 0 often more))
+
+pins-some : (t : Tree) → WellFormed t → AllByRecursion (λ e. 0 < e.1) t.pins
+pins-some t well = each-weaker (λ e. IsPin t.files e) (λ e. 0 < e.1) (λ e pin. pin.0) t.pins well.pinned
+
+-- pins that count alike are equal
+pub one-pins : (t u : Tree) → WellFormed t → WellFormed u
+    → ((number : ℕ) → times_pinned t.pins number ≡ times_pinned u.pins number) → t.pins ≡ u.pins
+one-pins t u well other alike =
+    same_table nat_cmp nat_cmp_total nat_cmp-IsAntisymmetric t.pins u.pins well.pins other.pins
+    (λ number.
+    get-counted t.pins number (pins-some t well) ∙ ap pin_entry (alike number)
+    ∙ sym (get-counted u.pins number (pins-some u other)))
 
 -- ---- the counts
 
