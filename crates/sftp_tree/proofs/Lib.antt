@@ -5,5 +5,6 @@ pub mod FileCounts
 pub mod KeptTrees
 pub mod Walks
 pub mod CauseLaws
+pub mod OpenFiles
 pub mod Requests
 pub mod TreeFiles

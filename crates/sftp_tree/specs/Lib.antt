@@ -6,6 +6,7 @@ pub mod Attributes
 pub mod Causes
 pub mod PlaceCauses
 pub mod Changes
+pub mod FileChanges
 pub mod Requests
 pub mod Refusals
 pub mod Asks
@@ -16,6 +17,7 @@ pub mod Room
 pub mod Ends
 pub mod Plans
 pub mod RequestExamples
+pub mod FileExamples
 pub mod Route
 pub mod Walking
 pub mod WalkExamples

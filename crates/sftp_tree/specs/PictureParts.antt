@@ -94,7 +94,7 @@ IsKnown numbers (kinds.First owner bytes) = Unit {0}
 IsKnown numbers (kinds.Further entry) = (1 ≤ entry) × (entry ≤ length numbers)
 IsKnown numbers (kinds.Link target) = Unit {0}
 
--- files that have a name each
+-- files with the counts of their names and pins
 abbrev pub Stores : Type 0
 Stores = Table ℕ Stored
 
@@ -106,7 +106,7 @@ HaveRoom stores = AllByRecursion (λ e. e.1.names + 1 < 2 ^ 32) stores
 abbrev pub AreWithEntry : List ℕ → ℕ → Kind → Stores → Stores → Type 0
 AreWithEntry numbers next (kinds.Dir owner) before after = after ≡ before
 AreWithEntry numbers next (kinds.First owner bytes) before after =
-    after ≡ put nat_cmp before next (record { content = record { owner = owner; bytes = bytes }; names = 1 })
+    after ≡ put nat_cmp before next (record { content = record { owner = owner; bytes = bytes }; names = 1; pins = 0 })
 AreWithEntry numbers next (kinds.Further entry) before after = IsChanged with_a_name (known_number numbers entry) before after
 AreWithEntry numbers next (kinds.Link target) before after = after ≡ before
 
@@ -115,6 +115,7 @@ pub record IsGrown (root : Owner) (rows : List Row) (names : Names) (stores : St
   pub names_are : names ≡ names_of root rows
   pub contents_are : contents stores ≡ numbered_from 0 (contents_of rows)
   pub counted : AreCounted names stores
+  pub unpinned : AllByRecursion (λ e. e.1.pins ≡ 0) stores
 
 -- ---- on the way to the tree file
 

@@ -1,24 +1,35 @@
--- Files as the code keeps them: each with the count of its names.
-use Rattle.std.specs.Prelude.{◌≡◌, ◌≢◌, ℕ, ◌+◌, ◌-◌, nat_le, [], Option, Some, None, if◌then◌else◌, option_and_then}
+-- Files as the code keeps them: each with the counts of its names and of its pins.
+use Rattle.std.specs.Prelude.{◌≡◌, ◌≢◌, ℕ, ◌+◌, ◌-◌, ◌^◌, ◌<◌, ◌||◌, nat_lt, Bool, List, length, Option, Some, None, if◌then◌else◌, option_and_then}
 use Rattle.std.specs.Ordering.{nat_cmp}
 use Rattle.std.specs.List.{AllByRecursion}
 use Rattle.sftp_wire.specs.declared.attributes.Attrs.{Attrs}
 use Rattle.sftp_path.specs.Place.{Place}
-use Rattle.sftp_path.specs.Table.{Table, InOrder, get, with_values}
+use Rattle.sftp_path.specs.Table.{Table, InOrder, get, retain, with_values}
 use Rattle.sftp_treefile.specs.declared.limits.TreeLimits.{TreeLimits}
+use Rattle.sftp_tree.specs.declared.file_contents.Content.{Content}
 use Rattle.sftp_tree.specs.declared.file_contents.Stored.{Stored}
 use Rattle.sftp_tree.specs.declared.nodes.Node.{Node}
 use Rattle.sftp_tree.specs.declared.nodes.Node.TheVariants.{Dir, File, Link}
-use Rattle.sftp_tree.specs.Tree.{Names, Files, Tree, times_named}
+use Rattle.sftp_tree.specs.Tree.{Names, Files, Pins, Tree, times_named}
 use Rattle.sftp_tree.specs.Attributes.{changed_content}
+use Rattle.sftp_tree.specs.FileChanges.{written_content}
 
 -- the files
 abbrev pub contents : Table ℕ Stored → Files
 contents stored = with_values (λ (s : Stored). s.content) stored
 
--- the tree of these parts; nothing pins a file yet
+-- how often a file is pinned
+abbrev pub pin_count_at : Option Stored → ℕ
+pin_count_at None = 0
+pin_count_at (Some s) = s.pins
+
+-- how often each file is pinned; those that are not pinned have no entry
+abbrev pub pins_of : Table ℕ Stored → Pins
+pins_of stored = retain (with_values (λ (s : Stored). s.pins) stored) (λ e. nat_lt 0 e.1)
+
+-- the tree of these parts
 abbrev pub seen : Names → Table ℕ Stored → ℕ → TreeLimits → Place → ℕ → ℕ → Tree
-seen names stored made limits home uid gid = record { names = names; files = contents stored; made = made; pins = []; limits = limits; home = home; uid = uid; gid = gid }
+seen names stored made limits home uid gid = record { names = names; files = contents stored; made = made; pins = pins_of stored; limits = limits; home = home; uid = uid; gid = gid }
 
 -- each count is that of the entries that are names of the file
 abbrev pub AreCounted : Names → Table ℕ Stored → Type 0
@@ -37,13 +48,41 @@ file_named (Some (Link target)) = None
 abbrev pub with_a_name : Stored → Option Stored
 with_a_name s = Some (record s { names = s.names + 1 })
 
--- it loses a name, and is removed with the last one
+-- whether it has a name or a pin
+abbrev pub is_held_still : Stored → Bool
+is_held_still s = nat_lt 0 s.names || nat_lt 0 s.pins
+
+-- it is removed unless it has a name or a pin
+abbrev pub where_held : Stored → Option Stored
+where_held s = if is_held_still s then Some s else None
+
+-- it loses a name, and is removed with the last one if it has no pin
 abbrev pub without_a_name : Stored → Option Stored
-without_a_name s = if nat_le s.names 1 then None else Some (record s { names = s.names - 1 })
+without_a_name s = where_held (record s { names = s.names - 1 })
+
+-- it gets a further pin
+abbrev pub with_a_pin : Stored → Option Stored
+with_a_pin s = Some (record s { pins = s.pins + 1 })
+
+-- it loses a pin, and is removed with the last one if it has no name
+abbrev pub without_a_pin : Stored → Option Stored
+without_a_pin s = where_held (record s { pins = s.pins - 1 })
+
+-- it gets another content, made of its own
+abbrev pub with_content_made : (Content → Content) → Stored → Option Stored
+with_content_made change s = Some (record s { content = change s.content })
 
 -- its attributes are set
 abbrev pub with_attributes_set : Attrs → Stored → Option Stored
-with_attributes_set attrs s = Some (record s { content = changed_content attrs s.content })
+with_attributes_set attrs = with_content_made (changed_content attrs)
+
+-- bytes are written to it
+abbrev pub with_bytes_written : ℕ → List ℕ → Stored → Option Stored
+with_bytes_written offset new = with_content_made (written_content offset new)
+
+-- bytes that are written end at a number that a size can be
+abbrev pub IsWritable : ℕ → List ℕ → Type 0
+IsWritable offset new = 0 < length new → offset + length new < 2 ^ 63
 
 -- the file of a number is changed, if there is one; the others stay
 pub record IsChanged (change : Stored → Option Stored) (number : ℕ) (before after : Table ℕ Stored) : Type 0 where

@@ -1,6 +1,6 @@
 -- The tree: the node at each place, the files that have names there or are pinned, where relative paths start, who owns
 -- what is made with no owner given, and how much the tree may hold. The limits are this profile's own.
-use Rattle.std.specs.Prelude.{◌≡◌, ◌&&◌, ◌||◌, ◌==◌, nat_lt, nat_le, ℕ, ◌-◌, ◌<◌, ◌^◌, Bool, true, false, [], length, Option, Some, None, is_some, unwrap_or, IsTrue}
+use Rattle.std.specs.Prelude.{◌≡◌, ◌&&◌, ◌||◌, ◌==◌, nat_lt, nat_le, if◌then◌else◌, ℕ, ◌+◌, ◌-◌, ◌<◌, ◌^◌, Bool, true, false, [], length, Option, Some, None, is_some, unwrap_or, IsTrue}
 use Rattle.std.specs.Ordering.{nat_cmp}
 use Rattle.std.specs.List.{list_any, list_all, AllByRecursion}
 use Rattle.sftp_path.specs.Place.{Place, place_cmp, parent, is_below, are_names, depth_limit}
@@ -95,6 +95,18 @@ times_pinned pins number = unwrap_or (get nat_cmp pins number) 0
 abbrev pub is_pinned : Pins → ℕ → Bool
 is_pinned pins number = nat_lt 0 (times_pinned pins number)
 
+-- with the file pinned so often; a file that is not pinned has no entry
+abbrev pub with_pins : Pins → ℕ → ℕ → Pins
+with_pins pins number often = if nat_lt 0 often then put nat_cmp pins number often else without nat_cmp pins number
+
+-- with one more pin of the file
+abbrev pub with_pin : Pins → ℕ → Pins
+with_pin pins number = with_pins pins number (times_pinned pins number + 1)
+
+-- with one less
+abbrev pub without_pin : Pins → ℕ → Pins
+without_pin pins number = with_pins pins number (times_pinned pins number - 1)
+
 -- ---- a tree
 
 pub record Tree : Type 0 where
@@ -132,12 +144,20 @@ IsNode files (Dir owner) = IsOwner owner
 IsNode files (File number) = IsTrue (is_some (content_at files number))
 IsNode files (Link target) = IsTrue (are_bytes target)
 
+-- there is a file of the number
+abbrev pub HasFile : Files → ℕ → Type 0
+HasFile files number = IsTrue (is_some (content_at files number))
+
+-- a file that is pinned exists, and its count is not 0
+abbrev pub IsPin : Files → ℕ × ℕ → Type 0
+IsPin files e = (0 < e.1) × HasFile files e.0
+
 abbrev pub IsContent : Content → Type 0
 IsContent content = IsOwner content.owner × IsTrue (are_bytes content.bytes)
 
 -- What makes it a tree: its places are lists of names, in order and each once, the root is a directory, each other
--- place's parent is one, names of files are names of files that exist, the numbers of files were given, and each number
--- fits its field. Today the limits are the usual ones.
+-- place's parent is one, names of files are names of files that exist, files that are pinned exist, the numbers of files
+-- were given, and each number fits its field. Today the limits are the usual ones.
 pub record WellFormed (t : Tree) : Type 0 where
   pub ordered : InOrder place_cmp t.names
   pub named : AllByRecursion (λ e. IsTrue (are_names e.0)) t.names
@@ -148,6 +168,7 @@ pub record WellFormed (t : Tree) : Type 0 where
   pub contents : AllByRecursion (λ e. IsContent e.1) t.files
   pub given : AllByRecursion (λ e. e.0 < t.made) t.files
   pub pins : InOrder nat_cmp t.pins
+  pub pinned : AllByRecursion (λ e. IsPin t.files e) t.pins
   pub limits : t.limits ≡ usual_limits
   pub home : IsTrue (are_names t.home)
   pub uid : t.uid < 2 ^ 32

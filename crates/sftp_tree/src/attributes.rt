@@ -61,7 +61,7 @@ impl Tree {
     }
 
     /// The attributes shown of the file of a number.
-    fn shown_file(&self, number: FileNo) -> Attrs
+    pub(crate) fn shown_file(&self, number: FileNo) -> Attrs
         requires { IsTrue (is_some (tree.content_at self.now.files number)) }
         ensures { option_map spec.shown_content (tree.content_at self.now.files number) ≡ Some result }
     {

@@ -1,7 +1,9 @@
 //! The content of files.
-ghost use Rattle.std.specs.Prelude.{◌≡◌, OnOk, OnErr};
+ghost use Rattle.std.specs.Prelude.{◌≡◌, ◌+◌, ◌<◌, ◌≤◌, ◌^◌, length, OnOk, OnErr};
 ghost use Rattle.sftp_treefile.specs.TreeFile.{IsOwner};
 ghost use Rattle.sftp_tree.specs.Attributes.{resized, changed_owner, changed_content};
+ghost use Rattle.sftp_tree.specs.FileChanges.{overwritten, written};
+ghost use Rattle.sftp_tree.specs.StoredFiles.{is_held_still, IsWritable};
 
 use crate::owners::changed_owner;
 use sftp_path::NoMemory;
@@ -51,6 +53,64 @@ impl FileBytes {
         self.bytes.resize(size, 0)?;
         Ok(())
     }
+
+    /// Writes bytes over those from the offset on; what goes past the end is appended. If the bytes end before the
+    /// offset, zeros fill them up to it. To write no bytes changes nothing, at any offset.
+    ///
+    /// # Errors
+    ///
+    /// `NoMemory` if memory runs out; the bytes are then as before.
+    pub fn write_at(&mut self, offset: u64, new: &[u8]) -> Result<(), NoMemory>
+        requires { IsWritable offset new.now }
+        ensures ok { OnOk result (self.new ≡ written offset new.now self.old) }
+        ensures err { OnErr result (self.new ≡ self.old) }
+    {
+        if new.is_empty() {
+            return Ok(());
+        }
+        write_over(&mut self.bytes, offset as usize, new)?;
+        Ok(())
+    }
+}
+
+/// Writes bytes over those from the offset on, and appends what goes past the end, behind zeros up to the offset.
+///
+/// # Errors
+///
+/// `NoMemory` if memory runs out; the bytes are then as before.
+fn write_over(bytes: &mut Vec<u8>, offset: usize, new: &[u8]) -> Result<(), NoMemory>
+    requires { offset + length new.now < 2 ^ 63 }
+    ensures ok { OnOk result (bytes.new.items ≡ overwritten offset new.now bytes.old.items) }
+    ensures err { OnErr result (bytes.new.items ≡ bytes.old.items) }
+{
+    let len = bytes.len();
+    if offset < len {
+        let inside = new.len().min(len - offset);
+        let (over, more) = new.split_at(inside);
+        bytes.extend_from_slice(more)?;
+        bytes.as_mut_slice()[offset..offset + inside].copy_from_slice(over);
+        Ok(())
+    } else {
+        append_at(bytes, offset, new)
+    }
+}
+
+/// Appends bytes behind zeros up to the offset, where nothing is past the offset.
+///
+/// # Errors
+///
+/// `NoMemory` if memory runs out; the bytes are then as before.
+fn append_at(bytes: &mut Vec<u8>, offset: usize, new: &[u8]) -> Result<(), NoMemory>
+    requires end { length bytes.old.items ≤ offset }
+    requires sum { offset + length new.now < 2 ^ 63 }
+    ensures ok { OnOk result (bytes.new.items ≡ overwritten offset new.now bytes.old.items) }
+    ensures err { OnErr result (bytes.new.items ≡ bytes.old.items) }
+{
+    let missing = offset - bytes.len();
+    bytes.reserve(missing + new.len())?;
+    bytes.resize(offset, 0)?;
+    bytes.extend_from_slice(new)?;
+    Ok(())
 }
 
 /// The content of a file.
@@ -69,6 +129,17 @@ pub struct Stored {
     pub content: Content,
     /// How many names the file has.
     pub names: u32,
+    /// How many pins hold the file.
+    pub pins: u64,
+}
+
+impl Stored {
+    /// Whether a name or a pin holds the file.
+    pub(crate) fn is_held(&self) -> bool
+        ensures { result ≡ is_held_still self.now }
+    {
+        self.names > 0 || self.pins > 0
+    }
 }
 
 /// Sets the attributes of a file: its size, its owner and the low twelve bits of its permissions, each if it is given.

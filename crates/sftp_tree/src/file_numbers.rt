@@ -24,7 +24,7 @@ impl Model for FileNo {
 
 impl FileNo {
     /// The file of this number.
-    pub(crate) fn new(number: u32) -> FileNo
+    pub fn new(number: u32) -> FileNo
         ensures { result ≡ number }
     {
         FileNo { number }

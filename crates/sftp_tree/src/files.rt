@@ -7,6 +7,7 @@ ghost use Rattle.sftp_tree.specs.Tree.{content_at};
 ghost use Rattle.sftp_tree.specs.Attributes.{changed_owner};
 ghost use Rattle.sftp_tree.specs.StoredFiles.{IsChanged, IsChangedWhereNamed, contents};
 ghost use Rattle.sftp_tree.specs.StoredFiles.{with_a_name, without_a_name, with_attributes_set};
+ghost use Rattle.sftp_tree.specs.StoredFiles.{with_a_pin, without_a_pin, with_bytes_written, pin_count_at, IsWritable};
 
 use crate::file_contents::{Content, Stored, change};
 use crate::file_numbers::FileNo;
@@ -16,7 +17,7 @@ use std::alloc::Global;
 use std::collections::BTreeMap;
 use std::marker::Model;
 
-/// The files of a tree, each with the count of its names.
+/// The files of a tree, each with the counts of its names and of its pins.
 #[derive(Debug, Drop)]
 pub(crate) struct Files {
     by_number: BTreeMap<FileNo, Stored>,
@@ -64,17 +65,24 @@ impl Files {
         size
     }
 
-    /// Puts a file of one name at a number.
+    /// Puts a file of one name and no pin at a number.
     ///
     /// # Errors
     ///
     /// `NoMemory` if memory runs out; the files are then as before.
     #[tactic(auto, unfolding(sftp_path::specs::Table::put))]
     pub(crate) fn put(&mut self, number: FileNo, content: Content) -> Result<(), NoMemory>
-        ensures ok { OnOk result (self.new ≡ put nat_cmp self.old number (record { content = content; names = 1 })) }
+        ensures ok { OnOk result (self.new ≡ put nat_cmp self.old number (record { content = content; names = 1; pins = 0 })) }
         ensures err { OnErr result (self.new ≡ self.old) }
     {
-        self.by_number.insert(number, Stored { content, names: 1 })?;
+        self.by_number.insert(
+            number,
+            Stored {
+                content,
+                names: 1,
+                pins: 0,
+            },
+        )?;
         Ok(())
     }
 
@@ -86,7 +94,7 @@ impl Files {
         count_name(&mut self.by_number, named);
     }
 
-    /// Counts one name less of a file, if one is named. The file is removed with its last name.
+    /// Counts one name less of a file, if one is named. The file is removed with its last name if it has no pin.
     pub(crate) fn forget_name(&mut self, named: Option<FileNo>)
         requires { IfSome named (λ number. IfSome (get nat_cmp self.old number) (λ s. 0 < s.names)) }
         ensures { IsChangedWhereNamed without_a_name named self.old self.new }
@@ -109,6 +117,53 @@ impl Files {
         change_at(&mut self.by_number, number, attrs)?;
         Ok(())
     }
+
+    /// Writes bytes to the file of a number, if there is one, from the offset on.
+    ///
+    /// # Errors
+    ///
+    /// `NoMemory` if memory runs out; the files are then as before.
+    pub(crate) fn write_at(
+        &mut self,
+        number: FileNo,
+        offset: u64,
+        new: &[u8],
+    ) -> Result<(), NoMemory>
+        requires { IsWritable offset new.now }
+        ensures ok { OnOk result (IsChanged (with_bytes_written offset new.now) number self.old self.new) }
+        ensures err { OnErr result (self.new ≡ self.old) }
+    {
+        write_at(&mut self.by_number, number, offset, new)?;
+        Ok(())
+    }
+
+    /// How many pins the file of a number has; 0 if there is no such file.
+    #[tactic(auto, unfolding(sftp_path::specs::Table::get))]
+    pub(crate) fn pin_count(&self, number: FileNo) -> u64
+        ensures { result ≡ pin_count_at (get nat_cmp self.now number) }
+    {
+        match self.by_number.get(&number) {
+            Some(stored) => stored.pins,
+            None => 0,
+        }
+    }
+
+    /// Counts a further pin of the file of a number, if there is one.
+    pub(crate) fn pin(&mut self, number: FileNo)
+        requires { IfSome (get nat_cmp self.old number) (λ s. s.pins < 2 ^ 32) }
+        ensures { IsChanged with_a_pin number self.old self.new }
+    {
+        pin(&mut self.by_number, number);
+    }
+
+    /// Counts one pin less of the file of a number, if there is one. The file is removed with its last pin if it has no
+    /// name.
+    pub(crate) fn unpin(&mut self, number: FileNo)
+        requires { IfSome (get nat_cmp self.old number) (λ s. 0 < s.pins) }
+        ensures { IsChanged without_a_pin number self.old self.new }
+    {
+        unpin(&mut self.by_number, number);
+    }
 }
 
 /// Counts a further name of a file, if one is named.
@@ -121,7 +176,7 @@ fn count_name(files: &mut BTreeMap<FileNo, Stored>, named: Option<FileNo>)
     }
 }
 
-/// Counts one name less of a file, if one is named. The file is removed with its last name.
+/// Counts one name less of a file, if one is named. The file is removed with its last name if it has no pin.
 fn forget_name(files: &mut BTreeMap<FileNo, Stored>, named: Option<FileNo>)
     requires { IfSome named (λ number. IfSome (get nat_cmp files.old.entries number) (λ s. 0 < s.names)) }
     ensures { IsChangedWhereNamed without_a_name named files.old.entries files.new.entries }
@@ -141,7 +196,7 @@ fn raise(files: &mut BTreeMap<FileNo, Stored>, number: FileNo)
     }
 }
 
-/// Counts one name less of the file of a number, if there is one. The file is removed with its last name.
+/// Counts one name less of the file of a number, if there is one. The file is removed with its last name if it has no pin.
 fn lower(files: &mut BTreeMap<FileNo, Stored>, number: FileNo)
     requires { IfSome (get nat_cmp files.old.entries number) (λ s. 0 < s.names) }
     ensures { IsChanged without_a_name number files.old.entries files.new.entries }
@@ -150,7 +205,7 @@ fn lower(files: &mut BTreeMap<FileNo, Stored>, number: FileNo)
         return;
     };
     stored.names -= 1;
-    if stored.names == 0 {
+    if !stored.is_held() {
         files.remove(&number);
     }
 }
@@ -176,4 +231,51 @@ fn change_at(
         change(&mut stored.content, attrs)?;
     }
     Ok(())
+}
+
+/// Writes bytes to the file of a number, if there is one, from the offset on.
+///
+/// # Errors
+///
+/// `NoMemory` if memory runs out; the files are then as before.
+fn write_at(
+    files: &mut BTreeMap<FileNo, Stored>,
+    number: FileNo,
+    offset: u64,
+    new: &[u8],
+) -> Result<(), NoMemory>
+    requires { IsWritable offset new.now }
+    ensures ok { OnOk result
+        (IsChanged (with_bytes_written offset new.now) number files.old.entries files.new.entries) }
+    ensures err { OnErr result (files.new.entries ≡ files.old.entries) }
+{
+    if let Some(stored) = files.get_mut(&number) {
+        stored.content.bytes.write_at(offset, new)?;
+    }
+    Ok(())
+}
+
+/// Counts a further pin of the file of a number, if there is one.
+fn pin(files: &mut BTreeMap<FileNo, Stored>, number: FileNo)
+    requires { IfSome (get nat_cmp files.old.entries number) (λ s. s.pins < 2 ^ 32) }
+    ensures { IsChanged with_a_pin number files.old.entries files.new.entries }
+{
+    if let Some(stored) = files.get_mut(&number) {
+        stored.pins += 1;
+    }
+}
+
+/// Counts one pin less of the file of a number, if there is one. The file is removed with its last pin if it has no
+/// name.
+fn unpin(files: &mut BTreeMap<FileNo, Stored>, number: FileNo)
+    requires { IfSome (get nat_cmp files.old.entries number) (λ s. 0 < s.pins) }
+    ensures { IsChanged without_a_pin number files.old.entries files.new.entries }
+{
+    let Some(stored) = files.get_mut(&number) else {
+        return;
+    };
+    stored.pins -= 1;
+    if !stored.is_held() {
+        files.remove(&number);
+    }
 }

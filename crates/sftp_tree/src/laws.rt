@@ -9,7 +9,7 @@ ghost use Rattle.sftp_treefile.specs.TreeFile.{are_bytes};
 ghost use Rattle.sftp_tree.specs.declared.causes.Cause.{Cause};
 ghost use Rattle.sftp_tree.specs.declared.nodes.Node.TheVariants.{File};
 ghost use Rattle.sftp_tree.specs.Tree.{Names, Tree, WellFormed, IsKept, IsTrimmed, limits, fits, is_directory, node_at};
-ghost use Rattle.sftp_tree.specs.Tree.{content_at, times_named, times_pinned, is_named, is_held, trimmed, trim};
+ghost use Rattle.sftp_tree.specs.Tree.{content_at, times_named, times_pinned, is_named, is_pinned, is_held, trimmed, trim};
 ghost use Rattle.sftp_tree.specs.Walk.{walk, reached, looked, steps_of, looked_limit, link_limit};
 ghost use Rattle.sftp_tree.specs.WalkRules.{Leads};
 ghost use Rattle.sftp_tree.specs.Requests.{outcome, after};
@@ -39,9 +39,12 @@ pub fn outcomes_are_trees()
     walks_give_places();
 }
 
-/// A tree within the limits stays one when it is trimmed. A file stays if it has a name or is held.
+/// A tree within the limits stays one when it is trimmed, if all that is pinned is held. A file stays if it has a name
+/// or is held.
 pub fn trees_are_trimmed()
-    ensures tree { (t : Tree) (is_held : ℕ → Bool) → WellFormed t → WellFormed (trimmed is_held t) }
+    ensures tree { (t : Tree) (is_held : ℕ → Bool) →
+        ((number : ℕ) → IsTrue (is_pinned t.pins number) → IsTrue (is_held number)) → WellFormed t →
+        WellFormed (trimmed is_held t) }
     ensures limits { (t : Tree) (is_held : ℕ → Bool) → IsTrue (fits t) → IsTrue (fits (trimmed is_held t)) }
     ensures kept { (t : Tree) → WellFormed t → IsTrue (fits t) → IsKept (trim t) }
     ensures already { (t : Tree) → IsTrimmed t → trim t ≡ t }

@@ -1,17 +1,20 @@
 //! How each change of a tree bears on each of its limits, as theorems on the definitions that the contracts name. The
 //! functions do nothing; each promise is in the contract. A limit that a law does not name holds after the change
 //! exactly if it held before.
-ghost use Rattle.std.specs.Prelude.{◌≡◌, ◌&&◌, nat_le, ℕ, Some, None, length, IsTrue};
+ghost use Rattle.std.specs.Prelude.{◌≡◌, ◌&&◌, nat_le, ℕ, List, Some, None, length, IsTrue};
 ghost use Rattle.std.specs.List.{list_all};
 ghost use Rattle.sftp_path.specs.Place.{Place, place_cmp};
 ghost use Rattle.sftp_path.specs.Table.{InOrder};
 ghost use Rattle.sftp_path.specs.Rekeying.{renamed, NothingFrom};
 ghost use Rattle.sftp_tree.specs.declared.file_contents.Content.{Content};
 ghost use Rattle.sftp_tree.specs.declared.nodes.Node.{Node};
-ghost use Rattle.sftp_tree.specs.Tree.{Tree, limits, fits, entries_fit, depths_fit, home_fits, links_fit};
+ghost use Rattle.sftp_wire.specs.declared.attributes.Attrs.{Attrs};
+ghost use Rattle.sftp_tree.specs.Tree.{Tree, IsKept, HasFile, limits, fits, entries_fit, depths_fit, home_fits, links_fit};
 ghost use Rattle.sftp_tree.specs.Tree.{files_fit, numbers_fit, depth_fits, link_fits, content_fits};
 ghost use Rattle.sftp_tree.specs.Tree.{node_at, with_node, without_node, content_at, with_content};
 ghost use Rattle.sftp_tree.specs.Changes.{moved};
+ghost use Rattle.sftp_tree.specs.FileChanges.{write_fits, after_write, after_set};
+ghost use Rattle.sftp_tree.specs.Room.{size_fits};
 
 /// A tree is within the limits exactly if it is within each of them.
 pub fn limits_are_six()
@@ -75,4 +78,12 @@ pub fn limits_of_files()
     ensures again { (t : Tree) (number : ℕ) (content : Content) → IsTrue (files_fit t) →
         IsTrue (content_fits (limits t) content) →
         IsTrue (files_fit (record t { files = with_content t.files number content })) }
+{}
+
+/// With another content of a file after a WRITE or an FSETSTAT: only the file's size bears on a limit.
+pub fn limits_of_open_files()
+    ensures write { (t : Tree) (number offset : ℕ) (new : List ℕ) → IsTrue (fits t) → HasFile t.files number →
+        fits (after_write t number offset new) ≡ write_fits (limits t) offset new }
+    ensures set { (t : Tree) (number : ℕ) (attrs : Attrs) → IsKept t → HasFile t.files number →
+        fits (after_set t number attrs) ≡ size_fits (limits t) attrs.size }
 {}

@@ -67,11 +67,13 @@ impl Tree {
     }
 
     /// Whether a file may have the size that is given, if one is.
-    fn size_fits(&self, attrs: &Attrs) -> bool
-        ensures { result ≡ room.size_fits (tree.limits self.now) attrs.now.size }
+    pub(crate) fn size_fits(&self, attrs: &Attrs) -> bool
+        ensures fits { result ≡ room.size_fits (tree.limits self.now) attrs.now.size }
+        ensures kept { tree.IsKept self.now }
     {
+        let most = self.tree_limits().file_bytes;
         match attrs.size {
-            Some(size) => size <= u64::from(self.tree_limits().file_bytes),
+            Some(size) => size <= u64::from(most),
             None => true,
         }
     }

@@ -1,5 +1,5 @@
 //! The tree.
-ghost use Rattle.std.specs.Prelude.{◌≡◌, false, None, option_copied, OnOk, OnErr, IsTrue};
+ghost use Rattle.std.specs.Prelude.{◌≡◌, ◌<◌, ◌^◌, false, None, option_copied, OnOk, OnErr, IsTrue};
 ghost use Rattle.sftp_path.specs.Place.{are_names, parent};
 ghost use Rattle.sftp_treefile.specs.TreeFile.{IsOwner, is_root, same_place};
 
@@ -43,6 +43,7 @@ impl Tree {
     ghost use Rattle.sftp_tree.specs.StoredFiles as stored;
     ghost use Rattle.sftp_tree.specs.PlaceCauses as place_causes;
     ghost use Rattle.sftp_tree.specs.Changes as changes;
+    ghost use Rattle.sftp_tree.specs.FileChanges as file_changes;
 
     /// A tree of these parts. It takes no memory.
     pub(crate) fn from_parts(
@@ -116,7 +117,8 @@ impl Tree {
 
     /// The limits of the tree.
     pub(crate) fn tree_limits(&self) -> TreeLimits
-        ensures { result ≡ tree.limits self.now }
+        ensures limits { result ≡ tree.limits self.now }
+        ensures kept { tree.IsKept self.now }
     {
         self.limits
     }
@@ -200,9 +202,55 @@ impl Tree {
         ensures ok { OnOk result
             (self.new
             ≡ tree.trim (changes.with_changed_file self.old attrs.now number (tree.content_at self.old.files number))) }
+        ensures changed { OnOk result (self.new ≡ file_changes.after_set self.old number attrs.now) }
         ensures err { OnErr result (self.new ≡ self.old) }
     {
         self.files.change_at(number, attrs)?;
         Ok(())
+    }
+
+    /// Writes bytes to the file of a number, from the offset on. The limits allow the size.
+    ///
+    /// # Errors
+    ///
+    /// `NoMemory` if memory runs out; the tree is then as before.
+    pub(crate) fn write_file(
+        &mut self,
+        number: FileNo,
+        offset: u64,
+        new: &[u8],
+    ) -> Result<(), NoMemory>
+        requires { IsTrue (file_changes.write_fits (tree.limits self.old) offset new.now) }
+        ensures ok { OnOk result (self.new ≡ file_changes.after_write self.old number offset new.now) }
+        ensures err { OnErr result (self.new ≡ self.old) }
+    {
+        self.files.write_at(number, offset, new)?;
+        Ok(())
+    }
+
+    /// How many pins a file has.
+    pub fn pin_count(&self, number: FileNo) -> u64
+        ensures { result ≡ tree.times_pinned self.now.pins number }
+    {
+        self.files.pin_count(number)
+    }
+
+    /// Pins a file that has fewer than 2^32 pins: it stays, also without a name, until as many calls of `unpin` were
+    /// made as of `pin`.
+    pub fn pin(&mut self, number: FileNo)
+        requires file { tree.HasFile self.old.files number }
+        requires few { tree.times_pinned self.old.pins number < 2 ^ 32 }
+        ensures { self.new ≡ file_changes.after_pin self.old number }
+    {
+        self.files.pin(number);
+    }
+
+    /// Takes away a pin of a file that is pinned. With its last pin a file is removed that has no name.
+    pub fn unpin(&mut self, number: FileNo)
+        requires file { tree.HasFile self.old.files number }
+        requires pinned { IsTrue (tree.is_pinned self.old.pins number) }
+        ensures { self.new ≡ file_changes.after_unpin self.old number }
+    {
+        self.files.unpin(number);
     }
 }

@@ -1,6 +1,5 @@
-use Rattle.std.proofs.Common.{rules}
 -- Sets of causes as bits.
-use Rattle.std.proofs.Common.{◌≡◌, ◌≢◌, ◌==◌, ◌<◌, ℕ, ◌*◌, ◌%◌, ◌^◌, Bool, true, false, ◌&&◌, ◌||◌, refl, sym, ap, ◌∙◌, lit<, arith}
+use Rattle.std.proofs.Common.{rules, ◌≡◌, ◌≢◌, ◌==◌, ◌<◌, ℕ, ◌*◌, ◌%◌, ◌^◌, Bool, true, false, ◌&&◌, ◌||◌, refl, sym, ap, ◌∙◌, lit<, arith}
 use Rattle.std.specs.Int.{bit_at, w16}
 use Rattle.std.specs.Int.Bits.{bit_or}
 use Rattle.std.specs.Prelude.{max}

@@ -126,7 +126,7 @@ may-replace t old new well leave none apart =
 
 -- ---- files
 
-length-resized : (size : ℕ) (bytes : List ℕ) → length (resized size bytes) ≡ size
+pub length-resized : (size : ℕ) (bytes : List ℕ) → length (resized size bytes) ≡ size
 length-resized size bytes =
     omega (arith, length-append (take size bytes) (replicate (size - length bytes) 0), length-take size bytes, length-replicate {A = ℕ} (size - length bytes) 0)
 
@@ -134,7 +134,7 @@ changed-fits : (bounds : TreeLimits) (size : Option ℕ) (bytes : List ℕ) → 
 changed-fits bounds None bytes fit = fit
 changed-fits bounds (Some size) bytes fit = ap (λ n. nat_le n bounds.file_bytes) (length-resized size bytes)
 
-changed-room : (t : Tree) (attrs : Attrs) (number : ℕ) → IsKept t → (content : Option Content) → content_at t.files number ≡ content → IsTrue (is_some content) → fits (with_changed_file t attrs number content) ≡ size_fits (limits t) attrs.size
+pub changed-room : (t : Tree) (attrs : Attrs) (number : ℕ) → IsKept t → (content : Option Content) → content_at t.files number ≡ content → IsTrue (is_some content) → fits (with_changed_file t attrs number content) ≡ size_fits (limits t) attrs.size
 changed-room t attrs number kept None is there = absurd cc
 changed-room t attrs number kept (Some content) is there =
     fits-content t number (changed_content attrs content) kept.within_limits

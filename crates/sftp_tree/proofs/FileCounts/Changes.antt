@@ -1,6 +1,5 @@
-use Rattle.std.proofs.Common.{rules}
 -- Files that are changed one at a time: what a call on the map makes of them.
-use Rattle.std.proofs.Common.{◌≡◌, ◌≢◌, ℕ, ◌-◌, true, false, refl, sym, ap, ◌∙◌, arith, Option, Some, None, is_some, IsSome, cond, option_and_then, nat_le, if◌then◌else◌}
+use Rattle.std.proofs.Common.{rules, ◌≡◌, ◌≢◌, ℕ, ◌-◌, true, false, refl, sym, ap, ◌∙◌, arith, Option, Some, None, is_some, IsSome, cond, option_and_then, nat_le, if◌then◌else◌, Bool}
 use Rattle.std.proofs.lemmas.Bool.Decides.{nat_tests}
 use Rattle.std.specs.Ordering.{nat_cmp, is_eq, ordering_reverse}
 use Rattle.std.specs.declared.cmp.Ordering.{Ordering}
@@ -11,7 +10,7 @@ use Rattle.std.specs.BTreeMap.{BTreeMap, IsOrdered, UpdatesBy, WritesThrough, ge
 use Rattle.sftp_path.specs.Table.{get, put}
 use Rattle.sftp_path.proofs.Table.Laws.{get-put, InOrder-put, same_table}
 use Rattle.sftp_tree.specs.declared.file_contents.Stored.{Stored}
-use Rattle.sftp_tree.specs.StoredFiles.{IsChanged, without_a_name}
+use Rattle.sftp_tree.specs.StoredFiles.{IsChanged, is_held_still, where_held}
 
 -- numbers that differ do not tie
 pub numbers-apart : (number other : ℕ) → other ≢ number → is_eq (nat_cmp number other) ≡ false
@@ -49,19 +48,13 @@ module _ (change : Stored → Option Stored) (number : ℕ) where
         ordered = order;
       }
 
--- ---- a name less
+-- ---- a file that is removed where nothing holds it
 
-le-one : (n : ℕ) → n - 1 ≡ 0 → nat_le n 1 ≡ true
-le-one n last = grind (arith, nat_tests)
+pub where_held-gone : (s : Stored) → is_held_still s ≡ false → where_held s ≡ None
+where_held-gone s none = ap (λ b. if b then Some s else None) none
 
-not-le-one : (n : ℕ) → (n - 1 ≡ 0 → ⊥) → nat_le n 1 ≡ false
-not-le-one n other = grind (arith, nat_tests)
-
-pub without_a_name-last : (s : Stored) → s.names - 1 ≡ 0 → without_a_name s ≡ None
-without_a_name-last s last = ap (λ b. if b then None else Some (record s { names = s.names - 1 })) (le-one s.names last)
-
-pub without_a_name-other : (s : Stored) → (s.names - 1 ≡ 0 → ⊥) → without_a_name s ≡ Some (record s { names = s.names - 1 })
-without_a_name-other s other = ap (λ b. if b then None else Some (record s { names = s.names - 1 })) (not-le-one s.names other)
+pub where_held-left : (s : Stored) → is_held_still s ≡ true → where_held s ≡ Some s
+where_held-left s held = ap (λ b. if b then Some s else None) held
 
 -- ---- another value at a key that is there
 

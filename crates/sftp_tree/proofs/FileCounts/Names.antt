@@ -1,11 +1,10 @@
 -- Counts of names: that they stay right when a name of a file comes or goes, and that a file is removed with its last
 -- name.
-use Rattle.std.proofs.Common.{◌≡◌, ◌≢◌, ℕ, ◌+◌, ◌-◌, ◌<◌, Bool, true, false, cond, not, nat_lt, nat_le, refl, sym, ap, subst, ◌∙◌, arith, inl, inr, Option, Some, None, IsTrue, if◌then◌else◌, option_map, option_and_then}
+use Rattle.std.proofs.Common.{◌≡◌, ◌≢◌, ℕ, ◌+◌, ◌-◌, ◌<◌, Bool, true, false, cond, ◌||◌, nat_lt, refl, sym, ap, subst, ◌∙◌, arith, Option, Some, None, IsTrue, if◌then◌else◌, option_map, option_and_then}
 use Rattle.std.specs.Ordering.{nat_cmp}
 use Rattle.std.specs.Cmp.{nat_cmp_total}
 use Rattle.std.specs.FinMap.{nat_cmp-IsAntisymmetric}
 use Rattle.std.specs.List.{AllByRecursion}
-use Rattle.std.proofs.lemmas.Bool.{cases_eq}
 use Rattle.std.proofs.lemmas.Bool.Decides.{nat_tests}
 use Rattle.std.proofs.lemmas.Option.{same_Some}
 use Rattle.sftp_path.specs.Place.{Place, place_cmp}
@@ -18,11 +17,10 @@ use Rattle.sftp_tree.specs.declared.file_contents.Content.{Content}
 use Rattle.sftp_tree.specs.declared.file_contents.Stored.{Stored}
 use Rattle.sftp_tree.specs.declared.nodes.Node.{Node}
 use Rattle.sftp_tree.specs.declared.nodes.Node.TheVariants.{Dir, File, Link}
-use Rattle.sftp_tree.specs.Tree.{Names, node_at, with_node, without_node, with_content, names_file, times_named, is_named}
-use Rattle.sftp_tree.specs.StoredFiles.{contents, AreCounted, file_named, IsChanged, IsChangedWhereNamed, with_a_name, without_a_name, with_attributes_set}
-use Rattle.sftp_tree.specs.Attributes.{changed_content}
-use Rattle.sftp_wire.specs.declared.attributes.Attrs.{Attrs}
+use Rattle.sftp_tree.specs.Tree.{Names, node_at, with_node, without_node, with_content, names_file, times_named, times_pinned, is_pinned}
+use Rattle.sftp_tree.specs.StoredFiles.{contents, pin_count_at, pins_of, AreCounted, file_named, is_held_still, where_held, IsChanged, IsChangedWhereNamed, with_a_name, without_a_name, with_content_made}
 use Rattle.sftp_tree.proofs.PlaceTables.Each.{each-get, get-each}
+use Rattle.sftp_tree.proofs.FileCounts.Pins.{by-number, stays, times_pinned-stored}
 
 -- ---- entries by their numbers
 
@@ -64,10 +62,6 @@ one-elsewhere : (number other : ℕ) → other ≢ number → one_name (Some (Fi
 one-elsewhere number other differ = grind (arith, nat_tests)
 
 -- ---- a further name
-
--- a choice by whether two numbers are one
-by-number : {A : Type 0} (number other : ℕ) → (other ≡ number → A) → (other ≢ number → A) → A
-by-number number other same apart = elim (cases_eq other number) [ inl is ↦ same is | inr differ ↦ apart differ ]
 
 more-content : (o : Option Stored) → option_map (λ (s : Stored). s.content) (option_and_then with_a_name o) ≡ option_map (λ (s : Stored). s.content) o
 more-content None = refl
@@ -131,73 +125,77 @@ module _ (names others : Names) (files : Table ℕ Stored) where
 
 -- ---- a name less
 
-gone-content : (number : ℕ) (keeps : ℕ × Content → Bool) (o : Option Stored) → ((s : Stored) → o ≡ Some s → nat_le s.names 1 ≡ not (keeps (number, s.content))) → option_map (λ (s : Stored). s.content) (option_and_then without_a_name o) ≡ kept keeps number (option_map (λ (s : Stored). s.content) o)
-gone-content number keeps None last = refl
-gone-content number keeps (Some s) last = by (nat_le s.names 1) (keeps (number, s.content)) (last s refl)
+pub gone-content : (number : ℕ) (keeps : ℕ × Content → Bool) (change : Stored → Stored) (o : Option Stored)
+    → ((s : Stored) → (change s).content ≡ s.content)
+    → ((s : Stored) → o ≡ Some s → is_held_still (change s) ≡ keeps (number, s.content))
+    → option_map (λ (s : Stored). s.content) (option_and_then (λ s. where_held (change s)) o)
+    ≡ kept keeps number (option_map (λ (s : Stored). s.content) o)
+gone-content number keeps change None same still = refl
+gone-content number keeps change (Some s) same still =
+    by (is_held_still (change s)) ∙ ap (λ b. cond b (Some s.content) None) (still s refl)
   where
-    by : (b kept : Bool) → b ≡ not kept → option_map (λ (s : Stored). s.content) (if b then None else Some (record s { names = s.names - 1 })) ≡ cond kept (Some s.content) None
-    by true true is = cc
-    by true false is = refl
-    by false true is = refl
-    by false false is = cc
+    by : (b : Bool)
+        → option_map (λ (s : Stored). s.content) (if b then Some (change s) else None) ≡ cond b (Some s.content) None
+    by true = ap Some (same s)
+    by false = refl
 
-stayed-content : (number : ℕ) (keeps : ℕ × Content → Bool) (o : Option Stored) → ((s : Stored) → o ≡ Some s → keeps (number, s.content) ≡ true) → option_map (λ (s : Stored). s.content) o ≡ kept keeps number (option_map (λ (s : Stored). s.content) o)
+pub stayed-content : (number : ℕ) (keeps : ℕ × Content → Bool) (o : Option Stored) → ((s : Stored) → o ≡ Some s → keeps (number, s.content) ≡ true) → option_map (λ (s : Stored). s.content) o ≡ kept keeps number (option_map (λ (s : Stored). s.content) o)
 stayed-content number keeps None stays = refl
 stayed-content number keeps (Some s) stays = ap (λ b. cond b (Some s.content) None) (sym (stays s refl))
 
-fewer-names : (o : Option Stored) (s : Stored) (n : ℕ) → option_and_then without_a_name o ≡ Some s → ((before : Stored) → o ≡ Some before → before.names ≡ n) → s.names + 1 ≡ n
-fewer-names None s n is counted = cc
-fewer-names (Some before) s n is counted = by (nat_le before.names 1) refl is
+-- a file that is left is the one that was changed
+pub left-where_held : (s left : Stored) → where_held s ≡ Some left → left ≡ s
+left-where_held s left is = by (is_held_still s) is
   where
-    by : (b : Bool) → nat_le before.names 1 ≡ b → (if b then None else Some (record before { names = before.names - 1 })) ≡ Some s → s.names + 1 ≡ n
-    by true last gone = cc
-    by false other left =
-        let more : 1 < before.names = grind (arith, nat_tests) in
-        let names : before.names - 1 ≡ s.names = ap (λ (s : Stored). s.names) (same_Some _ s left) in
-        omega (arith, counted before refl)
+    by : (b : Bool) → (if b then Some s else None) ≡ Some left → left ≡ s
+    by true is = sym (same_Some _ left is)
+    by false is = absurd cc
 
-last-name : (m n : ℕ) → m ≡ n + 1 → nat_le m 1 ≡ not (nat_lt 0 n)
-last-name m n is = grind (arith, nat_tests)
+fewer-names : (o : Option Stored) (s : Stored) (n : ℕ) → option_and_then without_a_name o ≡ Some s → ((before : Stored) → o ≡ Some before → before.names ≡ n) → 0 < n → s.names + 1 ≡ n
+fewer-names None s n is counted some = cc
+fewer-names (Some before) s n is counted some =
+    let names : s.names ≡ before.names - 1 = ap (λ (s : Stored). s.names) (left-where_held (record before { names = before.names - 1 }) s is) in
+    omega (arith, counted before refl)
 
-named-still : (m n : ℕ) → nat_lt 0 m ≡ true → n ≡ m → nat_lt 0 n ≡ true
-named-still m n some is = ap (nat_lt 0) is ∙ some
-
--- whether a file keeps a name
-abbrev pub keeps_a_name : Names → ℕ × Content → Bool
-keeps_a_name others e = is_named others e.0
+held-as_before : (m n p : ℕ) → (nat_lt 0 m || nat_lt 0 p) ≡ true → n ≡ m → (nat_lt 0 n || nat_lt 0 p) ≡ true
+held-as_before m n p some is = ap (λ k. nat_lt 0 k || nat_lt 0 p) is ∙ some
 
 module _ (names others : Names) (files : Table ℕ Stored) where
-  -- the contents that are left are those of the files that have a name
-  left-contents : (after : Table ℕ Stored) → InOrder nat_cmp files → InOrder nat_cmp after → ((number : ℕ) → option_map (λ (s : Stored). s.content) (get nat_cmp after number) ≡ kept (keeps_a_name others) number (option_map (λ (s : Stored). s.content) (get nat_cmp files number))) → contents after ≡ retain (contents files) (keeps_a_name others)
-  left-contents after order ordered alike =
+  -- the contents that are left are those of the files that pass the test
+  pub left-contents : (keeps : ℕ × Content → Bool) (after : Table ℕ Stored) → InOrder nat_cmp files → InOrder nat_cmp after → ((number : ℕ) → option_map (λ (s : Stored). s.content) (get nat_cmp after number) ≡ kept keeps number (option_map (λ (s : Stored). s.content) (get nat_cmp files number))) → contents after ≡ retain (contents files) keeps
+  left-contents keeps after order ordered alike =
       let content : Stored → Content = λ s. s.content in
       let were : InOrder nat_cmp (contents files) = InOrder-with_values nat_cmp content files order in
-      same_table nat_cmp nat_cmp_total nat_cmp-IsAntisymmetric (contents after) (retain (contents files) (keeps_a_name others)) (InOrder-with_values nat_cmp content after ordered) (InOrder-retain nat_cmp (contents files) (keeps_a_name others) were)
+      same_table nat_cmp nat_cmp_total nat_cmp-IsAntisymmetric (contents after) (retain (contents files) keeps) (InOrder-with_values nat_cmp content after ordered) (InOrder-retain nat_cmp (contents files) keeps were)
       (λ number.
-      get-with_values nat_cmp content after number ∙ alike number ∙ ap (kept (keeps_a_name others) number) (sym (get-with_values nat_cmp content files number))
-      ∙ sym (get-retain nat_cmp nat_cmp_total nat_cmp-IsAntisymmetric (contents files) (keeps_a_name others) number were))
+      get-with_values nat_cmp content after number ∙ alike number ∙ ap (kept keeps number) (sym (get-with_values nat_cmp content files number))
+      ∙ sym (get-retain nat_cmp nat_cmp_total nat_cmp-IsAntisymmetric (contents files) keeps number were))
 
-  module _ (order : InOrder nat_cmp files) (counted : AreCounted names files) (trimmed : AllByRecursion (λ e. IsTrue (is_named names e.0)) (contents files)) where
-    was-named : (number : ℕ) (s : Stored) → get nat_cmp files number ≡ Some s → is_named names number ≡ true
-    was-named number s there =
-        at-number (λ number (content : Content). is_named names number ≡ true) (contents files) trimmed number s.content
+  module _ (order : InOrder nat_cmp files) (counted : AreCounted names files) (trimmed : AllByRecursion (λ e. IsTrue (stays (is_pinned (pins_of files)) names e)) (contents files)) where
+    was-held : (number : ℕ) (s : Stored) → get nat_cmp files number ≡ Some s → stays (is_pinned (pins_of files)) names (number, s.content) ≡ true
+    was-held number s there =
+        at-number (λ number (content : Content). stays (is_pinned (pins_of files)) names (number, content) ≡ true) (contents files) trimmed number s.content
         (get-with_values nat_cmp (λ (s : Stored). s.content) files number ∙ ap (option_map (λ (s : Stored). s.content)) there)
 
     -- a file as many of whose names are left stays
-    stays : (number : ℕ) → times_named others number ≡ times_named names number → (s : Stored) → get nat_cmp files number ≡ Some s → keeps_a_name others (number, s.content) ≡ true
-    stays number alike s there = named-still (times_named names number) (times_named others number) (was-named number s there) alike
+    held-still : (number : ℕ) → times_named others number ≡ times_named names number → (s : Stored) → get nat_cmp files number ≡ Some s → stays (is_pinned (pins_of files)) others (number, s.content) ≡ true
+    held-still number alike s there = held-as_before (times_named names number) (times_named others number) (times_pinned (pins_of files) number) (was-held number s there) alike
 
-    lowered-file : (number : ℕ) → ((other : ℕ) → times_named others other + one_name (Some (File number)) other ≡ times_named names other) → (after : Table ℕ Stored) → IsChanged without_a_name number files after → (contents after ≡ retain (contents files) (keeps_a_name others)) × AreCounted others after
+    lowered-file : (number : ℕ) → ((other : ℕ) → times_named others other + one_name (Some (File number)) other ≡ times_named names other) → (after : Table ℕ Stored) → IsChanged without_a_name number files after → (contents after ≡ retain (contents files) (stays (is_pinned (pins_of files)) others)) × AreCounted others after
     lowered-file number less after changed =
-        (left-contents after order changed.ordered content, at-entries (λ other (s : Stored). s.names ≡ times_named others other) after changed.ordered names-of)
+        (left-contents (stays (is_pinned (pins_of files)) others) after order changed.ordered content, at-entries (λ other (s : Stored). s.names ≡ times_named others other) after changed.ordered names-of)
       where
-        last : (s : Stored) → get nat_cmp files number ≡ Some s → nat_le s.names 1 ≡ not (keeps_a_name others (number, s.content))
-        last s there =
+        keeps : ℕ × Content → Bool
+        keeps = stays (is_pinned (pins_of files)) others
+
+        still : (s : Stored) → get nat_cmp files number ≡ Some s → is_held_still (record s { names = s.names - 1 }) ≡ keeps (number, s.content)
+        still s there =
             let one = one-here number in
             let l = less number in
             let n = count-at names files counted number s there in
-            let more : s.names ≡ times_named others number + 1 = omega arith in
-            last-name s.names (times_named others number) more
+            let left : s.names - 1 ≡ times_named others number = omega arith in
+            let pins : s.pins ≡ times_pinned (pins_of files) number = sym (times_pinned-stored files number order ∙ ap pin_count_at there) in
+            λ i. nat_lt 0 (left i) || nat_lt 0 (pins i)
 
         alike : (other : ℕ) → other ≢ number → times_named others other ≡ times_named names other
         alike other differ =
@@ -205,14 +203,14 @@ module _ (names others : Names) (files : Table ℕ Stored) where
             let l = less other in
             omega arith
 
-        content : (other : ℕ) → option_map (λ (s : Stored). s.content) (get nat_cmp after other) ≡ kept (keeps_a_name others) other (option_map (λ (s : Stored). s.content) (get nat_cmp files other))
+        content : (other : ℕ) → option_map (λ (s : Stored). s.content) (get nat_cmp after other) ≡ kept keeps other (option_map (λ (s : Stored). s.content) (get nat_cmp files other))
         content other =
             by-number number other
             (λ is.
-            ap (λ k. option_map (λ (s : Stored). s.content) (get nat_cmp after k)) is ∙ ap (option_map (λ (s : Stored). s.content)) changed.here ∙ gone-content number (keeps_a_name others) (get nat_cmp files number) last
-            ∙ ap (λ k. kept (keeps_a_name others) k (option_map (λ (s : Stored). s.content) (get nat_cmp files k))) (sym is))
+            ap (λ k. option_map (λ (s : Stored). s.content) (get nat_cmp after k)) is ∙ ap (option_map (λ (s : Stored). s.content)) changed.here ∙ gone-content number keeps (λ s. record s { names = s.names - 1 }) (get nat_cmp files number) (λ s. refl) still
+            ∙ ap (λ k. kept keeps k (option_map (λ (s : Stored). s.content) (get nat_cmp files k))) (sym is))
             (λ differ.
-            ap (option_map (λ (s : Stored). s.content)) (changed.others other differ) ∙ stayed-content other (keeps_a_name others) (get nat_cmp files other) (stays other (alike other differ)))
+            ap (option_map (λ (s : Stored). s.content)) (changed.others other differ) ∙ stayed-content other keeps (get nat_cmp files other) (held-still other (alike other differ)))
 
         names-of : (other : ℕ) (s : Stored) → get nat_cmp after other ≡ Some s → s.names ≡ times_named others other
         names-of other s there =
@@ -220,67 +218,69 @@ module _ (names others : Names) (files : Table ℕ Stored) where
             (λ is.
             let one = one-here number in
             let l = less number in
-            let n = fewer-names (get nat_cmp files number) s (times_named names number) (sym changed.here ∙ ap (get nat_cmp after) (sym is) ∙ there) (count-at names files counted number) in
+            let n = fewer-names (get nat_cmp files number) s (times_named names number) (sym changed.here ∙ ap (get nat_cmp after) (sym is) ∙ there) (count-at names files counted number) (omega arith) in
             let here : s.names ≡ times_named others number = omega arith in
             here ∙ ap (times_named others) (sym is))
             (λ differ. count-at names files counted other s (sym (changed.others other differ) ∙ there) ∙ sym (alike other differ))
 
-    lost-none : (after : Table ℕ Stored) → ((other : ℕ) → times_named others other ≡ times_named names other) → after ≡ files → (contents after ≡ retain (contents files) (keeps_a_name others)) × AreCounted others after
+    lost-none : (after : Table ℕ Stored) → ((other : ℕ) → times_named others other ≡ times_named names other) → after ≡ files → (contents after ≡ retain (contents files) (stays (is_pinned (pins_of files)) others)) × AreCounted others after
     lost-none after alike same = (
-      ap contents same ∙ left-contents files order order (λ number. stayed-content number (keeps_a_name others) (get nat_cmp files number) (stays number (alike number))),
+      ap contents same
+          ∙ left-contents (stays (is_pinned (pins_of files)) others) files order order
+          (λ number. stayed-content number (stays (is_pinned (pins_of files)) others) (get nat_cmp files number) (held-still number (alike number))),
       subst (AreCounted others) (sym same) (counted-again names others files order alike counted),
     )
 
     -- with a name less of the file that it named, or without that file, the counts are right again and each file left
-    -- has a name
-    pub lowered : (gone : Option Node) → ((other : ℕ) → times_named others other + one_name gone other ≡ times_named names other) → (after : Table ℕ Stored) → IsChangedWhereNamed without_a_name (file_named gone) files after → (contents after ≡ retain (contents files) (keeps_a_name others)) × AreCounted others after
+    -- is held
+    pub lowered : (gone : Option Node) → ((other : ℕ) → times_named others other + one_name gone other ≡ times_named names other) → (after : Table ℕ Stored) → IsChangedWhereNamed without_a_name (file_named gone) files after → (contents after ≡ retain (contents files) (stays (is_pinned (pins_of files)) others)) × AreCounted others after
     lowered None less after same = lost-none after (λ other. let l = less other in omega arith) same
     lowered (Some (Dir owner)) less after same = lost-none after (λ other. let l = less other in omega arith) same
     lowered (Some (File number)) less after changed = lowered-file number less after changed
     lowered (Some (Link target)) less after same = lost-none after (λ other. let l = less other in omega arith) same
 
--- ---- the attributes of a file
+-- ---- another content of a file
 
 -- if each file is as it was, or another in its place has as many names, the counts are right
-changed-names : (attrs : Attrs) (o : Option Stored) (s : Stored) (n : ℕ) → option_and_then (with_attributes_set attrs) o ≡ Some s → ((before : Stored) → o ≡ Some before → before.names ≡ n) → s.names ≡ n
-changed-names attrs None s n is counted = cc
-changed-names attrs (Some before) s n is counted = sym (ap (λ (s : Stored). s.names) (same_Some _ s is)) ∙ counted before refl
+changed-names : (change : Content → Content) (o : Option Stored) (s : Stored) (n : ℕ) → option_and_then (with_content_made change) o ≡ Some s → ((before : Stored) → o ≡ Some before → before.names ≡ n) → s.names ≡ n
+changed-names change None s n is counted = cc
+changed-names change (Some before) s n is counted = sym (ap (λ (s : Stored). s.names) (same_Some _ s is)) ∙ counted before refl
 
-module _ (names : Names) (files : Table ℕ Stored) (attrs : Attrs) (number : ℕ) (after : Table ℕ Stored) where
+module _ (names : Names) (files : Table ℕ Stored) (change : Content → Content) (number : ℕ) (after : Table ℕ Stored) where
   -- the counts stay
-  pub counted-changed : AreCounted names files → IsChanged (with_attributes_set attrs) number files after → AreCounted names after
+  pub counted-changed : AreCounted names files → IsChanged (with_content_made change) number files after → AreCounted names after
   counted-changed counted changed =
       at-entries (λ other (s : Stored). s.names ≡ times_named names other) after changed.ordered (λ other s there.
       by-number number other
       (λ is.
-      changed-names attrs (get nat_cmp files number) s (times_named names number) (sym changed.here ∙ ap (get nat_cmp after) (sym is) ∙ there) (count-at names files counted number)
+      changed-names change (get nat_cmp files number) s (times_named names number) (sym changed.here ∙ ap (get nat_cmp after) (sym is) ∙ there) (count-at names files counted number)
       ∙ ap (times_named names) (sym is))
       (λ differ. count-at names files counted other s (sym (changed.others other differ) ∙ there)))
 
   -- the file has its new content
-  pub contents-changed : InOrder nat_cmp files → IsChanged (with_attributes_set attrs) number files after → (s : Stored) → get nat_cmp files number ≡ Some s → contents after ≡ with_content (contents files) number (changed_content attrs s.content)
+  pub contents-changed : InOrder nat_cmp files → IsChanged (with_content_made change) number files after → (s : Stored) → get nat_cmp files number ≡ Some s → contents after ≡ with_content (contents files) number (change s.content)
   contents-changed order changed s there =
       let content : Stored → Content = λ s. s.content in
-      let new : Content = changed_content attrs s.content in
+      let new : Content = change s.content in
       same_table nat_cmp nat_cmp_total nat_cmp-IsAntisymmetric (contents after) (with_content (contents files) number new) (InOrder-with_values nat_cmp content after changed.ordered)
       (InOrder-put nat_cmp nat_cmp_total (contents files) number new (InOrder-with_values nat_cmp content files order))
       (λ other.
       get-with_values nat_cmp content after other
       ∙ by-number number other
       (λ is.
-      ap (λ k. option_map content (get nat_cmp after k)) is ∙ ap (option_map content) (changed.here ∙ ap (option_and_then (with_attributes_set attrs)) there)
+      ap (λ k. option_map content (get nat_cmp after k)) is ∙ ap (option_map content) (changed.here ∙ ap (option_and_then (with_content_made change)) there)
       ∙ sym (get-put_here nat_cmp nat_cmp_total (contents files) number new) ∙ ap (get nat_cmp (with_content (contents files) number new)) (sym is))
       (λ differ.
       ap (option_map content) (changed.others other differ) ∙ sym (get-with_values nat_cmp content files other)
       ∙ sym (get-put_elsewhere nat_cmp nat_cmp_total (contents files) number other new (λ tie. differ (nat_cmp-IsAntisymmetric other number tie)))))
 
   -- where there is no such file, all are as before
-  pub contents-unchanged : InOrder nat_cmp files → IsChanged (with_attributes_set attrs) number files after → get nat_cmp files number ≡ None → contents after ≡ contents files
+  pub contents-unchanged : InOrder nat_cmp files → IsChanged (with_content_made change) number files after → get nat_cmp files number ≡ None → contents after ≡ contents files
   contents-unchanged order changed none =
       let content : Stored → Content = λ s. s.content in
       same-contents files after order changed.ordered (λ other.
       by-number number other
       (λ is.
-      ap (λ k. option_map content (get nat_cmp after k)) is ∙ ap (option_map content) (changed.here ∙ ap (option_and_then (with_attributes_set attrs)) none ∙ sym none)
+      ap (λ k. option_map content (get nat_cmp after k)) is ∙ ap (option_map content) (changed.here ∙ ap (option_and_then (with_content_made change)) none ∙ sym none)
       ∙ ap (λ k. option_map content (get nat_cmp files k)) (sym is))
       (λ differ. ap (option_map content) (changed.others other differ)))

@@ -1,58 +1,42 @@
-use Rattle.std.proofs.Common.{rules}
 -- Trees as the code has them: what a change of the names and of the counts makes of them.
-use Rattle.std.proofs.Common.{◌≡◌, ℕ, ◌+◌, ◌<◌, ◌≤◌, ◌^◌, true, false, ◌||◌, not, [], unwrap_or, nat_lt, option_map, length, refl, sym, ap, subst, ◌∙◌, arith, Option, Some, None, IfSome, IsTrue}
+use Rattle.std.proofs.Common.{rules, ◌≡◌, ℕ, ◌+◌, ◌<◌, ◌≤◌, ◌^◌, true, false, ◌||◌, not, [], unwrap_or, nat_lt, option_map, length, refl, sym, ap, subst, ◌∙◌, arith, Option, Some, None, IfSome, IsTrue, ◌-◌, ◌&&◌, nat_le}
 use Rattle.std.specs.Ordering.{nat_cmp}
 use Rattle.std.specs.List.{AllByRecursion}
+use Rattle.std.specs.Cmp.{first_so}
 use Rattle.std.specs.List.Sorted.{IsStrictlySortedBy}
+use Rattle.std.proofs.lemmas.Bool.{eq-eqb}
 use Rattle.std.proofs.lemmas.Bool.Decides.{nat_tests}
 use Rattle.std.proofs.lemmas.Option.{same_Some}
 use Rattle.std.proofs.lemmas.List.Filters.{length-filter_both}
-use Rattle.std.proofs.Math.Bool.{or-false}
 use Rattle.std.proofs.lemmas.Map.Made.{keys_of-map_values}
-use Rattle.sftp_path.specs.Place.{Place}
+use Rattle.sftp_path.specs.Place.{Place, place_cmp}
 use Rattle.sftp_path.specs.Table.{Table, InOrder, get, retain}
-use Rattle.sftp_path.proofs.Table.Laws.{get-empty}
+use Rattle.sftp_path.proofs.Table.Counts.{count-found}
 use Rattle.sftp_path.proofs.Table.Values.{get-with_values}
 use Rattle.sftp_tree.specs.declared.file_contents.Content.{Content}
 use Rattle.sftp_tree.specs.declared.file_contents.Stored.{Stored}
 use Rattle.sftp_tree.specs.declared.nodes.Node.{Node}
-use Rattle.sftp_tree.specs.Tree.{Names, Files, Tree, IsKept, IsTrimmed, IsContent, is_directory, content_at, is_named, is_pinned, fits, node_at, with_node, names_file, times_named, trim}
+use Rattle.sftp_tree.specs.Tree.{Names, Files, Tree, IsKept, IsTrimmed, IsContent, is_directory, content_at, is_named, is_pinned, fits, node_at, with_node, names_file, times_named, trim, entries_fit, depths_fit, home_fits, links_fit, files_fit, numbers_fit, with_content}
 use Rattle.sftp_tree.specs.declared.nodes.Node.TheVariants.{Dir, File, Link}
 use Rattle.sftp_wire.specs.declared.attributes.Attrs.{Attrs}
 use Rattle.sftp_treefile.specs.declared.files.Owner.{Owner}
 use Rattle.sftp_treefile.specs.declared.limits.TreeLimits.{TreeLimits}
 use Rattle.sftp_treefile.specs.Limits.{usual_limits}
 use Rattle.sftp_treefile.specs.TreeFile.{IsOwner}
-use Rattle.sftp_tree.specs.Attributes.{changed_owner}
+use Rattle.sftp_tree.specs.Attributes.{changed_owner, changed_content}
 use Rattle.sftp_tree.specs.Changes.{with_changed_file}
-use Rattle.sftp_tree.specs.StoredFiles.{contents, seen, AreCounted, file_named, IsChanged, IsChangedWhereNamed, with_a_name, without_a_name, with_attributes_set}
-use Rattle.sftp_tree.proofs.PlaceTables.Each.{each-weaker}
+use Rattle.sftp_tree.specs.StoredFiles.{contents, pin_count_at, pins_of, seen, AreCounted, file_named, IsChanged, IsChangedWhereNamed, with_a_name, without_a_name, with_content_made, with_attributes_set}
 use Rattle.sftp_tree.proofs.KeptTrees.Values.{times_named-owner}
+use Rattle.sftp_tree.proofs.FileCounts.Pins.{changed-pins, pins-where_held}
 use Rattle.sftp_tree.proofs.FileCounts.Names.{at-number, count-at, one_name, named-put, raised, lowered, counted-again, counted-changed, contents-changed, contents-unchanged}
 
 -- the files are in order where their contents are
 pub files-in_order : (files : Table ℕ Stored) → InOrder nat_cmp (contents files) → InOrder nat_cmp files
 files-in_order files = subst (IsStrictlySortedBy nat_cmp) (keys_of-map_values (λ (s : Stored). s.content) files)
 
--- ---- where nothing is pinned
-
-unpinned : (number : ℕ) → is_pinned [] number ≡ false
-unpinned number = ap (λ o. nat_lt 0 (unwrap_or o 0)) (get-empty {X = ℕ} nat_cmp number)
-
--- a file is held by its names alone
-held-named : (names : Names) (number : ℕ) → (is_named names number || is_pinned [] number) ≡ is_named names number
-held-named names number = ap (λ b. is_named names number || b) (unpinned number) ∙ or-false (is_named names number)
-
-all-named : (names : Names) (files : Files) → AllByRecursion (λ e. IsTrue (is_named names e.0 || is_pinned [] e.0)) files → AllByRecursion (λ e. IsTrue (is_named names e.0)) files
-all-named names files =
-    each-weaker (λ e. IsTrue (is_named names e.0 || is_pinned [] e.0)) (λ e. IsTrue (is_named names e.0)) (λ e h. sym (held-named names e.0) ∙ h) files
-
-retain-named : (names : Names) (files : Files) → retain files (λ e. is_named names e.0) ≡ retain files (λ e. is_named names e.0 || is_pinned [] e.0)
-retain-named names files = λ i. retain files (λ e. sym (held-named names e.0) i)
-
 -- ---- counts fit their fields
 
-each-some : {X : Type 0} (P : X → Type 0) (o : Option X) → ((x : X) → o ≡ Some x → P x) → IfSome o P
+pub each-some : {X : Type 0} (P : X → Type 0) (o : Option X) → ((x : X) → o ≡ Some x → P x) → IfSome o P
 each-some P None each = tt
 each-some P (Some x) each = each x refl
 
@@ -76,21 +60,23 @@ room-to-count t files kept counted named =
     let few = few-entries t kept in
     omega arith))
 
--- each file has a name to lose
-pub name-to-lose : (t : Tree) (files : Table ℕ Stored) → IsTrimmed t → t.pins ≡ [] → t.files ≡ contents files → AreCounted t.names files → (named : Option ℕ) → IfSome named (λ number. IfSome (get nat_cmp files number) (λ s. 0 < s.names))
-name-to-lose t files trimmed none same counted named =
-    each-some (λ number. IfSome (get nat_cmp files number) (λ s. 0 < s.names)) named (λ number is.
-    each-some (λ (s : Stored). 0 < s.names) (get nat_cmp files number) (λ s there.
-    let n : s.names ≡ times_named t.names number = count-at t.names files counted number s there in
-    let found : get nat_cmp t.files number ≡ Some s.content = ap (λ fs. get nat_cmp fs number) same ∙ get-with_values nat_cmp (λ (s : Stored). s.content) files number ∙ ap (option_map (λ (s : Stored). s.content)) there in
-    let named : is_named t.names number ≡ true =
-    at-number (λ number (content : Content). is_named t.names number ≡ true) t.files (all-named t.names t.files (subst (λ pins. AllByRecursion (λ e. IsTrue (is_named t.names e.0 || is_pinned pins e.0)) t.files) none trimmed)) number s.content found in
-    some-names s.names (times_named t.names number) n named))
-  where
-    some-names : (n m : ℕ) → n ≡ m → nat_lt 0 m ≡ true → 0 < n
-    some-names n m is some = grind (arith, nat_tests)
+-- the file that an entry names has a name to lose
+pub name-to-lose : (names : Names) (files : Table ℕ Stored) → AreCounted names files → (place : Place) (gone : Option Node) → node_at names place ≡ gone → IfSome (file_named gone) (λ number. IfSome (get nat_cmp files number) (λ s. 0 < s.names))
+name-to-lose names files counted place None there = tt
+name-to-lose names files counted place (Some (Dir owner)) there = tt
+name-to-lose names files counted place (Some (File number)) there =
+    each-some (λ (s : Stored). 0 < s.names) (get nat_cmp files number) (λ s is.
+    let n : s.names ≡ times_named names number = count-at names files counted number s is in
+    let some = count-found place_cmp names place (File number) (names_file number) there (eq-eqb number number refl) in
+    omega arith)
+name-to-lose names files counted place (Some (Link target)) there = tt
 
 -- ---- a change of a tree's parts
+
+-- a change of the file that is named, if one is, leaves the pins
+named-pins : (change : Stored → Option Stored) → ((s : Stored) → pin_count_at (change s) ≡ s.pins) → (named : Option ℕ) (files after : Table ℕ Stored) → InOrder nat_cmp files → IsChangedWhereNamed change named files after → pins_of after ≡ pins_of files
+named-pins change keeps None files after order same = ap pins_of same
+named-pins change keeps (Some number) files after order changed = changed-pins change number files after keeps order changed
 
 module _ (names : Names) (files : Table ℕ Stored) (made : ℕ) (limits : TreeLimits) (home : Place) (uid gid : ℕ) where
   abbrev the_tree : Tree
@@ -100,8 +86,9 @@ module _ (names : Names) (files : Table ℕ Stored) (made : ℕ) (limits : TreeL
   pub put-parts : (place : Place) (it : Node) → IsKept the_tree → AreCounted names files → node_at names place ≡ None → (others : Names) (after : Table ℕ Stored) → others ≡ with_node names place it → IsChangedWhereNamed with_a_name (file_named (Some it)) files after → (seen others after made limits home uid gid ≡ record the_tree { names = with_node names place it }) × AreCounted others after
   put-parts place it kept counted absent others after is changed =
       let order = files-in_order files kept.well_formed.numbered in
-      let both = raised names (with_node names place it) files it (named-put names place it absent) after order counted changed in (
-        (λ i. record { names = is i; files = both.0 i; made = made; pins = []; limits = limits; home = home; uid = uid; gid = gid }),
+      let both = raised names (with_node names place it) files it (named-put names place it absent) after order counted changed in
+      let pins = named-pins with_a_name (λ s. refl) (file_named (Some it)) files after order changed in (
+        (λ i. record { names = is i; files = both.0 i; made = made; pins = pins i; limits = limits; home = home; uid = uid; gid = gid }),
         subst (λ ns. AreCounted ns after) (sym is) both.1,
       )
 
@@ -109,9 +96,9 @@ module _ (names : Names) (files : Table ℕ Stored) (made : ℕ) (limits : TreeL
   pub left-parts : IsKept the_tree → AreCounted names files → (gone : Option Node) (others : Names) (after : Table ℕ Stored) → ((number : ℕ) → times_named others number + one_name gone number ≡ times_named names number) → IsChangedWhereNamed without_a_name (file_named gone) files after → (seen others after made limits home uid gid ≡ trim (record the_tree { names = others })) × AreCounted others after
   left-parts kept counted gone others after less changed =
       let order = files-in_order files kept.well_formed.numbered in
-      let both = lowered names others files order counted (all-named names (contents files) kept.trimmed) gone less after changed in
-      let same = both.0 ∙ retain-named others (contents files) in
-      ((λ i. record { names = others; files = same i; made = made; pins = []; limits = limits; home = home; uid = uid; gid = gid }), both.1)
+      let both = lowered names others files order counted kept.trimmed gone less after changed in
+      let pins = named-pins without_a_name (λ s. pins-where_held (record s { names = s.names - 1 })) (file_named gone) files after order changed in
+      ((λ i. record { names = others; files = both.0 i; made = made; pins = pins i; limits = limits; home = home; uid = uid; gid = gid }), both.1)
 
   -- another owner of a directory
   pub owner-parts : IsKept the_tree → AreCounted names files → (place : Place) (owner : Owner) → IsTrue (is_directory (node_at names place)) → (others : Names) → others ≡ with_node names place (Dir owner) → AreCounted others files
@@ -124,21 +111,38 @@ module _ (names : Names) (files : Table ℕ Stored) (made : ℕ) (limits : TreeL
       by (Some (File other)) there directory number = cc
       by (Some (Link target)) there directory number = cc
 
-  -- other attributes of a file
-  pub changed-parts : IsKept the_tree → AreCounted names files → (attrs : Attrs) (number : ℕ) (after : Table ℕ Stored) → IsChanged (with_attributes_set attrs) number files after → (seen names after made limits home uid gid ≡ with_changed_file the_tree attrs number (content_at (contents files) number)) × AreCounted names after
-  changed-parts kept counted attrs number after changed = (
+  -- another content of a file, made of its own
+  pub content-parts : IsKept the_tree → AreCounted names files → (change : Content → Content) (number : ℕ)
+      (after : Table ℕ Stored) → IsChanged (with_content_made change) number files after → (changed : Option Content → Tree)
+      → changed None ≡ the_tree
+      → ((content : Content) → changed (Some content) ≡ record the_tree { files = with_content (contents files) number (change content) })
+      → (seen names after made limits home uid gid ≡ changed (content_at (contents files) number)) × AreCounted names after
+  content-parts kept counted change number after is_changed changed nothing there = (
     by (get nat_cmp files number) refl
-        ∙ ap (with_changed_file the_tree attrs number) (sym (get-with_values nat_cmp (λ (s : Stored). s.content) files number)),
-    counted-changed names files attrs number after counted changed,
+        ∙ ap changed (sym (get-with_values nat_cmp (λ (s : Stored). s.content) files number)),
+    counted-changed names files change number after counted is_changed,
   )
     where
-      by : (o : Option Stored) → get nat_cmp files number ≡ o → seen names after made limits home uid gid ≡ with_changed_file the_tree attrs number (option_map (λ (s : Stored). s.content) o)
+      order : InOrder nat_cmp files
+      order = files-in_order files kept.well_formed.numbered
+
+      pins : pins_of after ≡ pins_of files
+      pins = changed-pins (with_content_made change) number files after (λ s. refl) order is_changed
+
+      by : (o : Option Stored) → get nat_cmp files number ≡ o → seen names after made limits home uid gid ≡ changed (option_map (λ (s : Stored). s.content) o)
       by None none =
-          let same = contents-unchanged names files attrs number after (files-in_order files kept.well_formed.numbered) changed none in
-          λ i. record { names = names; files = same i; made = made; pins = []; limits = limits; home = home; uid = uid; gid = gid }
-      by (Some s) there =
-          let same = contents-changed names files attrs number after (files-in_order files kept.well_formed.numbered) changed s there in
-          λ i. record { names = names; files = same i; made = made; pins = []; limits = limits; home = home; uid = uid; gid = gid }
+          let same = contents-unchanged names files change number after order is_changed none in
+          (λ i. record { names = names; files = same i; made = made; pins = pins i; limits = limits; home = home; uid = uid; gid = gid })
+          ∙ sym nothing
+      by (Some s) is =
+          let same = contents-changed names files change number after order is_changed s is in
+          (λ i. record { names = names; files = same i; made = made; pins = pins i; limits = limits; home = home; uid = uid; gid = gid })
+          ∙ sym (there s.content)
+
+  -- other attributes of a file
+  pub changed-parts : IsKept the_tree → AreCounted names files → (attrs : Attrs) (number : ℕ) (after : Table ℕ Stored) → IsChanged (with_attributes_set attrs) number files after → (seen names after made limits home uid gid ≡ with_changed_file the_tree attrs number (content_at (contents files) number)) × AreCounted names after
+  changed-parts kept counted attrs number after changed =
+      content-parts kept counted (changed_content attrs) number after changed (with_changed_file the_tree attrs number) refl (λ content. refl)
 
   -- the file that is there has an owner
   pub owner-there : IsKept the_tree → (number : ℕ) → IfSome (get nat_cmp files number) (λ s. IsOwner s.content.owner)

@@ -1,6 +1,5 @@
-use Rattle.std.proofs.Common.{rules}
 -- Files and their numbers, in the trees that requests ask for: none is made, and each is removed with its last name.
-use Rattle.std.proofs.Common.{◌≡◌, ◌≢◌, ◌<◌, ◌≤◌, ℕ, ◌||◌, Bool, true, false, cond, refl, sym, ap, subst, ◌∙◌, arith, Option, Some, None, is_some, nat_lt, Result, Ok, Err, IsTrue, if◌then◌else◌, inl, inr}
+use Rattle.std.proofs.Common.{rules, ◌≡◌, ◌≢◌, ◌<◌, ◌≤◌, ℕ, ◌||◌, Bool, true, false, cond, refl, sym, ap, subst, ◌∙◌, arith, Option, Some, None, is_some, nat_lt, Result, Ok, Err, IsTrue, if◌then◌else◌, inl, inr}
 use Rattle.std.specs.Prelude.{◌⊎◌, ◌↔◌}
 use Rattle.std.specs.Ordering.{nat_cmp}
 use Rattle.std.specs.FinMap.{nat_cmp-IsAntisymmetric}
@@ -24,7 +23,7 @@ use Rattle.sftp_tree.specs.PlaceCauses.{are_one}
 use Rattle.sftp_tree.specs.Changes.{with_changed_file, with_attributes, put_in_its_stead, with_further_name}
 use Rattle.sftp_tree.specs.Requests.{led, new_led, outcome_at, outcome_between, outcome_on, led_to, outcome, after}
 use Rattle.sftp_tree.proofs.PlaceTables.Each.{each-get}
-use Rattle.sftp_tree.proofs.KeptTrees.Trims.{stays}
+use Rattle.sftp_tree.proofs.FileCounts.Pins.{stays}
 
 -- ---- what requests ask for
 

@@ -1,9 +1,9 @@
 -- A tree without the files that have no name and that nothing else holds: it is a tree again, within the limits.
-use Rattle.std.proofs.Common.{◌≡◌, ℕ, ◌<◌, Bool, true, cond, ◌||◌, refl, ap, ◌∙◌, Option, Some, None, is_some, IsTrue}
+use Rattle.std.proofs.Common.{◌≡◌, ℕ, ◌<◌, Bool, true, cond, refl, ap, ◌∙◌, Option, Some, None, is_some, nat_lt, unwrap_or, IsTrue}
 use Rattle.std.specs.Ordering.{nat_cmp}
 use Rattle.std.specs.List.{AllByRecursion}
 use Rattle.std.specs.FinMap.{nat_cmp-IsAntisymmetric}
-use Rattle.std.proofs.lemmas.Bool.{lt-ltb, eq-eqb, or_left}
+use Rattle.std.proofs.lemmas.Bool.{lt-ltb, eq-eqb, or_left, or_right}
 use Rattle.std.proofs.lemmas.Cmp.{nat_cmp_total}
 use Rattle.sftp_path.specs.Place.{Place, place_cmp}
 use Rattle.sftp_path.specs.Table.{retain, kept}
@@ -14,15 +14,12 @@ use Rattle.sftp_path.proofs.Table.Counts.{count-found}
 use Rattle.sftp_tree.specs.declared.file_contents.Content.{Content}
 use Rattle.sftp_tree.specs.declared.nodes.Node.{Node}
 use Rattle.sftp_tree.specs.declared.nodes.Node.TheVariants.{Dir, File, Link}
-use Rattle.sftp_tree.specs.Tree.{Names, Files, Tree, WellFormed, IsKept, IsTrimmed, IsNode, IsContent, limits, fits, files_fit, content_fits, node_at, content_at, names_file, times_named, is_named, is_pinned, trimmed, trim}
+use Rattle.sftp_tree.specs.Tree.{Names, Files, Tree, WellFormed, IsKept, IsTrimmed, IsNode, IsPin, IsContent, limits, fits, files_fit, content_fits, node_at, content_at, names_file, times_named, is_named, is_pinned, trimmed, trim}
 use Rattle.sftp_tree.proofs.PlaceTables.Each.{each-retain, each-get, get-each, each-all, all-each}
+use Rattle.sftp_tree.proofs.FileCounts.Pins.{stays}
 use Rattle.sftp_tree.proofs.Limits.Tests.{fits-parts, fits-from}
 
 -- ---- the files that stay
-
--- which of the files stay
-abbrev pub stays : (ℕ → Bool) → Names → ℕ × Content → Bool
-stays is_held names e = is_named names e.0 || is_held e.0
 
 -- a number that a name has is named
 pub named-there : (names : Names) (place : Place) (number : ℕ) → node_at names place ≡ Some (File number) → IsTrue (is_named names number)
@@ -44,6 +41,12 @@ content-of_named is_held t number well named =
     content-trimmed is_held t number well
     ∙ kept-passing (stays is_held t.names) number (content_at t.files number) (λ content. or_left (is_named t.names number) (is_held number) named)
 
+-- and so does that of a number that something else holds
+content-of_held : (is_held : ℕ → Bool) (t : Tree) (number : ℕ) → WellFormed t → IsTrue (is_held number) → content_at (trimmed is_held t).files number ≡ content_at t.files number
+content-of_held is_held t number well held =
+    content-trimmed is_held t number well
+    ∙ kept-passing (stays is_held t.names) number (content_at t.files number) (λ content. or_right (is_named t.names number) (is_held number) held)
+
 node-trimmed : (is_held : ℕ → Bool) (t : Tree) (place : Place) (it : Node) → WellFormed t → node_at t.names place ≡ Some it → IsNode t.files it → IsNode (trimmed is_held t).files it
 node-trimmed is_held t place (Dir owner) well there is_node = is_node
 node-trimmed is_held t place (File number) well there is_node =
@@ -52,8 +55,18 @@ node-trimmed is_held t place (Link target) well there is_node = is_node
 
 -- ---- the tree
 
-pub well-formed-trimmed : (is_held : ℕ → Bool) (t : Tree) → WellFormed t → WellFormed (trimmed is_held t)
-well-formed-trimmed is_held t well = record {
+-- a file of a number that is pinned stays
+pinned-trimmed : (is_held : ℕ → Bool) (t : Tree) → ((number : ℕ) → IsTrue (is_pinned t.pins number) → IsTrue (is_held number)) → WellFormed t → AllByRecursion (λ e. IsPin (trimmed is_held t).files e) t.pins
+pinned-trimmed is_held t pins_hold well =
+    get-each nat_cmp nat_cmp-IsAntisymmetric nat_cmp_total (λ e. IsPin (trimmed is_held t).files e) t.pins well.pins
+    (λ number often there.
+    let pin : IsPin t.files (number, often) = each-get nat_cmp nat_cmp-IsAntisymmetric (λ e. IsPin t.files e) t.pins number often well.pinned there in
+    let is_pin : IsTrue (is_pinned t.pins number) = ap (λ o. nat_lt 0 (unwrap_or o 0)) there ∙ lt-ltb 0 often pin.0 in
+    (pin.0, ap is_some (content-of_held is_held t number well (pins_hold number is_pin)) ∙ pin.1))
+
+-- what is pinned is held
+pub well-formed-trimmed : (is_held : ℕ → Bool) (t : Tree) → ((number : ℕ) → IsTrue (is_pinned t.pins number) → IsTrue (is_held number)) → WellFormed t → WellFormed (trimmed is_held t)
+well-formed-trimmed is_held t pins_hold well = record {
   ordered = well.ordered;
   named = well.named;
   nodes =
@@ -65,6 +78,7 @@ well-formed-trimmed is_held t well = record {
   contents = each-retain (λ e. IsContent e.1) (λ e. IsContent e.1) t.files (stays is_held t.names) (λ e h passed. h) well.contents;
   given = each-retain (λ e. e.0 < t.made) (λ e. e.0 < t.made) t.files (stays is_held t.names) (λ e h passed. h) well.given;
   pins = well.pins;
+  pinned = pinned-trimmed is_held t pins_hold well;
   limits = well.limits;
   home = well.home;
   uid = well.uid;
@@ -95,7 +109,7 @@ is-trimmed t well =
 -- a tree within the limits is one of the program when it is trimmed
 pub kept-trim : (t : Tree) → WellFormed t → IsTrue (fits t) → IsKept (trim t)
 kept-trim t well within = record {
-  well_formed = well-formed-trimmed (is_pinned t.pins) t well;
+  well_formed = well-formed-trimmed (is_pinned t.pins) t (λ number h. h) well;
   within_limits = fits-trimmed (is_pinned t.pins) t within;
   trimmed = is-trimmed t well;
 }

@@ -14,7 +14,7 @@ use Rattle.sftp_treefile.specs.TreeFile.{IsOwner}
 use Rattle.sftp_tree.specs.declared.file_contents.Content.{Content}
 use Rattle.sftp_tree.specs.declared.nodes.Node.{Node}
 use Rattle.sftp_tree.specs.declared.nodes.Node.TheVariants.{Dir, File, Link}
-use Rattle.sftp_tree.specs.Tree.{Names, Files, Tree, WellFormed, IsKept, IsNode, IsContent, fits, is_directory, node_at, with_node, content_at, with_content, names_file, times_named, is_named, is_pinned, is_held}
+use Rattle.sftp_tree.specs.Tree.{Names, Files, Tree, WellFormed, IsKept, IsNode, IsContent, fits, is_directory, node_at, with_node, content_at, with_content, names_file, times_named, is_named, is_pinned, is_held, IsPin}
 use Rattle.sftp_tree.specs.Attributes.{changed_owner, changed_content}
 use Rattle.sftp_tree.specs.Changes.{with_changed_file}
 use Rattle.sftp_tree.proofs.WellFormedTrees.Fields.{sized-bytes}
@@ -96,6 +96,9 @@ well-formed-content t number before content well there is_content = record {
       each-put nat_cmp nat_cmp-IsAntisymmetric nat_cmp_total (λ e. e.0 < t.made) t.files number content well.numbered
       (each-get nat_cmp nat_cmp-IsAntisymmetric (λ e. e.0 < t.made) t.files number before well.given there) well.given;
   pins = well.pins;
+  pinned =
+      each-weaker (λ e. IsPin t.files e) (λ e. IsPin (with_content t.files number content) e)
+      (λ e pin. (pin.0, still-there t.files number content e.0 pin.1)) t.pins well.pinned;
   limits = well.limits;
   home = well.home;
   uid = well.uid;

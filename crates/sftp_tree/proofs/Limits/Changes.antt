@@ -1,6 +1,5 @@
-use Rattle.std.proofs.Common.{rules}
 -- How each change of a tree bears on each of its limits.
-use Rattle.std.proofs.Common.{◌≡◌, ℕ, ◌+◌, ◌-◌, ◌≤◌, true, ◌&&◌, length, ap, arith, Some, None, nat_le, IsTrue}
+use Rattle.std.proofs.Common.{rules, ◌≡◌, ℕ, ◌+◌, ◌-◌, ◌≤◌, true, ◌&&◌, length, ap, arith, Some, None, nat_le, IsTrue}
 use Rattle.std.specs.Ordering.{nat_cmp}
 use Rattle.std.specs.List.{list_all}
 use Rattle.std.proofs.lemmas.Bool.Decides.{nat_tests}

@@ -1,6 +1,5 @@
-use Rattle.std.proofs.Common.{rules}
 -- Which changes of a tree keep to its limits: an entry more or less, another owner, another content.
-use Rattle.std.proofs.Common.{◌≡◌, ℕ, ◌-◌, Bool, true, false, ◌&&◌, length, refl, sym, ◌∙◌, ap, Some, None, nat_le, IsTrue}
+use Rattle.std.proofs.Common.{rules, ◌≡◌, ℕ, ◌-◌, Bool, true, false, ◌&&◌, length, refl, sym, ◌∙◌, ap, Some, None, nat_le, IsTrue}
 use Rattle.std.specs.Ordering.{nat_cmp}
 use Rattle.std.proofs.lemmas.Cmp.{nat_cmp_total}
 use Rattle.std.proofs.Math.Bool.{and-true, and_assoc}

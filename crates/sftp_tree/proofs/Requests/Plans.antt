@@ -1,6 +1,5 @@
-use Rattle.std.proofs.Common.{rules}
 -- What is to be done for a request can be done, and leaves what it asks for.
-use Rattle.std.proofs.Common.{◌≡◌, Bool, true, false, ◌&&◌, not, List, [], ◌∷◌, ℕ, suc, ◌<◌, get_or, refl, sym, subst, ◌∙◌, ap, Option, Some, None, IsTrue, if◌then◌else◌, Result, Ok, Err, IfOk}
+use Rattle.std.proofs.Common.{rules, ◌≡◌, Bool, true, false, ◌&&◌, not, List, [], ◌∷◌, ℕ, suc, ◌<◌, get_or, refl, sym, subst, ◌∙◌, ap, Option, Some, None, IsTrue, if◌then◌else◌, Result, Ok, Err, IfOk}
 use Rattle.std.proofs.lemmas.Bool.{not-false, or_parts, lt-ltb}
 use Rattle.sftp_wire.specs.declared.attributes.Attrs.{Attrs}
 use Rattle.sftp_wire.specs.declared.packets.Ask.{Ask}

@@ -1,5 +1,5 @@
 -- The files of the rows so far, as the code keeps them: each with the count of its names.
-use Rattle.std.proofs.Common.{◌≡◌, ◌≢◌, ℕ, zero, suc, ◌+◌, ◌-◌, ◌^◌, ◌<◌, ◌≤◌, Bool, true, false, cond, if◌then◌else◌, List, [], ◌∷◌, ◌++◌, length, take, Option, Some, None, refl, sym, ap, subst, ◌∙◌, arith}
+use Rattle.std.proofs.Common.{◌≡◌, ◌≢◌, ℕ, zero, suc, ◌+◌, ◌-◌, ◌^◌, ◌<◌, ◌≤◌, Bool, true, false, cond, if◌then◌else◌, List, [], ◌∷◌, ◌++◌, length, take, Option, Some, None, option_and_then, refl, sym, ap, subst, ◌∙◌, arith}
 use Rattle.std.specs.Prelude.{IsTrue, not, slice_index}
 use Rattle.std.specs.List.{filter, AllByRecursion}
 use Rattle.std.specs.List.Sorted.{IsStrictlySortedBy}
@@ -10,6 +10,7 @@ use Rattle.std.specs.declared.cmp.Ordering.TheVariants.{Less}
 use Rattle.std.specs.Cmp.{nat_cmp_total, nat_cmp_is}
 use Rattle.std.specs.FinMap.{nat_cmp-IsAntisymmetric}
 use Rattle.std.proofs.lemmas.Bool.{eq-eqb, ne_eqb}
+use Rattle.std.proofs.lemmas.Option.{same_Some}
 use Rattle.std.proofs.lemmas.List.{length-append, append-nil, length-map}
 use Rattle.std.proofs.lemmas.List.Elements.{filter-append}
 use Rattle.std.proofs.lemmas.List.Filters.{length-filter_both}
@@ -31,10 +32,11 @@ use Rattle.sftp_tree.specs.declared.file_contents.Stored.{Stored}
 use Rattle.sftp_tree.specs.declared.nodes.Node.{Node}
 use Rattle.sftp_tree.specs.declared.nodes.Node.TheVariants.{Dir, File, Link}
 use Rattle.sftp_tree.specs.Tree.{Names, Files, node_at, with_node, is_directory, names_file, times_named}
-use Rattle.sftp_tree.specs.StoredFiles.{contents, seen, AreCounted, file_named, IsChangedWhereNamed, with_a_name}
+use Rattle.sftp_tree.specs.StoredFiles.{contents, seen, AreCounted, file_named, IsChanged, IsChangedWhereNamed, with_a_name}
 use Rattle.sftp_tree.specs.PictureParts.{content_of, contents_of, node_of, only_root, names_of, numbered_from, numbers_from, known_number, known_node, IsKnown, Stores, HaveRoom, AreWithEntry, IsGrown, tree_of}
-use Rattle.sftp_tree.proofs.PlaceTables.Each.{each-get}
-use Rattle.sftp_tree.proofs.FileCounts.Names.{raised}
+use Rattle.sftp_tree.proofs.PlaceTables.Each.{each-get, each-put}
+use Rattle.sftp_tree.proofs.FileCounts.Pins.{by-number, none_pinned}
+use Rattle.sftp_tree.proofs.FileCounts.Names.{at-number, at-entries, raised}
 use Rattle.sftp_tree.proofs.PlaceTables.Rising.{all_both, all_from_map, insert_last}
 use Rattle.sftp_tree.proofs.TreeFiles.Tables.{later_than_all, row_parent, bare_names}
 use Rattle.sftp_tree.proofs.TreeFiles.Shapes.{bare, directory_bare, names_bare}
@@ -219,7 +221,7 @@ pushed root rows place (kinds.Dir owner) stores after fit fits same counted is =
     let p = pushed_none root rows place (Dir owner) stores after same counted is in
     record { contents_are = p.0; counted = p.1 }
 pushed root rows place (kinds.First owner bytes) stores after fit fits same counted is =
-    let s : Stored = record { content = record { owner = owner; bytes = bytes }; names = 1 } in
+    let s : Stored = record { content = record { owner = owner; bytes = bytes }; names = 1; pins = 0 } in
     record {
       contents_are = ap contents is ∙ first_contents stores (contents_of rows) s same;
       counted = subst (AreCounted (names_of root rows ++ (place, File (made_by rows)) ∷ [])) (sym is) (first_counted (names_of root rows) place stores (contents_of rows) s same refl (all_below root rows fit) counted);
@@ -233,6 +235,34 @@ pushed root rows place (kinds.Further entry) stores after fit fits same counted 
 pushed root rows place (kinds.Link target) stores after fit fits same counted is =
     let p = pushed_none root rows place (Link target) stores after same counted is in
     record { contents_are = p.0; counted = p.1 }
+
+-- with a further name of a file none is pinned still
+named_unpinned : (number : ℕ) (stores after : Stores) → AllByRecursion (λ (e : ℕ × Stored). e.1.pins ≡ 0) stores
+    → IsChanged with_a_name number stores after → AllByRecursion (λ (e : ℕ × Stored). e.1.pins ≡ 0) after
+named_unpinned number stores after none changed =
+    at-entries (λ other (s : Stored). s.pins ≡ 0) after changed.ordered (λ other s there.
+    by-number number other
+    (λ is. by (get nat_cmp stores number) refl (sym changed.here ∙ ap (get nat_cmp after) (sym is) ∙ there))
+    (λ differ. at-number (λ other (s : Stored). s.pins ≡ 0) stores none other s (sym (changed.others other differ) ∙ there)))
+  where
+    by : {s : Stored} (o : Option Stored) → get nat_cmp stores number ≡ o → option_and_then with_a_name o ≡ Some s → s.pins ≡ 0
+    by None there is = absurd cc
+    by (Some before) there is =
+        sym (ap (λ (s : Stored). s.pins) (same_Some _ _ is)) ∙ at-number (λ other (s : Stored). s.pins ≡ 0) stores none number before there
+
+pushed_unpinned : (numbers : List ℕ) (next : ℕ) (kind : Kind) (stores after : Stores) → InOrder nat_cmp stores
+    → AllByRecursion (λ (e : ℕ × Stored). e.1.pins ≡ 0) stores → AreWithEntry numbers next kind stores after
+    → AllByRecursion (λ (e : ℕ × Stored). e.1.pins ≡ 0) after
+pushed_unpinned numbers next (kinds.Dir owner) stores after order none is =
+    subst (AllByRecursion (λ (e : ℕ × Stored). e.1.pins ≡ 0)) (sym is) none
+pushed_unpinned numbers next (kinds.First owner bytes) stores after order none is =
+    let s : Stored = record { content = record { owner = owner; bytes = bytes }; names = 1; pins = 0 } in
+    subst (AllByRecursion (λ (e : ℕ × Stored). e.1.pins ≡ 0)) (sym is)
+    (each-put nat_cmp nat_cmp-IsAntisymmetric nat_cmp_total (λ e. e.1.pins ≡ 0) stores next s order refl none)
+pushed_unpinned numbers next (kinds.Further entry) stores after order none changed =
+    named_unpinned (known_number numbers entry) stores after none changed
+pushed_unpinned numbers next (kinds.Link target) stores after order none is =
+    subst (AllByRecursion (λ (e : ℕ × Stored). e.1.pins ≡ 0)) (sym is) none
 
 -- the place of the next row is free
 later_absent : (names : Names) (place : Place) → AllByRecursion (λ q. place_cmp q place ≡ Less) (keys_of names) → node_at names place ≡ None
@@ -278,6 +308,7 @@ grown_push root rows row names new-names stores new-stores numbers next place st
       names_are = put;
       contents_are = p.contents_are ∙ ap (numbered_from 0) (sym (contents_more rows row));
       counted = subst (λ (ns : Names). AreCounted ns new-stores) (sym (put ∙ names_push root rows row)) p.counted;
+      unpinned = pushed_unpinned (numbers_from 0 rows) (made_by rows) row.kind stores new-stores (stores_order stores (contents_of rows) grown.contents_are) grown.unpinned with_entry;
     }
   where
     contents_more : (rows : List Row) (row : Row) → contents_of (rows ++ row ∷ []) ≡ contents_of rows ++ content_of row.kind
@@ -302,6 +333,7 @@ grown_root root names stores alone none = record {
   names_are = alone;
   contents_are = ap contents none;
   counted = subst (AreCounted names) (sym none) tt;
+  unpinned = subst (AllByRecursion (λ (e : ℕ × Stored). e.1.pins ≡ 0)) (sym none) tt;
 }
 
 -- the number of the next file fits its field
@@ -321,4 +353,5 @@ pub tree_grown : (file : TreeFile) (rows : List Row) (names : Names) (stores : S
 tree_grown file rows names stores made home rows-are grown made-is home-is =
     let g : IsGrown file.root file.rows names stores = subst (λ (rs : List Row). IsGrown file.root rs names stores) rows-are grown in
     let many = made-is ∙ many_files file.root file.rows names stores g in
-    λ i. record { names = g.names_are i; files = g.contents_are i; made = many i; pins = []; limits = file.limits; home = home-is i; uid = file.uid; gid = file.gid }
+    let unpinned = none_pinned stores g.unpinned in
+    λ i. record { names = g.names_are i; files = g.contents_are i; made = many i; pins = unpinned i; limits = file.limits; home = home-is i; uid = file.uid; gid = file.gid }

@@ -1,7 +1,6 @@
-use Rattle.std.proofs.Common.{rules}
 -- Fields that fit their places on the wire, as parts of a tree: paths, owners and contents.
-use Rattle.std.proofs.Common.{ℕ, zero, suc, ◌-◌, ◌&&◌, List, [], ◌∷◌, length, take, replicate, refl, ◌∙◌, Option, Some, None, unwrap_or, IsTrue, nat_lt}
-use Rattle.std.specs.Option.{option_map}
+use Rattle.std.proofs.Common.{rules, ℕ, zero, suc, ◌-◌, ◌&&◌, List, [], ◌∷◌, length, take, replicate, refl, ◌∙◌, Option, Some, None, unwrap_or, IsTrue, nat_lt, ◌<◌, ◌^◌, ◌%◌, drop, arith, lit<}
+use Rattle.std.specs.Option.{option_map, IfSome}
 use Rattle.std.proofs.lemmas.Bool.{lt-ltb, and_parts, and_from}
 use Rattle.std.proofs.lemmas.List.Folds.{list_all-append}
 use Rattle.sftp_wire.specs.declared.attributes.Attrs.{Attrs}
@@ -36,11 +35,16 @@ bytes-taken (suc n) (b ∷ bytes) h =
     let parts = and_parts (nat_lt b 256) (are_bytes bytes) h in
     and_from (nat_lt b 256) (are_bytes (take n bytes)) parts.0 (bytes-taken n bytes parts.1)
 
+pub bytes-dropped : (n : ℕ) (bytes : List ℕ) → IsTrue (are_bytes bytes) → IsTrue (are_bytes (drop n bytes))
+bytes-dropped zero bytes h = h
+bytes-dropped (suc n) [] h = refl
+bytes-dropped (suc n) (b ∷ bytes) h = bytes-dropped n bytes (and_parts (nat_lt b 256) (are_bytes bytes) h).1
+
 zeros : (n : ℕ) → IsTrue (are_bytes (replicate n 0))
 zeros zero = refl
 zeros (suc n) = zeros n
 
-resized-bytes : (size : ℕ) (bytes : List ℕ) → IsTrue (are_bytes bytes) → IsTrue (are_bytes (resized size bytes))
+pub resized-bytes : (size : ℕ) (bytes : List ℕ) → IsTrue (are_bytes bytes) → IsTrue (are_bytes (resized size bytes))
 resized-bytes size bytes h =
     list_all-append (λ b. nat_lt b 256) (take size bytes) (replicate (size - length bytes) 0)
     ∙ and_from (are_bytes (take size bytes)) (are_bytes (replicate (size - length bytes) 0)) (bytes-taken size bytes h) (zeros (size - length bytes))

@@ -40,6 +40,7 @@ well-formed-names t names well fit = record {
   contents = well.contents;
   given = well.given;
   pins = well.pins;
+  pinned = well.pinned;
   limits = well.limits;
   home = well.home;
   uid = well.uid;

@@ -4,7 +4,7 @@ use Rattle.std.specs.Option.{option_copied_mut}
 use Rattle.sftp_path.specs.Table.{get}
 use Rattle.sftp_tree.specs.declared.file_contents.Stored.{Stored}
 use Rattle.sftp_tree.specs.StoredFiles.{without_a_name}
-use Rattle.sftp_tree.proofs.FileCounts.Changes.{changed-nowhere, changed-written, changed-removed, without_a_name-last, without_a_name-other}
+use Rattle.sftp_tree.proofs.FileCounts.Changes.{changed-nowhere, changed-written, changed-removed, where_held-gone, where_held-left}
 use Rattle.sftp_tree.proofs.files.lower.Goals as goal
 
 pub returns-in_default : goal.returns-in_default
@@ -15,14 +15,14 @@ pub overflow_sub-stored : goal.overflow_sub-stored
 unfolding get
 overflow_sub-stored c = search rules
 
-pub returns-then-stored-eq0 : goal.returns-then-stored-eq0
-returns-then-stored-eq0 c =
+pub returns-then-not-is_held : goal.returns-then-not-is_held
+returns-then-not-is_held c =
     let s : Stored = c.in-Some.stored.now in
     let w : Stored = record s { names = s.names - 1 } in
-    changed-removed without_a_name c.args.number c.args.files.now (c.get_mut.follows.lender w) c.remove.new.self s w (sym c.in-Some.ensures.value) (without_a_name-last s c.if-stored-eq0.true) (c.get_mut.follows.holds w) c.remove.ensures.updates c.remove.ensures.ordered
+    changed-removed without_a_name c.args.number c.args.files.now (c.get_mut.follows.lender w) c.remove.new.self s w (sym c.in-Some.ensures.value) (where_held-gone w (sym c.is_held.ensures ∙ c.if-not-is_held.true)) (c.get_mut.follows.holds w) c.remove.ensures.updates c.remove.ensures.ordered
 
-pub returns-else-stored-eq0 : goal.returns-else-stored-eq0
-returns-else-stored-eq0 c =
+pub returns-else-not-is_held : goal.returns-else-not-is_held
+returns-else-not-is_held c =
     let s : Stored = c.in-Some.stored.now in
     let w : Stored = record s { names = s.names - 1 } in
-    changed-written without_a_name c.args.number c.args.files.now (c.get_mut.follows.lender w) s w (sym c.in-Some.ensures.value) (without_a_name-other s c.if-stored-eq0.false) (c.get_mut.follows.holds w)
+    changed-written without_a_name c.args.number c.args.files.now (c.get_mut.follows.lender w) s w (sym c.in-Some.ensures.value) (where_held-left w (sym c.is_held.ensures ∙ c.if-not-is_held.false)) (c.get_mut.follows.holds w)

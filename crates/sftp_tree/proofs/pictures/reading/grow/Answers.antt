@@ -1,6 +1,5 @@
-use Rattle.std.proofs.Common.{rules}
 -- Each row's entry comes behind all others.
-use Rattle.std.proofs.Common.{◌≡◌, [], ◌∷◌, length, ap, sym, subst, ◌∙◌, append_assoc, append-nil, arith}
+use Rattle.std.proofs.Common.{rules, ◌≡◌, [], ◌∷◌, length, ap, sym, subst, ◌∙◌, append_assoc, append-nil, arith}
 use Rattle.std.specs.Vec.Iter.{into_iter_items}
 use Rattle.std.proofs.lemmas.List.{nil_from_length, length-append}
 use Rattle.sftp_treefile.specs.Limits.{usual_limits}

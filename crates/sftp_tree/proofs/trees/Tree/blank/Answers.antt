@@ -1,11 +1,38 @@
 -- The root alone.
-use Rattle.std.proofs.Common.{[], sym, subst}
-use Rattle.sftp_tree.specs.Tree.{IsKept}
+use Rattle.std.proofs.Common.{◌≡◌, [], sym, subst, ◌∙◌}
+use Rattle.sftp_path.specs.Place.{Place}
+use Rattle.sftp_treefile.specs.declared.limits.TreeLimits.{TreeLimits}
+use Rattle.sftp_treefile.specs.Limits.{usual_limits}
+use Rattle.sftp_tree.specs.Tree.{Names, IsKept}
+use Rattle.sftp_tree.specs.StoredFiles.{seen}
+use Rattle.sftp_tree.specs.PictureParts.{Stores, only_root}
+use Rattle.sftp_tree.specs.Picture.{blank}
+use Rattle.sftp_tree.proofs.FileCounts.Pins.{none_pinned}
 use Rattle.sftp_tree.proofs.TreeFiles.Files.{blank_kept}
 use Rattle.sftp_tree.proofs.TreeFiles.Stores.{grown_root}
 use Rattle.sftp_tree.proofs.trees.Tree.blank.Goals as goal
 
+blank-seen : (names : Names) (stores : Stores) (bounds : TreeLimits) (home : Place)
+    → names ≡ only_root (record { uid = 0; gid = 0; permissions = 0o755 }) → stores ≡ [] → bounds ≡ usual_limits
+    → home ≡ [] → seen names stores 0 bounds home 0 0 ≡ blank
+blank-seen names stores bounds home alone none usual root =
+    let g = grown_root _ names stores alone none in
+    let unpinned = none_pinned stores g.unpinned in
+    λ i. record {
+      names = g.names_are i;
+      files = g.contents_are i;
+      made = 0;
+      pins = unpinned i;
+      limits = usual i;
+      home = root i;
+      uid = 0;
+      gid = 0;
+    }
+
 pub from_parts-requires-clause-kept : goal.from_parts-requires-clause-kept
 from_parts-requires-clause-kept c =
-    let g = grown_root _ _ _ c.in_ok-names.ensures c.new-files.ensures in
-    subst IsKept (λ i. record { names = sym g.names_are i; files = sym g.contents_are i; made = 0; pins = []; limits = sym c.usual_limits.ensures i; home = sym c.root-home.ensures i; uid = 0; gid = 0 }) blank_kept
+    subst IsKept (sym (blank-seen _ _ _ _ c.in_ok-names.ensures c.new-files.ensures c.usual_limits.ensures c.root-home.ensures)) blank_kept
+
+pub returns : goal.returns
+returns c =
+    c.from_parts.ensures ∙ blank-seen _ _ _ _ c.in_ok-names.ensures c.new-files.ensures c.usual_limits.ensures c.root-home.ensures

@@ -1,7 +1,10 @@
-use Rattle.std.proofs.Common.{◌≡◌, ℕ, ◌+◌, ◌∷◌, ◌++◌, false, refl, sym, ap, subst, ◌∙◌, None, IsTrue}
+use Rattle.std.proofs.Common.{◌≡◌, ℕ, ◌+◌, ◌<◌, ◌∷◌, ◌++◌, false, refl, sym, ap, subst, ◌∙◌, None, IsTrue}
 use Rattle.sftp_path.specs.Place.{Name, Place, parent, begins}
 use Rattle.sftp_path.specs.Rekeying.{rekeyed}
 use Rattle.sftp_treefile.specs.TreeFile.{same_place}
+use Rattle.std.specs.Option.{IfSome}
+use Rattle.std.specs.Ordering.{nat_cmp}
+use Rattle.sftp_path.specs.Table.{get}
 use Rattle.sftp_tree.specs.Tree.{Tree, IsKept, is_directory, node_at, without_node, has_entries, times_named, trim}
 use Rattle.sftp_tree.specs.PlaceCauses.{goes_inside}
 use Rattle.sftp_tree.specs.Changes.{put_in_its_stead}
@@ -26,7 +29,8 @@ move_node-requires-clause-apart c =
 
 pub forget_name-requires : goal.forget_name-requires
 forget_name-requires c =
-    name-to-lose (seen c.self.inside.names c.self.inside.files c.self.inside.made c.self.inside.limits c.self.inside.home c.self.inside.uid c.self.inside.gid) c.self.inside.files c.self.invariant.0.trimmed refl refl c.self.invariant.1 c.file_named.result
+    subst (λ named. IfSome named (λ number. IfSome (get nat_cmp c.self.inside.files number) (λ s. 0 < s.names))) (sym (c.file_named.ensures ∙ ap file_named (c.as_ref.ensures.value ∙ c.in_ok-gone.ensures.gone)))
+    (name-to-lose c.self.inside.names c.self.inside.files c.self.invariant.1 c.args.new (node_at c.self.inside.names c.args.new) refl)
 
 -- the tree afterwards, and its counts
 parts : (c : goal.Joined-gone) → (seen c.move_node.new.self c.forget_name.new.self c.self.inside.made c.self.inside.limits c.self.inside.home c.self.inside.uid c.self.inside.gid ≡ trim (put_in_its_stead c.args.self.now c.args.old.now c.args.new)) × AreCounted c.move_node.new.self c.forget_name.new.self

@@ -1,5 +1,4 @@
-use Rattle.std.proofs.Common.{rules}
-use Rattle.std.proofs.Common.{◌≡◌, ◌++◌, [], refl, sym, ap, ◌∙◌, subst, IfOk}
+use Rattle.std.proofs.Common.{rules, ◌≡◌, ◌++◌, [], refl, sym, ap, ◌∙◌, subst, IfOk}
 use Rattle.std.specs.List.{list_all}
 use Rattle.sftp_path.specs.Place.{is_step, are_names, components}
 use Rattle.sftp_path.specs.Split.{Split}

@@ -1,4 +1,7 @@
-use Rattle.std.proofs.Common.{◌≡◌, ℕ, ◌+◌, refl, sym, ap, subst, ◌∙◌}
+use Rattle.std.proofs.Common.{◌≡◌, ℕ, ◌+◌, ◌<◌, refl, sym, ap, subst, ◌∙◌}
+use Rattle.std.specs.Option.{IfSome}
+use Rattle.std.specs.Ordering.{nat_cmp}
+use Rattle.sftp_path.specs.Table.{get}
 use Rattle.sftp_tree.specs.Tree.{Tree, IsKept, node_at, without_node, times_named, trim}
 use Rattle.sftp_tree.specs.StoredFiles.{seen, AreCounted, IsChangedWhereNamed, file_named, without_a_name}
 use Rattle.sftp_tree.proofs.KeptTrees.Entries.{kept-without}
@@ -8,7 +11,8 @@ use Rattle.sftp_tree.proofs.trees.Tree.remove_at.Goals as goal
 
 pub forget_name-requires : goal.forget_name-requires
 forget_name-requires c =
-    name-to-lose (seen c.self.inside.names c.self.inside.files c.self.inside.made c.self.inside.limits c.self.inside.home c.self.inside.uid c.self.inside.gid) c.self.inside.files c.self.invariant.0.trimmed refl refl c.self.invariant.1 c.file_named.result
+    subst (λ named. IfSome named (λ number. IfSome (get nat_cmp c.self.inside.files number) (λ s. 0 < s.names))) (sym (c.file_named.ensures ∙ ap file_named (c.as_ref.ensures.value ∙ c.remove-gone.ensures.gone)))
+    (name-to-lose c.self.inside.names c.self.inside.files c.self.invariant.1 c.args.place.now (node_at c.self.inside.names c.args.place.now) refl)
 
 -- the tree afterwards, and its counts
 parts : (c : goal.Joined-gone) → (seen c.remove-gone.new.self c.forget_name.new.self c.self.inside.made c.self.inside.limits c.self.inside.home c.self.inside.uid c.self.inside.gid ≡ trim (record c.args.self.now { names = without_node c.args.self.now.names c.args.place.now })) × AreCounted c.remove-gone.new.self c.forget_name.new.self

@@ -1,0 +1,261 @@
+-- A file with a pin more or less: the counts stay right, and the tree stays one within the limits.
+use Rattle.std.proofs.Common.{◌≡◌, ◌≢◌, ℕ, ◌+◌, ◌-◌, ◌<◌, ◌^◌, ◌||◌, Bool, true, false, refl, sym, ap, subst, ◌∙◌, arith, Option, Some, None, is_some, IfSome, IsTrue, nat_lt, option_map, option_and_then, unwrap_or, if◌then◌else◌}
+use Rattle.std.specs.Ordering.{nat_cmp}
+use Rattle.std.specs.Cmp.{nat_cmp_total}
+use Rattle.std.specs.FinMap.{nat_cmp-IsAntisymmetric}
+use Rattle.std.specs.List.{AllByRecursion}
+use Rattle.std.proofs.lemmas.Bool.{lt-ltb, ltb-true, or_right}
+use Rattle.std.proofs.lemmas.Option.{same_Some}
+use Rattle.sftp_path.specs.Place.{Place}
+use Rattle.sftp_path.specs.Table.{Table, InOrder, get, retain, kept}
+use Rattle.sftp_path.proofs.Table.Laws.{same_table}
+use Rattle.sftp_path.proofs.Table.Values.{get-with_values}
+use Rattle.sftp_treefile.specs.declared.limits.TreeLimits.{TreeLimits}
+use Rattle.sftp_tree.specs.declared.file_contents.Content.{Content}
+use Rattle.sftp_tree.specs.declared.file_contents.Stored.{Stored}
+use Rattle.sftp_tree.specs.Tree.{Names, Pins, Tree, WellFormed, IsKept, IsPin, HasFile, fits, content_at, times_named, is_named, times_pinned, is_pinned, is_held, with_pins, with_pin, without_pin}
+use Rattle.sftp_tree.specs.StoredFiles.{contents, pin_count_at, pins_of, seen, AreCounted, is_held_still, IsChanged, with_a_pin, without_a_pin}
+use Rattle.sftp_tree.specs.FileChanges.{after_pin, after_unpin}
+use Rattle.sftp_tree.proofs.PlaceTables.Each.{each-weaker, each-get, get-each}
+use Rattle.sftp_tree.proofs.Limits.Tests.{fits-parts, fits-from}
+use Rattle.sftp_tree.proofs.FileCounts.Pins.{by-number, stays, pin_entry, get-with_pins_here, get-with_pins_elsewhere, InOrder-with_pins, InOrder-pins, times_pinned-stored, times_pinned-here, times_pinned-elsewhere, changed-pins_to, pins-where_held}
+use Rattle.sftp_tree.proofs.FileCounts.Names.{at-number, at-entries, count-at, same-contents, gone-content, stayed-content, left-contents, left-where_held}
+use Rattle.sftp_tree.proofs.KeptTrees.Trims.{kept-trim}
+use Rattle.sftp_tree.proofs.KeptTrees.Counts.{files-in_order, each-some}
+
+-- ---- the tree
+
+-- pins of files that exist, by their numbers
+pins-of_files : (t : Tree) (number often : ℕ) → WellFormed t → HasFile t.files number
+    → AllByRecursion (λ e. IsPin t.files e) (with_pins t.pins number often)
+pins-of_files t number often well there =
+    get-each nat_cmp nat_cmp-IsAntisymmetric nat_cmp_total (λ e. IsPin t.files e) (with_pins t.pins number often)
+    (InOrder-with_pins t.pins number often well.pins)
+    (λ other count found.
+    by-number number other
+    (λ is.
+    let at : (if nat_lt 0 often then Some often else None) ≡ Some count = sym (get-with_pins_here t.pins number often well.pins) ∙ ap (get nat_cmp (with_pins t.pins number often)) (sym is) ∙ found in
+    (some-count often count at, ap (λ n. is_some (content_at t.files n)) is ∙ there))
+    (λ differ.
+    each-get nat_cmp nat_cmp-IsAntisymmetric (λ e. IsPin t.files e) t.pins other count well.pinned
+    (sym (get-with_pins_elsewhere t.pins number often other well.pins differ) ∙ found)))
+  where
+    some-count : (often count : ℕ) → (if nat_lt 0 often then Some often else None) ≡ Some count → 0 < count
+    some-count often count = by (nat_lt 0 often) refl
+      where
+        by : (b : Bool) → nat_lt 0 often ≡ b → (if b then Some often else None) ≡ Some count → 0 < count
+        by true some is = subst (λ n. 0 < n) (same_Some often count is) (ltb-true 0 often some)
+        by false none is = absurd cc
+
+well-formed-pins : (t : Tree) (number often : ℕ) → WellFormed t → HasFile t.files number
+    → WellFormed (record t { pins = with_pins t.pins number often })
+well-formed-pins t number often well there = record {
+  ordered = well.ordered;
+  named = well.named;
+  nodes = well.nodes;
+  root = well.root;
+  parents = well.parents;
+  numbered = well.numbered;
+  contents = well.contents;
+  given = well.given;
+  pins = InOrder-with_pins t.pins number often well.pins;
+  pinned = pins-of_files t number often well there;
+  limits = well.limits;
+  home = well.home;
+  uid = well.uid;
+  gid = well.gid;
+}
+
+fits-pins : (t : Tree) (pins : Pins) → IsTrue (fits t) → IsTrue (fits (record t { pins = pins }))
+fits-pins t pins within =
+    let parts = fits-parts t within in
+    fits-from (record t { pins = pins }) (record {
+      entries = parts.entries;
+      depths = parts.depths;
+      home = parts.home;
+      links = parts.links;
+      files = parts.files;
+      numbers = parts.numbers;
+    })
+
+-- with a pin less
+pub kept-unpin : (t : Tree) (number : ℕ) → IsKept t → HasFile t.files number → IsKept (after_unpin t number)
+kept-unpin t number kept there =
+    kept-trim (record t { pins = without_pin t.pins number })
+    (well-formed-pins t number (times_pinned t.pins number - 1) kept.well_formed there)
+    (fits-pins t (without_pin t.pins number) kept.within_limits)
+
+-- with a pin more each file is held still
+held-pinned : (t : Tree) (number other : ℕ) → InOrder nat_cmp t.pins → IsTrue (is_held t other) → IsTrue (is_held (after_pin t number) other)
+held-pinned t number other order held =
+    by-number number other
+    (λ is.
+    or_right (is_named t.names other) (is_pinned (with_pin t.pins number) other)
+    (ap (λ n. nat_lt 0 (times_pinned (with_pin t.pins number) n)) is
+    ∙ ap (nat_lt 0) (times_pinned-here t.pins number (times_pinned t.pins number + 1) order) ∙ lt-ltb 0 (times_pinned t.pins number + 1) (omega arith)))
+    (λ differ.
+    ap (λ n. is_named t.names other || nat_lt 0 n) (times_pinned-elsewhere t.pins number (times_pinned t.pins number + 1) other order differ) ∙ held)
+
+pub kept-pin : (t : Tree) (number : ℕ) → IsKept t → HasFile t.files number → IsKept (after_pin t number)
+kept-pin t number kept there = record {
+  well_formed = well-formed-pins t number (times_pinned t.pins number + 1) kept.well_formed there;
+  within_limits = fits-pins t (with_pin t.pins number) kept.within_limits;
+  trimmed =
+      each-weaker (λ e. IsTrue (is_held t e.0)) (λ e. IsTrue (is_held (after_pin t number) e.0))
+      (λ e held. held-pinned t number e.0 kept.well_formed.pins held) t.files kept.trimmed;
+}
+
+-- ---- pins as a table
+
+-- the entry of a file is its count, if that is not 0
+get-counted : (pins : Pins) (number : ℕ) → AllByRecursion (λ e. 0 < e.1) pins → get nat_cmp pins number ≡ pin_entry (times_pinned pins number)
+get-counted pins number some = by (get nat_cmp pins number) refl
+  where
+    by : (o : Option ℕ) → get nat_cmp pins number ≡ o → o ≡ pin_entry (unwrap_or o 0)
+    by None is = refl
+    by (Some often) is =
+        let more : 0 < often = each-get nat_cmp nat_cmp-IsAntisymmetric (λ e. 0 < e.1) pins number often some is in
+        ap (λ b. if b then Some often else None) (sym (lt-ltb 0 often more))
+
+pins-some : (t : Tree) → WellFormed t → AllByRecursion (λ e. 0 < e.1) t.pins
+pins-some t well = each-weaker (λ e. IsPin t.files e) (λ e. 0 < e.1) (λ e pin. pin.0) t.pins well.pinned
+
+-- pins that count alike are equal
+pub one-pins : (t u : Tree) → WellFormed t → WellFormed u
+    → ((number : ℕ) → times_pinned t.pins number ≡ times_pinned u.pins number) → t.pins ≡ u.pins
+one-pins t u well other alike =
+    same_table nat_cmp nat_cmp_total nat_cmp-IsAntisymmetric t.pins u.pins well.pins other.pins
+    (λ number.
+    get-counted t.pins number (pins-some t well) ∙ ap pin_entry (alike number)
+    ∙ sym (get-counted u.pins number (pins-some u other)))
+
+-- ---- the counts
+
+-- each count of pins is that of the tree
+pub pins-counted : (files : Table ℕ Stored) (number : ℕ) → InOrder nat_cmp files
+    → pin_count_at (get nat_cmp files number) ≡ times_pinned (pins_of files) number
+pins-counted files number order = sym (times_pinned-stored files number order)
+
+-- there is room for a pin more
+pub room-to-pin : (files : Table ℕ Stored) (number : ℕ) → InOrder nat_cmp files → times_pinned (pins_of files) number < 2 ^ 32
+    → IfSome (get nat_cmp files number) (λ s. s.pins < 2 ^ 32)
+room-to-pin files number order few =
+    each-some (λ (s : Stored). s.pins < 2 ^ 32) (get nat_cmp files number) (λ s there.
+    subst (λ n. n < 2 ^ 32) (times_pinned-stored files number order ∙ ap pin_count_at there) few)
+
+-- there is a pin to lose
+pub pin-to-lose : (files : Table ℕ Stored) (number : ℕ) → InOrder nat_cmp files → IsTrue (is_pinned (pins_of files) number)
+    → IfSome (get nat_cmp files number) (λ s. 0 < s.pins)
+pin-to-lose files number order pinned =
+    each-some (λ (s : Stored). 0 < s.pins) (get nat_cmp files number) (λ s there.
+    subst (λ n. 0 < n) (times_pinned-stored files number order ∙ ap pin_count_at there) (ltb-true 0 (times_pinned (pins_of files) number) pinned))
+
+-- names stay counted where the change leaves a file's names
+counted-still : (names : Names) (files after : Table ℕ Stored) (change : Stored → Option Stored) (number : ℕ) → AreCounted names files
+    → ((s left : Stored) → change s ≡ Some left → left.names ≡ s.names) → IsChanged change number files after → AreCounted names after
+counted-still names files after change number counted keeps changed =
+    at-entries (λ other (s : Stored). s.names ≡ times_named names other) after changed.ordered (λ other s there.
+    by-number number other
+    (λ is. by (get nat_cmp files number) refl s (sym changed.here ∙ ap (get nat_cmp after) (sym is) ∙ there) ∙ ap (times_named names) (sym is))
+    (λ differ. count-at names files counted other s (sym (changed.others other differ) ∙ there)))
+  where
+    by : (o : Option Stored) → get nat_cmp files number ≡ o → (s : Stored) → option_and_then change o ≡ Some s → s.names ≡ times_named names number
+    by None there s is = absurd cc
+    by (Some before) there s is = keeps before s is ∙ count-at names files counted number before there
+
+module _ (names : Names) (files : Table ℕ Stored) (made : ℕ) (limits : TreeLimits) (home : Place) (uid gid : ℕ) where
+  abbrev the_tree : Tree
+  the_tree = seen names files made limits home uid gid
+
+  -- with a pin more
+  pub pin-parts : IsKept the_tree → AreCounted names files → (number : ℕ) (after : Table ℕ Stored) → HasFile (contents files) number
+      → IsChanged with_a_pin number files after → (seen names after made limits home uid gid ≡ after_pin the_tree number) × AreCounted names after
+  pin-parts kept counted number after there changed = (
+    (λ i. record { names = names; files = same i; made = made; pins = pins i; limits = limits; home = home; uid = uid; gid = gid }),
+    counted-still names files after with_a_pin number counted (λ s left is. sym (ap (λ (s : Stored). s.names) (same_Some _ left is))) changed,
+  )
+    where
+      order : InOrder nat_cmp files
+      order = files-in_order files kept.well_formed.numbered
+
+      content : (o : Option Stored) → option_map (λ (s : Stored). s.content) (option_and_then with_a_pin o) ≡ option_map (λ (s : Stored). s.content) o
+      content None = refl
+      content (Some s) = refl
+
+      same : contents after ≡ contents files
+      same =
+          same-contents files after order changed.ordered (λ other.
+          by-number number other
+          (λ is.
+          ap (λ k. option_map (λ (s : Stored). s.content) (get nat_cmp after k)) is ∙ ap (option_map (λ (s : Stored). s.content)) changed.here
+          ∙ content (get nat_cmp files number) ∙ ap (λ k. option_map (λ (s : Stored). s.content) (get nat_cmp files k)) (sym is))
+          (λ differ. ap (option_map (λ (s : Stored). s.content)) (changed.others other differ)))
+
+      more : (o : Option Stored) → is_some (option_map (λ (s : Stored). s.content) o) ≡ true → pin_count_at (option_and_then with_a_pin o) ≡ pin_count_at o + 1
+      more None there = absurd cc
+      more (Some s) there = refl
+
+      pins : pins_of after ≡ with_pin (pins_of files) number
+      pins =
+          changed-pins_to with_a_pin number files after (times_pinned (pins_of files) number + 1) order changed
+          (more (get nat_cmp files number) (ap is_some (sym (get-with_values nat_cmp (λ (s : Stored). s.content) files number)) ∙ there)
+          ∙ ap (λ n. n + 1) (pins-counted files number order))
+
+  -- with a pin less
+  pub unpin-parts : IsKept the_tree → AreCounted names files → (number : ℕ) (after : Table ℕ Stored)
+      → IsChanged without_a_pin number files after → (seen names after made limits home uid gid ≡ after_unpin the_tree number) × AreCounted names after
+  unpin-parts is_kept counted number after changed = (
+    (λ i. record { names = names; files = same i; made = made; pins = pins i; limits = limits; home = home; uid = uid; gid = gid }),
+    counted-still names files after without_a_pin number counted (λ s left is. ap (λ (s : Stored). s.names) (left-where_held (record s { pins = s.pins - 1 }) left is)) changed,
+  )
+    where
+      order : InOrder nat_cmp files
+      order = files-in_order files is_kept.well_formed.numbered
+
+      in_order : InOrder nat_cmp (pins_of files)
+      in_order = InOrder-pins files order
+
+      fewer : Pins
+      fewer = without_pin (pins_of files) number
+
+      keeps : ℕ × Content → Bool
+      keeps = stays (is_pinned fewer) names
+
+      less : (o : Option Stored) → pin_count_at (option_and_then without_a_pin o) ≡ pin_count_at o - 1
+      less None = refl
+      less (Some s) = pins-where_held (record s { pins = s.pins - 1 })
+
+      pins : pins_of after ≡ fewer
+      pins =
+          changed-pins_to without_a_pin number files after (times_pinned (pins_of files) number - 1) order changed
+          (less (get nat_cmp files number) ∙ ap (λ n. n - 1) (pins-counted files number order))
+
+      still : (s : Stored) → get nat_cmp files number ≡ Some s → is_held_still (record s { pins = s.pins - 1 }) ≡ keeps (number, s.content)
+      still s there =
+          let named : s.names ≡ times_named names number = count-at names files counted number s there in
+          let left : s.pins - 1 ≡ times_pinned fewer number =
+          ap (λ n. n - 1) (ap pin_count_at (sym there) ∙ pins-counted files number order)
+          ∙ sym (times_pinned-here (pins_of files) number (times_pinned (pins_of files) number - 1) in_order) in
+          λ i. nat_lt 0 (named i) || nat_lt 0 (left i)
+
+      was-held : (other : ℕ) (s : Stored) → get nat_cmp files other ≡ Some s → stays (is_pinned (pins_of files)) names (other, s.content) ≡ true
+      was-held other s there =
+          at-number (λ number (content : Content). stays (is_pinned (pins_of files)) names (number, content) ≡ true) (contents files) is_kept.trimmed other s.content
+          (get-with_values nat_cmp (λ (s : Stored). s.content) files other ∙ ap (option_map (λ (s : Stored). s.content)) there)
+
+      elsewhere : (other : ℕ) → other ≢ number → (s : Stored) → get nat_cmp files other ≡ Some s → keeps (other, s.content) ≡ true
+      elsewhere other differ s there =
+          ap (λ n. is_named names other || nat_lt 0 n) (times_pinned-elsewhere (pins_of files) number (times_pinned (pins_of files) number - 1) other in_order differ)
+          ∙ was-held other s there
+
+      same : contents after ≡ retain (contents files) keeps
+      same =
+          left-contents names names files keeps after order changed.ordered (λ other.
+          by-number number other
+          (λ is.
+          ap (λ k. option_map (λ (s : Stored). s.content) (get nat_cmp after k)) is ∙ ap (option_map (λ (s : Stored). s.content)) changed.here
+          ∙ gone-content number keeps (λ s. record s { pins = s.pins - 1 }) (get nat_cmp files number) (λ s. refl) still
+          ∙ ap (λ k. kept keeps k (option_map (λ (s : Stored). s.content) (get nat_cmp files k))) (sym is))
+          (λ differ.
+          ap (option_map (λ (s : Stored). s.content)) (changed.others other differ)
+          ∙ stayed-content other keeps (get nat_cmp files other) (elsewhere other differ)))

@@ -1,0 +1,6 @@
+use Rattle.std.proofs.Common.{refl}
+use Rattle.sftp_tree.proofs.OpenFiles.Written.{before-written, there-written, behind-written}
+use Rattle.sftp_tree.proofs.file_laws.writes_are_read.Goals as goal
+
+pub returns : goal.returns
+returns c = record { before = before-written; there = there-written; behind = behind-written; nothing = λ offset bytes. refl }

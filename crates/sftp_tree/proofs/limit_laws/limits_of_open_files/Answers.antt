@@ -1,0 +1,11 @@
+use Rattle.std.proofs.Common.{refl}
+use Rattle.sftp_tree.specs.Tree.{content_at}
+use Rattle.sftp_tree.proofs.CauseLaws.Limits.{changed-room}
+use Rattle.sftp_tree.proofs.OpenFiles.Written.{write-room}
+use Rattle.sftp_tree.proofs.limit_laws.limits_of_open_files.Goals as goal
+
+pub returns : goal.returns
+returns c = record {
+  write = write-room;
+  set = λ t number attrs kept there. changed-room t attrs number kept (content_at t.files number) refl there;
+}

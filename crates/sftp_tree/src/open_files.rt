@@ -1,0 +1,105 @@
+//! Files by their numbers: what the requests on open files read of them and change in them (draft, sections 6.4, 6.8
+//! and 6.9). Each call is for a file that exists.
+ghost use Rattle.std.specs.Prelude.{◌≡◌, Some, is_some, option_map, take, drop, IfErr, IsTrue, OnOk, OnErr};
+ghost use Rattle.sftp_tree.specs.Tree as tree;
+ghost use Rattle.sftp_tree.specs.Attributes as attributes;
+ghost use Rattle.sftp_tree.specs.FileChanges as changes;
+ghost use Rattle.sftp_tree.specs.Room as room;
+
+use crate::causes::{Cause, Refused};
+use crate::file_numbers::FileNo;
+use crate::trees::Tree;
+use sftp_wire::Attrs;
+
+impl Tree {
+    /// Whether there is a file of this number.
+    pub fn has_file(&self, number: FileNo) -> bool
+        ensures { result ≡ is_some (tree.content_at self.now.files number) }
+    {
+        self.content(number).is_some()
+    }
+
+    /// READ: the bytes of a file from an offset on, at most `len` of them and at most as many as the tree's limit of
+    /// one READ. At the end of the file and past it there are none. It takes no memory.
+    pub fn read_at(&self, number: FileNo, offset: u64, len: u32) -> &[u8]
+        requires { tree.HasFile self.now.files number }
+        ensures { option_map (λ content. changes.bytes_at (tree.limits self.now) offset len content.bytes)
+            (tree.content_at self.now.files number)
+            ≡ Some result.now }
+    {
+        let most = len.min(self.tree_limits().read_bytes) as usize;
+        match self.content(number) {
+            Some(content) => bytes_at(content.bytes.as_slice(), offset, most),
+            None => unreachable!(),
+        }
+    }
+
+    /// WRITE: writes bytes over those of a file from an offset on; what goes past its end is appended. If the file ends
+    /// before the offset, zeros fill it up to there. To write no bytes changes nothing, at any offset.
+    ///
+    /// # Errors
+    ///
+    /// The cause `NoRoom` if there are bytes to write and they end past the limit of a file's bytes. `NoMemory` if
+    /// memory runs out. The tree is then as before.
+    pub fn write_at(&mut self, number: FileNo, offset: u64, new: &[u8]) -> Result<(), Refused>
+        requires { tree.HasFile self.old.files number }
+        ensures room { OnOk result (IsTrue (changes.write_fits (tree.limits self.old) offset new.now)) }
+        ensures done { OnOk result (self.new ≡ changes.after_write self.old number offset new.now) }
+        ensures refused { IfErr result (changes.IsRoomRefusal (changes.write_fits (tree.limits self.old) offset new.now)) }
+        ensures kept { OnErr result (self.new ≡ self.old) }
+    {
+        if !self.write_fits(offset, new) {
+            return Err(Refused::Cause(Cause::NoRoom));
+        }
+        self.write_file(number, offset, new)?;
+        Ok(())
+    }
+
+    /// FSTAT: the size, the owner and the permissions of a file, with the bits of its type. It takes no memory.
+    pub fn stat_file(&self, number: FileNo) -> Attrs
+        requires { tree.HasFile self.now.files number }
+        ensures { option_map attributes.shown_content (tree.content_at self.now.files number) ≡ Some result }
+    {
+        self.shown_file(number)
+    }
+
+    /// FSETSTAT: sets the size of a file, which cuts its bytes or fills them with zeros, its owner and the low twelve
+    /// bits of its permissions, each if it is given. Other attributes are ignored.
+    ///
+    /// # Errors
+    ///
+    /// The cause `NoRoom` if a size is given that is past the limit of a file's bytes. `NoMemory` if memory runs out.
+    /// The tree is then as before.
+    pub fn set_file(&mut self, number: FileNo, attrs: &Attrs) -> Result<(), Refused>
+        requires { tree.HasFile self.old.files number }
+        ensures room { OnOk result (IsTrue (room.size_fits (tree.limits self.old) attrs.now.size)) }
+        ensures done { OnOk result (self.new ≡ changes.after_set self.old number attrs.now) }
+        ensures refused { IfErr result (changes.IsRoomRefusal (room.size_fits (tree.limits self.old) attrs.now.size)) }
+        ensures kept { OnErr result (self.new ≡ self.old) }
+    {
+        if !self.size_fits(attrs) {
+            return Err(Refused::Cause(Cause::NoRoom));
+        }
+        self.change_file(number, attrs)?;
+        Ok(())
+    }
+
+    /// Whether bytes that are written to a file from an offset on keep to the limit.
+    fn write_fits(&self, offset: u64, new: &[u8]) -> bool
+        ensures { result ≡ changes.write_fits (tree.limits self.now) offset new.now }
+    {
+        let most = u64::from(self.tree_limits().file_bytes);
+        let count = new.len() as u64;
+        count == 0 || (offset <= most && count <= most - offset)
+    }
+}
+
+/// The bytes from an offset on, at most so many of them.
+fn bytes_at(bytes: &[u8], offset: u64, most: usize) -> &[u8]
+    ensures { result.now ≡ take most (drop offset bytes.now) }
+{
+    let start = offset.min(bytes.len() as u64) as usize;
+    let rest = &bytes[start..];
+    let count = most.min(rest.len());
+    &rest[..count]
+}
