@@ -6,8 +6,8 @@ use Rattle.sftp_wire.specs.declared.packets.Reply.{Reply}
 use Rattle.sftp_wire.specs.Spelling.{HasSpelling}
 use Rattle.sftp_tree.specs.Tree.{Tree}
 use Rattle.sftp_treefile.specs.TreeFile.{are_bytes}
-use Rattle.sftp_tree.specs.Requests.{has_step, path_of}
-use Rattle.sftp_audit.specs.Replies.{Allowed}
+use Rattle.sftp_tree.specs.Requests.{path_of}
+use Rattle.sftp_audit.specs.Replies.{Allowed, has_step}
 
 -- the request can be judged; that its id has 32 bits and its path is bytes holds of every value of its type
 pub record IsAskable (request : Request) : Type 0 where

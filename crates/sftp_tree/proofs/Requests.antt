@@ -1,3 +1,5 @@
 -- Requests: what is planned for them, and the trees that they leave.
+pub mod Children
+pub mod Listings
 pub mod Plans
 pub mod Trees

@@ -13,9 +13,11 @@ pub mod file_examples;
 pub mod file_laws;
 mod file_numbers;
 mod files;
+mod flags;
 mod found;
 pub mod laws;
 pub mod limit_laws;
+mod listings;
 mod nodes;
 mod open_files;
 mod owners;
@@ -32,5 +34,6 @@ mod walking;
 
 pub use causes::{Cause, Causes, Refused};
 pub use file_numbers::FileNo;
+pub use listings::Item;
 pub use sftp_treefile::{NoMemory, TreeError, TreeLimits};
 pub use trees::Tree;

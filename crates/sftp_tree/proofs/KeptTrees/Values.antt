@@ -78,7 +78,7 @@ still-there files number content other there =
     by true = refl
     by false = there
 
-node-content : (files : Files) (number : ℕ) (content : Content) (it : Node) → IsNode files it → IsNode (with_content files number content) it
+pub node-content : (files : Files) (number : ℕ) (content : Content) (it : Node) → IsNode files it → IsNode (with_content files number content) it
 node-content files number content (Dir owner) is_node = is_node
 node-content files number content (File other) is_node = still-there files number content other is_node
 node-content files number content (Link target) is_node = is_node
