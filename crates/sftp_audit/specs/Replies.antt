@@ -5,7 +5,8 @@ use Rattle.sftp_wire.specs.declared.attributes.Attrs.{Attrs}
 use Rattle.sftp_wire.specs.declared.names.NameItem.{NameItem}
 use Rattle.sftp_wire.specs.declared.packets.Ask.{Ask}
 use Rattle.sftp_wire.specs.declared.packets.Ask.TheVariants.{Lstat, Setstat, Remove, Mkdir, Rmdir, Realpath, Stat}
-use Rattle.sftp_wire.specs.declared.packets.Ask.TheVariants.{Rename, Readlink, Symlink, PosixRename, Hardlink, Open, Opendir}
+use Rattle.sftp_wire.specs.declared.packets.Ask.TheVariants.{Rename, Readlink, Symlink, PosixRename, Hardlink, Open}
+use Rattle.sftp_wire.specs.declared.packets.Ask.TheVariants.{Opendir}
 use Rattle.sftp_wire.specs.declared.packets.Answer.{Answer}
 use Rattle.sftp_wire.specs.declared.packets.Answer.TheVariants as replies
 use Rattle.sftp_wire.specs.declared.packets.Request.{Request}

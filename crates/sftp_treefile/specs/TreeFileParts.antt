@@ -5,7 +5,8 @@ use Rattle.std.specs.declared.cmp.Ordering.TheVariants.{Less}
 use Rattle.sftp_wire.specs.Spelling.{uint32, string}
 use Rattle.sftp_path.specs.Place.{Place, place_cmp, parent}
 use Rattle.sftp_treefile.specs.declared.errors.TreeError.{TreeError}
-use Rattle.sftp_treefile.specs.declared.errors.TreeError.TheVariants.{Magic, Short, Trailing, Value, Order, Parent, NoMemory}
+use Rattle.sftp_treefile.specs.declared.errors.TreeError.TheVariants.{Magic, Short, Trailing, Value, Order, Parent}
+use Rattle.sftp_treefile.specs.declared.errors.TreeError.TheVariants.{NoMemory}
 use Rattle.sftp_treefile.specs.declared.files.Owner.{Owner}
 use Rattle.sftp_treefile.specs.declared.files.Kind.{Kind}
 use Rattle.sftp_treefile.specs.declared.files.Kind.TheVariants.{Dir, First, Further, Link}
@@ -14,7 +15,8 @@ use Rattle.sftp_treefile.specs.declared.files.TreeFile.{TreeFile}
 use Rattle.sftp_treefile.specs.declared.heads.Head.{Head}
 use Rattle.sftp_treefile.specs.declared.limits.TreeLimits.{TreeLimits}
 use Rattle.sftp_treefile.specs.Limits.{usual_limits}
-use Rattle.sftp_treefile.specs.TreeFile.{tree_opening, owner_text, row_text, place_of, has_dir, is_target, are_bytes, is_first_row, entry_at, IsPlaceText, IsOwner, AreRows}
+use Rattle.sftp_treefile.specs.TreeFile.{tree_opening, owner_text, row_text, place_of, has_dir, is_target, are_bytes}
+use Rattle.sftp_treefile.specs.TreeFile.{is_first_row, entry_at, IsPlaceText, IsOwner, AreRows}
 
 -- ---- reading a field
 

@@ -1,12 +1,14 @@
 -- Some reply to each request is allowed, and can be written.
-use Rattle.std.proofs.Common.{◌≡◌, ◌==◌, ◌&&◌, ◌||◌, ℕ, ◌+◌, ◌^◌, ◌<◌, ◌≤◌, Bool, true, false, not, List, [], ◌∷◌, length, Some, None, Ok, refl, ap, ◌∙◌, eq-eqb, IsTrue, inl, inr, lit<, arith, leb-true}
+use Rattle.std.proofs.Common.{◌≡◌, ◌==◌, ◌&&◌, ◌||◌, ℕ, ◌+◌, ◌^◌, ◌<◌, ◌≤◌, Bool, true, false, not, List, [], ◌∷◌}
+use Rattle.std.proofs.Common.{length, Some, None, Ok, refl, ap, ◌∙◌, eq-eqb, IsTrue, inl, inr, lit<, arith, leb-true}
 use Rattle.std.specs.Cmp.Lexicographic.{nat_list_eq_equiv}
 use Rattle.std.specs.List.{list_any}
 use Rattle.std.specs.Option.{option_map}
 use Rattle.std.proofs.lemmas.Bool.{lt-ltb, and_parts}
 use Rattle.sftp_wire.specs.declared.attributes.Attrs.{Attrs}
 use Rattle.sftp_wire.specs.declared.packets.Ask.{Ask}
-use Rattle.sftp_wire.specs.declared.packets.Ask.TheVariants.{Lstat, Setstat, Remove, Mkdir, Rmdir, Realpath, Stat, Rename, Readlink, Symlink, PosixRename, Hardlink}
+use Rattle.sftp_wire.specs.declared.packets.Ask.TheVariants.{Lstat, Setstat, Remove, Mkdir, Rmdir, Realpath, Stat}
+use Rattle.sftp_wire.specs.declared.packets.Ask.TheVariants.{Rename, Readlink, Symlink, PosixRename, Hardlink}
 use Rattle.sftp_wire.specs.declared.packets.Answer.{Answer}
 use Rattle.sftp_wire.specs.declared.packets.Answer.TheVariants as replies
 use Rattle.sftp_wire.specs.declared.packets.Packet.TheVariants.{Reply as reply_packet}
@@ -25,13 +27,16 @@ use Rattle.sftp_tree.specs.Walk.{reached}
 use Rattle.sftp_tree.specs.Attributes.{said, shown_content, shown}
 use Rattle.sftp_tree.specs.Causes.{CauseSet, every_cause, allows}
 use Rattle.sftp_tree.specs.PlaceCauses.{needing_causes}
-use Rattle.sftp_tree.specs.Requests.{causes, led, led_to, after, told_at, attributes_of, name_of, shown_at, shown_to, target_to, text_to, target_of}
+use Rattle.sftp_tree.specs.Requests.{causes, led, led_to, after, told_at, attributes_of, name_of, shown_at, shown_to}
+use Rattle.sftp_tree.specs.Requests.{target_to, text_to, target_of}
 use Rattle.sftp_audit.specs.Replies.{same_attributes, is_shown, is_named, answers, has_step}
 use Rattle.sftp_audit.specs.Laws.{IsAskable, IsAnswerable}
-use Rattle.sftp_audit.proofs.answers.FreeRequests.{IsFree, led-stat, led-lstat, led-real_path, led-read_link, there, link_there}
+use Rattle.sftp_audit.proofs.answers.FreeRequests.{IsFree, led-stat, led-lstat, led-real_path, led-read_link, there}
+use Rattle.sftp_audit.proofs.answers.FreeRequests.{link_there}
 use Rattle.sftp_audit.proofs.answers.KeptNodes.{node_kept, content_there, content_kept}
 use Rattle.sftp_audit.proofs.answers.PlaceTexts.{bytes_by, text_fits}
-use Rattle.sftp_audit.proofs.answers.ReplySizes.{status_reply, status_spelled, attributes_reply, attributes_spelled, name_reply, name_spelled}
+use Rattle.sftp_audit.proofs.answers.ReplySizes.{status_reply, status_spelled, attributes_reply, attributes_spelled}
+use Rattle.sftp_audit.proofs.answers.ReplySizes.{name_reply, name_spelled}
 
 -- ---- where a cause holds
 

@@ -1,6 +1,7 @@
 -- More laws of a directory that moves in a table of places: what is counted, an entry with none below it, and
 -- the move entry by entry.
-use Rattle.std.proofs.Common.{◌≡◌, ◌≢◌, ◌+◌, Bool, true, false, cond, [], ◌∷◌, ◌++◌, length, drop, map, refl, sym, ap, ◌∙◌, arith, Some, None, inl, inr, true≢false}
+use Rattle.std.proofs.Common.{◌≡◌, ◌≢◌, ◌+◌, Bool, true, false, cond, [], ◌∷◌, ◌++◌, length, drop, map, refl, sym, ap}
+use Rattle.std.proofs.Common.{◌∙◌, arith, Some, None, inl, inr, true≢false}
 use Rattle.std.specs.Ordering.{is_eq}
 use Rattle.std.specs.declared.cmp.Ordering.TheVariants.{Equal}
 use Rattle.std.specs.Map.{keys_of}
@@ -11,10 +12,12 @@ use Rattle.sftp_path.specs.Place.{Name, Place, place_cmp, begins}
 use Rattle.sftp_path.specs.Table.{Table, InOrder, get, put, without, from_entries, count}
 use Rattle.sftp_path.specs.Rekeying.{renamed, renamed_entry, rekeyed, NothingFrom}
 use Rattle.sftp_path.proofs.Order.{begins-front, begins-itself, place_cmp-total, place_cmp-same}
-use Rattle.sftp_path.proofs.Table.Laws.{get-put_here, get-put_elsewhere, get-without, get-without_here, get-without_elsewhere, get-from_entries, InOrder-put, InOrder-without}
+use Rattle.sftp_path.proofs.Table.Laws.{get-put_here, get-put_elsewhere, get-without, get-without_here}
+use Rattle.sftp_path.proofs.Table.Laws.{get-without_elsewhere, get-from_entries, InOrder-put, InOrder-without}
 use Rattle.sftp_path.proofs.Table.Entries.{get-none_front, get-none_behind, get-front, from_entries-last, put-without}
 use Rattle.sftp_path.proofs.Table.Counts.{one_if, count-step, count-put_new}
-use Rattle.sftp_path.proofs.Move.Laws.{renamed-inside, renamed-outside, get-moved, get-elsewhere, nothing-behind, first-outside, first-alone, get-rekeyed, rekeyed-unique}
+use Rattle.sftp_path.proofs.Move.Laws.{renamed-inside, renamed-outside, get-moved, get-elsewhere, nothing-behind}
+use Rattle.sftp_path.proofs.Move.Laws.{first-outside, first-alone, get-rekeyed, rekeyed-unique}
 
 -- places that differ do not tie
 differ : (p q : Place) → (p ≡ q → ⊥) → place_cmp p q ≢ Equal

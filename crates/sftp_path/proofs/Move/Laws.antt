@@ -1,5 +1,6 @@
 -- Laws of a directory that moves in a table of places.
-use Rattle.std.proofs.Common.{◌≡◌, ◌+◌, Bool, true, false, cond, if◌then◌else◌, ◌&&◌, [], ◌∷◌, ◌++◌, length, drop, map, refl, sym, ap, ◌∙◌, arith, Some, None, inl, inr, true≢false}
+use Rattle.std.proofs.Common.{◌≡◌, ◌+◌, Bool, true, false, cond, if◌then◌else◌, ◌&&◌, [], ◌∷◌, ◌++◌, length, drop, map}
+use Rattle.std.proofs.Common.{refl, sym, ap, ◌∙◌, arith, Some, None, inl, inr, true≢false}
 use Rattle.std.specs.Ordering.{is_eq, ordering_then}
 use Rattle.std.specs.Cmp.{Equal-is}
 use Rattle.std.specs.Cmp.Lexicographic.{nat_list_cmp_total, nat_list_eq_equiv}
@@ -13,7 +14,8 @@ use Rattle.sftp_path.specs.Table.{Table, InOrder, get, from_entries, size}
 use Rattle.sftp_path.specs.Rekeying.{renamed, renamed_entry, rekeyed, NothingFrom}
 use Rattle.sftp_path.proofs.Order.{begins-front, begins-append, place_cmp-total, place_cmp-same}
 use Rattle.sftp_path.proofs.Table.Entries.{get-none}
-use Rattle.sftp_path.proofs.Table.Laws.{get-empty, get-cons, get-below, get-from_entries, InOrder-from_entries, size-put, same_table}
+use Rattle.sftp_path.proofs.Table.Laws.{get-empty, get-cons, get-below, get-from_entries, InOrder-from_entries}
+use Rattle.sftp_path.proofs.Table.Laws.{size-put, same_table}
 
 -- ---- places
 

@@ -5,10 +5,12 @@ use Rattle.std.specs.Option.{IfSome, IfNone}
 use Rattle.std.specs.Prelude.{Option, Some, None}
 use Rattle.std.proofs.lemmas.Bool.{and_parts, false≢true}
 use Rattle.std.proofs.lemmas.List.{append-nil}
-use Rattle.sftp_path.specs.Place.{is_inner, is_name, are_names, absolute, parts, components, is_nonempty, is_absolute, Name, Place}
+use Rattle.sftp_path.specs.Place.{is_inner, is_name, are_names, absolute, parts, components, is_nonempty, is_absolute}
+use Rattle.sftp_path.specs.Place.{Name, Place}
 use Rattle.sftp_path.specs.Text.{IsTextOf}
 use Rattle.sftp_path.specs.Cut.{begins_at_slash, parts_behind}
-use Rattle.sftp_path.proofs.PathTexts.Splitting.{parts-whole, parts-append, parts-from_slash, parts-slash, components-slash, components-nil, components-are}
+use Rattle.sftp_path.proofs.PathTexts.Splitting.{parts-whole, parts-append, parts-from_slash, parts-slash}
+use Rattle.sftp_path.proofs.PathTexts.Splitting.{components-slash, components-nil, components-are}
 use Rattle.sftp_path.proofs.PathTexts.GoodPaths.{list_all-weaker, list_all-between, filter_all}
 
 -- ---- absolute texts

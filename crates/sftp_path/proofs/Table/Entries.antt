@@ -1,5 +1,6 @@
 -- Laws of the entries of a table one by one: the last one, those in front, and two keys that do not tie.
-use Rattle.std.proofs.Common.{◌≡◌, ◌≢◌, Bool, true, false, cond, List, [], ◌∷◌, ◌++◌, refl, sym, ap, ◌∙◌, Option, Some, None}
+use Rattle.std.proofs.Common.{◌≡◌, ◌≢◌, Bool, true, false, cond, List, [], ◌∷◌, ◌++◌, refl, sym, ap, ◌∙◌, Option, Some}
+use Rattle.std.proofs.Common.{None}
 use Rattle.std.specs.Ordering.{is_eq}
 use Rattle.std.specs.declared.cmp.Ordering.{Ordering}
 use Rattle.std.specs.declared.cmp.Ordering.TheVariants.{Less, Equal}
@@ -12,7 +13,8 @@ use Rattle.std.specs.FinMap.{IsAntisymmetric}
 use Rattle.std.proofs.lemmas.Bool.{false_from_ne_true}
 use Rattle.std.proofs.lemmas.Cmp.{tied_itself}
 use Rattle.sftp_path.specs.Table.{Table, InOrder, get, put, without, from_entries}
-use Rattle.sftp_path.proofs.Table.Laws.{get-empty, get-cons, get-put, get-without, get-from_entries, InOrder-put, InOrder-without, InOrder-from_entries, same_table}
+use Rattle.sftp_path.proofs.Table.Laws.{get-empty, get-cons, get-put, get-without, get-from_entries, InOrder-put}
+use Rattle.sftp_path.proofs.Table.Laws.{InOrder-without, InOrder-from_entries, same_table}
 
 none-parts : {X : Type 0} (b : Bool) (value : X) (o : Option X) → cond b (Some value) o ≡ None
     → (b ≡ false) × (o ≡ None)

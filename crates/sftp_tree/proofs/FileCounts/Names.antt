@@ -63,10 +63,6 @@ one-elsewhere number other differ = grind (arith, nat_tests)
 
 -- ---- a further name
 
--- a choice by whether two numbers are one
-pub by-number : {A : Type 0} (number other : ℕ) → (other ≡ number → A) → (other ≢ number → A) → A
-by-number number other same apart = elim (cases_eq other number) [ inl is ↦ same is | inr differ ↦ apart differ ]
-
 more-content : (o : Option Stored) → option_map (λ (s : Stored). s.content) (option_and_then with_a_name o) ≡ option_map (λ (s : Stored). s.content) o
 more-content None = refl
 more-content (Some s) = refl

@@ -19,8 +19,8 @@ use Rattle.sftp_tree.specs.declared.file_contents.Content.{Content}
 use Rattle.sftp_tree.specs.declared.file_contents.Stored.{Stored}
 use Rattle.sftp_tree.specs.declared.nodes.Node.{Node}
 use Rattle.sftp_tree.specs.declared.nodes.Node.TheVariants.{Dir, File, Link}
-use Rattle.sftp_tree.specs.Tree.{Names, Files, Tree, WellFormed, IsKept, IsNode, IsContent, limits, fits, depth_fits, content_fits, is_directory, node_at, with_node, content_at, with_content, names_file, times_named, is_named, is_pinned, is_held}
-use Rattle.sftp_tree.specs.StoredFiles.{contents, seen, AreCounted, IsChanged, without_a_name}
+use Rattle.sftp_tree.specs.Tree.{Names, Files, Tree, WellFormed, IsKept, IsNode, IsPin, IsContent, limits, fits, depth_fits, content_fits, is_directory, node_at, with_node, content_at, with_content, names_file, times_named, is_named, is_pinned, is_held}
+use Rattle.sftp_tree.specs.StoredFiles.{contents, pins_of, pin_count_at, seen, AreCounted, IsChanged, without_a_name}
 use Rattle.sftp_tree.specs.Attributes.{resized, changed_content}
 use Rattle.sftp_tree.specs.Changes.{with_changed_file, with_new_file, with_emptied_file}
 use Rattle.sftp_tree.specs.Plans.{CanMake}
@@ -30,11 +30,12 @@ use Rattle.sftp_tree.proofs.WellFormedTrees.Names.{names-of, names-put, well-for
 use Rattle.sftp_tree.proofs.Limits.Tests.{fits-parts}
 use Rattle.sftp_tree.proofs.Limits.Changes.{entries-with, depths-with, links-with, files-with}
 use Rattle.sftp_tree.proofs.KeptTrees.Trims.{named-there}
-use Rattle.sftp_tree.proofs.KeptTrees.Values.{node-content}
+use Rattle.sftp_tree.proofs.KeptTrees.Values.{node-content, still-there}
 use Rattle.sftp_tree.proofs.KeptTrees.Entries.{named-put, or_weaker}
 use Rattle.sftp_tree.proofs.KeptTrees.Files.{not-given}
 use Rattle.sftp_tree.proofs.KeptTrees.Counts.{files-in_order}
-use Rattle.sftp_tree.proofs.FileCounts.Names.{count-at, at-entries, by-number, one-here, one-elsewhere, named-put as named-more}
+use Rattle.sftp_tree.proofs.FileCounts.Pins.{by-number, same-pins}
+use Rattle.sftp_tree.proofs.FileCounts.Names.{count-at, at-entries, one-here, one-elsewhere, named-put as named-more}
 
 -- ---- a new file
 
@@ -66,6 +67,9 @@ well-formed-file t content well is_content = record {
       (next t.made)
       (each-weaker (λ e. e.0 < t.made) (λ e. e.0 < t.made + 1) (λ e early. later e.0 t.made early) t.files well.given);
   pins = well.pins;
+  pinned =
+      each-weaker (λ e. IsPin t.files e) (λ e. IsPin (with_content t.files t.made content) e)
+      (λ e pin. (pin.0, still-there t.files t.made content e.0 pin.1)) t.pins well.pinned;
   limits = well.limits;
   home = well.home;
   uid = well.uid;
@@ -171,6 +175,33 @@ none-named (e ∷ es) files number nodes none =
         other false same = same
     by (Link target) is = refl
 
+-- the next number is free
+pub next-free : (names : Names) (files : Table ℕ Stored) (made : ℕ) (limits : TreeLimits) (home : Place) (uid gid : ℕ)
+    → IsKept (seen names files made limits home uid gid) → get nat_cmp files made ≡ None
+next-free names files made limits home uid gid kept =
+    by (get nat_cmp files made) refl
+    (sym (get-with_values nat_cmp (λ (s : Stored). s.content) files made) ∙ not-given (seen names files made limits home uid gid) made kept.well_formed (omega arith))
+  where
+    by : (o : Option Stored) → get nat_cmp files made ≡ o → option_map (λ (s : Stored). s.content) o ≡ None → o ≡ None
+    by None is none = refl
+    by (Some s) is none = absurd cc
+
+-- a new file is not pinned
+unpinned-put : (files : Table ℕ Stored) (number : ℕ) (content : Content) → InOrder nat_cmp files
+    → get nat_cmp files number ≡ None
+    → pins_of (put nat_cmp files number (record { content = content; names = 1; pins = 0 })) ≡ pins_of files
+unpinned-put files number content order free =
+    let new : Stored = record { content = content; names = 1; pins = 0 } in
+    same-pins files (put nat_cmp files number new) order (InOrder-put nat_cmp nat_cmp_total files number new order)
+    (λ other.
+    by-number number other
+    (λ same.
+    ap (λ k. pin_count_at (get nat_cmp (put nat_cmp files number new) k)) same
+    ∙ ap pin_count_at (get-put_here nat_cmp nat_cmp_total files number new) ∙ ap pin_count_at (sym free)
+    ∙ ap (λ k. pin_count_at (get nat_cmp files k)) (sym same))
+    (λ differ.
+    ap pin_count_at (get-put_elsewhere nat_cmp nat_cmp_total files number other new (λ tie. differ (nat_cmp-IsAntisymmetric other number tie)))))
+
 module _ (names : Names) (files : Table ℕ Stored) (made : ℕ) (limits : TreeLimits) (home : Place) (uid gid : ℕ) where
   abbrev the_tree : Tree
   the_tree = seen names files made limits home uid gid
@@ -178,15 +209,15 @@ module _ (names : Names) (files : Table ℕ Stored) (made : ℕ) (limits : TreeL
   -- with a file of one name, and the name
   pub made-parts : (place : Place) (content : Content) → IsKept the_tree → AreCounted names files
       → node_at names place ≡ None → (others : Names) (after : Table ℕ Stored)
-      → others ≡ with_node names place (File made) → after ≡ put nat_cmp files made (record { content = content; names = 1 })
+      → others ≡ with_node names place (File made) → after ≡ put nat_cmp files made (record { content = content; names = 1; pins = 0 })
       → (seen others after (made + 1) limits home uid gid ≡ with_new_file the_tree place content) × AreCounted others after
   made-parts place content kept counted absent others after are is = (
-    (λ i. record { names = are i; files = (ap contents is ∙ with_values-put nat_cmp (λ (s : Stored). s.content) files made (record { content = content; names = 1 })) i; made = made + 1; pins = []; limits = limits; home = home; uid = uid; gid = gid }),
+    (λ i. record { names = are i; files = (ap contents is ∙ with_values-put nat_cmp (λ (s : Stored). s.content) files made (record { content = content; names = 1; pins = 0 })) i; made = made + 1; pins = (ap pins_of is ∙ unpinned-put files made content (files-in_order files kept.well_formed.numbered) (next-free names files made limits home uid gid kept)) i; limits = limits; home = home; uid = uid; gid = gid }),
     subst (λ ns. AreCounted ns after) (sym are) (subst (AreCounted (with_node names place (File made))) (sym is) counts),
   )
     where
       new : Stored
-      new = record { content = content; names = 1 }
+      new = record { content = content; names = 1; pins = 0 }
 
       right : (number : ℕ) (s : Stored) → get nat_cmp (put nat_cmp files made new) number ≡ Some s → s.names ≡ times_named (with_node names place (File made)) number
       right number s there =
@@ -212,10 +243,10 @@ module _ (names : Names) (files : Table ℕ Stored) (made : ℕ) (limits : TreeL
 
 -- a file that was put at a free number and lost its name leaves the others as they were
 pub put-back : (files middle after : Table ℕ Stored) (number : ℕ) (content : Content) → InOrder nat_cmp files
-    → get nat_cmp files number ≡ None → middle ≡ put nat_cmp files number (record { content = content; names = 1 })
+    → get nat_cmp files number ≡ None → middle ≡ put nat_cmp files number (record { content = content; names = 1; pins = 0 })
     → IsChanged without_a_name number middle after → after ≡ files
 put-back files middle after number content order free is changed =
-    let new : Stored = record { content = content; names = 1 } in
+    let new : Stored = record { content = content; names = 1; pins = 0 } in
     same_table nat_cmp nat_cmp_total nat_cmp-IsAntisymmetric after files changed.ordered order
     (λ other.
     by-number number other
@@ -230,20 +261,9 @@ put-back files middle after number content order free is changed =
 
 -- it has a name to lose
 pub one-to-lose : (files middle : Table ℕ Stored) (number : ℕ) (content : Content)
-    → middle ≡ put nat_cmp files number (record { content = content; names = 1 })
+    → middle ≡ put nat_cmp files number (record { content = content; names = 1; pins = 0 })
     → IfSome (get nat_cmp middle number) (λ s. 0 < s.names)
 one-to-lose files middle number content is =
     subst (λ o. IfSome o (λ (s : Stored). 0 < s.names))
-    (sym (ap (λ table. get nat_cmp table number) is ∙ get-put_here nat_cmp nat_cmp_total files number (record { content = content; names = 1 })))
+    (sym (ap (λ table. get nat_cmp table number) is ∙ get-put_here nat_cmp nat_cmp_total files number (record { content = content; names = 1; pins = 0 })))
     (lit< tt)
-
--- the next number is free
-pub next-free : (names : Names) (files : Table ℕ Stored) (made : ℕ) (limits : TreeLimits) (home : Place) (uid gid : ℕ)
-    → IsKept (seen names files made limits home uid gid) → get nat_cmp files made ≡ None
-next-free names files made limits home uid gid kept =
-    by (get nat_cmp files made) refl
-    (sym (get-with_values nat_cmp (λ (s : Stored). s.content) files made) ∙ not-given (seen names files made limits home uid gid) made kept.well_formed (omega arith))
-  where
-    by : (o : Option Stored) → get nat_cmp files made ≡ o → option_map (λ (s : Stored). s.content) o ≡ None → o ≡ None
-    by None is none = refl
-    by (Some s) is none = absurd cc

@@ -70,7 +70,7 @@ kept-owner-there t place owner kept directory is_owner = by (node_at t.names pla
 -- ---- another content of a file
 
 -- a number that has a file has one still
-still-there : (files : Files) (number : ℕ) (content : Content) (other : ℕ) → IsTrue (is_some (content_at files other)) → IsTrue (is_some (content_at (with_content files number content) other))
+pub still-there : (files : Files) (number : ℕ) (content : Content) (other : ℕ) → IsTrue (is_some (content_at files other)) → IsTrue (is_some (content_at (with_content files number content) other))
 still-there files number content other there =
     ap is_some (get-put nat_cmp nat_cmp_total files number content other) ∙ by (is_eq (nat_cmp other number))
   where

@@ -23,8 +23,7 @@ owner-fits t attrs well fits = search rules
 
 -- of a new file
 pub file-owner-fits : (t : Tree) (attrs : Attrs) → WellFormed t → FitsAttrs attrs → IsOwner (file_owner t attrs)
-file-owner-fits t attrs well fits =
-    (first-fits attrs.owner t.uid fits.owner well.uid, second-fits attrs.owner t.gid fits.owner well.gid, permissions-fit attrs.permissions 0o644 (lit< tt))
+file-owner-fits t attrs well fits = search rules
 
 -- of what is there already
 pub changed-owner-fits : (attrs : Attrs) (owner : Owner) → FitsAttrs attrs → IsOwner owner → IsOwner (changed_owner attrs owner)

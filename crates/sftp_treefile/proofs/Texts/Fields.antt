@@ -1,12 +1,14 @@
 -- A field's text says what the field is and what follows it.
-use Rattle.std.proofs.Common.{◌≡◌, ℕ, get_or, ◌*◌, ◌<◌, ◌≤◌, ◌^◌, ◌&&◌, true, false, List, [], ◌∷◌, ◌++◌, length, take, drop, refl, sym, ap, ◌∙◌, append_assoc, arith}
+use Rattle.std.proofs.Common.{◌≡◌, ℕ, get_or, ◌*◌, ◌<◌, ◌≤◌, ◌^◌, ◌&&◌, true, false, List, [], ◌∷◌, ◌++◌, length, take}
+use Rattle.std.proofs.Common.{drop, refl, sym, ap, ◌∙◌, append_assoc, arith}
 use Rattle.std.specs.Prelude.{IsTrue, nat_eq, nat_le, nat_lt, not}
 use Rattle.std.specs.List.{flat_map, list_all}
 use Rattle.std.proofs.lemmas.Bool.{leb-true, and_parts, eqb-true, ltb-true, false≢true}
 use Rattle.std.proofs.lemmas.List.{take_at, drop_at, length-append}
 use Rattle.std.proofs.lemmas.Nat.{from_be_bytes-to_be_bytes_4}
 use Rattle.sftp_wire.specs.Spelling.{uint32, string}
-use Rattle.sftp_path.specs.Place.{Place, is_name, is_name_byte, is_dot, is_dot_dot, are_names, absolute, components, depth_limit, name_limit, is_good_path}
+use Rattle.sftp_path.specs.Place.{Place, is_name, is_name_byte, is_dot, is_dot_dot, are_names, absolute, components}
+use Rattle.sftp_path.specs.Place.{depth_limit, name_limit, is_good_path}
 use Rattle.sftp_path.specs.Text.{IsTextOf}
 use Rattle.sftp_path.proofs.PathTexts.AbsoluteTexts.{components-absolute}
 use Rattle.sftp_treefile.specs.declared.files.Owner.{Owner}

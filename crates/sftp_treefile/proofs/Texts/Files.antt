@@ -10,7 +10,8 @@ use Rattle.sftp_treefile.specs.declared.files.TreeFile.{TreeFile}
 use Rattle.sftp_treefile.specs.declared.heads.Head.{Head}
 use Rattle.sftp_treefile.specs.declared.limits.TreeLimits.{TreeLimits}
 use Rattle.sftp_treefile.specs.TreeFile.{tree_opening, owner_text, row_text, spelled, AreRows, IsTreeFile, IsSpelled}
-use Rattle.sftp_treefile.specs.TreeFileParts.{Reads, ReadsNone, OutOfMemoryOr, head_bytes, IsHead, head_text, AreRead, AreNone}
+use Rattle.sftp_treefile.specs.TreeFileParts.{Reads, ReadsNone, OutOfMemoryOr, head_bytes, IsHead, head_text, AreRead}
+use Rattle.sftp_treefile.specs.TreeFileParts.{AreNone}
 use Rattle.sftp_treefile.proofs.Texts.Fields.{usual_file_bytes}
 use Rattle.sftp_treefile.proofs.Texts.Heads.{head_front}
 use Rattle.sftp_treefile.proofs.Texts.Entries.{entries_are_one}

@@ -1,4 +1,5 @@
-use Rattle.sftp_path.proofs.Table.Laws.{get-empty, get-put_here, get-put_elsewhere, get-without_here, get-without_elsewhere, get-from_entries}
+use Rattle.sftp_path.proofs.Table.Laws.{get-empty, get-put_here, get-put_elsewhere, get-without_here}
+use Rattle.sftp_path.proofs.Table.Laws.{get-without_elsewhere, get-from_entries}
 use Rattle.sftp_path.proofs.tables.answers.Goals as goal
 
 pub returns-clause-empty : goal.returns-clause-empty

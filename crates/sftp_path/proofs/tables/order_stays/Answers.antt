@@ -1,4 +1,5 @@
-use Rattle.sftp_path.proofs.Table.Laws.{InOrder-empty, InOrder-put, InOrder-without, InOrder-retain, InOrder-from_entries}
+use Rattle.sftp_path.proofs.Table.Laws.{InOrder-empty, InOrder-put, InOrder-without, InOrder-retain}
+use Rattle.sftp_path.proofs.Table.Laws.{InOrder-from_entries}
 use Rattle.sftp_path.proofs.tables.order_stays.Goals as goal
 
 pub returns-clause-empty : goal.returns-clause-empty

@@ -1,4 +1,5 @@
-use Rattle.sftp_path.proofs.Table.Values.{get-with_values, with_values-put, with_values-without, InOrder-with_values, size-with_values}
+use Rattle.sftp_path.proofs.Table.Values.{get-with_values, with_values-put, with_values-without, InOrder-with_values}
+use Rattle.sftp_path.proofs.Table.Values.{size-with_values}
 use Rattle.sftp_path.proofs.tables.other_values.Goals as goal
 
 pub returns-clause-get : goal.returns-clause-get

@@ -2,7 +2,8 @@
 use Rattle.std.proofs.Common.{inr, arith}
 use Rattle.std.proofs.lemmas.Option.{MatchOption-at_none, MatchOption-at_some}
 use Rattle.sftp_treefile.specs.TreeFile.{IsPlaceText}
-use Rattle.sftp_treefile.proofs.Texts.Fields.{path_length, string_none_short, string_none, place_is, place_text, too_deep}
+use Rattle.sftp_treefile.proofs.Texts.Fields.{path_length, string_none_short, string_none, place_is, place_text}
+use Rattle.sftp_treefile.proofs.Texts.Fields.{too_deep}
 use Rattle.sftp_treefile.proofs.fields.place_at.Goals as goal
 
 pub returns-in_default-clause-none : goal.returns-in_default-clause-none

@@ -3,7 +3,8 @@ use Rattle.std.proofs.Common.{inr, sym}
 use Rattle.sftp_treefile.specs.TreeFileParts.{IsTarget}
 use Rattle.sftp_treefile.proofs.Texts.Fields.{target_length, string_none_short, string_none, empty_target, bad_target}
 use Rattle.sftp_treefile.proofs.fields.target_at.Goals as goal
-use Rattle.sftp_treefile.proofs.fields.target_at.Goals.{then-is_empty-via-then-is_empty, then-is_empty-via-else-is_empty+then-not-good_path}
+use Rattle.sftp_treefile.proofs.fields.target_at.Goals.{then-is_empty-via-then-is_empty}
+use Rattle.sftp_treefile.proofs.fields.target_at.Goals.{then-is_empty-via-else-is_empty+then-not-good_path}
 
 pub returns-in_default-clause-none : goal.returns-in_default-clause-none
 returns-in_default-clause-none c =

@@ -2,7 +2,8 @@
 use Rattle.std.proofs.Common.{inr}
 use Rattle.std.proofs.lemmas.Result.{err_from_is_err_and}
 use Rattle.sftp_treefile.proofs.Texts.Entries.{or_fault}
-use Rattle.sftp_treefile.proofs.Texts.Heads.{opening_none, home_none, home_read, numbers_read, uid_none, gid_none, count_none, root_none, head_read}
+use Rattle.sftp_treefile.proofs.Texts.Heads.{opening_none, home_none, home_read, numbers_read, uid_none, gid_none}
+use Rattle.sftp_treefile.proofs.Texts.Heads.{count_none, root_none, head_read}
 use Rattle.sftp_treefile.proofs.heads.head_at.Goals as goal
 
 pub returns-in_err-rest-clause-none : goal.returns-in_err-rest-clause-none

@@ -50,7 +50,7 @@ parts c =
     let inside = c.self.inside in
     let number : c.new-number.result ≡ inside.made = c.new-number.ensures in
     let absent : node_at inside.names c.args.place ≡ None = ap (λ (t : Tree). node_at t.names c.args.place) c.self.view_is ∙ c.requires.absent in
-    let both = made-parts inside.names inside.files inside.made inside.limits inside.home inside.uid inside.gid c.args.place c.args.content c.self.invariant.0 c.self.invariant.1 absent c.put-2.new.self c.put.new.self (c.in_default.ensures.ok ∙ ap (λ n. with_node inside.names c.args.place (File n)) number) (c.in_ok-put.ensures.ok ∙ ap (λ n. put nat_cmp inside.files n (record { content = c.args.content; names = 1 })) number) in
+    let both = made-parts inside.names inside.files inside.made inside.limits inside.home inside.uid inside.gid c.args.place c.args.content c.self.invariant.0 c.self.invariant.1 absent c.put-2.new.self c.put.new.self (c.in_default.ensures.ok ∙ ap (λ n. with_node inside.names c.args.place (File n)) number) (c.in_ok-put.ensures.ok ∙ ap (λ n. put nat_cmp inside.files n (record { content = c.args.content; names = 1; pins = 0 })) number) in
     (both.0 ∙ ap (λ (t : Tree). with_new_file t c.args.place c.args.content) c.self.view_is, both.1)
 
 kept : (c : goal.After-self-1) → IsKept (with_new_file c.args.self.now c.args.place c.args.content)
