@@ -8,6 +8,7 @@ mod causes;
 mod directories;
 mod files;
 mod longest;
+mod open_files;
 mod pictures;
 
 /// The attributes that a request gives.

@@ -42,7 +42,8 @@ IsRoomRefusal fits NoMemory = fits ≡ true
 -- the tree after a WRITE to the file of a number
 abbrev pub with_written_file : Tree → ℕ → List ℕ → ℕ → Option Content → Tree
 with_written_file t offset new number None = t
-with_written_file t offset new number (Some content) = record t { files = with_content t.files number (written_content offset new content) }
+with_written_file t offset new number (Some content) =
+    record t { files = with_content t.files number (written_content offset new content) }
 
 abbrev pub after_write : Tree → ℕ → ℕ → List ℕ → Tree
 after_write t number offset new = with_written_file t offset new number (content_at t.files number)

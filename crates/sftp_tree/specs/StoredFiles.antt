@@ -29,7 +29,16 @@ pins_of stored = retain (with_values (λ (s : Stored). s.pins) stored) (λ e. na
 
 -- the tree of these parts
 abbrev pub seen : Names → Table ℕ Stored → ℕ → TreeLimits → Place → ℕ → ℕ → Tree
-seen names stored made limits home uid gid = record { names = names; files = contents stored; made = made; pins = pins_of stored; limits = limits; home = home; uid = uid; gid = gid }
+seen names stored made limits home uid gid = record {
+  names = names;
+  files = contents stored;
+  made = made;
+  pins = pins_of stored;
+  limits = limits;
+  home = home;
+  uid = uid;
+  gid = gid;
+}
 
 -- each count is that of the entries that are names of the file
 abbrev pub AreCounted : Names → Table ℕ Stored → Type 0

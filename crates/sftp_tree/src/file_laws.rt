@@ -1,5 +1,5 @@
-//! Laws of open files, as theorems on the definitions that the contracts name. The functions do nothing; each promise is
-//! in the contract.
+//! Laws of open files, as theorems on the definitions that the contracts name. The functions do nothing; each promise
+//! is in the contract.
 ghost use Rattle.std.specs.Prelude.{◌≡◌, ◌≢◌, ◌<◌, ◌+◌, ◌-◌, ℕ, List, [], take, drop, length, IsTrue};
 ghost use Rattle.std.specs.Ordering.{nat_cmp};
 ghost use Rattle.sftp_wire.specs.declared.attributes.Attrs.{Attrs};

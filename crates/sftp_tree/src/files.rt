@@ -72,7 +72,8 @@ impl Files {
     /// `NoMemory` if memory runs out; the files are then as before.
     #[tactic(auto, unfolding(sftp_path::specs::Table::put))]
     pub(crate) fn put(&mut self, number: FileNo, content: Content) -> Result<(), NoMemory>
-        ensures ok { OnOk result (self.new ≡ put nat_cmp self.old number (record { content = content; names = 1; pins = 0 })) }
+        ensures ok { OnOk result
+            (self.new ≡ put nat_cmp self.old number (record { content = content; names = 1; pins = 0 })) }
         ensures err { OnErr result (self.new ≡ self.old) }
     {
         self.by_number.insert(
@@ -196,7 +197,8 @@ fn raise(files: &mut BTreeMap<FileNo, Stored>, number: FileNo)
     }
 }
 
-/// Counts one name less of the file of a number, if there is one. The file is removed with its last name if it has no pin.
+/// Counts one name less of the file of a number, if there is one. The file is removed with its last name if it has no
+/// pin.
 fn lower(files: &mut BTreeMap<FileNo, Stored>, number: FileNo)
     requires { IfSome (get nat_cmp files.old.entries number) (λ s. 0 < s.names) }
     ensures { IsChanged without_a_name number files.old.entries files.new.entries }

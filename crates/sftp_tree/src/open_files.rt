@@ -45,7 +45,8 @@ impl Tree {
         requires { tree.HasFile self.old.files number }
         ensures room { OnOk result (IsTrue (changes.write_fits (tree.limits self.old) offset new.now)) }
         ensures done { OnOk result (self.new ≡ changes.after_write self.old number offset new.now) }
-        ensures refused { IfErr result (changes.IsRoomRefusal (changes.write_fits (tree.limits self.old) offset new.now)) }
+        ensures refused { IfErr result
+            (changes.IsRoomRefusal (changes.write_fits (tree.limits self.old) offset new.now)) }
         ensures kept { OnErr result (self.new ≡ self.old) }
     {
         if !self.write_fits(offset, new) {

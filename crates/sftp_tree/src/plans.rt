@@ -175,7 +175,7 @@ impl Tree {
         }
     }
 
-    /// Carries out a plan. A file is removed with its last name.
+    /// Carries out a plan. A file is removed with its last name if it is not pinned.
     ///
     /// # Errors
     ///

@@ -180,7 +180,7 @@ impl Tree {
     }
 
     /// Removes the node at a place: a link, a name of a file, or an empty directory that is not the root. A file is
-    /// removed with its last name.
+    /// removed with its last name if it is not pinned.
     pub(crate) fn remove_at(&mut self, place: &Place)
         requires taken { IsTrue (tree.is_taken (tree.node_at self.old.names place.now)) }
         requires below_root { is_root place.now ≡ false }
@@ -192,7 +192,7 @@ impl Tree {
     }
 
     /// Moves the node at the old place, with all below it, to the new one, and replaces the node there; a file is
-    /// removed with its last name. Neither place is the root, and no directory goes inside itself.
+    /// removed with its last name if it is not pinned. Neither place is the root, and no directory goes inside itself.
     ///
     /// # Errors
     ///

@@ -34,13 +34,15 @@ pins-of_files t number often well there =
     (λ other count found.
     by-number number other
     (λ is.
-    let at : (if nat_lt 0 often then Some often else None) ≡ Some count = sym (get-with_pins_here t.pins number often well.pins) ∙ ap (get nat_cmp (with_pins t.pins number often)) (sym is) ∙ found in
+    let at : pin_entry often ≡ Some count =
+    sym (get-with_pins_here t.pins number often well.pins) ∙ ap (get nat_cmp (with_pins t.pins number often)) (sym is)
+    ∙ found in
     (some-count often count at, ap (λ n. is_some (content_at t.files n)) is ∙ there))
     (λ differ.
     each-get nat_cmp nat_cmp-IsAntisymmetric (λ e. IsPin t.files e) t.pins other count well.pinned
     (sym (get-with_pins_elsewhere t.pins number often other well.pins differ) ∙ found)))
   where
-    some-count : (often count : ℕ) → (if nat_lt 0 often then Some often else None) ≡ Some count → 0 < count
+    some-count : (often count : ℕ) → pin_entry often ≡ Some count → 0 < count
     some-count often count = by (nat_lt 0 often) refl
       where
         by : (b : Bool) → nat_lt 0 often ≡ b → (if b then Some often else None) ≡ Some count → 0 < count
@@ -86,15 +88,18 @@ kept-unpin t number kept there =
     (fits-pins t (without_pin t.pins number) kept.within_limits)
 
 -- with a pin more each file is held still
-held-pinned : (t : Tree) (number other : ℕ) → InOrder nat_cmp t.pins → IsTrue (is_held t other) → IsTrue (is_held (after_pin t number) other)
+held-pinned : (t : Tree) (number other : ℕ) → InOrder nat_cmp t.pins → IsTrue (is_held t other)
+    → IsTrue (is_held (after_pin t number) other)
 held-pinned t number other order held =
+    let often = times_pinned t.pins number + 1 in
     by-number number other
     (λ is.
     or_right (is_named t.names other) (is_pinned (with_pin t.pins number) other)
     (ap (λ n. nat_lt 0 (times_pinned (with_pin t.pins number) n)) is
-    ∙ ap (nat_lt 0) (times_pinned-here t.pins number (times_pinned t.pins number + 1) order) ∙ lt-ltb 0 (times_pinned t.pins number + 1) (omega arith)))
+    ∙ ap (nat_lt 0) (times_pinned-here t.pins number often order) ∙ lt-ltb 0 often (omega arith)))
     (λ differ.
-    ap (λ n. is_named t.names other || nat_lt 0 n) (times_pinned-elsewhere t.pins number (times_pinned t.pins number + 1) other order differ) ∙ held)
+    ap (λ n. is_named t.names other || nat_lt 0 n) (times_pinned-elsewhere t.pins number often other order differ)
+    ∙ held)
 
 pub kept-pin : (t : Tree) (number : ℕ) → IsKept t → HasFile t.files number → IsKept (after_pin t number)
 kept-pin t number kept there = record {
@@ -108,7 +113,8 @@ kept-pin t number kept there = record {
 -- ---- pins as a table
 
 -- the entry of a file is its count, if that is not 0
-get-counted : (pins : Pins) (number : ℕ) → AllByRecursion (λ e. 0 < e.1) pins → get nat_cmp pins number ≡ pin_entry (times_pinned pins number)
+get-counted : (pins : Pins) (number : ℕ) → AllByRecursion (λ e. 0 < e.1) pins
+    → get nat_cmp pins number ≡ pin_entry (times_pinned pins number)
 get-counted pins number some = by (get nat_cmp pins number) refl
   where
     by : (o : Option ℕ) → get nat_cmp pins number ≡ o → o ≡ pin_entry (unwrap_or o 0)
@@ -137,48 +143,65 @@ pub pins-counted : (files : Table ℕ Stored) (number : ℕ) → InOrder nat_cmp
 pins-counted files number order = sym (times_pinned-stored files number order)
 
 -- there is room for a pin more
-pub room-to-pin : (files : Table ℕ Stored) (number : ℕ) → InOrder nat_cmp files → times_pinned (pins_of files) number < 2 ^ 32
+pub room-to-pin : (files : Table ℕ Stored) (number : ℕ) → InOrder nat_cmp files
+    → times_pinned (pins_of files) number < 2 ^ 32
     → IfSome (get nat_cmp files number) (λ s. s.pins < 2 ^ 32)
 room-to-pin files number order few =
     each-some (λ (s : Stored). s.pins < 2 ^ 32) (get nat_cmp files number) (λ s there.
     subst (λ n. n < 2 ^ 32) (times_pinned-stored files number order ∙ ap pin_count_at there) few)
 
 -- there is a pin to lose
-pub pin-to-lose : (files : Table ℕ Stored) (number : ℕ) → InOrder nat_cmp files → IsTrue (is_pinned (pins_of files) number)
+pub pin-to-lose : (files : Table ℕ Stored) (number : ℕ) → InOrder nat_cmp files
+    → IsTrue (is_pinned (pins_of files) number)
     → IfSome (get nat_cmp files number) (λ s. 0 < s.pins)
 pin-to-lose files number order pinned =
     each-some (λ (s : Stored). 0 < s.pins) (get nat_cmp files number) (λ s there.
-    subst (λ n. 0 < n) (times_pinned-stored files number order ∙ ap pin_count_at there) (ltb-true 0 (times_pinned (pins_of files) number) pinned))
+    subst (λ n. 0 < n) (times_pinned-stored files number order ∙ ap pin_count_at there)
+    (ltb-true 0 (times_pinned (pins_of files) number) pinned))
 
 -- names stay counted where the change leaves a file's names
-counted-still : (names : Names) (files after : Table ℕ Stored) (change : Stored → Option Stored) (number : ℕ) → AreCounted names files
-    → ((s left : Stored) → change s ≡ Some left → left.names ≡ s.names) → IsChanged change number files after → AreCounted names after
+counted-still : (names : Names) (files after : Table ℕ Stored) (change : Stored → Option Stored) (number : ℕ)
+    → AreCounted names files → ((s left : Stored) → change s ≡ Some left → left.names ≡ s.names)
+    → IsChanged change number files after → AreCounted names after
 counted-still names files after change number counted keeps changed =
     at-entries (λ other (s : Stored). s.names ≡ times_named names other) after changed.ordered (λ other s there.
     by-number number other
-    (λ is. by (get nat_cmp files number) refl s (sym changed.here ∙ ap (get nat_cmp after) (sym is) ∙ there) ∙ ap (times_named names) (sym is))
+    (λ is.
+    by (get nat_cmp files number) refl s (sym changed.here ∙ ap (get nat_cmp after) (sym is) ∙ there)
+    ∙ ap (times_named names) (sym is))
     (λ differ. count-at names files counted other s (sym (changed.others other differ) ∙ there)))
   where
-    by : (o : Option Stored) → get nat_cmp files number ≡ o → (s : Stored) → option_and_then change o ≡ Some s → s.names ≡ times_named names number
+    by : (o : Option Stored) → get nat_cmp files number ≡ o → (s : Stored) → option_and_then change o ≡ Some s
+        → s.names ≡ times_named names number
     by None there s is = absurd cc
     by (Some before) there s is = keeps before s is ∙ count-at names files counted number before there
+
+-- what of a stored file is its content
+abbrev content_in : Option Stored → Option Content
+content_in o = option_map (λ (s : Stored). s.content) o
 
 module _ (names : Names) (files : Table ℕ Stored) (made : ℕ) (limits : TreeLimits) (home : Place) (uid gid : ℕ) where
   abbrev the_tree : Tree
   the_tree = seen names files made limits home uid gid
 
+  -- other files
+  abbrev tree_of : Table ℕ Stored → Tree
+  tree_of after = seen names after made limits home uid gid
+
   -- with a pin more
-  pub pin-parts : IsKept the_tree → AreCounted names files → (number : ℕ) (after : Table ℕ Stored) → HasFile (contents files) number
-      → IsChanged with_a_pin number files after → (seen names after made limits home uid gid ≡ after_pin the_tree number) × AreCounted names after
+  pub pin-parts : IsKept the_tree → AreCounted names files → (number : ℕ) (after : Table ℕ Stored)
+      → HasFile (contents files) number → IsChanged with_a_pin number files after
+      → (tree_of after ≡ after_pin the_tree number) × AreCounted names after
   pin-parts kept counted number after there changed = (
-    (λ i. record { names = names; files = same i; made = made; pins = pins i; limits = limits; home = home; uid = uid; gid = gid }),
-    counted-still names files after with_a_pin number counted (λ s left is. sym (ap (λ (s : Stored). s.names) (same_Some _ left is))) changed,
+    (λ i. record the_tree { files = same i; pins = pins i }),
+    counted-still names files after with_a_pin number counted
+        (λ s left is. sym (ap (λ (s : Stored). s.names) (same_Some _ left is))) changed,
   )
     where
       order : InOrder nat_cmp files
       order = files-in_order files kept.well_formed.numbered
 
-      content : (o : Option Stored) → option_map (λ (s : Stored). s.content) (option_and_then with_a_pin o) ≡ option_map (λ (s : Stored). s.content) o
+      content : (o : Option Stored) → content_in (option_and_then with_a_pin o) ≡ content_in o
       content None = refl
       content (Some s) = refl
 
@@ -187,26 +210,30 @@ module _ (names : Names) (files : Table ℕ Stored) (made : ℕ) (limits : TreeL
           same-contents files after order changed.ordered (λ other.
           by-number number other
           (λ is.
-          ap (λ k. option_map (λ (s : Stored). s.content) (get nat_cmp after k)) is ∙ ap (option_map (λ (s : Stored). s.content)) changed.here
-          ∙ content (get nat_cmp files number) ∙ ap (λ k. option_map (λ (s : Stored). s.content) (get nat_cmp files k)) (sym is))
-          (λ differ. ap (option_map (λ (s : Stored). s.content)) (changed.others other differ)))
+          ap (λ k. content_in (get nat_cmp after k)) is ∙ ap content_in changed.here
+          ∙ content (get nat_cmp files number) ∙ ap (λ k. content_in (get nat_cmp files k)) (sym is))
+          (λ differ. ap content_in (changed.others other differ)))
 
-      more : (o : Option Stored) → is_some (option_map (λ (s : Stored). s.content) o) ≡ true → pin_count_at (option_and_then with_a_pin o) ≡ pin_count_at o + 1
+      more : (o : Option Stored) → is_some (content_in o) ≡ true
+          → pin_count_at (option_and_then with_a_pin o) ≡ pin_count_at o + 1
       more None there = absurd cc
       more (Some s) there = refl
 
       pins : pins_of after ≡ with_pin (pins_of files) number
       pins =
           changed-pins_to with_a_pin number files after (times_pinned (pins_of files) number + 1) order changed
-          (more (get nat_cmp files number) (ap is_some (sym (get-with_values nat_cmp (λ (s : Stored). s.content) files number)) ∙ there)
+          (more (get nat_cmp files number)
+          (ap is_some (sym (get-with_values nat_cmp (λ (s : Stored). s.content) files number)) ∙ there)
           ∙ ap (λ n. n + 1) (pins-counted files number order))
 
   -- with a pin less
   pub unpin-parts : IsKept the_tree → AreCounted names files → (number : ℕ) (after : Table ℕ Stored)
-      → IsChanged without_a_pin number files after → (seen names after made limits home uid gid ≡ after_unpin the_tree number) × AreCounted names after
+      → IsChanged without_a_pin number files after
+      → (tree_of after ≡ after_unpin the_tree number) × AreCounted names after
   unpin-parts is_kept counted number after changed = (
-    (λ i. record { names = names; files = same i; made = made; pins = pins i; limits = limits; home = home; uid = uid; gid = gid }),
-    counted-still names files after without_a_pin number counted (λ s left is. ap (λ (s : Stored). s.names) (left-where_held (record s { pins = s.pins - 1 }) left is)) changed,
+    (λ i. record the_tree { files = same i; pins = pins i }),
+    counted-still names files after without_a_pin number counted
+        (λ s left is. ap (λ (s : Stored). s.names) (left-where_held (record s { pins = s.pins - 1 }) left is)) changed,
   )
     where
       order : InOrder nat_cmp files
@@ -230,7 +257,8 @@ module _ (names : Names) (files : Table ℕ Stored) (made : ℕ) (limits : TreeL
           changed-pins_to without_a_pin number files after (times_pinned (pins_of files) number - 1) order changed
           (less (get nat_cmp files number) ∙ ap (λ n. n - 1) (pins-counted files number order))
 
-      still : (s : Stored) → get nat_cmp files number ≡ Some s → is_held_still (record s { pins = s.pins - 1 }) ≡ keeps (number, s.content)
+      still : (s : Stored) → get nat_cmp files number ≡ Some s
+          → is_held_still (record s { pins = s.pins - 1 }) ≡ keeps (number, s.content)
       still s there =
           let named : s.names ≡ times_named names number = count-at names files counted number s there in
           let left : s.pins - 1 ≡ times_pinned fewer number =
@@ -238,14 +266,19 @@ module _ (names : Names) (files : Table ℕ Stored) (made : ℕ) (limits : TreeL
           ∙ sym (times_pinned-here (pins_of files) number (times_pinned (pins_of files) number - 1) in_order) in
           λ i. nat_lt 0 (named i) || nat_lt 0 (left i)
 
-      was-held : (other : ℕ) (s : Stored) → get nat_cmp files other ≡ Some s → stays (is_pinned (pins_of files)) names (other, s.content) ≡ true
+      was-held : (other : ℕ) (s : Stored) → get nat_cmp files other ≡ Some s
+          → stays (is_pinned (pins_of files)) names (other, s.content) ≡ true
       was-held other s there =
-          at-number (λ number (content : Content). stays (is_pinned (pins_of files)) names (number, content) ≡ true) (contents files) is_kept.trimmed other s.content
-          (get-with_values nat_cmp (λ (s : Stored). s.content) files other ∙ ap (option_map (λ (s : Stored). s.content)) there)
+          at-number (λ number (content : Content). stays (is_pinned (pins_of files)) names (number, content) ≡ true)
+          (contents files) is_kept.trimmed other s.content
+          (get-with_values nat_cmp (λ (s : Stored). s.content) files other ∙ ap content_in there)
 
-      elsewhere : (other : ℕ) → other ≢ number → (s : Stored) → get nat_cmp files other ≡ Some s → keeps (other, s.content) ≡ true
+      elsewhere : (other : ℕ) → other ≢ number → (s : Stored) → get nat_cmp files other ≡ Some s
+          → keeps (other, s.content) ≡ true
       elsewhere other differ s there =
-          ap (λ n. is_named names other || nat_lt 0 n) (times_pinned-elsewhere (pins_of files) number (times_pinned (pins_of files) number - 1) other in_order differ)
+          let left = times_pinned (pins_of files) number - 1 in
+          ap (λ n. is_named names other || nat_lt 0 n)
+          (times_pinned-elsewhere (pins_of files) number left other in_order differ)
           ∙ was-held other s there
 
       same : contents after ≡ retain (contents files) keeps
@@ -253,9 +286,9 @@ module _ (names : Names) (files : Table ℕ Stored) (made : ℕ) (limits : TreeL
           left-contents names names files keeps after order changed.ordered (λ other.
           by-number number other
           (λ is.
-          ap (λ k. option_map (λ (s : Stored). s.content) (get nat_cmp after k)) is ∙ ap (option_map (λ (s : Stored). s.content)) changed.here
+          ap (λ k. content_in (get nat_cmp after k)) is ∙ ap content_in changed.here
           ∙ gone-content number keeps (λ s. record s { pins = s.pins - 1 }) (get nat_cmp files number) (λ s. refl) still
-          ∙ ap (λ k. kept keeps k (option_map (λ (s : Stored). s.content) (get nat_cmp files k))) (sym is))
+          ∙ ap (λ k. kept keeps k (content_in (get nat_cmp files k))) (sym is))
           (λ differ.
-          ap (option_map (λ (s : Stored). s.content)) (changed.others other differ)
+          ap content_in (changed.others other differ)
           ∙ stayed-content other keeps (get nat_cmp files other) (elsewhere other differ)))

@@ -64,14 +64,21 @@ write-room t number offset new within there = by (content_at t.files number) ref
         ∙ size-written (limits t) offset new content.bytes (content-fits t number content within is)
 
 -- what is written ends below the largest size
-pub is-writable : (t : Tree) (offset : ℕ) (new : List ℕ) → IsKept t → IsTrue (write_fits (limits t) offset new) → IsWritable offset new
+pub is-writable : (t : Tree) (offset : ℕ) (new : List ℕ) → IsKept t → IsTrue (write_fits (limits t) offset new)
+    → IsWritable offset new
 is-writable t offset new kept fit =
-    by (length new) (offset + length new) (subst (λ (bounds : TreeLimits). IsTrue (write_fits bounds offset new)) kept.well_formed.limits fit)
+    by (length new) (offset + length new)
+    (subst (λ (bounds : TreeLimits). IsTrue (write_fits bounds offset new)) kept.well_formed.limits fit)
   where
     by : (n m : ℕ) → (n == 0 || nat_le m 16777216) ≡ true → 0 < n → m < 2 ^ 63
     by n m fit some = grind (arith, nat_tests)
 
 -- ---- the tree
+
+content-of : (t : Tree) (number : ℕ) (content : Content) → IsKept t → content_at t.files number ≡ Some content
+    → IsContent content
+content-of t number content kept is =
+    each-get nat_cmp nat_cmp-IsAntisymmetric (λ e. IsContent e.1) t.files number content kept.well_formed.contents is
 
 overwritten-bytes : (offset : ℕ) (new bytes : List ℕ) → IsTrue (are_bytes new) → IsTrue (are_bytes bytes)
     → IsTrue (are_bytes (overwritten offset new bytes))
@@ -98,10 +105,11 @@ kept-write t number offset new kept fit room = by (content_at t.files number) re
     by : (o : Option Content) → content_at t.files number ≡ o → IsKept (with_written_file t offset new number o)
     by None is = kept
     by (Some content) is =
-        let before : IsContent content = each-get nat_cmp nat_cmp-IsAntisymmetric (λ e. IsContent e.1) t.files number content kept.well_formed.contents is in
+        let before : IsContent content = content-of t number content kept is in
         let within =
         fits-content t number (written_content offset new content) kept.within_limits
-        ∙ size-written (limits t) offset new content.bytes (content-fits t number content kept.within_limits is) ∙ room in
+        ∙ size-written (limits t) offset new content.bytes (content-fits t number content kept.within_limits is)
+        ∙ room in
         kept-content-within t number content (written_content offset new content) kept is
         (before.0, written-bytes offset new content.bytes fit before.1) within
 
@@ -110,9 +118,7 @@ pub kept-set : (t : Tree) (number : ℕ) (attrs : Attrs) → IsKept t → FitsAt
     → IsTrue (size_fits (limits t) attrs.size) → IsKept (after_set t number attrs)
 kept-set t number attrs kept fits there room =
     kept-changed t attrs number kept
-    (λ content is.
-    changed-owner-fits attrs content.owner fits
-    (each-get nat_cmp nat_cmp-IsAntisymmetric (λ e. IsContent e.1) t.files number content kept.well_formed.contents is).0)
+    (λ content is. changed-owner-fits attrs content.owner fits (content-of t number content kept is).0)
     (changed-room t attrs number kept (content_at t.files number) refl there ∙ room)
 
 -- ---- what is read after a WRITE

@@ -10,14 +10,19 @@ use Rattle.sftp_tree.proofs.files.pin.Goals as goal
 pub overflow_add-stored : goal.overflow_add-stored
 unfolding get
 overflow_add-stored c =
-    let few : c.in-Some.stored.now.pins < 2 ^ 32 = MatchOption-at_some _ (λ (s : Stored). s.pins < 2 ^ 32) c.in-Some.stored.now (sym c.in-Some.ensures.value) c.requires in
+    let few : c.in-Some.stored.now.pins < 2 ^ 32 =
+    MatchOption-at_some _ (λ (s : Stored). s.pins < 2 ^ 32) c.in-Some.stored.now (sym c.in-Some.ensures.value)
+    c.requires in
     omega arith
 
 pub returns-in-Some : goal.returns-in-Some
 returns-in-Some c =
     let w : Stored = record c.in-Some.stored.now { pins = c.in-Some.stored.now.pins + 1 } in
-    changed-written with_a_pin c.args.number c.args.files.now (c.get_mut.follows.lender w) c.in-Some.stored.now w (sym c.in-Some.ensures.value) refl (c.get_mut.follows.holds w)
+    changed-written with_a_pin c.args.number c.args.files.now (c.get_mut.follows.lender w) c.in-Some.stored.now w
+    (sym c.in-Some.ensures.value) refl (c.get_mut.follows.holds w)
 
 pub returns-in_default : goal.returns-in_default
 returns-in_default c =
-    changed-nowhere with_a_pin c.args.number c.args.files.now c.get_mut.follows.lender-at-none c.get_mut.ensures.ordered (sym c.get_mut.ensures.value ∙ ap option_copied_mut c.in_default.is) c.get_mut.follows.holds-at-none
+    changed-nowhere with_a_pin c.args.number c.args.files.now c.get_mut.follows.lender-at-none
+    c.get_mut.ensures.ordered (sym c.get_mut.ensures.value ∙ ap option_copied_mut c.in_default.is)
+    c.get_mut.follows.holds-at-none

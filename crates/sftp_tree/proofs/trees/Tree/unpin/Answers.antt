@@ -1,4 +1,6 @@
-use Rattle.std.proofs.Common.{◌≡◌, sym, ap, subst, ◌∙◌}
+use Rattle.std.proofs.Common.{◌≡◌, ℕ, sym, ap, subst, ◌∙◌}
+use Rattle.sftp_path.specs.Table.{Table}
+use Rattle.sftp_tree.specs.declared.file_contents.Stored.{Stored}
 use Rattle.sftp_tree.specs.Tree.{Tree, IsKept, is_pinned}
 use Rattle.sftp_tree.specs.StoredFiles.{seen, AreCounted}
 use Rattle.sftp_tree.specs.FileChanges.{after_unpin}
@@ -8,18 +10,28 @@ use Rattle.sftp_tree.proofs.trees.Tree.unpin.Goals as goal
 
 pub unpin-requires : goal.unpin-requires
 unpin-requires c =
-    pin-to-lose c.self.inside.files c.args.number (files-in_order c.self.inside.files c.self.invariant.0.well_formed.numbered)
+    pin-to-lose c.self.inside.files c.args.number
+    (files-in_order c.self.inside.files c.self.invariant.0.well_formed.numbered)
     (ap (λ (t : Tree). is_pinned t.pins c.args.number) c.self.view_is ∙ c.requires.pinned)
 
+-- the tree with other files
+abbrev with_files : (c : goal.After-unpin) → Table ℕ Stored → Tree
+with_files c files =
+    seen c.self.inside.names files c.self.inside.made c.self.inside.limits c.self.inside.home c.self.inside.uid
+    c.self.inside.gid
+
 -- the tree afterwards, and its counts
-parts : (c : goal.After-unpin) → (seen c.self.inside.names c.unpin.new.self c.self.inside.made c.self.inside.limits c.self.inside.home c.self.inside.uid c.self.inside.gid ≡ after_unpin c.args.self.now c.args.number) × AreCounted c.self.inside.names c.unpin.new.self
+parts : (c : goal.After-unpin)
+    → (with_files c c.unpin.new.self ≡ after_unpin c.args.self.now c.args.number) × AreCounted c.self.inside.names c.unpin.new.self
 parts c =
-    let both = unpin-parts c.self.inside.names c.self.inside.files c.self.inside.made c.self.inside.limits c.self.inside.home c.self.inside.uid c.self.inside.gid c.self.invariant.0 c.self.invariant.1 c.args.number c.unpin.new.self c.unpin.ensures in
+    let both = unpin-parts c.self.inside.names c.self.inside.files c.self.inside.made c.self.inside.limits c.self.inside.home
+    c.self.inside.uid c.self.inside.gid c.self.invariant.0 c.self.invariant.1 c.args.number c.unpin.new.self c.unpin.ensures in
     (both.0 ∙ ap (λ (t : Tree). after_unpin t c.args.number) c.self.view_is, both.1)
 
 pub invariant_of-self : goal.invariant_of-self
 invariant_of-self c =
-    let kept = kept-unpin c.args.self.now c.args.number (subst IsKept c.self.view_is c.self.invariant.0) c.requires.file in
+    let before = subst IsKept c.self.view_is c.self.invariant.0 in
+    let kept = kept-unpin c.args.self.now c.args.number before c.requires.file in
     (subst IsKept (sym (parts c).0) kept, (parts c).1)
 
 pub returns : goal.returns
