@@ -1,8 +1,7 @@
 -- More laws of a directory that moves in a table of places: what is counted, an entry with none below it, and
 -- the move entry by entry.
-use Rattle.std.proofs.Common.{◌≡◌, ◌≢◌, ◌+◌, Bool, true, false, cond, [], ◌∷◌, ◌++◌, length, drop, map, refl, sym, ap}
-use Rattle.std.proofs.Common.{◌∙◌, arith, Some, None, inl, inr, true≢false}
-use Rattle.std.specs.Ordering.{is_eq}
+use Rattle.std.proofs.Common.{◌≡◌, ◌≢◌, ◌+◌, Bool, true, false, [], ◌∷◌, ◌++◌, length, drop, map, refl, sym, ap, ◌∙◌}
+use Rattle.std.proofs.Common.{arith, Some, None, inl, inr, true≢false}
 use Rattle.std.specs.declared.cmp.Ordering.TheVariants.{Equal}
 use Rattle.std.specs.Map.{keys_of}
 use Rattle.std.proofs.lemmas.Bool.{cases_Bool}
@@ -118,12 +117,7 @@ module _ {X : Type 0} (old new : Place) where
 
   away-none : (table : Table Place X) (place : Place) → InOrder place_cmp table → get place_cmp table place ≡ None
       → get place_cmp (without place_cmp table old) place ≡ None
-  away-none table place order none =
-      get-without place_cmp place_cmp-total table old place order ∙ either (is_eq (place_cmp old place))
-    where
-      either : (b : Bool) → cond b None (get place_cmp table place) ≡ None
-      either true = refl
-      either false = none
+  away-none table place order none = grind (arith, get-without, place_cmp-total)
 
   module _ (table : Table Place X) (value : X) where
     abbrev moved_alone : Table Place X
@@ -132,8 +126,7 @@ module _ {X : Type 0} (old new : Place) where
     -- elsewhere than at the new place
     other : (place : Place) → (place ≡ new → ⊥)
         → get place_cmp moved_alone place ≡ get place_cmp (without place_cmp table old) place
-    other place apart = get-put_elsewhere place_cmp place_cmp-total (without place_cmp table old) new place value
-        (differ place new apart)
+    other place apart = simp (get-put_elsewhere, place_cmp-total, differ)
 
     pub rekeyed-alone : InOrder place_cmp table → get place_cmp table old ≡ Some value
         → ((name : Name) (names : Place) → get place_cmp table (old ++ name ∷ names) ≡ None) → NothingFrom table new

@@ -47,8 +47,7 @@ module _ {K X : Type 0} (passes : X → Bool) where
     count-insert_new : (es : Table K X) (key : K) (value : X) → lookup (is_at (cmp key)) es ≡ None
         → length (filter of_value (insert_entry cmp es key value)) ≡ length (filter of_value es) + one_if (passes value)
     count-insert_new [] key value absent = count-cons (key, value) [] ∙ omega arith
-    count-insert_new (e ∷ es) key value absent =
-        new-turn key value e es (insert_entry cmp es key value) (cmp key e.0) absent (count-insert_new es key value)
+    count-insert_new (e ∷ es) key value absent = simp (new-turn, count-insert_new es key value)
 
     -- ---- a key taken away
 
@@ -56,17 +55,7 @@ module _ {K X : Type 0} (passes : X → Bool) where
         → length (filter of_value (remove_entry (is_at (cmp key)) es)) + one_if (passes value)
         ≡ length (filter of_value es)
     count-remove [] key value there = cc
-    count-remove (e ∷ es) key value there = by (is_eq (cmp key e.0)) (count-remove es key value) there
-      where
-        by : (b : Bool)
-            → (lookup (is_at (cmp key)) es ≡ Some value → length (filter of_value (remove_entry (is_at (cmp key)) es)) + one_if (passes value) ≡ length (filter of_value es))
-            → cond b (Some e.1) (lookup (is_at (cmp key)) es) ≡ Some value
-            → length (filter of_value (cond b es (e ∷ remove_entry (is_at (cmp key)) es))) + one_if (passes value)
-            ≡ length (filter of_value (e ∷ es))
-        by true rest is =
-            let same : e.1 ≡ value = cc in
-            omega (arith, count-cons e es, ap (λ x. one_if (passes x)) same)
-        by false rest is = omega (arith, count-cons e es, count-cons e (remove_entry (is_at (cmp key)) es), rest is)
+    count-remove (e ∷ es) key value there = grind (arith, count-cons, count-remove es key value)
 
     -- ---- another value at a key, by the laws of an order
 
@@ -77,14 +66,9 @@ module _ {K X : Type 0} (passes : X → Bool) where
           → (lookup (is_at (cmp key)) es ≡ Some old → length (filter of_value more) + one_if (passes old) ≡ length (filter of_value es) + one_if (passes value))
           → length (filter of_value (match_ordering o ((key, value) ∷ e ∷ es) ((e.0, value) ∷ es) (e ∷ more))) + one_if (passes old) ≡ length (filter of_value (e ∷ es)) + one_if (passes value)
       again-turn key value old e es more Less is order there there_o rest =
-          let none : lookup (is_at (cmp key)) (e ∷ es) ≡ None =
-          lookup-none (is_at (cmp key)) (e ∷ es) (none_below_head total key e es order is) in
-          cc
-      again-turn key value old e es more Equal is order there there_o rest =
-          let same : e.1 ≡ old = cc in
-          omega (arith, count-cons e es, count-cons (e.0, value) es, ap (λ x. one_if (passes x)) same)
-      again-turn key value old e es more Greater is order there there_o rest =
-          omega (arith, count-cons e es, count-cons e more, rest there_o)
+          grind (arith, lookup-none, none_below_head)
+      again-turn key value old e es more Equal is order there there_o rest = grind (arith, count-cons)
+      again-turn key value old e es more Greater is order there there_o rest = grind (arith, count-cons)
 
       count-insert_again : (es : Table K X) (key : K) (value old : X) → InOrder cmp es
           → lookup (is_at (cmp key)) es ≡ Some old

@@ -136,14 +136,7 @@ module _ {K X : Type 0} (cmp : K → K → Ordering) where
   length-remove : (es : Table K X) (key : K) (value : X) → lookup (is_at (cmp key)) es ≡ Some value
       → length (remove_entry (is_at (cmp key)) es) + 1 ≡ length es
   length-remove [] key value there = cc
-  length-remove (e ∷ es) key value there = by (is_eq (cmp key e.0)) (length-remove es key value) there
-    where
-      by : (b : Bool)
-          → (lookup (is_at (cmp key)) es ≡ Some value → length (remove_entry (is_at (cmp key)) es) + 1 ≡ length es)
-          → cond b (Some e.1) (lookup (is_at (cmp key)) es) ≡ Some value
-          → length (cond b es (e ∷ remove_entry (is_at (cmp key)) es)) + 1 ≡ length (e ∷ es)
-      by true rest is = omega arith
-      by false rest is = omega (arith, rest is)
+  length-remove (e ∷ es) key value there = grind (arith, length-remove es key value)
 
   -- to take away what is there leaves one less
   pub size-without : (es : Table K X) (key : K) (value : X) → get cmp es key ≡ Some value
@@ -156,12 +149,7 @@ module _ {K X : Type 0} (cmp : K → K → Ordering) where
   all-filter : (P : K → Type 0) (keeps : K × X → Bool) (es : Table K X) → AllByRecursion P (keys_of es)
       → AllByRecursion P (keys_of (filter keeps es))
   all-filter P keeps [] h = tt
-  all-filter P keeps (e ∷ es) h = by (keeps e) (all-filter P keeps es h.1)
-    where
-      by : (b : Bool) → AllByRecursion P (keys_of (filter keeps es))
-          → AllByRecursion P (keys_of (cond b (e ∷ filter keeps es) (filter keeps es)))
-      by true rest = (h.0, rest)
-      by false rest = rest
+  all-filter P keeps (e ∷ es) h = grind (arith, all-filter P keeps es h.1)
 
   sorted-filter : (keeps : K × X → Bool) (es : Table K X) → InOrder cmp es → InOrder cmp (filter keeps es)
   unfolding IsStrictlySortedBy
@@ -209,13 +197,11 @@ module _ {K X : Type 0} (cmp : K → K → Ordering) where
         ∙ ap (cond (is_eq (cmp at key)) (Some value)) (sym (get-is at es))
 
     pub get-put_here : (es : Table K X) (key : K) (value : X) → get cmp (put cmp es key value) key ≡ Some value
-    get-put_here es key value =
-        get-put es key value key ∙ ap (λ o. cond (is_eq o) (Some value) (get cmp es key)) (tied_itself total key)
+    get-put_here es key value = grind (arith, get-put, tied_itself)
 
     pub get-put_elsewhere : (es : Table K X) (key other : K) (value : X) → cmp other key ≢ Equal
         → get cmp (put cmp es key value) other ≡ get cmp es other
-    get-put_elsewhere es key other value differ =
-        get-put es key value other ∙ ap (λ b. cond b (Some value) (get cmp es other)) (apart (cmp other key) differ)
+    get-put_elsewhere es key other value differ = simp (get-put, apart)
 
     pub InOrder-put : (es : Table K X) (key : K) (value : X) → InOrder cmp es → InOrder cmp (put cmp es key value)
     InOrder-put es key value h =
@@ -240,20 +226,16 @@ module _ {K X : Type 0} (cmp : K → K → Ordering) where
     get-without = lookup-without
 
     pub get-without_here : (es : Table K X) (key : K) → InOrder cmp es → get cmp (without cmp es key) key ≡ None
-    get-without_here es key h =
-        get-without es key key h ∙ ap (λ o. cond (is_eq o) None (get cmp es key)) (tied_itself total key)
+    get-without_here es key h = grind (arith, get-without, tied_itself)
 
     pub get-without_elsewhere : (es : Table K X) (key other : K) → InOrder cmp es → cmp key other ≢ Equal
         → get cmp (without cmp es key) other ≡ get cmp es other
-    get-without_elsewhere es key other h differ =
-        get-without es key other h ∙ ap (λ b. cond b None (get cmp es other)) (apart (cmp key other) differ)
+    get-without_elsewhere es key other h differ = simp (get-without, apart)
 
     pub get-from_entries : (es : List (K × X)) (at : K) → get cmp (from_entries cmp es) at ≡ get cmp es at
     unfolding from_entries
     get-from_entries [] at = refl
-    get-from_entries (e ∷ es) at =
-        get-put (from_entries cmp es) e.0 e.1 at ∙ ap (cond (is_eq (cmp at e.0)) (Some e.1)) (get-from_entries es at)
-        ∙ sym (get-cons e es at)
+    get-from_entries (e ∷ es) at = simp (get-put, get-cons, get-from_entries es at)
 
     pub InOrder-from_entries : (es : List (K × X)) → InOrder cmp (from_entries cmp es)
     unfolding from_entries IsStrictlySortedBy

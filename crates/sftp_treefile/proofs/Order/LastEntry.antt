@@ -157,15 +157,7 @@ module _ (rows : List Row) (last : Place) (last_is : Bool) (fits : IsLast rows l
 -- ---- the last entry, one entry more
 
 pub no_last : IsLast [] [] true
-no_last = record {
-  later = λ place below. ((λ less. tt), (λ each. root_first place below));
-  above = λ depth less. absurd (omega arith);
-  itself = root_dir [];
-}
-  where
-    root_first : (place : Place) → 0 < length place → place_cmp [] place ≡ Less
-    root_first [] below = absurd (omega arith)
-    root_first (n ∷ ns) below = refl
+no_last = grind (arith, root_dir)
 
 all_weaker : (P Q : Row → Type 0) (rows : List Row) → ((r : Row) → P r → Q r) → AllByRecursion P rows
     → AllByRecursion Q rows

@@ -2,14 +2,13 @@
 use Rattle.std.proofs.Common.{◌≡◌, ℕ, ◌<◌, List, [], ◌++◌, length, sym, ap, subst, ◌∙◌, append_assoc, arith, inl, inr}
 use Rattle.std.specs.List.{flat_map}
 use Rattle.std.proofs.lemmas.List.{append-nil, nil_from_length}
-use Rattle.sftp_wire.specs.Spelling.{uint32, string}
 use Rattle.sftp_treefile.specs.declared.errors.TreeError.{TreeError}
 use Rattle.sftp_treefile.specs.declared.errors.TreeError.TheVariants.{NoMemory}
 use Rattle.sftp_treefile.specs.declared.files.Row.{Row}
 use Rattle.sftp_treefile.specs.declared.files.TreeFile.{TreeFile}
 use Rattle.sftp_treefile.specs.declared.heads.Head.{Head}
 use Rattle.sftp_treefile.specs.declared.limits.TreeLimits.{TreeLimits}
-use Rattle.sftp_treefile.specs.TreeFile.{tree_opening, owner_text, row_text, spelled, AreRows, IsTreeFile, IsSpelled}
+use Rattle.sftp_treefile.specs.TreeFile.{row_text, spelled, AreRows, IsTreeFile, IsSpelled}
 use Rattle.sftp_treefile.specs.TreeFileParts.{Reads, ReadsNone, OutOfMemoryOr, head_bytes, IsHead, head_text, AreRead}
 use Rattle.sftp_treefile.specs.TreeFileParts.{AreNone}
 use Rattle.sftp_treefile.proofs.Texts.Fields.{usual_file_bytes}
@@ -29,12 +28,7 @@ head_fits file fits = grind arith
 
 spelled_parts : (file : TreeFile) → spelled file ≡ head_bytes (head_of file) ++ flat_map row_text file.rows
 unfolding spelled head_of
-spelled_parts file =
-    by (string file.home) (uint32 file.uid) (uint32 file.gid) (uint32 (length file.rows)) (owner_text file.root) (flat_map row_text file.rows)
-  where
-    by : (a b c d e f : List ℕ)
-        → tree_opening ++ (a ++ (b ++ (c ++ (d ++ (e ++ f))))) ≡ (tree_opening ++ (a ++ (b ++ (c ++ (d ++ e))))) ++ f
-    by a b c d e f = simp append_assoc
+spelled_parts file = simp (append_assoc)
 
 -- the same for those who write a tree by its pieces
 pub spelled_head : (file : TreeFile) → spelled file
@@ -120,9 +114,4 @@ file_read bytes rest more head rows read all ended = grind (arith, nil_from_leng
 
 pub head_written : (file : TreeFile) → spelled file ≡ head_text file ++ flat_map row_text file.rows
 unfolding spelled
-head_written file =
-    by (string file.home) (uint32 file.uid) (uint32 file.gid) (uint32 (length file.rows)) (owner_text file.root) (flat_map row_text file.rows)
-  where
-    by : (a b c d e f : List ℕ)
-        → tree_opening ++ (a ++ (b ++ (c ++ (d ++ (e ++ f))))) ≡ ((tree_opening ++ (a ++ (b ++ c))) ++ (d ++ e)) ++ f
-    by a b c d e f = simp append_assoc
+head_written file = grind (arith, append_assoc)

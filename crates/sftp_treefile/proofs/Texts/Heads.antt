@@ -23,12 +23,7 @@ behind_home head rest = uint32 head.uid ++ behind_uid head rest
 head_parts : (head : Head) (rest : List ℕ)
     → head_bytes head ++ rest ≡ tree_opening ++ (string head.home ++ behind_home head rest)
 unfolding behind_home behind_uid behind_gid
-head_parts head rest =
-    by (string head.home) (uint32 head.uid) (uint32 head.gid) (uint32 head.count) (owner_text head.root)
-  where
-    by : (a b c d e : List ℕ) → (tree_opening ++ (a ++ (b ++ (c ++ (d ++ e))))) ++ rest
-        ≡ tree_opening ++ (a ++ (b ++ (c ++ (d ++ (e ++ rest)))))
-    by a b c d e = simp append_assoc
+head_parts head rest = simp (append_assoc)
 
 -- what is read of a head, field by field
 pub record HomeRead (bytes home rest : List ℕ) : Type 0 where

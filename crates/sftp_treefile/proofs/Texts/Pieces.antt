@@ -1,12 +1,11 @@
 -- What is written, piece by piece.
 use Rattle.std.proofs.Common.{◌≡◌, ℕ, suc, zero, ◌<◌, ◌^◌, List, [], ◌∷◌, ◌++◌, length, get_or, append_assoc, arith}
-use Rattle.sftp_wire.specs.Spelling.{uint32, string}
 use Rattle.sftp_treefile.specs.declared.files.Kind.{Kind}
 use Rattle.sftp_treefile.specs.declared.files.Kind.TheVariants.{Dir, First, Further, Link}
 use Rattle.sftp_treefile.specs.declared.files.Row.{Row}
 use Rattle.sftp_treefile.specs.declared.heads.Head.{Head}
 use Rattle.sftp_treefile.specs.declared.limits.TreeLimits.{TreeLimits}
-use Rattle.sftp_treefile.specs.TreeFile.{tree_opening, owner_text, IsKind, AreRows}
+use Rattle.sftp_treefile.specs.TreeFile.{IsKind, AreRows}
 use Rattle.sftp_treefile.specs.TreeFileParts.{front_text, root_text, head_bytes, KindHasLengths, HasLengths}
 use Rattle.sftp_treefile.proofs.Texts.Fields.{path_length, target_length, file_bytes_length}
 
@@ -23,12 +22,7 @@ four_pieces a b c d o0 o1 o2 o3 o4 p q r s = rw (s, r, q, p) (simp append_assoc)
 
 pub head_pieces : (head : Head) (o0 o1 o2 : List ℕ) → o1 ≡ o0 ++ front_text head.home head.uid head.gid
     → o2 ≡ o1 ++ root_text head.count head.root → o2 ≡ o0 ++ head_bytes head
-head_pieces head o0 o1 o2 p q =
-    rw (q, p) (by (string head.home) (uint32 head.uid) (uint32 head.gid) (uint32 head.count) (owner_text head.root))
-  where
-    by : (a b c d e : List ℕ)
-        → (o0 ++ (tree_opening ++ (a ++ (b ++ c)))) ++ (d ++ e) ≡ o0 ++ (tree_opening ++ (a ++ (b ++ (c ++ (d ++ e)))))
-    by a b c d e = simp append_assoc
+head_pieces head o0 o1 o2 p q = grind (arith, append_assoc)
 
 -- the lengths of the strings of an entry that fits can be written
 kind_lengths : (limits : TreeLimits) → limits.file_bytes < 2 ^ 32 → (earlier : List Row) (kind : Kind)
