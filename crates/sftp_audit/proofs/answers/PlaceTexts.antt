@@ -1,6 +1,6 @@
 -- How long the text of a place is, and that it is bytes.
 use Rattle.std.proofs.Common.{◌≡◌, ◌&&◌, not, nat_lt, ◌==◌, ℕ, ◌+◌, ◌-◌, ◌*◌, ◌≤◌, Bool, true, false, List, []}
-use Rattle.std.proofs.Common.{◌∷◌, ◌++◌, length, Option, Some, None, refl, sym, subst, arith, cond, ltb-true, leb-true}
+use Rattle.std.proofs.Common.{◌∷◌, ◌++◌, length, Some, refl, sym, subst, arith, cond, ltb-true, leb-true}
 use Rattle.std.proofs.Common.{lit<}
 use Rattle.std.proofs.lemmas.Bool.{and_parts}
 use Rattle.std.specs.List.{list_all, flat_map}
@@ -16,7 +16,7 @@ use Rattle.sftp_path.specs.Table.{get}
 use Rattle.sftp_path.proofs.Order.{place_cmp-same}
 use Rattle.sftp_treefile.specs.TreeFile.{are_bytes}
 use Rattle.sftp_tree.specs.declared.nodes.Node.{Node}
-use Rattle.sftp_tree.specs.Tree.{Names, Tree, IsKept, node_at, is_directory, depths_fit, depth_fits}
+use Rattle.sftp_tree.specs.Tree.{Names, Tree, IsKept, node_at, is_directory, depth_fits}
 use Rattle.sftp_audit.proofs.answers.KeptNodes.{limits_of}
 
 -- ---- bytes
@@ -87,12 +87,7 @@ depth_found (e ∷ names) place node all is =
 directory_depth : (t : Tree) (place : Place) → IsKept t → is_directory (node_at t.names place) ≡ true
     → length place ≤ 64
 unfolding get
-directory_depth t place kept there = by (node_at t.names place) refl there (limits_of t kept).depths
-  where
-    by : (found : Option Node) → node_at t.names place ≡ found → is_directory found ≡ true → depths_fit t ≡ true
-        → length place ≤ 64
-    by None is e deep = absurd cc
-    by (Some node) is e deep = leb-true (length place) 64 (depth_found t.names place node deep is)
+directory_depth t place kept there = grind (arith, limits_of, leb-true, depth_found)
 
 -- the text of a place whose parent is a directory can be written
 pub text_fits : (t : Tree) (place : Place) → IsKept t → are_names place ≡ true

@@ -1,8 +1,7 @@
 -- Exchanges and their ledger, place by place.
 use Rattle.std.proofs.Common.{◌≡◌, ℕ, zero, suc, ◌+◌, ◌<◌, true, false, List, [], ◌∷◌, Option, Some, None, is_some}
-use Rattle.std.proofs.Common.{length, take, set, get_or, slice_get, refl, sym, arith, add-one}
+use Rattle.std.proofs.Common.{length, take, set, get_or, slice_get, refl, arith, add-one}
 use Rattle.std.specs.List.{AllByRecursion}
-use Rattle.std.specs.Option.{option_map}
 use Rattle.std.proofs.lemmas.Bool.{true≢false}
 use Rattle.std.proofs.lemmas.List.{map-set, length-map}
 use Rattle.std.proofs.lemmas.Option.{same_Some, slice_get-map, slice_get_read, slice_get_within}
@@ -11,7 +10,7 @@ use Rattle.sftp_wire.specs.declared.packets.Reply.{Reply}
 use Rattle.sftp_audit.specs.declared.exchanges.RecordedReply.{RecordedReply}
 use Rattle.sftp_audit.specs.declared.exchanges.Exchange.{Exchange as RecordedExchange}
 use Rattle.sftp_audit.specs.Ledger.{Exchange, IsAnswered}
-use Rattle.sftp_audit.specs.Exchanges.{reply_of, exchange_of, ledger_of}
+use Rattle.sftp_audit.specs.Exchanges.{exchange_of, ledger_of}
 
 -- the entry of the exchange that was read
 pub exchange_at : (exchanges : List RecordedExchange) (place : ℕ) (x : RecordedExchange) → place < length exchanges
@@ -24,11 +23,7 @@ pub within_exchanges : (exchanges : List RecordedExchange) (place : ℕ) (e : Ex
 within_exchanges exchanges place e at = grind (arith, slice_get_within, length-map)
 
 is_answered : (x : RecordedExchange) → is_some x.reply ≡ true → IsAnswered (exchange_of x)
-is_answered x there = by x.reply there
-  where
-    by : (r : Option RecordedReply) → is_some r ≡ true → IsAnswered (x.request.now, option_map reply_of r)
-    by None e = absurd (true≢false (sym e))
-    by (Some reply) e = tt
+is_answered x there = grind (arith, true≢false)
 
 answered_suc : (exchanges : List RecordedExchange) (place : ℕ) (x : RecordedExchange) → place < length exchanges
     → x ≡ get_or exchanges place x → is_some x.reply ≡ true

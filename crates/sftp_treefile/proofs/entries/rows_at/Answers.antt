@@ -3,15 +3,11 @@ use Rattle.std.proofs.Common.{◌≡◌, ◌+◌, ◌-◌, arith}
 use Rattle.std.proofs.lemmas.Result.{err_from_is_err_and}
 use Rattle.sftp_treefile.proofs.Texts.Entries.{or_fault, read_none, read_more, row_none}
 use Rattle.sftp_treefile.proofs.entries.rows_at.Goals as goal
-use Rattle.sftp_treefile.proofs.entries.rows_at.Goals.{else-loop-entry-test}
-use Rattle.sftp_treefile.proofs.entries.rows_at.Goals.{then-loop-entry-test+in_ok-row+in_ok-put_row+else-entry-count}
+use Rattle.sftp_treefile.proofs.entries.rows_at.Goals.{else-loop-entry-test, then-loop-entry-test+in_ok-row+in_ok-put_row+else-entry-count}
+use Rattle.std.proofs.lemmas.Grind.{common_steps}
 
 pub loop-entry-init : goal.loop-entry-init
-loop-entry-init c = record {
-  within = (omega arith, omega arith);
-  last = c.no_entries-entries.ensures.last;
-  read = rw c.no_entries-entries.ensures.rows (read_none c.args.limits c.args.bytes.now);
-}
+loop-entry-init c = grind (arith, common_steps, read_none)
 
 pub returns-in_err-row-clause-none : goal.returns-in_err-row-clause-none
 returns-in_err-row-clause-none c =
@@ -24,10 +20,7 @@ returns-in_err-row-clause-number c =
     rw (p.1, p.2) (c.loop-entry.entry, c.loop-entry.invariant.within.0, c.loop-entry-test.true, c.in_err-row.ensures.number)
 
 pub returns-in_err-put_row-clause-number : goal.returns-in_err-put_row-clause-number
-returns-in_err-put_row-clause-number c =
-    let p = err_from_is_err_and c.from_residual-in_err-put_row.result c.from_residual-in_err-put_row.ensures.1 in
-    rw (p.1, p.2, c.in_err-put_row.ensures.none)
-    (c.loop-entry.entry, c.loop-entry.invariant.within.0, c.loop-entry-test.true, tt)
+returns-in_err-put_row-clause-number c = grind (arith, common_steps, err_from_is_err_and)
 
 pub loop-entry-preserved : goal.loop-entry-preserved
 loop-entry-preserved c = record {

@@ -14,12 +14,4 @@ returns-clause-spelled c = refl
 
 pub returns-clause-may_be : goal.returns-clause-may_be
 unfolding components parts
-returns-clause-may_be c = record {
-  limits = refl;
-  home = record { names = refl; depth = omega arith; one = refl };
-  uid = omega arith;
-  gid = omega arith;
-  count = omega arith;
-  root = (omega arith, omega arith, omega arith);
-  rows = tt;
-}
+returns-clause-may_be c = grind arith

@@ -5,6 +5,7 @@ use Rattle.sftp_treefile.specs.TreeFile.{IsPlaceText}
 use Rattle.sftp_treefile.proofs.Texts.Fields.{path_length, string_none_short, string_none, place_is, place_text}
 use Rattle.sftp_treefile.proofs.Texts.Fields.{too_deep}
 use Rattle.sftp_treefile.proofs.fields.place_at.Goals as goal
+use Rattle.std.proofs.lemmas.Grind.{common_steps}
 
 pub returns-in_default-clause-none : goal.returns-in_default-clause-none
 returns-in_default-clause-none c =
@@ -27,6 +28,4 @@ returns-clause-found c =
     (place_text c.in-Some.text.now c.in-Some-2.place found (omega (arith, c.if-depth-gt-DEPTH_LIMIT.false, c.depth.ensures)), c.in-Some.ensures.found)
 
 pub returns-clause-place : goal.returns-clause-place
-returns-clause-place c =
-    let found = MatchOption-at_some _ _ c.in-Some-2.place c.in-Some-2.is c.in_ok-place.ensures.found in
-    place_is c.in-Some.text.now c.in-Some-2.place found
+returns-clause-place c = grind (arith, common_steps, place_is)
