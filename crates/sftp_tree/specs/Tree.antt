@@ -156,8 +156,8 @@ abbrev pub IsContent : Content → Type 0
 IsContent content = IsOwner content.owner × IsTrue (are_bytes content.bytes)
 
 -- What makes it a tree: its places are lists of names, in order and each once, the root is a directory, each other
--- place's parent is one, names of files are names of files that exist, files that are pinned exist, the numbers of files
--- were given, and each number fits its field. Today the limits are the usual ones.
+-- place's parent is one, names of files are names of files that exist, files that are pinned exist, the numbers of
+-- files were given, and each number fits its field. Today the limits are the usual ones.
 pub record WellFormed (t : Tree) : Type 0 where
   pub ordered : InOrder place_cmp t.names
   pub named : AllByRecursion (λ e. IsTrue (are_names e.0)) t.names

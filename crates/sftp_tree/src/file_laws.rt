@@ -6,8 +6,8 @@ ghost use Rattle.sftp_wire.specs.declared.attributes.Attrs.{Attrs};
 ghost use Rattle.sftp_path.specs.Table.{InOrder};
 ghost use Rattle.sftp_wire.specs.Spelling.{FitsAttrs};
 ghost use Rattle.sftp_treefile.specs.TreeFile.{are_bytes};
-ghost use Rattle.sftp_tree.specs.Tree.{Tree, Pins, WellFormed, IsKept, HasFile, limits, times_pinned};
-ghost use Rattle.sftp_tree.specs.Tree.{with_pin, without_pin};
+ghost use Rattle.sftp_tree.specs.Tree.{Tree, Pins, WellFormed, IsKept, HasFile, limits};
+ghost use Rattle.sftp_tree.specs.Tree.{times_pinned, is_pinned, with_pin, without_pin};
 ghost use Rattle.sftp_tree.specs.Attributes.{resized};
 ghost use Rattle.sftp_tree.specs.FileChanges.{written, write_fits, after_write, after_set, after_pin, after_unpin};
 ghost use Rattle.sftp_tree.specs.Room.{size_fits};
@@ -24,9 +24,11 @@ pub fn pins_are_counted()
         times_pinned (without_pin pins number) other ≡ times_pinned pins other }
 {}
 
-/// The pins of two trees are equal if each file has as many.
+/// The pins of two trees are equal if each file has as many. A file that is pinned exists.
 pub fn pins_are_one()
-    ensures { (t u : Tree) → WellFormed t → WellFormed u →
+    ensures exist { (t : Tree) (number : ℕ) → WellFormed t → IsTrue (is_pinned t.pins number) →
+        HasFile t.files number }
+    ensures one { (t u : Tree) → WellFormed t → WellFormed u →
         ((number : ℕ) → times_pinned t.pins number ≡ times_pinned u.pins number) → t.pins ≡ u.pins }
 {}
 

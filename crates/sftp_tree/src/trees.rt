@@ -282,8 +282,7 @@ impl Tree {
 
     /// Takes away a pin of a file that is pinned. With its last pin a file is removed that has no name.
     pub fn unpin(&mut self, number: FileNo)
-        requires file { tree.HasFile self.old.files number }
-        requires pinned { IsTrue (tree.is_pinned self.old.pins number) }
+        requires { IsTrue (tree.is_pinned self.old.pins number) }
         ensures { self.new ≡ file_changes.after_unpin self.old number }
     {
         self.files.unpin(number);

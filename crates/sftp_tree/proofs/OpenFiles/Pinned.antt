@@ -25,6 +25,18 @@ use Rattle.sftp_tree.proofs.KeptTrees.Counts.{files-in_order, each-some}
 
 -- ---- the tree
 
+-- a file that is pinned exists
+pub pinned-there : (t : Tree) (number : ℕ) → WellFormed t → IsTrue (is_pinned t.pins number) → HasFile t.files number
+pinned-there t number well pinned = by (get nat_cmp t.pins number) refl pinned
+  where
+    by : (o : Option ℕ) → get nat_cmp t.pins number ≡ o → nat_lt 0 (unwrap_or o 0) ≡ true → HasFile t.files number
+    by None is pinned = absurd (never 0 (ltb-true 0 0 pinned))
+      where
+        never : (n : ℕ) → n < 0 → ⊥
+        never n less = omega arith
+    by (Some often) is pinned =
+        (each-get nat_cmp nat_cmp-IsAntisymmetric (λ e. IsPin t.files e) t.pins number often well.pinned is).1
+
 -- pins of files that exist, by their numbers
 pins-of_files : (t : Tree) (number often : ℕ) → WellFormed t → HasFile t.files number
     → AllByRecursion (λ e. IsPin t.files e) (with_pins t.pins number often)

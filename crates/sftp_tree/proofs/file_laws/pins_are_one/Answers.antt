@@ -1,5 +1,5 @@
-use Rattle.sftp_tree.proofs.OpenFiles.Pinned.{one-pins}
+use Rattle.sftp_tree.proofs.OpenFiles.Pinned.{pinned-there, one-pins}
 use Rattle.sftp_tree.proofs.file_laws.pins_are_one.Goals as goal
 
 pub returns : goal.returns
-returns c = one-pins
+returns c = record { exist = pinned-there; one = one-pins }

@@ -3,4 +3,9 @@ use Rattle.sftp_tree.proofs.OpenFiles.Written.{before-written, there-written, be
 use Rattle.sftp_tree.proofs.file_laws.writes_are_read.Goals as goal
 
 pub returns : goal.returns
-returns c = record { before = before-written; there = there-written; behind = behind-written; nothing = λ offset bytes. refl }
+returns c = record {
+  before = before-written;
+  there = there-written;
+  behind = behind-written;
+  nothing = λ offset bytes. refl;
+}

@@ -23,7 +23,8 @@ with_files c files =
 
 -- the tree afterwards, and its counts
 parts : (c : goal.After-pin)
-    → (with_files c c.pin.new.self ≡ after_pin c.args.self.now c.args.number) × AreCounted c.self.inside.names c.pin.new.self
+    → (with_files c c.pin.new.self ≡ after_pin c.args.self.now c.args.number)
+    × AreCounted c.self.inside.names c.pin.new.self
 parts c =
     let there : HasFile (contents c.self.inside.files) c.args.number =
     ap (λ (t : Tree). is_some (content_at t.files c.args.number)) c.self.view_is ∙ c.requires.file in
