@@ -8,4 +8,5 @@ pub mod Again
 pub mod Stores
 pub mod Files
 pub mod Written
+pub mod Branches
 pub mod Examples

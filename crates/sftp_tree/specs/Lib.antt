@@ -13,6 +13,7 @@ pub mod Refusals
 pub mod Asks
 pub mod Picture
 pub mod PictureParts
+pub mod Written
 pub mod PictureExamples
 pub mod Room
 pub mod Ends

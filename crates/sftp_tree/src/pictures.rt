@@ -3,6 +3,7 @@ ghost use Rattle.std.specs.Prelude.{◌≡◌, IfOk};
 ghost use Rattle.sftp_tree.specs.Tree.{Tree as tree};
 ghost use Rattle.sftp_tree.specs.Picture.{IsStart, GivesTree, picture, blank};
 
+mod branches;
 mod measuring;
 mod reading;
 mod writing;
