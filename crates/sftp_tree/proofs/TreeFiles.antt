@@ -9,4 +9,5 @@ pub mod Stores
 pub mod Files
 pub mod Written
 pub mod Branches
+pub mod Growing
 pub mod Examples

@@ -14,6 +14,7 @@ pub mod Asks
 pub mod Picture
 pub mod PictureParts
 pub mod Written
+pub mod Growth
 pub mod PictureExamples
 pub mod Room
 pub mod Ends

@@ -12,6 +12,7 @@ ghost use Rattle.sftp_tree.specs.PictureParts.{only_root};
 
 mod below;
 pub(crate) mod directories;
+pub(crate) mod growing;
 mod moving;
 
 use crate::nodes::Node;

@@ -6,6 +6,7 @@ ghost use Rattle.sftp_tree.specs.Picture.{IsStart, GivesTree, picture, blank};
 mod branches;
 mod measuring;
 mod reading;
+mod rows;
 mod writing;
 
 use crate::entries::Entries;
