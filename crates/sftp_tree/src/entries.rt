@@ -13,7 +13,9 @@ ghost use Rattle.sftp_tree.specs.PictureParts.{only_root};
 mod below;
 pub(crate) mod directories;
 pub(crate) mod growing;
+pub(crate) mod lookup;
 mod moving;
+pub(crate) mod seen;
 
 use crate::nodes::Node;
 pub(crate) use below::is_below;
