@@ -17,7 +17,7 @@ use Rattle.sftp_tree.specs.declared.entries.directories.Child.{Child}
 use Rattle.sftp_tree.specs.declared.entries.directories.Child.TheVariants as children
 use Rattle.sftp_tree.specs.declared.nodes.Node.TheVariants.{Dir}
 use Rattle.sftp_tree.specs.Tree.{Names, Files, Tree, IsKept, node_at, is_directory}
-use Rattle.sftp_tree.specs.Nesting.{branch, placed, IsBranch}
+use Rattle.sftp_tree.specs.Nesting.{Children, branch, placed, flat, IsBranch, AreBranches}
 use Rattle.sftp_tree.specs.Picture.{rows_behind}
 use Rattle.sftp_tree.specs.PictureParts.{only_root, Firsts, firsts_with, known_kind}
 use Rattle.sftp_tree.specs.Written.{text_of, rows_from, firsts_from, AreWritable}
@@ -259,7 +259,7 @@ branch_nonempty (children.Dir names) is = nonempty names is.1
 branch_nonempty (children.File number) is = omega arith
 branch_nonempty (children.Link target) is = omega arith
 
-pub child_smaller : (names : Names) (name : Name) (child : Child) (rest : Names) → IsBranch child → length (placed name (branch child) ++ rest) ≤ length (drop 1 names) → length (branch child) < length names
+child_smaller : (names : Names) (name : Name) (child : Child) (rest : Names) → IsBranch child → length (placed name (branch child) ++ rest) ≤ length (drop 1 names) → length (branch child) < length names
 child_smaller [] name child rest is few =
     absurd (omega (arith, few, branch_nonempty child is, length-append (placed name (branch child)) rest, length-placed name (branch child)))
 child_smaller (e ∷ es) name child rest is few =
@@ -283,3 +283,8 @@ child_step files whole text out firsts next at-text at-out at-firsts at-next nam
     let l = subst (λ (t : List ℕ). IsLeft files whole text out firsts next t new-out new-firsts new-next rest) back
     (left_step files whole text out firsts next at-text at-out at-firsts at-next name es rest left in-text new-text new-out new-firsts new-next entered written_here) in
     (l, end-is ∙ ap length (left.text_is ∙ sym l.text_is))
+
+pub next_smaller : (names : Names) (cs : Children) (name : Name) (child : Child) (rest : Children) → cs ≡ (name, child) ∷ rest
+    → AreBranches cs → length (flat cs) ≤ length (drop 1 names) → length (branch child) < length names
+next_smaller names cs name child rest steps are few =
+    child_smaller names name child (flat rest) (subst AreBranches steps are).0 (omega (arith, few, ap length (ap flat steps)))

@@ -4,7 +4,7 @@ use Rattle.sftp_treefile.specs.TreeFile.{row_text}
 use Rattle.sftp_treefile.specs.declared.files.Kind.TheVariants as kinds
 use Rattle.sftp_tree.specs.Nesting.{branch, placed, flat, AreBranches}
 use Rattle.sftp_tree.specs.Written.{AreWritable}
-use Rattle.sftp_tree.proofs.TreeFiles.Branches.{IsWritten, IsLeft, own_path, own_writable, own_count, dir_written, left_fits, left_few, child_smaller, child_step}
+use Rattle.sftp_tree.proofs.TreeFiles.Branches.{IsWritten, IsLeft, own_path, own_writable, own_count, dir_written, left_fits, left_few, next_smaller, child_step}
 use Rattle.sftp_tree.proofs.pictures.branches.+branches.Goals as goal
 
 pub put_child-put_directory-requires : goal.put_child-put_directory-requires
@@ -35,8 +35,8 @@ put_below-put_child-requires t c =
     let steps : at.name-iterator ≡ (c.in-Some.name.now, c.in-Some.child.now) ∷ c.next.new.self = c.in-Some.ensures.steps in
     let left = subst (λ cs. IsLeft c.args.tree.now.files (drop 1 c.args.dir.now) c.args.at.now.path.items c.args.out.now.items c.args.at.now.firsts.entries c.args.at.now.next
     at.at.path.items at.out.items at.at.firsts.entries at.at.next (flat cs)) steps at.invariant.left in
-    let branches = subst AreBranches steps at.invariant.branches in
-    let smaller = child_smaller c.args.dir.now c.in-Some.name.now c.in-Some.child.now (flat c.next.new.self) branches.0 (omega (arith, at.invariant.few, ap length (ap flat steps))) in (
+    let smaller = next_smaller c.args.dir.now at.name-iterator c.in-Some.name.now c.in-Some.child.now c.next.new.self
+    steps at.invariant.branches at.invariant.few in (
       omega (arith, c.decreases, smaller),
       (
         left_fits _ _ _ _ _ _ _ _ _ _ c.in-Some.name.now (branch c.in-Some.child.now) (flat c.next.new.self) _ left c.in_ok-enter.ensures.path,
