@@ -1,5 +1,5 @@
--- Directories that grow entry by entry: those from the root to the one that gets the next entries, each but the last with
--- the name of the next.
+-- Directories that grow entry by entry: those from the root to the one that gets the next entries, each but the last
+-- with the name of the next.
 use Rattle.std.specs.Prelude.{List, [], ◌∷◌, ◌++◌, map}
 use Rattle.sftp_path.specs.Place.{Place, parent}
 use Rattle.sftp_tree.specs.declared.entries.growing.Opened.{Opened}

@@ -15,7 +15,8 @@ text_of place = flat_map (λ name. 47 ∷ name) place
 abbrev pub rows_from : Files → Firsts → ℕ → List ℕ → Names → List Row
 rows_from files firsts next text [] = []
 rows_from files firsts next text (e ∷ es) =
-    record { path = text ++ text_of e.0; kind = known_kind files firsts e.1 } ∷ rows_from files (firsts_with firsts next e.1) (suc next) text es
+    record { path = text ++ text_of e.0; kind = known_kind files firsts e.1 } ∷ rows_from files
+    (firsts_with firsts next e.1) (suc next) text es
 
 -- the first names with these entries
 abbrev pub firsts_from : Firsts → ℕ → Names → Firsts

@@ -52,13 +52,15 @@ own_less : (c : Name) (child : Child) (name : Name) → IsBranch child
     → name_cmp c name ≡ Less
 own_less c (children.Dir names) name is less =
     let s = starts names is in
-    let all = subst (λ (ns : Names). AllByRecursion (λ place. place_cmp place (name ∷ []) ≡ Less) (keys_of (placed c ns)))
+    let all =
+    subst (λ (ns : Names). AllByRecursion (λ place. place_cmp place (name ∷ []) ≡ Less) (keys_of (placed c ns)))
     s.names_are less in
     first_less (name_cmp c name) all.0
 own_less c (children.File number) name is less = first_less (name_cmp c name) less.0
 own_less c (children.Link target) name is less = first_less (name_cmp c name) less.0
 
-keys_front : (P : Place → Type 0) (xs ys : Names) → AllByRecursion P (keys_of (xs ++ ys)) → AllByRecursion P (keys_of xs)
+keys_front : (P : Place → Type 0) (xs ys : Names) → AllByRecursion P (keys_of (xs ++ ys))
+    → AllByRecursion P (keys_of xs)
 keys_front P [] ys h = tt
 keys_front P (x ∷ xs) ys h = (h.0, keys_front P xs ys h.1)
 
@@ -72,8 +74,11 @@ names_less : (cs : Children) (name : Name) → AreBranches cs
 names_less [] name are less = tt
 names_less (c ∷ cs) name are less =
     let here = placed c.0 (branch c.1) in
-    let P = λ (place : Place). place_cmp place (name ∷ []) ≡ Less in
-    (own_less c.0 c.1 name are.0 (keys_front P here (flat cs) less), names_less cs name are.1 (keys_back P here (flat cs) less))
+    let P = λ (place : Place). place_cmp place (name ∷ []) ≡ Less in (
+      own_less c.0 c.1 name are.0 (keys_front P here (flat cs) less),
+      names_less cs name are.1
+          (keys_back P here (flat cs) less),
+    )
 
 flat_push : (cs : Children) (name : Name) (child : Child)
     → flat (cs ++ (name, child) ∷ []) ≡ flat cs ++ placed name (branch child)
@@ -96,7 +101,8 @@ pushed owner cs name child are is less =
     insert_last nat_list_cmp_total cs name child names in
     record {
       are = subst AreChildren (sym last) (
-        subst (IsStrictlySortedBy name_cmp) (sym (keys_append cs ((name, child) ∷ []))) (sorted_push name_cmp (keys_of cs) name are.0 names),
+        subst (IsStrictlySortedBy name_cmp) (sym (keys_append cs ((name, child) ∷ [])))
+            (sorted_push name_cmp (keys_of cs) name are.0 names),
         all_both (λ (c : Name × Child). IsBranch c.1) cs ((name, child) ∷ []) are.1 (is, tt),
       );
       flat_is = ap (flat_of owner) last ∙ ap (λ (ns : Names). only_root owner ++ ns) (flat_push cs name child);
@@ -145,7 +151,8 @@ sorted_top [] top ordered = ordered
 sorted_top (o ∷ os) top ordered =
     let inner = placed o.name (names_from os top) in
     let keys = subst (IsStrictlySortedBy place_cmp) (keys_append o.dir inner) ordered in
-    sorted_top os top (sorted_inner o.name (names_from os top) (sorted_right place_cmp (keys_of o.dir) (keys_of inner) keys))
+    sorted_top os top (sorted_inner o.name (names_from os top)
+    (sorted_right place_cmp (keys_of o.dir) (keys_of inner) keys))
 
 -- what comes after all entries comes after those of the last one
 pub last_in_top : (os : List Opened) (top : Names) (place : Place)
@@ -157,7 +164,8 @@ last_in_top (o ∷ os) top place less =
     let P = λ (other : Place). place_cmp other (o.name ∷ whole) ≡ Less in
     let inner = keys_back P o.dir (placed o.name (names_from os top)) less in
     last_in_top os top place
-    (all_less P (λ (other : Place). place_cmp other whole ≡ Less) o.name (names_from os top) (λ k. one_less o.name k whole) inner)
+    (all_less P (λ (other : Place). place_cmp other whole ≡ Less) o.name (names_from os top)
+    (λ k. one_less o.name k whole) inner)
 
 -- the last one comes after all children of the one above it
 pub last_child : (os : List Opened) (o : Opened) (top : Names) → InOrder place_cmp (names_from (os ++ o ∷ []) top)
@@ -166,7 +174,8 @@ last_child os o top ordered is =
     let s = starts top is in
     let both = sorted_top os (o.dir ++ placed o.name top) (subst (InOrder place_cmp) (names_push os o top) ordered) in
     let whole = subst (λ (ns : Names). InOrder place_cmp (o.dir ++ placed o.name ns)) s.names_are both in
-    let keys = subst (IsStrictlySortedBy place_cmp) (keys_append o.dir (placed o.name (only_root s.owner ++ s.rest))) whole in
+    let keys =
+    subst (IsStrictlySortedBy place_cmp) (keys_append o.dir (placed o.name (only_root s.owner ++ s.rest))) whole in
     sorted_before place_cmp (keys_of o.dir) (o.name ∷ []) (keys_of (placed o.name s.rest)) keys
 
 -- ---- the place of the last one

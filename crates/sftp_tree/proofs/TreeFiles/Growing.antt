@@ -32,12 +32,14 @@ pub entries_order : (root : Owner) (rows : List Row) (names : Names) → IsOwner
 entries_order root rows names fits fit names-are =
     subst (InOrder place_cmp) (sym names-are) (table_of_file root rows fits fit).ordered
 
-pub entry_later : (root : Owner) (rows : List Row) (row : Row) (names : Names) (place : Place) → IsNext usual_limits rows row
+pub entry_later : (root : Owner) (rows : List Row) (row : Row) (names : Names) (place : Place)
+    → IsNext usual_limits rows row
     → names ≡ names_of root rows → place ≡ place_of row.path
     → AllByRecursion (λ other. place_cmp other place ≡ Less) (keys_of names)
 entry_later root rows row names place next names-are place-is =
     subst (λ (p : Place). AllByRecursion (λ other. place_cmp other p ≡ Less) (keys_of names)) (sym place-is)
-    (subst (λ (ns : Names). AllByRecursion (λ other. place_cmp other (place_of row.path) ≡ Less) (keys_of ns)) (sym names-are)
+    (subst (λ (ns : Names). AllByRecursion (λ other. place_cmp other (place_of row.path) ≡ Less) (keys_of ns))
+    (sym names-are)
     (keys_before root rows row next))
 
 -- which is what putting them is
@@ -60,7 +62,8 @@ pub open_root : (place : Place) → place ≡ [] → IsOpen [] place
 open_root place is = record { last = []; last_is = true; fits = no_last; place_is = is }
 
 pub follows : (rows : List Row) (row : Row) → IsNext usual_limits rows row → Follows rows row.path
-follows rows row next = record { text = next.path; below_root = next.below_root; later = next.later; parent = next.parent }
+follows rows row next = record
+    { text = next.path; below_root = next.below_root; later = next.later; parent = next.parent }
 
 behind_known : (numbers : List ℕ) (next : ℕ) (kind : Kind) (place : Place)
     → open_behind place (known_node numbers next kind) ≡ (if is_dir kind then place else parent place)
@@ -70,13 +73,15 @@ behind_known numbers next (kinds.Further number) place = refl
 behind_known numbers next (kinds.Link target) place = refl
 
 pub open_more : (rows : List Row) (row : Row) (numbers : List ℕ) (next : ℕ) (place old new : Place) (node : Node)
-    → IsOpen rows old → IsNext usual_limits rows row → place ≡ place_of row.path → node ≡ known_node numbers next row.kind
+    → IsOpen rows old → IsNext usual_limits rows row → place ≡ place_of row.path
+    → node ≡ known_node numbers next row.kind
     → new ≡ open_behind place node → IsOpen (rows ++ row ∷ []) new
 open_more rows row numbers next place old new node was is-next place-is node-is new-is = record {
   last = place_of row.path;
   last_is = is_dir row.kind;
   fits = last_more rows was.last was.last_is row was.fits (follows rows row is-next);
-  place_is = new-is ∙ (λ i. open_behind (place-is i) (node-is i)) ∙ behind_known numbers next row.kind (place_of row.path);
+  place_is = new-is ∙ (λ i. open_behind (place-is i) (node-is i))
+      ∙ behind_known numbers next row.kind (place_of row.path);
 }
 
 -- what begins a place, and is not the whole of it, begins its parent

@@ -9,11 +9,13 @@ use Rattle.sftp_tree.proofs.pictures.branches.put_entries.Goals as goal
 pub put_below-requires-clause-writable : goal.put_below-requires-clause-writable
 put_below-requires-clause-writable c =
     let t = c.args.tree.now in
-    let fit = subst (λ names. AreWritable t.files [] (drop 1 names)) (sym c.requires.root) (tree_writable t c.home.ensures.kept) in
+    let fit = subst (λ names. AreWritable t.files [] (drop 1 names)) (sym c.requires.root)
+    (tree_writable t c.home.ensures.kept) in
     subst (λ text. AreWritable t.files text (drop 1 c.args.root.now)) (sym c.new-path.ensures.items) fit
 
 pub put_below-requires-clause-few : goal.put_below-requires-clause-few
-put_below-requires-clause-few c = omega (arith, ap length (ap (drop 1) c.requires.root), tree_few c.args.tree.now c.home.ensures.kept)
+put_below-requires-clause-few c = omega
+    (arith, ap length (ap (drop 1) c.requires.root), tree_few c.args.tree.now c.home.ensures.kept)
 
 pub returns-clause-out : goal.returns-clause-out
 returns-clause-out c =

@@ -22,9 +22,11 @@ add-requires c =
     let above = c.in_ok-close_below.ensures.place ∙ ap (λ n. take n (place_in c.args.self.now)) depth ∙ f.1 in
     let place = ap (λ p. p ++ c.in-Some.name ∷ []) above ∙ sym is in
     record {
-      last = subst (λ names. AllByRecursion (λ other. place_cmp other (place_in c.close_below.new.self ++ c.in-Some.name ∷ []) ≡ Less) (keys_of names))
+      last = subst (λ names. AllByRecursion
+          (λ other. place_cmp other (place_in c.close_below.new.self ++ c.in-Some.name ∷ []) ≡ Less) (keys_of names))
           (sym c.in_ok-close_below.ensures.names)
-          (subst (λ p. AllByRecursion (λ other. place_cmp other p ≡ Less) (keys_of (names_in c.args.self.now))) (sym place) c.requires.last);
+          (subst (λ p. AllByRecursion (λ other. place_cmp other p ≡ Less) (keys_of (names_in c.args.self.now)))
+          (sym place) c.requires.last);
     }
 
 pub returns-clause-names : goal.returns-clause-names
