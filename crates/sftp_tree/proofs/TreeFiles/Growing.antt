@@ -1,12 +1,12 @@
 -- The entries of a tree file come in order, so that each has its place in a directory that is open.
-use Rattle.std.proofs.Common.{◌≡◌, ℕ, ◌+◌, ◌-◌, ◌<◌, Bool, true, false, if◌then◌else◌, List, [], ◌∷◌, ◌++◌, length, take, drop, refl, sym, ap, subst, ◌∙◌, arith, inl, inr}
+use Rattle.std.proofs.Common.{◌≡◌, ℕ, ◌+◌, ◌-◌, ◌<◌, Bool, true, false, if◌then◌else◌, List, [], ◌∷◌, ◌++◌, length, take, drop, refl, sym, ap, subst, ◌∙◌, append_assoc, arith, inl, inr, ◌≤◌, length-take-le}
 use Rattle.std.specs.Prelude.{IsTrue}
 use Rattle.std.specs.List.{AllByRecursion}
 use Rattle.std.specs.Map.{keys_of}
 use Rattle.std.specs.declared.cmp.Ordering.TheVariants.{Less}
-use Rattle.std.proofs.lemmas.Bool.{cases_lt, false≢true}
+use Rattle.std.proofs.lemmas.Bool.{and_parts, cases_lt, false≢true}
 use Rattle.std.proofs.Math.Seq.{take-append-add}
-use Rattle.sftp_path.specs.Place.{Place, place_cmp, parent, begins}
+use Rattle.sftp_path.specs.Place.{Name, Place, place_cmp, parent, begins, is_name, are_names}
 use Rattle.sftp_path.specs.Table.{InOrder, put}
 use Rattle.sftp_path.proofs.Order.{place_cmp-total, begins-front, begins-append}
 use Rattle.sftp_treefile.specs.declared.files.Kind.{Kind}
@@ -21,6 +21,7 @@ use Rattle.sftp_tree.specs.declared.nodes.Node.{Node}
 use Rattle.sftp_tree.specs.Tree.{Names, with_node}
 use Rattle.sftp_tree.specs.Growth.{open_behind}
 use Rattle.sftp_tree.specs.PictureParts.{names_of, known_node}
+use Rattle.sftp_tree.proofs.Nesting.Growth.{front_open}
 use Rattle.sftp_tree.proofs.PlaceTables.Rising.{insert_last}
 use Rattle.sftp_tree.proofs.TreeFiles.Files.{table_of_file}
 use Rattle.sftp_tree.proofs.TreeFiles.Stores.{keys_before}
@@ -112,3 +113,47 @@ pub open_begins : (root : Owner) (rows : List Row) (row : Row) (place above : Pl
     → IsNext usual_limits rows row → place ≡ place_of row.path → IsTrue (begins (parent place) above)
 open_begins root rows row place above is next place-is =
     (λ i. begins (parent (place-is i)) (is.place_is i)) ∙ begins_by rows is.last is.last_is is.fits row next
+
+-- ---- the last name of a text
+
+-- so many names before the last one, one name more
+pub names_step : (n : ℕ) (whole : Place) (last name : Name) (left : Place) → take n whole ++ last ∷ name ∷ left ≡ whole
+    → n + 1 + length (name ∷ left) ≡ length whole → take (n + 1) whole ++ name ∷ left ≡ whole
+names_step n whole last name left is count =
+    let front = take n whole in
+    let many : length front ≡ n = length-take-le n whole (omega (arith, count)) in
+    let more : n + 1 ≡ length front + 1 = omega (arith, many) in
+    let first : take (n + 1) whole ≡ front ++ last ∷ [] =
+    (λ i. take (more i) (sym is i)) ∙ take-append-add front (last ∷ name ∷ left) 1 in
+    ap (λ (ns : Place). ns ++ name ∷ left) first ∙ append_assoc front (last ∷ []) (name ∷ left) ∙ is
+
+pub last_named : (front : Place) (name : Name) (whole : Place) → front ++ name ∷ [] ≡ whole → IsTrue (are_names whole)
+    → IsTrue (is_name name)
+last_named front name whole is named = by front (subst (λ (p : Place). IsTrue (are_names p)) (sym is) named)
+  where
+    by : (ns : Place) → IsTrue (are_names (ns ++ name ∷ [])) → IsTrue (is_name name)
+    by [] h = (and_parts (is_name name) true h).0
+    by (n ∷ ns) h = by ns (and_parts (is_name n) (are_names (ns ++ name ∷ [])) h).1
+
+-- the directory of the next entry is open
+pub record HasRoom (open-place place : Place) (depth : ℕ) (name : Name) : Type 0 where
+  pub depth_fits : depth ≤ length open-place
+  pub place_is : take depth open-place ++ name ∷ [] ≡ place
+
+pub room_for : (root : Owner) (rows : List Row) (row : Row) (above : Place) (depth : ℕ) (name : Name) (text : List ℕ)
+    → IsOpen rows above → IsNext usual_limits rows row → text ≡ row.path
+    → take depth (place_of text) ++ name ∷ [] ≡ place_of text → depth + 1 ≡ length (place_of text)
+    → HasRoom above (place_of row.path) depth name
+room_for root rows row above depth name text is next text-is whole count =
+    let place = place_of row.path in
+    let front = take depth place in
+    let here : front ++ name ∷ [] ≡ place =
+    subst (λ (t : List ℕ). take depth (place_of t) ++ name ∷ [] ≡ place_of t) text-is whole in
+    let many : length front ≡ depth =
+    length-take-le depth place (omega (arith, count, ap length (ap place_of text-is))) in
+    let f = front_open place front above name (sym here) (open_begins root rows row place above is next refl) in
+    let same : take depth above ≡ front = ap (λ n. take n above) (sym many) ∙ f.1 in
+    record {
+      depth_fits = omega (arith, many, f.0);
+      place_is = ap (λ (p : Place). p ++ name ∷ []) same ∙ here;
+    }

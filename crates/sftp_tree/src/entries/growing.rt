@@ -1,10 +1,10 @@
 //! Directories that grow entry by entry, in the order of places: each entry is put where the one before it was, without
 //! a search from the root.
-ghost use Rattle.std.specs.Prelude.{◌≡◌, ◌≤◌, ◌<◌, ◌++◌, [], ◌∷◌, length, take, IfOk, OnOk, IsTrue};
+ghost use Rattle.std.specs.Prelude.{◌≡◌, ◌≤◌, ◌<◌, ◌++◌, [], ◌∷◌, length, take, IfOk, OnOk};
 ghost use Rattle.std.specs.List.{AllByRecursion};
 ghost use Rattle.std.specs.Map.{keys_of};
 ghost use Rattle.std.specs.declared.cmp.Ordering.TheVariants.{Less};
-ghost use Rattle.sftp_path.specs.Place.{place_cmp, parent, begins};
+ghost use Rattle.sftp_path.specs.Place.{place_cmp, parent};
 ghost use Rattle.sftp_path.specs.Table.{InOrder};
 ghost use Rattle.sftp_tree.specs.declared.nodes.Node.TheVariants.{Dir as dir_node};
 ghost use Rattle.sftp_tree.specs.Growth.{names_in, place_in, open_behind};
@@ -12,7 +12,7 @@ ghost use Rattle.sftp_tree.specs.PictureParts.{only_root};
 
 use super::directories::{Child, Dir};
 use crate::nodes::Node;
-use sftp_path::{Name, NoMemory, Place};
+use sftp_path::{Name, NoMemory};
 use sftp_treefile::Owner;
 use std::alloc::Global;
 use std::mem;
@@ -100,24 +100,22 @@ impl Growth {
         Ok(())
     }
 
-    /// Puts an entry behind all others, into a directory that is open.
+    /// Puts an entry with this name behind all others, into the open directory of so many names.
     ///
     /// # Errors
     ///
     /// `NoMemory` if memory runs out.
-    pub(crate) fn put(&mut self, place: Place, node: Node) -> Result<(), NoMemory>
+    pub(crate) fn put(&mut self, depth: usize, name: Name, node: Node) -> Result<(), NoMemory>
         requires ordered { InOrder place_cmp (names_in self.old) }
-        requires last { AllByRecursion (λ other. place_cmp other place ≡ Less) (keys_of (names_in self.old)) }
-        requires below_root { 0 < length place }
-        requires open { IsTrue (begins (parent place) (place_in self.old)) }
-        ensures names { OnOk result (names_in self.new ≡ names_in self.old ++ (place, node) ∷ []) }
-        ensures place { OnOk result (place_in self.new ≡ open_behind place node) }
+        requires depth { depth ≤ length (place_in self.old) }
+        requires last { AllByRecursion (λ other. place_cmp other (take depth (place_in self.old) ++ name ∷ []) ≡ Less)
+            (keys_of (names_in self.old)) }
+        ensures names { OnOk result
+            (names_in self.new ≡ names_in self.old ++ (take depth (place_in self.old) ++ name ∷ [], node) ∷ []) }
+        ensures place { OnOk result
+            (place_in self.new ≡ open_behind (take depth (place_in self.old) ++ name ∷ []) node) }
     {
-        let mut names = place.into_names();
-        let Some(name) = names.pop() else {
-            unreachable!()
-        };
-        self.close_below(names.len())?;
+        self.close_below(depth)?;
         self.add(name, node)?;
         Ok(())
     }

@@ -1,12 +1,12 @@
 -- Each row's entry comes behind all others.
-use Rattle.std.proofs.Common.{◌≡◌, [], ◌∷◌, ◌<◌, length, ap, sym, subst, ◌∙◌, append_assoc, append-nil, arith, refl}
+use Rattle.std.proofs.Common.{◌≡◌, [], ◌∷◌, ◌<◌, ◌++◌, length, take, ap, sym, subst, ◌∙◌, append_assoc, append-nil, arith, refl}
 use Rattle.std.specs.Vec.Iter.{into_iter_items}
 use Rattle.std.proofs.lemmas.List.{nil_from_length, length-append}
 use Rattle.sftp_treefile.specs.Limits.{usual_limits}
 use Rattle.sftp_treefile.specs.TreeFile.{place_of, IsPlaceText, AreRows}
 use Rattle.sftp_tree.specs.Growth.{names_in, place_in}
 use Rattle.sftp_tree.specs.PictureParts.{IsKnown, IsGrown}
-use Rattle.sftp_tree.proofs.TreeFiles.Growing.{entries_order, entry_later, put_last, open_root, open_more, open_begins}
+use Rattle.sftp_tree.proofs.TreeFiles.Growing.{entries_order, entry_later, put_last, open_root, open_more, room_for}
 use Rattle.sftp_tree.proofs.TreeFiles.Numbers.{rows_join}
 use Rattle.sftp_tree.proofs.TreeFiles.Stores.{kind_known, numbers_grow, grown_push, grown_room, grown_root, many_files, next_fits}
 use Rattle.sftp_tree.proofs.pictures.rows.grow.Goals as goal
@@ -26,10 +26,15 @@ loop-row-init c =
       numbers = c.new-numbers.ensures.items;
     }
 
-pub place_of-requires : goal.place_of-requires
-place_of-requires c =
+pub last_name-depth-requires-clause-text : goal.last_name-depth-requires-clause-text
+last_name-depth-requires-clause-text c =
     let left = subst (AreRows usual_limits c.loop-row.yielded) c.in-Some.ensures.steps.0 c.loop-row.invariant.rows in
     subst IsPlaceText (sym c.as_slice.ensures) left.0.path
+
+pub last_name-depth-requires-clause-below_root : goal.last_name-depth-requires-clause-below_root
+last_name-depth-requires-clause-below_root c =
+    let left = subst (AreRows usual_limits c.loop-row.yielded) c.in-Some.ensures.steps.0 c.loop-row.invariant.rows in
+    subst (λ text. 0 < length (place_of text)) (sym c.as_slice.ensures) left.0.below_root
 
 pub overflow_cast-made : goal.overflow_cast-made
 overflow_cast-made c =
@@ -59,25 +64,28 @@ put-requires-clause-ordered c =
     entries_order c.args.root at.yielded (names_in at.growth) c.requires.root at.invariant.before
     at.invariant.grown.names_are
 
+pub put-requires-clause-depth : goal.put-requires-clause-depth
+put-requires-clause-depth c =
+    let at = c.loop-row in
+    let left = subst (AreRows usual_limits at.yielded) c.in-Some.ensures.steps.0 at.invariant.rows in
+    (room_for c.args.root at.yielded c.in-Some.row (place_in at.growth) c.last_name-depth.result.0
+    c.last_name-depth.result.1.now
+    c.as_slice.result.now at.invariant.above left.0 c.as_slice.ensures c.last_name-depth.ensures.whole
+    c.last_name-depth.ensures.depth).depth_fits
+
 pub put-requires-clause-last : goal.put-requires-clause-last
 put-requires-clause-last c =
     let at = c.loop-row in
     let left = subst (AreRows usual_limits at.yielded) c.in-Some.ensures.steps.0 at.invariant.rows in
-    entry_later c.args.root at.yielded c.in-Some.row (names_in at.growth) c.in_ok-place.place left.0
-    at.invariant.grown.names_are
-    (c.in_ok-place.ensures ∙ ap place_of c.as_slice.ensures)
-
-pub put-requires-clause-below_root : goal.put-requires-clause-below_root
-put-requires-clause-below_root c =
-    let left = subst (AreRows usual_limits c.loop-row.yielded) c.in-Some.ensures.steps.0 c.loop-row.invariant.rows in
-    subst (λ place. 0 < length place) (sym (c.in_ok-place.ensures ∙ ap place_of c.as_slice.ensures)) left.0.below_root
-
-pub put-requires-clause-open : goal.put-requires-clause-open
-put-requires-clause-open c =
-    let at = c.loop-row in
-    let left = subst (AreRows usual_limits at.yielded) c.in-Some.ensures.steps.0 at.invariant.rows in
-    open_begins c.args.root at.yielded c.in-Some.row c.in_ok-place.place (place_in at.growth) at.invariant.above left.0
-    (c.in_ok-place.ensures ∙ ap place_of c.as_slice.ensures)
+    let room = room_for c.args.root at.yielded c.in-Some.row (place_in at.growth) c.last_name-depth.result.0
+    c.last_name-depth.result.1.now c.as_slice.result.now at.invariant.above left.0 c.as_slice.ensures
+    c.last_name-depth.ensures.whole
+    c.last_name-depth.ensures.depth in
+    let place =
+    ap (λ n. take c.last_name-depth.result.0 (place_in at.growth) ++ n ∷ []) c.in_ok-name.ensures ∙ room.place_is in
+    entry_later c.args.root at.yielded c.in-Some.row (names_in at.growth)
+    (take c.last_name-depth.result.0 (place_in at.growth) ++ c.in_ok-name.name ∷ []) left.0
+    at.invariant.grown.names_are place
 
 pub finish-requires : goal.finish-requires
 finish-requires c =
@@ -97,10 +105,16 @@ loop-row-preserved c =
     let numbers = c.deref.ensures.value ∙ at.invariant.numbers in
     let next = c.new-next.ensures ∙ c.len-made.ensures
     ∙ many_files c.args.root at.yielded (names_in at.growth) at.files at.invariant.grown in
-    let place = c.in_ok-place.ensures ∙ ap place_of c.as_slice.ensures in
-    let later = entry_later c.args.root at.yielded row (names_in at.growth) c.in_ok-place.place left.0
+    let room =
+    room_for c.args.root at.yielded row (place_in at.growth) c.last_name-depth.result.0 c.last_name-depth.result.1.now
+    c.as_slice.result.now at.invariant.above left.0 c.as_slice.ensures c.last_name-depth.ensures.whole
+    c.last_name-depth.ensures.depth in
+    let entered = take c.last_name-depth.result.0 (place_in at.growth) ++ c.in_ok-name.name ∷ [] in
+    let place : entered ≡ place_of row.path =
+    ap (λ n. take c.last_name-depth.result.0 (place_in at.growth) ++ n ∷ []) c.in_ok-name.ensures ∙ room.place_is in
+    let later = entry_later c.args.root at.yielded row (names_in at.growth) entered left.0
     at.invariant.grown.names_are place in
-    let put = put_last (names_in at.growth) (names_in c.put.new.self) c.in_ok-place.place c.in_ok-node.node later
+    let put = put_last (names_in at.growth) (names_in c.put.new.self) entered c.in_ok-node.node later
     c.in_ok-put.ensures.names in
     record {
       items = append_assoc at.yielded (row ∷ []) (into_iter_items c.next.new.self) ∙ rw (← steps) at.invariant.items;
@@ -110,11 +124,11 @@ loop-row-preserved c =
       before = rows_join [] at.yielded (row ∷ []) at.invariant.before (left.0, tt);
       rows = left.1;
       grown = grown_push c.args.root at.yielded row (names_in at.growth) (names_in c.put.new.self) at.files
-          c.node_of.new.files c.deref.result.now c.new-next.result c.in_ok-place.place c.in_ok-node.node
+          c.node_of.new.files c.deref.result.now c.new-next.result entered c.in_ok-node.node
           at.invariant.before left.0 at.invariant.grown numbers next
-          (c.in_ok-place.ensures ∙ ap place_of c.as_slice.ensures) c.in_ok-node.ensures.node put
+          place c.in_ok-node.ensures.node put
           c.in_ok-node.ensures.files;
-      above = open_more at.yielded row _ _ c.in_ok-place.place (place_in at.growth) (place_in c.put.new.self)
+      above = open_more at.yielded row _ _ entered (place_in at.growth) (place_in c.put.new.self)
           c.in_ok-node.node at.invariant.above left.0 place c.in_ok-node.ensures.node c.in_ok-put.ensures.place;
       numbers = numbers_grow at.yielded row at.numbers.items c.push.new.self.items c.new-next.result
           c.in_ok-push.ensures.items at.invariant.numbers next;
