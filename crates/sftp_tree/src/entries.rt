@@ -11,6 +11,7 @@ ghost use Rattle.sftp_tree.specs.Room as rooms;
 ghost use Rattle.sftp_tree.specs.PictureParts.{only_root};
 
 mod below;
+mod changes;
 pub(crate) mod directories;
 pub(crate) mod lookup;
 mod moving;
