@@ -14,6 +14,7 @@ mod below;
 mod changes;
 pub(crate) mod directories;
 pub(crate) mod lookup;
+mod moves;
 mod moving;
 pub(crate) mod seen;
 
