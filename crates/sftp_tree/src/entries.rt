@@ -11,9 +11,11 @@ ghost use Rattle.sftp_tree.specs.Room as rooms;
 ghost use Rattle.sftp_tree.specs.PictureParts.{only_root};
 
 mod below;
+mod changes;
 pub(crate) mod directories;
 pub(crate) mod growing;
 pub(crate) mod lookup;
+mod moves;
 mod moving;
 pub(crate) mod seen;
 
