@@ -15,7 +15,7 @@ use sftp_treefile::{Kind, Owner, Row, TreeFile};
 use std::alloc::Global;
 
 /// The place whose absolute text this is.
-pub(super) fn place_of(alloc: Global, text: &[u8]) -> Result<Place, NoMemory>
+fn place_of(alloc: Global, text: &[u8]) -> Result<Place, NoMemory>
     requires { IsPlaceText text.now }
     ensures { IfOk result (λ place. place ≡ place_of text.now) }
 {

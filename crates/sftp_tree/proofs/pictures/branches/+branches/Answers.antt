@@ -53,8 +53,9 @@ written t c =
     let after = state_of c.put_below.new.at c.put_below.new.out.items in
     let owner = c.owner.ensures in
     let row = λ (path : List ℕ). row_text (record { path = path; kind = kinds.Dir c.owner.result }) in
-    let own =
-    c.in_ok-put_directory-in-Dir.ensures ∙ ap (λ path. c.args.out.now.items ++ row path) c.deref.ensures.value in
+    let out = c.args.out.now.items in
+    let own : c.put_directory.new.out.items ≡ out ++ row before.text =
+    c.in_ok-put_directory-in-Dir.ensures ∙ ap (λ (path : List ℕ). out ++ row path) c.deref.ensures.value in
     let done = c.in_ok-put_below-in-Dir.ensures in
     subst (λ names. IsWritten files names before after) (sym (ap branch c.in-Dir.is))
     (dir_written files c.in-Dir.dir c.owner.result before after c.put_directory.new.out.items owner.ordered
