@@ -1,4 +1,7 @@
 pub mod Tree
+pub mod Nesting
+pub mod NestingSizes
+pub mod Seen
 pub mod StoredFiles
 pub mod Walk
 pub mod WalkRules
@@ -15,6 +18,8 @@ pub mod Refusals
 pub mod Asks
 pub mod Picture
 pub mod PictureParts
+pub mod Written
+pub mod Growth
 pub mod PictureExamples
 pub mod Room
 pub mod Ends

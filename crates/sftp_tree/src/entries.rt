@@ -12,7 +12,13 @@ ghost use Rattle.sftp_tree.specs.Listings.{children};
 ghost use Rattle.sftp_tree.specs.PictureParts.{only_root};
 
 mod below;
+mod changes;
+pub(crate) mod directories;
+pub(crate) mod growing;
+pub(crate) mod lookup;
+mod moves;
 mod moving;
+pub(crate) mod seen;
 
 use crate::nodes::Node;
 pub(crate) use below::is_below;
