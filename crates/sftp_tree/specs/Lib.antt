@@ -13,6 +13,7 @@ pub mod Picture
 pub mod PictureParts
 pub mod PictureExamples
 pub mod Room
+pub mod Found
 pub mod Ends
 pub mod Plans
 pub mod RequestExamples

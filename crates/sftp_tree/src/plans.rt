@@ -1,11 +1,12 @@
 //! The plans of requests, and how they are carried out.
-ghost use Rattle.std.specs.Prelude.{◌≡◌, Some, IfOk, IfErr, IsTrue, OnOk, OnErr};
+ghost use Rattle.std.specs.Prelude.{◌≡◌, Some, IfOk, IfErr, IsTrue, OnOk, OnErr, option_copied};
 ghost use Rattle.sftp_treefile.specs.TreeFile.{are_bytes};
 ghost use Rattle.sftp_tree.specs.declared.nodes.Node.TheVariants.{File, Link};
 ghost use Rattle.sftp_tree.specs.Tree as tree;
 ghost use Rattle.sftp_tree.specs.Changes as changes;
 ghost use Rattle.sftp_tree.specs.Requests as requests;
 ghost use Rattle.sftp_tree.specs.Asks.{asked};
+ghost use Rattle.sftp_tree.specs.Found.{IsThere};
 ghost use Rattle.sftp_tree.specs.Ends.{LeadTo, AreWell};
 ghost use Rattle.sftp_tree.specs.Refusals.{IsFree, IsRefusal};
 ghost use Rattle.sftp_tree.specs.Plans as spec;
@@ -14,6 +15,7 @@ use crate::asks::PathAsk;
 use crate::causes::Refused;
 use crate::ends::Places;
 use crate::file_numbers::FileNo;
+use crate::found::Found;
 use crate::nodes::Node;
 use crate::owners::changed_owner;
 use crate::trees::Tree;
@@ -59,7 +61,7 @@ impl Tree {
     /// # Errors
     ///
     /// `NoMemory` if memory runs out.
-    fn plan_for<'a>(&self, ask: PathAsk<'a>, places: Places) -> Result<Plan<'a>, NoMemory>
+    fn plan_for<'a>(&self, ask: PathAsk<'a>, places: Places<'_>) -> Result<Plan<'a>, NoMemory>
         requires free { IsFree self.now (asked ask) }
         requires led { LeadTo self.now (asked ask) places }
         requires well { AreWell self.now places }
@@ -67,7 +69,7 @@ impl Tree {
     {
         let Places { old, new } = places;
         match new {
-            None => self.plan_at(ask, old),
+            None => self.plan_at(ask, old.place),
             Some(new) => Ok(self.plan_between(ask, old, new)),
         }
     }
@@ -100,20 +102,22 @@ impl Tree {
     }
 
     /// The plan of a request at the two places that its paths lead to.
-    fn plan_between<'a>(&self, ask: PathAsk<'a>, old: Place, new: Place) -> Plan<'a>
-        requires { spec.IsFileAt self.now (asked ask) old }
-        ensures { spec.IsPlanBetween self.now (asked ask.entry) old new result }
+    fn plan_between<'a>(&self, ask: PathAsk<'a>, old: Found<'_>, new: Found<'_>) -> Plan<'a>
+        requires old { IsThere self.now.names old }
+        requires new { IsThere self.now.names new }
+        requires file { spec.IsFileAt self.now (asked ask) old.place }
+        ensures { spec.IsPlanBetween self.now (asked ask.entry) old.entry.place new.entry.place result }
     {
         match ask {
-            PathAsk::Rename { .. } => Plan::Move(old, new),
+            PathAsk::Rename { .. } => Plan::Move(old.place, new.place),
             PathAsk::PosixRename { .. } => {
                 if self.are_one(&old, &new) {
                     Plan::Nothing
                 } else {
-                    Plan::Move(old, new)
+                    Plan::Move(old.place, new.place)
                 }
             }
-            PathAsk::Hardlink { .. } => Plan::Put(new, Node::File(self.file_at(&old))),
+            PathAsk::Hardlink { .. } => Plan::Put(new.place, Node::File(file_of(old.node))),
             PathAsk::Mkdir { .. } => Plan::Nothing,
             PathAsk::Rmdir { .. } => Plan::Nothing,
             PathAsk::Remove { .. } => Plan::Nothing,
@@ -161,19 +165,6 @@ impl Tree {
         Ok(Node::Link(target))
     }
 
-    /// The number of the file that a place is a name of.
-    fn file_at(&self, place: &Place) -> FileNo
-        requires { IsTrue (tree.is_file (tree.node_at self.now.names place.now)) }
-        ensures { tree.node_at self.now.names place.now ≡ Some (File result) }
-    {
-        match self.standing(place) {
-            Some(Node::File(number)) => *number,
-            Some(Node::Dir(_)) => unreachable!(),
-            Some(Node::Link(_)) => unreachable!(),
-            None => unreachable!(),
-        }
-    }
-
     /// Sets the attributes of the node at a place.
     ///
     /// # Errors
@@ -200,5 +191,18 @@ impl Tree {
             Some(Node::Link(_)) => Ok(()),
             None => Ok(()),
         }
+    }
+}
+
+/// The number of the file that the node is a name of.
+fn file_of(node: Option<&Node>) -> FileNo
+    requires { IsTrue (tree.is_file (option_copied node)) }
+    ensures { option_copied node.entry ≡ Some (File result) }
+{
+    match node {
+        Some(Node::File(number)) => *number,
+        Some(Node::Dir(_)) => unreachable!(),
+        Some(Node::Link(_)) => unreachable!(),
+        None => unreachable!(),
     }
 }
