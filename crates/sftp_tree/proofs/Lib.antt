@@ -1,4 +1,5 @@
 pub mod PlaceTables
+pub mod Nesting
 pub mod WellFormedTrees
 pub mod Limits
 pub mod FileCounts

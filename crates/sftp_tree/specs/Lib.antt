@@ -1,4 +1,6 @@
 pub mod Tree
+pub mod Nesting
+pub mod NestingSizes
 pub mod StoredFiles
 pub mod Walk
 pub mod WalkRules

@@ -11,6 +11,7 @@ ghost use Rattle.sftp_tree.specs.Room as rooms;
 ghost use Rattle.sftp_tree.specs.PictureParts.{only_root};
 
 mod below;
+pub(crate) mod directories;
 mod moving;
 
 use crate::nodes::Node;

@@ -1,0 +1,2 @@
+-- Nested directories and the tables of places that they are seen as.
+pub mod Tables

@@ -1,0 +1,20 @@
+use Rattle.std.proofs.Common.{◌∷◌, ap, sym, ◌∙◌}
+use Rattle.std.specs.BTreeMap.{is_at}
+use Rattle.sftp_path.specs.Place.{name_cmp}
+use Rattle.sftp_path.specs.Table.{get}
+use Rattle.sftp_tree.specs.Tree.{Names, node_at}
+use Rattle.sftp_tree.specs.Nesting.{branch_of}
+use Rattle.sftp_tree.proofs.Nesting.Tables.{get-flat, branch-found}
+use Rattle.sftp_tree.proofs.entries.directories.Dir.child.Goals as goal
+
+pub returns-clause-below : goal.returns-clause-below
+unfolding get
+returns-clause-below c rest =
+    sym (ap (λ (names : Names). node_at names (c.args.name.now ∷ rest)) c.self.view_is)
+    ∙ get-flat c.self.inside.owner c.self.inside.children.entries c.args.name.now rest c.self.invariant.0
+    ∙ sym (ap (λ o. node_at (branch_of o) rest) c.get.ensures.value)
+
+pub returns-clause-branch : goal.returns-clause-branch
+returns-clause-branch c =
+    branch-found c.self.inside.children.entries (is_at (name_cmp c.args.name.now)) c.get.result c.self.invariant.1
+    c.get.ensures.value

@@ -1,0 +1,52 @@
+-- Nested directories, and the table of places that each of them is seen as: the directory itself at the place with no
+-- names, and each child at its name, with all that is below it.
+use Rattle.std.specs.Prelude.{Option, Some, None, [], ◌∷◌, ◌++◌, map, IsTrue, ⊤}
+use Rattle.std.specs.List.{AllByRecursion}
+use Rattle.sftp_path.specs.Place.{Name, place_cmp, name_cmp}
+use Rattle.sftp_path.specs.Table.{Table, InOrder}
+use Rattle.sftp_treefile.specs.declared.files.Owner.{Owner}
+use Rattle.sftp_tree.specs.declared.nodes.Node.TheVariants as nodes
+use Rattle.sftp_tree.specs.declared.entries.directories.Child.{Child}
+use Rattle.sftp_tree.specs.declared.entries.directories.Child.TheVariants.{Dir, File, Link}
+use Rattle.sftp_tree.specs.Tree.{Names, node_at, is_directory}
+
+-- the children of a directory by their names
+abbrev pub Children : Type 0
+Children = Table Name Child
+
+-- a child and what is below it, by places that start at the child
+abbrev pub branch : Child → Names
+branch (Dir names) = names
+branch (File number) = ([], nodes.File number) ∷ []
+branch (Link target) = ([], nodes.Link target) ∷ []
+
+-- the same of a child that may be absent
+abbrev pub branch_of : Option Child → Names
+branch_of None = []
+branch_of (Some child) = branch child
+
+-- what is at these places, one name further down
+abbrev pub placed : Name → Names → Names
+placed name table = map (λ e. (name ∷ e.0, e.1)) table
+
+-- the children and what is below them, by places that start at their directory
+abbrev pub flat : Children → Names
+flat [] = []
+flat (c ∷ cs) = placed c.0 (branch c.1) ++ flat cs
+
+-- a directory and what is below it, by places that start at the directory
+abbrev pub flat_of : Owner → Children → Names
+flat_of owner children = ([], nodes.Dir owner) ∷ flat children
+
+-- a child's table is in order, and starts at a directory where the child is one
+abbrev pub IsBranch : Child → Type 0
+IsBranch (Dir names) = InOrder place_cmp names × IsTrue (is_directory (node_at names []))
+IsBranch (File number) = ⊤
+IsBranch (Link target) = ⊤
+
+abbrev pub AreBranches : Children → Type 0
+AreBranches children = AllByRecursion (λ c. IsBranch c.1) children
+
+-- what makes them the children of a directory: their names rise, and each has a table of its own
+abbrev pub AreChildren : Children → Type 0
+AreChildren children = InOrder name_cmp children × AreBranches children
