@@ -6,3 +6,4 @@ pub mod Places
 pub mod Rules
 pub mod Counts
 pub mod Ends
+pub mod Trails

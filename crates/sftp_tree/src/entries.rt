@@ -13,6 +13,7 @@ ghost use Rattle.sftp_tree.specs.PictureParts.{only_root};
 mod below;
 pub(crate) mod directories;
 mod moving;
+pub(crate) mod trail;
 
 use crate::nodes::Node;
 pub(crate) use below::is_below;

@@ -1,0 +1,28 @@
+-- The directories from the root to where a walk stands.
+use Rattle.std.specs.Prelude.{◌≡◌, List, [], ◌∷◌, ◌++◌, ⊤}
+use Rattle.std.specs.Borrow.{Bor}
+use Rattle.sftp_path.specs.Place.{Place}
+use Rattle.sftp_tree.specs.Tree.{Names, node_at}
+
+-- the entries that a walk goes through, and where it stands
+pub record Standing : Type 0 where
+  pub names : Names
+  pub at : Place
+
+-- the second table has at each place what the first has below this one
+abbrev pub IsAt : Names → Place → Names → Type 0
+IsAt names place inner = (rest : Place) → node_at inner rest ≡ node_at names (place ++ rest)
+
+-- the root of a walk: the first of the directories above the one where it stands, or this one
+abbrev pub root_of : List (Bor Names) → Bor Names → Bor Names
+root_of [] here = here
+root_of (dir ∷ above) here = dir
+
+-- by the names of the place each directory above is the parent of the next, and the last the parent of the one where the
+-- walk stands
+abbrev pub AreAlong : List (Bor Names) → Place → Bor Names → Type 0
+AreAlong [] [] here = ⊤
+AreAlong [] (name ∷ names) here = ⊥
+AreAlong (dir ∷ above) [] here = ⊥
+AreAlong (dir ∷ above) (name ∷ names) here =
+    IsAt dir.now (name ∷ []) (root_of above here).now × AreAlong above names here
