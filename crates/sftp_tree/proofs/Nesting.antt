@@ -1,2 +1,3 @@
 -- Nested directories and the tables of places that they are seen as.
 pub mod Tables
+pub mod Changes

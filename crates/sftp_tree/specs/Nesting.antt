@@ -1,10 +1,12 @@
 -- Nested directories, and the table of places that each of them is seen as: the directory itself at the place with no
 -- names, and each child at its name, with all that is below it.
-use Rattle.std.specs.Prelude.{Option, Some, None, [], ◌∷◌, ◌++◌, map, IsTrue, ⊤}
+use Rattle.std.specs.Prelude.{◌≡◌, false, Option, Some, None, [], ◌∷◌, ◌++◌, map, IsTrue, ⊤}
 use Rattle.std.specs.List.{AllByRecursion}
-use Rattle.sftp_path.specs.Place.{Name, place_cmp, name_cmp}
+use Rattle.sftp_path.specs.Place.{Name, Place, place_cmp, name_cmp, begins}
 use Rattle.sftp_path.specs.Table.{Table, InOrder}
 use Rattle.sftp_treefile.specs.declared.files.Owner.{Owner}
+use Rattle.sftp_treefile.specs.TreeFile.{same_place}
+use Rattle.sftp_tree.specs.declared.nodes.Node.{Node}
 use Rattle.sftp_tree.specs.declared.nodes.Node.TheVariants as nodes
 use Rattle.sftp_tree.specs.declared.entries.directories.Child.{Child}
 use Rattle.sftp_tree.specs.declared.entries.directories.Child.TheVariants.{Dir, File, Link}
@@ -50,3 +52,15 @@ AreBranches children = AllByRecursion (λ c. IsBranch c.1) children
 -- what makes them the children of a directory: their names rise, and each has a table of its own
 abbrev pub AreChildren : Children → Type 0
 AreChildren children = InOrder name_cmp children × AreBranches children
+
+-- after a change the directory has these entries at a place and below it, and at all other places what it had
+pub record IsGrafted (place : Place) (before after grafted : Names) : Type 0 where
+  pub there : (rest : Place) → node_at after (place ++ rest) ≡ node_at grafted rest
+  pub elsewhere : (other : Place) → begins place other ≡ false → node_at after other ≡ node_at before other
+  pub ordered : InOrder place_cmp after
+
+-- after a change the directory has this node at a place, and at all other places what it had
+pub record IsSet (place : Place) (before after : Names) (node : Node) : Type 0 where
+  pub here : node_at after place ≡ Some node
+  pub elsewhere : (other : Place) → same_place other place ≡ false → node_at after other ≡ node_at before other
+  pub ordered : InOrder place_cmp after

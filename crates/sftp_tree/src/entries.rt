@@ -12,7 +12,9 @@ ghost use Rattle.sftp_tree.specs.PictureParts.{only_root};
 
 mod below;
 pub(crate) mod directories;
+pub(crate) mod lookup;
 mod moving;
+pub(crate) mod seen;
 pub(crate) mod trail;
 
 use crate::nodes::Node;

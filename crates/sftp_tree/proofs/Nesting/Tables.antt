@@ -1,5 +1,5 @@
 -- The table of a directory: what it has at a place, that its places rise, and when anything is below it.
-use Rattle.std.proofs.Common.{◌≡◌, Bool, true, false, not, cond, [], ◌∷◌, ◌++◌, length, Option, Some, None}
+use Rattle.std.proofs.Common.{◌≡◌, ◌==◌, Bool, true, false, not, cond, [], ◌∷◌, ◌++◌, length, Option, Some, None}
 use Rattle.std.proofs.Common.{IsTrue, IfSome, option_copied, Bor, refl, sym, ap, ◌∙◌, arith}
 use Rattle.std.specs.Ordering.{is_eq, ordering_then}
 use Rattle.std.specs.declared.cmp.Ordering.{Ordering}
@@ -17,6 +17,8 @@ use Rattle.sftp_path.specs.Table.{InOrder, get}
 use Rattle.sftp_path.proofs.Order.{bytes_cmp-same}
 use Rattle.sftp_path.proofs.Table.Laws.{get-below}
 use Rattle.sftp_treefile.specs.declared.files.Owner.{Owner}
+use Rattle.sftp_tree.specs.declared.nodes.Node.{Node}
+use Rattle.sftp_tree.specs.declared.nodes.Node.TheVariants as nodes
 use Rattle.sftp_tree.specs.declared.entries.directories.Child.{Child}
 use Rattle.sftp_tree.specs.declared.entries.directories.Child.TheVariants.{Dir, File, Link}
 use Rattle.sftp_tree.proofs.PlaceTables.Each.{lookup_holds}
@@ -86,6 +88,26 @@ pub get-flat : (owner : Owner) (cs : Children) (n : Name) (ns : Place) → InOrd
     → node_at (flat_of owner cs) (n ∷ ns) ≡ node_at (branch_of (get name_cmp cs n)) ns
 unfolding get
 get-flat owner = lookup-flat
+
+-- at no names a directory has itself
+pub get-root : (owner : Owner) (cs : Children) → node_at (flat_of owner cs) [] ≡ Some (nodes.Dir owner)
+unfolding get
+get-root owner cs = refl
+
+pub alone-none : (node : Node) (names : Place) → false ≡ (length names == 0) → node_at (([], node) ∷ []) names ≡ None
+unfolding get
+alone-none node [] full = cc
+alone-none node (n ∷ ns) full = refl
+
+-- below a child that is no directory there is nothing
+pub get-below_alone : (names : Names) (n : Name) (rest : Place) (found : Option (Bor Child)) (child : Bor Child)
+    (node : Node)
+    → ((below : Place) → node_at names (n ∷ below) ≡ node_at (branch_of (option_copied found)) below)
+    → found ≡ Some child → branch child.now ≡ ([], node) ∷ [] → false ≡ (length rest == 0)
+    → node_at names (n ∷ rest) ≡ None
+get-below_alone names n rest found child node below is alone full =
+    below rest ∙ ap (λ o. node_at (branch_of (option_copied o)) rest) is ∙ ap (λ t. node_at t rest) alone
+    ∙ alone-none node rest full
 
 -- ---- the order
 

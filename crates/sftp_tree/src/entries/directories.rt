@@ -19,8 +19,8 @@ use std::marker::Model;
 #[cycle(directories)]
 #[derive(Debug, Drop)]
 pub(crate) struct Dir {
-    owner: Owner,
-    children: BTreeMap<Name, Child>,
+    pub(super) owner: Owner,
+    pub(super) children: BTreeMap<Name, Child>,
 }
 
 /// What a directory has at a name.
