@@ -23,4 +23,5 @@ pub mod Plans
 pub mod RequestExamples
 pub mod Route
 pub mod Walking
+pub mod Stepping
 pub mod WalkExamples

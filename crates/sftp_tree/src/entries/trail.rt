@@ -1,11 +1,10 @@
 //! The directories from the root to where a walk stands.
-ghost use Rattle.std.specs.Prelude.{◌≡◌, ◌++◌, [], ◌∷◌, OnOk, OnErr, IfSome, option_copied};
-ghost use Rattle.sftp_path.specs.Place.{Place as place, parent};
-ghost use Rattle.sftp_tree.specs.Tree as tree;
-ghost use Rattle.sftp_tree.specs.Nesting.{branch_of, IsBranch};
-ghost use Rattle.sftp_tree.specs.Trail.{IsAt};
+ghost use Rattle.std.specs.Prelude.{◌≡◌, ◌++◌, [], ◌∷◌, Some, OnOk, OnErr};
+ghost use Rattle.sftp_path.specs.Place.{parent};
+ghost use Rattle.sftp_tree.specs.Trail.{IsAt, IsLentAt};
 
 use super::directories::{Child, Dir};
+use super::seen::Seen;
 use sftp_path::{Name, NoMemory, Place};
 use std::alloc::Global;
 use std::marker::Model;
@@ -44,36 +43,43 @@ impl<'a> Trail<'a> {
     }
 
     /// The directory where it stands.
-    pub(crate) fn here(&self) -> &'a Dir
-        ensures { IsAt self.now.names self.now.at result.now }
+    pub(crate) fn here(&self) -> Seen<'a>
+        ensures { IsLentAt self.now.names self.now.at (Some result) }
     {
-        self.here
+        Seen::Dir(self.here.owner(), self.here)
     }
 
-    /// The child of that directory of a name.
-    pub(crate) fn child(&self, name: &Name) -> Option<&'a Child>
-        ensures below { (rest : place) →
-            tree.node_at self.now.names ((self.now.at ++ name.now ∷ []) ++ rest)
-            ≡ tree.node_at (branch_of (option_copied result)) rest }
-        ensures branch { IfSome result (λ child. IsBranch child.now) }
+    /// What stands there at a name.
+    pub(crate) fn find(&self, name: &Name) -> Option<Seen<'a>>
+        ensures { IsLentAt self.now.names (self.now.at ++ name.now ∷ []) result }
     {
-        self.here.child(name)
+        match self.here.child(name) {
+            Some(Child::Dir(dir)) => Some(Seen::Dir(dir.owner(), dir)),
+            Some(Child::File(number)) => Some(Seen::File(*number)),
+            Some(Child::Link(target)) => Some(Seen::Link(target.as_slice())),
+            None => None,
+        }
     }
 
-    /// Goes down to the child of that directory of a name.
+    /// What allocates the place.
+    pub(crate) fn allocator(&self) -> Global {
+        self.at.allocator()
+    }
+
+    /// Goes down to the directory there at a name.
     ///
     /// # Errors
     ///
     /// `NoMemory` if memory runs out; it stands where it did.
-    pub(crate) fn enter(&mut self, name: Name, child: &'a Dir) -> Result<(), NoMemory>
-        requires { IsAt self.old.names (self.old.at ++ name ∷ []) child.now }
+    pub(crate) fn enter(&mut self, name: Name, dir: &'a Dir) -> Result<(), NoMemory>
+        requires { IsAt self.old.names (self.old.at ++ name ∷ []) dir.now }
         ensures ok { OnOk result (self.new ≡ record self.old { at = self.old.at ++ name ∷ [] }) }
         ensures err { OnErr result (self.new ≡ self.old) }
     {
         self.at.enter(name)?;
         match self.above.push(self.here) {
             Ok(()) => {
-                self.here = child;
+                self.here = dir;
                 Ok(())
             }
             Err(_) => {
