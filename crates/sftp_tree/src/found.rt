@@ -18,15 +18,6 @@ pub(crate) struct Found<'a> {
 }
 
 impl Tree {
-    /// The node at a place.
-    #[tactic(auto, unfolding(sftp_path::specs::Table::get))]
-    pub(crate) fn standing(&self, place: &Place) -> Option<&Node>
-        ensures there { option_copied result ≡ tree.node_at self.now.names place.now }
-        ensures kept { tree.IsKept self.now }
-    {
-        self.names().get(place)
-    }
-
     /// Whether both are one place, or names of one file.
     pub(crate) fn are_one(&self, old: &Found<'_>, new: &Found<'_>) -> bool
         requires old { IsThere self.now.names old.now }

@@ -3,10 +3,9 @@ ghost use Rattle.std.specs.Prelude.{◌≡◌, Some, IfOk, IfErr, IsTrue, OnOk, 
 ghost use Rattle.sftp_treefile.specs.TreeFile.{are_bytes};
 ghost use Rattle.sftp_tree.specs.declared.nodes.Node.TheVariants.{File, Link};
 ghost use Rattle.sftp_tree.specs.Tree as tree;
-ghost use Rattle.sftp_tree.specs.Changes as changes;
 ghost use Rattle.sftp_tree.specs.Requests as requests;
 ghost use Rattle.sftp_tree.specs.Asks.{asked};
-ghost use Rattle.sftp_tree.specs.Found.{IsThere};
+ghost use Rattle.sftp_tree.specs.Found.{IsThere, IsFoundIn};
 ghost use Rattle.sftp_tree.specs.Ends.{LeadTo, AreWell};
 ghost use Rattle.sftp_tree.specs.Refusals.{IsFree, IsRefusal};
 ghost use Rattle.sftp_tree.specs.Plans as spec;
@@ -20,6 +19,7 @@ use crate::nodes::Node;
 use crate::owners::changed_owner;
 use crate::trees::Tree;
 use sftp_path::{NoMemory, Place};
+use sftp_treefile::Owner;
 use sftp_wire::{Attrs, ByteString};
 
 /// What is to be done for a request that no cause refuses.
@@ -33,8 +33,10 @@ pub(crate) enum Plan<'a> {
     Remove(Place),
     /// Move the node at the first place, with all below it, to the second, and replace the node there.
     Move(Place, Place),
-    /// Set the attributes of the node at the place.
-    Set(Place, &'a Attrs),
+    /// Give the directory at the place the owner.
+    SetOwner(Place, Owner),
+    /// Set the attributes of the file of the number.
+    SetFile(FileNo, &'a Attrs),
 }
 
 impl Tree {
@@ -69,7 +71,7 @@ impl Tree {
     {
         let Places { old, new } = places;
         match new {
-            None => self.plan_at(ask, old.place),
+            None => self.plan_at(ask, old),
             Some(new) => Ok(self.plan_between(ask, old, new)),
         }
     }
@@ -79,17 +81,19 @@ impl Tree {
     /// # Errors
     ///
     /// `NoMemory` if memory runs out.
-    fn plan_at<'a>(&self, ask: PathAsk<'a>, place: Place) -> Result<Plan<'a>, NoMemory>
-        ensures plan { IfOk result (spec.IsPlanAt self.now (asked ask.entry) place) }
+    fn plan_at<'a>(&self, ask: PathAsk<'a>, found: Found<'_>) -> Result<Plan<'a>, NoMemory>
+        requires { IsFoundIn self.now found }
+        ensures plan { IfOk result (spec.IsPlanAt self.now (asked ask.entry) found.entry.place) }
         ensures node { IfOk result (λ plan. spec.HasNode self.now (asked ask.entry)) }
     {
+        let Found { place, node } = found;
         Ok(match ask {
             PathAsk::Mkdir { attrs, .. } => {
                 Plan::Put(place, Node::Dir(self.directory_owner(attrs)))
             }
             PathAsk::Rmdir { .. } => Plan::Remove(place),
             PathAsk::Remove { .. } => Plan::Remove(place),
-            PathAsk::Setstat { attrs, .. } => Plan::Set(place, attrs),
+            PathAsk::Setstat { attrs, .. } => self.setting(place, &node, attrs),
             PathAsk::Symlink { target, .. } => Plan::Put(place, self.link_to(target)?),
             PathAsk::Stat { .. } => Plan::Nothing,
             PathAsk::Lstat { .. } => Plan::Nothing,
@@ -130,6 +134,22 @@ impl Tree {
         }
     }
 
+    /// What is to be done to set the attributes of what was found.
+    fn setting<'a>(&self, place: Place, node: &Option<&Node>, attrs: &'a Attrs) -> Plan<'a>
+        requires kept { tree.IsKept self.now }
+        requires there { option_copied node.now ≡ tree.node_at self.now.names place }
+        ensures { spec.IsSetting (tree.node_at self.now.names place) place attrs.now result }
+    {
+        let Some(standing) = node else {
+            return Plan::Nothing;
+        };
+        match standing {
+            Node::Dir(owner) => Plan::SetOwner(place, changed_owner(attrs, *owner)),
+            Node::File(number) => Plan::SetFile(*number, attrs),
+            Node::Link(_) => Plan::Nothing,
+        }
+    }
+
     /// Carries out a plan. A file is removed with its last name.
     ///
     /// # Errors
@@ -148,7 +168,11 @@ impl Tree {
                 Ok(())
             }
             Plan::Move(old, new) => self.move_to(&old, new),
-            Plan::Set(place, attrs) => self.set_attributes(&place, attrs),
+            Plan::SetOwner(place, owner) => {
+                self.set_owner(&place, owner);
+                Ok(())
+            }
+            Plan::SetFile(number, attrs) => self.change_file(number, attrs),
         }
     }
 
@@ -163,34 +187,6 @@ impl Tree {
     {
         let target = ByteString::from_slice(self.home().allocator(), target)?;
         Ok(Node::Link(target))
-    }
-
-    /// Sets the attributes of the node at a place.
-    ///
-    /// # Errors
-    ///
-    /// `NoMemory` if memory runs out; the tree is then as before.
-    fn set_attributes(&mut self, place: &Place, attrs: &Attrs) -> Result<(), NoMemory>
-        requires { IsTrue (tree.fits
-            (changes.with_attributes self.old attrs.now place.now (tree.node_at self.old.names place.now))) }
-        ensures ok { OnOk result
-            (self.new
-            ≡ tree.trim (changes.with_attributes self.old attrs.now place.now (tree.node_at self.old.names place.now))) }
-        ensures err { OnErr result (self.new ≡ self.old) }
-    {
-        match self.standing(place) {
-            Some(Node::Dir(owner)) => {
-                let owner = changed_owner(attrs, *owner);
-                self.set_owner(place, owner);
-                Ok(())
-            }
-            Some(Node::File(number)) => {
-                let number = *number;
-                self.change_file(number, attrs)
-            }
-            Some(Node::Link(_)) => Ok(()),
-            None => Ok(()),
-        }
     }
 }
 
