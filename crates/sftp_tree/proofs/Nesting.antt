@@ -1,3 +1,4 @@
 -- Nested directories and the tables of places that they are seen as.
 pub mod Tables
 pub mod Changes
+pub mod Moves

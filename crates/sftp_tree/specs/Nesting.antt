@@ -1,6 +1,6 @@
 -- Nested directories, and the table of places that each of them is seen as: the directory itself at the place with no
 -- names, and each child at its name, with all that is below it.
-use Rattle.std.specs.Prelude.{◌≡◌, false, Option, Some, None, [], ◌∷◌, ◌++◌, map, IsTrue, ⊤}
+use Rattle.std.specs.Prelude.{◌≡◌, Bool, false, Option, Some, None, [], ◌∷◌, ◌++◌, map, IsTrue, ⊤}
 use Rattle.std.specs.List.{AllByRecursion}
 use Rattle.sftp_path.specs.Place.{Name, Place, place_cmp, name_cmp, begins}
 use Rattle.sftp_path.specs.Table.{Table, InOrder}
@@ -10,7 +10,7 @@ use Rattle.sftp_tree.specs.declared.nodes.Node.{Node}
 use Rattle.sftp_tree.specs.declared.nodes.Node.TheVariants as nodes
 use Rattle.sftp_tree.specs.declared.entries.directories.Child.{Child}
 use Rattle.sftp_tree.specs.declared.entries.directories.Child.TheVariants.{Dir, File, Link}
-use Rattle.sftp_tree.specs.Tree.{Names, node_at, is_directory}
+use Rattle.sftp_tree.specs.Tree.{Names, node_at, is_directory, is_taken}
 
 -- the children of a directory by their names
 abbrev pub Children : Type 0
@@ -64,3 +64,19 @@ pub record IsSet (place : Place) (before after : Names) (node : Node) : Type 0 w
   pub here : node_at after place ≡ Some node
   pub elsewhere : (other : Place) → same_place other place ≡ false → node_at after other ≡ node_at before other
   pub ordered : InOrder place_cmp after
+
+-- after a change the directory has what was at the old place, with all below it, at the new one, and nothing at the old
+-- place or below it
+pub record IsMoved (old new : Place) (before after : Names) : Type 0 where
+  pub there : (rest : Place) → node_at after (new ++ rest) ≡ node_at before (old ++ rest)
+  pub left : (rest : Place) → node_at after (old ++ rest) ≡ None
+  pub elsewhere : (other : Place) → begins old other ≡ false → begins new other ≡ false
+      → node_at after other ≡ node_at before other
+  pub ordered : InOrder place_cmp after
+
+-- after a change the place is taken, and all other places have what they had, also the place if it was taken before
+pub record IsFilled (place : Place) (before after : Names) (was_taken : Bool) : Type 0 where
+  pub taken : IsTrue (is_taken (node_at after place))
+  pub was : was_taken ≡ is_taken (node_at before place)
+  pub same : IsTrue was_taken → after ≡ before
+  pub elsewhere : (other : Place) → begins place other ≡ false → node_at after other ≡ node_at before other

@@ -11,8 +11,10 @@ ghost use Rattle.sftp_tree.specs.Room as rooms;
 ghost use Rattle.sftp_tree.specs.PictureParts.{only_root};
 
 mod below;
+mod changes;
 pub(crate) mod directories;
 pub(crate) mod lookup;
+mod moves;
 mod moving;
 pub(crate) mod seen;
 pub(crate) mod trail;

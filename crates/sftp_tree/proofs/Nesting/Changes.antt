@@ -1,26 +1,39 @@
 -- What a change of one child, or below one child, makes of the table of its directory.
-use Rattle.std.proofs.Common.{◌≡◌, ◌&&◌, Bool, true, false, cond, [], ◌∷◌, ◌++◌, Option, Some, None, is_some, IsTrue}
-use Rattle.std.proofs.Common.{IfSome, refl, sym, ap, subst, ◌∙◌}
+use Rattle.std.proofs.Common.{◌≡◌, ◌&&◌, Bool, true, false, cond, [], ◌∷◌, ◌++◌, length, Option, Some, None, is_some, IsTrue}
+use Rattle.std.proofs.Common.{IfSome, refl, sym, ap, subst, ◌∙◌, arith}
 use Rattle.std.specs.Ordering.{is_eq}
+use Rattle.std.specs.Prelude.{Result, Ok, Err, OnErr}
 use Rattle.std.specs.BTreeMap.{BTreeMap, IsOrdered, UpdatesBy, WritesThrough, get_by, is_at}
-use Rattle.std.specs.Cmp.Lexicographic.{bytes_decides, texts_ties, nat_list_cmp_total}
+use Rattle.std.specs.Cmp.Lexicographic.{bytes_decides, texts_ties, nat_list_cmp_total, nat_list_eq_equiv}
 use Rattle.std.specs.Map.{lookup, set_value}
 use Rattle.std.proofs.lemmas.Cmp.{tied_itself}
+use Rattle.std.proofs.lemmas.List.{append_assoc}
 use Rattle.std.proofs.lemmas.Map.Steps.{set_value_same}
-use Rattle.sftp_path.specs.Place.{Name, Place, name_cmp, same_bytes, begins}
+use Rattle.sftp_path.specs.Place.{Name, Place, name_cmp, place_cmp, same_bytes, begins}
 use Rattle.sftp_path.specs.Table.{InOrder, get}
 use Rattle.sftp_path.proofs.Order.{bytes_cmp-same}
 use Rattle.sftp_treefile.specs.declared.files.Owner.{Owner}
+use Rattle.sftp_treefile.specs.TreeFile.{same_place}
 use Rattle.sftp_tree.specs.declared.nodes.Node.{Node}
+use Rattle.sftp_tree.specs.declared.nodes.Node.TheVariants as nodes
 use Rattle.sftp_tree.specs.declared.entries.directories.Child.{Child}
 use Rattle.sftp_tree.specs.declared.entries.directories.Child.TheVariants.{Dir}
-use Rattle.sftp_tree.specs.Tree.{Names, node_at, is_directory}
-use Rattle.sftp_tree.specs.Nesting.{Children, branch, branch_of, flat_of, IsBranch, AreBranches, AreChildren, IsGrafted}
-use Rattle.sftp_tree.proofs.PlaceTables.Each.{each-get, get-each}
+use Rattle.sftp_tree.specs.Tree.{Names, node_at, is_directory, is_taken}
+use Rattle.sftp_tree.specs.Nesting.{Children, branch, branch_of, flat_of, IsBranch, AreBranches, AreChildren}
+use Rattle.sftp_tree.specs.Nesting.{IsGrafted, IsSet}
+use Rattle.sftp_tree.proofs.PlaceTables.Each.{each-get, get-each, lookup_holds}
 use Rattle.sftp_tree.proofs.Nesting.Tables.{get-flat, get-root, alone-none, sorted-flat_of}
 
 abbrev Map : Type 0
 Map = BTreeMap Name Child
+
+pub on-err : {T E P : Type 0} (r : Result T E) → P → OnErr r P
+on-err (Ok x) p = tt
+on-err (Err e) p = p
+
+pub no-names : (place : Place) → length place ≡ 0 → place ≡ []
+no-names [] none = refl
+no-names (n ∷ ns) none = absurd (omega arith)
 
 -- ---- one child
 
@@ -93,18 +106,43 @@ grafted-below m place before after names names' grafted outer found inner =
 -- ---- what is found on the way
 
 -- what a directory has at a place is what the child on the way has at the rest of it
-pub found-below : (self names : Names) (owner : Owner) (cs : Children) (place : Place) (m : Name) (ms : Place)
+pub found-below : (self : Names) (owner : Owner) (cs : Children) (place : Place) (m : Name) (ms : Place)
     (o : Option Child) → flat_of owner cs ≡ self → AreChildren cs → place ≡ m ∷ ms → o ≡ lookup (is_at (name_cmp m)) cs
     → node_at self place ≡ node_at (branch_of o) ms
 unfolding get
-found-below self names owner cs place m ms o view h split found =
+found-below self owner cs place m ms o view h split found =
     ap (λ (x : Names). node_at x place) (sym view) ∙ ap (node_at (flat_of owner cs)) split ∙ get-flat owner cs m ms h.0
     ∙ ap (λ x. node_at (branch_of x) ms) (sym found)
 
--- a directory is found neither where there is no child, nor below a child that is none
-pub nowhere : (ms : Place) (found : Option Node) → found ≡ node_at (branch_of None) ms → IsTrue (is_directory found) → ⊥
+pub found-branch : (cs : Children) (test : Name → Bool) (o : Option Child) → AreBranches cs → o ≡ lookup test cs
+    → IfSome o IsBranch
+found-branch cs test None h found = tt
+found-branch cs test (Some child) h found = lookup_holds IsBranch test cs child h (sym found)
+
+pub found-child : (cs : Children) (test : Name → Bool) (child : Child) → AreBranches cs → lookup test cs ≡ Some child
+    → IsBranch child
+found-child cs test child h found = lookup_holds IsBranch test cs child h found
+
+-- a place without a child has nothing below it, nor has one below a child that is no directory
+pub nothing-absent : (ms : Place) → node_at (branch_of None) ms ≡ None
 unfolding get
-nowhere ms found is directory = let it : is_directory found ≡ false = ap is_directory is in cc
+nothing-absent ms = refl
+
+pub nothing-below : (node : Node) (ms : Place) (name : Name) (rest : Place)
+    → node_at (([], node) ∷ []) (ms ++ name ∷ rest) ≡ None
+unfolding get
+nothing-below node [] name rest = refl
+nothing-below node (m ∷ ms) name rest = refl
+
+no-directory : (found : Option Node) → found ≡ None → IsTrue (is_directory found) → ⊥
+no-directory found is directory = let it : is_directory found ≡ false = ap is_directory is in cc
+
+pub not-taken : (found : Option Node) → found ≡ None → IsTrue (is_taken found) → ⊥
+not-taken found is taken = let it : is_taken found ≡ false = ap is_taken is in cc
+
+pub directory-absent : (ms : Place) (found : Option Node) → found ≡ node_at (branch_of None) ms
+    → IsTrue (is_directory found) → ⊥
+directory-absent ms found is = no-directory found (is ∙ nothing-absent ms)
 
 leaf : (node : Node) (ms : Place) → is_directory (Some node) ≡ false
     → is_directory (node_at (([], node) ∷ []) ms) ≡ false
@@ -112,9 +150,9 @@ unfolding get
 leaf node [] none = none
 leaf node (n ∷ ns) none = refl
 
-pub not-below_leaf : (ms : Place) (node : Node) (found : Option Node) → is_directory (Some node) ≡ false
+pub directory-below : (ms : Place) (node : Node) (found : Option Node) → is_directory (Some node) ≡ false
     → found ≡ node_at (([], node) ∷ []) ms → IsTrue (is_directory found) → ⊥
-not-below_leaf ms node found none is directory =
+directory-below ms node found none is directory =
     let it : is_directory found ≡ false = ap is_directory is ∙ leaf node ms none in
     cc
 
@@ -142,13 +180,50 @@ written-children b b' m child child' h there whole through =
     children-changed m (Some child') b.entries b'.entries h (written-changed b b' m child child' there through) through.4
     whole
 
+pub entries-back : (b b' : Map) (m : Name) (child child' : Child) → get_by (name_cmp m) b ≡ Some child → child' ≡ child
+    → WritesThrough name_cmp (name_cmp m) b child' b' → b'.entries ≡ b.entries
+entries-back b b' m child child' there same through =
+    through.0 ∙ ap (set_value (is_at (name_cmp m)) b.entries) same
+    ∙ set_value_same (is_at (name_cmp m)) b.entries child there
+
 -- the old child written back
 pub written-back : (self : Names) (owner : Owner) (b b' : Map) (m : Name) (child child' : Child)
     → flat_of owner b.entries ≡ self → get_by (name_cmp m) b ≡ Some child → child' ≡ child
-    → WritesThrough name_cmp (name_cmp m) b child' b' → b'.entries ≡ b.entries
+    → WritesThrough name_cmp (name_cmp m) b child' b' → flat_of owner b'.entries ≡ self
 written-back self owner b b' m child child' view there same through =
-    through.0 ∙ ap (set_value (is_at (name_cmp m)) b.entries) same
-    ∙ set_value_same (is_at (name_cmp m)) b.entries child there
+    ap (flat_of owner) (entries-back b b' m child child' there same through) ∙ view
+
+pub written-here : (self : Names) (owner : Owner) (b b' : Map) (place : Place) (m : Name) (child child' given : Child)
+    → flat_of owner b.entries ≡ self → AreChildren b.entries → get_by (name_cmp m) b ≡ Some child → IsBranch child'
+    → WritesThrough name_cmp (name_cmp m) b child' b' → place ≡ m ∷ [] → child' ≡ given
+    → IsGrafted place self (flat_of owner b'.entries) (branch given)
+written-here self owner b b' place m child child' given view h there whole through is same =
+    let h' = written-children b b' m child child' h there whole through in
+    let changed = written-changed b b' m child child' there through in
+    subst (λ (x : Names). IsGrafted place x (flat_of owner b'.entries) (branch given)) view
+    (subst (λ (x : Place). IsGrafted x (flat_of owner b.entries) (flat_of owner b'.entries) (branch given)) (sym is) (subst (λ x. IsGrafted (m ∷ []) (flat_of owner b.entries) (flat_of owner b'.entries) (branch x)) same (grafted-child owner m (Some child') b.entries b'.entries h h' changed)))
+
+-- nothing where nothing was
+pub grafted-nothing : (self after : Names) (owner : Owner) (cs : Children) (place : Place)
+    → flat_of owner cs ≡ self → AreChildren cs → after ≡ self
+    → ((rest : Place) → node_at self (place ++ rest) ≡ None) → IsGrafted place self after []
+grafted-nothing self after owner cs place view h same none =
+    subst (λ (x : Names). IsGrafted place self x []) (sym same)
+    (record {
+      there = λ rest. none rest ∙ sym (nothing-absent rest);
+      elsewhere = λ other apart. refl;
+      ordered = subst (λ (x : Names). InOrder place_cmp x) view (sorted-flat_of owner cs h);
+    })
+
+-- the same where what is taken is nothing
+pub taken-nothing : (self : Names) (owner : Owner) (b b' : Map) (parent : Place) (name : Name)
+    → flat_of owner b.entries ≡ self → AreChildren b.entries → b'.entries ≡ b.entries
+    → ((rest : Place) → node_at self (parent ++ name ∷ rest) ≡ node_at (branch_of None) rest)
+    → IsGrafted (parent ++ name ∷ []) self (flat_of owner b'.entries) []
+taken-nothing self owner b b' parent name view h same none =
+    grafted-nothing self (flat_of owner b'.entries) owner b.entries (parent ++ name ∷ []) view h
+    (ap (flat_of owner) same ∙ view)
+    (λ rest. ap (node_at self) (append_assoc parent (name ∷ []) rest) ∙ none rest ∙ nothing-absent rest)
 
 pub written-grafted : (self : Names) (owner : Owner) (b b' : Map) (place : Place) (m : Name) (ms : Place)
     (names names' grafted : Names) → flat_of owner b.entries ≡ self → AreChildren b.entries
@@ -181,3 +256,62 @@ unfolding get
 updated-grafted self owner b b' place m o view h h' updates is =
     subst (λ (x : Names). IsGrafted place x (flat_of owner b'.entries) (branch_of o)) view
     (subst (λ (x : Place). IsGrafted x (flat_of owner b.entries) (flat_of owner b'.entries) (branch_of o)) (sym is) (grafted-child owner m o b.entries b'.entries h h' updates.0))
+
+-- ---- another owner
+
+pub set-here : (self : Names) (owner owner' : Owner) (cs : Children) (place : Place) → flat_of owner cs ≡ self
+    → AreChildren cs → place ≡ [] → IsSet place self (flat_of owner' cs) (nodes.Dir owner')
+set-here self owner owner' cs place view h is =
+    subst (λ (x : Names). IsSet place x (flat_of owner' cs) (nodes.Dir owner')) view
+    (subst (λ (x : Place). IsSet x (flat_of owner cs) (flat_of owner' cs) (nodes.Dir owner')) (sym is)
+    (record { here = get-root owner' cs; elsewhere = elsewhere; ordered = sorted-flat_of owner' cs h }))
+  where
+    elsewhere : (other : Place) → same_place other [] ≡ false
+        → node_at (flat_of owner' cs) other ≡ node_at (flat_of owner cs) other
+    elsewhere [] apart = cc
+    elsewhere (n ∷ ns) apart = get-flat owner' cs n ns h.0 ∙ sym (get-flat owner cs n ns h.0)
+
+set-below : (m : Name) (ms : Place) (before after names names' : Names) (node : Node)
+    → IsGrafted (m ∷ []) before after names' → ((rest : Place) → node_at before (m ∷ rest) ≡ node_at names rest)
+    → IsSet ms names names' node → IsSet (m ∷ ms) before after node
+set-below m ms before after names names' node outer found inner =
+    record { here = outer.there ms ∙ inner.here; elsewhere = elsewhere; ordered = outer.ordered }
+  where
+    by : (b : Bool) (n : Name) (ns : Place) → same_bytes n m ≡ b → (b && same_place ns ms) ≡ false
+        → node_at after (n ∷ ns) ≡ node_at before (n ∷ ns)
+    by true n ns same apart =
+        let is : m ≡ n = sym ((bytes_decides n m).0 same) in
+        subst (λ (k : Name). node_at after (k ∷ ns) ≡ node_at before (k ∷ ns)) is
+        (outer.there ns ∙ inner.elsewhere ns apart ∙ sym (found ns))
+    by false n ns differ apart =
+        outer.elsewhere (n ∷ ns) (ap (λ b. b && true) (nat_list_eq_equiv.symm m n ∙ differ))
+
+    elsewhere : (other : Place) → same_place other (m ∷ ms) ≡ false → node_at after other ≡ node_at before other
+    elsewhere [] apart = outer.elsewhere [] refl
+    elsewhere (n ∷ ns) apart = by (same_bytes n m) n ns refl apart
+
+still-directory : (names names' : Names) (ms : Place) (owner : Owner) → IsBranch (Dir names)
+    → IsSet ms names names' (nodes.Dir owner) → IsTrue (is_directory (node_at names' []))
+still-directory names names' [] owner h set = subst (λ o. IsTrue (is_directory o)) (sym set.here) refl
+still-directory names names' (m ∷ ms) owner h set =
+    subst (λ o. IsTrue (is_directory o)) (sym (set.elsewhere [] refl)) h.1
+
+pub set-branch : (names names' : Names) (ms : Place) (owner : Owner) → IsBranch (Dir names)
+    → IsSet ms names names' (nodes.Dir owner) → IsBranch (Dir names')
+set-branch names names' ms owner h set = (set.ordered, still-directory names names' ms owner h set)
+
+pub written-set : (self : Names) (owner : Owner) (b b' : Map) (place : Place) (m : Name) (ms : Place)
+    (names names' : Names) (node : Node) → flat_of owner b.entries ≡ self → AreChildren b.entries
+    → get_by (name_cmp m) b ≡ Some (Dir names) → IsBranch (Dir names')
+    → WritesThrough name_cmp (name_cmp m) b (Dir names') b' → place ≡ m ∷ ms
+    → IsSet ms names names' node → IsSet place self (flat_of owner b'.entries) node
+unfolding get
+written-set self owner b b' place m ms names names' node view h there whole through split inner =
+    let changed = written-changed b b' m (Dir names) (Dir names') there through in
+    let h' = written-children b b' m (Dir names) (Dir names') h there whole through in
+    let outer = grafted-child owner m (Some (Dir names')) b.entries b'.entries h h' changed in
+    let found : (rest : Place) → node_at (flat_of owner b.entries) (m ∷ rest) ≡ node_at names rest =
+    λ rest. get-flat owner b.entries m rest h.0 ∙ ap (λ x. node_at (branch_of x) rest) there in
+    let whole = set-below m ms (flat_of owner b.entries) (flat_of owner b'.entries) names names' node outer found inner in
+    subst (λ (x : Names). IsSet place x (flat_of owner b'.entries) node) view
+    (subst (λ (x : Place). IsSet x (flat_of owner b.entries) (flat_of owner b'.entries) node) (sym split) whole)

@@ -1,8 +1,9 @@
 //! What a directory has at a place.
-ghost use Rattle.std.specs.Prelude.{◌≡◌, [], ◌∷◌, Some, option_map};
+ghost use Rattle.std.specs.Prelude.{◌≡◌, [], ◌∷◌, ◌++◌, Some, option_map, IsTrue};
+ghost use Rattle.sftp_path.specs.Place.{Place};
 ghost use Rattle.sftp_tree.specs.Tree as tree;
 ghost use Rattle.sftp_tree.specs.Nesting.{branch};
-ghost use Rattle.sftp_tree.specs.Seen.{node_seen};
+ghost use Rattle.sftp_tree.specs.Seen.{node_seen, branch_seen, IsWhole};
 
 use super::directories::{Child, Dir};
 use super::seen::Seen;
@@ -26,7 +27,10 @@ impl Dir {
     /// What stands at the place to which these names lead from the directory.
     #[tactic(auto, unfolding(sftp_path::specs::Table::get))]
     pub(crate) fn at(&self, names: &[Name]) -> Option<Seen<'_>>
-        ensures { option_map node_seen result ≡ tree.node_at self.now names.now }
+        ensures there { option_map node_seen result ≡ tree.node_at self.now names.now }
+        ensures below { (rest : Place) →
+            tree.node_at (branch_seen result) rest ≡ tree.node_at self.now (names.now ++ rest) }
+        ensures whole { IsWhole result }
     {
         let mut dir = self;
         let mut left = names;
@@ -44,5 +48,18 @@ impl Dir {
             left = rest;
         }
         Some(Seen::Dir(dir.owner(), dir))
+    }
+
+    /// Whether the directory to which the parent's names lead has a child of this name.
+    pub(super) fn has_at(&self, parent: &[Name], name: &Name) -> bool
+        requires { IsTrue (tree.is_directory (tree.node_at self.now parent.now)) }
+        ensures { result ≡ tree.is_taken (tree.node_at self.now (parent.now ++ name.now ∷ [])) }
+    {
+        match self.at(parent) {
+            Some(Seen::Dir(_, dir)) => dir.child(name).is_some(),
+            Some(Seen::File(_)) => false,
+            Some(Seen::Link(_)) => false,
+            None => false,
+        }
     }
 }

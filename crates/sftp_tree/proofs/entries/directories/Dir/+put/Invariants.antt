@@ -1,0 +1,5 @@
+use Rattle.std.proofs.Common.{length}
+use Rattle.sftp_tree.proofs.entries.directories.Dir.+put.Given as goal
+
+abbrev pub decreases-put : goal.decreases-put
+decreases-put l = length l.parent.now

@@ -1,0 +1,5 @@
+use Rattle.std.proofs.Common.{length}
+use Rattle.sftp_tree.proofs.entries.directories.Dir.+replace.Given as goal
+
+abbrev pub decreases-replace : goal.decreases-replace
+decreases-replace l = length l.parent.now
