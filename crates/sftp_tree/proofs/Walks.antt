@@ -6,3 +6,5 @@ pub mod Places
 pub mod Rules
 pub mod Counts
 pub mod Links
+pub mod Ends
+pub mod Trails

@@ -1,6 +1,7 @@
 -- The plans of requests.
 use Rattle.std.specs.Prelude.{◌≡◌, ℕ, false, if◌then◌else◌, Option, Some, None, IsTrue}
 use Rattle.sftp_path.specs.Place.{Place, parent, are_names}
+use Rattle.sftp_treefile.specs.declared.files.Owner.{Owner}
 use Rattle.sftp_treefile.specs.TreeFile.{IsOwner, are_bytes, is_root, same_place}
 use Rattle.sftp_wire.specs.declared.attributes.Attrs.{Attrs}
 use Rattle.sftp_wire.specs.declared.packets.Ask.{Ask}
@@ -9,13 +10,12 @@ use Rattle.sftp_tree.specs.declared.file_contents.Content.{Content}
 use Rattle.sftp_tree.specs.declared.nodes.Node.{Node}
 use Rattle.sftp_tree.specs.declared.nodes.Node.TheVariants as nodes
 use Rattle.sftp_tree.specs.declared.plans.Plan.{Plan}
-use Rattle.sftp_tree.specs.declared.plans.Plan.TheVariants.{Nothing, Put, Remove as Take, Move, Set, Make, Truncate}
+use Rattle.sftp_tree.specs.declared.plans.Plan.TheVariants.{Nothing, Put, Remove as Take, Move, SetOwner, SetFile, Make, Truncate}
 use Rattle.sftp_tree.specs.Tree.{Tree, IsTrimmed, IsNode, IsContent, fits, node_at, content_at, is_taken, is_directory, is_file, has_entries, trim}
-use Rattle.sftp_tree.specs.Attributes.{directory_owner, file_owner}
+use Rattle.sftp_tree.specs.Attributes.{directory_owner, file_owner, changed_owner}
 use Rattle.sftp_tree.specs.OpenFlags.{truncates}
 use Rattle.sftp_tree.specs.PlaceCauses.{are_one, goes_inside}
-use Rattle.sftp_tree.specs.Changes.{with_entry, without_entry, with_attributes, put_in_its_stead}
-use Rattle.sftp_tree.specs.Changes.{with_new_file, new_content, with_emptied_file}
+use Rattle.sftp_tree.specs.Changes.{with_entry, without_entry, put_in_its_stead, with_new_file, new_content, with_emptied_file, with_changed_file}
 use Rattle.sftp_tree.specs.Requests.{after}
 
 -- the tree with the plan carried out; files that lost their last name still exist
@@ -24,7 +24,8 @@ changed t Nothing = t
 changed t (Put place node) = with_entry t place node
 changed t (Take place) = without_entry t place
 changed t (Move old new) = put_in_its_stead t old new
-changed t (Set place attrs) = with_attributes t attrs.now place (node_at t.names place)
+changed t (SetOwner place owner) = with_entry t place (nodes.Dir owner)
+changed t (SetFile number attrs) = with_changed_file t attrs.now number (content_at t.files number)
 changed t (Make place content) = with_new_file t place content
 changed t (Truncate number) = with_emptied_file t number (content_at t.files number)
 
@@ -56,6 +57,11 @@ pub record CanMove (t : Tree) (old new : Place) : Type 0 where
   pub alone : has_entries t.names new ≡ false
   pub room : IsTrue (fits (put_in_its_stead t old new))
 
+-- the directory at the place can get the owner
+pub record CanOwn (t : Tree) (place : Place) (owner : Owner) : Type 0 where
+  pub directory : IsTrue (is_directory (node_at t.names place))
+  pub is_owner : IsOwner owner
+
 -- a file with this content, and a name of it, can be made at the place
 pub record CanMake (t : Tree) (place : Place) (content : Content) : Type 0 where
   pub absent : node_at t.names place ≡ None
@@ -69,15 +75,24 @@ IsReady t Nothing = IsTrimmed t
 IsReady t (Put place node) = CanPut t place node
 IsReady t (Take place) = CanTake t place
 IsReady t (Move old new) = CanMove t old new
-IsReady t (Set place attrs) = IsTrue (fits (with_attributes t attrs.now place (node_at t.names place)))
+IsReady t (SetOwner place owner) = CanOwn t place owner
+IsReady t (SetFile number attrs) = IsTrue (fits (changed t (SetFile number attrs)))
 IsReady t (Make place content) = CanMake t place content
 IsReady t (Truncate number) = IsTrue (fits (with_emptied_file t number (content_at t.files number)))
 
 -- ---- what is to be done, by request
 
-abbrev pub IsSetting : Place → Attrs → Plan → Type 0
-IsSetting place attrs (Set at given) = (at ≡ place) × (given.now ≡ attrs)
-IsSetting place attrs other = ⊥
+abbrev pub IsSettingOf : ℕ → Attrs → Plan → Type 0
+IsSettingOf number attrs (SetFile n given) = (n ≡ number) × (given.now ≡ attrs)
+IsSettingOf number attrs other = ⊥
+
+-- a directory gets an owner, and a file attributes
+abbrev pub IsSetting : Option Node → Place → Attrs → Plan → Type 0
+IsSetting None place attrs plan = plan ≡ Nothing
+IsSetting (Some (nodes.Dir owner)) place attrs plan =
+    (plan ≡ SetOwner place (changed_owner attrs owner)) × IsOwner (changed_owner attrs owner)
+IsSetting (Some (nodes.File number)) place attrs plan = IsSettingOf number attrs plan
+IsSetting (Some (nodes.Link target)) place attrs plan = plan ≡ Nothing
 
 -- what is to be done to open the node at a place
 abbrev pub plan_to_open : Tree → ℕ → Attrs → Place → Option Node → Plan
@@ -92,7 +107,7 @@ IsPlanAt t (Mkdir path attrs) place plan = plan ≡ Put place (nodes.Dir (direct
 IsPlanAt t (Symlink target link) place plan = plan ≡ Put place (nodes.Link target)
 IsPlanAt t (Rmdir path) place plan = plan ≡ Take place
 IsPlanAt t (Remove path) place plan = plan ≡ Take place
-IsPlanAt t (Setstat path attrs) place plan = IsSetting place attrs plan
+IsPlanAt t (Setstat path attrs) place plan = IsSetting (node_at t.names place) place attrs plan
 IsPlanAt t (Open path pflags attrs) place plan = plan ≡ plan_to_open t pflags attrs place (node_at t.names place)
 IsPlanAt t other place plan = plan ≡ Nothing
 

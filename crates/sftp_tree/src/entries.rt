@@ -19,6 +19,7 @@ pub(crate) mod lookup;
 mod moves;
 mod moving;
 pub(crate) mod seen;
+pub(crate) mod trail;
 
 use crate::nodes::Node;
 pub(crate) use below::is_below;

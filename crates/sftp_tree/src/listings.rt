@@ -39,7 +39,7 @@ impl Tree {
         ensures kept { OnOk result (tree.IsKept self.now) }
     {
         let places = self.free_places(PathAsk::Opendir { path })?;
-        Ok(self.items_below(&places.old)?)
+        Ok(self.items_below(&places.old.place)?)
     }
 
     /// The names right below a place, in order, with the attributes shown of their nodes.

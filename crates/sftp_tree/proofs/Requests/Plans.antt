@@ -12,7 +12,7 @@ use Rattle.sftp_tree.specs.declared.nodes.Node.TheVariants as nodes
 use Rattle.sftp_tree.specs.declared.causes.Cause.{Cause}
 use Rattle.sftp_tree.specs.declared.causes.Cause.TheVariants.{NoEntry, NotDir, NotEmpty, Root, Exists, IsDir}
 use Rattle.sftp_tree.specs.declared.plans.Plan.{Plan}
-use Rattle.sftp_tree.specs.declared.plans.Plan.TheVariants.{Nothing, Put, Remove as Take, Move, Set, Make, Truncate}
+use Rattle.sftp_tree.specs.declared.plans.Plan.TheVariants.{Nothing, Put, Remove as Take, Move, SetOwner, SetFile, Make, Truncate}
 use Rattle.sftp_tree.specs.Tree.{Tree, IsKept, IsNode, fits, node_at, content_at, is_taken, is_directory, is_file, is_link, has_entries, trim}
 use Rattle.sftp_tree.specs.Attributes.{directory_owner, file_owner}
 use Rattle.sftp_tree.specs.OpenFlags.{truncates, excludes}
@@ -20,10 +20,10 @@ use Rattle.sftp_tree.specs.Walking.{IsPlaceOf}
 use Rattle.sftp_tree.specs.Causes.{no_causes, when}
 use Rattle.sftp_tree.specs.PlaceCauses.{removing_causes, unlinking_causes, are_one, leaving_causes, giving_causes, exchanging_causes, opening_causes}
 use Rattle.sftp_tree.specs.Walk.{reached}
-use Rattle.sftp_tree.specs.Changes.{with_further_name, put_in_its_stead, with_attributes, with_new_file, new_content, with_emptied_file, with_opened}
-use Rattle.sftp_tree.specs.Requests.{outcome_at, outcome_between, led, new_led, led_to, shown_at, shown_to, target_of, target_to, text_to, number_at, file_to}
+use Rattle.sftp_tree.specs.Changes.{with_further_name, put_in_its_stead, with_attributes, with_new_file, new_content, with_emptied_file, with_opened, with_changed_file}
+use Rattle.sftp_tree.specs.Requests.{outcome_at, outcome_between, led, new_led, led_to, shown_at, shown_to, target_of, target_to, text_to, number_at, file_to, causes_at}
 use Rattle.sftp_tree.specs.Refusals.{IsFree, stat_ask}
-use Rattle.sftp_tree.specs.Plans.{changed, IsReady, CanTake, HasNode, IsPlanned, IsPlanAt, IsNaming, IsPlanBetween, IsFileAt, plan_to_open}
+use Rattle.sftp_tree.specs.Plans.{changed, IsReady, CanTake, HasNode, IsPlanned, IsPlanAt, IsNaming, IsPlanBetween, IsFileAt, plan_to_open, IsSettingOf, IsSetting}
 use Rattle.sftp_tree.proofs.CauseLaws.Places.{FreeAt, FreeBetween, free-at, free-between, outcome-is}
 use Rattle.sftp_tree.proofs.CauseLaws.Limits.{free-place, file-place, name-place, link-place, taken-place, may-leave, may-replace, outside-of, given-below, free-alone}
 use Rattle.sftp_tree.proofs.WellFormedTrees.Places.{nothing-below}
@@ -71,16 +71,33 @@ can-remove-name t place kept none =
 done-put : (t : Tree) (place : Place) (it : Node) (plan : Plan) → IsPlaceOf t place → node_at t.names place ≡ None → IsNode t.files it → IsTrue (fits (changed t (Put place it))) → plan ≡ Put place it → IsDone t (changed t (Put place it)) plan
 done-put t place it plan well free is_node room is = search rules
 
-done-set : (t : Tree) (attrs : Attrs) (place : Place) (path : List ℕ) (plan : Plan) → IsTrue (fits (outcome_at t (Setstat path attrs) place)) → IsPlanAt t (Setstat path attrs) place plan → IsDone t (outcome_at t (Setstat path attrs) place) plan
-done-set t attrs place path (Set at given) room is =
-    let same : changed t (Set at given) ≡ outcome_at t (Setstat path attrs) place = λ i. outcome_at t (Setstat path (is.1 i)) (is.0 i) in
+-- of a file
+done-set-file : (t : Tree) (attrs : Attrs) (number : ℕ) (plan : Plan)
+    → IsTrue (fits (with_changed_file t attrs number (content_at t.files number))) → IsSettingOf number attrs plan
+    → IsDone t (with_changed_file t attrs number (content_at t.files number)) plan
+done-set-file t attrs number (SetFile n given) room is =
+    let same : changed t (SetFile n given) ≡ with_changed_file t attrs number (content_at t.files number) =
+    λ i. with_changed_file t (is.1 i) (is.0 i) (content_at t.files (is.0 i)) in
     record { ready = ap fits same ∙ room; done = same }
-done-set t attrs place path Nothing room is = absurd is
-done-set t attrs place path (Put at node) room is = absurd is
-done-set t attrs place path (Take at) room is = absurd is
-done-set t attrs place path (Move old new) room is = absurd is
-done-set t attrs place path (Truncate number) room is = absurd is
-done-set t attrs place path (Make at content) room is = absurd is
+done-set-file t attrs number Nothing room is = absurd is
+done-set-file t attrs number (Put at node) room is = absurd is
+done-set-file t attrs number (Take at) room is = absurd is
+done-set-file t attrs number (Move old new) room is = absurd is
+done-set-file t attrs number (SetOwner at owner) room is = absurd is
+done-set-file t attrs number (Truncate n) room is = absurd is
+done-set-file t attrs number (Make at content) room is = absurd is
+
+done-set : (t : Tree) (attrs : Attrs) (place : Place) (found : Option Node) (plan : Plan) → IsKept t
+    → node_at t.names place ≡ found → IsTrue (fits (with_attributes t attrs place found))
+    → IsSetting found place attrs plan → IsDone t (with_attributes t attrs place found) plan
+done-set t attrs place None plan kept there room is =
+    subst (IsDone t t) (sym is) (record { ready = kept.trimmed; done = refl })
+done-set t attrs place (Some (nodes.Dir owner)) plan kept there room is =
+    subst (IsDone t (with_attributes t attrs place (Some (nodes.Dir owner)))) (sym is.0)
+    (record { ready = record { directory = ap is_directory there; is_owner = is.1 }; done = refl })
+done-set t attrs place (Some (nodes.File number)) plan kept there room is = done-set-file t attrs number plan room is
+done-set t attrs place (Some (nodes.Link target)) plan kept there room is =
+    subst (IsDone t t) (sym is) (record { ready = kept.trimmed; done = refl })
 
 done-truncate : (t : Tree) (number : ℕ) (empties : Bool) (plan : Plan) → IsKept t
     → IsTrue (fits (if empties then with_emptied_file t number (content_at t.files number) else t))
@@ -124,7 +141,8 @@ done-at t (Rmdir path) place plan well free good is =
     subst (IsDone t (outcome_at t (Rmdir path) place)) (sym is) (record { ready = can-remove-directory t place free.none; done = refl })
 done-at t (Remove path) place plan well free good is =
     subst (IsDone t (outcome_at t (Remove path) place)) (sym is) (record { ready = can-remove-name t place well.kept free.none; done = refl })
-done-at t (Setstat path attrs) place plan well free good is = done-set t attrs place path plan free.room is
+done-at t (Setstat path attrs) place plan well free good is =
+    done-set t attrs place (node_at t.names place) plan well.kept refl free.room is
 done-at t (Open path flags attrs) place plan well free good is =
     done-open t flags attrs place (node_at t.names place) plan refl well good free.room is
 done-at t other place plan well free good is = subst (IsDone t t) (sym is) (record { ready = well.kept.trimmed; done = refl })
@@ -277,7 +295,3 @@ pub number-told : (t : Tree) (path : List ℕ) (flags : ℕ) (attrs : Attrs) (pl
 unfolding file_to
 number-told t path flags attrs place number leads is =
     ap (λ o. led_to None o (λ place. number_at t (node_at t.names place))) leads ∙ is
-
--- where nothing has attributes that can be set, the tree stays
-pub unchanged : (t : Tree) (attrs : Attrs) (place : Place) (found : Option Node) → IsKept t → node_at t.names place ≡ found → with_attributes t attrs place found ≡ t → t ≡ trim (with_attributes t attrs place (node_at t.names place))
-unchanged t attrs place found kept there same = sym (ap (λ o. trim (with_attributes t attrs place o)) there ∙ ap trim same ∙ trimmed-already t kept.trimmed)
