@@ -1,5 +1,6 @@
 -- Listings are tables: their names rise, and a name has what is shown of the node at its place.
-use Rattle.std.proofs.Common.{◌≡◌, Bool, true, false, cond, if◌then◌else◌, [], ◌∷◌, ◌++◌, filter_map, option_map, refl, sym, ◌∙◌, ap, Option, Some, None, is_some}
+use Rattle.std.proofs.Common.{◌≡◌, Bool, true, false, cond, if◌then◌else◌, [], ◌∷◌, ◌++◌, filter_map, option_map, refl}
+use Rattle.std.proofs.Common.{sym, ◌∙◌, ap, Option, Some, None, is_some}
 use Rattle.std.specs.Ordering.{ordering_then, is_eq}
 use Rattle.std.specs.declared.cmp.Ordering.{Ordering}
 use Rattle.std.specs.declared.cmp.Ordering.TheVariants.{Less, Equal, Greater}
@@ -84,7 +85,8 @@ each-shown P t [] each = tt
 each-shown P t (e ∷ es) each = by (each-shown P t es each.1) (shown t e.1)
   where
     by : AllByRecursion P (keys_of (filter_map (shown_child t) es)) → (o : Option Attrs)
-        → AllByRecursion P (keys_of (cons_option (option_map (λ attrs. (e.0, attrs)) o) (filter_map (shown_child t) es)))
+        → AllByRecursion P
+        (keys_of (cons_option (option_map (λ attrs. (e.0, attrs)) o) (filter_map (shown_child t) es)))
     by rest None = rest
     by rest (Some attrs) = (each.0, rest)
 
@@ -126,7 +128,8 @@ then-both Equal q = refl
 then-both Greater q = refl
 
 -- it is at the name's place just then
-at-child : (place k : Place) (name : Name) → is_eq (place_cmp (place ++ name ∷ []) k) ≡ is_child name (name_below place k)
+at-child : (place k : Place) (name : Name)
+    → is_eq (place_cmp (place ++ name ∷ []) k) ≡ is_child name (name_below place k)
 unfolding is_child
 at-child [] [] name = refl
 at-child [] (n ∷ []) name = then-equal (name_cmp name n)
@@ -138,7 +141,8 @@ at-child (p ∷ ps) (x ∷ xs) name =
     ∙ by (at-child ps xs name) (same_bytes p x)
   where
     by : is_eq (place_cmp (ps ++ name ∷ []) xs) ≡ is_child name (name_below ps xs) → (b : Bool)
-        → (if b then is_eq (place_cmp (ps ++ name ∷ []) xs) else false) ≡ is_child name (if b then name_below ps xs else None)
+        → (if b then is_eq (place_cmp (ps ++ name ∷ []) xs) else false) ≡ is_child name
+        (if b then name_below ps xs else None)
     by rest true = rest
     by rest false = refl
 
@@ -150,9 +154,11 @@ child-at (e ∷ es) place name =
     by (child-at es place name) (name_below place e.0)
     ∙ ap (λ b. cond b (Some e.1) (lookup (is_at (place_cmp (place ++ name ∷ []))) es)) (sym (at-child place e.0 name))
   where
-    by : lookup (is_at (name_cmp name)) (filter_map (child_below place) es) ≡ lookup (is_at (place_cmp (place ++ name ∷ []))) es
+    by : lookup (is_at (name_cmp name)) (filter_map (child_below place) es) ≡ lookup
+        (is_at (place_cmp (place ++ name ∷ []))) es
         → (o : Option Name)
-        → lookup (is_at (name_cmp name)) (cons_option (option_map (λ n. (n, e.1)) o) (filter_map (child_below place) es))
+        → lookup (is_at (name_cmp name))
+        (cons_option (option_map (λ n. (n, e.1)) o) (filter_map (child_below place) es))
         ≡ cond (is_child name o) (Some e.1) (lookup (is_at (place_cmp (place ++ name ∷ []))) es)
     by rest None = rest
     by rest (Some n) = ap (λ found. cond (is_eq (name_cmp name n)) (Some e.1) found) rest
@@ -176,7 +182,8 @@ shown-get t (e ∷ es) name nodes =
   where
     by : lookup (is_at (name_cmp name)) (filter_map (shown_child t) es) ≡ shown_at t (lookup (is_at (name_cmp name)) es)
         → (o : Option Attrs) → is_some o ≡ true → shown t e.1 ≡ o → (b : Bool) → is_eq (name_cmp name e.0) ≡ b
-        → lookup (is_at (name_cmp name)) (cons_option (option_map (λ attrs. (e.0, attrs)) o) (filter_map (shown_child t) es))
+        → lookup (is_at (name_cmp name))
+        (cons_option (option_map (λ attrs. (e.0, attrs)) o) (filter_map (shown_child t) es))
         ≡ shown_at t (cond (is_eq (name_cmp name e.0)) (Some e.1) (lookup (is_at (name_cmp name)) es))
     by rest None there is b same = cc
     by rest (Some attrs) there is true same =
