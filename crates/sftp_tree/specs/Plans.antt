@@ -4,13 +4,15 @@ use Rattle.sftp_path.specs.Place.{Place, parent, are_names}
 use Rattle.sftp_treefile.specs.TreeFile.{IsOwner, are_bytes, is_root, same_place}
 use Rattle.sftp_wire.specs.declared.attributes.Attrs.{Attrs}
 use Rattle.sftp_wire.specs.declared.packets.Ask.{Ask}
-use Rattle.sftp_wire.specs.declared.packets.Ask.TheVariants.{Open, Setstat, Remove, Mkdir, Rmdir, Rename, Symlink, PosixRename, Hardlink}
+use Rattle.sftp_wire.specs.declared.packets.Ask.TheVariants.{Open, Setstat, Remove, Mkdir, Rmdir, Rename, Symlink}
+use Rattle.sftp_wire.specs.declared.packets.Ask.TheVariants.{PosixRename, Hardlink}
 use Rattle.sftp_tree.specs.declared.file_contents.Content.{Content}
 use Rattle.sftp_tree.specs.declared.nodes.Node.{Node}
 use Rattle.sftp_tree.specs.declared.nodes.Node.TheVariants as nodes
 use Rattle.sftp_tree.specs.declared.plans.Plan.{Plan}
 use Rattle.sftp_tree.specs.declared.plans.Plan.TheVariants.{Nothing, Put, Remove as Take, Move, Set, Make, Truncate}
-use Rattle.sftp_tree.specs.Tree.{Tree, IsTrimmed, IsNode, IsContent, fits, node_at, content_at, is_taken, is_directory, is_file, has_entries, trim}
+use Rattle.sftp_tree.specs.Tree.{Tree, IsTrimmed, IsNode, IsContent, fits, node_at, content_at, is_taken, is_directory}
+use Rattle.sftp_tree.specs.Tree.{is_file, has_entries, trim}
 use Rattle.sftp_tree.specs.Attributes.{directory_owner, file_owner}
 use Rattle.sftp_tree.specs.OpenFlags.{truncates}
 use Rattle.sftp_tree.specs.PlaceCauses.{are_one, goes_inside}
