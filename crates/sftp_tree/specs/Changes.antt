@@ -1,5 +1,5 @@
--- What requests change in a tree (draft-ietf-secsh-filexfer-02, sections 6.3 to 6.11; OpenSSH's PROTOCOL, section 4.3 for
--- posix-rename and 4.5 for hardlink).
+-- What requests change in a tree (draft-ietf-secsh-filexfer-02, sections 6.3 to 6.11; OpenSSH's PROTOCOL, section 4.3
+-- for posix-rename and 4.5 for hardlink).
 use Rattle.std.specs.Prelude.{ℕ, ◌+◌, if◌then◌else◌, [], Option, Some, None}
 use Rattle.sftp_wire.specs.declared.attributes.Attrs.{Attrs}
 use Rattle.sftp_path.specs.Place.{Place}
@@ -65,7 +65,8 @@ new_content t attrs = record { owner = file_owner t attrs; bytes = [] }
 -- a file loses its bytes
 abbrev pub with_emptied_file : Tree → ℕ → Option Content → Tree
 with_emptied_file t number None = t
-with_emptied_file t number (Some content) = record t { files = with_content t.files number (record content { bytes = [] }) }
+with_emptied_file t number (Some content) =
+    record t { files = with_content t.files number (record content { bytes = [] }) }
 
 -- the node at a place is opened: a free place gets a new file, and a file that exists loses its bytes if the flags say
 -- so; neither a directory nor a link can be opened

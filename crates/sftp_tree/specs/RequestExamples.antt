@@ -98,7 +98,9 @@ given_file = record { owner = record { uid = 1000; gid = 100; permissions = 0o60
 
 -- `/g` is the name of a new file, which has the number 1
 abbrev pub with_new_file : Tree
-with_new_file = record (tree_of ((codes "f" ∷ [], File 0) ∷ (codes "g" ∷ [], File 1) ∷ [])) { files = (0, hello) ∷ (1, given_file) ∷ []; made = 2 }
+with_new_file =
+    record (tree_of ((codes "f" ∷ [], File 0) ∷ (codes "g" ∷ [], File 1) ∷ []))
+    { files = (0, hello) ∷ (1, given_file) ∷ []; made = 2 }
 
 -- the link `/l` to `x y`, which is the name of a new file
 abbrev pub with_linked_file : Tree
@@ -129,7 +131,11 @@ with_directories = holding ((codes "f" ∷ [], File 0) ∷ (codes "x" ∷ [], di
 
 -- the directory `/d` with the file `/d/f`, the directory `/d/g`, which has an entry, and the link `/d/l` to it
 abbrev pub with_listing : Tree
-with_listing = holding ((codes "d" ∷ [], directory) ∷ (codes "d" ∷ codes "f" ∷ [], File 0) ∷ (codes "d" ∷ codes "g" ∷ [], directory) ∷ (codes "d" ∷ codes "g" ∷ codes "e" ∷ [], directory) ∷ (codes "d" ∷ codes "l" ∷ [], Link (codes "g")) ∷ []) hello
+with_listing =
+    holding
+    ((codes "d" ∷ [], directory) ∷ (codes "d" ∷ codes "f" ∷ [], File 0) ∷ (codes "d" ∷ codes "g" ∷ [], directory) ∷
+    (codes "d" ∷ codes "g" ∷ codes "e" ∷ [], directory) ∷ (codes "d" ∷ codes "l" ∷ [], Link (codes "g")) ∷ [])
+    hello
 
 -- the attributes shown of the directory `/d/g`, and of the link `/d/l`
 abbrev pub shown_plain_directory : Attrs

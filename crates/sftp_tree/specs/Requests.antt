@@ -1,6 +1,6 @@
 -- The table of requests, and what follows from it: where the paths of a request lead, which causes hold, the tree after
--- it and what its reply says (draft-ietf-secsh-filexfer-02, sections 6.3 to 6.11; OpenSSH's PROTOCOL, section 4.1 for the
--- order of SYMLINK's arguments, 4.3 for posix-rename and 4.5 for hardlink). Which walks follow a last link is this
+-- it and what its reply says (draft-ietf-secsh-filexfer-02, sections 6.3 to 6.11; OpenSSH's PROTOCOL, section 4.1 for
+-- the order of SYMLINK's arguments, 4.3 for posix-rename and 4.5 for hardlink). Which walks follow a last link is this
 -- profile's own.
 use Rattle.std.specs.Prelude.{◌&&◌, not, ℕ, Bool, true, false, List, Option, Some, None, is_some, Result, Ok, Err}
 use Rattle.std.specs.Option.{option_map}

@@ -1,10 +1,12 @@
 -- Whether what requests ask for keeps to the limits, in numbers.
-use Rattle.std.specs.Prelude.{◌+◌, ◌-◌, ◌^◌, ◌&&◌, ◌||◌, not, nat_lt, nat_le, Bool, true, length, ℕ, Option, Some, None, Result, Ok, Err}
+use Rattle.std.specs.Prelude.{◌+◌, ◌-◌, ◌^◌, ◌&&◌, ◌||◌, not, nat_lt, nat_le, Bool, true, length, ℕ, Option, Some}
+use Rattle.std.specs.Prelude.{None, Result, Ok, Err}
 use Rattle.std.specs.List.{list_all}
 use Rattle.sftp_path.specs.Place.{Place, begins, depth_limit}
 use Rattle.sftp_treefile.specs.declared.limits.TreeLimits.{TreeLimits}
 use Rattle.sftp_wire.specs.declared.packets.Ask.{Ask}
-use Rattle.sftp_wire.specs.declared.packets.Ask.TheVariants.{Open, Setstat, Mkdir, Rename, Symlink, PosixRename, Hardlink}
+use Rattle.sftp_wire.specs.declared.packets.Ask.TheVariants.{Open, Setstat, Mkdir, Rename, Symlink, PosixRename}
+use Rattle.sftp_wire.specs.declared.packets.Ask.TheVariants.{Hardlink}
 use Rattle.sftp_tree.specs.declared.nodes.Node.{Node}
 use Rattle.sftp_tree.specs.declared.causes.Cause.{Cause}
 use Rattle.sftp_tree.specs.Tree.{Tree, Names, limits, node_at, is_file, depth_fits}
