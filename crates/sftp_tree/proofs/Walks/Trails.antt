@@ -115,8 +115,8 @@ found-branch : (found : Option (Bor Child)) (child : Bor Child) (is_child : Chil
 found-branch found child is_child some is = ap (λ o. branch_of (option_copied o)) some ∙ ap branch is
 
 pub lent-dir : (names : Names) (place : Place) (found : Option (Bor Child)) (child : Bor Child) (owner : Owner)
-    (dir : Bor Names) → IsAt names place (branch_of (option_copied found)) → found ≡ Some child → child.now ≡ children.Dir dir.now
-    → node_at dir.now [] ≡ Some (nodes.Dir owner) → IsLentAt names place (Some (Dir owner dir))
+    (dir : Bor Names) → IsAt names place (branch_of (option_copied found)) → found ≡ Some child
+    → child.now ≡ children.Dir dir.now → node_at dir.now [] ≡ Some (nodes.Dir owner) → IsLentAt names place (Some (Dir owner dir))
 lent-dir names place found child owner dir is some is_dir root =
     lent-directory names place owner dir
     (subst (IsAt names place) (found-branch found child (children.Dir dir.now) some is_dir) is) root
