@@ -1,0 +1,4 @@
+pub mod Handles
+pub mod State
+pub mod Seen
+pub mod Replies

@@ -1,0 +1,8 @@
+//! Handles and sessions: what is open, what a request through a handle sees, and which replies a session allows
+//! (draft-ietf-secsh-filexfer-02, sections 6.3, 6.4 and 6.7).
+#![tactic(auto)]
+
+mod opens;
+pub mod pin_laws;
+
+pub use opens::{Listing, Open};
