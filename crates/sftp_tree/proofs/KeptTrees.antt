@@ -4,4 +4,5 @@ pub mod Trims
 pub mod Values
 pub mod Moves
 pub mod Files
+pub mod NewFiles
 pub mod Counts

@@ -5,3 +5,4 @@ pub mod Meetings
 pub mod Places
 pub mod Rules
 pub mod Counts
+pub mod Links

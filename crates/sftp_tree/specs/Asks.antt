@@ -3,6 +3,7 @@ use Rattle.sftp_wire.specs.declared.packets.Ask as wire
 use Rattle.sftp_wire.specs.declared.packets.Ask.TheVariants as asks
 use Rattle.sftp_tree.specs.declared.asks.PathAsk.{PathAsk}
 use Rattle.sftp_tree.specs.declared.asks.PathAsk.TheVariants.{Mkdir, Rmdir, Remove, Setstat, Stat, Lstat, Realpath, Readlink, Symlink, Rename, PosixRename, Hardlink}
+use Rattle.sftp_tree.specs.declared.asks.PathAsk.TheVariants.{Open, Opendir}
 
 -- the request
 abbrev pub asked : PathAsk → wire.Ask
@@ -18,3 +19,5 @@ asked (Symlink target link) = asks.Symlink target.now link.now
 asked (Rename old new) = asks.Rename old.now new.now
 asked (PosixRename old new) = asks.PosixRename old.now new.now
 asked (Hardlink old new) = asks.Hardlink old.now new.now
+asked (Open path flags attrs) = asks.Open path.now flags attrs.now
+asked (Opendir path) = asks.Opendir path.now

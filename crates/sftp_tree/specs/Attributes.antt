@@ -27,6 +27,10 @@ changed_owner attrs owner = record {
   permissions = unwrap_or (option_map (λ p. p % 2 ^ 12) attrs.permissions) owner.permissions;
 }
 
+-- the owner of a new file: that given, else the tree's, and of the permissions given the low twelve bits, else 0o644
+abbrev pub file_owner : Tree → Attrs → Owner
+file_owner t attrs = changed_owner attrs (record { uid = t.uid; gid = t.gid; permissions = 0o644 })
+
 -- so many bytes: the first of these, and zeros where they end
 abbrev pub resized : ℕ → List ℕ → List ℕ
 resized size bytes = take size bytes ++ replicate (size - length bytes) 0

@@ -1,6 +1,6 @@
--- What requests change in a tree (draft-ietf-secsh-filexfer-02, sections 6.5 to 6.11; OpenSSH's PROTOCOL, section 4.3 for
+-- What requests change in a tree (draft-ietf-secsh-filexfer-02, sections 6.3 to 6.11; OpenSSH's PROTOCOL, section 4.3 for
 -- posix-rename and 4.5 for hardlink).
-use Rattle.std.specs.Prelude.{ℕ, if◌then◌else◌, Option, Some, None}
+use Rattle.std.specs.Prelude.{ℕ, ◌+◌, if◌then◌else◌, [], Option, Some, None}
 use Rattle.sftp_wire.specs.declared.attributes.Attrs.{Attrs}
 use Rattle.sftp_path.specs.Place.{Place}
 use Rattle.sftp_path.specs.Rekeying.{rekeyed}
@@ -8,7 +8,8 @@ use Rattle.sftp_tree.specs.declared.file_contents.Content.{Content}
 use Rattle.sftp_tree.specs.declared.nodes.Node.{Node}
 use Rattle.sftp_tree.specs.declared.nodes.Node.TheVariants.{Dir, File, Link}
 use Rattle.sftp_tree.specs.Tree.{Tree, with_node, without_node, content_at, with_content}
-use Rattle.sftp_tree.specs.Attributes.{changed_owner, changed_content}
+use Rattle.sftp_tree.specs.Attributes.{changed_owner, changed_content, file_owner}
+use Rattle.sftp_tree.specs.OpenFlags.{truncates}
 use Rattle.sftp_tree.specs.PlaceCauses.{are_one}
 
 -- the attributes of a file are set
@@ -48,3 +49,29 @@ exchanged t old new = if are_one t.names old new then t else put_in_its_stead t 
 abbrev pub with_further_name : Tree → Option Node → Place → Tree
 with_further_name t None new = t
 with_further_name t (Some standing) new = record t { names = with_node t.names new standing }
+
+-- with a new file, which gets the next number, and a name of it at the place
+abbrev pub with_new_file : Tree → Place → Content → Tree
+with_new_file t place content = record t {
+  names = with_node t.names place (File t.made);
+  files = with_content t.files t.made content;
+  made = t.made + 1;
+}
+
+-- a file without bytes, of the owner that the attributes ask for
+abbrev pub new_content : Tree → Attrs → Content
+new_content t attrs = record { owner = file_owner t attrs; bytes = [] }
+
+-- a file loses its bytes
+abbrev pub with_emptied_file : Tree → ℕ → Option Content → Tree
+with_emptied_file t number None = t
+with_emptied_file t number (Some content) = record t { files = with_content t.files number (record content { bytes = [] }) }
+
+-- the node at a place is opened: a free place gets a new file, and a file that exists loses its bytes if the flags say
+-- so; neither a directory nor a link can be opened
+abbrev pub with_opened : Tree → ℕ → Attrs → Place → Option Node → Tree
+with_opened t flags attrs place None = with_new_file t place (new_content t attrs)
+with_opened t flags attrs place (Some (File number)) =
+    if truncates flags then with_emptied_file t number (content_at t.files number) else t
+with_opened t flags attrs place (Some (Dir owner)) = t
+with_opened t flags attrs place (Some (Link target)) = t

@@ -3,6 +3,8 @@ pub mod StoredFiles
 pub mod Walk
 pub mod WalkRules
 pub mod Attributes
+pub mod OpenFlags
+pub mod Listings
 pub mod Causes
 pub mod PlaceCauses
 pub mod Changes

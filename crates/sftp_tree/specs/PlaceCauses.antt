@@ -1,4 +1,4 @@
--- The causes that hold at the places which the paths of a request lead to (draft-ietf-secsh-filexfer-02, sections 6.5 to
+-- The causes that hold at the places which the paths of a request lead to (draft-ietf-secsh-filexfer-02, sections 6.3 to
 -- 6.11; OpenSSH's PROTOCOL, sections 4.3 and 4.5). They are this profile's own.
 use Rattle.std.specs.Prelude.{◌==◌, ◌&&◌, ◌||◌, not, ℕ, Bool, false, if◌then◌else◌, List, Option, Some, is_some}
 use Rattle.sftp_wire.specs.declared.attributes.Attrs.{Attrs}
@@ -6,9 +6,10 @@ use Rattle.sftp_path.specs.Place.{Place, is_below}
 use Rattle.sftp_treefile.specs.TreeFile.{is_root, is_target, same_place}
 use Rattle.sftp_tree.specs.declared.nodes.Node.{Node}
 use Rattle.sftp_tree.specs.declared.nodes.Node.TheVariants.{File}
-use Rattle.sftp_tree.specs.declared.causes.Cause.TheVariants.{BadPath, NoEntry, NotDir, Exists, IsDir, NotLink, NotFile, NotEmpty, Root, Inside}
+use Rattle.sftp_tree.specs.declared.causes.Cause.TheVariants.{BadFlags, BadPath, NoEntry, NotDir, Exists, IsDir, NotLink, NotFile, NotEmpty, Root, Inside}
 use Rattle.sftp_tree.specs.Tree.{Names, node_at, is_directory, is_file, is_link, is_taken, has_entries}
 use Rattle.sftp_tree.specs.Causes.{CauseSet, no_causes, when}
+use Rattle.sftp_tree.specs.OpenFlags.{creates, excludes, are_good}
 
 -- ---- the causes at the place that a path leads to
 
@@ -48,6 +49,20 @@ leaving_causes names place = when (needing_causes (node_at names place)) Root (i
 -- of a place that is to get another node
 abbrev pub giving_causes : Place → CauseSet
 giving_causes place = when no_causes Root (is_root place)
+
+-- of a node that is to be opened as a file
+abbrev pub opening_causes : ℕ → Option Node → CauseSet
+opening_causes flags standing =
+    when (when (when no_causes NoEntry (not (is_taken standing) && not (creates flags))) Exists
+    (is_taken standing && excludes flags)) IsDir (is_directory standing && not (excludes flags))
+
+-- of a node that must be a directory
+abbrev pub directory_causes : Option Node → CauseSet
+directory_causes standing = when (needing_causes standing) NotDir (is_taken standing && not (is_directory standing))
+
+-- of flags with which nothing can be opened
+abbrev pub flags_causes : ℕ → CauseSet
+flags_causes flags = when no_causes BadFlags (not (are_good flags))
 
 -- of a target that no link may have
 abbrev pub target_bytes_causes : List ℕ → CauseSet

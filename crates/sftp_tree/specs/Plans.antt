@@ -1,19 +1,21 @@
 -- The plans of requests.
-use Rattle.std.specs.Prelude.{◌≡◌, false, if◌then◌else◌, Option, Some, None, IsTrue}
+use Rattle.std.specs.Prelude.{◌≡◌, ℕ, false, if◌then◌else◌, Option, Some, None, IsTrue}
 use Rattle.sftp_path.specs.Place.{Place, parent, are_names}
 use Rattle.sftp_treefile.specs.TreeFile.{IsOwner, are_bytes, is_root, same_place}
 use Rattle.sftp_wire.specs.declared.attributes.Attrs.{Attrs}
 use Rattle.sftp_wire.specs.declared.packets.Ask.{Ask}
-use Rattle.sftp_wire.specs.declared.packets.Ask.TheVariants.{Setstat, Remove, Mkdir, Rmdir, Rename, Symlink, PosixRename, Hardlink}
+use Rattle.sftp_wire.specs.declared.packets.Ask.TheVariants.{Open, Setstat, Remove, Mkdir, Rmdir, Rename, Symlink, PosixRename, Hardlink}
+use Rattle.sftp_tree.specs.declared.file_contents.Content.{Content}
 use Rattle.sftp_tree.specs.declared.nodes.Node.{Node}
 use Rattle.sftp_tree.specs.declared.nodes.Node.TheVariants as nodes
-use Rattle.sftp_tree.specs.declared.ends.Places.{Places}
 use Rattle.sftp_tree.specs.declared.plans.Plan.{Plan}
-use Rattle.sftp_tree.specs.declared.plans.Plan.TheVariants.{Nothing, Put, Remove as Take, Move, Set}
-use Rattle.sftp_tree.specs.Tree.{Tree, IsTrimmed, IsNode, fits, node_at, is_taken, is_directory, is_file, has_entries, trim}
-use Rattle.sftp_tree.specs.Attributes.{directory_owner}
+use Rattle.sftp_tree.specs.declared.plans.Plan.TheVariants.{Nothing, Put, Remove as Take, Move, Set, Make, Truncate}
+use Rattle.sftp_tree.specs.Tree.{Tree, IsTrimmed, IsNode, IsContent, fits, node_at, content_at, is_taken, is_directory, is_file, has_entries, trim}
+use Rattle.sftp_tree.specs.Attributes.{directory_owner, file_owner}
+use Rattle.sftp_tree.specs.OpenFlags.{truncates}
 use Rattle.sftp_tree.specs.PlaceCauses.{are_one, goes_inside}
 use Rattle.sftp_tree.specs.Changes.{with_entry, without_entry, with_attributes, put_in_its_stead}
+use Rattle.sftp_tree.specs.Changes.{with_new_file, new_content, with_emptied_file}
 use Rattle.sftp_tree.specs.Requests.{after}
 
 -- the tree with the plan carried out; files that lost their last name still exist
@@ -23,6 +25,8 @@ changed t (Put place node) = with_entry t place node
 changed t (Take place) = without_entry t place
 changed t (Move old new) = put_in_its_stead t old new
 changed t (Set place attrs) = with_attributes t attrs.now place (node_at t.names place)
+changed t (Make place content) = with_new_file t place content
+changed t (Truncate number) = with_emptied_file t number (content_at t.files number)
 
 -- ---- what can be done
 
@@ -52,18 +56,35 @@ pub record CanMove (t : Tree) (old new : Place) : Type 0 where
   pub alone : has_entries t.names new ≡ false
   pub room : IsTrue (fits (put_in_its_stead t old new))
 
+-- a file with this content, and a name of it, can be made at the place
+pub record CanMake (t : Tree) (place : Place) (content : Content) : Type 0 where
+  pub absent : node_at t.names place ≡ None
+  pub named : IsTrue (are_names place)
+  pub above : IsTrue (is_directory (node_at t.names (parent place)))
+  pub is_content : IsContent content
+  pub room : IsTrue (fits (with_new_file t place content))
+
 abbrev pub IsReady : Tree → Plan → Type 0
 IsReady t Nothing = IsTrimmed t
 IsReady t (Put place node) = CanPut t place node
 IsReady t (Take place) = CanTake t place
 IsReady t (Move old new) = CanMove t old new
 IsReady t (Set place attrs) = IsTrue (fits (with_attributes t attrs.now place (node_at t.names place)))
+IsReady t (Make place content) = CanMake t place content
+IsReady t (Truncate number) = IsTrue (fits (with_emptied_file t number (content_at t.files number)))
 
 -- ---- what is to be done, by request
 
 abbrev pub IsSetting : Place → Attrs → Plan → Type 0
 IsSetting place attrs (Set at given) = (at ≡ place) × (given.now ≡ attrs)
 IsSetting place attrs other = ⊥
+
+-- what is to be done to open the node at a place
+abbrev pub plan_to_open : Tree → ℕ → Attrs → Place → Option Node → Plan
+plan_to_open t flags attrs place None = Make place (new_content t attrs)
+plan_to_open t flags attrs place (Some (nodes.File number)) = if truncates flags then Truncate number else Nothing
+plan_to_open t flags attrs place (Some (nodes.Dir owner)) = Nothing
+plan_to_open t flags attrs place (Some (nodes.Link target)) = Nothing
 
 -- at the place that its path leads to
 abbrev pub IsPlanAt : Tree → Ask → Place → Plan → Type 0
@@ -72,6 +93,7 @@ IsPlanAt t (Symlink target link) place plan = plan ≡ Put place (nodes.Link tar
 IsPlanAt t (Rmdir path) place plan = plan ≡ Take place
 IsPlanAt t (Remove path) place plan = plan ≡ Take place
 IsPlanAt t (Setstat path attrs) place plan = IsSetting place attrs plan
+IsPlanAt t (Open path pflags attrs) place plan = plan ≡ plan_to_open t pflags attrs place (node_at t.names place)
 IsPlanAt t other place plan = plan ≡ Nothing
 
 abbrev pub IsNaming : Option Node → Place → Plan → Type 0
@@ -85,10 +107,11 @@ IsPlanBetween t (PosixRename oldpath newpath) old new plan = plan ≡ (if are_on
 IsPlanBetween t (Hardlink oldpath newpath) old new plan = IsNaming (node_at t.names old) new plan
 IsPlanBetween t other old new plan = plan ≡ Nothing
 
--- the owner of a new directory is an owner, and the target of a new link is bytes
+-- the owner of a new directory or of a new file is an owner, and the target of a new link is bytes
 abbrev pub HasNode : Tree → Ask → Type 0
 HasNode t (Mkdir path attrs) = IsOwner (directory_owner t attrs)
 HasNode t (Symlink target link) = IsTrue (are_bytes target)
+HasNode t (Open path pflags attrs) = IsOwner (file_owner t attrs)
 HasNode t other = Unit {0}
 
 -- only a file gets a further name

@@ -1,5 +1,5 @@
 -- The table of requests, and what follows from it: where the paths of a request lead, which causes hold, the tree after
--- it and what its reply says (draft-ietf-secsh-filexfer-02, sections 6.5 to 6.11; OpenSSH's PROTOCOL, section 4.1 for the
+-- it and what its reply says (draft-ietf-secsh-filexfer-02, sections 6.3 to 6.11; OpenSSH's PROTOCOL, section 4.1 for the
 -- order of SYMLINK's arguments, 4.3 for posix-rename and 4.5 for hardlink). Which walks follow a last link is this
 -- profile's own.
 use Rattle.std.specs.Prelude.{◌&&◌, not, ℕ, Bool, true, false, List, Option, Some, None, is_some, Result, Ok, Err}
@@ -7,7 +7,9 @@ use Rattle.std.specs.Option.{option_map}
 use Rattle.sftp_wire.specs.declared.attributes.Attrs.{Attrs}
 use Rattle.sftp_wire.specs.declared.packets.Ask.{Ask}
 use Rattle.sftp_wire.specs.declared.packets.Ask.TheVariants.{Lstat, Setstat, Remove, Mkdir, Rmdir, Realpath, Stat, Rename, Readlink, Symlink, PosixRename, Hardlink}
-use Rattle.sftp_path.specs.Place.{Place, absolute}
+use Rattle.sftp_wire.specs.declared.packets.Ask.TheVariants.{Open, Opendir}
+use Rattle.sftp_path.specs.Place.{Name, Place, absolute}
+use Rattle.sftp_path.specs.Table.{Table}
 use Rattle.sftp_tree.specs.declared.nodes.Node.{Node}
 use Rattle.sftp_tree.specs.declared.nodes.Node.TheVariants.{Dir, File, Link}
 use Rattle.sftp_tree.specs.declared.causes.Cause.{Cause}
@@ -17,7 +19,11 @@ use Rattle.sftp_tree.specs.Walk.{reached}
 use Rattle.sftp_tree.specs.Attributes.{directory_owner, shown}
 use Rattle.sftp_tree.specs.Causes.{CauseSet, no_causes, when, joined, is_none}
 use Rattle.sftp_tree.specs.PlaceCauses.{making_causes, needing_causes, link_causes, file_causes, setting_causes, removing_causes, unlinking_causes, leaving_causes, giving_causes, target_bytes_causes, moving_causes, exchanging_causes}
+use Rattle.sftp_tree.specs.PlaceCauses.{opening_causes, directory_causes, flags_causes}
 use Rattle.sftp_tree.specs.Changes.{with_attributes, with_entry, without_entry, moved, exchanged, with_further_name}
+use Rattle.sftp_tree.specs.Changes.{with_opened}
+use Rattle.sftp_tree.specs.OpenFlags.{excludes}
+use Rattle.sftp_tree.specs.Listings.{listing}
 
 -- ---- what a reply says
 
@@ -29,6 +35,10 @@ pub data Told : Type 0 where
   attributes : Option Attrs → Told
   -- a name of these bytes
   name : Option (List ℕ) → Told
+  -- that the file of this number is open
+  file : Option ℕ → Told
+  -- that the directory with these names is open, each with the attributes of its node
+  listed : Table Name Attrs → Told
 
 abbrev pub shown_at : Tree → Option Node → Option Attrs
 shown_at t None = None
@@ -39,6 +49,13 @@ target_of (Some (Link target)) = Some target
 target_of (Some (Dir owner)) = None
 target_of (Some (File number)) = None
 target_of None = None
+
+-- the number of the file that is opened: at a free place the next one
+abbrev pub number_at : Tree → Option Node → Option ℕ
+number_at t None = Some t.made
+number_at t (Some (File number)) = Some number
+number_at t (Some (Dir owner)) = None
+number_at t (Some (Link target)) = None
 
 -- ---- the table of requests
 
@@ -128,6 +145,20 @@ row_of (Hardlink oldpath newpath) = record (pair_row oldpath newpath) {
   here = λ t place. file_causes (node_at t.names place);
   there = λ t place. making_causes (node_at t.names place);
   exchange = λ t old new. with_further_name t (node_at t.names old) new;
+}
+row_of (Open path pflags attrs) = record no_step {
+  path = Some path;
+  follows = not (excludes pflags);
+  own = flags_causes pflags;
+  here = λ t place. opening_causes pflags (node_at t.names place);
+  change = λ t place. with_opened t pflags attrs place (node_at t.names place);
+  told = λ t place. file (number_at t (node_at t.names place));
+}
+row_of (Opendir path) = record no_step {
+  path = Some path;
+  follows = true;
+  here = λ t place. directory_causes (node_at t.names place);
+  told = λ t place. listed (listing t place);
 }
 row_of other = no_step
 
@@ -236,12 +267,30 @@ causes t ask = with_room (plain_causes t ask) (outcome t ask)
 abbrev pub attributes_of : Told → Option Attrs
 attributes_of (attributes shown) = shown
 attributes_of (name bytes) = None
+attributes_of (file number) = None
+attributes_of (listed names) = None
 attributes_of done = None
 
 abbrev pub name_of : Told → Option (List ℕ)
 name_of (name bytes) = bytes
 name_of (attributes shown) = None
+name_of (file number) = None
+name_of (listed names) = None
 name_of done = None
+
+abbrev pub number_of : Told → Option ℕ
+number_of (file number) = number
+number_of (attributes shown) = None
+number_of (name bytes) = None
+number_of (listed names) = None
+number_of done = None
+
+abbrev pub names_of : Told → Option (Table Name Attrs)
+names_of (listed names) = Some names
+names_of (attributes shown) = None
+names_of (name bytes) = None
+names_of (file number) = None
+names_of done = None
 
 -- the attributes of the node that its path leads to
 unfoldable pub shown_to : Tree → Ask → Option Attrs
@@ -254,3 +303,11 @@ target_to t ask = led_to None (led t ask) (λ place. name_of (told_at t ask plac
 -- the text of the place that its path leads to
 unfoldable pub text_to : Tree → Ask → Option (List ℕ)
 text_to t ask = led_to None (led t ask) (λ place. name_of (told_at t ask place))
+
+-- the number of the file that it opens
+unfoldable pub file_to : Tree → Ask → Option ℕ
+file_to t ask = led_to None (led t ask) (λ place. number_of (told_at t ask place))
+
+-- the names in the directory that its path leads to, with the attributes shown of their nodes
+unfoldable pub listing_to : Tree → Ask → Option (Table Name Attrs)
+listing_to t ask = led_to None (led t ask) (λ place. names_of (told_at t ask place))

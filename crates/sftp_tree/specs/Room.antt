@@ -1,10 +1,10 @@
 -- Whether what requests ask for keeps to the limits, in numbers.
-use Rattle.std.specs.Prelude.{◌-◌, ◌&&◌, ◌||◌, not, nat_le, Bool, true, length, ℕ, Option, Some, None, Result, Ok, Err}
+use Rattle.std.specs.Prelude.{◌+◌, ◌-◌, ◌^◌, ◌&&◌, ◌||◌, not, nat_lt, nat_le, Bool, true, length, ℕ, Option, Some, None, Result, Ok, Err}
 use Rattle.std.specs.List.{list_all}
 use Rattle.sftp_path.specs.Place.{Place, begins, depth_limit}
 use Rattle.sftp_treefile.specs.declared.limits.TreeLimits.{TreeLimits}
 use Rattle.sftp_wire.specs.declared.packets.Ask.{Ask}
-use Rattle.sftp_wire.specs.declared.packets.Ask.TheVariants.{Setstat, Mkdir, Rename, Symlink, PosixRename, Hardlink}
+use Rattle.sftp_wire.specs.declared.packets.Ask.TheVariants.{Open, Setstat, Mkdir, Rename, Symlink, PosixRename, Hardlink}
 use Rattle.sftp_tree.specs.declared.nodes.Node.{Node}
 use Rattle.sftp_tree.specs.declared.causes.Cause.{Cause}
 use Rattle.sftp_tree.specs.Tree.{Tree, Names, limits, node_at, is_file, depth_fits}
@@ -23,6 +23,15 @@ size_fits bounds (Some size) = nat_le size bounds.file_bytes
 abbrev pub size_fits_at : TreeLimits → Option ℕ → Option Node → Bool
 size_fits_at bounds size standing = not (is_file standing) || size_fits bounds size
 
+-- whether one more file, at a new place, keeps to the limits: it needs a number too
+abbrev pub has_room_for_file : Tree → Place → Bool
+has_room_for_file t place = has_room t place && nat_lt (t.made + 1) (2 ^ 32)
+
+-- the same, if there is no node
+abbrev pub has_room_to_open : Tree → Place → Option Node → Bool
+has_room_to_open t place None = has_room_for_file t place
+has_room_to_open t place (Some standing) = true
+
 -- whether each place that begins with the first has at most so many names behind it
 abbrev pub reaches_at_most : Names → Place → ℕ → Bool
 reaches_at_most names top room = list_all (λ e. not (begins top e.0) || nat_le (length e.0 - length top) room) names
@@ -36,6 +45,7 @@ abbrev pub has_room_at : Tree → Ask → Place → Bool
 has_room_at t (Mkdir path attrs) place = has_room t place
 has_room_at t (Symlink target link) place = has_room t place
 has_room_at t (Setstat path attrs) place = size_fits_at (limits t) attrs.size (node_at t.names place)
+has_room_at t (Open path pflags attrs) place = has_room_to_open t place (node_at t.names place)
 has_room_at t other place = true
 
 -- and with the two places that its paths lead to

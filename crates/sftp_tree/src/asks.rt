@@ -6,24 +6,63 @@ ghost use Rattle.sftp_tree.specs.Refusals.{in_set};
 ghost use Rattle.sftp_tree.specs.Asks.{asked};
 
 use crate::causes::{Cause, Causes};
+use crate::flags::{are_good, excludes};
 use sftp_path::good_path;
 use sftp_wire::{Ask, Attrs};
 
 /// A request that is judged by the paths that it names.
 #[derive(Clone, Copy)]
 pub(crate) enum PathAsk<'a> {
-    Mkdir { path: &'a [u8], attrs: &'a Attrs },
-    Rmdir { path: &'a [u8] },
-    Remove { path: &'a [u8] },
-    Setstat { path: &'a [u8], attrs: &'a Attrs },
-    Stat { path: &'a [u8] },
-    Lstat { path: &'a [u8] },
-    Realpath { path: &'a [u8] },
-    Readlink { path: &'a [u8] },
-    Symlink { target: &'a [u8], link: &'a [u8] },
-    Rename { old: &'a [u8], new: &'a [u8] },
-    PosixRename { old: &'a [u8], new: &'a [u8] },
-    Hardlink { old: &'a [u8], new: &'a [u8] },
+    Mkdir {
+        path: &'a [u8],
+        attrs: &'a Attrs,
+    },
+    Rmdir {
+        path: &'a [u8],
+    },
+    Remove {
+        path: &'a [u8],
+    },
+    Setstat {
+        path: &'a [u8],
+        attrs: &'a Attrs,
+    },
+    Stat {
+        path: &'a [u8],
+    },
+    Lstat {
+        path: &'a [u8],
+    },
+    Realpath {
+        path: &'a [u8],
+    },
+    Readlink {
+        path: &'a [u8],
+    },
+    Symlink {
+        target: &'a [u8],
+        link: &'a [u8],
+    },
+    Rename {
+        old: &'a [u8],
+        new: &'a [u8],
+    },
+    PosixRename {
+        old: &'a [u8],
+        new: &'a [u8],
+    },
+    Hardlink {
+        old: &'a [u8],
+        new: &'a [u8],
+    },
+    Open {
+        path: &'a [u8],
+        flags: u32,
+        attrs: &'a Attrs,
+    },
+    Opendir {
+        path: &'a [u8],
+    },
 }
 
 /// The request as one that is judged by its paths, or `None` if it is not one.
@@ -76,13 +115,23 @@ pub(crate) fn path_ask(ask: &Ask) -> Option<PathAsk<'_>>
             old: oldpath.as_slice(),
             new: newpath.as_slice(),
         }),
-        Ask::Open { .. } => None,
+        Ask::Open {
+            path,
+            pflags,
+            attrs,
+        } => Some(PathAsk::Open {
+            path: path.as_slice(),
+            flags: *pflags,
+            attrs,
+        }),
+        Ask::Opendir { path } => Some(PathAsk::Opendir {
+            path: path.as_slice(),
+        }),
         Ask::Close { .. } => None,
         Ask::Read { .. } => None,
         Ask::Write { .. } => None,
         Ask::Fstat { .. } => None,
         Ask::Fsetstat { .. } => None,
-        Ask::Opendir { .. } => None,
         Ask::Readdir { .. } => None,
         Ask::Fsync { .. } => None,
         Ask::Unknown { .. } => None,
@@ -107,6 +156,8 @@ impl<'a> PathAsk<'a> {
             PathAsk::Rename { old, .. } => old,
             PathAsk::PosixRename { old, .. } => old,
             PathAsk::Hardlink { old, .. } => old,
+            PathAsk::Open { path, .. } => path,
+            PathAsk::Opendir { path } => path,
         }
     }
 
@@ -127,6 +178,8 @@ impl<'a> PathAsk<'a> {
             PathAsk::Realpath { .. } => None,
             PathAsk::Readlink { .. } => None,
             PathAsk::Symlink { .. } => None,
+            PathAsk::Open { .. } => None,
+            PathAsk::Opendir { .. } => None,
         }
     }
 
@@ -138,6 +191,8 @@ impl<'a> PathAsk<'a> {
             PathAsk::Setstat { .. } => true,
             PathAsk::Stat { .. } => true,
             PathAsk::Realpath { .. } => true,
+            PathAsk::Open { flags, .. } => !excludes(flags),
+            PathAsk::Opendir { .. } => true,
             PathAsk::Mkdir { .. } => false,
             PathAsk::Rmdir { .. } => false,
             PathAsk::Remove { .. } => false,
@@ -157,6 +212,8 @@ impl<'a> PathAsk<'a> {
         let none = Causes::none();
         match self {
             PathAsk::Symlink { target, .. } => none.when(Cause::BadPath, !is_target(target)),
+            PathAsk::Open { flags, .. } => none.when(Cause::BadFlags, !are_good(flags)),
+            PathAsk::Opendir { .. } => none,
             PathAsk::Mkdir { .. } => none,
             PathAsk::Rmdir { .. } => none,
             PathAsk::Remove { .. } => none,

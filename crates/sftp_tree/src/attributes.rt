@@ -13,7 +13,10 @@ use sftp_treefile::Owner;
 use sftp_wire::Attrs;
 
 /// The permissions of a new directory if none are given. This profile's own.
-const DEFAULT_PERMISSIONS: u32 = 0o755;
+const DIRECTORY_PERMISSIONS: u32 = 0o755;
+
+/// The permissions of a new file if none are given. This profile's own.
+const FILE_PERMISSIONS: u32 = 0o644;
 
 /// The type bits of a directory, as POSIX has them.
 const DIRECTORY_BITS: u32 = 0o040000;
@@ -34,7 +37,20 @@ impl Tree {
         let usual = Owner {
             uid: self.uid(),
             gid: self.gid(),
-            permissions: DEFAULT_PERMISSIONS,
+            permissions: DIRECTORY_PERMISSIONS,
+        };
+        changed_owner(attrs, usual)
+    }
+
+    /// The owner of a new file: the same, and if they give no permissions, 0o644.
+    pub(crate) fn file_owner(&self, attrs: &Attrs) -> Owner
+        ensures owner { result ≡ spec.file_owner self.now attrs.now }
+        ensures fits { IsOwner result }
+    {
+        let usual = Owner {
+            uid: self.uid(),
+            gid: self.gid(),
+            permissions: FILE_PERMISSIONS,
         };
         changed_owner(attrs, usual)
     }

@@ -1,8 +1,8 @@
-//! What requests do to a tree, and what they return (draft, sections 6.5 to 6.11; OpenSSH's PROTOCOL, sections 4.3 and
+//! What requests do to a tree, and what they return (draft, sections 6.3 to 6.11; OpenSSH's PROTOCOL, sections 4.3 and
 //! 4.5). A bad path has the cause `BadPath`, and one that leads nowhere the walk's: `NoEntry`, `NotDir` or `Loop`.
-ghost use Rattle.std.specs.Prelude.{◌≡◌, Some, IfOk, IfErr, IsTrue, OnOk, OnErr};
+ghost use Rattle.std.specs.Prelude.{◌≡◌, Some, is_some, IfOk, IfErr, IsTrue, OnOk, OnErr};
 ghost use Rattle.sftp_wire.specs.declared.packets.Ask.TheVariants.{Setstat, Remove, Mkdir, Rmdir, Realpath, Rename};
-ghost use Rattle.sftp_wire.specs.declared.packets.Ask.TheVariants.{Readlink, Symlink, PosixRename, Hardlink};
+ghost use Rattle.sftp_wire.specs.declared.packets.Ask.TheVariants.{Readlink, Symlink, PosixRename, Hardlink, Open};
 ghost use Rattle.sftp_tree.specs.declared.nodes.Node.TheVariants.{Link};
 ghost use Rattle.sftp_tree.specs.Tree as tree;
 ghost use Rattle.sftp_tree.specs.Requests as requests;
@@ -10,6 +10,7 @@ ghost use Rattle.sftp_tree.specs.Refusals.{IsFree, IsRefusal, stat_ask};
 
 use crate::asks::PathAsk;
 use crate::causes::Refused;
+use crate::file_numbers::FileNo;
 use crate::nodes::Node;
 use crate::trees::Tree;
 use sftp_path::{Place, absolute};
@@ -156,6 +157,32 @@ impl Tree {
         Ok(())
     }
 
+    /// OPEN: opens a file, and returns its number. `flags` has the bits of `OpenFlags`. With CREAT, a place that is free
+    /// gets a new file, which is empty and has the number that follows the last one given. If the attributes give no
+    /// owner, it gets the tree's; if they give no permissions, 0o644. Of the permissions given the low twelve bits
+    /// count, and other attributes are ignored. With TRUNC a file that exists becomes empty; its attributes stay.
+    ///
+    /// # Errors
+    ///
+    /// The first cause that holds: `BadFlags`, `BadPath`, the walk's, `NoEntry` if there is no file and none is to be
+    /// made, `Exists` if EXCL asks for a new file, `IsDir` or `NoRoom`. `NoMemory` if memory runs out. The tree is then
+    /// as before.
+    pub fn open_file(&mut self, path: &[u8], flags: u32, attrs: &Attrs) -> Result<FileNo, Refused>
+        ensures free { OnOk result (IsFree self.old (Open path.now flags attrs.now)) }
+        ensures done { OnOk result (self.new ≡ requests.after self.old (Open path.now flags attrs.now)) }
+        ensures number { IfOk result
+            (λ number. requests.file_to self.old (Open path.now flags attrs.now) ≡ Some number) }
+        ensures refused { IfErr result (λ refused. IsRefusal self.old (Open path.now flags attrs.now) refused) }
+        ensures kept { OnErr result (self.new ≡ self.old) }
+    {
+        let ask = PathAsk::Open { path, flags, attrs };
+        let places = self.free_places(ask)?;
+        let number = self.number_at(&places.old);
+        let plan = self.plan_for(ask, places)?;
+        self.apply(plan)?;
+        Ok(number)
+    }
+
     /// STAT if a last link is followed, LSTAT if it is not: the size, the owner and the permissions, with the bits of
     /// the type, of the node that the path leads to.
     ///
@@ -206,6 +233,19 @@ impl Tree {
         let places = self.free_places(PathAsk::Readlink { path })?;
         let target = self.target_at(&places.old);
         Ok(Vec::from_slice(self.home().allocator(), target)?)
+    }
+
+    /// The number of the file that is opened at a place: the next one if the place is free.
+    fn number_at(&self, place: &Place) -> FileNo
+        requires { IsTrue (is_some (requests.number_at self.now (tree.node_at self.now.names place.now))) }
+        ensures { requests.number_at self.now (tree.node_at self.now.names place.now) ≡ Some result }
+    {
+        match self.standing(place) {
+            None => self.next_number(),
+            Some(Node::File(number)) => *number,
+            Some(Node::Dir(_)) => unreachable!(),
+            Some(Node::Link(_)) => unreachable!(),
+        }
     }
 
     /// The attributes shown of the node at a place.

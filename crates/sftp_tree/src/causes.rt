@@ -11,6 +11,10 @@ use thiserror::Error;
 /// Why a request is refused: a row of the status table.
 #[derive(Clone, Copy, Debug, PartialEq, Eq, Error)]
 pub enum Cause {
+    /// OPEN: the flags ask neither to read nor to write, truncate or exclude without creating, truncate or append
+    /// without writing, or have a bit that is no flag.
+    #[error("BadFlags")]
+    BadFlags,
     /// A path has a byte 0, more than 4,096 bytes, or a component of more than 255, or the target of a new link is
     /// empty.
     #[error("BadPath")]
@@ -45,13 +49,26 @@ pub enum Cause {
     /// The new place of a directory is below the directory.
     #[error("Inside")]
     Inside,
+    /// The handle is not open.
+    #[error("BadHandle")]
+    BadHandle,
+    /// The handle is a directory's, and the request is for files, or the other way round.
+    #[error("WrongKind")]
+    WrongKind,
+    /// The file was not opened to be read, or to be written, as the request would.
+    #[error("NotOpenFor")]
+    NotOpenFor,
     /// No other cause holds, and the request's change would break a limit of the tree.
     #[error("NoRoom")]
     NoRoom,
+    /// The request is an extension that is not known.
+    #[error("Unknown")]
+    Unknown,
 }
 
 /// The rows of the status table.
-const EVERY_CAUSE: [Cause; 12] = [
+const EVERY_CAUSE: [Cause; 17] = [
+    Cause::BadFlags,
     Cause::BadPath,
     Cause::NoEntry,
     Cause::NotDir,
@@ -63,14 +80,18 @@ const EVERY_CAUSE: [Cause; 12] = [
     Cause::NotEmpty,
     Cause::Root,
     Cause::Inside,
+    Cause::BadHandle,
+    Cause::WrongKind,
+    Cause::NotOpenFor,
     Cause::NoRoom,
+    Cause::Unknown,
 ];
 
 impl Cause {
     /// The number of its row in the table.
     fn row(self) -> u32
         ensures row { result ≡ sets.row self }
-        ensures few { result < 16 }
+        ensures few { result < 32 }
     {
         self as u32
     }
@@ -80,7 +101,7 @@ impl Cause {
         ensures { result ≡ sets.allows self code }
     {
         match self {
-            Cause::BadPath => code == 4 || code == 5,
+            Cause::BadFlags | Cause::BadPath => code == 4 || code == 5,
             Cause::NoEntry => code == 2,
             Cause::NotDir | Cause::Loop => code == 2 || code == 4,
             Cause::Exists
@@ -90,7 +111,11 @@ impl Cause {
             | Cause::NotEmpty
             | Cause::Root
             | Cause::Inside
+            | Cause::BadHandle
+            | Cause::WrongKind
             | Cause::NoRoom => code == 4,
+            Cause::NotOpenFor => code == 3 || code == 4,
+            Cause::Unknown => code == 8,
         }
     }
 }
@@ -98,7 +123,7 @@ impl Cause {
 /// A set of causes: the bit of each row of the table says whether its cause is in it.
 #[derive(Clone, Copy, Debug)]
 pub struct Causes {
-    pub(crate) bits: u16,
+    pub(crate) bits: u32,
 }
 
 impl Causes {

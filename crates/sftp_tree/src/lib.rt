@@ -11,6 +11,7 @@ mod entries;
 mod file_contents;
 mod file_numbers;
 mod files;
+mod flags;
 mod found;
 pub mod laws;
 pub mod limit_laws;

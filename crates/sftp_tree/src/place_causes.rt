@@ -8,6 +8,7 @@ ghost use Rattle.sftp_tree.specs.Requests as requests;
 use crate::asks::PathAsk;
 use crate::causes::{Cause, Causes};
 use crate::entries::is_below;
+use crate::flags::{creates, excludes};
 use crate::found::{is_directory, is_file, is_link, is_root, is_taken};
 use crate::nodes::Node;
 use crate::trees::Tree;
@@ -33,6 +34,8 @@ impl Tree {
             PathAsk::Rename { .. } => self.leaving(place),
             PathAsk::PosixRename { .. } => self.leaving(place),
             PathAsk::Hardlink { .. } => naming(found),
+            PathAsk::Open { flags, .. } => opening(flags, found),
+            PathAsk::Opendir { .. } => listing(found),
         }
     }
 
@@ -53,6 +56,8 @@ impl Tree {
             PathAsk::Realpath { .. } => Causes::none(),
             PathAsk::Readlink { .. } => Causes::none(),
             PathAsk::Symlink { .. } => Causes::none(),
+            PathAsk::Open { .. } => Causes::none(),
+            PathAsk::Opendir { .. } => Causes::none(),
         }
     }
 
@@ -73,6 +78,8 @@ impl Tree {
             PathAsk::Realpath { .. } => Causes::none(),
             PathAsk::Readlink { .. } => Causes::none(),
             PathAsk::Symlink { .. } => Causes::none(),
+            PathAsk::Open { .. } => Causes::none(),
+            PathAsk::Opendir { .. } => Causes::none(),
         }
     }
 
@@ -166,6 +173,24 @@ fn unlinking(found: Option<&Node>) -> Causes
     ensures { in_set result ≡ place_causes.unlinking_causes (option_copied found.entry) }
 {
     needing(found).when(Cause::IsDir, is_directory(found))
+}
+
+/// The causes of a node that is to be opened as a file.
+fn opening(flags: u32, found: Option<&Node>) -> Causes
+    ensures { in_set result ≡ place_causes.opening_causes flags (option_copied found.entry) }
+{
+    let new = excludes(flags);
+    Causes::none()
+        .when(Cause::NoEntry, !is_taken(found) && !creates(flags))
+        .when(Cause::Exists, is_taken(found) && new)
+        .when(Cause::IsDir, is_directory(found) && !new)
+}
+
+/// The causes of a node that must be a directory.
+fn listing(found: Option<&Node>) -> Causes
+    ensures { in_set result ≡ place_causes.directory_causes (option_copied found.entry) }
+{
+    needing(found).when(Cause::NotDir, is_taken(found) && !is_directory(found))
 }
 
 /// The causes of a place that is to get another node.

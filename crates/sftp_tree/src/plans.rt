@@ -1,8 +1,9 @@
 //! The plans of requests, and how they are carried out.
-ghost use Rattle.std.specs.Prelude.{◌≡◌, Some, IfOk, IfErr, IsTrue, OnOk, OnErr};
-ghost use Rattle.sftp_treefile.specs.TreeFile.{are_bytes};
+ghost use Rattle.std.specs.Prelude.{◌≡◌, [], Some, IfOk, IfErr, IsTrue, OnOk, OnErr};
+ghost use Rattle.sftp_treefile.specs.TreeFile.{IsOwner, are_bytes};
 ghost use Rattle.sftp_tree.specs.declared.nodes.Node.TheVariants.{File, Link};
 ghost use Rattle.sftp_tree.specs.Tree as tree;
+ghost use Rattle.sftp_tree.specs.Attributes as attributes;
 ghost use Rattle.sftp_tree.specs.Changes as changes;
 ghost use Rattle.sftp_tree.specs.Requests as requests;
 ghost use Rattle.sftp_tree.specs.Asks.{asked};
@@ -13,11 +14,14 @@ ghost use Rattle.sftp_tree.specs.Plans as spec;
 use crate::asks::PathAsk;
 use crate::causes::Refused;
 use crate::ends::Places;
+use crate::file_contents::{Content, FileBytes};
 use crate::file_numbers::FileNo;
+use crate::flags::truncates;
 use crate::nodes::Node;
 use crate::owners::changed_owner;
 use crate::trees::Tree;
 use sftp_path::{NoMemory, Place};
+use sftp_treefile::Owner;
 use sftp_wire::{Attrs, ByteString};
 
 /// What is to be done for a request that no cause refuses.
@@ -33,6 +37,10 @@ pub(crate) enum Plan<'a> {
     Move(Place, Place),
     /// Set the attributes of the node at the place.
     Set(Place, &'a Attrs),
+    /// Make a file of this content, with a name at the place, which is free.
+    Make(Place, Content),
+    /// Remove the bytes of the file of this number.
+    Truncate(FileNo),
 }
 
 impl Tree {
@@ -59,7 +67,11 @@ impl Tree {
     /// # Errors
     ///
     /// `NoMemory` if memory runs out.
-    fn plan_for<'a>(&self, ask: PathAsk<'a>, places: Places) -> Result<Plan<'a>, NoMemory>
+    pub(crate) fn plan_for<'a>(
+        &self,
+        ask: PathAsk<'a>,
+        places: Places,
+    ) -> Result<Plan<'a>, NoMemory>
         requires free { IsFree self.now (asked ask) }
         requires led { LeadTo self.now (asked ask) places }
         requires well { AreWell self.now places }
@@ -96,7 +108,42 @@ impl Tree {
             PathAsk::Rename { .. } => Plan::Nothing,
             PathAsk::PosixRename { .. } => Plan::Nothing,
             PathAsk::Hardlink { .. } => Plan::Nothing,
+            PathAsk::Open { flags, attrs, .. } => self.plan_to_open(flags, attrs, place),
+            PathAsk::Opendir { .. } => Plan::Nothing,
         })
+    }
+
+    /// What is to be done to open the node at a place: a free place gets a new file, and a file that exists is
+    /// truncated if the flags say so.
+    fn plan_to_open<'a>(&self, flags: u32, attrs: &Attrs, place: Place) -> Plan<'a>
+        ensures plan { result
+            ≡ spec.plan_to_open self.now flags attrs.now place (tree.node_at self.now.names place) }
+        ensures owner { IsOwner (attributes.file_owner self.now attrs.now) }
+    {
+        let owner = self.file_owner(attrs);
+        match self.standing(&place) {
+            None => Plan::Make(place, self.new_file(owner)),
+            Some(Node::File(number)) => {
+                let number = *number;
+                if truncates(flags) {
+                    Plan::Truncate(number)
+                } else {
+                    Plan::Nothing
+                }
+            }
+            Some(Node::Dir(_)) => Plan::Nothing,
+            Some(Node::Link(_)) => Plan::Nothing,
+        }
+    }
+
+    /// The content of a new file: no bytes.
+    fn new_file(&self, owner: Owner) -> Content
+        ensures { result ≡ record { owner = owner; bytes = [] } }
+    {
+        Content {
+            owner,
+            bytes: FileBytes::new(Vec::new(self.home().allocator())),
+        }
     }
 
     /// The plan of a request at the two places that its paths lead to.
@@ -123,6 +170,8 @@ impl Tree {
             PathAsk::Realpath { .. } => Plan::Nothing,
             PathAsk::Readlink { .. } => Plan::Nothing,
             PathAsk::Symlink { .. } => Plan::Nothing,
+            PathAsk::Open { .. } => Plan::Nothing,
+            PathAsk::Opendir { .. } => Plan::Nothing,
         }
     }
 
@@ -145,6 +194,8 @@ impl Tree {
             }
             Plan::Move(old, new) => self.move_to(&old, new),
             Plan::Set(place, attrs) => self.set_attributes(&place, attrs),
+            Plan::Make(place, content) => self.make_file(place, content),
+            Plan::Truncate(number) => self.truncate(number),
         }
     }
 
@@ -172,6 +223,29 @@ impl Tree {
             Some(Node::Link(_)) => unreachable!(),
             None => unreachable!(),
         }
+    }
+
+    /// Removes the bytes of the file of a number.
+    ///
+    /// # Errors
+    ///
+    /// `NoMemory` if memory runs out; the tree is then as before.
+    fn truncate(&mut self, number: FileNo) -> Result<(), NoMemory>
+        requires { IsTrue (tree.fits
+            (changes.with_emptied_file self.old number (tree.content_at self.old.files number))) }
+        ensures ok { OnOk result
+            (self.new
+            ≡ tree.trim (changes.with_emptied_file self.old number (tree.content_at self.old.files number))) }
+        ensures err { OnErr result (self.new ≡ self.old) }
+    {
+        let attrs = Attrs {
+            size: Some(0),
+            owner: None,
+            permissions: None,
+            times: None,
+            extended: None,
+        };
+        self.change_file(number, &attrs)
     }
 
     /// Sets the attributes of the node at a place.

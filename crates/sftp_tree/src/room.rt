@@ -5,7 +5,7 @@ ghost use Rattle.sftp_tree.specs.Room as room;
 ghost use Rattle.sftp_tree.specs.Tree as tree;
 
 use crate::asks::PathAsk;
-use crate::found::is_file;
+use crate::found::{is_file, is_taken};
 use crate::trees::Tree;
 use sftp_path::{DEPTH_LIMIT, Place};
 use sftp_wire::Attrs;
@@ -28,6 +28,8 @@ impl Tree {
             PathAsk::Rename { .. } => true,
             PathAsk::PosixRename { .. } => true,
             PathAsk::Hardlink { .. } => true,
+            PathAsk::Open { .. } => self.has_room_to_open(place),
+            PathAsk::Opendir { .. } => true,
         }
     }
 
@@ -48,6 +50,8 @@ impl Tree {
             PathAsk::Realpath { .. } => true,
             PathAsk::Readlink { .. } => true,
             PathAsk::Symlink { .. } => true,
+            PathAsk::Open { .. } => true,
+            PathAsk::Opendir { .. } => true,
         }
     }
 
@@ -57,6 +61,13 @@ impl Tree {
         ensures { result ≡ room.has_room self.now place.now }
     {
         self.names().len() <= self.tree_limits().entries as usize && place.depth() <= DEPTH_LIMIT
+    }
+
+    /// Whether the place is taken, or one more file with its name there keeps to the limits. A file needs a number too.
+    fn has_room_to_open(&self, place: &Place) -> bool
+        ensures { result ≡ room.has_room_to_open self.now place.now (tree.node_at self.now.names place.now) }
+    {
+        is_taken(self.standing(place)) || (self.has_room(place) && self.has_numbers())
     }
 
     /// Whether the node at the old place, with all below it, keeps to the limit of names in a place at the new one.

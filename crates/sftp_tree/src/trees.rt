@@ -1,5 +1,5 @@
 //! The tree.
-ghost use Rattle.std.specs.Prelude.{◌≡◌, false, None, option_copied, OnOk, OnErr, IsTrue};
+ghost use Rattle.std.specs.Prelude.{◌≡◌, ◌+◌, ◌^◌, nat_lt, false, None, option_copied, OnOk, OnErr, IsTrue};
 ghost use Rattle.sftp_path.specs.Place.{are_names, parent};
 ghost use Rattle.sftp_treefile.specs.TreeFile.{IsOwner, is_root, same_place};
 
@@ -43,6 +43,7 @@ impl Tree {
     ghost use Rattle.sftp_tree.specs.StoredFiles as stored;
     ghost use Rattle.sftp_tree.specs.PlaceCauses as place_causes;
     ghost use Rattle.sftp_tree.specs.Changes as changes;
+    ghost use Rattle.sftp_tree.specs.Plans.{CanMake};
 
     /// A tree of these parts. It takes no memory.
     pub(crate) fn from_parts(
@@ -121,6 +122,20 @@ impl Tree {
         self.limits
     }
 
+    /// Whether a number is left for one more file.
+    pub(crate) fn has_numbers(&self) -> bool
+        ensures { result ≡ nat_lt (self.now.made + 1) (2 ^ 32) }
+    {
+        self.made < u32::MAX
+    }
+
+    /// The number that the next file gets.
+    pub(crate) fn next_number(&self) -> FileNo
+        ensures { result ≡ self.now.made }
+    {
+        FileNo::new(self.made)
+    }
+
     /// Puts a node at a free place in a directory.
     ///
     /// # Errors
@@ -139,6 +154,26 @@ impl Tree {
         let named = file_named(Some(&node));
         self.names.put(place, node)?;
         self.files.count_name(named);
+        Ok(())
+    }
+
+    /// Makes a file of this content, which gets the next number, and a name of it at a free place in a directory.
+    ///
+    /// # Errors
+    ///
+    /// `NoMemory` if memory runs out; the tree is then as before.
+    pub(crate) fn make_file(&mut self, place: Place, content: Content) -> Result<(), NoMemory>
+        requires { CanMake self.old place content }
+        ensures ok { OnOk result (self.new ≡ tree.trim (changes.with_new_file self.old place content)) }
+        ensures err { OnErr result (self.new ≡ self.old) }
+    {
+        let number = FileNo::new(self.made);
+        self.files.put(number, content)?;
+        if let Err(error) = self.names.put(place, Node::File(number)) {
+            self.files.forget_name(Some(number));
+            return Err(error);
+        }
+        self.made += 1;
         Ok(())
     }
 

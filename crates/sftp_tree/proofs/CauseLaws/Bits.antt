@@ -1,21 +1,20 @@
 -- Sets of causes as bits.
-use Rattle.std.proofs.Common.{◌≡◌, ◌≢◌, ◌==◌, ◌<◌, ℕ, ◌*◌, ◌%◌, ◌^◌, Bool, true, false, ◌&&◌, ◌||◌, cond, refl, sym, ap, ◌∙◌, lit<, arith}
-use Rattle.std.specs.Int.{bit_at, w16}
+use Rattle.std.proofs.Common.{◌≡◌, ◌≢◌, ◌==◌, ◌<◌, ℕ, ◌*◌, ◌%◌, ◌^◌, Bool, true, false, ◌&&◌, ◌||◌, refl, sym, ap, ◌∙◌, lit<, arith}
+use Rattle.std.specs.Int.{bit_at, w32}
 use Rattle.std.specs.Int.Bits.{bit_or}
 use Rattle.std.specs.Prelude.{max}
-use Rattle.std.proofs.Math.Dec.{eqb}
 use Rattle.std.proofs.lemmas.Bool.{eqb-true, eqb-false}
 use Rattle.std.proofs.lemmas.Bool.Decides.{nat_tests}
 use Rattle.std.proofs.lemmas.Nat.Bits.{bit_at-zero, bit_at_or, bit_at_set_same, bit_at_set_other, bit_at-lt}
 use Rattle.sftp_tree.specs.declared.causes.Cause.{Cause}
-use Rattle.sftp_tree.specs.declared.causes.Cause.TheVariants.{BadPath}
+use Rattle.sftp_tree.specs.declared.causes.Cause.TheVariants.{BadFlags}
 use Rattle.sftp_tree.specs.declared.causes.Causes.{Causes}
-use Rattle.sftp_tree.specs.Causes.{CauseSet, row, no_causes, when, joined}
+use Rattle.sftp_tree.specs.Causes.{row, no_causes, when, joined}
 use Rattle.sftp_tree.specs.Refusals.{in_set}
 
 -- each cause has a bit
-pub row-few : (c : Cause) → row c < 16
-row-few BadPath = lit< tt
+pub row-few : (c : Cause) → row c < 32
+row-few BadFlags = lit< tt
 row-few _ = lit< tt
 
 pub none-set : in_set (record { bits = 0 }) ≡ no_causes
@@ -32,17 +31,17 @@ when-not s one = λ i c. by (row one == row c) (in_set s c) i
     by false here = refl
 
 -- a bit that is set
-pub when-set : (s : Causes) (one : Cause) → in_set (record { bits = bit_or s.bits (1 * 2 ^ row one % 2 ^ 16) }) ≡ when (in_set s) one true
+pub when-set : (s : Causes) (one : Cause) → in_set (record { bits = bit_or s.bits (1 * 2 ^ row one % 2 ^ 32) }) ≡ when (in_set s) one true
 unfolding in_set when
 when-set s one = λ i c. by c (row one == row c) refl i
   where
-    by : (c : Cause) (same : Bool) → (row one == row c) ≡ same → (bit_at (bit_or s.bits (1 * 2 ^ row one % 2 ^ 16)) (row c) == 1) ≡ (same && true || (bit_at s.bits (row c) == 1))
+    by : (c : Cause) (same : Bool) → (row one == row c) ≡ same → (bit_at (bit_or s.bits (1 * 2 ^ row one % 2 ^ 32)) (row c) == 1) ≡ (same && true || (bit_at s.bits (row c) == 1))
     by c true is =
-        ap (λ k. bit_at (bit_or s.bits (1 * 2 ^ row one % 2 ^ 16)) k == 1) (sym (eqb-true (row one) (row c) is))
-        ∙ ap (λ b. b == 1) (bit_at_set_same w16 s.bits (row one) (row-few one))
+        ap (λ k. bit_at (bit_or s.bits (1 * 2 ^ row one % 2 ^ 32)) k == 1) (sym (eqb-true (row one) (row c) is))
+        ∙ ap (λ b. b == 1) (bit_at_set_same w32 s.bits (row one) (row-few one))
     by c false is =
         let apart : row c ≢ row one = λ same. eqb-false (row one) (row c) is (sym same) in
-        ap (λ b. b == 1) (bit_at_set_other w16 s.bits (row one) (row-few one) (row c) apart)
+        ap (λ b. b == 1) (bit_at_set_other w32 s.bits (row one) (row-few one) (row c) apart)
 
 -- the bits of either
 pub joined-set : (s o : Causes) → in_set (record { bits = bit_or s.bits o.bits }) ≡ joined (in_set s) (in_set o)

@@ -1,5 +1,5 @@
 -- The numbers say whether what a request asks for keeps to the limits.
-use Rattle.std.proofs.Common.{◌≡◌, ℕ, ◌-◌, Bool, true, false, ◌&&◌, ◌||◌, not, List, ◌∷◌, ◌++◌, length, take, replicate, refl, sym, ◌∙◌, ap, arith, Option, Some, None, IsTrue, nat_le, unwrap_or, if◌then◌else◌, Result, Ok, Err}
+use Rattle.std.proofs.Common.{◌≡◌, ℕ, ◌-◌, Bool, true, false, ◌&&◌, ◌||◌, not, List, length, take, replicate, refl, sym, ◌∙◌, ap, arith, Option, Some, None, IsTrue, nat_le, unwrap_or, if◌then◌else◌, Result, Ok, Err}
 use Rattle.std.specs.Option.{is_some, option_map}
 use Rattle.std.specs.List.{list_any}
 use Rattle.std.proofs.lemmas.Bool.{not-false, or_parts}
@@ -7,29 +7,34 @@ use Rattle.std.proofs.lemmas.List.{length-append, length-take, length-replicate}
 use Rattle.std.proofs.Math.Bool.{and-true}
 use Rattle.sftp_wire.specs.declared.attributes.Attrs.{Attrs}
 use Rattle.sftp_wire.specs.declared.packets.Ask.{Ask}
-use Rattle.sftp_wire.specs.declared.packets.Ask.TheVariants.{Setstat, Remove, Mkdir, Rmdir, Rename, Symlink, PosixRename, Hardlink}
-use Rattle.sftp_path.specs.Place.{Name, Place, parent, begins}
+use Rattle.sftp_wire.specs.declared.packets.Ask.TheVariants.{Open, Setstat, Remove, Mkdir, Rmdir, Rename, Symlink, PosixRename, Hardlink}
+use Rattle.sftp_path.specs.Place.{Place}
 use Rattle.sftp_treefile.specs.declared.limits.TreeLimits.{TreeLimits}
 use Rattle.sftp_treefile.specs.TreeFile.{is_root, same_place, is_target}
 use Rattle.sftp_tree.specs.declared.file_contents.Content.{Content}
 use Rattle.sftp_tree.specs.declared.nodes.Node.{Node}
 use Rattle.sftp_tree.specs.declared.nodes.Node.TheVariants.{Dir, File, Link}
 use Rattle.sftp_tree.specs.declared.causes.Cause.{Cause}
-use Rattle.sftp_tree.specs.declared.causes.Cause.TheVariants.{BadPath, NoEntry, NotDir, Exists, IsDir, NotLink, NotFile, NotEmpty, Root, Inside, NoRoom}
-use Rattle.sftp_tree.specs.Tree.{Tree, WellFormed, IsKept, limits, fits, node_at, content_at, is_taken, is_directory, is_file, is_link, has_entries}
+use Rattle.sftp_tree.specs.declared.causes.Cause.TheVariants.{BadPath, NoEntry, Exists, IsDir, NotLink, NotFile, NotEmpty, Root, Inside, NoRoom}
+use Rattle.sftp_tree.specs.Tree.{Tree, WellFormed, IsKept, limits, fits, node_at, content_at, is_taken, is_directory, is_link, has_entries}
 use Rattle.sftp_tree.specs.Attributes.{directory_owner, changed_owner, changed_content, resized}
 use Rattle.sftp_tree.specs.Causes.{CauseSet, every_cause, is_none, no_causes, when}
-use Rattle.sftp_tree.specs.PlaceCauses.{making_causes, needing_causes, link_causes, file_causes, removing_causes, unlinking_causes, leaving_causes, giving_causes, moving_causes, clashing_causes, replacing_causes, exchanging_causes, goes_inside, are_one, are_one_file}
-use Rattle.sftp_tree.specs.Changes.{with_changed_file, with_attributes, with_further_name, moved, put_in_its_stead}
+use Rattle.sftp_tree.specs.PlaceCauses.{making_causes, needing_causes, link_causes, file_causes, unlinking_causes, leaving_causes, giving_causes, moving_causes, clashing_causes, replacing_causes, exchanging_causes, goes_inside, are_one, are_one_file}
+use Rattle.sftp_tree.specs.Changes.{with_changed_file, with_attributes, with_further_name, put_in_its_stead}
+use Rattle.sftp_tree.specs.Changes.{new_content, with_emptied_file, with_opened}
+use Rattle.sftp_tree.specs.OpenFlags.{truncates}
 use Rattle.sftp_tree.specs.Requests.{led, new_led, causes, causes_at, new_causes_at, causes_between, own_causes, outcome_at, outcome_between, outcome_led, plain_of}
-use Rattle.sftp_tree.specs.Room.{has_room, size_fits, size_fits_at, move_fits, has_room_at, has_room_between, has_room_for}
+use Rattle.sftp_tree.specs.Room.{has_room, size_fits, size_fits_at, move_fits, has_room_at, has_room_between, has_room_for, has_room_to_open}
 use Rattle.sftp_tree.proofs.CauseLaws.Places.{plain-parts, lost-first, causes-are}
 use Rattle.sftp_tree.proofs.CauseLaws.Sets.{none-each}
 use Rattle.sftp_tree.proofs.Limits.Entries.{fits-put, fits-without, fits-again, fits-content, content-fits}
 use Rattle.sftp_tree.proofs.Limits.Moves.{fits-moved, fits-put_in_stead, nothing-from}
 use Rattle.sftp_tree.proofs.FileCounts.Moves as left
+use Rattle.sftp_tree.proofs.KeptTrees.NewFiles.{fits-new, no_bytes, emptied-is}
+use Rattle.sftp_tree.proofs.KeptTrees.Files.{not-given}
+use Rattle.std.proofs.lemmas.Bool.Decides.{nat_tests}
 use Rattle.sftp_tree.proofs.WellFormedTrees.Places.{apart-from, nothing-below, alone-there}
-use Rattle.sftp_tree.proofs.WellFormedTrees.Found.{absent-of, node-kept, below-root, apart-of}
+use Rattle.sftp_tree.proofs.WellFormedTrees.Found.{absent-of, node-kept}
 
 -- ---- what a place's causes say where none holds
 
@@ -146,6 +151,27 @@ set-room t attrs place (Some (Dir owner)) kept is = sym (fits-again t place (Dir
 set-room t attrs place (Some (File number)) kept is = sym (changed-room t attrs number kept (content_at t.files number) refl (node-kept t place (File number) kept is))
 set-room t attrs place (Some (Link goal)) kept is = sym kept.within_limits
 
+-- ---- files that are opened
+
+short-enough : (limit : ℕ) → nat_le 0 limit ≡ true
+short-enough limit = grind (arith, nat_tests)
+
+truncated-room : (t : Tree) (number : ℕ) (empties : Bool) → IsKept t → IsTrue (is_some (content_at t.files number))
+    → true ≡ fits (if empties then with_emptied_file t number (content_at t.files number) else t)
+truncated-room t number true kept there =
+    sym (ap fits (emptied-is t number (content_at t.files number)) ∙ changed-room t no_bytes number kept (content_at t.files number) refl there
+    ∙ short-enough (limits t).file_bytes)
+truncated-room t number false kept there = sym kept.within_limits
+
+open-room : (t : Tree) (flags : ℕ) (attrs : Attrs) (place : Place) (found : Option Node) → IsKept t
+    → node_at t.names place ≡ found → has_room_to_open t place found ≡ fits (with_opened t flags attrs place found)
+open-room t flags attrs place None kept is =
+    sym (fits-new t place (new_content t attrs) kept.within_limits is (not-given t t.made kept.well_formed (omega arith)) (short-enough (limits t).file_bytes))
+open-room t flags attrs place (Some (Dir owner)) kept is = sym kept.within_limits
+open-room t flags attrs place (Some (File number)) kept is =
+    truncated-room t number (truncates flags) kept (node-kept t place (File number) kept is)
+open-room t flags attrs place (Some (Link goal)) kept is = sym kept.within_limits
+
 -- ---- at the place that a path leads to
 
 good-target : (target link : List ℕ) → ((c : Cause) → own_causes (Symlink target link) c ≡ false) → is_target target ≡ true
@@ -160,6 +186,7 @@ room-at t (Symlink target link) place kept own none =
 room-at t (Rmdir path) place kept own none = sym (fits-without t place kept.within_limits)
 room-at t (Remove path) place kept own none = sym (fits-without t place kept.within_limits)
 room-at t (Setstat path attrs) place kept own none = set-room t attrs place (node_at t.names place) kept refl
+room-at t (Open path flags attrs) place kept own none = open-room t flags attrs place (node_at t.names place) kept refl
 room-at t other place kept own none = sym kept.within_limits
 
 -- ---- with the two places that both paths lead to

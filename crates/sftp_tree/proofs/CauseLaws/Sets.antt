@@ -1,10 +1,10 @@
 -- Sets of causes: what is in none, and `NoRoom`.
-use Rattle.std.proofs.Common.{◌≡◌, ℕ, zero, suc, Bool, true, false, ◌==◌, ◌&&◌, ◌||◌, not, List, [], ◌∷◌, refl, sym, ap, ◌∙◌, IsTrue}
+use Rattle.std.proofs.Common.{◌≡◌, ℕ, zero, suc, Bool, true, false, ◌&&◌, ◌||◌, not, List, [], ◌∷◌, refl, sym, ap, ◌∙◌, IsTrue}
 use Rattle.std.specs.List.{list_any}
 use Rattle.std.proofs.lemmas.Bool.{or_parts, not-true, not-false, eq-eqb}
 use Rattle.std.proofs.Math.Bool.{or-true}
 use Rattle.sftp_tree.specs.declared.causes.Cause.{Cause}
-use Rattle.sftp_tree.specs.declared.causes.Cause.TheVariants.{BadPath, NoRoom}
+use Rattle.sftp_tree.specs.declared.causes.Cause.TheVariants.{BadFlags, NoRoom}
 use Rattle.sftp_tree.specs.Tree.{Tree, fits}
 use Rattle.sftp_tree.specs.Causes.{CauseSet, every_cause, row, only, is_none, when}
 use Rattle.sftp_tree.specs.Requests.{with_room}
@@ -18,8 +18,8 @@ at_row (c ∷ cs) zero other = c
 at_row (c ∷ cs) (suc n) other = at_row cs n other
 
 -- the list has each cause, at its row
-pub listed : (c : Cause) → at_row every_cause (row c) BadPath ≡ c
-listed BadPath = refl
+pub listed : (c : Cause) → at_row every_cause (row c) BadFlags ≡ c
+listed BadFlags = refl
 listed _ = refl
 
 none-at : (set : CauseSet) (cs : List Cause) (n : ℕ) (other : Cause) → list_any set cs ≡ false → set other ≡ false → set (at_row cs n other) ≡ false
@@ -31,7 +31,7 @@ none-at set (c ∷ cs) (suc n) other none last = none-at set cs n other (or_part
 pub none-each : (set : CauseSet) → IsTrue (is_none set) → (c : Cause) → set c ≡ false
 none-each set none c =
     let empty = not-true (list_any set every_cause) none in
-    ap set (sym (listed c)) ∙ none-at set every_cause (row c) BadPath empty (or_parts (set BadPath) _ empty).0
+    ap set (sym (listed c)) ∙ none-at set every_cause (row c) BadFlags empty (or_parts (set BadFlags) _ empty).0
 
 pub each-none : (set : CauseSet) → ((c : Cause) → set c ≡ false) → is_none set ≡ true
 each-none set none = λ i. is_none (λ c. none c i)

@@ -57,16 +57,16 @@ named-without names place None there number =
     omega arith
 named-without names place (Some it) there number = count-without place_cmp names place it (names_file number) there
 
-one-here : (number : ℕ) → one_name (Some (File number)) number ≡ 1
+pub one-here : (number : ℕ) → one_name (Some (File number)) number ≡ 1
 one-here number = grind (arith, nat_tests)
 
-one-elsewhere : (number other : ℕ) → other ≢ number → one_name (Some (File number)) other ≡ 0
+pub one-elsewhere : (number other : ℕ) → other ≢ number → one_name (Some (File number)) other ≡ 0
 one-elsewhere number other differ = grind (arith, nat_tests)
 
 -- ---- a further name
 
 -- a choice by whether two numbers are one
-by-number : {A : Type 0} (number other : ℕ) → (other ≡ number → A) → (other ≢ number → A) → A
+pub by-number : {A : Type 0} (number other : ℕ) → (other ≡ number → A) → (other ≢ number → A) → A
 by-number number other same apart = elim (cases_eq other number) [ inl is ↦ same is | inr differ ↦ apart differ ]
 
 more-content : (o : Option Stored) → option_map (λ (s : Stored). s.content) (option_and_then with_a_name o) ≡ option_map (λ (s : Stored). s.content) o

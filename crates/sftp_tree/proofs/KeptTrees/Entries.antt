@@ -14,7 +14,7 @@ use Rattle.sftp_tree.proofs.Limits.Entries.{fits-without}
 -- ---- one entry more
 
 -- what is named stays so where a place is new
-named-put : (names : Names) (place : Place) (it : Node) (number : ℕ) → node_at names place ≡ None → IsTrue (is_named names number) → IsTrue (is_named (with_node names place it) number)
+pub named-put : (names : Names) (place : Place) (it : Node) (number : ℕ) → node_at names place ≡ None → IsTrue (is_named names number) → IsTrue (is_named (with_node names place it) number)
 named-put names place it number absent named =
     let some : 0 < times_named names number = ltb-true 0 (times_named names number) named in
     let more = count-put_new place_cmp names place it (names_file number) absent in
@@ -23,7 +23,7 @@ named-put names place it number absent named =
     more-named : (n m one : ℕ) → 0 < n → m ≡ n + one → 0 < m
     more-named n m one some more = omega arith
 
-or_weaker : (a b c : Bool) → (a ≡ true → b ≡ true) → (a || c) ≡ true → (b || c) ≡ true
+pub or_weaker : (a b c : Bool) → (a ≡ true → b ≡ true) → (a || c) ≡ true → (b || c) ≡ true
 or_weaker true b c so h = or_left b c (so refl)
 or_weaker false b c so h = or_right b c h
 

@@ -1,5 +1,5 @@
--- Files and their numbers, in the trees that requests ask for: none is made, and each is removed with its last name.
-use Rattle.std.proofs.Common.{◌≡◌, ◌≢◌, ◌<◌, ◌≤◌, ℕ, ◌||◌, Bool, true, false, cond, refl, sym, ap, subst, ◌∙◌, arith, Option, Some, None, is_some, nat_lt, Result, Ok, Err, IsTrue, if◌then◌else◌, inl, inr}
+-- Files and their numbers, in the trees that requests ask for: each is removed with its last name.
+use Rattle.std.proofs.Common.{◌≡◌, ◌≢◌, ◌<◌, ◌≤◌, ℕ, ◌||◌, Bool, true, false, cond, [], refl, sym, ap, subst, ◌∙◌, arith, Option, Some, None, is_some, nat_lt, Result, Ok, Err, IsTrue, if◌then◌else◌, inl, inr}
 use Rattle.std.specs.Prelude.{◌⊎◌, ◌↔◌}
 use Rattle.std.specs.Ordering.{nat_cmp}
 use Rattle.std.specs.FinMap.{nat_cmp-IsAntisymmetric}
@@ -7,7 +7,7 @@ use Rattle.std.proofs.lemmas.Cmp.{nat_cmp_total}
 use Rattle.std.proofs.lemmas.Bool.{ltb-false, cases_lt, both_ways, or_parts}
 use Rattle.sftp_wire.specs.declared.attributes.Attrs.{Attrs}
 use Rattle.sftp_wire.specs.declared.packets.Ask.{Ask}
-use Rattle.sftp_wire.specs.declared.packets.Ask.TheVariants.{Mkdir, Rmdir, Remove, Setstat, Symlink, Rename, PosixRename, Hardlink}
+use Rattle.sftp_wire.specs.declared.packets.Ask.TheVariants.{Open, Mkdir, Rmdir, Remove, Setstat, Symlink, Rename, PosixRename, Hardlink}
 use Rattle.sftp_path.specs.Place.{Place, place_cmp}
 use Rattle.sftp_path.specs.Table.{InOrder, kept}
 use Rattle.sftp_path.specs.Rekeying.{rekeyed}
@@ -21,14 +21,16 @@ use Rattle.sftp_tree.specs.Tree.{Names, Tree, WellFormed, IsNode, node_at, with_
 use Rattle.sftp_tree.specs.Attributes.{directory_owner, changed_owner, changed_content}
 use Rattle.sftp_tree.specs.PlaceCauses.{are_one}
 use Rattle.sftp_tree.specs.Changes.{with_changed_file, with_attributes, put_in_its_stead, with_further_name}
+use Rattle.sftp_tree.specs.Changes.{with_new_file, new_content, with_emptied_file, with_opened}
+use Rattle.sftp_tree.specs.OpenFlags.{truncates}
 use Rattle.sftp_tree.specs.Requests.{led, new_led, outcome_at, outcome_between, outcome_on, led_to, outcome, after}
 use Rattle.sftp_tree.proofs.PlaceTables.Each.{each-get}
 use Rattle.sftp_tree.proofs.KeptTrees.Trims.{stays}
 
 -- ---- what requests ask for
 
--- a request asks for the tree, the tree with other names, or with another content of a file
-module _ (t : Tree) (P : Tree → Type 0) (same : P t) (renamed : (names : Names) → P (record t { names = names })) (changed : (number : ℕ) (before content : Content) → content_at t.files number ≡ Some before → P (record t { files = with_content t.files number content })) where
+-- a request asks for the tree, the tree with other names, with another content of a file, or with a new file
+module _ (t : Tree) (P : Tree → Type 0) (same : P t) (renamed : (names : Names) → P (record t { names = names })) (changed : (number : ℕ) (before content : Content) → content_at t.files number ≡ Some before → P (record t { files = with_content t.files number content })) (made : (place : Place) (content : Content) → P (with_new_file t place content)) where
   by-file : (attrs : Attrs) (number : ℕ) (o : Option Content) → content_at t.files number ≡ o → P (with_changed_file t attrs number o)
   by-file attrs number None is = same
   by-file attrs number (Some content) is = changed number content (changed_content attrs content) is
@@ -39,12 +41,27 @@ module _ (t : Tree) (P : Tree → Type 0) (same : P t) (renamed : (names : Names
   by-attributes attrs place (Some (File number)) = by-file attrs number (content_at t.files number) refl
   by-attributes attrs place (Some (Link goal)) = same
 
+  by-emptied : (number : ℕ) (o : Option Content) → content_at t.files number ≡ o → P (with_emptied_file t number o)
+  by-emptied number None is = same
+  by-emptied number (Some content) is = changed number content (record content { bytes = [] }) is
+
+  by-flag : (empties : Bool) (number : ℕ) → P (if empties then with_emptied_file t number (content_at t.files number) else t)
+  by-flag true number = by-emptied number (content_at t.files number) refl
+  by-flag false number = same
+
+  by-opened : (flags : ℕ) (attrs : Attrs) (place : Place) (o : Option Node) → P (with_opened t flags attrs place o)
+  by-opened flags attrs place None = made place (new_content t attrs)
+  by-opened flags attrs place (Some (Dir owner)) = same
+  by-opened flags attrs place (Some (File number)) = by-flag (truncates flags) number
+  by-opened flags attrs place (Some (Link goal)) = same
+
   by-place : (ask : Ask) (place : Place) → P (outcome_at t ask place)
   by-place (Mkdir path attrs) place = renamed (with_node t.names place (Dir (directory_owner t attrs)))
   by-place (Rmdir path) place = renamed (without_node t.names place)
   by-place (Remove path) place = renamed (without_node t.names place)
   by-place (Setstat path attrs) place = by-attributes attrs place (node_at t.names place)
   by-place (Symlink goal link) place = renamed (with_node t.names place (Link goal))
+  by-place (Open path flags attrs) place = by-opened flags attrs place (node_at t.names place)
   by-place other place = same
 
   by-one : (one : Bool) (old new : Place) → P (if one then t else put_in_its_stead t old new)
@@ -75,11 +92,12 @@ module _ (t : Tree) (P : Tree → Type 0) (same : P t) (renamed : (names : Names
 -- ---- numbers
 
 pub made-stays : (t : Tree) (ask : Ask) → t.made ≤ (outcome t ask).made
-made-stays t = by-outcome t (λ x. t.made ≤ x.made) (omega arith) (λ names. omega arith) (λ number before content there. omega arith)
+made-stays t = by-outcome t (λ x. t.made ≤ x.made) (omega arith) (λ names. omega arith) (λ number before content there. omega arith) (λ place content. omega arith)
 
 pub numbered-outcome : (t : Tree) (ask : Ask) → InOrder nat_cmp t.files → InOrder nat_cmp (outcome t ask).files
 numbered-outcome t ask order =
-    by-outcome t (λ x. InOrder nat_cmp x.files) order (λ names. order) (λ number before content there. InOrder-put nat_cmp nat_cmp_total t.files number content order) ask
+    by-outcome t (λ x. InOrder nat_cmp x.files) order (λ names. order) (λ number before content there. InOrder-put nat_cmp nat_cmp_total t.files number content order)
+    (λ place content. InOrder-put nat_cmp nat_cmp_total t.files t.made content order) ask
 
 -- no number that was not given has a file
 pub not-given : (t : Tree) (number : ℕ) → WellFormed t → t.made ≤ number → content_at t.files number ≡ None
@@ -142,7 +160,9 @@ gone-after t ask number well =
 -- ---- what requests leave as it was
 
 pub pins-stay : (t : Tree) (ask : Ask) → (outcome t ask).pins ≡ t.pins
-pins-stay t = by-outcome t (λ x. x.pins ≡ t.pins) refl (λ names. refl) (λ number before content there. refl)
+pins-stay t = by-outcome t (λ x. x.pins ≡ t.pins) refl (λ names. refl) (λ number before content there. refl) (λ place content. refl)
 
 pub limits-stay : (t : Tree) (ask : Ask) → (outcome t ask).limits ≡ t.limits
-limits-stay t = by-outcome t (λ x. x.limits ≡ t.limits) refl (λ names. refl) (λ number before content there. refl)
+limits-stay t =
+    by-outcome t (λ x. x.limits ≡ t.limits) refl (λ names. refl) (λ number before content there. refl)
+    (λ place content. refl)

@@ -14,7 +14,7 @@ use Rattle.sftp_treefile.specs.TreeFile.{IsOwner}
 use Rattle.sftp_tree.specs.declared.file_contents.Content.{Content}
 use Rattle.sftp_tree.specs.declared.nodes.Node.{Node}
 use Rattle.sftp_tree.specs.declared.nodes.Node.TheVariants.{Dir, File, Link}
-use Rattle.sftp_tree.specs.Tree.{Names, Files, Tree, WellFormed, IsKept, IsNode, IsPin, IsContent, limits, fits, is_directory, node_at, with_node, content_at, with_content, names_file, times_named, is_named, is_pinned, is_held}
+use Rattle.sftp_tree.specs.Tree.{Names, Files, Tree, WellFormed, IsKept, IsNode, IsPin, IsContent, fits, is_directory, node_at, with_node, content_at, with_content, names_file, times_named, is_named, is_pinned, is_held}
 use Rattle.sftp_tree.specs.Attributes.{changed_owner, changed_content}
 use Rattle.sftp_tree.specs.Changes.{with_changed_file}
 use Rattle.sftp_tree.proofs.WellFormedTrees.Fields.{sized-bytes}
@@ -78,7 +78,7 @@ still-there files number content other there =
     by true = refl
     by false = there
 
-node-content : (files : Files) (number : ℕ) (content : Content) (it : Node) → IsNode files it → IsNode (with_content files number content) it
+pub node-content : (files : Files) (number : ℕ) (content : Content) (it : Node) → IsNode files it → IsNode (with_content files number content) it
 node-content files number content (Dir owner) is_node = is_node
 node-content files number content (File other) is_node = still-there files number content other is_node
 node-content files number content (Link target) is_node = is_node

@@ -1,31 +1,37 @@
 -- What is to be done for a request can be done, and leaves what it asks for.
-use Rattle.std.proofs.Common.{◌≡◌, Bool, true, false, ◌&&◌, ◌||◌, not, List, [], ◌∷◌, ℕ, suc, ◌<◌, get_or, refl, sym, subst, ◌∙◌, ap, Option, Some, None, IsTrue, if◌then◌else◌, Result, Ok, Err, IfOk}
+use Rattle.std.proofs.Common.{◌≡◌, Bool, true, false, ◌&&◌, not, List, [], ◌∷◌, ℕ, suc, ◌<◌, get_or, refl, sym, subst, ◌∙◌, ap, Option, Some, None, is_some, IsTrue, if◌then◌else◌, Result, Ok, Err, IfOk}
 use Rattle.std.proofs.lemmas.Bool.{not-false, or_parts, lt-ltb}
+use Rattle.std.proofs.Math.Bool.{and-true}
 use Rattle.sftp_wire.specs.declared.attributes.Attrs.{Attrs}
 use Rattle.sftp_wire.specs.declared.packets.Ask.{Ask}
 use Rattle.sftp_wire.specs.declared.packets.Ask.TheVariants.{Setstat, Remove, Mkdir, Rmdir, Rename, Symlink, PosixRename, Hardlink, Stat, Lstat, Readlink, Realpath}
+use Rattle.sftp_wire.specs.declared.packets.Ask.TheVariants.{Open}
 use Rattle.sftp_path.specs.Place.{Place, absolute}
-use Rattle.sftp_treefile.specs.TreeFile.{is_root, are_bytes}
+use Rattle.sftp_treefile.specs.TreeFile.{IsOwner, is_root, are_bytes}
 use Rattle.sftp_tree.specs.declared.nodes.Node.{Node}
 use Rattle.sftp_tree.specs.declared.nodes.Node.TheVariants as nodes
 use Rattle.sftp_tree.specs.declared.causes.Cause.{Cause}
-use Rattle.sftp_tree.specs.declared.causes.Cause.TheVariants.{NoEntry, NotDir, NotEmpty, Root}
+use Rattle.sftp_tree.specs.declared.causes.Cause.TheVariants.{NoEntry, NotDir, NotEmpty, Root, Exists, IsDir}
 use Rattle.sftp_tree.specs.declared.plans.Plan.{Plan}
-use Rattle.sftp_tree.specs.declared.plans.Plan.TheVariants.{Nothing, Put, Remove as Take, Move, Set}
-use Rattle.sftp_tree.specs.Tree.{Tree, IsKept, IsNode, fits, node_at, is_taken, is_directory, is_file, is_link, has_entries, trim}
-use Rattle.sftp_tree.specs.Attributes.{directory_owner}
+use Rattle.sftp_tree.specs.declared.plans.Plan.TheVariants.{Nothing, Put, Remove as Take, Move, Set, Make, Truncate}
+use Rattle.sftp_tree.specs.Tree.{Tree, IsKept, IsNode, fits, node_at, content_at, is_taken, is_directory, is_file, is_link, has_entries, trim}
+use Rattle.sftp_tree.specs.Attributes.{directory_owner, file_owner}
+use Rattle.sftp_tree.specs.OpenFlags.{truncates, excludes}
 use Rattle.sftp_tree.specs.Walking.{IsPlaceOf}
 use Rattle.sftp_tree.specs.Causes.{no_causes, when}
-use Rattle.sftp_tree.specs.PlaceCauses.{removing_causes, unlinking_causes, are_one, leaving_causes, giving_causes, exchanging_causes}
+use Rattle.sftp_tree.specs.PlaceCauses.{removing_causes, unlinking_causes, are_one, leaving_causes, giving_causes, exchanging_causes, opening_causes}
+use Rattle.sftp_tree.specs.Walk.{reached}
 use Rattle.sftp_tree.specs.Changes.{with_further_name, put_in_its_stead, with_attributes}
-use Rattle.sftp_tree.specs.Requests.{causes_at, outcome_at, outcome_between, led, new_led, led_to, shown_at, shown_to, target_of, target_to, text_to}
+use Rattle.sftp_tree.specs.Changes.{with_new_file, new_content, with_emptied_file, with_opened}
+use Rattle.sftp_tree.specs.Requests.{outcome_at, outcome_between, led, new_led, led_to, shown_at, shown_to, target_of, target_to, text_to, number_at, file_to}
 use Rattle.sftp_tree.specs.Refusals.{IsFree, stat_ask}
-use Rattle.sftp_tree.specs.Plans.{changed, IsReady, CanTake, HasNode, IsPlanned, IsPlanAt, IsNaming, IsPlanBetween, IsFileAt}
+use Rattle.sftp_tree.specs.Plans.{changed, IsReady, CanTake, HasNode, IsPlanned, IsPlanAt, IsNaming, IsPlanBetween, IsFileAt, plan_to_open}
 use Rattle.sftp_tree.proofs.CauseLaws.Places.{FreeAt, FreeBetween, free-at, free-between, outcome-is}
 use Rattle.sftp_tree.proofs.CauseLaws.Limits.{free-place, file-place, name-place, link-place, taken-place, may-leave, may-replace, outside-of, given-below, free-alone}
 use Rattle.sftp_tree.proofs.WellFormedTrees.Places.{nothing-below}
 use Rattle.sftp_tree.proofs.KeptTrees.Trims.{trimmed-already}
-use Rattle.sftp_tree.proofs.WellFormedTrees.Found.{below-root, apart-of, node-kept, moved-is}
+use Rattle.sftp_tree.proofs.Walks.Links.{reached-unlinked}
+use Rattle.sftp_tree.proofs.WellFormedTrees.Found.{absent-of, below-root, apart-of, node-kept, moved-is}
 
 -- what can be done, and what the tree is then
 pub record IsDone (t : Tree) (asked : Tree) (plan : Plan) : Type 0 where
@@ -77,6 +83,41 @@ done-set t attrs place path Nothing room is = absurd is
 done-set t attrs place path (Put at node) room is = absurd is
 done-set t attrs place path (Take at) room is = absurd is
 done-set t attrs place path (Move old new) room is = absurd is
+done-set t attrs place path (Truncate number) room is = absurd is
+done-set t attrs place path (Make at content) room is = absurd is
+
+done-truncate : (t : Tree) (number : ℕ) (empties : Bool) (plan : Plan) → IsKept t
+    → IsTrue (fits (if empties then with_emptied_file t number (content_at t.files number) else t))
+    → plan ≡ (if empties then Truncate number else Nothing)
+    → IsDone t (if empties then with_emptied_file t number (content_at t.files number) else t) plan
+done-truncate t number true plan kept room is =
+    subst (IsDone t (with_emptied_file t number (content_at t.files number))) (sym is) (record { ready = room; done = refl })
+done-truncate t number false plan kept room is =
+    subst (IsDone t t) (sym is) (record { ready = kept.trimmed; done = refl })
+
+-- neither a directory nor a link is changed when it is opened
+done-open : (t : Tree) (flags : ℕ) (attrs : Attrs) (place : Place) (found : Option Node) (plan : Plan)
+    → node_at t.names place ≡ found → IsPlaceOf t place → IsOwner (file_owner t attrs)
+    → IsTrue (fits (with_opened t flags attrs place found)) → plan ≡ plan_to_open t flags attrs place found
+    → IsDone t (with_opened t flags attrs place found) plan
+done-open t flags attrs place None plan there well owner room is =
+    subst (IsDone t (with_new_file t place (new_content t attrs))) (sym is)
+    (record {
+      ready = record {
+        absent = there;
+        named = well.named;
+        above = well.above;
+        is_content = (owner, refl);
+        room = room;
+      };
+      done = refl;
+    })
+done-open t flags attrs place (Some (nodes.File number)) plan there well owner room is =
+    done-truncate t number (truncates flags) plan well.kept room is
+done-open t flags attrs place (Some (nodes.Dir other)) plan there well owner room is =
+    subst (IsDone t t) (sym is) (record { ready = well.kept.trimmed; done = refl })
+done-open t flags attrs place (Some (nodes.Link goal)) plan there well owner room is =
+    subst (IsDone t t) (sym is) (record { ready = well.kept.trimmed; done = refl })
 
 pub done-at : (t : Tree) (ask : Ask) (place : Place) (plan : Plan) → IsPlaceOf t place → FreeAt t ask place → HasNode t ask → IsPlanAt t ask place plan → IsDone t (outcome_at t ask place) plan
 done-at t (Mkdir path attrs) place plan well free good is =
@@ -88,6 +129,8 @@ done-at t (Rmdir path) place plan well free good is =
 done-at t (Remove path) place plan well free good is =
     subst (IsDone t (outcome_at t (Remove path) place)) (sym is) (record { ready = can-remove-name t place well.kept free.none; done = refl })
 done-at t (Setstat path attrs) place plan well free good is = done-set t attrs place path plan free.room is
+done-at t (Open path flags attrs) place plan well free good is =
+    done-open t flags attrs place (node_at t.names place) plan refl well good free.room is
 done-at t other place plan well free good is = subst (IsDone t t) (sym is) (record { ready = well.kept.trimmed; done = refl })
 
 -- ---- with the two places that both paths lead to
@@ -198,6 +241,47 @@ link-told t path given place goal leads there is =
 pub path-told : (t : Tree) (path text : List ℕ) (place : Place) → led t (Realpath path) ≡ Some (Ok place) → text ≡ absolute place → text_to t (Realpath path) ≡ Some text
 unfolding text_to
 path-told t path text place leads is = ap (λ o. led_to None o (λ place. Some (absolute place))) leads ∙ ap Some (sym is)
+
+-- ---- what is opened
+
+led-there : (t : Tree) (path : List ℕ) (flags : ℕ) (attrs : Attrs) (place : Place)
+    → led t (Open path flags attrs) ≡ Some (Ok place) → reached t (not (excludes flags)) path ≡ Ok place
+unfolding led
+led-there t path flags attrs place leads = cc
+
+-- neither a directory nor a link is there
+file-or-none : (t : Tree) (found : Option Node) → is_directory found ≡ false → is_link found ≡ false
+    → is_some (number_at t found) ≡ true
+file-or-none t None directory link = refl
+file-or-none t (Some (nodes.Dir owner)) directory link = absurd cc
+file-or-none t (Some (nodes.File number)) directory link = refl
+file-or-none t (Some (nodes.Link goal)) directory link = absurd cc
+
+opened-by : (t : Tree) (flags : ℕ) (found : Option Node) (new : Bool) → excludes flags ≡ new
+    → ((c : Cause) → opening_causes flags found c ≡ false) → (new ≡ false → is_link found ≡ false)
+    → is_some (number_at t found) ≡ true
+unfolding when no_causes
+opened-by t flags found true is none link =
+    let taken = (or_parts (is_taken found && excludes flags) _ (none Exists)).0 in
+    ap (λ o. is_some (number_at t o)) (absent-of found (sym (and-true (is_taken found)) ∙ ap (λ b. is_taken found && b) (sym is) ∙ taken))
+opened-by t flags found false is none link =
+    let directory = (or_parts (is_directory found && not (excludes flags)) _ (none IsDir)).0 in
+    file-or-none t found (sym (and-true (is_directory found)) ∙ ap (λ b. is_directory found && not b) (sym is) ∙ directory) (link refl)
+
+-- a file is opened, or a new one
+pub number-there : (t : Tree) (path : List ℕ) (flags : ℕ) (attrs : Attrs) (place : Place) → IsKept t
+    → IsFree t (Open path flags attrs) → led t (Open path flags attrs) ≡ Some (Ok place)
+    → is_some (number_at t (node_at t.names place)) ≡ true
+number-there t path flags attrs place kept free leads =
+    opened-by t flags (node_at t.names place) (excludes flags) refl (free-at t (Open path flags attrs) place free leads refl).none
+    (λ followed. reached-unlinked t path place kept (ap (λ b. reached t (not b) path) (sym followed) ∙ led-there t path flags attrs place leads))
+
+pub number-told : (t : Tree) (path : List ℕ) (flags : ℕ) (attrs : Attrs) (place : Place) (number : ℕ)
+    → led t (Open path flags attrs) ≡ Some (Ok place) → number_at t (node_at t.names place) ≡ Some number
+    → file_to t (Open path flags attrs) ≡ Some number
+unfolding file_to
+number-told t path flags attrs place number leads is =
+    ap (λ o. led_to None o (λ place. number_at t (node_at t.names place))) leads ∙ is
 
 -- where nothing has attributes that can be set, the tree stays
 pub unchanged : (t : Tree) (attrs : Attrs) (place : Place) (found : Option Node) → IsKept t → node_at t.names place ≡ found → with_attributes t attrs place found ≡ t → t ≡ trim (with_attributes t attrs place (node_at t.names place))

@@ -1,13 +1,14 @@
 -- The tree after a request that no cause refuses is within the limits.
-use Rattle.std.proofs.Common.{◌≡◌, ℕ, ◌&&◌, not, List, [], ◌∷◌, refl, sym, subst, ap, ◌∙◌, Option, Some, None, IsTrue, Result, Ok, Err, Bool, true, false, if◌then◌else◌}
+use Rattle.std.proofs.Common.{◌≡◌, ℕ, not, List, [], ◌∷◌, refl, sym, subst, ap, ◌∙◌, Option, Some, None, IsTrue, Result, Ok, Err, Bool, true, false, if◌then◌else◌}
 use Rattle.std.specs.Option.{option_map, IfSome}
-use Rattle.std.proofs.lemmas.Bool.{both_ways, false_from_ne_true, not-false, or_parts}
+use Rattle.std.proofs.lemmas.Bool.{both_ways, false_from_ne_true, not-false}
 use Rattle.std.specs.Cmp.Lexicographic.{pointwise_decides, bytes_decides}
 use Rattle.std.specs.Ordering.{nat_cmp}
 use Rattle.std.specs.FinMap.{nat_cmp-IsAntisymmetric}
 use Rattle.sftp_wire.specs.declared.attributes.Attrs.{Attrs}
 use Rattle.sftp_wire.specs.declared.packets.Ask.{Ask}
 use Rattle.sftp_wire.specs.declared.packets.Ask.TheVariants.{Lstat, Setstat, Remove, Mkdir, Rmdir, Realpath, Stat, Rename, Readlink, Symlink, PosixRename, Hardlink}
+use Rattle.sftp_wire.specs.declared.packets.Ask.TheVariants.{Open, Opendir}
 use Rattle.sftp_wire.specs.Spelling.{FitsAttrs, FitsAsk}
 use Rattle.sftp_path.specs.Place.{Place, place_cmp, parent, are_names}
 use Rattle.sftp_path.specs.Rekeying.{NothingFrom}
@@ -17,20 +18,22 @@ use Rattle.sftp_tree.specs.declared.file_contents.Content.{Content}
 use Rattle.sftp_tree.specs.declared.nodes.Node.{Node}
 use Rattle.sftp_tree.specs.declared.nodes.Node.TheVariants.{Dir, File, Link}
 use Rattle.sftp_tree.specs.declared.causes.Cause.{Cause}
-use Rattle.sftp_tree.specs.declared.causes.Cause.TheVariants.{NoEntry, NotDir, Exists, IsDir, NotEmpty, Root, Inside}
 use Rattle.sftp_tree.specs.Tree.{Names, Tree, WellFormed, IsKept, IsNode, IsContent, fits, node_at, with_node, without_node, content_at, is_taken, is_directory, has_entries, trim}
 use Rattle.sftp_tree.specs.Walk.{reached}
 use Rattle.sftp_tree.specs.Attributes.{directory_owner, changed_owner, changed_content}
 use Rattle.sftp_tree.specs.PlaceCauses.{goes_inside, are_one, exchanging_causes}
 use Rattle.sftp_tree.specs.Changes.{with_changed_file, with_attributes, moved, put_in_its_stead, with_further_name}
+use Rattle.sftp_tree.specs.Changes.{new_content, with_emptied_file, with_opened}
+use Rattle.sftp_tree.specs.OpenFlags.{truncates}
 use Rattle.sftp_tree.specs.Requests.{path_of, new_path_of, follows, led, new_led, causes_at, new_causes_at, causes_between, outcome_at, outcome_between, outcome, after}
 use Rattle.sftp_tree.specs.Refusals.{IsFree}
 use Rattle.sftp_tree.proofs.PlaceTables.Each.{each-get}
-use Rattle.sftp_tree.proofs.WellFormedTrees.Fields.{bytes-fit, owner-fits, changed-owner-fits, changed-content-fits}
+use Rattle.sftp_tree.proofs.WellFormedTrees.Fields.{bytes-fit, owner-fits, file-owner-fits, changed-owner-fits, changed-content-fits}
 use Rattle.sftp_tree.proofs.CauseLaws.Places.{free-at, free-between, outcome-is}
-use Rattle.sftp_tree.proofs.WellFormedTrees.Places.{apart-from, nothing-below, alone-there, second-false}
+use Rattle.sftp_tree.proofs.WellFormedTrees.Places.{apart-from, nothing-below, alone-there}
 use Rattle.sftp_tree.proofs.WellFormedTrees.Names.{names-of, names-put, names-owner, names-without, well-formed-names}
 use Rattle.sftp_tree.proofs.KeptTrees.Values.{well-formed-content}
+use Rattle.sftp_tree.proofs.KeptTrees.NewFiles.{well-formed-new, no_bytes, no-bytes-fit, emptied-is}
 use Rattle.sftp_tree.proofs.KeptTrees.Moves.{well-formed-moved, well-formed-in-stead}
 use Rattle.sftp_tree.proofs.Limits.Tests.{Stands}
 use Rattle.sftp_tree.proofs.KeptTrees.Trims.{kept-trim}
@@ -68,6 +71,8 @@ path-bytes (Symlink target link) fits = bytes-fit link fits.1.bytes_fit
 path-bytes (Rename oldpath newpath) fits = bytes-fit oldpath fits.0.bytes_fit
 path-bytes (PosixRename oldpath newpath) fits = bytes-fit oldpath fits.0.bytes_fit
 path-bytes (Hardlink oldpath newpath) fits = bytes-fit oldpath fits.0.bytes_fit
+path-bytes (Open path flags attrs) fits = bytes-fit path fits.0.bytes_fit
+path-bytes (Opendir path) fits = bytes-fit path fits.bytes_fit
 path-bytes other fits = tt
 
 new-path-bytes : (ask : Ask) → FitsAsk ask → IfSome (new_path_of ask) (λ path. IsTrue (are_bytes path))
@@ -127,6 +132,21 @@ well-attributes t attrs place (Some (Dir owner)) is well fits =
 well-attributes t attrs place (Some (File number)) is well fits = well-file t attrs number (content_at t.files number) refl well fits
 well-attributes t attrs place (Some (Link target)) is well fits = well
 
+well-emptied : (t : Tree) (number : ℕ) (empties : Bool) → WellFormed t
+    → WellFormed (if empties then with_emptied_file t number (content_at t.files number) else t)
+well-emptied t number true well =
+    subst WellFormed (sym (emptied-is t number (content_at t.files number)))
+    (well-file t no_bytes number (content_at t.files number) refl well no-bytes-fit)
+well-emptied t number false well = well
+
+well-opened : (t : Tree) (flags : ℕ) (attrs : Attrs) (place : Place) (o : Option Node) → node_at t.names place ≡ o
+    → WellFormed t → FitsAttrs attrs → Led t place → WellFormed (with_opened t flags attrs place o)
+well-opened t flags attrs place None is well fits leads =
+    well-formed-new t place (new_content t attrs) well leads.named is leads.above (file-owner-fits t attrs well fits, refl)
+well-opened t flags attrs place (Some (Dir owner)) is well fits leads = well
+well-opened t flags attrs place (Some (File number)) is well fits leads = well-emptied t number (truncates flags) well
+well-opened t flags attrs place (Some (Link target)) is well fits leads = well
+
 well-at : (t : Tree) (ask : Ask) (place : Place) → WellFormed t → FitsAsk ask → Led t place → ((c : Cause) → causes_at t ask place c ≡ false) → WellFormed (outcome_at t ask place)
 well-at t (Mkdir path attrs) place well fits leads none = well-with t place (Dir (directory_owner t attrs)) well leads (ap is_taken (free-place (node_at t.names place) none)) (owner-fits t attrs well fits.1)
 well-at t (Rmdir path) place well fits leads none =
@@ -137,6 +157,8 @@ well-at t (Remove path) place well fits leads none =
     well-without t place well (not-root t place well other) (empty-there t place well other)
 well-at t (Setstat path attrs) place well fits leads none = well-attributes t attrs place (node_at t.names place) refl well fits.1
 well-at t (Symlink target link) place well fits leads none = well-with t place (Link target) well leads (ap is_taken (free-place (node_at t.names place) none)) (bytes-fit target fits.0.bytes_fit)
+well-at t (Open path flags attrs) place well fits leads none =
+    well-opened t flags attrs place (node_at t.names place) refl well fits.2 leads
 well-at t other place well fits leads none = well
 
 -- ---- requests with two paths

@@ -9,7 +9,7 @@ use Rattle.sftp_treefile.specs.declared.files.Owner.{Owner}
 use Rattle.sftp_treefile.specs.TreeFile.{IsOwner, are_bytes}
 use Rattle.sftp_tree.specs.declared.file_contents.Content.{Content}
 use Rattle.sftp_tree.specs.Tree.{Tree, WellFormed, IsContent}
-use Rattle.sftp_tree.specs.Attributes.{directory_owner, changed_owner, resized, changed_content}
+use Rattle.sftp_tree.specs.Attributes.{directory_owner, file_owner, changed_owner, resized, changed_content}
 
 pub bytes-fit : (bytes : List ℕ) → AreBytes bytes → IsTrue (are_bytes bytes)
 bytes-fit [] fits = refl
@@ -33,6 +33,11 @@ permissions-fit (Some p) otherwise small = omega arith
 pub owner-fits : (t : Tree) (attrs : Attrs) → WellFormed t → FitsAttrs attrs → IsOwner (directory_owner t attrs)
 owner-fits t attrs well fits =
     (first-fits attrs.owner t.uid fits.owner well.uid, second-fits attrs.owner t.gid fits.owner well.gid, permissions-fit attrs.permissions 0o755 (lit< tt))
+
+-- of a new file
+pub file-owner-fits : (t : Tree) (attrs : Attrs) → WellFormed t → FitsAttrs attrs → IsOwner (file_owner t attrs)
+file-owner-fits t attrs well fits =
+    (first-fits attrs.owner t.uid fits.owner well.uid, second-fits attrs.owner t.gid fits.owner well.gid, permissions-fit attrs.permissions 0o644 (lit< tt))
 
 -- of what is there already
 pub changed-owner-fits : (attrs : Attrs) (owner : Owner) → FitsAttrs attrs → IsOwner owner → IsOwner (changed_owner attrs owner)

@@ -1,7 +1,6 @@
-use Rattle.std.proofs.Common.{◌≡◌, sym, subst, ap, ◌∙◌, Some, Ok, IfSome}
+use Rattle.std.proofs.Common.{subst, ap, ◌∙◌, IfSome}
 use Rattle.sftp_tree.specs.Walking.{IsPlaceOf}
 use Rattle.sftp_tree.specs.Asks.{asked}
-use Rattle.sftp_tree.specs.Requests.{new_led}
 use Rattle.sftp_tree.specs.Ends.{ok_where}
 use Rattle.sftp_tree.specs.Plans.{IsPlanAt, IsPlanned, HasNode}
 use Rattle.sftp_tree.proofs.CauseLaws.Places.{free-between}
