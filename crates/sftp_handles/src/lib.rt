@@ -2,6 +2,7 @@
 //! (draft-ietf-secsh-filexfer-02, sections 6.3, 6.4 and 6.7).
 #![tactic(auto)]
 
+pub mod examples;
 mod opens;
 pub mod pin_laws;
 
