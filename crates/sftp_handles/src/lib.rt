@@ -3,6 +3,7 @@
 #![tactic(auto)]
 
 pub mod examples;
+pub mod laws;
 mod opens;
 pub mod pin_laws;
 
