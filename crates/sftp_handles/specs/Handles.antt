@@ -1,6 +1,6 @@
 -- What is open, by the names of the handles, and which files that pins (draft-ietf-secsh-filexfer-02, sections 6.3 and
 -- 6.7).
-use Rattle.std.specs.Prelude.{◌==◌, ℕ, Bool, true, false, List, [], ◌∷◌, Option, Some, None}
+use Rattle.std.specs.Prelude.{◌==◌, ℕ, Bool, false, List, [], ◌∷◌, Option, is_some}
 use Rattle.std.specs.Int.RustNames.{bit_and}
 use Rattle.sftp_wire.specs.declared.attributes.Attrs.{Attrs}
 use Rattle.sftp_wire.specs.declared.open_flags.OpenFlags.{OpenFlags}
@@ -32,13 +32,9 @@ with_open handles handle it = put bytes_cmp handles handle it
 abbrev pub without_open : Handles → List ℕ → Handles
 without_open handles handle = without bytes_cmp handles handle
 
-abbrev pub is_some_open : Option Open → Bool
-is_some_open None = false
-is_some_open (Some it) = true
-
 -- whether the handle is open
 abbrev pub is_open : Handles → List ℕ → Bool
-is_open handles handle = is_some_open (open_at handles handle)
+is_open handles handle = is_some (open_at handles handle)
 
 -- ---- how a file was opened (draft, section 6.3)
 

@@ -6,3 +6,4 @@ pub mod HandleRequests
 pub mod Requests
 pub mod Allowed
 pub mod Examples
+pub mod Given

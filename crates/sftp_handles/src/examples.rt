@@ -21,7 +21,8 @@ pub fn removed_while_open()
 
 /// READDIR gives the names of a directory in any order and in any parts, and then says that there are no more.
 pub fn names_in_any_order()
-    ensures parts { steps (closed with_three) (opened_directory (codes "/d") (codes "h") ∷ more (codes "h") (codes "b" ∷ [])
+    ensures parts { steps (closed with_three) (opened_directory (codes "/d") (codes "h")
+        ∷ more (codes "h") (codes "b" ∷ [])
         ∷ more (codes "h") (codes "c" ∷ codes "a" ∷ []) ∷ no_more (codes "h") ∷ done (Close (codes "h")) ∷ [])
         ≡ Some (closed with_three) }
     ensures none { steps (closed with_none) (opened_directory (codes "/d") (codes "h") ∷ no_more (codes "h")
@@ -124,8 +125,8 @@ pub fn other_kinds()
         ∷ (Read (codes "l") 0 1, code 3) ∷ []) ≡ None }
 {}
 
-/// READ through a handle that was opened to write alone has the code 3 or 4, as has WRITE through one that was opened to
-/// read.
+/// READ through a handle that was opened to write alone has the code 3 or 4, as has WRITE through one that was opened
+/// to read.
 pub fn opened_for_something_else()
     ensures read { steps (closed (with_text [])) (opened (codes "/f") 0x2 (codes "h") ∷ (Read (codes "h") 0 1, code 3)
         ∷ (Read (codes "h") 0 1, code 4) ∷ done (Close (codes "h")) ∷ []) ≡ Some (closed (with_text [])) }

@@ -1,5 +1,5 @@
-//! Laws of the steps of a session, as theorems on the definitions that the contracts name. The functions do nothing; each
-//! promise is in the contract.
+//! Laws of the steps of a session, as theorems on the definitions that the contracts name. The functions do nothing;
+//! each promise is in the contract.
 ghost use Rattle.std.specs.Prelude.{◌≡◌, ◌↔◌, Some};
 ghost use Rattle.sftp_wire.specs.declared.packets.Request.{Request};
 ghost use Rattle.sftp_wire.specs.declared.packets.Reply.{Reply};

@@ -3,8 +3,12 @@
 #![tactic(auto)]
 
 pub mod examples;
+mod given_table;
 pub mod laws;
 mod opens;
 pub mod pin_laws;
+mod tables;
 
+pub use given_table::GivenTable;
 pub use opens::{Listing, Open};
+pub use tables::{HandleTable, PutError};
