@@ -5,10 +5,12 @@
 pub mod examples;
 mod given_table;
 pub mod laws;
+mod listings;
 mod opens;
 pub mod pin_laws;
 mod tables;
 
 pub use given_table::GivenTable;
-pub use opens::{Listing, Open};
+pub use listings::Listing;
+pub use opens::Open;
 pub use tables::{HandleTable, PutError};
