@@ -5,8 +5,7 @@ use Rattle.sftp_wire.specs.declared.packets.Request.{Request}
 use Rattle.sftp_wire.specs.declared.packets.Reply.{Reply}
 use Rattle.sftp_wire.specs.Spelling.{HasSpelling}
 use Rattle.sftp_tree.specs.Tree.{Tree}
-use Rattle.sftp_tree.specs.Requests.{has_step}
-use Rattle.sftp_audit.specs.Replies.{Allowed}
+use Rattle.sftp_audit.specs.Replies.{has_step, Allowed}
 
 -- the request can be judged and encoded
 pub record IsAskable (request : Request) : Type 0 where

@@ -1,11 +1,11 @@
 -- Which replies a tree allows to a request, and the tree after them (draft-ietf-secsh-filexfer-02, sections
 -- 6.5 to 6.11 and 7; OpenSSH's PROTOCOL, sections 4.3 and 4.5). Which fields of a reply are free is this profile's own.
-use Rattle.std.specs.Prelude.{◌≡◌, ◌==◌, ◌&&◌, ℕ, Bool, false, List, [], ◌∷◌, Option, Some, IsTrue, ◌⊎◌}
+use Rattle.std.specs.Prelude.{◌≡◌, ◌==◌, ◌&&◌, not, ℕ, Bool, true, false, List, [], ◌∷◌, Option, Some, IsTrue, ◌⊎◌}
 use Rattle.sftp_wire.specs.declared.attributes.Attrs.{Attrs}
 use Rattle.sftp_wire.specs.declared.names.NameItem.{NameItem}
 use Rattle.sftp_wire.specs.declared.packets.Ask.{Ask}
 use Rattle.sftp_wire.specs.declared.packets.Ask.TheVariants.{Lstat, Setstat, Remove, Mkdir, Rmdir, Realpath, Stat}
-use Rattle.sftp_wire.specs.declared.packets.Ask.TheVariants.{Rename, Readlink, Symlink, PosixRename, Hardlink}
+use Rattle.sftp_wire.specs.declared.packets.Ask.TheVariants.{Rename, Readlink, Symlink, PosixRename, Hardlink, Open, Opendir}
 use Rattle.sftp_wire.specs.declared.packets.Answer.{Answer}
 use Rattle.sftp_wire.specs.declared.packets.Answer.TheVariants as replies
 use Rattle.sftp_wire.specs.declared.packets.Request.{Request}
@@ -13,7 +13,19 @@ use Rattle.sftp_wire.specs.declared.packets.Reply.{Reply}
 use Rattle.sftp_path.specs.Place.{same_bytes}
 use Rattle.sftp_tree.specs.Tree.{Tree}
 use Rattle.sftp_tree.specs.Causes.{CauseSet, is_none, allow}
-use Rattle.sftp_tree.specs.Requests.{has_step, causes, after, shown_to, target_to, text_to}
+use Rattle.sftp_tree.specs.Requests.{has_step as has_path, causes, after, shown_to, target_to, text_to}
+
+-- ---- which requests can be judged
+
+-- a request that is answered by a handle; no tree has handles
+abbrev pub opens : Ask → Bool
+opens (Open path pflags attrs) = true
+opens (Opendir path) = true
+opens other = false
+
+-- the others on paths can be judged
+abbrev pub has_step : Ask → Bool
+has_step ask = has_path ask && not (opens ask)
 
 -- ---- what a reply says
 

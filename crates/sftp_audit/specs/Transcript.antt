@@ -13,7 +13,7 @@ use Rattle.sftp_audit.specs.declared.errors.TranscriptError.{TranscriptError}
 use Rattle.sftp_audit.specs.declared.errors.TranscriptError.TheVariants.{NoMemory}
 use Rattle.sftp_audit.specs.declared.events.Event.{Event}
 use Rattle.sftp_audit.specs.declared.events.Event.TheVariants.{Asked, Replied}
-use Rattle.sftp_tree.specs.Requests.{has_step}
+use Rattle.sftp_audit.specs.Replies.{has_step}
 
 -- `SFTPTR01`
 abbrev pub transcript_opening : List ℕ

@@ -5,7 +5,7 @@ ghost use Rattle.sftp_wire.specs.declared.packets.Packet.{Packet};
 ghost use Rattle.sftp_wire.specs.Spelling.{spelling, HasSpelling, side_of};
 ghost use Rattle.sftp_audit.specs.declared.events.Event.{Event};
 ghost use Rattle.sftp_audit.specs.declared.events.Event.TheVariants.{Asked};
-ghost use Rattle.sftp_tree.specs.Requests.{has_step};
+ghost use Rattle.sftp_audit.specs.Replies.{has_step};
 ghost use Rattle.sftp_audit.specs.Transcript.{transcript_opening, packet_of, event_record, is_judged};
 ghost use Rattle.sftp_audit.specs.Transcript.{IsEvent, AreRecords, IsRecord, GivesRecorded};
 ghost use Rattle.sftp_audit.specs.Records.{side_of_direction, read_fault, Begins, GivesOnly};

@@ -4,7 +4,6 @@ ghost use Rattle.std.specs.Prelude.{◌≡◌, ℕ, List, IfOk, OnErr, IsTrue, f
 ghost use Rattle.sftp_wire.specs.declared.packets.Ask.TheVariants.{Realpath, Readlink};
 ghost use Rattle.sftp_wire.specs.declared.packets.Answer.TheVariants as answers;
 ghost use Rattle.sftp_tree.specs.Tree as trees;
-ghost use Rattle.sftp_tree.specs.Requests as requests;
 ghost use Rattle.sftp_tree.specs.Refusals.{stat_ask};
 ghost use Rattle.sftp_audit.specs.Replies as spec;
 ghost use Rattle.sftp_audit.specs.Verdicts.{value_of, is_done, is_answer, IsDone, IsVerdict};
@@ -262,9 +261,9 @@ fn is_one_name(text: &[u8], names: &Names) -> bool
     }
 }
 
-/// Whether the request can be judged: the requests on handles cannot yet.
+/// Whether the request can be judged: it is on paths, and its answer is no handle.
 pub fn has_step(ask: &Ask) -> bool
-    ensures { result ≡ requests.has_step ask.now }
+    ensures { result ≡ spec.has_step ask.now }
 {
     match ask {
         Ask::Open { .. } => false,

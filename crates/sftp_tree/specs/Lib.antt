@@ -5,6 +5,7 @@ pub mod WalkRules
 pub mod Attributes
 pub mod OpenFlags
 pub mod Listings
+pub mod Items
 pub mod Causes
 pub mod PlaceCauses
 pub mod Changes

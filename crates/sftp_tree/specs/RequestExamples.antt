@@ -3,7 +3,8 @@
 use Rattle.std.specs.Prelude.{ℕ, List, [], ◌∷◌, Some, codes}
 use Rattle.sftp_wire.specs.declared.attributes.Attrs.{Attrs}
 use Rattle.sftp_wire.specs.Examples.{no_attributes}
-use Rattle.sftp_path.specs.Place.{Place}
+use Rattle.sftp_path.specs.Place.{Name, Place}
+use Rattle.sftp_path.specs.Table.{Table}
 use Rattle.sftp_tree.specs.declared.file_contents.Content.{Content}
 use Rattle.sftp_tree.specs.declared.nodes.Node.{Node}
 use Rattle.sftp_tree.specs.declared.nodes.Node.TheVariants.{Dir, File, Link}
@@ -85,6 +86,31 @@ with_two_files = record (tree_of ((codes "f" ∷ [], File 0) ∷ (codes "g" ∷ 
 abbrev pub with_moved_file : Tree
 with_moved_file = record (holding ((codes "g" ∷ [], File 0) ∷ []) hello) { made = 2 }
 
+-- ---- files that are opened
+
+-- attributes that ask for a size, an owner and permissions, with the type bits of a directory
+abbrev pub given_attributes : Attrs
+given_attributes = record no_attributes { size = Some 5; owner = Some (1000, 100); permissions = Some 0o040600 }
+
+-- a file of that owner, who alone may read and write it
+abbrev pub given_file : Content
+given_file = record { owner = record { uid = 1000; gid = 100; permissions = 0o600 }; bytes = [] }
+
+-- `/g` is the name of a new file, which has the number 1
+abbrev pub with_new_file : Tree
+with_new_file = record (tree_of ((codes "f" ∷ [], File 0) ∷ (codes "g" ∷ [], File 1) ∷ [])) { files = (0, hello) ∷ (1, given_file) ∷ []; made = 2 }
+
+-- the link `/l` to `x y`, which is the name of a new file
+abbrev pub with_linked_file : Tree
+with_linked_file = holding ((codes "l" ∷ [], Link (codes "x y")) ∷ (codes "x y" ∷ [], File 0) ∷ []) empty_file
+
+-- nothing, where all numbers of files but one are given, and where all are
+abbrev pub with_a_number : Tree
+with_a_number = record (tree_of []) { made = 0xfffffffe }
+
+abbrev pub with_no_number : Tree
+with_no_number = record (tree_of []) { made = 0xffffffff }
+
 -- ---- directories below one another, and a file
 
 -- the directories `/d` and `/d/e`, the file `/d/e/f`, and the directory `/t`
@@ -98,3 +124,20 @@ after_move = holding ((codes "t" ∷ [], directory) ∷ (codes "x" ∷ [], direc
 -- the file `/f`, and the directories `/x` and `/x/e`
 abbrev pub with_directories : Tree
 with_directories = holding ((codes "f" ∷ [], File 0) ∷ (codes "x" ∷ [], directory) ∷ (codes "x" ∷ codes "e" ∷ [], directory) ∷ []) hello
+
+-- ---- listings
+
+-- the directory `/d` with the file `/d/f`, the directory `/d/g`, which has an entry, and the link `/d/l` to it
+abbrev pub with_listing : Tree
+with_listing = holding ((codes "d" ∷ [], directory) ∷ (codes "d" ∷ codes "f" ∷ [], File 0) ∷ (codes "d" ∷ codes "g" ∷ [], directory) ∷ (codes "d" ∷ codes "g" ∷ codes "e" ∷ [], directory) ∷ (codes "d" ∷ codes "l" ∷ [], Link (codes "g")) ∷ []) hello
+
+-- the attributes shown of the directory `/d/g`, and of the link `/d/l`
+abbrev pub shown_plain_directory : Attrs
+shown_plain_directory = record no_attributes { size = Some 0; owner = Some (0, 0); permissions = Some 0o040755 }
+
+abbrev pub shown_short_link : Attrs
+shown_short_link = record no_attributes { size = Some 1; owner = Some (0, 0); permissions = Some 0o120777 }
+
+-- what is in `/d`
+abbrev pub listed_names : Table Name Attrs
+listed_names = (codes "f", shown_file) ∷ (codes "g", shown_plain_directory) ∷ (codes "l", shown_short_link) ∷ []

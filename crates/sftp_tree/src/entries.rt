@@ -1,5 +1,5 @@
 //! The entries of a tree: its places, each with its node. No other module knows how they are kept.
-ghost use Rattle.std.specs.Prelude.{◌≡◌, length, false, None, IfOk, OnOk, OnErr, IsTrue, option_copied};
+ghost use Rattle.std.specs.Prelude.{◌≡◌, length, map, false, None, IfOk, OnOk, OnErr, IsTrue, option_copied};
 ghost use Rattle.std.specs.Iterator.{item_count};
 ghost use Rattle.std.specs.Map.Iter.{TakesFirst, deref_pair};
 ghost use Rattle.sftp_path.specs.Place.{parent, begins};
@@ -8,6 +8,7 @@ ghost use Rattle.sftp_treefile.specs.TreeFile.{is_root};
 ghost use Rattle.sftp_tree.specs.declared.nodes.Node.TheVariants.{Dir};
 ghost use Rattle.sftp_tree.specs.Tree as tree;
 ghost use Rattle.sftp_tree.specs.Room as rooms;
+ghost use Rattle.sftp_tree.specs.Listings.{children};
 ghost use Rattle.sftp_tree.specs.PictureParts.{only_root};
 
 mod below;
@@ -15,7 +16,7 @@ mod moving;
 
 use crate::nodes::Node;
 pub(crate) use below::is_below;
-use sftp_path::{NoMemory, Place};
+use sftp_path::{Name, NoMemory, Place};
 use sftp_treefile::Owner;
 use std::alloc::Global;
 use std::collections::{BTreeMap, btree_map};
@@ -79,6 +80,17 @@ impl Entries {
         ensures { result ≡ tree.has_entries self.now place.now }
     {
         below::has_entries(&self.places, place)
+    }
+
+    /// The nodes right below a place, by their last names, in order.
+    ///
+    /// # Errors
+    ///
+    /// `NoMemory` if memory runs out.
+    pub(crate) fn children(&self, place: &Place) -> Result<Vec<(&Name, &Node)>, NoMemory>
+        ensures { IfOk result (λ found. map deref_pair found.items ≡ children self.now place.now) }
+    {
+        below::children(&self.places, place)
     }
 
     /// Whether each place that begins with `top` has at most `room` names behind it.

@@ -15,6 +15,7 @@ mod flags;
 mod found;
 pub mod laws;
 pub mod limit_laws;
+mod listings;
 mod nodes;
 mod owners;
 pub mod picture_laws;
@@ -30,5 +31,6 @@ mod walking;
 
 pub use causes::{Cause, Causes, Refused};
 pub use file_numbers::FileNo;
+pub use listings::Item;
 pub use sftp_treefile::{NoMemory, TreeError, TreeLimits};
 pub use trees::Tree;

@@ -1,22 +1,28 @@
 //! Worked examples: what requests do to small trees, what they return and why they are refused, computed by the checker
 //! on the definitions that the contracts name. The functions do nothing; each promise is in the contract.
-#![tactic(auto, unfolding(crate::specs::Requests::led, crate::specs::Causes::no_causes, crate::specs::Causes::when, crate::specs::Causes::joined, crate::specs::Requests::plain_causes, crate::specs::Requests::causes, crate::specs::Requests::outcome, crate::specs::Requests::shown_to, crate::specs::Requests::target_to, crate::specs::Requests::text_to, crate::specs::Walk::meets, crate::specs::Walk::walk_parts, crate::specs::Walk::walk, crate::specs::Walk::reached, crate::specs::Tree::has_entries, crate::specs::Tree::fits, sftp_path::specs::Place::components, sftp_path::specs::Place::parts, sftp_path::specs::Place::is_good_path, sftp_path::specs::Table::get, sftp_path::specs::Table::put, sftp_path::specs::Table::without, sftp_path::specs::Table::retain, sftp_path::specs::Table::from_entries, sftp_path::specs::Rekeying::rekeyed))]
+#![tactic(auto, unfolding(crate::specs::Requests::led, crate::specs::Causes::no_causes, crate::specs::Causes::when, crate::specs::Causes::joined, crate::specs::Requests::plain_causes, crate::specs::Requests::causes, crate::specs::Requests::outcome, crate::specs::Requests::shown_to, crate::specs::Requests::target_to, crate::specs::Requests::text_to, crate::specs::Requests::file_to, crate::specs::Requests::listing_to, crate::specs::Listings::children, crate::specs::Listings::listing, crate::specs::Walk::meets, crate::specs::Walk::walk_parts, crate::specs::Walk::walk, crate::specs::Walk::reached, crate::specs::Tree::has_entries, crate::specs::Tree::fits, sftp_path::specs::Place::components, sftp_path::specs::Place::parts, sftp_path::specs::Place::is_good_path, sftp_path::specs::Table::get, sftp_path::specs::Table::put, sftp_path::specs::Table::without, sftp_path::specs::Table::retain, sftp_path::specs::Table::from_entries, sftp_path::specs::Rekeying::rekeyed))]
 
 ghost use Rattle.std.specs.Prelude.{◌≡◌, true, false, [], ◌∷◌, ◌++◌, Some, None, codes};
 ghost use Rattle.sftp_wire.specs.declared.packets.Ask.TheVariants.{Lstat, Setstat, Remove, Mkdir, Rmdir};
 ghost use Rattle.sftp_wire.specs.declared.packets.Ask.TheVariants.{Realpath, Stat, Rename, Readlink};
-ghost use Rattle.sftp_wire.specs.declared.packets.Ask.TheVariants.{Symlink, PosixRename, Hardlink};
+ghost use Rattle.sftp_wire.specs.declared.packets.Ask.TheVariants.{Symlink, PosixRename, Hardlink, Open, Opendir};
 ghost use Rattle.sftp_wire.specs.Examples.{no_attributes};
 ghost use Rattle.sftp_tree.specs.declared.causes.Cause.TheVariants.{BadPath, NoEntry, NotDir, Exists, IsDir};
 ghost use Rattle.sftp_tree.specs.declared.causes.Cause.TheVariants.{NotLink, NotFile, NotEmpty, Root, Inside};
+ghost use Rattle.sftp_tree.specs.declared.causes.Cause.TheVariants.{BadFlags, NoRoom};
 ghost use Rattle.sftp_tree.specs.Picture.{blank};
 ghost use Rattle.sftp_tree.specs.Causes.{allow, is_none};
-ghost use Rattle.sftp_tree.specs.Requests.{causes, outcome, after, shown_to, target_to, text_to};
+ghost use Rattle.sftp_tree.specs.Requests.{causes, outcome, after, shown_to, target_to, text_to, file_to};
+ghost use Rattle.sftp_tree.specs.Requests.{listing_to};
+ghost use Rattle.sftp_tree.specs.OpenFlags.{are_good};
 ghost use Rattle.sftp_tree.specs.RequestExamples.{linked, with_directory, private_attributes, shown_link};
 ghost use Rattle.sftp_tree.specs.RequestExamples.{shown_directory, with_file, with_two_names, without_file};
 ghost use Rattle.sftp_tree.specs.RequestExamples.{shown_file, open_attributes, with_open_file, size_attributes};
 ghost use Rattle.sftp_tree.specs.RequestExamples.{sized_attributes, with_text, with_two_files, with_moved_file};
 ghost use Rattle.sftp_tree.specs.RequestExamples.{before_move, after_move, with_directories};
+ghost use Rattle.sftp_tree.specs.RequestExamples.{given_attributes, with_new_file, with_linked_file, with_a_number};
+ghost use Rattle.sftp_tree.specs.RequestExamples.{with_no_number, with_listing, listed_names};
+ghost use Rattle.sftp_tree.specs.WalkExamples.{with_file as with_empty_file};
 
 /// SYMLINK has the target first. The link has that target unchanged, the target's length for its size, and the tree's
 /// owner. What it leads to does not exist.
@@ -165,4 +171,83 @@ pub fn set_sizes()
     ensures directory { causes with_directory (Setstat (codes "/d") sized_attributes) NotFile ≡ true }
     ensures one_code { allow (causes with_directory (Setstat (codes "/d") sized_attributes)) 4 ≡ true }
     ensures no_other { allow (causes with_directory (Setstat (codes "/d") sized_attributes)) 2 ≡ false }
+{}
+
+/// The flags READ 0x01, WRITE 0x02, APPEND 0x04, CREAT 0x08, TRUNC 0x10 and EXCL 0x20 that a file can be opened with,
+/// and those that it cannot.
+pub fn flags_of_open()
+    ensures read { are_good 0x01 ≡ true }
+    ensures append { are_good 0x06 ≡ true }
+    ensures all { are_good 0x3f ≡ true }
+    ensures none { are_good 0x00 ≡ false }
+    ensures neither_read_nor_written { are_good 0x08 ≡ false }
+    ensures truncated_not_created { are_good 0x12 ≡ false }
+    ensures excluded_not_created { are_good 0x21 ≡ false }
+    ensures truncated_not_written { are_good 0x19 ≡ false }
+    ensures appended_not_written { are_good 0x05 ≡ false }
+    ensures unknown { are_good 0x41 ≡ false }
+    ensures highest { are_good 0x8000_0001 ≡ false }
+{}
+
+/// OPEN with bad flags has the cause `BadFlags`, which allows the codes 4 and 5, besides the causes of its place.
+pub fn bad_flags()
+    ensures file { causes with_file (Open (codes "/f") 0x10 no_attributes) BadFlags ≡ true }
+    ensures failed { allow (causes with_file (Open (codes "/f") 0x10 no_attributes)) 4 ≡ true }
+    ensures bad_message { allow (causes with_file (Open (codes "/f") 0x10 no_attributes)) 5 ≡ true }
+    ensures no_other { allow (causes with_file (Open (codes "/f") 0x10 no_attributes)) 2 ≡ false }
+    ensures absent { causes with_file (Open (codes "/g") 0x10 no_attributes) BadFlags ≡ true }
+    ensures absent_too { causes with_file (Open (codes "/g") 0x10 no_attributes) NoEntry ≡ true }
+    ensures directory { causes with_directory (Open (codes "/d") 0x00 no_attributes) IsDir ≡ true }
+{}
+
+/// OPEN with CREAT makes an empty file at a free place, with the next number. It takes the owner that is given and the
+/// low twelve bits of the permissions, and no size.
+pub fn made_files()
+    ensures free { is_none (causes blank (Open (codes "/f") 0x0a no_attributes)) ≡ true }
+    ensures made { after blank (Open (codes "/f") 0x0a no_attributes) ≡ with_empty_file }
+    ensures number { file_to blank (Open (codes "/f") 0x0a no_attributes) ≡ Some 0 }
+    ensures given { after with_file (Open (codes "/g") 0x0a given_attributes) ≡ with_new_file }
+    ensures next { file_to with_file (Open (codes "/g") 0x0a given_attributes) ≡ Some 1 }
+    ensures not_again { file_to without_file (Open (codes "/f") 0x0a no_attributes) ≡ Some 1 }
+    ensures not_created { causes blank (Open (codes "/f") 0x02 no_attributes) NoEntry ≡ true }
+{}
+
+/// OPEN of a file that exists returns its number. TRUNC removes its bytes; the attributes given are ignored.
+pub fn opened_files()
+    ensures free { is_none (causes with_file (Open (codes "/f") 0x09 given_attributes)) ≡ true }
+    ensures same { after with_file (Open (codes "/f") 0x09 given_attributes) ≡ with_file }
+    ensures number { file_to with_two_names (Open (codes "/g") 0x01 no_attributes) ≡ Some 0 }
+    ensures truncated { after with_file (Open (codes "/f") 0x1a given_attributes) ≡ with_text [] }
+    ensures directory { causes with_directory (Open (codes "/d") 0x01 no_attributes) IsDir ≡ true }
+{}
+
+/// OPEN follows a last link, also one that leads to nothing. With EXCL it does not, and no taken place is opened.
+pub fn opened_links()
+    ensures made { after linked (Open (codes "/l") 0x0a no_attributes) ≡ with_linked_file }
+    ensures opened { file_to with_linked_file (Open (codes "/l") 0x01 no_attributes) ≡ Some 0 }
+    ensures link { causes linked (Open (codes "/l") 0x2a no_attributes) Exists ≡ true }
+    ensures file { causes with_file (Open (codes "/f") 0x2a no_attributes) Exists ≡ true }
+    ensures directory { causes with_directory (Open (codes "/d") 0x2a no_attributes) Exists ≡ true }
+    ensures one_cause { causes with_directory (Open (codes "/d") 0x2a no_attributes) IsDir ≡ false }
+    ensures absent { after blank (Open (codes "/f") 0x2a no_attributes) ≡ with_empty_file }
+{}
+
+/// A file gets the number 0xffff_fffe at most. Then no file can be made any more.
+pub fn last_number()
+    ensures last { is_none (causes with_a_number (Open (codes "/f") 0x0a no_attributes)) ≡ true }
+    ensures number { file_to with_a_number (Open (codes "/f") 0x0a no_attributes) ≡ Some 0xffff_fffe }
+    ensures no_more { causes with_no_number (Open (codes "/f") 0x0a no_attributes) NoRoom ≡ true }
+{}
+
+/// OPENDIR takes the names in a directory, in order, with the attributes that LSTAT shows of their nodes. It changes
+/// nothing.
+pub fn listed_directories()
+    ensures free { is_none (causes with_listing (Opendir (codes "/d"))) ≡ true }
+    ensures listed { listing_to with_listing (Opendir (codes "/d")) ≡ Some listed_names }
+    ensures empty { listing_to with_listing (Opendir (codes "/d/g/e")) ≡ Some [] }
+    ensures followed { listing_to with_listing (Opendir (codes "/d/l"))
+        ≡ listing_to with_listing (Opendir (codes "/d/g")) }
+    ensures same { after with_listing (Opendir (codes "/d")) ≡ with_listing }
+    ensures file { causes with_listing (Opendir (codes "/d/f")) NotDir ≡ true }
+    ensures absent { causes with_listing (Opendir (codes "/e")) NoEntry ≡ true }
 {}

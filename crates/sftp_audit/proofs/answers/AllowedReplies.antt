@@ -22,15 +22,15 @@ use Rattle.sftp_tree.specs.declared.file_contents.Content.{Content}
 use Rattle.sftp_tree.specs.declared.nodes.Node.{Node}
 use Rattle.sftp_tree.specs.declared.nodes.Node.TheVariants.{Dir, File, Link}
 use Rattle.sftp_tree.specs.declared.causes.Cause.{Cause}
-use Rattle.sftp_tree.specs.declared.causes.Cause.TheVariants.{NoEntry, NotDir, Loop, NotLink}
+use Rattle.sftp_tree.specs.declared.causes.Cause.TheVariants.{NoEntry, NotDir, Loop, NotLink, Unknown}
 use Rattle.sftp_tree.specs.Tree.{Tree, IsKept, IsNode, IsContent, link_fits, node_at, content_at, is_directory}
 use Rattle.sftp_tree.specs.Walk.{reached}
 use Rattle.sftp_tree.specs.Attributes.{said, shown_content, shown}
 use Rattle.sftp_tree.specs.Causes.{CauseSet, every_cause, allows}
 use Rattle.sftp_tree.specs.PlaceCauses.{needing_causes}
-use Rattle.sftp_tree.specs.Requests.{has_step, causes, led, led_to, after}
+use Rattle.sftp_tree.specs.Requests.{causes, led, led_to, after}
 use Rattle.sftp_tree.specs.Requests.{told_at, attributes_of, name_of, shown_at, shown_to, target_of, target_to, text_to}
-use Rattle.sftp_audit.specs.Replies.{same_attributes, is_shown, is_named, answers}
+use Rattle.sftp_audit.specs.Replies.{has_step, same_attributes, is_shown, is_named, answers}
 use Rattle.sftp_audit.specs.Laws.{IsAskable, IsAnswerable}
 use Rattle.sftp_audit.proofs.answers.FreeRequests.{IsFree, led-stat, led-lstat, led-real_path, led-read_link, there}
 use Rattle.sftp_audit.proofs.answers.FreeRequests.{link_there}
@@ -46,18 +46,21 @@ abbrev first_code : Cause → ℕ
 first_code NoEntry = 2
 first_code NotDir = 2
 first_code Loop = 2
+first_code Unknown = 8
 first_code other = 4
 
 first_allowed : (cause : Cause) → allows cause (first_code cause) ≡ true
 first_allowed NoEntry = refl
 first_allowed NotDir = refl
 first_allowed Loop = refl
+first_allowed Unknown = refl
 first_allowed other = refl
 
 first_small : (cause : Cause) → first_code cause < 2 ^ 32
 first_small NoEntry = lit< tt
 first_small NotDir = lit< tt
 first_small Loop = lit< tt
+first_small Unknown = lit< tt
 first_small other = lit< tt
 
 some_code : (set : CauseSet) (xs : List Cause) → list_any set xs ≡ true

@@ -10,8 +10,8 @@ use Rattle.sftp_wire.specs.declared.packets.Reply.{Reply}
 use Rattle.sftp_tree.specs.declared.causes.Cause.{Cause}
 use Rattle.sftp_tree.specs.Tree.{Tree}
 use Rattle.sftp_tree.specs.Causes.{CauseSet, every_cause, allows, is_none}
-use Rattle.sftp_tree.specs.Requests.{has_step, causes, after as tree_after}
-use Rattle.sftp_audit.specs.Replies.{refuses, answers, Allowed}
+use Rattle.sftp_tree.specs.Requests.{causes, after as tree_after}
+use Rattle.sftp_audit.specs.Replies.{has_step, refuses, answers, Allowed}
 use Rattle.sftp_audit.specs.Explained.{Run}
 
 -- a step by its tests: whether the request is judged and the id is its, whether the reply refuses, whether no cause

@@ -8,7 +8,7 @@ use Rattle.sftp_wire.specs.declared.attributes.Attrs.{Attrs}
 use Rattle.sftp_wire.specs.declared.names.NameItem.{NameItem}
 use Rattle.sftp_wire.specs.declared.packets.Ask.{Ask}
 use Rattle.sftp_wire.specs.declared.packets.Ask.TheVariants.{Lstat, Setstat, Remove, Mkdir, Rmdir, Realpath, Stat}
-use Rattle.sftp_wire.specs.declared.packets.Ask.TheVariants.{Rename, Readlink, Symlink, PosixRename, Hardlink}
+use Rattle.sftp_wire.specs.declared.packets.Ask.TheVariants.{Rename, Readlink, Symlink, PosixRename, Hardlink, Open, Opendir}
 use Rattle.sftp_wire.specs.declared.packets.Answer.{Answer}
 use Rattle.sftp_wire.specs.declared.packets.Answer.TheVariants as replies
 use Rattle.sftp_path.specs.Place.{Place}
@@ -17,7 +17,7 @@ use Rattle.sftp_tree.specs.Tree.{Tree, trim}
 use Rattle.sftp_tree.specs.Causes.{CauseSet, every_cause, allows, allow, is_none}
 use Rattle.sftp_tree.specs.Requests.{causes, led, led_to, outcome, shown_to}
 use Rattle.sftp_tree.specs.Requests.{text_to, target_to}
-use Rattle.sftp_audit.specs.Replies.{refuses, is_shown, is_named, answers}
+use Rattle.sftp_audit.specs.Replies.{opens, refuses, is_shown, is_named, answers}
 use Rattle.sftp_audit.specs.Verdicts.{changes, is_answer, IsDone, IsVerdict}
 
 -- ---- sets of causes
@@ -35,7 +35,7 @@ none_allow set test (x ∷ xs) all = rw (neither (set x) (test x) all.0) (none_a
 pub allow-zero : (set : CauseSet) → allow set 0 ≡ false
 allow-zero set =
     none_allow set (λ cause. allows cause 0) every_cause
-    (refl, (refl, (refl, (refl, (refl, (refl, (refl, (refl, (refl, (refl, (refl, (refl, tt))))))))))))
+    (refl, (refl, (refl, (refl, (refl, (refl, (refl, (refl, (refl, (refl, (refl, (refl, (refl, (refl, (refl, (refl, (refl, tt)))))))))))))))))
 
 -- ---- requests that change the tree
 
@@ -105,22 +105,27 @@ led_to-same t None = refl
 led_to-same t (Some (Ok place)) = refl
 led_to-same t (Some (Err cause)) = refl
 
+-- a request that neither changes the tree nor opens anything
+abbrev IsStill : Ask → Type 0
+IsStill ask = (changes ask ≡ false) × (opens ask ≡ false)
+
 -- they leave the tree
-pub outcome-still : (t : Tree) (ask : Ask) → changes ask ≡ false → outcome t ask ≡ t
+pub outcome-still : (t : Tree) (ask : Ask) → IsStill ask → outcome t ask ≡ t
 unfolding outcome
-outcome-still t (Mkdir path attrs) still = cc
-outcome-still t (Rmdir path) still = cc
-outcome-still t (Remove path) still = cc
-outcome-still t (Setstat path given) still = cc
-outcome-still t (Rename oldpath newpath) still = cc
-outcome-still t (PosixRename oldpath newpath) still = cc
-outcome-still t (Hardlink oldpath newpath) still = cc
-outcome-still t (Symlink linktarget link) still = cc
+outcome-still t (Mkdir path attrs) still = let changed = still.0 in cc
+outcome-still t (Rmdir path) still = let changed = still.0 in cc
+outcome-still t (Remove path) still = let changed = still.0 in cc
+outcome-still t (Setstat path given) still = let changed = still.0 in cc
+outcome-still t (Rename oldpath newpath) still = let changed = still.0 in cc
+outcome-still t (PosixRename oldpath newpath) still = let changed = still.0 in cc
+outcome-still t (Hardlink oldpath newpath) still = let changed = still.0 in cc
+outcome-still t (Symlink linktarget link) still = let changed = still.0 in cc
+outcome-still t (Open path pflags attrs) still = let opened = still.1 in cc
 outcome-still t other still = led_to-same t (led t other)
 
 -- an answer that is no status, to a request that changes nothing if the answer is its
 verdict-still : (t : Tree) (ask : Ask) (answer : Answer) (ok : Bool) → (IsTrue ok → trim t ≡ t)
-    → refuses (causes t ask) answer ≡ false → (answers t ask answer ≡ true → changes ask ≡ false)
+    → refuses (causes t ask) answer ≡ false → (answers t ask answer ≡ true → IsStill ask)
     → ok ≡ is_answer t ask answer → IsVerdict t ask answer ok t
 verdict-still t ask answer ok trimmed unlike still is = record {
   allowed =
@@ -138,7 +143,7 @@ verdict-still t ask answer ok trimmed unlike still is = record {
         let e : false ≡ true = sym h ∙ is ∙ (λ i. free i && w i) in
         cc
 
-still-attrs : (t : Tree) (ask : Ask) (attrs : Attrs) → answers t ask (replies.Attrs attrs) ≡ true → changes ask ≡ false
+still-attrs : (t : Tree) (ask : Ask) (attrs : Attrs) → answers t ask (replies.Attrs attrs) ≡ true → IsStill ask
 still-attrs t (Mkdir path given) attrs is = cc
 still-attrs t (Rmdir path) attrs is = cc
 still-attrs t (Remove path) attrs is = cc
@@ -147,10 +152,12 @@ still-attrs t (Rename oldpath newpath) attrs is = cc
 still-attrs t (PosixRename oldpath newpath) attrs is = cc
 still-attrs t (Hardlink oldpath newpath) attrs is = cc
 still-attrs t (Symlink linktarget link) attrs is = cc
-still-attrs t other attrs is = refl
+still-attrs t (Open path pflags given) attrs is = cc
+still-attrs t (Opendir path) attrs is = cc
+still-attrs t other attrs is = (refl, refl)
 
 still-names : (t : Tree) (ask : Ask) (names : List NameItem) → answers t ask (replies.Name names) ≡ true
-    → changes ask ≡ false
+    → IsStill ask
 still-names t (Mkdir path given) names is = cc
 still-names t (Rmdir path) names is = cc
 still-names t (Remove path) names is = cc
@@ -159,7 +166,9 @@ still-names t (Rename oldpath newpath) names is = cc
 still-names t (PosixRename oldpath newpath) names is = cc
 still-names t (Hardlink oldpath newpath) names is = cc
 still-names t (Symlink linktarget link) names is = cc
-still-names t other names is = refl
+still-names t (Open path pflags given) names is = cc
+still-names t (Opendir path) names is = cc
+still-names t other names is = (refl, refl)
 
 pub verdict-attributes : (t : Tree) (ask : Ask) (attrs : Attrs) (ok : Bool) → (IsTrue ok → trim t ≡ t)
     → ok ≡ is_answer t ask (replies.Attrs attrs) → IsVerdict t ask (replies.Attrs attrs) ok t

@@ -1,5 +1,7 @@
 -- A tree with a new file: that it fits the limits, and that it stays a tree. A file that loses its bytes.
-use Rattle.std.proofs.Common.{◌≡◌, ◌==◌, ◌<◌, ◌^◌, ℕ, ◌+◌, ◌-◌, Bool, true, false, ◌&&◌, ◌||◌, List, [], ◌∷◌, length, replicate, refl, sym, ap, subst, ◌∙◌, arith, lit<, Option, Some, None, is_some, nat_lt, nat_le, IsTrue, IfSome, cond, option_map, option_and_then}
+use Rattle.std.proofs.Common.{◌≡◌, ◌==◌, ◌<◌, ◌^◌, ℕ, ◌+◌, ◌-◌, Bool, true, false, ◌&&◌, ◌||◌, List, [], ◌∷◌, length}
+use Rattle.std.proofs.Common.{replicate, refl, sym, ap, subst, ◌∙◌, arith, lit<, Option, Some, None, is_some, nat_lt}
+use Rattle.std.proofs.Common.{nat_le, IsTrue, IfSome, cond, option_map, option_and_then}
 use Rattle.std.specs.Ordering.{nat_cmp}
 use Rattle.std.specs.FinMap.{nat_cmp-IsAntisymmetric}
 use Rattle.std.specs.List.{AllByRecursion}
@@ -19,7 +21,10 @@ use Rattle.sftp_tree.specs.declared.file_contents.Content.{Content}
 use Rattle.sftp_tree.specs.declared.file_contents.Stored.{Stored}
 use Rattle.sftp_tree.specs.declared.nodes.Node.{Node}
 use Rattle.sftp_tree.specs.declared.nodes.Node.TheVariants.{Dir, File, Link}
-use Rattle.sftp_tree.specs.Tree.{Names, Files, Tree, WellFormed, IsKept, IsNode, IsPin, IsContent, limits, fits, depth_fits, content_fits, is_directory, node_at, with_node, content_at, with_content, names_file, times_named, is_named, is_pinned, is_held}
+use Rattle.sftp_tree.specs.Tree.{Names, Files, Tree, WellFormed, IsKept, IsNode, IsContent, limits, fits, depth_fits}
+use Rattle.sftp_tree.specs.Tree.{IsPin}
+use Rattle.sftp_tree.specs.Tree.{content_fits, is_directory, node_at, with_node, content_at, with_content, names_file}
+use Rattle.sftp_tree.specs.Tree.{times_named, is_named, is_pinned, is_held}
 use Rattle.sftp_tree.specs.StoredFiles.{contents, seen, AreCounted, IsChanged, without_a_name}
 use Rattle.sftp_tree.specs.Attributes.{resized, changed_content}
 use Rattle.sftp_tree.specs.Changes.{with_changed_file, with_new_file, with_emptied_file}
@@ -34,7 +39,8 @@ use Rattle.sftp_tree.proofs.KeptTrees.Values.{node-content}
 use Rattle.sftp_tree.proofs.KeptTrees.Entries.{named-put, or_weaker}
 use Rattle.sftp_tree.proofs.KeptTrees.Files.{not-given}
 use Rattle.sftp_tree.proofs.KeptTrees.Counts.{files-in_order}
-use Rattle.sftp_tree.proofs.FileCounts.Names.{count-at, at-entries, by-number, one-here, one-elsewhere, named-put as named-more}
+use Rattle.sftp_tree.proofs.FileCounts.Names.{count-at, at-entries, by-number, one-here, one-elsewhere}
+use Rattle.sftp_tree.proofs.FileCounts.Names.{named-put as named-more}
 
 -- ---- a new file
 
@@ -62,7 +68,8 @@ well-formed-file t content well is_content = record {
       each-put nat_cmp nat_cmp-IsAntisymmetric nat_cmp_total (λ e. IsContent e.1) t.files t.made content well.numbered
       is_content well.contents;
   given =
-      each-put nat_cmp nat_cmp-IsAntisymmetric nat_cmp_total (λ e. e.0 < t.made + 1) t.files t.made content well.numbered
+      each-put nat_cmp nat_cmp-IsAntisymmetric nat_cmp_total
+      (λ e. e.0 < t.made + 1) t.files t.made content well.numbered
       (next t.made)
       (each-weaker (λ e. e.0 < t.made) (λ e. e.0 < t.made + 1) (λ e early. later e.0 t.made early) t.files well.given);
   pins = well.pins;
@@ -101,7 +108,8 @@ kept-new t place content kept can =
           each-put nat_cmp nat_cmp-IsAntisymmetric nat_cmp_total held t.files t.made content kept.well_formed.numbered
           (or_left (is_named names t.made) (is_pinned t.pins t.made) named)
           (each-weaker (λ e. IsTrue (is_held t e.0)) held
-          (λ e h. or_weaker (is_named t.names e.0) (is_named names e.0) (is_pinned t.pins e.0) (named-put t.names place (File t.made) e.0 can.absent) h)
+          (λ e h. or_weaker (is_named t.names e.0) (is_named names e.0) (is_pinned t.pins e.0)
+          (named-put t.names place (File t.made) e.0 can.absent) h)
           t.files kept.trimmed);
     }
 
@@ -118,9 +126,15 @@ unfolding fits
 fits-new t place content kept absent new short =
     let fit = fits-parts t kept in
     (λ i.
-    entries-with t place (File t.made) absent i && (depths-with t place (File t.made) absent i && (fit.home i && (links-with t place (File t.made) absent i && (files-with t t.made content new i && nat_lt (t.made + 1) (2 ^ 32))))))
+    entries-with t place (File t.made) absent i &&
+    (depths-with t place (File t.made) absent i &&
+    (fit.home i &&
+    (links-with t place (File t.made) absent i &&
+    (files-with t t.made content new i && nat_lt (t.made + 1) (2 ^ 32))))))
     ∙ (λ i.
-    nat_le (length t.names) (limits t).entries && ((depth_fits place && fit.depths i) && (true && ((true && fit.links i) && ((short i && fit.files i) && nat_lt (t.made + 1) (2 ^ 32))))))
+    nat_le (length t.names) (limits t).entries &&
+    ((depth_fits place && fit.depths i) &&
+    (true && ((true && fit.links i) && ((short i && fit.files i) && nat_lt (t.made + 1) (2 ^ 32))))))
     ∙ in-one (nat_le (length t.names) (limits t).entries) (depth_fits place) (nat_lt (t.made + 1) (2 ^ 32))
 
 -- ---- a file that loses its bytes
@@ -181,28 +195,54 @@ module _ (names : Names) (files : Table ℕ Stored) (made : ℕ) (limits : TreeL
   -- with a file of one name, and the name
   pub made-parts : (place : Place) (content : Content) → IsKept the_tree → AreCounted names files
       → node_at names place ≡ None → (others : Names) (after : Table ℕ Stored)
-      → others ≡ with_node names place (File made) → after ≡ put nat_cmp files made (record { content = content; names = 1 })
-      → (seen others after (made + 1) limits home uid gid ≡ with_new_file the_tree place content) × AreCounted others after
+      → others ≡ with_node names place (File made)
+      → after ≡ put nat_cmp files made (record { content = content; names = 1 })
+      → (seen others after (made + 1) limits home uid gid ≡ with_new_file the_tree place content) × AreCounted others
+      after
   made-parts place content kept counted absent others after are is = (
-    (λ i. record { names = are i; files = (ap contents is ∙ with_values-put nat_cmp (λ (s : Stored). s.content) files made (record { content = content; names = 1 })) i; made = made + 1; pins = []; limits = limits; home = home; uid = uid; gid = gid }),
-    subst (λ ns. AreCounted ns after) (sym are) (subst (AreCounted (with_node names place (File made))) (sym is) counts),
+    (λ i. record {
+      names = are i;
+      files =
+          (ap contents is
+          ∙ with_values-put nat_cmp (λ (s : Stored). s.content) files made
+          (record { content = content; names = 1 })) i;
+      made = made + 1;
+      pins = [];
+      limits = limits;
+      home =
+          home;
+      uid = uid;
+      gid = gid;
+    }),
+    subst (λ ns. AreCounted ns after) (sym are)
+        (subst (AreCounted (with_node names place (File made))) (sym is) counts),
   )
     where
       new : Stored
       new = record { content = content; names = 1 }
 
-      right : (number : ℕ) (s : Stored) → get nat_cmp (put nat_cmp files made new) number ≡ Some s → s.names ≡ times_named (with_node names place (File made)) number
+      right : (number : ℕ) (s : Stored) → get nat_cmp (put nat_cmp files made new) number ≡ Some s
+          → s.names ≡ times_named (with_node names place (File made)) number
       right number s there =
           by-number made number
           (λ same.
-          let one : s.names ≡ 1 = ap (λ (s : Stored). s.names) (same_Some s new (sym there ∙ ap (get nat_cmp (put nat_cmp files made new)) same ∙ get-put_here nat_cmp nat_cmp_total files made new)) in
-          let none = none-named names (contents files) made kept.well_formed.nodes (not-given the_tree made kept.well_formed (omega arith)) in
+          let one : s.names ≡ 1 =
+          ap (λ (s : Stored). s.names)
+          (same_Some s new
+          (sym there ∙ ap (get nat_cmp (put nat_cmp files made new)) same
+          ∙ get-put_here nat_cmp nat_cmp_total files made new)) in
+          let none =
+          none-named names (contents files) made kept.well_formed.nodes
+          (not-given the_tree made kept.well_formed (omega arith)) in
           let here = one-here made in
           let m = named-more names place (File made) absent made in
           let all : s.names ≡ times_named (with_node names place (File made)) made = omega arith in
           all ∙ ap (times_named (with_node names place (File made))) (sym same))
           (λ differ.
-          let before = sym (get-put_elsewhere nat_cmp nat_cmp_total files made number new (λ tie. differ (nat_cmp-IsAntisymmetric number made tie))) ∙ there in
+          let before =
+          sym
+          (get-put_elsewhere nat_cmp nat_cmp_total files made number new
+          (λ tie. differ (nat_cmp-IsAntisymmetric number made tie))) ∙ there in
           let n = count-at names files counted number s before in
           let none = one-elsewhere made number differ in
           let m = named-more names place (File made) absent number in
@@ -210,7 +250,8 @@ module _ (names : Names) (files : Table ℕ Stored) (made : ℕ) (limits : TreeL
 
       counts : AreCounted (with_node names place (File made)) (put nat_cmp files made new)
       counts =
-          at-entries (λ number (s : Stored). s.names ≡ times_named (with_node names place (File made)) number) (put nat_cmp files made new)
+          at-entries (λ number (s : Stored). s.names ≡ times_named (with_node names place (File made)) number)
+          (put nat_cmp files made new)
           (InOrder-put nat_cmp nat_cmp_total files made new (files-in_order files kept.well_formed.numbered)) right
 
 -- a file that was put at a free number and lost its name leaves the others as they were
@@ -229,7 +270,8 @@ put-back files middle after number content order free is changed =
     ∙ sym free ∙ ap (get nat_cmp files) (sym same))
     (λ differ.
     changed.others other differ ∙ ap (λ table. get nat_cmp table other) is
-    ∙ get-put_elsewhere nat_cmp nat_cmp_total files number other new (λ tie. differ (nat_cmp-IsAntisymmetric other number tie))))
+    ∙ get-put_elsewhere nat_cmp nat_cmp_total files number other new
+    (λ tie. differ (nat_cmp-IsAntisymmetric other number tie))))
 
 -- it has a name to lose
 pub one-to-lose : (files middle : Table ℕ Stored) (number : ℕ) (content : Content)
@@ -237,7 +279,9 @@ pub one-to-lose : (files middle : Table ℕ Stored) (number : ℕ) (content : Co
     → IfSome (get nat_cmp middle number) (λ s. 0 < s.names)
 one-to-lose files middle number content is =
     subst (λ o. IfSome o (λ (s : Stored). 0 < s.names))
-    (sym (ap (λ table. get nat_cmp table number) is ∙ get-put_here nat_cmp nat_cmp_total files number (record { content = content; names = 1 })))
+    (sym
+    (ap (λ table. get nat_cmp table number) is
+    ∙ get-put_here nat_cmp nat_cmp_total files number (record { content = content; names = 1 })))
     (lit< tt)
 
 -- the next number is free
@@ -245,7 +289,8 @@ pub next-free : (names : Names) (files : Table ℕ Stored) (made : ℕ) (limits 
     → IsKept (seen names files made limits home uid gid) → get nat_cmp files made ≡ None
 next-free names files made limits home uid gid kept =
     by (get nat_cmp files made) refl
-    (sym (get-with_values nat_cmp (λ (s : Stored). s.content) files made) ∙ not-given (seen names files made limits home uid gid) made kept.well_formed (omega arith))
+    (sym (get-with_values nat_cmp (λ (s : Stored). s.content) files made)
+    ∙ not-given (seen names files made limits home uid gid) made kept.well_formed (omega arith))
   where
     by : (o : Option Stored) → get nat_cmp files made ≡ o → option_map (λ (s : Stored). s.content) o ≡ None → o ≡ None
     by None is none = refl

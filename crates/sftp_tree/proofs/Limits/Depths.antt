@@ -21,7 +21,7 @@ use Rattle.sftp_tree.proofs.PlaceTables.Below.{between-names}
 -- ---- the places that a place begins are in a row, from it on
 
 -- what is between a place and one that it begins, it begins too
-begins-between : (p a b : Place) → place_cmp p a ≡ Less → place_cmp a b ≡ Less → begins p b ≡ true → begins p a ≡ true
+pub begins-between : (p a b : Place) → place_cmp p a ≡ Less → place_cmp a b ≡ Less → begins p b ≡ true → begins p a ≡ true
 begins-between [] a b after before begun = refl
 begins-between (m ∷ ms) [] b after before begun = cc
 begins-between (m ∷ ms) (k ∷ ks) [] after before begun = cc
@@ -34,7 +34,7 @@ begins-between (m ∷ ms) (k ∷ ks) (n ∷ ns) after before begun =
     ap (λ x. x && begins ms ks) same ∙ begins-between ms ks ns found.1 found.2 parts.1
 
 -- a place comes before those that it begins, or is one of them
-begins-le : (p k : Place) → begins p k ≡ true → is_le (place_cmp p k) ≡ true
+pub begins-le : (p k : Place) → begins p k ≡ true → is_le (place_cmp p k) ≡ true
 begins-le [] [] begun = refl
 begins-le [] (n ∷ ns) begun = refl
 begins-le (m ∷ ms) [] begun = cc
@@ -42,7 +42,7 @@ begins-le (m ∷ ms) (n ∷ ns) begun =
     let parts = and_parts (same_bytes m n) (begins ms ns) begun in
     ap (λ o. is_le (ordering_then o (place_cmp ms ns))) ((Equal-is (name_cmp m n)).0 (sym (texts_ties m n) ∙ parts.0)) ∙ begins-le ms ns parts.1
 
-begins-equal : (p k : Place) → place_cmp p k ≡ Equal → begins p k ≡ true
+pub begins-equal : (p k : Place) → place_cmp p k ≡ Equal → begins p k ≡ true
 begins-equal [] [] e = refl
 begins-equal [] (n ∷ ns) e = cc
 begins-equal (m ∷ ms) [] e = cc

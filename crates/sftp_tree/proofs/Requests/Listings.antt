@@ -1,0 +1,73 @@
+-- Listings: that what is right below a place is shown, and what a reply to OPENDIR says.
+use Rattle.std.proofs.Common.{◌≡◌, ℕ, ◌+◌, ◌<◌, ◌≤◌, List, [], ◌∷◌, ◌++◌, map, drop, get_or, length, Bor, filter_map}
+use Rattle.std.proofs.Common.{option_map, sym, ◌∙◌, ap, Option, Some, None, Ok}
+use Rattle.std.specs.List.{cons_option, AllByRecursion}
+use Rattle.std.specs.Map.Iter.{deref_pair}
+use Rattle.std.proofs.lemmas.List.{append-nil, append_assoc, map-append, drop_more, drop_all}
+use Rattle.sftp_wire.specs.declared.attributes.Attrs.{Attrs}
+use Rattle.sftp_wire.specs.declared.packets.Ask.TheVariants.{Opendir}
+use Rattle.sftp_path.specs.Place.{Name, Place}
+use Rattle.sftp_path.specs.Table.{Table}
+use Rattle.sftp_tree.specs.declared.nodes.Node.{Node}
+use Rattle.sftp_tree.specs.Tree.{Names, Files, Tree, IsNode}
+use Rattle.sftp_tree.specs.Requests.{led, led_to, listing_to}
+use Rattle.sftp_tree.specs.declared.listings.Item.{Item}
+use Rattle.sftp_tree.specs.Items.{entry_of}
+use Rattle.sftp_tree.specs.Listings.{name_below, child_below, children, listing, shown_child}
+
+-- ---- each node right below a place is a node of the tree
+
+pub children-kept : (files : Files) (names : Names) (place : Place) → AllByRecursion (λ e. IsNode files e.1) names
+    → AllByRecursion (λ e. IsNode files e.1) (children names place)
+unfolding children
+children-kept files [] place nodes = tt
+children-kept files (e ∷ es) place nodes = by (children-kept files es place nodes.1) (name_below place e.0)
+  where
+    by : AllByRecursion (λ e. IsNode files e.1) (filter_map (child_below place) es) → (o : Option Name)
+        → AllByRecursion (λ e. IsNode files e.1)
+        (cons_option (option_map (λ name. (name, e.1)) o) (filter_map (child_below place) es))
+    by rest None = rest
+    by rest (Some name) = (nodes.0, rest)
+
+-- ---- the items, one by one
+
+-- what is left of the children begins with the one that was read
+pub front : (all : List (Bor Name × Bor Node)) (i : ℕ) (x : Bor Name × Bor Node) → i < length all → x ≡ get_or all i x
+    → map deref_pair (drop i all) ≡ deref_pair x ∷ map deref_pair (drop (i + 1) all)
+front all i x within is =
+    ap (map deref_pair) (drop_more all i x within ∙ ap (λ y. y ∷ drop (i + 1) all) (sym is))
+
+-- the listing by the names of the tree
+pub listing-of : (t : Tree) (place : Place) (entries : Names) (found : Table Name Node) → entries ≡ t.names
+    → found ≡ children entries place → filter_map (shown_child t) found ≡ listing t place
+unfolding listing
+listing-of t place entries found names is =
+    ap (filter_map (shown_child t)) (is ∙ ap (λ ns. children ns place) names)
+
+-- one more item
+pub listed-on : (t : Tree) (items after : List Item) (it : Item) (e : Name × Node) (rest : Table Name Node)
+    (whole : Table Name Attrs) → after ≡ items ++ it ∷ [] → shown_child t e ≡ Some (entry_of it)
+    → map entry_of items ++ filter_map (shown_child t) (e ∷ rest) ≡ whole
+    → map entry_of after ++ filter_map (shown_child t) rest ≡ whole
+listed-on t items after it e rest whole is shows so_far =
+    ap (λ xs. map entry_of xs ++ filter_map (shown_child t) rest) is
+    ∙ ap (λ xs. xs ++ filter_map (shown_child t) rest) (map-append entry_of items (it ∷ []))
+    ∙ append_assoc (map entry_of items) (entry_of it ∷ []) (filter_map (shown_child t) rest)
+    ∙ ap (λ o. map entry_of items ++ cons_option o (filter_map (shown_child t) rest)) (sym shows) ∙ so_far
+
+-- no more are to come
+pub listed-all : (t : Tree) (items : List Item) (all : List (Bor Name × Bor Node)) (i : ℕ) (whole : Table Name Attrs)
+    → length all ≤ i → map entry_of items ++ filter_map (shown_child t) (map deref_pair (drop i all)) ≡ whole
+    → map entry_of items ≡ whole
+listed-all t items all i whole past so_far =
+    sym (append-nil (map entry_of items))
+    ∙ ap (λ xs. map entry_of items ++ filter_map (shown_child t) (map deref_pair xs)) (sym (drop_all i all past))
+    ∙ so_far
+
+-- ---- the reply
+
+pub listing-told : (t : Tree) (path : List ℕ) (place : Place) (items : Table Name Attrs)
+    → led t (Opendir path) ≡ Some (Ok place) → items ≡ listing t place → listing_to t (Opendir path) ≡ Some items
+unfolding listing_to
+listing-told t path place items leads is = ap (λ o. led_to None o (λ place. Some (listing t place))) leads
+    ∙ ap Some (sym is)
