@@ -44,7 +44,6 @@ use Rattle.sftp_handles.specs.declared.opens.Open.TheVariants.{File, Listing}
 use Rattle.sftp_handles.specs.Handles.{Left, open_at, with_open, is_open, pins_of, kept_flags}
 use Rattle.sftp_handles.specs.State.{State, Good, settled, IsOpen, IsHandle, IsLeft, has_handle_left}
 use Rattle.sftp_handles.specs.Replies.{is_new_handle, says}
-use Rattle.sftp_handles.specs.Laws.{opens_directory}
 use Rattle.sftp_handles.specs.Requests.{causes, answers, target}
 use Rattle.sftp_handles.specs.Requests.{with_handle_room, told_to, said_by, flags_of, opened_by, with_new}
 use Rattle.sftp_handles.proofs.Pins.{pin-times, pins-open_file, pins-open_listing}
@@ -247,13 +246,13 @@ good-other paths-lead s ask answer good fit free none =
     (good-plain paths-lead s ask good fit free)
 
 pub good-target : PathsLeadWell → (s : State) (ask : Ask) (answer : Answer)
-    → (IsTrue (opens_directory ask) → ListingsFit s.tree) → Good s → FitsAsk ask
+    → ListingsFit s.tree → Good s → FitsAsk ask
     → is_none (causes s ask) ≡ true → answers s ask answer ≡ true → Good (target s ask answer)
 unfolding causes answers target
 good-target paths-lead s (Open path pflags attrs) answer lists good fit free answered =
     good-open paths-lead s path pflags attrs good fit free answer answered
 good-target paths-lead s (Opendir path) answer lists good fit free answered =
-    good-list paths-lead s (lists refl) path good fit free answer answered
+    good-list paths-lead s lists path good fit free answer answered
 good-target paths-lead s (asks.Unknown extension rest) answer lists good fit free answered =
     absurd (let one = none-each (when no_causes Unknown true) free Unknown in unknown one)
 good-target paths-lead s (asks.Close handle) answer lists good fit free answered =

@@ -5,3 +5,4 @@ pub mod GoodStates
 pub mod GoodSteps
 pub mod GoodPaths
 pub mod GoodLaws
+pub mod FirstListings

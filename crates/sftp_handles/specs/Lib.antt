@@ -7,4 +7,3 @@ pub mod Requests
 pub mod Allowed
 pub mod Examples
 pub mod Given
-pub mod Laws

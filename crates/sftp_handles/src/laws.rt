@@ -1,13 +1,12 @@
 //! Laws of the steps of a session, as theorems on the definitions that the contracts name. The functions do nothing;
 //! each promise is in the contract.
-ghost use Rattle.std.specs.Prelude.{◌≡◌, ◌↔◌, ◌<◌, ℕ, false, Some, IsTrue};
+ghost use Rattle.std.specs.Prelude.{◌≡◌, ◌↔◌, ◌<◌, ℕ, Some, IsTrue};
 ghost use Rattle.sftp_wire.specs.declared.packets.Request.{Request};
 ghost use Rattle.sftp_wire.specs.declared.packets.Reply.{Reply};
 ghost use Rattle.sftp_wire.specs.Spelling.{FitsAsk};
 ghost use Rattle.sftp_tree.specs.declared.file_contents.Content.{Content};
 ghost use Rattle.sftp_tree.specs.Tree.{Tree, HasFile, fits, limits, content_fits, with_content};
 ghost use Rattle.sftp_handles.specs.Handles.{times_open};
-ghost use Rattle.sftp_handles.specs.Laws.{opens_directory};
 ghost use Rattle.sftp_handles.specs.State.{State, Good, settled};
 ghost use Rattle.sftp_handles.specs.Allowed.{Allowed, step};
 
@@ -27,11 +26,10 @@ pub fn steps_decide()
         ↔ ((reply.id ≡ request.id) × (step s request.ask reply.answer ≡ Some end)) }
 {}
 
-/// A step from a good state leads to a good state, if the request is not OPENDIR and its fields fit their places on the
-/// wire.
+/// A step from a good state leads to a good state, if the fields of the request fit their places on the wire.
 pub fn good_stays_good()
     ensures { (s : State) (request : Request) (reply : Reply) (end : State) → Good s → FitsAsk request.ask →
-        opens_directory request.ask ≡ false → Allowed s request reply end → Good end }
+        Allowed s request reply end → Good end }
 {
     walks_give_places();
 }
