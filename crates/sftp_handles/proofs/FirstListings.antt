@@ -11,7 +11,8 @@ use Rattle.std.proofs.lemmas.List.Folds.{list_all-append}
 use Rattle.std.proofs.lemmas.Option.{same_Some}
 use Rattle.sftp_wire.specs.declared.attributes.Attrs.{Attrs}
 use Rattle.sftp_wire.specs.Spelling.{FitsAttrs}
-use Rattle.sftp_path.specs.Place.{Name, Place, name_cmp, place_cmp, is_name, are_names, is_good_path, name_limit, components}
+use Rattle.sftp_path.specs.Place.{Name, Place, name_cmp, place_cmp, is_name, are_names, is_good_path, name_limit}
+use Rattle.sftp_path.specs.Place.{components}
 use Rattle.sftp_path.proofs.Order.{bytes_cmp-same, place_cmp-same}
 use Rattle.sftp_treefile.specs.declared.limits.TreeLimits.{TreeLimits}
 use Rattle.sftp_treefile.specs.TreeFile.{is_target}
@@ -41,14 +42,16 @@ unfolding is_good_path
 short-target linktarget is =
     let parts = and_parts (nat_lt 0 (length linktarget)) (is_good_path linktarget) is in
     let sizes = and_parts (nat_le (length linktarget) 4096)
-    (list_all (λ b. not (b == 0)) linktarget && list_all (λ part. nat_le (length part) name_limit) (components linktarget)) parts.1 in
+    (list_all (λ b. not (b == 0)) linktarget
+    && list_all (λ part. nat_le (length part) name_limit) (components linktarget)) parts.1 in
     leb-true (length linktarget) 4096 sizes.0
 
 content-shown : (t : Tree) (number : ℕ) (content : Content) → IsKept t → content_at t.files number ≡ Some content
     → IsShown (shown_content content)
 content-shown t number content kept there =
     let well = kept.well_formed in
-    let fit = each-get nat_cmp nat_cmp-IsAntisymmetric (λ e. IsContent e.1) t.files number content well.contents there in
+    let fit =
+    each-get nat_cmp nat_cmp-IsAntisymmetric (λ e. IsContent e.1) t.files number content well.contents there in
     let test = λ (e : ℕ × Content). content_fits (limits t) e.1 in
     let within = each-get nat_cmp nat_cmp-IsAntisymmetric (λ e. IsTrue (test e)) t.files number content
     (each-all test t.files (fits-parts t kept.within_limits).files) there in
@@ -69,11 +72,13 @@ node-shown : (t : Tree) (standing : Node) (attrs : Attrs) → IsKept t → IsNod
 node-shown t (Dir owner) attrs kept node link is =
     subst IsShown (same_Some (said 0 owner.uid owner.gid (0o040000 + owner.permissions)) attrs is)
     (said-shown 0 owner.uid owner.gid (0o040000 + owner.permissions) (lit< tt) node.0 node.1 (omega (arith, node.2)))
-node-shown t (File number) attrs kept node link is = number-shown t number (content_at t.files number) attrs kept refl is
+node-shown t (File number) attrs kept node link is =
+    number-shown t number (content_at t.files number) attrs kept refl is
 node-shown t (Link linktarget) attrs kept node link is =
     let short = short-target linktarget link in
     subst IsShown (same_Some (said (length linktarget) t.uid t.gid 0o120777) attrs is)
-    (said-shown (length linktarget) t.uid t.gid 0o120777 (omega (arith, short)) kept.well_formed.uid kept.well_formed.gid (lit< tt))
+    (said-shown (length linktarget) t.uid t.gid 0o120777 (omega (arith, short)) kept.well_formed.uid
+    kept.well_formed.gid (lit< tt))
 
 last-name : (place : Place) (name : Name) → are_names (place ++ name ∷ []) ≡ true → is_name name ≡ true
 last-name place name names =
@@ -88,7 +93,8 @@ module _ (t : Tree) (kept : IsKept t) (place : Place) (name : Name) (attrs : Att
   item-of (Some standing) there is =
       let at = place ++ name ∷ [] in
       let well = kept.well_formed in
-      let names = each-get place_cmp place_cmp-same (λ e. IsTrue (are_names e.0)) t.names at standing well.named there in
+      let names =
+      each-get place_cmp place_cmp-same (λ e. IsTrue (are_names e.0)) t.names at standing well.named there in
       let node = each-get place_cmp place_cmp-same (λ e. IsNode t.files e.1) t.names at standing well.nodes there in
       let test = λ (e : Place × Node). link_fits e.1 in
       let link = each-get place_cmp place_cmp-same (λ e. IsTrue (test e)) t.names at standing

@@ -13,5 +13,6 @@ pub allowed-good : PathsLeadWell → (s : State) (request : Request) (reply : Re
     → Allowed s request reply end → Good end
 allowed-good paths-lead s request reply end lists good fit a = elim a.step [
   | inl r ↦ subst Good (sym r.unchanged) good
-  | inr d ↦ subst Good (sym d.changed) (good-target paths-lead s request.ask reply.answer lists good fit d.free d.answered)
+  | inr d ↦ subst Good (sym d.changed)
+      (good-target paths-lead s request.ask reply.answer lists good fit d.free d.answered)
 ]

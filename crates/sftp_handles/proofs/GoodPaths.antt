@@ -97,7 +97,8 @@ opened-named : (t : Tree) (pflags : ℕ) (attrs : Attrs) (place : Place) (found 
     → node_at t.names place ≡ found → (n : ℕ) → number_at t found ≡ Some n
     → node_at (with_opened t pflags attrs place found).names place ≡ Some (nodes.File n)
 opened-named t pflags attrs place None there n is =
-    subst (λ m. node_at (with_opened t pflags attrs place None).names place ≡ Some (nodes.File m)) (same_Some t.made n is)
+    subst (λ m. node_at (with_opened t pflags attrs place None).names place ≡ Some (nodes.File m))
+    (same_Some t.made n is)
     (get-put_here place_cmp place_cmp-total t.names place (nodes.File t.made))
 opened-named t pflags attrs place (Some (nodes.File m)) there n is =
     let same : node_at t.names place ≡ Some (nodes.File n) = there ∙ ap (λ k. Some (nodes.File k)) (same_Some m n is) in
@@ -166,7 +167,8 @@ module _ (paths-lead : PathsLeadWell) (s : State) (path : List ℕ) (pflags : �
 
   open-led : (answer : Answer) (end : Option (Result Place Cause)) → led s.tree ask ≡ end
       → says (said_by s.handles (led_to done end (told_at s.tree ask))) answer ≡ true
-      → Good (settled (outcome s.tree ask) (with_new s.handles (opened_by pflags (led_to done end (told_at s.tree ask))) answer))
+      → Good (settled (outcome s.tree ask)
+      (with_new s.handles (opened_by pflags (led_to done end (told_at s.tree ask))) answer))
   open-led answer None leads answered = plain
   open-led answer (Some (Err cause)) leads answered = plain
   open-led answer (Some (Ok place)) leads answered =
@@ -191,7 +193,9 @@ module _ (paths-lead : PathsLeadWell) (s : State) (listings-fit : ListingsFit s.
   list_ask = Opendir path
 
   list-plain : Good (settled (outcome s.tree list_ask) s.handles)
-  list-plain = good-plain paths-lead s list_ask good fit (room-of (paths.causes s.tree list_ask) (has_handle_left s) free).0
+  list-plain =
+      good-plain paths-lead s list_ask good fit
+      (room-of (paths.causes s.tree list_ask) (has_handle_left s) free).0
 
   open-listing : (left : Left) (answer : Answer) → IsLeft left → is_new_handle s.handles answer ≡ true
       → Good (settled (outcome s.tree list_ask) (with_new s.handles (Some (Listing left)) answer))
@@ -208,7 +212,8 @@ module _ (paths-lead : PathsLeadWell) (s : State) (listings-fit : ListingsFit s.
 
   list-led : (answer : Answer) (end : Option (Result Place Cause)) → led s.tree list_ask ≡ end
       → says (said_by s.handles (led_to done end (told_at s.tree list_ask))) answer ≡ true
-      → Good (settled (outcome s.tree list_ask) (with_new s.handles (opened_by 0 (led_to done end (told_at s.tree list_ask))) answer))
+      → Good (settled (outcome s.tree list_ask)
+      (with_new s.handles (opened_by 0 (led_to done end (told_at s.tree list_ask))) answer))
   list-led answer None leads answered = list-plain
   list-led answer (Some (Err cause)) leads answered = list-plain
   list-led answer (Some (Ok place)) leads answered =
@@ -242,7 +247,8 @@ good-other : PathsLeadWell → (s : State) (ask : Ask) (answer : Answer) → Goo
 unfolding told_to
 good-other paths-lead s ask answer good fit free none =
     subst (λ handles. Good (settled (outcome s.tree ask) handles))
-    (sym (with-none s (opened_by (flags_of ask) (told_to s.tree ask)) answer (opens-none (flags_of ask) (told_at s.tree ask) none (led s.tree ask))))
+    (sym (with-none s (opened_by (flags_of ask) (told_to s.tree ask)) answer
+    (opens-none (flags_of ask) (told_at s.tree ask) none (led s.tree ask))))
     (good-plain paths-lead s ask good fit free)
 
 pub good-target : PathsLeadWell → (s : State) (ask : Ask) (answer : Answer)

@@ -1,12 +1,15 @@
 //! Laws of the steps of a session, as theorems on the definitions that the contracts name. The functions do nothing;
 //! each promise is in the contract.
-ghost use Rattle.std.specs.Prelude.{◌≡◌, ◌↔◌, ◌<◌, ℕ, Some, IsTrue};
+ghost use Rattle.std.specs.Prelude.{◌≡◌, ◌↔◌, ◌<◌, ℕ, List, [], ◌∷◌, Some, IsTrue};
 ghost use Rattle.sftp_wire.specs.declared.packets.Request.{Request};
 ghost use Rattle.sftp_wire.specs.declared.packets.Reply.{Reply};
 ghost use Rattle.sftp_wire.specs.Spelling.{FitsAsk};
 ghost use Rattle.sftp_tree.specs.declared.file_contents.Content.{Content};
 ghost use Rattle.sftp_tree.specs.Tree.{Tree, HasFile, fits, limits, content_fits, with_content};
-ghost use Rattle.sftp_handles.specs.Handles.{times_open};
+ghost use Rattle.sftp_path.specs.Place.{Name, name_cmp};
+ghost use Rattle.sftp_path.specs.Table.{InOrder, without};
+ghost use Rattle.sftp_handles.specs.Handles.{Left, times_open};
+ghost use Rattle.sftp_handles.specs.Replies.{struck};
 ghost use Rattle.sftp_handles.specs.State.{State, Good, settled};
 ghost use Rattle.sftp_handles.specs.Allowed.{Allowed, step};
 
@@ -41,10 +44,17 @@ pub fn good_states_are_settled()
         HasFile s.tree.files number }
 {}
 
-/// A tree within the limits is within them after a file got another content exactly if the content is: so what a request
-/// through a handle sees, and the limits, say whether there is room.
+/// A tree within the limits is within them after a file got another content exactly if the content is: so what a
+/// request through a handle sees, and the limits, say whether there is room.
 pub fn room_is_of_the_content()
     ensures { (t : Tree) (number : ℕ) (next : Content) → IsTrue (fits t) →
         IsTrue (fits (record t { files = with_content t.files number next }))
         ↔ IsTrue (content_fits (limits t) next) }
+{}
+
+/// Striking names all at once is striking one after the other.
+pub fn names_are_struck_one_by_one()
+    ensures none { (left : Left) → struck left [] ≡ left }
+    ensures first { (left : Left) (name : Name) (names : List Name) → InOrder name_cmp left →
+        struck left (name ∷ names) ≡ struck (without name_cmp left name) names }
 {}

@@ -9,5 +9,6 @@ pub returns : goal.returns
 returns c = record {
   settled = good-settled;
   open_files = λ s number good opened.
-      good-opens s good number (ap (nat_lt 0) (pins-times s.handles number) ∙ lt-ltb 0 (times_open s.handles number) opened);
+      good-opens s good number
+      (ap (nat_lt 0) (pins-times s.handles number) ∙ lt-ltb 0 (times_open s.handles number) opened);
 }
