@@ -1,7 +1,6 @@
 //! Why a run ended early.
 use sftp_audit::AuditError;
 use sftp_tree::{NoMemory, Refused, TreeError};
-use sftp_wire::WireError;
 use std::alloc::AllocError;
 use std::io;
 use thiserror::Error;
@@ -12,9 +11,6 @@ pub(crate) enum BenchError {
     /// The words cannot be understood.
     #[error("the one argument is `measure`")]
     Usage,
-    /// A packet could not be written.
-    #[error("a packet: {0}")]
-    Wire(#[from] WireError),
     /// The tree of a session refused a request.
     #[error("the tree: {0}")]
     Tree(#[from] Refused),

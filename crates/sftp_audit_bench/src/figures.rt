@@ -1,7 +1,8 @@
 //! What is printed of audits.
 use crate::errors::BenchError;
 use crate::sessions::Session;
-use sftp_audit::audit;
+use sftp_audit::{AuditError, audit};
+use std::alloc::Global;
 use std::rt::Clock;
 use std::time::Instant;
 
@@ -20,28 +21,41 @@ const AUDITS: u32 = 5;
 /// Audits a small session, and prints how much it was.
 pub(crate) fn print_counts<R: AllocGlobal + Print>(rt: &R) -> Result<(), BenchError> {
     let session = Session::new(rt.alloc(), 2, 30)?;
+    let (requests, tree) = counts(rt.alloc(), &session)?;
+    println!(rt; "audit: {requests} requests accepted, {tree} bytes of tree")?;
+    Ok(())
+}
+
+/// How many requests an accepted session has, and how many bytes its final tree file.
+fn counts(alloc: Global, session: &Session) -> Result<(u64, usize), AuditError> {
     let accepted = audit(
-        rt.alloc(),
+        alloc,
         session.tree.as_slice(),
         session.transcript.as_slice(),
     )?;
-    let (tree, requests) = (accepted.tree.len(), accepted.requests);
-    println!(rt; "audit: {requests} requests accepted, {tree} bytes of tree")?;
-    Ok(())
+    Ok((accepted.requests, accepted.tree.len()))
 }
 
 /// Audits sessions over trees of several sizes, and prints how many requests a second that were.
 pub(crate) fn print_figures<R: AllocGlobal + Clock + Print>(rt: &R) -> Result<(), BenchError> {
     for groups in GROUPS {
         let session = Session::new(rt.alloc(), groups, REQUESTS)?;
-        let micros = least_micros(rt, &session)?;
-        let entries = groups as u64 * ENTRIES;
-        let speed = REQUESTS as u128 * 1_000_000 / micros.max(1);
-        let bytes = session.transcript.len();
-        println!(rt;
-            "audit over {entries} entries: {speed} requests/s, {REQUESTS} of them with their replies in {bytes} bytes"
-        )?;
+        print_speed(rt, groups as u64 * ENTRIES, &session)?;
     }
+    Ok(())
+}
+
+/// Audits a session over a tree of so many entries, and prints how many requests a second that were.
+fn print_speed<R: AllocGlobal + Clock + Print>(
+    rt: &R,
+    entries: u64,
+    session: &Session,
+) -> Result<(), BenchError> {
+    let speed = REQUESTS as u128 * 1_000_000 / least_micros(rt, session)?.max(1);
+    let bytes = session.transcript.len();
+    println!(rt;
+        "audit over {entries} entries: {speed} requests/s, {REQUESTS} of them with their replies in {bytes} bytes"
+    )?;
     Ok(())
 }
 
@@ -49,13 +63,14 @@ pub(crate) fn print_figures<R: AllocGlobal + Clock + Print>(rt: &R) -> Result<()
 fn least_micros<R: AllocGlobal + Clock>(rt: &R, session: &Session) -> Result<u128, BenchError> {
     let mut least = u128::MAX;
     for _ in 0..AUDITS {
-        let start = Instant::now(rt)?;
-        audit(
-            rt.alloc(),
-            session.tree.as_slice(),
-            session.transcript.as_slice(),
-        )?;
-        least = least.min(start.elapsed(rt)?.as_micros());
+        least = least.min(micros(rt, session)?);
     }
     Ok(least)
+}
+
+/// How many microseconds an audit of a session takes.
+fn micros<R: AllocGlobal + Clock>(rt: &R, session: &Session) -> Result<u128, BenchError> {
+    let start = Instant::now(rt)?;
+    counts(rt.alloc(), session)?;
+    Ok(start.elapsed(rt)?.as_micros())
 }

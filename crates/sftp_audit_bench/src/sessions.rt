@@ -1,9 +1,8 @@
-//! A recorded session over a tree of many entries.
+//! A recorded session over a tree of many entries. Its records are written as bytes (draft, sections 3 to 7): what a
+//! packet holds would be dropped at each exit, which is slow to prove.
 use crate::errors::BenchError;
 use sftp_tree::Tree;
-use sftp_wire::{
-    Answer, Ask, Attrs, ByteString, NameItem, Names, Packet, Pairs, Reply, Request, encode,
-};
+use sftp_wire::Attrs;
 use std::alloc::{AllocError, Global};
 
 /// How many directories a directory of the root has in it.
@@ -14,6 +13,23 @@ const LINKS: u32 = 10;
 
 /// How far apart the places are that requests after one another name.
 const STRIDE: u32 = 7919;
+
+/// The opening of a transcript file, an INIT of version 3 and a VERSION 3.
+const OPENING: &[u8] = b"SFTPTR01C\0\0\0\x05\x01\0\0\0\x03S\0\0\0\x05\x02\0\0\0\x03";
+
+/// The types of the packets (draft, section 3).
+const LSTAT: u8 = 7;
+
+const STAT: u8 = 17;
+
+const READLINK: u8 = 19;
+
+const NAME: u8 = 104;
+
+const ATTRS: u8 = 105;
+
+/// The attributes of each directory: the size 0, the owner 0 and 0, and the permissions 0o40755 (draft, section 5).
+const DIRECTORY: &[u8] = b"\0\0\0\x07\0\0\0\0\0\0\0\0\0\0\0\0\0\0\0\0\0\0\x41\xed";
 
 /// A tree file, and the transcript file of a session that asks for STAT, LSTAT and READLINK in turn.
 #[derive(Drop)]
@@ -27,36 +43,40 @@ impl Session {
     /// session of so many requests about it.
     pub(crate) fn new(alloc: Global, groups: u32, requests: u32) -> Result<Session, BenchError> {
         let groups = groups.max(1);
-        let tree = grown(alloc, groups)?;
-        let mut transcript = Vec::new(alloc);
-        open(alloc, &mut transcript)?;
-        for number in 0..requests {
-            let place = number.wrapping_mul(STRIDE);
-            let ask = asked(alloc, number % 3, place % groups, place % LINKS)?;
-            exchange(alloc, &mut transcript, &tree, number, ask)?;
-        }
         Ok(Session {
-            tree: tree.write()?,
-            transcript,
+            tree: tree_file(alloc, groups)?,
+            transcript: transcript(alloc, groups, requests)?,
         })
     }
 }
 
-/// The tree with so many directories in its root.
-fn grown(alloc: Global, groups: u32) -> Result<Tree, BenchError> {
+/// The tree file of the tree with so many directories in its root.
+fn tree_file(alloc: Global, groups: u32) -> Result<Vec<u8>, BenchError> {
     let mut tree = Tree::blank(alloc)?;
-    for group in 0..groups {
-        make(&mut tree, format!(in alloc; "/d{group}")?.as_bytes())?;
-        fill(alloc, &mut tree, group)?;
-    }
-    Ok(tree)
+    grow(alloc, &mut tree, groups)?;
+    Ok(tree.write()?)
 }
 
-/// Makes the entries of a directory of the root.
-fn fill(alloc: Global, tree: &mut Tree, group: u32) -> Result<(), BenchError> {
+/// Makes so many directories in the root, and the entries of each.
+fn grow(alloc: Global, tree: &mut Tree, groups: u32) -> Result<(), BenchError> {
+    for group in 0..groups {
+        make(tree, format!(in alloc; "/d{group}")?.as_bytes())?;
+        make_members(alloc, tree, group)?;
+        make_links(alloc, tree, group)?;
+    }
+    Ok(())
+}
+
+/// Makes the directories in a directory of the root.
+fn make_members(alloc: Global, tree: &mut Tree, group: u32) -> Result<(), BenchError> {
     for member in 0..MEMBERS {
         make(tree, format!(in alloc; "/d{group}/e{member}")?.as_bytes())?;
     }
+    Ok(())
+}
+
+/// Makes the links in a directory of the root.
+fn make_links(alloc: Global, tree: &mut Tree, group: u32) -> Result<(), BenchError> {
     for link in 0..LINKS {
         let path = format!(in alloc; "/d{group}/l{link}")?;
         tree.symlink(format!(in alloc; "e{link}")?.as_bytes(), path.as_bytes())?;
@@ -80,81 +100,76 @@ fn no_attributes() -> Attrs {
     }
 }
 
-/// The opening of a transcript file, an INIT of version 3 and a VERSION 3.
-fn open(alloc: Global, transcript: &mut Vec<u8>) -> Result<(), BenchError> {
-    transcript.extend_from_slice(b"SFTPTR01C")?;
-    let init = Packet::Init {
-        version: 3,
-        extensions: Pairs::new(Vec::new(alloc)),
-    };
-    put(transcript, init)?;
-    transcript.push(b'S')?;
-    let version = Packet::Version {
-        version: 3,
-        extensions: Pairs::new(Vec::new(alloc)),
-    };
-    put(transcript, version)
+/// The transcript file of a session of so many requests.
+fn transcript(alloc: Global, groups: u32, requests: u32) -> Result<Vec<u8>, AllocError> {
+    let mut out = Vec::from_slice(alloc, OPENING)?;
+    for id in 0..requests {
+        let place = id.wrapping_mul(STRIDE);
+        put_exchange(alloc, &mut out, id, place % groups.max(1), place % LINKS)?;
+    }
+    Ok(out)
 }
 
-/// STAT by a link, LSTAT of a directory, or READLINK.
-fn asked(alloc: Global, kind: u32, group: u32, member: u32) -> Result<Ask, AllocError> {
-    Ok(match kind {
-        0 => Ask::Stat {
-            path: path(alloc, group, 'l', member)?,
-        },
-        1 => Ask::Lstat {
-            path: path(alloc, group, 'e', member)?,
-        },
-        _ => Ask::Readlink {
-            path: path(alloc, group, 'l', member)?,
-        },
-    })
-}
-
-/// The path of an entry below a directory of the root.
-fn path(alloc: Global, group: u32, kind: char, member: u32) -> Result<ByteString, AllocError> {
-    let text = format!(in alloc; "/d{group}/{kind}{member}")?;
-    Ok(ByteString::new(text.into_bytes()))
-}
-
-/// Records a request and the reply that the tree gives.
-fn exchange(
+/// Records a request and its reply: STAT by a link, LSTAT of a directory, or READLINK.
+fn put_exchange(
     alloc: Global,
-    transcript: &mut Vec<u8>,
-    tree: &Tree,
+    out: &mut Vec<u8>,
     id: u32,
-    ask: Ask,
-) -> Result<(), BenchError> {
-    let answer = answered(alloc, tree, &ask)?;
-    transcript.push(b'C')?;
-    put(transcript, Packet::Request(Request { id, ask }))?;
-    transcript.push(b'S')?;
-    put(transcript, Packet::Reply(Reply { id, answer }))
+    group: u32,
+    member: u32,
+) -> Result<(), AllocError> {
+    let (request, letter) = match id % 3 {
+        0 => (STAT, 'l'),
+        1 => (LSTAT, 'e'),
+        _ => (READLINK, 'l'),
+    };
+    let path = format!(in alloc; "/d{group}/{letter}{member}")?;
+    put_request(out, request, id, path.as_bytes())?;
+    if request == READLINK {
+        put_target(out, id, format!(in alloc; "e{member}")?.as_bytes())
+    } else {
+        put_reply(out, ATTRS, id, DIRECTORY)
+    }
 }
 
-/// Appends a packet.
-fn put(transcript: &mut Vec<u8>, packet: Packet) -> Result<(), BenchError> {
-    encode(&packet, transcript)?;
-    Ok(())
+/// Records a request of one path.
+fn put_request(out: &mut Vec<u8>, request: u8, id: u32, path: &[u8]) -> Result<(), AllocError> {
+    out.push(b'C')?;
+    put_head(out, request, id, path.len().saturating_add(4))?;
+    put_string(out, path)
 }
 
-/// What the tree answers.
-fn answered(alloc: Global, tree: &Tree, ask: &Ask) -> Result<Answer, BenchError> {
-    Ok(match ask {
-        Ask::Stat { path } => Answer::Attrs(tree.stat(path.as_slice(), true)?),
-        Ask::Lstat { path } => Answer::Attrs(tree.stat(path.as_slice(), false)?),
-        Ask::Readlink { path } => one_name(alloc, tree.read_link(path.as_slice())?)?,
-        _ => Answer::Extended(ByteString::new(Vec::new(alloc))),
-    })
+/// Records the reply of that type, id and further bytes.
+fn put_reply(out: &mut Vec<u8>, reply: u8, id: u32, rest: &[u8]) -> Result<(), AllocError> {
+    out.push(b'S')?;
+    put_head(out, reply, id, rest.len())?;
+    out.extend_from_slice(rest)
 }
 
-/// A NAME reply of one name, of which nothing else is said.
-fn one_name(alloc: Global, filename: Vec<u8>) -> Result<Answer, AllocError> {
-    let mut names = Vec::new(alloc);
-    names.push(NameItem {
-        filename: ByteString::new(filename),
-        longname: ByteString::new(Vec::new(alloc)),
-        attrs: no_attributes(),
-    })?;
-    Ok(Answer::Name(Names::new(names)))
+/// Records a NAME reply of one name, of which nothing else is said.
+fn put_target(out: &mut Vec<u8>, id: u32, target: &[u8]) -> Result<(), AllocError> {
+    out.push(b'S')?;
+    put_head(out, NAME, id, target.len().saturating_add(16))?;
+    out.extend_from_slice(b"\0\0\0\x01")?;
+    put_string(out, target)?;
+    out.extend_from_slice(b"\0\0\0\0\0\0\0\0")
+}
+
+/// Appends the length of a packet, its type and its id, behind which it has so many further bytes.
+fn put_head(out: &mut Vec<u8>, packet: u8, id: u32, further: usize) -> Result<(), AllocError> {
+    put_length(out, further.saturating_add(5))?;
+    out.push(packet)?;
+    out.extend_from_slice(&id.to_be_bytes())
+}
+
+/// Appends a string.
+fn put_string(out: &mut Vec<u8>, text: &[u8]) -> Result<(), AllocError> {
+    put_length(out, text.len())?;
+    out.extend_from_slice(text)
+}
+
+/// Appends the four low bytes of a length. All lengths of a session are below 2^32.
+fn put_length(out: &mut Vec<u8>, length: usize) -> Result<(), AllocError> {
+    let [_, _, _, _, a, b, c, d] = (length as u64).to_be_bytes();
+    out.extend_from_slice(&[a, b, c, d])
 }

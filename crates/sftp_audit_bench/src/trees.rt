@@ -1,8 +1,8 @@
 //! What is printed of tree files that are read and written.
-ghost use Rattle.std.specs.Prelude.{◌<◌, ◌^◌, length};
+ghost use Rattle.std.specs.Prelude.{◌<◌, ◌^◌, length, IfOk};
 
 use crate::errors::BenchError;
-use sftp_tree::Tree;
+use sftp_tree::{Tree, TreeError};
 use sftp_treefile::{Owner, put_directory, put_file};
 use std::alloc::Global;
 use std::rt::Clock;
@@ -32,18 +32,7 @@ fn digits(number: u32) -> [u8; 3] {
 
 /// The last digit of a number.
 fn digit(number: u32) -> u8 {
-    match number % 10 {
-        0 => b'0',
-        1 => b'1',
-        2 => b'2',
-        3 => b'3',
-        4 => b'4',
-        5 => b'5',
-        6 => b'6',
-        7 => b'7',
-        8 => b'8',
-        _ => b'9',
-    }
+    b'0' + (number % 10) as u8
 }
 
 /// The tree file of so many directories in the root, each with so many files of so many bytes.
@@ -79,29 +68,43 @@ fn put_members(out: &mut Vec<u8>, group: u32, members: u32, bytes: &[u8]) -> Res
 /// Reads and writes a small tree file, and prints how much it was.
 pub(crate) fn print_counts<R: AllocGlobal + Print>(rt: &R) -> Result<(), BenchError> {
     let file = tree_file(rt.alloc(), 2, 3, b"bytes")?;
-    let tree = Tree::read(rt.alloc(), file.as_slice())?;
-    let written = tree.write()?.len();
+    let written = written_again(rt.alloc(), file.as_slice())?;
     println!(rt; "tree: 8 entries read and written, {written} bytes")?;
     Ok(())
+}
+
+/// How many bytes a tree file has that is read and written again.
+fn written_again(alloc: Global, file: &[u8]) -> Result<usize, TreeError> {
+    Ok(Tree::read(alloc, file)?.write()?.len())
 }
 
 /// Reads and writes a tree file of 65,536 entries and some 100 MB of file bytes, and prints how fast that was, beside
 /// a copy of its bytes; and how long a directory takes to move.
 pub(crate) fn print_figures<R: AllocGlobal + Clock + Print>(rt: &R) -> Result<(), BenchError> {
-    let bytes = [7; FILE_BYTES];
-    let file = tree_file(rt.alloc(), GROUPS, MEMBERS, &bytes)?;
-    let file = file.as_slice();
+    let file = tree_file(rt.alloc(), GROUPS, MEMBERS, &[7; FILE_BYTES])?;
+    let mut tree = Tree::read(rt.alloc(), file.as_slice())?;
+    print_speeds(rt, file.as_slice(), &tree)?;
+    print_move(rt, &mut tree)
+}
+
+/// Prints how fast the file is copied and read, and the tree written.
+fn print_speeds<R: AllocGlobal + Clock + Print>(
+    rt: &R,
+    file: &[u8],
+    tree: &Tree,
+) -> Result<(), BenchError> {
     let size = file.len() as u128;
-    let mut tree = Tree::read(rt.alloc(), file)?;
-    let copied = least_micros(rt, Work::Copy, file, &tree)?;
-    let read = least_micros(rt, Work::Read, file, &tree)?;
-    let written = least_micros(rt, Work::Write, file, &tree)?;
+    let copied = size / least_micros(rt, Work::Copy, file, tree)?;
+    let read = size / least_micros(rt, Work::Read, file, tree)?;
+    let written = size / least_micros(rt, Work::Write, file, tree)?;
     println!(rt;
-        "tree file of 65,536 entries and {size} bytes: copied {} MB/s, read {} MB/s, written {} MB/s",
-        size / copied.max(1),
-        size / read.max(1),
-        size / written.max(1)
+        "tree file of 65,536 entries and {size} bytes: copied {copied} MB/s, read {read} MB/s, written {written} MB/s"
     )?;
+    Ok(())
+}
+
+/// Moves one of the directories, and prints how long that takes.
+fn print_move<R: Clock + Print>(rt: &R, tree: &mut Tree) -> Result<(), BenchError> {
     let start = Instant::now(rt)?;
     tree.rename(b"/d000", b"/e000")?;
     let moved = start.elapsed(rt)?.as_micros();
@@ -120,34 +123,52 @@ enum Work {
     Write,
 }
 
-/// The least of the times in microseconds that some work takes.
+/// The least of the times in microseconds that some work takes, or 1.
 fn least_micros<R: AllocGlobal + Clock>(
     rt: &R,
     work: Work,
     file: &[u8],
     tree: &Tree,
-) -> Result<u128, BenchError> {
+) -> Result<u128, BenchError>
+    ensures { IfOk result (λ micros. 0 < micros) }
+{
     let mut least = u128::MAX;
     for _ in 0..ROUNDS {
-        let start = Instant::now(rt)?;
-        do_work(rt.alloc(), work, file, tree)?;
-        least = least.min(start.elapsed(rt)?.as_micros());
+        least = least.min(micros(rt, work, file, tree)?);
     }
-    Ok(least)
+    Ok(least.max(1))
 }
 
-/// Does it once.
-fn do_work(alloc: Global, work: Work, file: &[u8], tree: &Tree) -> Result<(), BenchError> {
+/// How many microseconds some work takes.
+fn micros<R: AllocGlobal + Clock>(
+    rt: &R,
+    work: Work,
+    file: &[u8],
+    tree: &Tree,
+) -> Result<u128, BenchError> {
+    let start = Instant::now(rt)?;
     match work {
-        Work::Copy => {
-            let _copy = Vec::from_slice(alloc, file)?;
-        }
-        Work::Read => {
-            let _tree = Tree::read(alloc, file)?;
-        }
-        Work::Write => {
-            let _file = tree.write()?;
-        }
+        Work::Copy => copy(rt.alloc(), file)?,
+        Work::Read => read(rt.alloc(), file)?,
+        Work::Write => write(tree)?,
     }
+    Ok(start.elapsed(rt)?.as_micros())
+}
+
+/// Copies the bytes into fresh memory.
+fn copy(alloc: Global, file: &[u8]) -> Result<(), BenchError> {
+    let _copy = Vec::from_slice(alloc, file)?;
+    Ok(())
+}
+
+/// Reads the tree, and drops it.
+fn read(alloc: Global, file: &[u8]) -> Result<(), BenchError> {
+    let _tree = Tree::read(alloc, file)?;
+    Ok(())
+}
+
+/// Writes the tree, and drops its file.
+fn write(tree: &Tree) -> Result<(), BenchError> {
+    let _file = tree.write()?;
     Ok(())
 }

@@ -35,10 +35,15 @@ fn run(rt: &HostRuntime) -> Result<(), BenchError> {
     perform(rt, task, Workload::write(alloc)?)
 }
 
-/// Does the task with one workload, and prints a line on it.
+/// Does the task with one workload, and drops it at its one exit.
 fn perform(rt: &HostRuntime, task: Task, workload: Workload) -> Result<(), BenchError> {
+    print(rt, task, &workload)
+}
+
+/// Does the task with one workload, and prints a line on it.
+fn print(rt: &HostRuntime, task: Task, workload: &Workload) -> Result<(), BenchError> {
     match task {
-        Task::Count => figures::print_counts(rt, &workload),
-        Task::Measure { megabytes } => figures::print_figures(rt, &workload, megabytes),
+        Task::Count => figures::print_counts(rt, workload),
+        Task::Measure { megabytes } => figures::print_figures(rt, workload, megabytes),
     }
 }
