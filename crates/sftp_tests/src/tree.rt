@@ -8,6 +8,7 @@ mod causes;
 mod directories;
 mod files;
 mod longest;
+mod many;
 mod pictures;
 mod reference;
 mod seeded;
