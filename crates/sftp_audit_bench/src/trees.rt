@@ -104,7 +104,7 @@ pub(crate) fn print_times<R: AllocGlobal + Clock + Print>(
     let read = least_micros(rt, Work::Read, file, tree)?;
     let written = least_micros(rt, Work::Write, file, tree)?;
     println!(rt;
-        "tree file of {entries} entries, {size} bytes: copied in {copied}, read in {read}, written in {written} microseconds"
+        "tree file of {entries} entries, {size} bytes: copied {copied}, read {read}, written {written} microseconds"
     )?;
     Ok(())
 }
