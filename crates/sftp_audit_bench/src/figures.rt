@@ -7,13 +7,13 @@ use std::rt::Clock;
 use std::time::Instant;
 
 /// How many requests a session has of which times are taken.
-const REQUESTS: u32 = 200_000;
+pub(crate) const REQUESTS: u32 = 200_000;
 
 /// How many directories the roots have of trees of which times are taken.
 const GROUPS: [u32; 3] = [10, 100, 590];
 
 /// How many entries such a directory stands for: itself, 99 directories and 10 links.
-const ENTRIES: u64 = 110;
+const ENTRIES: u32 = 110;
 
 /// How often a session is audited of which times are taken; the least time counts.
 const AUDITS: u32 = 5;
@@ -27,7 +27,7 @@ pub(crate) fn print_counts<R: AllocGlobal + Print>(rt: &R) -> Result<(), BenchEr
 }
 
 /// How many requests an accepted session has, and how many bytes its final tree file.
-fn counts(alloc: Global, session: &Session) -> Result<(u64, usize), AuditError> {
+pub(crate) fn counts(alloc: Global, session: &Session) -> Result<(u64, usize), AuditError> {
     let accepted = audit(
         alloc,
         session.tree.as_slice(),
@@ -40,21 +40,23 @@ fn counts(alloc: Global, session: &Session) -> Result<(u64, usize), AuditError> 
 pub(crate) fn print_figures<R: AllocGlobal + Clock + Print>(rt: &R) -> Result<(), BenchError> {
     for groups in GROUPS {
         let session = Session::new(rt.alloc(), groups, REQUESTS)?;
-        print_speed(rt, groups as u64 * ENTRIES, &session)?;
+        print_speed(rt, groups.saturating_mul(ENTRIES), 2, &session)?;
     }
     Ok(())
 }
 
-/// Audits a session over a tree of so many entries, and prints how many requests a second that were.
-fn print_speed<R: AllocGlobal + Clock + Print>(
+/// Audits a session over a tree of so many entries, and prints how many requests a second that were. Its paths have so
+/// many names.
+pub(crate) fn print_speed<R: AllocGlobal + Clock + Print>(
     rt: &R,
-    entries: u64,
+    entries: u32,
+    depth: u32,
     session: &Session,
 ) -> Result<(), BenchError> {
     let speed = REQUESTS as u128 * 1_000_000 / least_micros(rt, session)?.max(1);
     let bytes = session.transcript.len();
     println!(rt;
-        "audit over {entries} entries: {speed} requests/s, {REQUESTS} of them with their replies in {bytes} bytes"
+        "audit over {entries} entries, {depth} deep: {speed} requests/s, {REQUESTS} with their replies in {bytes} bytes"
     )?;
     Ok(())
 }

@@ -3,6 +3,7 @@
 //! prints counts only.
 #![tactic(auto)]
 
+mod deep;
 mod errors;
 mod figures;
 mod sessions;
@@ -29,11 +30,13 @@ fn run(rt: &HostRuntime) -> Result<(), BenchError> {
     match words.as_slice() {
         [] | [_] => {
             figures::print_counts(rt)?;
-            trees::print_counts(rt)
+            trees::print_counts(rt)?;
+            deep::print_counts(rt)
         }
         [_, word] if word.as_str() == "measure" => {
             figures::print_figures(rt)?;
-            trees::print_figures(rt)
+            trees::print_figures(rt)?;
+            deep::print_figures(rt)
         }
         _ => Err(BenchError::Usage),
     }

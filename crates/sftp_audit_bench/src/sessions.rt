@@ -12,13 +12,13 @@ const MEMBERS: u32 = 99;
 const LINKS: u32 = 10;
 
 /// How far apart the places are that requests after one another name.
-const STRIDE: u32 = 7919;
+pub(crate) const STRIDE: u32 = 7919;
 
 /// The opening of a transcript file, an INIT of version 3 and a VERSION 3.
-const OPENING: &[u8] = b"SFTPTR01C\0\0\0\x05\x01\0\0\0\x03S\0\0\0\x05\x02\0\0\0\x03";
+pub(crate) const OPENING: &[u8] = b"SFTPTR01C\0\0\0\x05\x01\0\0\0\x03S\0\0\0\x05\x02\0\0\0\x03";
 
 /// The types of the packets (draft, section 3).
-const LSTAT: u8 = 7;
+pub(crate) const LSTAT: u8 = 7;
 
 const STAT: u8 = 17;
 
@@ -26,10 +26,10 @@ const READLINK: u8 = 19;
 
 const NAME: u8 = 104;
 
-const ATTRS: u8 = 105;
+pub(crate) const ATTRS: u8 = 105;
 
 /// The attributes of each directory: the size 0, the owner 0 and 0, and the permissions 0o40755 (draft, section 5).
-const DIRECTORY: &[u8] = b"\0\0\0\x07\0\0\0\0\0\0\0\0\0\0\0\0\0\0\0\0\0\0\x41\xed";
+pub(crate) const DIRECTORY: &[u8] = b"\0\0\0\x07\0\0\0\0\0\0\0\0\0\0\0\0\0\0\0\0\0\0\x41\xed";
 
 /// A tree file, and the transcript file of a session that asks for STAT, LSTAT and READLINK in turn.
 #[derive(Drop)]
@@ -133,14 +133,24 @@ fn put_exchange(
 }
 
 /// Records a request of one path.
-fn put_request(out: &mut Vec<u8>, request: u8, id: u32, path: &[u8]) -> Result<(), AllocError> {
+pub(crate) fn put_request(
+    out: &mut Vec<u8>,
+    request: u8,
+    id: u32,
+    path: &[u8],
+) -> Result<(), AllocError> {
     out.push(b'C')?;
     put_head(out, request, id, path.len().saturating_add(4))?;
     put_string(out, path)
 }
 
 /// Records the reply of that type, id and further bytes.
-fn put_reply(out: &mut Vec<u8>, reply: u8, id: u32, rest: &[u8]) -> Result<(), AllocError> {
+pub(crate) fn put_reply(
+    out: &mut Vec<u8>,
+    reply: u8,
+    id: u32,
+    rest: &[u8],
+) -> Result<(), AllocError> {
     out.push(b'S')?;
     put_head(out, reply, id, rest.len())?;
     out.extend_from_slice(rest)
@@ -163,7 +173,7 @@ fn put_head(out: &mut Vec<u8>, packet: u8, id: u32, further: usize) -> Result<()
 }
 
 /// Appends a string.
-fn put_string(out: &mut Vec<u8>, text: &[u8]) -> Result<(), AllocError> {
+pub(crate) fn put_string(out: &mut Vec<u8>, text: &[u8]) -> Result<(), AllocError> {
     put_length(out, text.len())?;
     out.extend_from_slice(text)
 }

@@ -1,5 +1,5 @@
 //! What is printed of tree files that are read and written.
-ghost use Rattle.std.specs.Prelude.{◌<◌, ◌^◌, length, IfOk};
+ghost use Rattle.std.specs.Prelude.{◌<◌, ◌^◌, length};
 
 use crate::errors::BenchError;
 use sftp_tree::{Tree, TreeError};
@@ -17,7 +17,7 @@ const MEMBERS: u32 = 255;
 const FILE_BYTES: usize = 1532;
 
 /// How often each time is taken; the least counts.
-const ROUNDS: u32 = 5;
+pub(crate) const ROUNDS: u32 = 5;
 
 const OWNER: Owner = Owner {
     uid: 0,
@@ -78,27 +78,33 @@ fn written_again(alloc: Global, file: &[u8]) -> Result<usize, TreeError> {
     Ok(Tree::read(alloc, file)?.write()?.len())
 }
 
-/// Reads and writes a tree file of 65,536 entries and some 100 MB of file bytes, and prints how fast that was, beside
+/// Reads and writes a tree file of 65,536 entries and some 100 MB of file bytes, and prints how long that takes, beside
 /// a copy of its bytes; and how long a directory takes to move.
 pub(crate) fn print_figures<R: AllocGlobal + Clock + Print>(rt: &R) -> Result<(), BenchError> {
     let file = tree_file(rt.alloc(), GROUPS, MEMBERS, &[7; FILE_BYTES])?;
     let mut tree = Tree::read(rt.alloc(), file.as_slice())?;
-    print_speeds(rt, file.as_slice(), &tree)?;
+    print_times(
+        rt,
+        GROUPS.saturating_mul(MEMBERS.saturating_add(1)),
+        file.as_slice(),
+        &tree,
+    )?;
     print_move(rt, &mut tree)
 }
 
-/// Prints how fast the file is copied and read, and the tree written.
-fn print_speeds<R: AllocGlobal + Clock + Print>(
+/// Prints how long the file of a tree of so many entries takes to copy and to read, and the tree to write.
+pub(crate) fn print_times<R: AllocGlobal + Clock + Print>(
     rt: &R,
+    entries: u32,
     file: &[u8],
     tree: &Tree,
 ) -> Result<(), BenchError> {
-    let size = file.len() as u128;
-    let copied = size / least_micros(rt, Work::Copy, file, tree)?;
-    let read = size / least_micros(rt, Work::Read, file, tree)?;
-    let written = size / least_micros(rt, Work::Write, file, tree)?;
+    let size = file.len();
+    let copied = least_micros(rt, Work::Copy, file, tree)?;
+    let read = least_micros(rt, Work::Read, file, tree)?;
+    let written = least_micros(rt, Work::Write, file, tree)?;
     println!(rt;
-        "tree file of 65,536 entries and {size} bytes: copied {copied} MB/s, read {read} MB/s, written {written} MB/s"
+        "tree file of {entries} entries, {size} bytes: copied {copied}, read {read}, written {written} microseconds"
     )?;
     Ok(())
 }
@@ -123,20 +129,18 @@ enum Work {
     Write,
 }
 
-/// The least of the times in microseconds that some work takes, or 1.
+/// The least of the times in microseconds that some work takes.
 fn least_micros<R: AllocGlobal + Clock>(
     rt: &R,
     work: Work,
     file: &[u8],
     tree: &Tree,
-) -> Result<u128, BenchError>
-    ensures { IfOk result (λ micros. 0 < micros) }
-{
+) -> Result<u128, BenchError> {
     let mut least = u128::MAX;
     for _ in 0..ROUNDS {
         least = least.min(micros(rt, work, file, tree)?);
     }
-    Ok(least.max(1))
+    Ok(least)
 }
 
 /// How many microseconds some work takes.

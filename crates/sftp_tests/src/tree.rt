@@ -11,7 +11,10 @@ mod listings;
 mod longest;
 mod open_files;
 mod opens;
+mod many;
 mod pictures;
+mod reference;
+mod seeded;
 
 use listings::Listed;
 
@@ -27,15 +30,20 @@ enum Given {
     SizeAndOwner(u64, u32, u32),
 }
 
-/// The attributes as the calls of a tree take them.
-fn attrs(given: Given) -> Attrs {
-    let (size, owner, permissions) = match given {
+/// The size, the owner and the permissions that are given.
+fn parts(given: Given) -> (Option<u64>, Option<(u32, u32)>, Option<u32>) {
+    match given {
         Given::Nothing => (None, None, None),
         Given::Owner(uid, gid, permissions) => (Some(7), Some((uid, gid)), Some(permissions)),
         Given::Permissions(permissions) => (None, None, Some(permissions)),
         Given::Size(size) => (Some(size), None, None),
         Given::SizeAndOwner(size, uid, gid) => (Some(size), Some((uid, gid)), None),
-    };
+    }
+}
+
+/// The attributes as the calls of a tree take them.
+fn attrs(given: Given) -> Attrs {
+    let (size, owner, permissions) = parts(given);
     Attrs {
         size,
         owner,
