@@ -17,6 +17,9 @@ const ENTRIES: usize = 65_537;
 /// The most bytes of a file.
 const FILE_BYTES: u64 = 16_777_216;
 
+/// The flag of OPEN that refuses what exists.
+pub(super) const EXCL: u32 = 0x20;
+
 /// Who owns a directory that is made with no owner given.
 pub(super) const OWNER: Owner = Owner {
     uid: 0,
@@ -40,6 +43,21 @@ pub(super) struct Content {
     pub(super) letter: u8,
     pub(super) letters: u64,
     pub(super) size: u64,
+}
+
+/// A new file: it has no bytes, whatever size is given.
+fn empty_file(given: Given) -> Content {
+    let usual = Owner {
+        uid: 0,
+        gid: 0,
+        permissions: 0o644,
+    };
+    Content {
+        owner: owned(usual, given),
+        letter: 0,
+        letters: 0,
+        size: 0,
+    }
 }
 
 #[derive(Drop)]
@@ -150,6 +168,8 @@ impl Reference {
                 self.lead(path)?;
                 Ok(())
             }
+            Call::Open(path, flags, _) => self.judge_open(path, *flags),
+            Call::Opendir(path) => self.judge_open_directory(path),
         }
     }
 
@@ -248,6 +268,31 @@ impl Reference {
         ])
     }
 
+    /// Of an OPEN with good flags, which has EXCL exactly if it creates: so no new file is behind a link, and no file
+    /// that exists is truncated.
+    fn judge_open(&self, path: &[u8], flags: u32) -> Result<(), Cause> {
+        let excludes = flags & EXCL != 0;
+        let there = if excludes {
+            self.lead(path)?
+        } else {
+            self.follow(path)?
+        };
+        first(&[
+            (there.is_none() && !excludes, Cause::NoEntry),
+            (excludes && there.is_some(), Cause::Exists),
+            (!excludes && is_directory(there), Cause::IsDir),
+            (there.is_none() && self.has_no_room(path), Cause::NoRoom),
+        ])
+    }
+
+    fn judge_open_directory(&self, path: &[u8]) -> Result<(), Cause> {
+        let there = self.follow(path)?;
+        first(&[
+            (there.is_none(), Cause::NoEntry),
+            (!is_directory(there), Cause::NotDir),
+        ])
+    }
+
     /// Whether both are one place, or names of one file.
     fn are_one(&self, old: &[u8], new: &[u8]) -> bool {
         let is_one_file = match (self.at(old), self.at(new)) {
@@ -277,7 +322,16 @@ impl Reference {
             Call::Rename(old, new) => self.move_all(alloc, old, new),
             Call::PosixRename(old, new) => self.move_all(alloc, old, new),
             Call::Hardlink(old, new) => self.name_again(alloc, old, new),
+            Call::Open(path, _, given) => self.open(alloc, path, *given),
             _ => Ok(()),
+        }
+    }
+
+    /// Makes a file at a free place.
+    fn open(&mut self, alloc: Global, path: &[u8], given: Given) -> Result<(), AllocError> {
+        match self.at(path) {
+            Some(_) => Ok(()),
+            None => self.put_file(alloc, path, empty_file(given)),
         }
     }
 

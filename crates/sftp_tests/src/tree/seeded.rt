@@ -1,9 +1,18 @@
 //! Seeded lists of a thousand requests, each done by the tree and by the reference.
-use super::reference::{Content, OWNER, Reference};
+use super::reference::{Content, EXCL, OWNER, Reference};
 use super::{Call, Given, perform, shows, writes};
 use sftp_tree::{Refused, Tree};
 use std::alloc::{AllocError, Global};
 use std::test::Fail;
+
+/// Flags of OPEN (draft, section 6.3).
+const READ: u32 = 0x01;
+
+const WRITE: u32 = 0x02;
+
+const CREAT: u32 = 0x08;
+
+const TRUNC: u32 = 0x10;
 
 /// How many requests a list has.
 const REQUESTS: u32 = 1000;
@@ -54,9 +63,9 @@ impl Generator {
         }
     }
 
-    /// A request on these paths; it changes the tree in five of six cases, if it is done.
+    /// A request on these paths; it changes the tree in three of four cases, if it is done.
     fn call<'a>(&mut self, old: &'a [u8], new: &'a [u8]) -> Call<'a> {
-        match self.below(18) {
+        match self.below(21) {
             0..=3 => Call::Mkdir(old, self.given()),
             4 => Call::Rmdir(old),
             5 => Call::Remove(old),
@@ -67,7 +76,18 @@ impl Generator {
             14 => Call::SetStat(old, self.given()),
             15 => Call::Stat(old),
             16 => Call::Lstat(old),
-            _ => Call::ReadLink(old),
+            17 => Call::ReadLink(old),
+            18..=19 => Call::Open(old, self.flags(), self.given()),
+            _ => Call::Opendir(old),
+        }
+    }
+
+    /// Flags of OPEN: to read, or to make a new file.
+    fn flags(&mut self) -> u32 {
+        match self.below(3) {
+            0 => READ,
+            1 => WRITE | CREAT | TRUNC | EXCL,
+            _ => WRITE | CREAT | EXCL,
         }
     }
 
