@@ -133,7 +133,8 @@ fn full_file(alloc: Global) -> Result<Vec<u8>, AllocError> {
     Ok(file)
 }
 
-/// Whether a full tree refuses a further entry, moves the directory that has all the others, and is written as it was.
+/// Whether a full tree refuses a further entry, takes one for one that goes, moves the directory that has all the
+/// others, and is written as it was.
 fn keeps_full_file(alloc: Global) -> Result<bool, AllocError> {
     let file = full_file(alloc)?;
     let Ok(mut tree) = Tree::read(alloc, file.as_slice()) else {
@@ -149,6 +150,8 @@ fn stays_full(tree: &mut Tree) -> bool {
         && perform(tree, &Call::Rename(b"/d", b"/e")) == Ok(())
         && shows(tree, b"/e/fffe", false, 0, (0, 0), 0o040755)
         && perform(tree, &Call::Rename(b"/e", b"/d")) == Ok(())
+        && perform(tree, &Call::Rmdir(b"/d/8000")) == Ok(())
+        && perform(tree, &Call::Mkdir(b"/d/8000", Given::Nothing)) == Ok(())
 }
 
 #[test]

@@ -226,13 +226,15 @@ fn agrees(alloc: Global, levels: u32, seed: u32) -> Result<bool, AllocError> {
 }
 
 #[test]
-fn lists(rt: HostRuntime) -> Result<(), Fail> {
+fn lists_from_the_root(rt: HostRuntime) -> Result<(), Fail> {
     for seed in 1..7_u32 {
-        assert!(rt; agrees(rt.alloc(), 0, seed)?, "from the root, seed {seed}");
-        assert!(rt;
-            agrees(rt.alloc(), 62, seed)?,
-            "62 levels deep, seed {seed}"
-        );
+        assert!(rt; agrees(rt.alloc(), 0, seed)?, "seed {seed}");
     }
+    Ok(())
+}
+
+#[test]
+fn a_list_62_levels_deep(rt: HostRuntime) -> Result<(), Fail> {
+    assert!(rt; agrees(rt.alloc(), 62, 3)?);
     Ok(())
 }
