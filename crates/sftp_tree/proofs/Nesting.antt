@@ -3,3 +3,4 @@ pub mod Tables
 pub mod Growth
 pub mod Changes
 pub mod Moves
+pub mod NodesBelow
