@@ -2,3 +2,4 @@
 pub mod Tables
 pub mod Changes
 pub mod Moves
+pub mod Entries

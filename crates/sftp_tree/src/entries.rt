@@ -12,10 +12,12 @@ ghost use Rattle.sftp_tree.specs.PictureParts.{only_root};
 
 mod below;
 mod changes;
+mod children;
 pub(crate) mod directories;
 pub(crate) mod lookup;
 mod moves;
 mod moving;
+pub(crate) mod nested;
 pub(crate) mod seen;
 
 use crate::nodes::Node;
