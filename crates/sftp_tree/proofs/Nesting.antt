@@ -3,3 +3,4 @@ pub mod Tables
 pub mod Changes
 pub mod Moves
 pub mod Entries
+pub mod Reach

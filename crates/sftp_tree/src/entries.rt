@@ -18,6 +18,7 @@ pub(crate) mod lookup;
 mod moves;
 mod moving;
 pub(crate) mod nested;
+mod reach;
 pub(crate) mod seen;
 
 use crate::nodes::Node;

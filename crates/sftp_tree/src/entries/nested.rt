@@ -6,6 +6,7 @@ ghost use Rattle.sftp_path.specs.Table.{InOrder};
 ghost use Rattle.sftp_treefile.specs.TreeFile.{is_root};
 ghost use Rattle.sftp_tree.specs.declared.nodes.Node.TheVariants.{Dir as dir_node};
 ghost use Rattle.sftp_tree.specs.Tree as tree;
+ghost use Rattle.sftp_tree.specs.Room as rooms;
 ghost use Rattle.sftp_tree.specs.Seen.{node_seen};
 ghost use Rattle.sftp_tree.specs.PictureParts.{only_root};
 
@@ -81,6 +82,19 @@ impl Nested {
             Some(Seen::File(_)) => false,
             Some(Seen::Link(_)) => false,
             None => false,
+        }
+    }
+
+    /// Whether each place that begins with `top` has at most `room` names behind it. Only what is below `top` is looked
+    /// at.
+    pub(crate) fn reaches_at_most(&self, top: &Place, room: usize) -> bool
+        ensures { result ≡ rooms.reaches_at_most self.now top.now room }
+    {
+        match self.root.at(top.names()) {
+            Some(Seen::Dir(_, dir)) => dir.reaches_at_most(room),
+            Some(Seen::File(_)) => true,
+            Some(Seen::Link(_)) => true,
+            None => true,
         }
     }
 
