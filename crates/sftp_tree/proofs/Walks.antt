@@ -5,3 +5,5 @@ pub mod Meetings
 pub mod Places
 pub mod Rules
 pub mod Counts
+pub mod Ends
+pub mod Trails

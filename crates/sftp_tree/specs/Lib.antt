@@ -2,6 +2,7 @@ pub mod Tree
 pub mod Nesting
 pub mod NestingSizes
 pub mod Seen
+pub mod Trail
 pub mod StoredFiles
 pub mod Walk
 pub mod WalkRules
@@ -16,9 +17,11 @@ pub mod Picture
 pub mod PictureParts
 pub mod PictureExamples
 pub mod Room
+pub mod Found
 pub mod Ends
 pub mod Plans
 pub mod RequestExamples
 pub mod Route
 pub mod Walking
+pub mod Stepping
 pub mod WalkExamples

@@ -1,19 +1,19 @@
 -- The plans of requests.
-use Rattle.std.specs.Prelude.{◌≡◌, false, if◌then◌else◌, Option, Some, None, IsTrue}
+use Rattle.std.specs.Prelude.{◌≡◌, ℕ, false, if◌then◌else◌, Option, Some, None, IsTrue}
 use Rattle.sftp_path.specs.Place.{Place, parent, are_names}
+use Rattle.sftp_treefile.specs.declared.files.Owner.{Owner}
 use Rattle.sftp_treefile.specs.TreeFile.{IsOwner, are_bytes, is_root, same_place}
 use Rattle.sftp_wire.specs.declared.attributes.Attrs.{Attrs}
 use Rattle.sftp_wire.specs.declared.packets.Ask.{Ask}
 use Rattle.sftp_wire.specs.declared.packets.Ask.TheVariants.{Setstat, Remove, Mkdir, Rmdir, Rename, Symlink, PosixRename, Hardlink}
 use Rattle.sftp_tree.specs.declared.nodes.Node.{Node}
 use Rattle.sftp_tree.specs.declared.nodes.Node.TheVariants as nodes
-use Rattle.sftp_tree.specs.declared.ends.Places.{Places}
 use Rattle.sftp_tree.specs.declared.plans.Plan.{Plan}
-use Rattle.sftp_tree.specs.declared.plans.Plan.TheVariants.{Nothing, Put, Remove as Take, Move, Set}
-use Rattle.sftp_tree.specs.Tree.{Tree, IsTrimmed, IsNode, fits, node_at, is_taken, is_directory, is_file, has_entries, trim}
-use Rattle.sftp_tree.specs.Attributes.{directory_owner}
+use Rattle.sftp_tree.specs.declared.plans.Plan.TheVariants.{Nothing, Put, Remove as Take, Move, SetOwner, SetFile}
+use Rattle.sftp_tree.specs.Tree.{Tree, IsTrimmed, IsNode, fits, node_at, content_at, is_taken, is_directory, is_file, has_entries, trim}
+use Rattle.sftp_tree.specs.Attributes.{directory_owner, changed_owner}
 use Rattle.sftp_tree.specs.PlaceCauses.{are_one, goes_inside}
-use Rattle.sftp_tree.specs.Changes.{with_entry, without_entry, with_attributes, put_in_its_stead}
+use Rattle.sftp_tree.specs.Changes.{with_entry, without_entry, with_changed_file, put_in_its_stead}
 use Rattle.sftp_tree.specs.Requests.{after}
 
 -- the tree with the plan carried out; files that lost their last name still exist
@@ -22,7 +22,8 @@ changed t Nothing = t
 changed t (Put place node) = with_entry t place node
 changed t (Take place) = without_entry t place
 changed t (Move old new) = put_in_its_stead t old new
-changed t (Set place attrs) = with_attributes t attrs.now place (node_at t.names place)
+changed t (SetOwner place owner) = with_entry t place (nodes.Dir owner)
+changed t (SetFile number attrs) = with_changed_file t attrs.now number (content_at t.files number)
 
 -- ---- what can be done
 
@@ -52,18 +53,32 @@ pub record CanMove (t : Tree) (old new : Place) : Type 0 where
   pub alone : has_entries t.names new ≡ false
   pub room : IsTrue (fits (put_in_its_stead t old new))
 
+-- the directory at the place can get the owner
+pub record CanOwn (t : Tree) (place : Place) (owner : Owner) : Type 0 where
+  pub directory : IsTrue (is_directory (node_at t.names place))
+  pub is_owner : IsOwner owner
+
 abbrev pub IsReady : Tree → Plan → Type 0
 IsReady t Nothing = IsTrimmed t
 IsReady t (Put place node) = CanPut t place node
 IsReady t (Take place) = CanTake t place
 IsReady t (Move old new) = CanMove t old new
-IsReady t (Set place attrs) = IsTrue (fits (with_attributes t attrs.now place (node_at t.names place)))
+IsReady t (SetOwner place owner) = CanOwn t place owner
+IsReady t (SetFile number attrs) = IsTrue (fits (changed t (SetFile number attrs)))
 
 -- ---- what is to be done, by request
 
-abbrev pub IsSetting : Place → Attrs → Plan → Type 0
-IsSetting place attrs (Set at given) = (at ≡ place) × (given.now ≡ attrs)
-IsSetting place attrs other = ⊥
+abbrev pub IsSettingOf : ℕ → Attrs → Plan → Type 0
+IsSettingOf number attrs (SetFile n given) = (n ≡ number) × (given.now ≡ attrs)
+IsSettingOf number attrs other = ⊥
+
+-- a directory gets an owner, and a file attributes
+abbrev pub IsSetting : Option Node → Place → Attrs → Plan → Type 0
+IsSetting None place attrs plan = plan ≡ Nothing
+IsSetting (Some (nodes.Dir owner)) place attrs plan =
+    (plan ≡ SetOwner place (changed_owner attrs owner)) × IsOwner (changed_owner attrs owner)
+IsSetting (Some (nodes.File number)) place attrs plan = IsSettingOf number attrs plan
+IsSetting (Some (nodes.Link target)) place attrs plan = plan ≡ Nothing
 
 -- at the place that its path leads to
 abbrev pub IsPlanAt : Tree → Ask → Place → Plan → Type 0
@@ -71,7 +86,7 @@ IsPlanAt t (Mkdir path attrs) place plan = plan ≡ Put place (nodes.Dir (direct
 IsPlanAt t (Symlink target link) place plan = plan ≡ Put place (nodes.Link target)
 IsPlanAt t (Rmdir path) place plan = plan ≡ Take place
 IsPlanAt t (Remove path) place plan = plan ≡ Take place
-IsPlanAt t (Setstat path attrs) place plan = IsSetting place attrs plan
+IsPlanAt t (Setstat path attrs) place plan = IsSetting (node_at t.names place) place attrs plan
 IsPlanAt t other place plan = plan ≡ Nothing
 
 abbrev pub IsNaming : Option Node → Place → Plan → Type 0

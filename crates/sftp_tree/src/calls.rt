@@ -1,18 +1,20 @@
 //! What requests do to a tree, and what they return (draft, sections 6.5 to 6.11; OpenSSH's PROTOCOL, sections 4.3 and
 //! 4.5). A bad path has the cause `BadPath`, and one that leads nowhere the walk's: `NoEntry`, `NotDir` or `Loop`.
-ghost use Rattle.std.specs.Prelude.{◌≡◌, Some, IfOk, IfErr, IsTrue, OnOk, OnErr};
+ghost use Rattle.std.specs.Prelude.{◌≡◌, Some, IfOk, IfErr, IsTrue, OnOk, OnErr, option_copied};
 ghost use Rattle.sftp_wire.specs.declared.packets.Ask.TheVariants.{Setstat, Remove, Mkdir, Rmdir, Realpath, Rename};
 ghost use Rattle.sftp_wire.specs.declared.packets.Ask.TheVariants.{Readlink, Symlink, PosixRename, Hardlink};
 ghost use Rattle.sftp_tree.specs.declared.nodes.Node.TheVariants.{Link};
 ghost use Rattle.sftp_tree.specs.Tree as tree;
 ghost use Rattle.sftp_tree.specs.Requests as requests;
 ghost use Rattle.sftp_tree.specs.Refusals.{IsFree, IsRefusal, stat_ask};
+ghost use Rattle.sftp_tree.specs.Found.{IsThere};
 
 use crate::asks::PathAsk;
 use crate::causes::Refused;
+use crate::found::Found;
 use crate::nodes::Node;
 use crate::trees::Tree;
-use sftp_path::{Place, absolute};
+use sftp_path::absolute;
 use sftp_wire::Attrs;
 
 impl Tree {
@@ -189,7 +191,7 @@ impl Tree {
         ensures kept { OnOk result (tree.IsKept self.now) }
     {
         let places = self.free_places(PathAsk::Realpath { path })?;
-        Ok(absolute(self.home().allocator(), places.old.names())?)
+        Ok(absolute(self.home().allocator(), places.old.place.names())?)
     }
 
     /// READLINK: the target of a link, as it was made.
@@ -204,31 +206,33 @@ impl Tree {
         ensures kept { OnOk result (tree.IsKept self.now) }
     {
         let places = self.free_places(PathAsk::Readlink { path })?;
-        let target = self.target_at(&places.old);
+        let target = target_of(places.old.node);
         Ok(Vec::from_slice(self.home().allocator(), target)?)
     }
 
-    /// The attributes shown of the node at a place.
-    fn shown_at(&self, place: &Place) -> Attrs
-        requires { IsTrue (tree.is_taken (tree.node_at self.now.names place.now)) }
-        ensures { requests.shown_at self.now (tree.node_at self.now.names place.now) ≡ Some result }
+    /// The attributes shown of a node that was found.
+    fn shown_at(&self, found: &Found<'_>) -> Attrs
+        requires there { IsThere self.now.names found.now }
+        requires taken { IsTrue (tree.is_taken (tree.node_at self.now.names found.now.place)) }
+        requires kept { tree.IsKept self.now }
+        ensures { requests.shown_at self.now (tree.node_at self.now.names found.now.place) ≡ Some result }
     {
-        match self.standing(place) {
+        match found.node {
             Some(node) => self.shown(node),
             None => unreachable!(),
         }
     }
+}
 
-    /// The target of the link at a place.
-    fn target_at(&self, place: &Place) -> &[u8]
-        requires { IsTrue (tree.is_link (tree.node_at self.now.names place.now)) }
-        ensures { requests.target_of (tree.node_at self.now.names place.now) ≡ Some result.now }
-    {
-        match self.standing(place) {
-            Some(Node::Link(target)) => target.as_slice(),
-            Some(Node::Dir(_)) => unreachable!(),
-            Some(Node::File(_)) => unreachable!(),
-            None => unreachable!(),
-        }
+/// The target of a link that was found.
+fn target_of(found: Option<&Node>) -> &[u8]
+    requires { IsTrue (tree.is_link (option_copied found)) }
+    ensures { requests.target_of (option_copied found.entry) ≡ Some result.now }
+{
+    match found {
+        Some(Node::Link(target)) => target.as_slice(),
+        Some(Node::Dir(_)) => unreachable!(),
+        Some(Node::File(_)) => unreachable!(),
+        None => unreachable!(),
     }
 }

@@ -6,34 +6,36 @@ ghost use Rattle.sftp_tree.specs.Tree as tree;
 ghost use Rattle.sftp_tree.specs.Requests as requests;
 ghost use Rattle.sftp_tree.specs.Asks.{asked};
 ghost use Rattle.sftp_tree.specs.Refusals.{in_set, IsFree, IsRefusal};
+ghost use Rattle.sftp_tree.specs.Found.{placed, new_placed, EndIsThere, NewEndIsThere};
 ghost use Rattle.sftp_tree.specs.Ends as spec;
 ghost use Rattle.sftp_tree.specs.Room as room;
 
 use crate::asks::{PathAsk, path_ask};
 use crate::causes::{Cause, Causes, Refused};
+use crate::found::Found;
 use crate::trees::Tree;
 use sftp_path::{NoMemory, Place};
 use sftp_wire::Ask;
 
 /// Where the paths of a request lead, or why they lead nowhere. `new` is of the second path, if there is one.
 #[derive(Drop)]
-pub(crate) struct Ends {
-    old: Result<Place, Cause>,
-    new: Option<Result<Place, Cause>>,
+pub(crate) struct Ends<'a> {
+    old: Result<Found<'a>, Cause>,
+    new: Option<Result<Found<'a>, Cause>>,
 }
 
 /// The places that the paths of a request lead to.
 #[derive(Drop)]
-pub(crate) struct Places {
-    pub(crate) old: Place,
-    pub(crate) new: Option<Place>,
+pub(crate) struct Places<'a> {
+    pub(crate) old: Found<'a>,
+    pub(crate) new: Option<Found<'a>>,
 }
 
-impl Ends {
+impl<'a> Ends<'a> {
     /// The places. If both paths lead nowhere, `BadPath` is returned first, and else the cause of the first path.
-    fn places(self) -> Result<Places, Cause>
-        ensures led { IfOk result (λ places. spec.AreLed self.old self.new places) }
-        ensures lost { IfErr result (λ cause. (self.old ≡ Err cause) ⊎ (self.new ≡ Some (Err cause))) }
+    fn places(self) -> Result<Places<'a>, Cause>
+        ensures led { IfOk result (λ places. spec.AreLed self.entry.old self.entry.new places) }
+        ensures lost { IfErr result (λ cause. (self.entry.old ≡ Err cause) ⊎ (self.entry.new ≡ Some (Err cause))) }
     {
         match (self.old, self.new) {
             (Err(Cause::BadPath), _) => Err(Cause::BadPath),
@@ -75,7 +77,7 @@ impl Tree {
     ///
     /// The first cause that holds: of the request's own bytes, then of the walks, then in the order of the table.
     /// `NoMemory` if memory runs out.
-    pub(crate) fn free_places(&self, ask: PathAsk<'_>) -> Result<Places, Refused>
+    pub(crate) fn free_places<'a>(&'a self, ask: PathAsk<'a>) -> Result<Places<'a>, Refused>
         ensures free { IfOk result (λ places. IsFree self.now (asked ask.entry)) }
         ensures led { IfOk result (λ places. spec.LeadTo self.now (asked ask.entry) places) }
         ensures well { IfOk result (λ places. spec.AreWell self.now places) }
@@ -94,10 +96,10 @@ impl Tree {
     /// # Errors
     ///
     /// `NoMemory` if memory runs out.
-    fn ends(&self, home: &Place, ask: PathAsk<'_>) -> Result<Ends, NoMemory>
+    fn ends<'a>(&'a self, home: &'a Place, ask: PathAsk<'a>) -> Result<Ends<'a>, NoMemory>
         requires { home.now ≡ self.now.home }
-        ensures old { IfOk result (λ ends. requests.led self.now (asked ask.entry) ≡ Some ends.old) }
-        ensures new { IfOk result (λ ends. requests.new_led self.now (asked ask.entry) ≡ ends.new) }
+        ensures old { IfOk result (λ ends. requests.led self.now (asked ask.entry) ≡ Some (placed ends.old)) }
+        ensures new { IfOk result (λ ends. requests.new_led self.now (asked ask.entry) ≡ new_placed ends.new) }
         ensures well { IfOk result (λ ends. spec.EndsAreWell self.now ends.old ends.new) }
     {
         let old = self.reach(home, ask.follows(), ask.path())?;
@@ -109,9 +111,9 @@ impl Tree {
     }
 
     /// The causes of a request by where its paths lead.
-    fn judge(&self, ask: PathAsk<'_>, ends: &Ends) -> Causes
-        requires old { requests.led self.now (asked ask) ≡ Some ends.now.old }
-        requires new { requests.new_led self.now (asked ask) ≡ ends.now.new }
+    fn judge(&self, ask: PathAsk<'_>, ends: &Ends<'_>) -> Causes
+        requires old { requests.led self.now (asked ask) ≡ Some (placed ends.now.old) }
+        requires new { requests.new_led self.now (asked ask) ≡ new_placed ends.now.new }
         requires well { spec.EndsAreWell self.now ends.now.old ends.now.new }
         ensures { in_set result ≡ requests.causes self.now (asked ask.entry) }
     {
@@ -121,8 +123,11 @@ impl Tree {
     }
 
     /// The causes other than `NoRoom`.
-    fn plain_causes(&self, ask: PathAsk<'_>, ends: &Ends) -> Causes
-        ensures { in_set result ≡ requests.plain_of self.now (asked ask.entry) (Some ends.now.old) ends.now.new }
+    fn plain_causes(&self, ask: PathAsk<'_>, ends: &Ends<'_>) -> Causes
+        requires old { EndIsThere self.now.names ends.now.old }
+        requires new { NewEndIsThere self.now.names ends.now.new }
+        ensures { in_set result
+            ≡ requests.plain_of self.now (asked ask.entry) (Some (placed ends.now.old)) (new_placed ends.now.new) }
     {
         let here = self.led_causes(ask, &ends.old);
         let there = self.new_led_causes(ask, &ends.new);
@@ -131,30 +136,37 @@ impl Tree {
     }
 
     /// The causes of the path, or of the first of two.
-    fn led_causes(&self, ask: PathAsk<'_>, end: &Result<Place, Cause>) -> Causes
-        ensures { in_set result ≡ requests.led_causes (Some end.now) (requests.causes_at self.now (asked ask.entry)) }
+    fn led_causes(&self, ask: PathAsk<'_>, end: &Result<Found<'_>, Cause>) -> Causes
+        requires { EndIsThere self.now.names end.now }
+        ensures { in_set result
+            ≡ requests.led_causes (Some (placed end.now)) (requests.causes_at self.now (asked ask.entry)) }
     {
         match end {
-            Ok(place) => self.causes_at(ask, place),
+            Ok(found) => self.causes_at(ask, found),
             Err(cause) => Causes::none().when(*cause, true),
         }
     }
 
     /// The causes of the second path.
-    fn new_led_causes(&self, ask: PathAsk<'_>, end: &Option<Result<Place, Cause>>) -> Causes
-        ensures { in_set result ≡ requests.led_causes end.now (requests.new_causes_at self.now (asked ask.entry)) }
+    fn new_led_causes(&self, ask: PathAsk<'_>, end: &Option<Result<Found<'_>, Cause>>) -> Causes
+        requires { NewEndIsThere self.now.names end.now }
+        ensures { in_set result
+            ≡ requests.led_causes (new_placed end.now) (requests.new_causes_at self.now (asked ask.entry)) }
     {
         match end {
-            Some(Ok(place)) => self.new_causes_at(ask, place),
+            Some(Ok(found)) => self.new_causes_at(ask, found),
             Some(Err(cause)) => Causes::none().when(*cause, true),
             None => Causes::none(),
         }
     }
 
     /// The causes of two places, if each path leads to one.
-    fn both_causes(&self, ask: PathAsk<'_>, ends: &Ends) -> Causes
+    fn both_causes(&self, ask: PathAsk<'_>, ends: &Ends<'_>) -> Causes
+        requires old { EndIsThere self.now.names ends.now.old }
+        requires new { NewEndIsThere self.now.names ends.now.new }
         ensures { in_set result
-            ≡ requests.both_causes (Some ends.now.old) ends.now.new (requests.causes_between self.now (asked ask.entry)) }
+            ≡ requests.both_causes (Some (placed ends.now.old)) (new_placed ends.now.new)
+            (requests.causes_between self.now (asked ask.entry)) }
     {
         match (&ends.old, &ends.new) {
             (Ok(old), Some(Ok(new))) => self.causes_between(ask, old, new),
@@ -165,11 +177,14 @@ impl Tree {
     }
 
     /// Whether what a request asks for keeps to the limits.
-    fn has_room_for(&self, ask: PathAsk<'_>, ends: &Ends) -> bool
-        ensures { result ≡ room.has_room_for self.now (asked ask.entry) ends.now.old ends.now.new }
+    fn has_room_for(&self, ask: PathAsk<'_>, ends: &Ends<'_>) -> bool
+        requires old { EndIsThere self.now.names ends.now.old }
+        requires new { NewEndIsThere self.now.names ends.now.new }
+        ensures { result
+            ≡ room.has_room_for self.now (asked ask.entry) (placed ends.now.old) (new_placed ends.now.new) }
     {
         match (&ends.old, &ends.new) {
-            (Ok(place), None) => self.has_room_at(ask, place),
+            (Ok(found), None) => self.has_room_at(ask, found),
             (Ok(old), Some(Ok(new))) => self.has_room_between(ask, old, new),
             (Ok(_), Some(Err(_))) => true,
             (Err(_), _) => true,

@@ -20,6 +20,7 @@ mod moving;
 pub(crate) mod nested;
 mod reach;
 pub(crate) mod seen;
+pub(crate) mod trail;
 
 use crate::nodes::Node;
 pub(crate) use below::is_below;

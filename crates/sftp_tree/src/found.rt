@@ -1,28 +1,30 @@
-//! The node at a place.
+//! What a path leads to: a place, and the node there.
 ghost use Rattle.std.specs.Prelude.{◌≡◌, option_copied};
 ghost use Rattle.sftp_treefile.specs.TreeFile.{is_root};
 ghost use Rattle.sftp_tree.specs.Tree as tree;
 ghost use Rattle.sftp_tree.specs.PlaceCauses as place_causes;
+ghost use Rattle.sftp_tree.specs.Found.{IsThere};
 
 use crate::nodes::Node;
 use crate::trees::Tree;
 use sftp_path::Place;
 
-impl Tree {
-    /// The node at a place.
-    #[tactic(auto, unfolding(sftp_path::specs::Table::get))]
-    pub(crate) fn standing(&self, place: &Place) -> Option<&Node>
-        ensures there { option_copied result ≡ tree.node_at self.now.names place.now }
-        ensures kept { tree.IsKept self.now }
-    {
-        self.names().get(place)
-    }
+/// A place, and the node there, which the tree lends.
+#[derive(Drop)]
+pub(crate) struct Found<'a> {
+    pub(crate) place: Place,
+    /// The node, or `None` if the place is free.
+    pub(crate) node: Option<&'a Node>,
+}
 
+impl Tree {
     /// Whether both are one place, or names of one file.
-    pub(crate) fn are_one(&self, old: &Place, new: &Place) -> bool
-        ensures { result ≡ place_causes.are_one self.now.names old.now new.now }
+    pub(crate) fn are_one(&self, old: &Found<'_>, new: &Found<'_>) -> bool
+        requires old { IsThere self.now.names old.now }
+        requires new { IsThere self.now.names new.now }
+        ensures { result ≡ place_causes.are_one self.now.names old.now.place new.now.place }
     {
-        old == new || are_one_file(self.standing(old), self.standing(new))
+        old.place == new.place || are_one_file(old.node, new.node)
     }
 }
 

@@ -23,6 +23,7 @@ mod plans;
 pub mod request_examples;
 mod room;
 mod route;
+mod stepping;
 mod trees;
 pub mod walk_examples;
 mod walking;

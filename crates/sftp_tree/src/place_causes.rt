@@ -3,12 +3,13 @@ ghost use Rattle.std.specs.Prelude.{◌≡◌, Bool, option_copied};
 ghost use Rattle.sftp_tree.specs.Asks.{asked};
 ghost use Rattle.sftp_tree.specs.Refusals.{in_set};
 ghost use Rattle.sftp_tree.specs.PlaceCauses as place_causes;
+ghost use Rattle.sftp_tree.specs.Found.{IsThere};
 ghost use Rattle.sftp_tree.specs.Requests as requests;
 
 use crate::asks::PathAsk;
 use crate::causes::{Cause, Causes};
 use crate::entries::is_below;
-use crate::found::{is_directory, is_file, is_link, is_root, is_taken};
+use crate::found::{Found, is_directory, is_file, is_link, is_root, is_taken};
 use crate::nodes::Node;
 use crate::trees::Tree;
 use sftp_path::Place;
@@ -16,34 +17,36 @@ use sftp_wire::Attrs;
 
 impl Tree {
     /// The causes at the place that the path, or the first of two, leads to.
-    pub(crate) fn causes_at(&self, ask: PathAsk<'_>, place: &Place) -> Causes
-        ensures { in_set result ≡ requests.causes_at self.now (asked ask.entry) place.now }
+    pub(crate) fn causes_at(&self, ask: PathAsk<'_>, found: &Found<'_>) -> Causes
+        requires { IsThere self.now.names found.now }
+        ensures { in_set result ≡ requests.causes_at self.now (asked ask.entry) found.now.place }
     {
-        let found = self.standing(place);
+        let node = found.node;
         match ask {
-            PathAsk::Mkdir { .. } => making(found),
-            PathAsk::Rmdir { .. } => self.removing(place),
-            PathAsk::Remove { .. } => unlinking(found),
-            PathAsk::Setstat { attrs, .. } => setting(attrs, found),
-            PathAsk::Stat { .. } => needing(found),
-            PathAsk::Lstat { .. } => needing(found),
+            PathAsk::Mkdir { .. } => making(node),
+            PathAsk::Rmdir { .. } => self.removing(found),
+            PathAsk::Remove { .. } => unlinking(node),
+            PathAsk::Setstat { attrs, .. } => setting(attrs, node),
+            PathAsk::Stat { .. } => needing(node),
+            PathAsk::Lstat { .. } => needing(node),
             PathAsk::Realpath { .. } => Causes::none(),
-            PathAsk::Readlink { .. } => reading(found),
-            PathAsk::Symlink { .. } => making(found),
-            PathAsk::Rename { .. } => self.leaving(place),
-            PathAsk::PosixRename { .. } => self.leaving(place),
-            PathAsk::Hardlink { .. } => naming(found),
+            PathAsk::Readlink { .. } => reading(node),
+            PathAsk::Symlink { .. } => making(node),
+            PathAsk::Rename { .. } => self.leaving(found),
+            PathAsk::PosixRename { .. } => self.leaving(found),
+            PathAsk::Hardlink { .. } => naming(node),
         }
     }
 
     /// The causes at the place that the second path leads to.
-    pub(crate) fn new_causes_at(&self, ask: PathAsk<'_>, place: &Place) -> Causes
-        ensures { in_set result ≡ requests.new_causes_at self.now (asked ask.entry) place.now }
+    pub(crate) fn new_causes_at(&self, ask: PathAsk<'_>, found: &Found<'_>) -> Causes
+        requires { IsThere self.now.names found.now }
+        ensures { in_set result ≡ requests.new_causes_at self.now (asked ask.entry) found.now.place }
     {
         match ask {
-            PathAsk::Rename { .. } => making(self.standing(place)),
-            PathAsk::PosixRename { .. } => giving(place),
-            PathAsk::Hardlink { .. } => making(self.standing(place)),
+            PathAsk::Rename { .. } => making(found.node),
+            PathAsk::PosixRename { .. } => giving(&found.place),
+            PathAsk::Hardlink { .. } => making(found.node),
             PathAsk::Mkdir { .. } => Causes::none(),
             PathAsk::Rmdir { .. } => Causes::none(),
             PathAsk::Remove { .. } => Causes::none(),
@@ -57,11 +60,18 @@ impl Tree {
     }
 
     /// The causes of two places.
-    pub(crate) fn causes_between(&self, ask: PathAsk<'_>, old: &Place, new: &Place) -> Causes
-        ensures { in_set result ≡ requests.causes_between self.now (asked ask.entry) old.now new.now }
+    pub(crate) fn causes_between(
+        &self,
+        ask: PathAsk<'_>,
+        old: &Found<'_>,
+        new: &Found<'_>,
+    ) -> Causes
+        requires old { IsThere self.now.names old.now }
+        requires new { IsThere self.now.names new.now }
+        ensures { in_set result ≡ requests.causes_between self.now (asked ask.entry) old.now.place new.now.place }
     {
         match ask {
-            PathAsk::Rename { .. } => self.moving(old, new),
+            PathAsk::Rename { .. } => self.moving(old, &new.place),
             PathAsk::PosixRename { .. } => self.exchanging(old, new),
             PathAsk::Hardlink { .. } => Causes::none(),
             PathAsk::Mkdir { .. } => Causes::none(),
@@ -77,51 +87,54 @@ impl Tree {
     }
 
     /// The causes of a directory that is to be removed.
-    fn removing(&self, place: &Place) -> Causes
-        ensures { in_set result ≡ place_causes.removing_causes self.now.names place.now }
+    fn removing(&self, found: &Found<'_>) -> Causes
+        requires { IsThere self.now.names found.now }
+        ensures { in_set result ≡ place_causes.removing_causes self.now.names found.now.place }
     {
-        let found = self.standing(place);
-        let full = is_directory(found) && self.names().has_entries(place);
-        needing(found)
-            .when(Cause::NotDir, is_taken(found) && !is_directory(found))
+        let node = found.node;
+        let full = is_directory(node) && self.names().has_entries(&found.place);
+        needing(node)
+            .when(Cause::NotDir, is_taken(node) && !is_directory(node))
             .when(Cause::NotEmpty, full)
-            .when(Cause::Root, is_root(place))
+            .when(Cause::Root, is_root(&found.place))
     }
 
     /// The causes of a node that is to move to another place.
-    fn leaving(&self, place: &Place) -> Causes
-        ensures { in_set result ≡ place_causes.leaving_causes self.now.names place.now }
+    fn leaving(&self, found: &Found<'_>) -> Causes
+        requires { IsThere self.now.names found.now }
+        ensures { in_set result ≡ place_causes.leaving_causes self.now.names found.now.place }
     {
-        needing(self.standing(place)).when(Cause::Root, is_root(place))
+        needing(found.node).when(Cause::Root, is_root(&found.place))
     }
 
     /// Whether a directory would be moved into itself.
-    fn goes_inside(&self, old: &Place, new: &Place) -> bool
-        ensures { result ≡ place_causes.goes_inside self.now.names old.now new.now }
+    fn goes_inside(&self, old: &Found<'_>, new: &Place) -> bool
+        requires { IsThere self.now.names old.now }
+        ensures { result ≡ place_causes.goes_inside self.now.names old.now.place new.now }
     {
-        is_directory(self.standing(old)) && is_below(old, new)
+        is_directory(old.node) && is_below(&old.place, new)
     }
 
     /// The causes of a move to a free place.
-    fn moving(&self, old: &Place, new: &Place) -> Causes
-        ensures { in_set result ≡ place_causes.moving_causes self.now.names old.now new.now }
+    fn moving(&self, old: &Found<'_>, new: &Place) -> Causes
+        requires { IsThere self.now.names old.now }
+        ensures { in_set result ≡ place_causes.moving_causes self.now.names old.now.place new.now }
     {
         Causes::none().when(Cause::Inside, self.goes_inside(old, new))
     }
 
     /// The causes of a move that replaces the node at the new place, if there is one. Nothing moves if both are the
     /// same place, or names of one file.
-    fn exchanging(&self, old: &Place, new: &Place) -> Causes
-        ensures { in_set result ≡ place_causes.exchanging_causes self.now.names old.now new.now }
+    fn exchanging(&self, old: &Found<'_>, new: &Found<'_>) -> Causes
+        requires old { IsThere self.now.names old.now }
+        requires new { IsThere self.now.names new.now }
+        ensures { in_set result ≡ place_causes.exchanging_causes self.now.names old.now.place new.now.place }
     {
         if self.are_one(old, new) {
             return Causes::none();
         }
-        let entries = self.names().has_entries(new);
-        clashing(self.standing(old), self.standing(new), entries).when(
-            Cause::Inside,
-            self.goes_inside(old, new),
-        )
+        let entries = self.names().has_entries(&new.place);
+        clashing(old.node, new.node, entries).when(Cause::Inside, self.goes_inside(old, &new.place))
     }
 }
 

@@ -1,11 +1,11 @@
 //! The plans of requests, and how they are carried out.
-ghost use Rattle.std.specs.Prelude.{◌≡◌, Some, IfOk, IfErr, IsTrue, OnOk, OnErr};
+ghost use Rattle.std.specs.Prelude.{◌≡◌, Some, IfOk, IfErr, IsTrue, OnOk, OnErr, option_copied};
 ghost use Rattle.sftp_treefile.specs.TreeFile.{are_bytes};
 ghost use Rattle.sftp_tree.specs.declared.nodes.Node.TheVariants.{File, Link};
 ghost use Rattle.sftp_tree.specs.Tree as tree;
-ghost use Rattle.sftp_tree.specs.Changes as changes;
 ghost use Rattle.sftp_tree.specs.Requests as requests;
 ghost use Rattle.sftp_tree.specs.Asks.{asked};
+ghost use Rattle.sftp_tree.specs.Found.{IsThere, IsFoundIn};
 ghost use Rattle.sftp_tree.specs.Ends.{LeadTo, AreWell};
 ghost use Rattle.sftp_tree.specs.Refusals.{IsFree, IsRefusal};
 ghost use Rattle.sftp_tree.specs.Plans as spec;
@@ -14,10 +14,12 @@ use crate::asks::PathAsk;
 use crate::causes::Refused;
 use crate::ends::Places;
 use crate::file_numbers::FileNo;
+use crate::found::Found;
 use crate::nodes::Node;
 use crate::owners::changed_owner;
 use crate::trees::Tree;
 use sftp_path::{NoMemory, Place};
+use sftp_treefile::Owner;
 use sftp_wire::{Attrs, ByteString};
 
 /// What is to be done for a request that no cause refuses.
@@ -31,8 +33,10 @@ pub(crate) enum Plan<'a> {
     Remove(Place),
     /// Move the node at the first place, with all below it, to the second, and replace the node there.
     Move(Place, Place),
-    /// Set the attributes of the node at the place.
-    Set(Place, &'a Attrs),
+    /// Give the directory at the place the owner.
+    SetOwner(Place, Owner),
+    /// Set the attributes of the file of the number.
+    SetFile(FileNo, &'a Attrs),
 }
 
 impl Tree {
@@ -59,7 +63,7 @@ impl Tree {
     /// # Errors
     ///
     /// `NoMemory` if memory runs out.
-    fn plan_for<'a>(&self, ask: PathAsk<'a>, places: Places) -> Result<Plan<'a>, NoMemory>
+    fn plan_for<'a>(&self, ask: PathAsk<'a>, places: Places<'_>) -> Result<Plan<'a>, NoMemory>
         requires free { IsFree self.now (asked ask) }
         requires led { LeadTo self.now (asked ask) places }
         requires well { AreWell self.now places }
@@ -77,17 +81,19 @@ impl Tree {
     /// # Errors
     ///
     /// `NoMemory` if memory runs out.
-    fn plan_at<'a>(&self, ask: PathAsk<'a>, place: Place) -> Result<Plan<'a>, NoMemory>
-        ensures plan { IfOk result (spec.IsPlanAt self.now (asked ask.entry) place) }
+    fn plan_at<'a>(&self, ask: PathAsk<'a>, found: Found<'_>) -> Result<Plan<'a>, NoMemory>
+        requires { IsFoundIn self.now found }
+        ensures plan { IfOk result (spec.IsPlanAt self.now (asked ask.entry) found.entry.place) }
         ensures node { IfOk result (λ plan. spec.HasNode self.now (asked ask.entry)) }
     {
+        let Found { place, node } = found;
         Ok(match ask {
             PathAsk::Mkdir { attrs, .. } => {
                 Plan::Put(place, Node::Dir(self.directory_owner(attrs)))
             }
             PathAsk::Rmdir { .. } => Plan::Remove(place),
             PathAsk::Remove { .. } => Plan::Remove(place),
-            PathAsk::Setstat { attrs, .. } => Plan::Set(place, attrs),
+            PathAsk::Setstat { attrs, .. } => self.setting(place, &node, attrs),
             PathAsk::Symlink { target, .. } => Plan::Put(place, self.link_to(target)?),
             PathAsk::Stat { .. } => Plan::Nothing,
             PathAsk::Lstat { .. } => Plan::Nothing,
@@ -100,20 +106,22 @@ impl Tree {
     }
 
     /// The plan of a request at the two places that its paths lead to.
-    fn plan_between<'a>(&self, ask: PathAsk<'a>, old: Place, new: Place) -> Plan<'a>
-        requires { spec.IsFileAt self.now (asked ask) old }
-        ensures { spec.IsPlanBetween self.now (asked ask.entry) old new result }
+    fn plan_between<'a>(&self, ask: PathAsk<'a>, old: Found<'_>, new: Found<'_>) -> Plan<'a>
+        requires old { IsThere self.now.names old }
+        requires new { IsThere self.now.names new }
+        requires file { spec.IsFileAt self.now (asked ask) old.place }
+        ensures { spec.IsPlanBetween self.now (asked ask.entry) old.entry.place new.entry.place result }
     {
         match ask {
-            PathAsk::Rename { .. } => Plan::Move(old, new),
+            PathAsk::Rename { .. } => Plan::Move(old.place, new.place),
             PathAsk::PosixRename { .. } => {
                 if self.are_one(&old, &new) {
                     Plan::Nothing
                 } else {
-                    Plan::Move(old, new)
+                    Plan::Move(old.place, new.place)
                 }
             }
-            PathAsk::Hardlink { .. } => Plan::Put(new, Node::File(self.file_at(&old))),
+            PathAsk::Hardlink { .. } => Plan::Put(new.place, Node::File(file_of(old.node))),
             PathAsk::Mkdir { .. } => Plan::Nothing,
             PathAsk::Rmdir { .. } => Plan::Nothing,
             PathAsk::Remove { .. } => Plan::Nothing,
@@ -123,6 +131,22 @@ impl Tree {
             PathAsk::Realpath { .. } => Plan::Nothing,
             PathAsk::Readlink { .. } => Plan::Nothing,
             PathAsk::Symlink { .. } => Plan::Nothing,
+        }
+    }
+
+    /// What is to be done to set the attributes of what was found.
+    fn setting<'a>(&self, place: Place, node: &Option<&Node>, attrs: &'a Attrs) -> Plan<'a>
+        requires kept { tree.IsKept self.now }
+        requires there { option_copied node.now ≡ tree.node_at self.now.names place }
+        ensures { spec.IsSetting (tree.node_at self.now.names place) place attrs.now result }
+    {
+        let Some(standing) = node else {
+            return Plan::Nothing;
+        };
+        match standing {
+            Node::Dir(owner) => Plan::SetOwner(place, changed_owner(attrs, *owner)),
+            Node::File(number) => Plan::SetFile(*number, attrs),
+            Node::Link(_) => Plan::Nothing,
         }
     }
 
@@ -144,7 +168,11 @@ impl Tree {
                 Ok(())
             }
             Plan::Move(old, new) => self.move_to(&old, new),
-            Plan::Set(place, attrs) => self.set_attributes(&place, attrs),
+            Plan::SetOwner(place, owner) => {
+                self.set_owner(&place, owner);
+                Ok(())
+            }
+            Plan::SetFile(number, attrs) => self.change_file(number, attrs),
         }
     }
 
@@ -160,45 +188,17 @@ impl Tree {
         let target = ByteString::from_slice(self.home().allocator(), target)?;
         Ok(Node::Link(target))
     }
+}
 
-    /// The number of the file that a place is a name of.
-    fn file_at(&self, place: &Place) -> FileNo
-        requires { IsTrue (tree.is_file (tree.node_at self.now.names place.now)) }
-        ensures { tree.node_at self.now.names place.now ≡ Some (File result) }
-    {
-        match self.standing(place) {
-            Some(Node::File(number)) => *number,
-            Some(Node::Dir(_)) => unreachable!(),
-            Some(Node::Link(_)) => unreachable!(),
-            None => unreachable!(),
-        }
-    }
-
-    /// Sets the attributes of the node at a place.
-    ///
-    /// # Errors
-    ///
-    /// `NoMemory` if memory runs out; the tree is then as before.
-    fn set_attributes(&mut self, place: &Place, attrs: &Attrs) -> Result<(), NoMemory>
-        requires { IsTrue (tree.fits
-            (changes.with_attributes self.old attrs.now place.now (tree.node_at self.old.names place.now))) }
-        ensures ok { OnOk result
-            (self.new
-            ≡ tree.trim (changes.with_attributes self.old attrs.now place.now (tree.node_at self.old.names place.now))) }
-        ensures err { OnErr result (self.new ≡ self.old) }
-    {
-        match self.standing(place) {
-            Some(Node::Dir(owner)) => {
-                let owner = changed_owner(attrs, *owner);
-                self.set_owner(place, owner);
-                Ok(())
-            }
-            Some(Node::File(number)) => {
-                let number = *number;
-                self.change_file(number, attrs)
-            }
-            Some(Node::Link(_)) => Ok(()),
-            None => Ok(()),
-        }
+/// The number of the file that the node is a name of.
+fn file_of(node: Option<&Node>) -> FileNo
+    requires { IsTrue (tree.is_file (option_copied node)) }
+    ensures { option_copied node.entry ≡ Some (File result) }
+{
+    match node {
+        Some(Node::File(number)) => *number,
+        Some(Node::Dir(_)) => unreachable!(),
+        Some(Node::Link(_)) => unreachable!(),
+        None => unreachable!(),
     }
 }

@@ -1,24 +1,27 @@
 //! Whether what requests ask for keeps to the limits of the tree, in numbers.
-ghost use Rattle.std.specs.Prelude.{◌≡◌};
+ghost use Rattle.std.specs.Prelude.{◌≡◌, option_copied};
 ghost use Rattle.sftp_tree.specs.Asks.{asked};
+ghost use Rattle.sftp_tree.specs.Found.{IsThere};
 ghost use Rattle.sftp_tree.specs.Room as room;
 ghost use Rattle.sftp_tree.specs.Tree as tree;
 
 use crate::asks::PathAsk;
-use crate::found::is_file;
+use crate::found::{Found, is_file};
+use crate::nodes::Node;
 use crate::trees::Tree;
 use sftp_path::{DEPTH_LIMIT, Place};
 use sftp_wire::Attrs;
 
 impl Tree {
     /// Whether what a request asks for at a place keeps to the limits.
-    pub(crate) fn has_room_at(&self, ask: PathAsk<'_>, place: &Place) -> bool
-        ensures { result ≡ room.has_room_at self.now (asked ask.entry) place.now }
+    pub(crate) fn has_room_at(&self, ask: PathAsk<'_>, found: &Found<'_>) -> bool
+        requires { IsThere self.now.names found.now }
+        ensures { result ≡ room.has_room_at self.now (asked ask.entry) found.now.place }
     {
         match ask {
-            PathAsk::Mkdir { .. } => self.has_room(place),
-            PathAsk::Symlink { .. } => self.has_room(place),
-            PathAsk::Setstat { attrs, .. } => self.size_fits_at(attrs, place),
+            PathAsk::Mkdir { .. } => self.has_room(&found.place),
+            PathAsk::Symlink { .. } => self.has_room(&found.place),
+            PathAsk::Setstat { attrs, .. } => self.size_fits_of(attrs, found.node),
             PathAsk::Rmdir { .. } => true,
             PathAsk::Remove { .. } => true,
             PathAsk::Stat { .. } => true,
@@ -32,13 +35,22 @@ impl Tree {
     }
 
     /// Whether what a request asks for with two places keeps to the limits.
-    pub(crate) fn has_room_between(&self, ask: PathAsk<'_>, old: &Place, new: &Place) -> bool
-        ensures { result ≡ room.has_room_between self.now (asked ask.entry) old.now new.now }
+    pub(crate) fn has_room_between(
+        &self,
+        ask: PathAsk<'_>,
+        old: &Found<'_>,
+        new: &Found<'_>,
+    ) -> bool
+        requires old { IsThere self.now.names old.now }
+        requires new { IsThere self.now.names new.now }
+        ensures { result ≡ room.has_room_between self.now (asked ask.entry) old.now.place new.now.place }
     {
         match ask {
-            PathAsk::Rename { .. } => self.move_fits(old, new),
-            PathAsk::PosixRename { .. } => self.are_one(old, new) || self.move_fits(old, new),
-            PathAsk::Hardlink { .. } => self.has_room(new),
+            PathAsk::Rename { .. } => self.move_fits(&old.place, &new.place),
+            PathAsk::PosixRename { .. } => {
+                self.are_one(old, new) || self.move_fits(&old.place, &new.place)
+            }
+            PathAsk::Hardlink { .. } => self.has_room(&new.place),
             PathAsk::Mkdir { .. } => true,
             PathAsk::Rmdir { .. } => true,
             PathAsk::Remove { .. } => true,
@@ -76,12 +88,11 @@ impl Tree {
         }
     }
 
-    /// Whether a file at the place may have the size that is given, if one is. A node that is not a file keeps to the
+    /// Whether the node, if it is a file, may have the size that is given, if one is. Any other node keeps to the
     /// limits.
-    fn size_fits_at(&self, attrs: &Attrs, place: &Place) -> bool
-        ensures { result
-            ≡ room.size_fits_at (tree.limits self.now) attrs.now.size (tree.node_at self.now.names place.now) }
+    fn size_fits_of(&self, attrs: &Attrs, node: Option<&Node>) -> bool
+        ensures { result ≡ room.size_fits_at (tree.limits self.now) attrs.now.size (option_copied node.entry) }
     {
-        !is_file(self.standing(place)) || self.size_fits(attrs)
+        !is_file(node) || self.size_fits(attrs)
     }
 }

@@ -3,10 +3,12 @@ ghost use Rattle.std.specs.Prelude.{◌≡◌, [], if◌then◌else◌, IfOk, Is
 ghost use Rattle.std.specs.List.{list_all};
 ghost use Rattle.sftp_path.specs.Place.{is_step};
 ghost use Rattle.sftp_tree.specs.Walk as walks;
-ghost use Rattle.sftp_tree.specs.Walking.{meeting, StaysAtLink, IsPlaceOf};
+ghost use Rattle.sftp_tree.specs.Walking.{meeting, StaysAtLink, FindsEnd};
+ghost use Rattle.sftp_tree.specs.Found.{placed, IsFoundIn};
 
 use crate::causes::Cause;
 use crate::entries::Entries;
+use crate::found::Found;
 use crate::nodes::Node;
 use crate::route::Route;
 use crate::trees::Tree;
@@ -21,8 +23,8 @@ const LINK_LIMIT: usize = 40;
 pub(crate) enum Met<'a> {
     /// It goes on.
     Enters,
-    /// It ends.
-    Ends,
+    /// It ends, at this node or at a free place.
+    Ends(Option<&'a Node>),
     /// It leads nowhere.
     Fails(Cause),
     /// It goes on by this target.
@@ -46,6 +48,7 @@ fn meet<'a>(
     ensures meets { IfOk result
         (λ met. walks.meets names.now follow at.old component.now is_last ≡ meeting met at.new) }
     ensures stays { IfOk result (λ met. StaysAtLink met at.old at.new) }
+    ensures finds { IfOk result (λ met. FindsEnd names.now met at.new) }
 {
     if is_dot(component) {
         return Ok(Met::Enters);
@@ -55,16 +58,17 @@ fn meet<'a>(
         return Ok(Met::Enters);
     }
     at.enter_component(component)?;
-    Ok(match names.get(&*at) {
+    let node = names.get(&*at);
+    Ok(match node {
         Some(Node::Dir(_)) => Met::Enters,
-        Some(Node::File(_)) if is_last => Met::Ends,
+        Some(Node::File(_)) if is_last => Met::Ends(node),
         Some(Node::File(_)) => Met::Fails(Cause::NotDir),
-        Some(Node::Link(_)) if is_last && !follow => Met::Ends,
+        Some(Node::Link(_)) if is_last && !follow => Met::Ends(node),
         Some(Node::Link(target)) => {
             at.leave();
             Met::Through(target.as_slice())
         }
-        None if is_last => Met::Ends,
+        None if is_last => Met::Ends(None),
         None => Met::Fails(Cause::NoEntry),
     })
 }
@@ -79,21 +83,21 @@ fn go_to_start(at: &mut Place, target: &Parts<'_>)
 }
 
 impl Tree {
-    /// Where a path leads, or why it leads nowhere. A path that is not absolute follows the home's components; a last
-    /// link is followed if `follow` says so.
+    /// Where a path leads, and the node there, or why it leads nowhere. A path that is not absolute follows the home's
+    /// components; a last link is followed if `follow` says so.
     ///
     /// # Errors
     ///
     /// `NoMemory` if memory runs out.
-    pub(crate) fn reach(
-        &self,
-        home: &Place,
+    pub(crate) fn reach<'a>(
+        &'a self,
+        home: &'a Place,
         follow: bool,
-        path: &[u8],
-    ) -> Result<Result<Place, Cause>, NoMemory>
+        path: &'a [u8],
+    ) -> Result<Result<Found<'a>, Cause>, NoMemory>
         requires { home.now ≡ self.now.home }
-        ensures reached { IfOk result (λ reached. reached ≡ walks.reached self.now follow path.now) }
-        ensures place { IfOk result (λ reached. IfOk reached (IsPlaceOf self.now)) }
+        ensures reached { IfOk result (λ reached. placed reached ≡ walks.reached self.now follow path.now) }
+        ensures found { IfOk result (λ reached. IfOk reached (IsFoundIn self.now)) }
     {
         let Ok(parts) = components(path) else {
             return Ok(Err(Cause::BadPath));
@@ -103,7 +107,7 @@ impl Tree {
         self.follow_route(follow, route)
     }
 
-    /// The place to which a route leads from the root, or why it leads nowhere.
+    /// The place to which a route leads from the root, and the node there, or why it leads nowhere.
     ///
     /// # Errors
     ///
@@ -112,11 +116,11 @@ impl Tree {
         &'a self,
         follow: bool,
         mut route: Route<'a>,
-    ) -> Result<Result<Place, Cause>, NoMemory>
+    ) -> Result<Result<Found<'a>, Cause>, NoMemory>
         requires { IsTrue (list_all is_step route) }
         ensures reached { IfOk result
-            (λ reached. reached ≡ walks.walk self.now.names follow walks.link_limit [] route.entry) }
-        ensures place { IfOk result (λ reached. IfOk reached (IsPlaceOf self.now)) }
+            (λ reached. placed reached ≡ walks.walk self.now.names follow walks.link_limit [] route.entry) }
+        ensures found { IfOk result (λ reached. IfOk reached (IsFoundIn self.now)) }
     {
         let names = self.names();
         let mut at = Place::root(self.home().allocator());
@@ -124,7 +128,7 @@ impl Tree {
         while let Some(component) = route.next_component() {
             match meet(names, &mut at, component, route.is_done(), follow)? {
                 Met::Enters => {}
-                Met::Ends => return Ok(Ok(at)),
+                Met::Ends(node) => return Ok(Ok(Found { place: at, node })),
                 Met::Fails(cause) => return Ok(Err(cause)),
                 Met::Through(_) if links_left == 0 => return Ok(Err(Cause::Loop)),
                 Met::Through(target) => {
@@ -135,6 +139,7 @@ impl Tree {
                 }
             }
         }
-        Ok(Ok(at))
+        let node = names.get(&at);
+        Ok(Ok(Found { place: at, node }))
     }
 }

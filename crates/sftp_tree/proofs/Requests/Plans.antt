@@ -11,16 +11,16 @@ use Rattle.sftp_tree.specs.declared.nodes.Node.TheVariants as nodes
 use Rattle.sftp_tree.specs.declared.causes.Cause.{Cause}
 use Rattle.sftp_tree.specs.declared.causes.Cause.TheVariants.{NoEntry, NotDir, NotEmpty, Root}
 use Rattle.sftp_tree.specs.declared.plans.Plan.{Plan}
-use Rattle.sftp_tree.specs.declared.plans.Plan.TheVariants.{Nothing, Put, Remove as Take, Move, Set}
-use Rattle.sftp_tree.specs.Tree.{Tree, IsKept, IsNode, fits, node_at, is_taken, is_directory, is_file, is_link, has_entries, trim}
+use Rattle.sftp_tree.specs.declared.plans.Plan.TheVariants.{Nothing, Put, Remove as Take, Move, SetOwner, SetFile}
+use Rattle.sftp_tree.specs.Tree.{Tree, IsKept, IsNode, fits, node_at, content_at, is_taken, is_directory, is_file, is_link, has_entries, trim}
 use Rattle.sftp_tree.specs.Attributes.{directory_owner}
 use Rattle.sftp_tree.specs.Walking.{IsPlaceOf}
 use Rattle.sftp_tree.specs.Causes.{no_causes, when}
 use Rattle.sftp_tree.specs.PlaceCauses.{removing_causes, unlinking_causes, are_one, leaving_causes, giving_causes, exchanging_causes}
-use Rattle.sftp_tree.specs.Changes.{with_further_name, put_in_its_stead, with_attributes}
+use Rattle.sftp_tree.specs.Changes.{with_further_name, put_in_its_stead, with_attributes, with_changed_file}
 use Rattle.sftp_tree.specs.Requests.{causes_at, outcome_at, outcome_between, led, new_led, led_to, shown_at, shown_to, target_of, target_to, text_to}
 use Rattle.sftp_tree.specs.Refusals.{IsFree, stat_ask}
-use Rattle.sftp_tree.specs.Plans.{changed, IsReady, CanTake, HasNode, IsPlanned, IsPlanAt, IsNaming, IsPlanBetween, IsFileAt}
+use Rattle.sftp_tree.specs.Plans.{changed, IsReady, CanTake, HasNode, IsPlanned, IsPlanAt, IsSettingOf, IsSetting, IsNaming, IsPlanBetween, IsFileAt}
 use Rattle.sftp_tree.proofs.CauseLaws.Places.{FreeAt, FreeBetween, free-at, free-between, outcome-is}
 use Rattle.sftp_tree.proofs.CauseLaws.Limits.{free-place, file-place, name-place, link-place, taken-place, may-leave, may-replace, outside-of, given-below, free-alone}
 use Rattle.sftp_tree.proofs.WellFormedTrees.Places.{nothing-below}
@@ -69,14 +69,31 @@ done-put t place it plan well free is_node room is =
     subst (IsDone t (changed t (Put place it))) (sym is)
     (record { ready = record { absent = free; named = well.named; above = well.above; is_node = is_node; room = room }; done = refl })
 
-done-set : (t : Tree) (attrs : Attrs) (place : Place) (path : List ℕ) (plan : Plan) → IsTrue (fits (outcome_at t (Setstat path attrs) place)) → IsPlanAt t (Setstat path attrs) place plan → IsDone t (outcome_at t (Setstat path attrs) place) plan
-done-set t attrs place path (Set at given) room is =
-    let same : changed t (Set at given) ≡ outcome_at t (Setstat path attrs) place = λ i. outcome_at t (Setstat path (is.1 i)) (is.0 i) in
+-- of a file
+done-set-file : (t : Tree) (attrs : Attrs) (number : ℕ) (plan : Plan)
+    → IsTrue (fits (with_changed_file t attrs number (content_at t.files number))) → IsSettingOf number attrs plan
+    → IsDone t (with_changed_file t attrs number (content_at t.files number)) plan
+done-set-file t attrs number (SetFile n given) room is =
+    let same : changed t (SetFile n given) ≡ with_changed_file t attrs number (content_at t.files number) =
+    λ i. with_changed_file t (is.1 i) (is.0 i) (content_at t.files (is.0 i)) in
     record { ready = ap fits same ∙ room; done = same }
-done-set t attrs place path Nothing room is = absurd is
-done-set t attrs place path (Put at node) room is = absurd is
-done-set t attrs place path (Take at) room is = absurd is
-done-set t attrs place path (Move old new) room is = absurd is
+done-set-file t attrs number Nothing room is = absurd is
+done-set-file t attrs number (Put at node) room is = absurd is
+done-set-file t attrs number (Take at) room is = absurd is
+done-set-file t attrs number (Move old new) room is = absurd is
+done-set-file t attrs number (SetOwner at owner) room is = absurd is
+
+done-set : (t : Tree) (attrs : Attrs) (place : Place) (found : Option Node) (plan : Plan) → IsKept t
+    → node_at t.names place ≡ found → IsTrue (fits (with_attributes t attrs place found))
+    → IsSetting found place attrs plan → IsDone t (with_attributes t attrs place found) plan
+done-set t attrs place None plan kept there room is =
+    subst (IsDone t t) (sym is) (record { ready = kept.trimmed; done = refl })
+done-set t attrs place (Some (nodes.Dir owner)) plan kept there room is =
+    subst (IsDone t (with_attributes t attrs place (Some (nodes.Dir owner)))) (sym is.0)
+    (record { ready = record { directory = ap is_directory there; is_owner = is.1 }; done = refl })
+done-set t attrs place (Some (nodes.File number)) plan kept there room is = done-set-file t attrs number plan room is
+done-set t attrs place (Some (nodes.Link target)) plan kept there room is =
+    subst (IsDone t t) (sym is) (record { ready = kept.trimmed; done = refl })
 
 pub done-at : (t : Tree) (ask : Ask) (place : Place) (plan : Plan) → IsPlaceOf t place → FreeAt t ask place → HasNode t ask → IsPlanAt t ask place plan → IsDone t (outcome_at t ask place) plan
 done-at t (Mkdir path attrs) place plan well free good is =
@@ -87,7 +104,8 @@ done-at t (Rmdir path) place plan well free good is =
     subst (IsDone t (outcome_at t (Rmdir path) place)) (sym is) (record { ready = can-remove-directory t place free.none; done = refl })
 done-at t (Remove path) place plan well free good is =
     subst (IsDone t (outcome_at t (Remove path) place)) (sym is) (record { ready = can-remove-name t place well.kept free.none; done = refl })
-done-at t (Setstat path attrs) place plan well free good is = done-set t attrs place path plan free.room is
+done-at t (Setstat path attrs) place plan well free good is =
+    done-set t attrs place (node_at t.names place) plan well.kept refl free.room is
 done-at t other place plan well free good is = subst (IsDone t t) (sym is) (record { ready = well.kept.trimmed; done = refl })
 
 -- ---- with the two places that both paths lead to
@@ -198,7 +216,3 @@ link-told t path given place goal leads there is =
 pub path-told : (t : Tree) (path text : List ℕ) (place : Place) → led t (Realpath path) ≡ Some (Ok place) → text ≡ absolute place → text_to t (Realpath path) ≡ Some text
 unfolding text_to
 path-told t path text place leads is = ap (λ o. led_to None o (λ place. Some (absolute place))) leads ∙ ap Some (sym is)
-
--- where nothing has attributes that can be set, the tree stays
-pub unchanged : (t : Tree) (attrs : Attrs) (place : Place) (found : Option Node) → IsKept t → node_at t.names place ≡ found → with_attributes t attrs place found ≡ t → t ≡ trim (with_attributes t attrs place (node_at t.names place))
-unchanged t attrs place found kept there same = sym (ap (λ o. trim (with_attributes t attrs place o)) there ∙ ap trim same ∙ trimmed-already t kept.trimmed)

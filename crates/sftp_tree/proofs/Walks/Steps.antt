@@ -1,13 +1,14 @@
 -- Walks, component by component.
-use Rattle.std.proofs.Common.{◌≡◌, ℕ, zero, suc, ◌<◌, Bool, true, false, if◌then◌else◌, List, [], ◌∷◌, ◌++◌, refl, sym, ◌∙◌, ap, subst, Result, Ok, Err, Bor, arith}
+use Rattle.std.proofs.Common.{◌≡◌, ℕ, zero, suc, ◌<◌, Bool, true, false, if◌then◌else◌, List, [], ◌∷◌, ◌++◌, refl, sym, ◌∙◌, ap, subst, Option, option_copied, Result, Ok, Err, Bor, arith}
 use Rattle.sftp_path.specs.Place.{Name, Place, components, is_absolute, is_good_path}
 use Rattle.sftp_tree.specs.declared.causes.Cause.{Cause}
 use Rattle.sftp_tree.specs.declared.causes.Cause.TheVariants.{BadPath, Loop}
 use Rattle.sftp_tree.specs.declared.walking.Met.{Met}
-use Rattle.sftp_tree.specs.declared.walking.Met.TheVariants.{Through}
-use Rattle.sftp_tree.specs.Tree.{Names, Tree}
+use Rattle.sftp_tree.specs.declared.walking.Met.TheVariants.{Ends, Through}
+use Rattle.sftp_tree.specs.declared.nodes.Node.{Node}
+use Rattle.sftp_tree.specs.Tree.{Names, Tree, node_at}
 use Rattle.sftp_tree.specs.Walk.{Meeting, is_last, start_of, going_on, meets, walk_parts, walk, looked_parts, looked, link_limit, steps_of, reached}
-use Rattle.sftp_tree.specs.Walking.{meeting, StaysAtLink}
+use Rattle.sftp_tree.specs.Walking.{meeting, StaysAtLink, FindsEnd}
 
 -- ---- the place
 
@@ -81,6 +82,10 @@ looked_behind-some names follow left left' at at' target rest rest' some starts 
 -- where the walk is at a link
 pub stays : (met : Met) (target : Bor (List ℕ)) (before after : Place) → StaysAtLink met before after → met ≡ Through target → after ≡ before
 stays met target before after at_link is = subst (λ m. StaysAtLink m before after) is at_link
+
+-- what the walk finds where it ends
+pub finds : (names : Names) (met : Met) (standing : Option (Bor Node)) (at : Place) → FindsEnd names met at → met ≡ Ends standing → option_copied standing ≡ node_at names at
+finds names met standing at found is = subst (λ m. FindsEnd names m at) is found
 
 pub below : (a b : ℕ) → b ≡ suc a → a < b
 below a b e = omega arith

@@ -1,7 +1,8 @@
 use Rattle.sftp_tree.specs.Asks.{asked}
+use Rattle.sftp_tree.specs.Found.{placed}
 use Rattle.sftp_tree.proofs.CauseLaws.Places.{led-is}
 use Rattle.sftp_tree.proofs.trees.Tree.ends.Goals as goal
 
 pub returns-clause-old : goal.returns-clause-old
 returns-clause-old c =
-    led-is c.args.self.now (asked c.args.ask) c.follows.result c.path.result.now c.in_ok-old.old c.path.ensures c.follows.ensures c.in_ok-old.ensures.reached
+    led-is c.args.self.now (asked c.args.ask) c.follows.result c.path.result.now (placed c.in_ok-old.old) c.path.ensures c.follows.ensures c.in_ok-old.ensures.reached

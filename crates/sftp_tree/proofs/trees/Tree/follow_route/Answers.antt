@@ -5,7 +5,8 @@ use Rattle.sftp_path.specs.Place.{is_step, components}
 use Rattle.sftp_path.specs.Split.{Split}
 use Rattle.sftp_tree.specs.Walk.{walk, start_of, meets, is_last, through}
 use Rattle.sftp_tree.specs.Walking.{meeting}
-use Rattle.sftp_tree.proofs.Walks.Steps.{walk-turn, looked-turn, walk-nil, behind_link-none, behind_link-some, looked_behind-some, stays, below}
+use Rattle.sftp_tree.specs.Tree.{node_at}
+use Rattle.sftp_tree.proofs.Walks.Steps.{walk-turn, looked-turn, walk-nil, behind_link-none, behind_link-some, looked_behind-some, stays, finds, below}
 use Rattle.sftp_tree.proofs.Walks.Meetings.{steps-behind, through-link}
 use Rattle.sftp_tree.proofs.Walks.Places.{place-of}
 use Rattle.sftp_tree.proofs.trees.Tree.follow_route.Goals as goal
@@ -32,15 +33,23 @@ pub returns-clause-reached : goal.returns-clause-reached
 returns-clause-reached c =
     sym (c.loop-component.invariant.same ∙ ap (walk c.args.self.now.names c.args.follow c.loop-component.links_left c.loop-component.at) c.in_default.ensures.0 ∙ walk-nil c.args.self.now.names c.args.follow c.loop-component.links_left c.loop-component.at)
 
-pub returns-in-Ends-clause-place : goal.returns-in-Ends-clause-place
-returns-in-Ends-clause-place c =
+pub returns-in-Ends-clause-found : goal.returns-in-Ends-clause-found
+returns-in-Ends-clause-found c =
     let answer = sym (walk-turn c.args.self.now.names c.names-names.result.now c.args.follow c.loop-component.links_left c.loop-component.at c.meet.new.at c.loop-component.route c.in-Some.component.now c.next_component.new.self c.is_done.result c.in_ok-meet.field-0 _ _ c.names-names.ensures.names c.loop-component.invariant.same c.in-Some.ensures c.is_done.ensures c.in_ok-meet.ensures.meets c.in-Ends.is) in
-    place-of c.args.self.now c.args.follow c.args.route c.meet.new.at c.names-names.ensures.kept c.requires answer
+    record {
+      place = place-of c.args.self.now c.args.follow c.args.route c.meet.new.at c.names-names.ensures.kept c.requires answer;
+      node =
+          finds c.names-names.result.now c.in_ok-meet.field-0 c.in-Ends.node c.meet.new.at c.in_ok-meet.ensures.finds c.in-Ends.is
+          ∙ ap (λ names. node_at names c.meet.new.at) c.names-names.ensures.names;
+    }
 
-pub returns-clause-place : goal.returns-clause-place
-returns-clause-place c =
+pub returns-clause-found : goal.returns-clause-found
+returns-clause-found c =
     let answer = sym (c.loop-component.invariant.same ∙ ap (walk c.args.self.now.names c.args.follow c.loop-component.links_left c.loop-component.at) c.in_default.ensures.0 ∙ walk-nil c.args.self.now.names c.args.follow c.loop-component.links_left c.loop-component.at) in
-    place-of c.args.self.now c.args.follow c.args.route c.loop-component.at c.names-names.ensures.kept c.requires answer
+    record {
+      place = place-of c.args.self.now c.args.follow c.args.route c.loop-component.at c.names-names.ensures.kept c.requires answer;
+      node = c.get-node.ensures ∙ ap (λ names. node_at names c.loop-component.at) c.names-names.ensures.names;
+    }
 
 pub returns-in-Through-clause-reached : goal.returns-in-Through-clause-reached
 returns-in-Through-clause-reached c =

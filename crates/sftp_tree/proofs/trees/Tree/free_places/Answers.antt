@@ -4,7 +4,9 @@ use Rattle.sftp_tree.specs.declared.causes.Refused.TheVariants as refusals
 use Rattle.sftp_tree.specs.Causes.{CauseSet}
 use Rattle.sftp_tree.specs.Asks.{asked}
 use Rattle.sftp_tree.specs.Refusals.{IsRefusal}
+use Rattle.sftp_tree.specs.Found.{placed, new_placed}
 use Rattle.sftp_tree.proofs.CauseLaws.Places.{exit, own-holds, lost-holds}
+use Rattle.sftp_tree.proofs.Walks.Ends.{lost-placed}
 use Rattle.sftp_tree.proofs.trees.Tree.free_places.Goals as goal
 
 pub returns-in_err-refuse-clause-refused : goal.returns-in_err-refuse-clause-refused
@@ -17,4 +19,5 @@ pub returns-in_err-places-clause-refused : goal.returns-in_err-places-clause-ref
 returns-in_err-places-clause-refused c =
     let cause = c.in_err-places.field-0.0 in
     exit _ (λ (refused : Refused). IsRefusal c.args.self.now (asked c.args.ask) refused) (refusals.Cause cause) c.from_residual-in_err-places.ensures.1
-    (lost-holds c.args.self.now (asked c.args.ask) c.in_ok-ends.ends.old c.in_ok-ends.ends.new cause c.in_ok-ends.ensures.old c.in_ok-ends.ensures.new c.in_err-places.ensures.lost)
+    (lost-holds c.args.self.now (asked c.args.ask) (placed c.in_ok-ends.ends.old) (new_placed c.in_ok-ends.ends.new) cause c.in_ok-ends.ensures.old c.in_ok-ends.ensures.new
+    (lost-placed c.in_ok-ends.ends.old c.in_ok-ends.ends.new cause c.in_err-places.ensures.lost))

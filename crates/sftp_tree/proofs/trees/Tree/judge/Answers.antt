@@ -1,13 +1,14 @@
-use Rattle.std.proofs.Common.{◌≡◌, ◌&&◌, not, sym, subst, ap, ◌∙◌, Ok, IfOk}
+use Rattle.std.proofs.Common.{◌≡◌, ◌&&◌, not, sym, ap, ◌∙◌, Ok}
 use Rattle.std.specs.List.{list_any}
 use Rattle.sftp_path.specs.Place.{Place}
 use Rattle.sftp_tree.specs.Tree.{IsKept}
 use Rattle.sftp_tree.specs.Causes.{every_cause}
 use Rattle.sftp_tree.specs.Room.{has_room_for}
-use Rattle.sftp_tree.specs.Walking.{IsPlaceOf}
+use Rattle.sftp_tree.specs.Found.{placed, new_placed}
 use Rattle.sftp_tree.specs.Asks.{asked}
 use Rattle.sftp_tree.specs.Refusals.{in_set}
 use Rattle.sftp_tree.proofs.CauseLaws.Limits.{judged}
+use Rattle.sftp_tree.proofs.Walks.Ends.{end-kept}
 use Rattle.sftp_tree.proofs.trees.Tree.judge.Goals as goal
 use Rattle.sftp_tree.proofs.trees.Tree.judge.Goals.{then-not-has_any, else-not-has_any}
 
@@ -15,12 +16,12 @@ pub returns : goal.returns
 returns c =
     let t = c.args.self.now in
     let ask = asked c.args.ask in
-    let end = c.args.ends.now.old in
-    let new = c.args.ends.now.new in
+    let end = placed c.args.ends.now.old in
+    let new = new_placed c.args.ends.now.new in
     let room = has_room_for t ask end new in
     let lacks : c.if-not-has_any.lacks ≡ (not (list_any (in_set c.plain_causes-plain.result) every_cause) && not room) = elim c.if-not-has_any.branch [
       | then-not-has_any w ↦ w.lacks-is ∙ ap not w.has_room_for.ensures ∙ sym (ap (λ b. b && not room) (ap not (sym c.has_any.ensures ∙ w.if-not-has_any.true)))
       | else-not-has_any w ↦ w.lacks-is ∙ ap not w.if-not-has_any.false ∙ sym (ap (λ b. b && not room) (ap not (sym c.has_any.ensures ∙ w.if-not-has_any.false)))
     ] in
-    let keeps : (place : Place) → end ≡ Ok place → IsKept t = λ place is. (let it : IsPlaceOf t place = subst (λ e. IfOk e (IsPlaceOf t)) is c.requires.well.0 in it.kept) in
+    let keeps : (place : Place) → end ≡ Ok place → IsKept t = λ place is. end-kept t c.args.ends.now.old place c.requires.well.0 is in
     c.when.ensures ∙ judged t ask end new (in_set c.plain_causes-plain.result) c.if-not-has_any.lacks c.requires.old c.requires.new keeps c.plain_causes-plain.ensures lacks

@@ -1,31 +1,30 @@
-use Rattle.std.proofs.Common.{◌≡◌, sym, subst, ap, ◌∙◌, Some, Ok, IfSome}
-use Rattle.sftp_tree.specs.Walking.{IsPlaceOf}
+use Rattle.std.proofs.Common.{subst, ap, ◌∙◌, IfSome}
+use Rattle.sftp_tree.specs.Found.{IsFoundIn, new_placed}
 use Rattle.sftp_tree.specs.Asks.{asked}
-use Rattle.sftp_tree.specs.Requests.{new_led}
 use Rattle.sftp_tree.specs.Ends.{ok_where}
 use Rattle.sftp_tree.specs.Plans.{IsPlanAt, IsPlanned, HasNode}
 use Rattle.sftp_tree.proofs.CauseLaws.Places.{free-between}
 use Rattle.sftp_tree.proofs.Requests.Plans.{file-at, planned-at, planned-between, if-ok-both}
 use Rattle.sftp_tree.proofs.trees.Tree.plan_for.Goals as goal
 
-pub plan_between-requires : goal.plan_between-requires
-plan_between-requires c =
+pub plan_between-requires-clause-file : goal.plan_between-requires-clause-file
+plan_between-requires-clause-file c =
     let t = c.args.self.now in
     let ask = asked c.args.ask in
-    file-at t ask c.args.places.old c.in-Some.new (free-between t ask c.args.places.old c.in-Some.new c.requires.free c.requires.led.first (c.requires.led.second ∙ ap ok_where c.in-Some.is))
+    file-at t ask c.args.places.old.place c.in-Some.new.place (free-between t ask c.args.places.old.place c.in-Some.new.place c.requires.free c.requires.led.first (c.requires.led.second ∙ ap (λ o. new_placed (ok_where o)) c.in-Some.is))
 
 pub returns-in-None : goal.returns-in-None
 returns-in-None c =
     let t = c.args.self.now in
     let ask = asked c.args.ask in
-    let place = c.args.places.old in
+    let place = c.args.places.old.place in
     if-ok-both c.plan_at.result (IsPlanAt t ask place) (λ plan. HasNode t ask) (IsPlanned t ask)
-    (λ plan is good. planned-at t ask place plan c.requires.free c.requires.led.first (c.requires.led.second ∙ ap ok_where c.in-None.is) c.requires.well.0 good is)
+    (λ plan is good. planned-at t ask place plan c.requires.free c.requires.led.first (c.requires.led.second ∙ ap (λ o. new_placed (ok_where o)) c.in-None.is) c.requires.well.0.place good is)
     c.plan_at.ensures.plan c.plan_at.ensures.node
 
 pub returns-in-Some : goal.returns-in-Some
 returns-in-Some c =
     let t = c.args.self.now in
     let ask = asked c.args.ask in
-    let well : IsPlaceOf t c.in-Some.new = subst (λ o. IfSome o (IsPlaceOf t)) c.in-Some.is c.requires.well.1 in
-    planned-between t ask c.args.places.old c.in-Some.new c.plan_between.result c.requires.free c.requires.led.first (c.requires.led.second ∙ ap ok_where c.in-Some.is) well c.plan_between.ensures
+    let well : IsFoundIn t c.in-Some.new = subst (λ o. IfSome o (IsFoundIn t)) c.in-Some.is c.requires.well.1 in
+    planned-between t ask c.args.places.old.place c.in-Some.new.place c.plan_between.result c.requires.free c.requires.led.first (c.requires.led.second ∙ ap (λ o. new_placed (ok_where o)) c.in-Some.is) well.place c.plan_between.ensures

@@ -4,6 +4,7 @@ use Rattle.sftp_path.specs.Place.{is_step, is_absolute, are_names, components}
 use Rattle.sftp_path.specs.Split.{Split}
 use Rattle.sftp_path.proofs.PathTexts.GoodPaths.{list_all-octets}
 use Rattle.sftp_tree.specs.Walk.{walk, link_limit, steps_of}
+use Rattle.sftp_tree.specs.Found.{placed}
 use Rattle.sftp_tree.proofs.Walks.Steps.{reached-good, reached-bad, steps-absolute, steps-relative}
 use Rattle.sftp_tree.proofs.Walks.Places.{steps-from}
 use Rattle.sftp_tree.proofs.trees.Tree.reach.Goals as goal
@@ -38,4 +39,4 @@ follow_route-requires c =
 
 pub returns-clause-reached : goal.returns-clause-reached
 returns-clause-reached c =
-    subst (λ w. IfOk c.follow_route.result (λ r. r ≡ w)) (ap (walk c.args.self.now.names c.args.follow link_limit []) (route c) ∙ sym (reached-good c.args.self.now c.args.follow c.args.path.now c.in-Ok.ensures.good)) c.follow_route.ensures.reached
+    subst (λ w. IfOk c.follow_route.result (λ r. placed r ≡ w)) (ap (walk c.args.self.now.names c.args.follow link_limit []) (route c) ∙ sym (reached-good c.args.self.now c.args.follow c.args.path.now c.in-Ok.ensures.good)) c.follow_route.ensures.reached

@@ -4,4 +4,4 @@ use Rattle.sftp_tree.proofs.trees.Tree.shown_at.Goals as goal
 
 pub shown-requires : goal.shown-requires
 shown-requires c =
-    node-kept c.args.self.now c.args.place.now c.in-Some.node.now c.standing.ensures.kept (sym c.standing.ensures.there ∙ ap option_copied c.in-Some.is)
+    node-kept c.args.self.now c.args.found.now.place c.in-Some.node.now c.requires.kept (sym c.requires.there ∙ ap option_copied c.in-Some.is)

@@ -1,0 +1,119 @@
+//! The directories from the root to where a walk stands.
+ghost use Rattle.std.specs.Prelude.{◌≡◌, ◌++◌, [], ◌∷◌, Some, OnOk, OnErr};
+ghost use Rattle.sftp_path.specs.Place.{parent};
+ghost use Rattle.sftp_tree.specs.Trail.{IsAt, IsLentAt};
+
+use super::directories::{Child, Dir};
+use super::seen::Seen;
+use sftp_path::{Name, NoMemory, Place};
+use std::alloc::Global;
+use std::marker::Model;
+
+/// Where a walk stands, with the directories that lead there.
+#[derive(Drop)]
+pub(crate) struct Trail<'a> {
+    /// The directories above, the root first.
+    above: Vec<&'a Dir>,
+    /// The directory where it stands.
+    here: &'a Dir,
+    /// The place of that directory.
+    at: Place,
+}
+
+impl<'a> Model for Trail<'a> {
+    ghost use Rattle.sftp_tree.specs.Trail.{Standing, root_of, AreAlong};
+
+    ghost Value = { Standing };
+
+    ghost view = { λ trail. record { names = (root_of trail.above.items trail.here).now; at = trail.at } };
+
+    ghost invariant = { λ trail. AreAlong trail.above.items trail.at trail.here };
+}
+
+impl<'a> Trail<'a> {
+    /// A walk that stands at the root. It takes no memory.
+    pub(crate) fn new(alloc: Global, root: &'a Dir) -> Trail<'a>
+        ensures { result ≡ record { names = root.now; at = [] } }
+    {
+        Trail {
+            above: Vec::new(alloc),
+            here: root,
+            at: Place::root(alloc),
+        }
+    }
+
+    /// The directory where it stands.
+    pub(crate) fn here(&self) -> Seen<'a>
+        ensures { IsLentAt self.now.names self.now.at (Some result) }
+    {
+        Seen::Dir(self.here.owner(), self.here)
+    }
+
+    /// What stands there at a name.
+    pub(crate) fn find(&self, name: &Name) -> Option<Seen<'a>>
+        ensures { IsLentAt self.now.names (self.now.at ++ name.now ∷ []) result }
+    {
+        match self.here.child(name) {
+            Some(Child::Dir(dir)) => Some(Seen::Dir(dir.owner(), dir)),
+            Some(Child::File(number)) => Some(Seen::File(*number)),
+            Some(Child::Link(target)) => Some(Seen::Link(target.as_slice())),
+            None => None,
+        }
+    }
+
+    /// What allocates the place.
+    pub(crate) fn allocator(&self) -> Global {
+        self.at.allocator()
+    }
+
+    /// Goes down to the directory there at a name.
+    ///
+    /// # Errors
+    ///
+    /// `NoMemory` if memory runs out; it stands where it did.
+    pub(crate) fn enter(&mut self, name: Name, dir: &'a Dir) -> Result<(), NoMemory>
+        requires { IsAt self.old.names (self.old.at ++ name ∷ []) dir.now }
+        ensures ok { OnOk result (self.new ≡ record self.old { at = self.old.at ++ name ∷ [] }) }
+        ensures err { OnErr result (self.new ≡ self.old) }
+    {
+        self.at.enter(name)?;
+        match self.above.push(self.here) {
+            Ok(()) => {
+                self.here = dir;
+                Ok(())
+            }
+            Err(_) => {
+                self.at.leave();
+                Err(NoMemory)
+            }
+        }
+    }
+
+    /// Goes up to the parent, which for the root is the root.
+    pub(crate) fn leave(&mut self)
+        ensures { self.new ≡ record self.old { at = parent self.old.at } }
+    {
+        if let Some(dir) = self.above.pop() {
+            self.here = dir;
+            self.at.leave();
+        }
+    }
+
+    /// Goes up to the root.
+    pub(crate) fn go_to_root(&mut self)
+        ensures { self.new ≡ record self.old { at = [] } }
+    {
+        if let Some(root) = self.above.as_slice().first() {
+            self.here = *root;
+        }
+        self.above.clear();
+        self.at = Place::root(self.at.allocator());
+    }
+
+    /// The place where it stands.
+    pub(crate) fn into_place(self) -> Place
+        ensures { result ≡ self.entry.at }
+    {
+        self.at
+    }
+}
