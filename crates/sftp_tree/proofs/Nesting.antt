@@ -1,5 +1,6 @@
 -- Nested directories and the tables of places that they are seen as.
 pub mod Tables
+pub mod Growth
 pub mod Changes
 pub mod Moves
 pub mod Entries

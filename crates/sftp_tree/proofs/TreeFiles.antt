@@ -8,4 +8,6 @@ pub mod Again
 pub mod Stores
 pub mod Files
 pub mod Written
+pub mod Branches
+pub mod Growing
 pub mod Examples

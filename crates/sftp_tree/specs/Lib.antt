@@ -15,6 +15,8 @@ pub mod Refusals
 pub mod Asks
 pub mod Picture
 pub mod PictureParts
+pub mod Written
+pub mod Growth
 pub mod PictureExamples
 pub mod Room
 pub mod Found

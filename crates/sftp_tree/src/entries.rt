@@ -14,6 +14,7 @@ mod below;
 mod changes;
 mod children;
 pub(crate) mod directories;
+pub(crate) mod growing;
 pub(crate) mod lookup;
 mod moves;
 mod moving;

@@ -3,8 +3,10 @@ ghost use Rattle.std.specs.Prelude.{◌≡◌, IfOk};
 ghost use Rattle.sftp_tree.specs.Tree.{Tree as tree};
 ghost use Rattle.sftp_tree.specs.Picture.{IsStart, GivesTree, picture, blank};
 
+mod branches;
 mod measuring;
 mod reading;
+mod rows;
 mod writing;
 
 use crate::entries::Entries;

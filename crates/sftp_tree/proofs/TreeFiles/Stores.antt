@@ -241,7 +241,7 @@ later_absent (e ∷ es) place later =
     let differ : is_eq (place_cmp place e.0) ≡ false = ap is_eq (place_cmp-total.antisymm place e.0 ∙ ap ordering_reverse later.0) in
     get-cons place_cmp e es place ∙ ap (λ b. cond b (Some e.1) (node_at es place)) differ ∙ later_absent es place later.1
 
-keys_before : (root : Owner) (rows : List Row) (row : Row) → IsNext usual_limits rows row → AllByRecursion (λ q. place_cmp q (place_of row.path) ≡ Less) (keys_of (names_of root rows))
+pub keys_before : (root : Owner) (rows : List Row) (row : Row) → IsNext usual_limits rows row → AllByRecursion (λ q. place_cmp q (place_of row.path) ≡ Less) (keys_of (names_of root rows))
 keys_before root rows row next =
     let keys : keys_of (bare_names root rows) ≡ keys_of (names_of root rows) = ap keys_of (sym (names_bare root rows)) ∙ keys_of-map_values bare (names_of root rows) in
     subst (λ (ks : List Place). AllByRecursion (λ q. place_cmp q (place_of row.path) ≡ Less) ks) keys (later_than_all root rows row next)

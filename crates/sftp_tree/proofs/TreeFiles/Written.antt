@@ -141,10 +141,10 @@ node_met firsts entry (Dir owner) k = then_same (get nat_cmp firsts k) false ent
 node_met firsts entry (File number) k = first_met firsts entry number k (get nat_cmp firsts number) refl
 node_met firsts entry (Link target) k = then_same (get nat_cmp firsts k) false entry refl
 
-firsts_push : (firsts : Firsts) (front : Names) (e : Place × Node) → AreFirsts firsts front → AreFirsts (firsts_with firsts (length front) e.1) (front ++ e ∷ [])
+pub firsts_push : (firsts : Firsts) (front : Names) (e : Place × Node) → AreFirsts firsts front → AreFirsts (firsts_with firsts (length front) e.1) (front ++ e ∷ [])
 firsts_push firsts front e are = λ k. node_met firsts (length front) e.1 k ∙ ap (λ (o : Option ℕ). then_naming o (names_file k e.1) (length front)) (are k) ∙ sym (naming_push k front e)
 
-known : (files : Files) (firsts : Firsts) (front : Names) (standing : Node) → AreFirsts firsts front → known_kind files firsts standing ≡ kind_of files front standing
+pub known : (files : Files) (firsts : Firsts) (front : Names) (standing : Node) → AreFirsts firsts front → known_kind files firsts standing ≡ kind_of files front standing
 known files firsts front (Dir owner) are = refl
 known files firsts front (File number) are = ap (λ (o : Option ℕ). naming o (content_at files number)) (are number)
 known files firsts front (Link target) are = refl

@@ -7,6 +7,8 @@ ghost use Rattle.sftp_tree.specs.Tree as tree;
 ghost use Rattle.sftp_tree.specs.PictureParts.{only_root};
 ghost use Rattle.sftp_tree.specs.Nesting.{branch_of, flat, IsBranch, AreChildren};
 
+mod appending;
+
 use crate::file_numbers::FileNo;
 use sftp_path::Name;
 use sftp_treefile::Owner;

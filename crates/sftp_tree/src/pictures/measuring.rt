@@ -1,5 +1,6 @@
 //! How many bytes a tree file takes at most, computed before memory is requested. A count that does not fit is the
 //! largest `usize`.
+use crate::entries::directories::{Child, Dir};
 use crate::nodes::Node;
 use crate::trees::Tree;
 use sftp_path::Place;
@@ -44,4 +45,41 @@ pub(super) fn file_size(tree: &Tree) -> usize {
             .saturating_add(node_size(node));
     }
     size
+}
+
+/// The size of the entries of a child, whose place has a text of so many bytes, and of all below it, without the bytes
+/// of files.
+#[cycle(measuring)]
+fn child_size(child: &Child, path: usize) -> usize {
+    let size = path.saturating_add(LENGTH);
+    match child {
+        Child::Dir(dir) => size
+            .saturating_add(OWNED)
+            .saturating_add(size_below(dir, path)),
+        Child::File(_) => size.saturating_add(OWNED + LENGTH),
+        Child::Link(target) => size
+            .saturating_add(1 + LENGTH)
+            .saturating_add(target.as_slice().len()),
+    }
+}
+
+/// The size of the entries below a directory, whose place has a text of so many bytes, without the bytes of files. The
+/// text of the root is empty here.
+#[cycle(measuring)]
+fn size_below(dir: &Dir, path: usize) -> usize {
+    let mut size: usize = 0;
+    for (name, child) in dir.children() {
+        let path = path.saturating_add(1).saturating_add(name.as_slice().len());
+        size = size.saturating_add(child_size(child, path));
+    }
+    size
+}
+
+/// How many bytes the tree file takes, at most. The directory is the tree's root.
+pub(super) fn nested_size(tree: &Tree, root: &Dir) -> usize {
+    tree.files()
+        .size()
+        .saturating_add(HEAD)
+        .saturating_add(path_size(tree.home()))
+        .saturating_add(size_below(root, 0))
 }

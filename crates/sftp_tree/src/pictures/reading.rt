@@ -27,7 +27,7 @@ fn place_of(alloc: Global, text: &[u8]) -> Result<Place, NoMemory>
 
 /// The node of an entry. A file that comes with the entry is added to `files`, and a further name is counted. `numbers`
 /// has for each entry before it the number of its file, if it comes with one.
-fn node_of(
+pub(super) fn node_of(
     files: &mut Files,
     numbers: &[FileNo],
     next: FileNo,

@@ -60,7 +60,7 @@ fn put_front(out: &mut Vec<u8>, tree: &Tree) -> Result<(), NoMemory>
 
 /// Appends the entry of a name of a file. The first one comes with the file, and is remembered with its number.
 #[tactic(auto, unfolding(sftp_path::specs::Table::get, sftp_path::specs::Table::put))]
-fn put_name(
+pub(super) fn put_name(
     out: &mut Vec<u8>,
     firsts: &mut BTreeMap<FileNo, u32>,
     tree: &Tree,

@@ -1,0 +1,159 @@
+-- The entries of a tree file come in order, so that each has its place in a directory that is open.
+use Rattle.std.proofs.Common.{◌≡◌, ℕ, ◌+◌, ◌-◌, ◌<◌, Bool, true, false, if◌then◌else◌, List, [], ◌∷◌, ◌++◌, length, take, drop, refl, sym, ap, subst, ◌∙◌, append_assoc, arith, inl, inr, ◌≤◌, length-take-le}
+use Rattle.std.specs.Prelude.{IsTrue}
+use Rattle.std.specs.List.{AllByRecursion}
+use Rattle.std.specs.Map.{keys_of}
+use Rattle.std.specs.declared.cmp.Ordering.TheVariants.{Less}
+use Rattle.std.proofs.lemmas.Bool.{and_parts, cases_lt, false≢true}
+use Rattle.std.proofs.Math.Seq.{take-append-add}
+use Rattle.sftp_path.specs.Place.{Name, Place, place_cmp, parent, begins, is_name, are_names}
+use Rattle.sftp_path.specs.Table.{InOrder, put}
+use Rattle.sftp_path.proofs.Order.{place_cmp-total, begins-front, begins-append}
+use Rattle.sftp_treefile.specs.declared.files.Kind.{Kind}
+use Rattle.sftp_treefile.specs.declared.files.Kind.TheVariants as kinds
+use Rattle.sftp_treefile.specs.declared.files.Owner.{Owner}
+use Rattle.sftp_treefile.specs.declared.files.Row.{Row}
+use Rattle.sftp_treefile.specs.Limits.{usual_limits}
+use Rattle.sftp_treefile.specs.TreeFile.{place_of, is_dir, IsOwner, IsNext, AreRows}
+use Rattle.sftp_treefile.specs.TreeFileParts.{IsLast, Follows}
+use Rattle.sftp_treefile.proofs.Order.LastEntry.{no_last, last_more, begins_last, begun_whole}
+use Rattle.sftp_tree.specs.declared.nodes.Node.{Node}
+use Rattle.sftp_tree.specs.Tree.{Names, with_node}
+use Rattle.sftp_tree.specs.Growth.{open_behind}
+use Rattle.sftp_tree.specs.PictureParts.{names_of, known_node}
+use Rattle.sftp_tree.proofs.Nesting.Growth.{front_open}
+use Rattle.sftp_tree.proofs.PlaceTables.Rising.{insert_last}
+use Rattle.sftp_tree.proofs.TreeFiles.Files.{table_of_file}
+use Rattle.sftp_tree.proofs.TreeFiles.Stores.{keys_before}
+
+-- ---- the entries are put behind all others
+
+pub entries_order : (root : Owner) (rows : List Row) (names : Names) → IsOwner root → AreRows usual_limits [] rows
+    → names ≡ names_of root rows → InOrder place_cmp names
+entries_order root rows names fits fit names-are =
+    subst (InOrder place_cmp) (sym names-are) (table_of_file root rows fits fit).ordered
+
+pub entry_later : (root : Owner) (rows : List Row) (row : Row) (names : Names) (place : Place)
+    → IsNext usual_limits rows row
+    → names ≡ names_of root rows → place ≡ place_of row.path
+    → AllByRecursion (λ other. place_cmp other place ≡ Less) (keys_of names)
+entry_later root rows row names place next names-are place-is =
+    subst (λ (p : Place). AllByRecursion (λ other. place_cmp other p ≡ Less) (keys_of names)) (sym place-is)
+    (subst (λ (ns : Names). AllByRecursion (λ other. place_cmp other (place_of row.path) ≡ Less) (keys_of ns))
+    (sym names-are)
+    (keys_before root rows row next))
+
+-- which is what putting them is
+pub put_last : (names new : Names) (place : Place) (node : Node)
+    → AllByRecursion (λ other. place_cmp other place ≡ Less) (keys_of names)
+    → new ≡ names ++ (place, node) ∷ [] → new ≡ with_node names place node
+unfolding put
+put_last names new place node later is = is ∙ sym (insert_last place_cmp-total names place node later)
+
+-- ---- the directory that is open
+
+-- the last entry, or where it is
+pub record IsOpen (rows : List Row) (place : Place) : Type 0 where
+  pub last : Place
+  pub last_is : Bool
+  pub fits : IsLast rows last last_is
+  pub place_is : place ≡ (if last_is then last else parent last)
+
+pub open_root : (place : Place) → place ≡ [] → IsOpen [] place
+open_root place is = record { last = []; last_is = true; fits = no_last; place_is = is }
+
+pub follows : (rows : List Row) (row : Row) → IsNext usual_limits rows row → Follows rows row.path
+follows rows row next = record
+    { text = next.path; below_root = next.below_root; later = next.later; parent = next.parent }
+
+behind_known : (numbers : List ℕ) (next : ℕ) (kind : Kind) (place : Place)
+    → open_behind place (known_node numbers next kind) ≡ (if is_dir kind then place else parent place)
+behind_known numbers next (kinds.Dir owner) place = refl
+behind_known numbers next (kinds.First owner bytes) place = refl
+behind_known numbers next (kinds.Further number) place = refl
+behind_known numbers next (kinds.Link target) place = refl
+
+pub open_more : (rows : List Row) (row : Row) (numbers : List ℕ) (next : ℕ) (place old new : Place) (node : Node)
+    → IsOpen rows old → IsNext usual_limits rows row → place ≡ place_of row.path
+    → node ≡ known_node numbers next row.kind
+    → new ≡ open_behind place node → IsOpen (rows ++ row ∷ []) new
+open_more rows row numbers next place old new node was is-next place-is node-is new-is = record {
+  last = place_of row.path;
+  last_is = is_dir row.kind;
+  fits = last_more rows was.last was.last_is row was.fits (follows rows row is-next);
+  place_is = new-is ∙ (λ i. open_behind (place-is i) (node-is i))
+      ∙ behind_known numbers next row.kind (place_of row.path);
+}
+
+-- what begins a place, and is not the whole of it, begins its parent
+begins_parent : (top last : Place) → begins top last ≡ true → length top < length last → begins top (parent last) ≡ true
+begins_parent top last begun shorter =
+    let rest = drop (length top) last in
+    let whole : last ≡ top ++ rest = begins-front top last begun in
+    let more = length last - 1 - length top in
+    let count : length last - 1 ≡ length top + more = omega (arith, shorter) in
+    let front : parent last ≡ top ++ take more rest = (λ i. take (count i) (whole i)) ∙ take-append-add top rest more in
+    ap (begins top) front ∙ begins-append top (take more rest)
+
+begins_by : (rows : List Row) (last : Place) (last_is : Bool) (fits : IsLast rows last last_is) (row : Row)
+    → IsNext usual_limits rows row → begins (parent (place_of row.path)) (if last_is then last else parent last) ≡ true
+begins_by rows last true fits row next =
+    begins_last rows last true fits (place_of row.path) next.below_root next.later next.parent
+begins_by rows last false fits row next =
+    let place = place_of row.path in
+    let begun = begins_last rows last false fits place next.below_root next.later next.parent in
+    elim (cases_lt (length (parent place)) (length last)) [
+      | inl shorter ↦ begins_parent (parent place) last begun shorter
+      | inr longer ↦
+          let none = begun_whole rows last false fits place next.below_root next.later begun (omega (arith, longer)) in
+          absurd (false≢true (sym none ∙ next.parent))
+    ]
+
+pub open_begins : (root : Owner) (rows : List Row) (row : Row) (place above : Place) → IsOpen rows above
+    → IsNext usual_limits rows row → place ≡ place_of row.path → IsTrue (begins (parent place) above)
+open_begins root rows row place above is next place-is =
+    (λ i. begins (parent (place-is i)) (is.place_is i)) ∙ begins_by rows is.last is.last_is is.fits row next
+
+-- ---- the last name of a text
+
+-- so many names before the last one, one name more
+pub names_step : (n : ℕ) (whole : Place) (last name : Name) (left : Place) → take n whole ++ last ∷ name ∷ left ≡ whole
+    → n + 1 + length (name ∷ left) ≡ length whole → take (n + 1) whole ++ name ∷ left ≡ whole
+names_step n whole last name left is count =
+    let front = take n whole in
+    let many : length front ≡ n = length-take-le n whole (omega (arith, count)) in
+    let more : n + 1 ≡ length front + 1 = omega (arith, many) in
+    let first : take (n + 1) whole ≡ front ++ last ∷ [] =
+    (λ i. take (more i) (sym is i)) ∙ take-append-add front (last ∷ name ∷ left) 1 in
+    ap (λ (ns : Place). ns ++ name ∷ left) first ∙ append_assoc front (last ∷ []) (name ∷ left) ∙ is
+
+pub last_named : (front : Place) (name : Name) (whole : Place) → front ++ name ∷ [] ≡ whole → IsTrue (are_names whole)
+    → IsTrue (is_name name)
+last_named front name whole is named = by front (subst (λ (p : Place). IsTrue (are_names p)) (sym is) named)
+  where
+    by : (ns : Place) → IsTrue (are_names (ns ++ name ∷ [])) → IsTrue (is_name name)
+    by [] h = (and_parts (is_name name) true h).0
+    by (n ∷ ns) h = by ns (and_parts (is_name n) (are_names (ns ++ name ∷ [])) h).1
+
+-- the directory of the next entry is open
+pub record HasRoom (open-place place : Place) (depth : ℕ) (name : Name) : Type 0 where
+  pub depth_fits : depth ≤ length open-place
+  pub place_is : take depth open-place ++ name ∷ [] ≡ place
+
+pub room_for : (root : Owner) (rows : List Row) (row : Row) (above : Place) (depth : ℕ) (name : Name) (text : List ℕ)
+    → IsOpen rows above → IsNext usual_limits rows row → text ≡ row.path
+    → take depth (place_of text) ++ name ∷ [] ≡ place_of text → depth + 1 ≡ length (place_of text)
+    → HasRoom above (place_of row.path) depth name
+room_for root rows row above depth name text is next text-is whole count =
+    let place = place_of row.path in
+    let front = take depth place in
+    let here : front ++ name ∷ [] ≡ place =
+    subst (λ (t : List ℕ). take depth (place_of t) ++ name ∷ [] ≡ place_of t) text-is whole in
+    let many : length front ≡ depth =
+    length-take-le depth place (omega (arith, count, ap length (ap place_of text-is))) in
+    let f = front_open place front above name (sym here) (open_begins root rows row place above is next refl) in
+    let same : take depth above ≡ front = ap (λ n. take n above) (sym many) ∙ f.1 in
+    record {
+      depth_fits = omega (arith, many, f.0);
+      place_is = ap (λ (p : Place). p ++ name ∷ []) same ∙ here;
+    }
