@@ -4,3 +4,5 @@ pub mod Growth
 pub mod Changes
 pub mod Moves
 pub mod NodesBelow
+pub mod Entries
+pub mod Reach

@@ -13,11 +13,14 @@ ghost use Rattle.sftp_tree.specs.PictureParts.{only_root};
 
 mod below;
 mod changes;
+mod children;
 pub(crate) mod directories;
 pub(crate) mod growing;
 pub(crate) mod lookup;
 mod moves;
 mod moving;
+pub(crate) mod nested;
+mod reach;
 pub(crate) mod seen;
 pub(crate) mod trail;
 

@@ -1,0 +1,178 @@
+//! The entries of a tree as nested directories: the root with all below it, and how many places are taken.
+ghost use Rattle.std.specs.Prelude.{◌≡◌, length, false, None, IfOk, OnOk, OnErr, IsTrue, option_map};
+ghost use Rattle.sftp_path.specs.Place.{parent, begins, place_cmp};
+ghost use Rattle.sftp_path.specs.Rekeying.{rekeyed};
+ghost use Rattle.sftp_path.specs.Table.{InOrder};
+ghost use Rattle.sftp_treefile.specs.TreeFile.{is_root};
+ghost use Rattle.sftp_tree.specs.declared.nodes.Node.TheVariants.{Dir as dir_node};
+ghost use Rattle.sftp_tree.specs.Tree as tree;
+ghost use Rattle.sftp_tree.specs.Room as rooms;
+ghost use Rattle.sftp_tree.specs.Seen.{node_seen};
+ghost use Rattle.sftp_tree.specs.PictureParts.{only_root};
+
+use super::directories::{Child, Dir};
+use super::seen::Seen;
+use crate::nodes::Node;
+use sftp_path::{NoMemory, Place};
+use sftp_treefile::Owner;
+use std::alloc::Global;
+use std::marker::Model;
+
+/// The entries, the root among them.
+#[derive(Debug, Drop)]
+pub(crate) struct Nested {
+    root: Dir,
+    /// How many places are taken.
+    len: usize,
+}
+
+impl Model for Nested {
+    ghost use Rattle.std.specs.Prelude.{◌≡◌, length};
+    ghost use Rattle.sftp_tree.specs.Tree.{Names};
+
+    ghost Value = { Names };
+
+    ghost use Rattle.sftp_tree.specs.Nesting.{IsBranch};
+    ghost use Rattle.sftp_tree.specs.declared.entries.directories.Child.TheVariants.{Dir as dir_child};
+
+    ghost view = { λ entries. entries.root };
+
+    ghost invariant = { λ entries. IsBranch (dir_child entries.root) × (entries.len ≡ length entries.root) };
+}
+
+impl Nested {
+    /// The root alone. It takes no memory.
+    pub(crate) fn root(alloc: Global, owner: Owner) -> Nested
+        ensures { result ≡ only_root owner }
+    {
+        Nested {
+            root: Dir::new(alloc, owner),
+            len: 1,
+        }
+    }
+
+    /// The root, from which all others are found.
+    pub(crate) fn top(&self) -> &Dir
+        ensures names { result.now ≡ self.now }
+        ensures ordered { InOrder place_cmp self.now }
+    {
+        &self.root
+    }
+
+    /// What stands at a place.
+    pub(crate) fn get(&self, place: &Place) -> Option<Seen<'_>>
+        ensures { option_map node_seen result ≡ tree.node_at self.now place.now }
+    {
+        self.root.at(place.names())
+    }
+
+    /// How many places are taken, the root among them.
+    pub(crate) fn len(&self) -> usize
+        ensures { result ≡ length self.now }
+    {
+        self.len
+    }
+
+    /// Whether a place has entries below it.
+    pub(crate) fn has_entries(&self, place: &Place) -> bool
+        ensures { result ≡ tree.has_entries self.now place.now }
+    {
+        match self.root.at(place.names()) {
+            Some(Seen::Dir(_, dir)) => dir.has_children(),
+            Some(Seen::File(_)) => false,
+            Some(Seen::Link(_)) => false,
+            None => false,
+        }
+    }
+
+    /// Whether each place that begins with `top` has at most `room` names behind it. Only what is below `top` is looked
+    /// at.
+    pub(crate) fn reaches_at_most(&self, top: &Place, room: usize) -> bool
+        ensures { result ≡ rooms.reaches_at_most self.now top.now room }
+    {
+        match self.root.at(top.names()) {
+            Some(Seen::Dir(_, dir)) => dir.reaches_at_most(room),
+            Some(Seen::File(_)) => true,
+            Some(Seen::Link(_)) => true,
+            None => true,
+        }
+    }
+
+    /// Puts a node at a free place in a directory.
+    ///
+    /// # Errors
+    ///
+    /// `NoMemory` if memory runs out; the entries are then as before.
+    pub(crate) fn put(&mut self, place: &Place, node: Node) -> Result<(), NoMemory>
+        requires absent { tree.node_at self.old place.now ≡ None }
+        requires parent { IsTrue (tree.is_directory (tree.node_at self.old (parent place.now))) }
+        ensures ok { OnOk result (self.new ≡ tree.with_node self.old place.now node) }
+        ensures err { OnErr result (self.new ≡ self.old) }
+    {
+        let Some((name, parent)) = place.names().split_last() else {
+            unreachable!();
+        };
+        let Some(len) = self.len.checked_add(1) else {
+            return Err(NoMemory);
+        };
+        let alloc = place.allocator();
+        let name = name.try_clone(alloc)?;
+        self.root.put(parent, name, Child::new(alloc, node))?;
+        self.len = len;
+        Ok(())
+    }
+
+    /// Removes the node at a place that is not the root and has no entries below it, and returns it.
+    pub(crate) fn remove(&mut self, place: &Place) -> Option<Node>
+        requires below_root { is_root place.now ≡ false }
+        requires empty { tree.has_entries self.old place.now ≡ false }
+        ensures gone { result ≡ tree.node_at self.old place.now }
+        ensures left { self.new ≡ tree.without_node self.old place.now }
+    {
+        let Some((name, parent)) = place.names().split_last() else {
+            unreachable!();
+        };
+        match self.root.take(parent, name) {
+            Some(child) => {
+                self.len -= 1;
+                Some(child.into_node())
+            }
+            None => None,
+        }
+    }
+
+    /// Gives a directory an owner.
+    pub(crate) fn set_owner(&mut self, place: &Place, owner: Owner)
+        requires { IsTrue (tree.is_directory (tree.node_at self.old place.now)) }
+        ensures { self.new ≡ tree.with_node self.old place.now (dir_node owner) }
+    {
+        self.root.set_owner(place.names(), owner);
+    }
+
+    /// Moves the node at the old place, with all below it, to the new one, and returns the node that was there. Neither
+    /// place is the root, and the new one is not below the old one and has no entries below it.
+    ///
+    /// # Errors
+    ///
+    /// `NoMemory` if memory runs out; the entries are then as before.
+    pub(crate) fn move_node(&mut self, old: &Place, new: &Place) -> Result<Option<Node>, NoMemory>
+        requires taken { IsTrue (tree.is_taken (tree.node_at self.old old.now)) }
+        requires old_below_root { is_root old.now ≡ false }
+        requires new_below_root { is_root new.now ≡ false }
+        requires apart { begins old.now new.now ≡ false }
+        requires parent { IsTrue (tree.is_directory (tree.node_at self.old (parent new.now))) }
+        requires alone { tree.has_entries self.old new.now ≡ false }
+        ensures gone { IfOk result (λ gone. gone ≡ tree.node_at self.old new.now) }
+        ensures moved { OnOk result (self.new ≡ rekeyed old.now new.now (tree.without_node self.old new.now)) }
+        ensures err { OnErr result (self.new ≡ self.old) }
+    {
+        let gone = self.root.move_child(old, new)?;
+        match gone {
+            Some(child) => {
+                self.len -= 1;
+                Ok(Some(child.into_node()))
+            }
+            None => Ok(None),
+        }
+    }
+}
