@@ -1,6 +1,10 @@
 -- The children of a directory are the nodes right below it.
 use Rattle.std.proofs.Common.{◌≡◌, Bool, true, false, cond, [], ◌∷◌, ◌++◌, filter_map, option_map, Option, Some, None}
-use Rattle.std.proofs.Common.{is_some, refl, sym, ap, ◌∙◌}
+use Rattle.std.proofs.Common.{is_some, refl, sym, ap, ◌∙◌, List, map, IfSome}
+use Rattle.std.proofs.lemmas.List.{append-nil}
+use Rattle.sftp_wire.specs.declared.attributes.Attrs.{Attrs}
+use Rattle.sftp_tree.specs.declared.listings.Item.{Item}
+use Rattle.sftp_tree.specs.Items.{entry_of}
 use Rattle.std.specs.Ordering.{is_eq}
 use Rattle.std.specs.declared.cmp.Ordering.TheVariants.{Less}
 use Rattle.std.specs.Cmp.Lexicographic.{nat_list_cmp_total}
@@ -9,7 +13,7 @@ use Rattle.std.specs.List.Sorted.{IsStrictlySortedBy}
 use Rattle.std.specs.Map.{keys_of, lookup}
 use Rattle.std.specs.BTreeMap.{is_at}
 use Rattle.sftp_path.specs.Place.{Name, Place, name_cmp, place_cmp}
-use Rattle.sftp_path.specs.Table.{InOrder, get}
+use Rattle.sftp_path.specs.Table.{Table, InOrder, get}
 use Rattle.sftp_path.proofs.Order.{bytes_cmp-same}
 use Rattle.sftp_path.proofs.Table.Laws.{same_table}
 use Rattle.sftp_treefile.specs.declared.files.Owner.{Owner}
@@ -17,12 +21,13 @@ use Rattle.sftp_tree.specs.declared.nodes.Node.{Node}
 use Rattle.sftp_tree.specs.declared.nodes.Node.TheVariants as nodes
 use Rattle.sftp_tree.specs.declared.entries.directories.Child.{Child}
 use Rattle.sftp_tree.specs.declared.entries.directories.Child.TheVariants.{Dir, File, Link}
-use Rattle.sftp_tree.specs.Tree.{Names, node_at, is_directory}
-use Rattle.sftp_tree.specs.Listings.{children}
+use Rattle.sftp_tree.specs.Tree.{Names, Files, Tree, IsNode, node_at, is_directory}
+use Rattle.sftp_tree.specs.Listings.{children, shown_child}
 use Rattle.sftp_tree.specs.Trail.{IsAt}
 use Rattle.sftp_tree.specs.Nesting.{Children, branch, branch_of, flat_of, IsBranch, AreBranches, AreChildren}
 use Rattle.sftp_tree.specs.NodesBelow.{named_node, nodes_of}
 use Rattle.sftp_tree.proofs.Nesting.Tables.{get-flat, sorted-flat_of}
+use Rattle.sftp_tree.proofs.Requests.Listings.{listed-on}
 use Rattle.sftp_tree.proofs.Requests.ListedNames.{children-rise, child-at}
 
 -- ---- each child has a node of its own
@@ -100,3 +105,38 @@ children-alike names inner place order inner_order at =
     same_table name_cmp nat_list_cmp_total bytes_cmp-same (children inner []) (children names place)
     (children-rise inner [] inner_order) (children-rise names place order)
     (λ name. child-at inner [] name ∙ at (name ∷ []) ∙ sym (child-at names place name))
+
+-- ---- listed one by one
+
+pub own-kept : (files : Files) (c : Name × Child) (cs : Children)
+    → AllByRecursion (λ e. IsNode files e.1) (nodes_of (c ∷ cs))
+    → IfSome (node_at (branch c.1) []) (IsNode files) × AllByRecursion (λ e. IsNode files e.1) (nodes_of cs)
+own-kept files c cs kept = by (node_at (branch c.1) []) kept
+  where
+    by : (o : Option Node)
+        → AllByRecursion (λ e. IsNode files e.1) (cons_option (option_map (λ node. (c.0, node)) o) (nodes_of cs))
+        → IfSome o (IsNode files) × AllByRecursion (λ e. IsNode files e.1) (nodes_of cs)
+    by None kept = (tt, kept)
+    by (Some node) kept = kept
+
+pub listed-child : (t : Tree) (items after : List Item) (it : Item) (c : Name × Child) (cs : Children)
+    (whole : Table Name Attrs) → IsBranch c.1 → after ≡ items ++ it ∷ []
+    → IfSome (node_at (branch c.1) []) (λ node. shown_child t (c.0, node) ≡ Some (entry_of it))
+    → map entry_of items ++ filter_map (shown_child t) (nodes_of (c ∷ cs)) ≡ whole
+    → map entry_of after ++ filter_map (shown_child t) (nodes_of cs) ≡ whole
+listed-child t items after it c cs whole is_branch is =
+    by (node_at (branch c.1) []) (own-node c.1 is_branch)
+  where
+    by : (o : Option Node) → is_some o ≡ true
+        → IfSome o (λ node. shown_child t (c.0, node) ≡ Some (entry_of it))
+        → map entry_of items
+        ++ filter_map (shown_child t) (cons_option (option_map (λ node. (c.0, node)) o) (nodes_of cs)) ≡ whole
+        → map entry_of after ++ filter_map (shown_child t) (nodes_of cs) ≡ whole
+    by None there shows so_far = cc
+    by (Some node) there shows so_far = listed-on t items after it (c.0, node) (nodes_of cs) whole is shows so_far
+
+pub listed-none : (t : Tree) (items : List Item) (cs : Children) (whole : Table Name Attrs) → cs ≡ []
+    → map entry_of items ++ filter_map (shown_child t) (nodes_of cs) ≡ whole → map entry_of items ≡ whole
+listed-none t items cs whole none so_far =
+    sym (append-nil (map entry_of items))
+    ∙ ap (λ (x : Children). map entry_of items ++ filter_map (shown_child t) (nodes_of x)) (sym none) ∙ so_far

@@ -3,7 +3,7 @@ use Rattle.sftp_tree.specs.declared.nodes.Node.TheVariants as nodes
 use Rattle.sftp_tree.specs.Tree.{Names, has_entries}
 use Rattle.sftp_tree.specs.Seen.{branch_seen}
 use Rattle.sftp_tree.proofs.Nesting.Entries.{has_entries-alike, has_entries-alone, has_entries-nothing}
-use Rattle.sftp_tree.proofs.entries.nested.Nested.has_entries.Goals as goal
+use Rattle.sftp_tree.proofs.entries.Entries.has_entries.Goals as goal
 
 pub returns-in-Some-Dir : goal.returns-in-Some-Dir
 returns-in-Some-Dir c =

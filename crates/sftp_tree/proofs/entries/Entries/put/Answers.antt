@@ -2,7 +2,7 @@ use Rattle.std.proofs.Common.{sym, ◌∙◌, arith}
 use Rattle.sftp_tree.specs.Nesting.{branch}
 use Rattle.sftp_tree.proofs.Nesting.Changes.{still-branch}
 use Rattle.sftp_tree.proofs.Nesting.Entries.{put-in, put-is, put-more}
-use Rattle.sftp_tree.proofs.entries.nested.Nested.put.Goals as goal
+use Rattle.sftp_tree.proofs.entries.Entries.put.Goals as goal
 
 pub invariant_of-self-2 : goal.invariant_of-self-2
 invariant_of-self-2 c =

@@ -6,7 +6,7 @@ use Rattle.sftp_tree.specs.Nesting.{have_at_most}
 use Rattle.sftp_tree.specs.Room.{reaches_at_most}
 use Rattle.sftp_tree.specs.Seen.{branch_seen, IsWhole}
 use Rattle.sftp_tree.proofs.Nesting.Reach.{reach-alike, reach-alone, reach-nothing, alone-ordered, nothing-ordered}
-use Rattle.sftp_tree.proofs.entries.nested.Nested.reaches_at_most.Goals as goal
+use Rattle.sftp_tree.proofs.entries.Entries.reaches_at_most.Goals as goal
 
 pub returns-in-Some-Dir : goal.returns-in-Some-Dir
 returns-in-Some-Dir c =

@@ -3,7 +3,7 @@ use Rattle.sftp_tree.specs.declared.nodes.Node.TheVariants as nodes
 use Rattle.sftp_tree.specs.Tree.{Names, node_at, with_node, is_directory}
 use Rattle.sftp_tree.proofs.Nesting.Changes.{set-branch}
 use Rattle.sftp_tree.proofs.Nesting.Entries.{set-with, set-length}
-use Rattle.sftp_tree.proofs.entries.nested.Nested.set_owner.Goals as goal
+use Rattle.sftp_tree.proofs.entries.Entries.set_owner.Goals as goal
 
 pub invariant_of-self : goal.invariant_of-self
 invariant_of-self c = (

@@ -1,7 +1,7 @@
 use Rattle.std.proofs.Common.{[], sym, ◌∙◌, arith}
 use Rattle.sftp_tree.proofs.Nesting.Changes.{still-branch}
 use Rattle.sftp_tree.proofs.Nesting.Entries.{removed-left, removed-one, removed-none, removed-nothing}
-use Rattle.sftp_tree.proofs.entries.nested.Nested.remove.Goals as goal
+use Rattle.sftp_tree.proofs.entries.Entries.remove.Goals as goal
 
 -- ---- where a child was
 
