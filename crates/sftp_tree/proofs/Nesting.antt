@@ -3,3 +3,6 @@ pub mod Tables
 pub mod Growth
 pub mod Changes
 pub mod Moves
+pub mod NodesBelow
+pub mod Entries
+pub mod Reach

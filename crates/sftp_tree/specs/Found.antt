@@ -1,19 +1,27 @@
 -- What paths lead to, as the code has it.
-use Rattle.std.specs.Prelude.{◌≡◌, Option, Some, None, Result, Ok, Err, IfOk, IfSome, option_copied}
+use Rattle.std.specs.Prelude.{Option, Some, None, Result, Ok, Err, IfOk, IfSome}
+use Rattle.std.specs.Option.{option_map}
 use Rattle.sftp_path.specs.Place.{Place}
 use Rattle.sftp_tree.specs.declared.causes.Cause.{Cause}
 use Rattle.sftp_tree.specs.declared.found.Found.{Found}
-use Rattle.sftp_tree.specs.Tree.{Tree, Names, node_at}
+use Rattle.sftp_tree.specs.declared.nodes.Node.{Node}
+use Rattle.sftp_tree.specs.Tree.{Tree, Names}
+use Rattle.sftp_tree.specs.Seen.{node_seen}
+use Rattle.sftp_tree.specs.Trail.{IsLentAt}
 use Rattle.sftp_tree.specs.Walking.{IsPlaceOf}
 
--- the node that was found is the one at the place
-abbrev pub IsThere : Names → Found → Type 0
-IsThere names found = option_copied found.node ≡ node_at names found.place
+-- the node that was found
+abbrev pub node_of : Found → Option Node
+node_of found = option_map node_seen found.node
 
--- a place of the tree was found, and the node there
+-- what was found is what stands at the place
+abbrev pub IsThere : Names → Found → Type 0
+IsThere names found = IsLentAt names found.place found.node
+
+-- a place of the tree was found, and what stands there
 pub record IsFoundIn (t : Tree) (found : Found) : Type 0 where
   pub place : IsPlaceOf t found.place
-  pub node : IsThere t.names found
+  pub lent : IsThere t.names found
 
 -- the place that was found, or why there is none
 abbrev pub placed : Result Found Cause → Result Place Cause

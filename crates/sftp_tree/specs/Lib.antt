@@ -1,6 +1,7 @@
 pub mod Tree
 pub mod Nesting
 pub mod NestingSizes
+pub mod NodesBelow
 pub mod Seen
 pub mod Trail
 pub mod StoredFiles

@@ -1,7 +1,7 @@
 -- Nested directories, and the table of places that each of them is seen as: the directory itself at the place with no
 -- names, and each child at its name, with all that is below it.
-use Rattle.std.specs.Prelude.{◌≡◌, Bool, false, Option, Some, None, [], ◌∷◌, ◌++◌, map, IsTrue, ⊤}
-use Rattle.std.specs.List.{AllByRecursion}
+use Rattle.std.specs.Prelude.{◌≡◌, ℕ, nat_le, length, Bool, false, Option, Some, None, [], ◌∷◌, ◌++◌, map, IsTrue, ⊤}
+use Rattle.std.specs.List.{AllByRecursion, list_all}
 use Rattle.sftp_path.specs.Place.{Name, Place, place_cmp, name_cmp, begins}
 use Rattle.sftp_path.specs.Table.{Table, InOrder}
 use Rattle.sftp_treefile.specs.declared.files.Owner.{Owner}
@@ -80,3 +80,7 @@ pub record IsFilled (place : Place) (before after : Names) (was_taken : Bool) : 
   pub was : was_taken ≡ is_taken (node_at before place)
   pub same : IsTrue was_taken → after ≡ before
   pub elsewhere : (other : Place) → begins place other ≡ false → node_at after other ≡ node_at before other
+
+-- whether each place has at most so many names
+unfoldable pub have_at_most : ℕ → Names → Bool
+have_at_most room names = list_all (λ e. nat_le (length e.0) room) names

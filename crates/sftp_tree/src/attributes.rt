@@ -1,12 +1,16 @@
 //! Attributes of requests and of entries (draft, section 5).
-ghost use Rattle.std.specs.Prelude.{◌≡◌, Some, is_some, IsTrue};
+ghost use Rattle.std.specs.Prelude.{◌≡◌, ◌+◌, Some, is_some, IsTrue, [], IfSome};
 ghost use Rattle.std.specs.Option.{option_map};
 ghost use Rattle.sftp_treefile.specs.TreeFile.{IsOwner};
 ghost use Rattle.sftp_tree.specs.Attributes as spec;
 ghost use Rattle.sftp_tree.specs.Tree as tree;
+ghost use Rattle.sftp_tree.specs.Seen.{node_seen};
+ghost use Rattle.sftp_tree.specs.Nesting.{branch};
+ghost use Rattle.sftp_tree.specs.declared.nodes.Node.TheVariants.{Link};
 
+use crate::entries::directories::Child;
+use crate::entries::seen::Seen;
 use crate::file_numbers::FileNo;
-use crate::nodes::Node;
 use crate::owners::changed_owner;
 use crate::trees::Tree;
 use sftp_treefile::Owner;
@@ -57,23 +61,39 @@ impl Tree {
 
     /// The attributes shown of an entry. The size is 0 for a directory, the count of its bytes for a file, and the
     /// length of its target for a link, which has the tree's owner.
-    pub(crate) fn shown(&self, node: &Node) -> Attrs
-        requires { tree.IsNode self.now.files node.now }
-        ensures { spec.shown self.now node.now ≡ Some result }
+    pub(crate) fn shown(&self, node: &Seen<'_>) -> Attrs
+        requires { tree.IsNode self.now.files (node_seen node.now) }
+        ensures { spec.shown self.now (node_seen node.now) ≡ Some result }
     {
         match node {
-            Node::Dir(owner) => said(
-                0,
-                (owner.uid, owner.gid),
-                DIRECTORY_BITS + owner.permissions,
-            ),
-            Node::File(number) => self.shown_file(*number),
-            Node::Link(target) => said(
-                target.as_slice().len() as u64,
-                (self.uid(), self.gid()),
-                LINK_PERMISSIONS,
-            ),
+            Seen::Dir(owner, _) => shown_directory(*owner),
+            Seen::File(number) => self.shown_file(*number),
+            Seen::Link(target) => self.shown_link(target),
         }
+    }
+
+    /// The attributes shown of a child of a directory.
+    #[tactic(auto, unfolding(sftp_path::specs::Table::get))]
+    pub(crate) fn shown_child(&self, child: &Child) -> Attrs
+        requires { IfSome (tree.node_at (branch child.now) []) (tree.IsNode self.now.files) }
+        ensures { IfSome (tree.node_at (branch child.now) []) (λ node. spec.shown self.now node ≡ Some result) }
+    {
+        match child {
+            Child::Dir(dir) => shown_directory(dir.owner()),
+            Child::File(number) => self.shown_file(*number),
+            Child::Link(target) => self.shown_link(target.as_slice()),
+        }
+    }
+
+    /// The attributes shown of a link with this target, which has the tree's owner.
+    fn shown_link(&self, target: &[u8]) -> Attrs
+        ensures { spec.shown self.now (Link target.now) ≡ Some result }
+    {
+        said(
+            target.len() as u64,
+            (self.uid(), self.gid()),
+            LINK_PERMISSIONS,
+        )
     }
 
     /// The attributes shown of the file of a number.
@@ -90,6 +110,18 @@ impl Tree {
             None => unreachable!(),
         }
     }
+}
+
+/// The attributes shown of a directory of this owner.
+fn shown_directory(owner: Owner) -> Attrs
+    requires { IsOwner owner }
+    ensures { result ≡ spec.said 0 owner.uid owner.gid (0o040000 + owner.permissions) }
+{
+    said(
+        0,
+        (owner.uid, owner.gid),
+        DIRECTORY_BITS + owner.permissions,
+    )
 }
 
 /// Size, owner and permissions, and nothing else.

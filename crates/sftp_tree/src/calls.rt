@@ -1,19 +1,19 @@
 //! What requests do to a tree, and what they return (draft, sections 6.3 to 6.11; OpenSSH's PROTOCOL, sections 4.3 and
 //! 4.5). A bad path has the cause `BadPath`, and one that leads nowhere the walk's: `NoEntry`, `NotDir` or `Loop`.
-ghost use Rattle.std.specs.Prelude.{◌≡◌, Some, is_some, IfOk, IfErr, IsTrue, OnOk, OnErr, option_copied};
+ghost use Rattle.std.specs.Prelude.{◌≡◌, Some, is_some, IfOk, IfErr, IsTrue, OnOk, OnErr};
 ghost use Rattle.sftp_wire.specs.declared.packets.Ask.TheVariants.{Setstat, Remove, Mkdir, Rmdir, Realpath, Rename};
 ghost use Rattle.sftp_wire.specs.declared.packets.Ask.TheVariants.{Readlink, Symlink, PosixRename, Hardlink, Open};
 ghost use Rattle.sftp_tree.specs.declared.nodes.Node.TheVariants.{Link};
 ghost use Rattle.sftp_tree.specs.Tree as tree;
 ghost use Rattle.sftp_tree.specs.Requests as requests;
 ghost use Rattle.sftp_tree.specs.Refusals.{IsFree, IsRefusal, stat_ask};
-ghost use Rattle.sftp_tree.specs.Found.{IsThere};
+ghost use Rattle.sftp_tree.specs.Found.{node_of, IsThere};
 
 use crate::asks::PathAsk;
 use crate::causes::Refused;
+use crate::entries::seen::Seen;
 use crate::file_numbers::FileNo;
 use crate::found::Found;
-use crate::nodes::Node;
 use crate::trees::Tree;
 use sftp_path::absolute;
 use sftp_wire::Attrs;
@@ -233,7 +233,7 @@ impl Tree {
         ensures kept { OnOk result (tree.IsKept self.now) }
     {
         let places = self.free_places(PathAsk::Readlink { path })?;
-        let target = target_of(places.old.node);
+        let target = target_of(&places.old);
         Ok(Vec::from_slice(self.home().allocator(), target)?)
     }
 
@@ -243,11 +243,11 @@ impl Tree {
         requires file { IsTrue (is_some (requests.number_at self.now (tree.node_at self.now.names found.now.place))) }
         ensures { requests.number_at self.now (tree.node_at self.now.names found.now.place) ≡ Some result }
     {
-        match found.node {
+        match &found.node {
             None => self.next_number(),
-            Some(Node::File(number)) => *number,
-            Some(Node::Dir(_)) => unreachable!(),
-            Some(Node::Link(_)) => unreachable!(),
+            Some(Seen::File(number)) => *number,
+            Some(Seen::Dir(..)) => unreachable!(),
+            Some(Seen::Link(_)) => unreachable!(),
         }
     }
 
@@ -258,7 +258,7 @@ impl Tree {
         requires kept { tree.IsKept self.now }
         ensures { requests.shown_at self.now (tree.node_at self.now.names found.now.place) ≡ Some result }
     {
-        match found.node {
+        match &found.node {
             Some(node) => self.shown(node),
             None => unreachable!(),
         }
@@ -266,14 +266,14 @@ impl Tree {
 }
 
 /// The target of a link that was found.
-fn target_of(found: Option<&Node>) -> &[u8]
-    requires { IsTrue (tree.is_link (option_copied found)) }
-    ensures { requests.target_of (option_copied found.entry) ≡ Some result.now }
+fn target_of<'a>(found: &Found<'a>) -> &'a [u8]
+    requires { IsTrue (tree.is_link (node_of found.now)) }
+    ensures { requests.target_of (node_of found.now) ≡ Some result.now }
 {
-    match found {
-        Some(Node::Link(target)) => target.as_slice(),
-        Some(Node::Dir(_)) => unreachable!(),
-        Some(Node::File(_)) => unreachable!(),
+    match &found.node {
+        Some(Seen::Link(target)) => target,
+        Some(Seen::Dir(..)) => unreachable!(),
+        Some(Seen::File(_)) => unreachable!(),
         None => unreachable!(),
     }
 }

@@ -1,20 +1,63 @@
-//! What a path leads to: a place, and the node there.
-ghost use Rattle.std.specs.Prelude.{◌≡◌, option_copied};
+//! What a path leads to: a place, and what stands there.
+ghost use Rattle.std.specs.Prelude.{◌≡◌};
 ghost use Rattle.sftp_treefile.specs.TreeFile.{is_root};
 ghost use Rattle.sftp_tree.specs.Tree as tree;
 ghost use Rattle.sftp_tree.specs.PlaceCauses as place_causes;
-ghost use Rattle.sftp_tree.specs.Found.{IsThere};
+ghost use Rattle.sftp_tree.specs.Found.{node_of, IsThere};
 
-use crate::nodes::Node;
+use crate::entries::seen::Seen;
+use crate::entries::trail::Trail;
 use crate::trees::Tree;
 use sftp_path::Place;
 
-/// A place, and the node there, which the tree lends.
+/// A place, and what stands there, which the tree lends.
 #[derive(Drop)]
 pub(crate) struct Found<'a> {
     pub(crate) place: Place,
-    /// The node, or `None` if the place is free.
-    pub(crate) node: Option<&'a Node>,
+    /// What stands there, or `None` if the place is free.
+    pub(crate) node: Option<Seen<'a>>,
+}
+
+impl<'a> Found<'a> {
+    /// The directory where a walk stands.
+    pub(crate) fn here(trail: Trail<'a>) -> Found<'a>
+        ensures place { result.place ≡ trail.entry.at }
+        ensures there { IsThere trail.entry.names result }
+    {
+        let node = Some(trail.here());
+        Found {
+            place: trail.into_place(),
+            node,
+        }
+    }
+
+    /// Whether the place is taken.
+    pub(crate) fn is_taken(&self) -> bool
+        ensures { result ≡ tree.is_taken (node_of self.now) }
+    {
+        self.node.is_some()
+    }
+
+    /// Whether a directory stands there.
+    pub(crate) fn is_directory(&self) -> bool
+        ensures { result ≡ tree.is_directory (node_of self.now) }
+    {
+        matches!(self.node, Some(Seen::Dir(..)))
+    }
+
+    /// Whether the place is a name of a file.
+    pub(crate) fn is_file(&self) -> bool
+        ensures { result ≡ tree.is_file (node_of self.now) }
+    {
+        matches!(self.node, Some(Seen::File(_)))
+    }
+
+    /// Whether a link stands there.
+    pub(crate) fn is_link(&self) -> bool
+        ensures { result ≡ tree.is_link (node_of self.now) }
+    {
+        matches!(self.node, Some(Seen::Link(_)))
+    }
 }
 
 impl Tree {
@@ -24,44 +67,16 @@ impl Tree {
         requires new { IsThere self.now.names new.now }
         ensures { result ≡ place_causes.are_one self.now.names old.now.place new.now.place }
     {
-        old.place == new.place || are_one_file(old.node, new.node)
+        old.place == new.place || are_one_file(old, new)
     }
 }
 
-/// Whether there is a node.
-pub(crate) fn is_taken(found: Option<&Node>) -> bool
-    ensures { result ≡ tree.is_taken (option_copied found.entry) }
-{
-    found.is_some()
-}
-
-/// Whether the node is a directory.
-pub(crate) fn is_directory(found: Option<&Node>) -> bool
-    ensures { result ≡ tree.is_directory (option_copied found.entry) }
-{
-    matches!(found, Some(Node::Dir(_)))
-}
-
-/// Whether the node is a name of a file.
-pub(crate) fn is_file(found: Option<&Node>) -> bool
-    ensures { result ≡ tree.is_file (option_copied found.entry) }
-{
-    matches!(found, Some(Node::File(_)))
-}
-
-/// Whether the node is a link.
-pub(crate) fn is_link(found: Option<&Node>) -> bool
-    ensures { result ≡ tree.is_link (option_copied found.entry) }
-{
-    matches!(found, Some(Node::Link(_)))
-}
-
 /// Whether both are names of one file.
-fn are_one_file(one: Option<&Node>, other: Option<&Node>) -> bool
-    ensures { result ≡ place_causes.are_one_file (option_copied one.entry) (option_copied other.entry) }
+fn are_one_file(one: &Found<'_>, other: &Found<'_>) -> bool
+    ensures { result ≡ place_causes.are_one_file (node_of one.now) (node_of other.now) }
 {
-    match (one, other) {
-        (Some(Node::File(one)), Some(Node::File(other))) => one == other,
+    match (&one.node, &other.node) {
+        (Some(Seen::File(one)), Some(Seen::File(other))) => one == other,
         _ => false,
     }
 }

@@ -1,7 +1,11 @@
 //! What is in a directory (draft, section 6.7).
-ghost use Rattle.std.specs.Prelude.{◌≡◌, Some, map, IfOk, IfErr, OnOk};
+ghost use Rattle.std.specs.Prelude.{◌≡◌, [], Some, map, IfOk, IfErr, IfSome, IsTrue, OnOk};
 ghost use Rattle.sftp_wire.specs.declared.packets.Ask.TheVariants.{Opendir};
 ghost use Rattle.sftp_tree.specs.Tree as tree;
+ghost use Rattle.sftp_tree.specs.Tree.{Names as table};
+ghost use Rattle.sftp_tree.specs.Found.{node_of, IsThere};
+ghost use Rattle.sftp_tree.specs.Trail.{IsAt};
+ghost use Rattle.sftp_tree.specs.Nesting.{branch};
 ghost use Rattle.sftp_tree.specs.Requests as requests;
 ghost use Rattle.sftp_tree.specs.Refusals.{IsFree, IsRefusal};
 ghost use Rattle.sftp_tree.specs.Listings.{listing, shown_child};
@@ -9,9 +13,11 @@ ghost use Rattle.sftp_tree.specs.Items.{entry_of};
 
 use crate::asks::PathAsk;
 use crate::causes::Refused;
-use crate::nodes::Node;
+use crate::entries::directories::{Child, Dir};
+use crate::entries::seen::Seen;
+use crate::found::Found;
 use crate::trees::Tree;
-use sftp_path::{Name, NoMemory, Place};
+use sftp_path::{Name, NoMemory};
 use sftp_wire::Attrs;
 use std::alloc::Global;
 
@@ -39,22 +45,25 @@ impl Tree {
         ensures kept { OnOk result (tree.IsKept self.now) }
     {
         let places = self.free_places(PathAsk::Opendir { path })?;
-        Ok(self.items_below(&places.old.place)?)
+        Ok(self.items_below(&places.old)?)
     }
 
-    /// The names right below a place, in order, with the attributes shown of their nodes.
+    /// The names in a directory that was found, in order, with the attributes shown of their nodes.
     ///
     /// # Errors
     ///
     /// `NoMemory` if memory runs out.
-    fn items_below(&self, place: &Place) -> Result<Vec<Item>, NoMemory>
-        ensures { IfOk result (λ items. map entry_of items.items ≡ listing self.now place.now) }
+    fn items_below(&self, found: &Found<'_>) -> Result<Vec<Item>, NoMemory>
+        requires there { IsThere self.now.names found.now }
+        requires directory { IsTrue (tree.is_directory (tree.node_at self.now.names found.now.place)) }
+        requires kept { tree.IsKept self.now }
+        ensures { IfOk result (λ items. map entry_of items.items ≡ listing self.now found.now.place) }
     {
-        let alloc = place.allocator();
-        let children = self.names().children(place)?;
+        let alloc = found.place.allocator();
+        let dir = directory_of(found);
         let mut items = Vec::new(alloc);
-        for child in children.as_slice() {
-            items.push(self.item(alloc, child.0, child.1)?)?;
+        for (name, child) in dir.children() {
+            items.push(self.item(alloc, name, child)?)?;
         }
         Ok(items)
     }
@@ -64,12 +73,26 @@ impl Tree {
     /// # Errors
     ///
     /// `NoMemory` if memory runs out.
-    fn item(&self, alloc: Global, name: &Name, node: &Node) -> Result<Item, NoMemory>
-        requires { tree.IsNode self.now.files node.now }
-        ensures { IfOk result (λ item. shown_child self.now (name.now, node.now) ≡ Some (entry_of item)) }
+    fn item(&self, alloc: Global, name: &Name, child: &Child) -> Result<Item, NoMemory>
+        requires { IfSome (tree.node_at (branch child.now) []) (tree.IsNode self.now.files) }
+        ensures { IfOk result (λ item. IfSome (tree.node_at (branch child.now) [])
+            (λ node. shown_child self.now (name.now, node) ≡ Some (entry_of item))) }
     {
         let name = name.try_clone(alloc)?;
-        let attrs = self.shown(node);
+        let attrs = self.shown_child(child);
         Ok(Item { name, attrs })
+    }
+}
+
+/// The directory that was found.
+fn directory_of<'a>(found: &Found<'a>) -> &'a Dir
+    requires { IsTrue (tree.is_directory (node_of found.now)) }
+    ensures { (names : table) → IsThere names found.now → IsAt names found.now.place result.now }
+{
+    match &found.node {
+        Some(Seen::Dir(_, dir)) => dir,
+        Some(Seen::File(_)) => unreachable!(),
+        Some(Seen::Link(_)) => unreachable!(),
+        None => unreachable!(),
     }
 }

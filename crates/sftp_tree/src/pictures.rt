@@ -33,7 +33,7 @@ impl Tree {
             gid: 0,
             permissions: 0o755,
         };
-        let names = Entries::root(alloc, owner)?;
+        let names = Entries::root(alloc, owner);
         let files = Files::new(alloc);
         let home = Place::root(alloc);
         Ok(Tree::from_parts(names, files, 0, usual_limits(), home, (0, 0)))

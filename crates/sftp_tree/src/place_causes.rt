@@ -1,17 +1,16 @@
 //! Which causes hold at the places that the paths of a request lead to.
-ghost use Rattle.std.specs.Prelude.{◌≡◌, Bool, option_copied};
+ghost use Rattle.std.specs.Prelude.{◌≡◌, Bool};
 ghost use Rattle.sftp_tree.specs.Asks.{asked};
 ghost use Rattle.sftp_tree.specs.Refusals.{in_set};
 ghost use Rattle.sftp_tree.specs.PlaceCauses as place_causes;
-ghost use Rattle.sftp_tree.specs.Found.{IsThere};
+ghost use Rattle.sftp_tree.specs.Found.{node_of, IsThere};
 ghost use Rattle.sftp_tree.specs.Requests as requests;
 
 use crate::asks::PathAsk;
 use crate::causes::{Cause, Causes};
 use crate::entries::is_below;
 use crate::flags::{creates, excludes};
-use crate::found::{Found, is_directory, is_file, is_link, is_root, is_taken};
-use crate::nodes::Node;
+use crate::found::{Found, is_root};
 use crate::trees::Tree;
 use sftp_path::Place;
 use sftp_wire::Attrs;
@@ -22,22 +21,21 @@ impl Tree {
         requires { IsThere self.now.names found.now }
         ensures { in_set result ≡ requests.causes_at self.now (asked ask.entry) found.now.place }
     {
-        let node = found.node;
         match ask {
-            PathAsk::Mkdir { .. } => making(node),
+            PathAsk::Mkdir { .. } => making(found),
             PathAsk::Rmdir { .. } => self.removing(found),
-            PathAsk::Remove { .. } => unlinking(node),
-            PathAsk::Setstat { attrs, .. } => setting(attrs, node),
-            PathAsk::Stat { .. } => needing(node),
-            PathAsk::Lstat { .. } => needing(node),
+            PathAsk::Remove { .. } => unlinking(found),
+            PathAsk::Setstat { attrs, .. } => setting(attrs, found),
+            PathAsk::Stat { .. } => needing(found),
+            PathAsk::Lstat { .. } => needing(found),
             PathAsk::Realpath { .. } => Causes::none(),
-            PathAsk::Readlink { .. } => reading(node),
-            PathAsk::Symlink { .. } => making(node),
+            PathAsk::Readlink { .. } => reading(found),
+            PathAsk::Symlink { .. } => making(found),
             PathAsk::Rename { .. } => self.leaving(found),
             PathAsk::PosixRename { .. } => self.leaving(found),
-            PathAsk::Hardlink { .. } => naming(node),
-            PathAsk::Open { flags, .. } => opening(flags, node),
-            PathAsk::Opendir { .. } => listing(node),
+            PathAsk::Hardlink { .. } => naming(found),
+            PathAsk::Open { flags, .. } => opening(flags, found),
+            PathAsk::Opendir { .. } => listing(found),
         }
     }
 
@@ -47,9 +45,9 @@ impl Tree {
         ensures { in_set result ≡ requests.new_causes_at self.now (asked ask.entry) found.now.place }
     {
         match ask {
-            PathAsk::Rename { .. } => making(found.node),
+            PathAsk::Rename { .. } => making(found),
             PathAsk::PosixRename { .. } => giving(&found.place),
-            PathAsk::Hardlink { .. } => making(found.node),
+            PathAsk::Hardlink { .. } => making(found),
             PathAsk::Mkdir { .. } => Causes::none(),
             PathAsk::Rmdir { .. } => Causes::none(),
             PathAsk::Remove { .. } => Causes::none(),
@@ -98,10 +96,9 @@ impl Tree {
         requires { IsThere self.now.names found.now }
         ensures { in_set result ≡ place_causes.removing_causes self.now.names found.now.place }
     {
-        let node = found.node;
-        let full = is_directory(node) && self.names().has_entries(&found.place);
-        needing(node)
-            .when(Cause::NotDir, is_taken(node) && !is_directory(node))
+        let full = found.is_directory() && self.names().has_entries(&found.place);
+        needing(found)
+            .when(Cause::NotDir, found.is_taken() && !found.is_directory())
             .when(Cause::NotEmpty, full)
             .when(Cause::Root, is_root(&found.place))
     }
@@ -111,7 +108,7 @@ impl Tree {
         requires { IsThere self.now.names found.now }
         ensures { in_set result ≡ place_causes.leaving_causes self.now.names found.now.place }
     {
-        needing(found.node).when(Cause::Root, is_root(&found.place))
+        needing(found).when(Cause::Root, is_root(&found.place))
     }
 
     /// Whether a directory would be moved into itself.
@@ -119,7 +116,7 @@ impl Tree {
         requires { IsThere self.now.names old.now }
         ensures { result ≡ place_causes.goes_inside self.now.names old.now.place new.now }
     {
-        is_directory(old.node) && is_below(&old.place, new)
+        old.is_directory() && is_below(&old.place, new)
     }
 
     /// The causes of a move to a free place.
@@ -141,69 +138,69 @@ impl Tree {
             return Causes::none();
         }
         let entries = self.names().has_entries(&new.place);
-        clashing(old.node, new.node, entries).when(Cause::Inside, self.goes_inside(old, &new.place))
+        clashing(old, new, entries).when(Cause::Inside, self.goes_inside(old, &new.place))
     }
 }
 
 /// The causes of a node that is to be made.
-fn making(found: Option<&Node>) -> Causes
-    ensures { in_set result ≡ place_causes.making_causes (option_copied found.entry) }
+fn making(found: &Found<'_>) -> Causes
+    ensures { in_set result ≡ place_causes.making_causes (node_of found.now) }
 {
-    Causes::none().when(Cause::Exists, is_taken(found))
+    Causes::none().when(Cause::Exists, found.is_taken())
 }
 
 /// The causes of a node that must exist.
-fn needing(found: Option<&Node>) -> Causes
-    ensures { in_set result ≡ place_causes.needing_causes (option_copied found.entry) }
+fn needing(found: &Found<'_>) -> Causes
+    ensures { in_set result ≡ place_causes.needing_causes (node_of found.now) }
 {
-    Causes::none().when(Cause::NoEntry, !is_taken(found))
+    Causes::none().when(Cause::NoEntry, !found.is_taken())
 }
 
 /// The causes of a node that must be a link.
-fn reading(found: Option<&Node>) -> Causes
-    ensures { in_set result ≡ place_causes.link_causes (option_copied found.entry) }
+fn reading(found: &Found<'_>) -> Causes
+    ensures { in_set result ≡ place_causes.link_causes (node_of found.now) }
 {
-    needing(found).when(Cause::NotLink, is_taken(found) && !is_link(found))
+    needing(found).when(Cause::NotLink, found.is_taken() && !found.is_link())
 }
 
 /// The causes of a node that must be a name of a file.
-fn naming(found: Option<&Node>) -> Causes
-    ensures { in_set result ≡ place_causes.file_causes (option_copied found.entry) }
+fn naming(found: &Found<'_>) -> Causes
+    ensures { in_set result ≡ place_causes.file_causes (node_of found.now) }
 {
-    needing(found).when(Cause::NotFile, is_taken(found) && !is_file(found))
+    needing(found).when(Cause::NotFile, found.is_taken() && !found.is_file())
 }
 
 /// The causes of a node that is to get attributes: only a file has a size that can be set.
-fn setting(attrs: &Attrs, found: Option<&Node>) -> Causes
-    ensures { in_set result ≡ place_causes.setting_causes attrs.now (option_copied found.entry) }
+fn setting(attrs: &Attrs, found: &Found<'_>) -> Causes
+    ensures { in_set result ≡ place_causes.setting_causes attrs.now (node_of found.now) }
 {
-    let sized = attrs.size.is_some() && (is_taken(found) && !is_file(found));
+    let sized = attrs.size.is_some() && (found.is_taken() && !found.is_file());
     needing(found).when(Cause::NotFile, sized)
 }
 
 /// The causes of a name that is to be removed, and must not be a directory.
-fn unlinking(found: Option<&Node>) -> Causes
-    ensures { in_set result ≡ place_causes.unlinking_causes (option_copied found.entry) }
+fn unlinking(found: &Found<'_>) -> Causes
+    ensures { in_set result ≡ place_causes.unlinking_causes (node_of found.now) }
 {
-    needing(found).when(Cause::IsDir, is_directory(found))
+    needing(found).when(Cause::IsDir, found.is_directory())
 }
 
 /// The causes of a node that is to be opened as a file.
-fn opening(flags: u32, found: Option<&Node>) -> Causes
-    ensures { in_set result ≡ place_causes.opening_causes flags (option_copied found.entry) }
+fn opening(flags: u32, found: &Found<'_>) -> Causes
+    ensures { in_set result ≡ place_causes.opening_causes flags (node_of found.now) }
 {
     let new = excludes(flags);
     Causes::none()
-        .when(Cause::NoEntry, !is_taken(found) && !creates(flags))
-        .when(Cause::Exists, is_taken(found) && new)
-        .when(Cause::IsDir, is_directory(found) && !new)
+        .when(Cause::NoEntry, !found.is_taken() && !creates(flags))
+        .when(Cause::Exists, found.is_taken() && new)
+        .when(Cause::IsDir, found.is_directory() && !new)
 }
 
 /// The causes of a node that must be a directory.
-fn listing(found: Option<&Node>) -> Causes
-    ensures { in_set result ≡ place_causes.directory_causes (option_copied found.entry) }
+fn listing(found: &Found<'_>) -> Causes
+    ensures { in_set result ≡ place_causes.directory_causes (node_of found.now) }
 {
-    needing(found).when(Cause::NotDir, is_taken(found) && !is_directory(found))
+    needing(found).when(Cause::NotDir, found.is_taken() && !found.is_directory())
 }
 
 /// The causes of a place that is to get another node.
@@ -214,19 +211,19 @@ fn giving(place: &Place) -> Causes
 }
 
 /// The causes of a node that is to replace another.
-fn clashing(goes: Option<&Node>, stays: Option<&Node>, entries: bool) -> Causes
-    ensures { in_set result ≡ place_causes.clashing_causes (option_copied goes.entry) (option_copied stays.entry) entries }
+fn clashing(goes: &Found<'_>, stays: &Found<'_>, entries: bool) -> Causes
+    ensures { in_set result ≡ place_causes.clashing_causes (node_of goes.now) (node_of stays.now) entries }
 {
-    let from_directory = is_directory(goes);
-    let to_directory = is_directory(stays);
+    let from_directory = goes.is_directory();
+    let to_directory = stays.is_directory();
     Causes::none()
         .when(
             Cause::NotDir,
-            from_directory && (is_taken(stays) && !to_directory),
+            from_directory && (stays.is_taken() && !to_directory),
         )
         .when(
             Cause::IsDir,
-            (is_taken(goes) && !from_directory) && to_directory,
+            (goes.is_taken() && !from_directory) && to_directory,
         )
         .when(Cause::NotEmpty, from_directory && (to_directory && entries))
 }

@@ -1,5 +1,5 @@
 //! The plans of requests, and how they are carried out.
-ghost use Rattle.std.specs.Prelude.{◌≡◌, [], Some, IfOk, IfErr, IsTrue, OnOk, OnErr, option_copied};
+ghost use Rattle.std.specs.Prelude.{◌≡◌, [], Some, IfOk, IfErr, IsTrue, OnOk, OnErr, option_map};
 ghost use Rattle.sftp_treefile.specs.TreeFile.{IsOwner, are_bytes};
 ghost use Rattle.sftp_tree.specs.declared.nodes.Node.TheVariants.{File, Link};
 ghost use Rattle.sftp_tree.specs.Tree as tree;
@@ -7,7 +7,8 @@ ghost use Rattle.sftp_tree.specs.Attributes as attributes;
 ghost use Rattle.sftp_tree.specs.Changes as changes;
 ghost use Rattle.sftp_tree.specs.Requests as requests;
 ghost use Rattle.sftp_tree.specs.Asks.{asked};
-ghost use Rattle.sftp_tree.specs.Found.{IsThere, IsFoundIn};
+ghost use Rattle.sftp_tree.specs.Seen.{node_seen};
+ghost use Rattle.sftp_tree.specs.Found.{node_of, IsThere, IsFoundIn};
 ghost use Rattle.sftp_tree.specs.Ends.{LeadTo, AreWell};
 ghost use Rattle.sftp_tree.specs.Refusals.{IsFree, IsRefusal};
 ghost use Rattle.sftp_tree.specs.Plans as spec;
@@ -15,6 +16,7 @@ ghost use Rattle.sftp_tree.specs.Plans as spec;
 use crate::asks::PathAsk;
 use crate::causes::Refused;
 use crate::ends::Places;
+use crate::entries::seen::Seen;
 use crate::file_contents::{Content, FileBytes};
 use crate::file_numbers::FileNo;
 use crate::flags::truncates;
@@ -126,10 +128,10 @@ impl Tree {
         flags: u32,
         attrs: &Attrs,
         place: Place,
-        node: &Option<&Node>,
+        node: &Option<Seen<'_>>,
     ) -> Plan<'a>
         requires kept { tree.IsKept self.now }
-        requires there { option_copied node.now ≡ tree.node_at self.now.names place }
+        requires there { option_map node_seen node.now ≡ tree.node_at self.now.names place }
         ensures plan { result
             ≡ spec.plan_to_open self.now flags attrs.now place (tree.node_at self.now.names place) }
         ensures owner { IsOwner (attributes.file_owner self.now attrs.now) }
@@ -139,15 +141,15 @@ impl Tree {
             return Plan::Make(place, self.new_file(owner));
         };
         match standing {
-            Node::File(number) => {
+            Seen::File(number) => {
                 if truncates(flags) {
                     Plan::Truncate(*number)
                 } else {
                     Plan::Nothing
                 }
             }
-            Node::Dir(_) => Plan::Nothing,
-            Node::Link(_) => Plan::Nothing,
+            Seen::Dir(..) => Plan::Nothing,
+            Seen::Link(_) => Plan::Nothing,
         }
     }
 
@@ -177,7 +179,7 @@ impl Tree {
                     Plan::Move(old.place, new.place)
                 }
             }
-            PathAsk::Hardlink { .. } => Plan::Put(new.place, Node::File(file_of(old.node))),
+            PathAsk::Hardlink { .. } => Plan::Put(new.place, Node::File(file_of(&old))),
             PathAsk::Mkdir { .. } => Plan::Nothing,
             PathAsk::Rmdir { .. } => Plan::Nothing,
             PathAsk::Remove { .. } => Plan::Nothing,
@@ -193,18 +195,18 @@ impl Tree {
     }
 
     /// What is to be done to set the attributes of what was found.
-    fn setting<'a>(&self, place: Place, node: &Option<&Node>, attrs: &'a Attrs) -> Plan<'a>
+    fn setting<'a>(&self, place: Place, node: &Option<Seen<'_>>, attrs: &'a Attrs) -> Plan<'a>
         requires kept { tree.IsKept self.now }
-        requires there { option_copied node.now ≡ tree.node_at self.now.names place }
+        requires there { option_map node_seen node.now ≡ tree.node_at self.now.names place }
         ensures { spec.IsSetting (tree.node_at self.now.names place) place attrs.now result }
     {
         let Some(standing) = node else {
             return Plan::Nothing;
         };
         match standing {
-            Node::Dir(owner) => Plan::SetOwner(place, changed_owner(attrs, *owner)),
-            Node::File(number) => Plan::SetFile(*number, attrs),
-            Node::Link(_) => Plan::Nothing,
+            Seen::Dir(owner, _) => Plan::SetOwner(place, changed_owner(attrs, *owner)),
+            Seen::File(number) => Plan::SetFile(*number, attrs),
+            Seen::Link(_) => Plan::Nothing,
         }
     }
 
@@ -273,15 +275,15 @@ impl Tree {
     }
 }
 
-/// The number of the file that the node is a name of.
-fn file_of(node: Option<&Node>) -> FileNo
-    requires { IsTrue (tree.is_file (option_copied node)) }
-    ensures { option_copied node.entry ≡ Some (File result) }
+/// The number of the file that was found.
+fn file_of(found: &Found<'_>) -> FileNo
+    requires { IsTrue (tree.is_file (node_of found.now)) }
+    ensures { node_of found.now ≡ Some (File result) }
 {
-    match node {
-        Some(Node::File(number)) => *number,
-        Some(Node::Dir(_)) => unreachable!(),
-        Some(Node::Link(_)) => unreachable!(),
+    match &found.node {
+        Some(Seen::File(number)) => *number,
+        Some(Seen::Dir(..)) => unreachable!(),
+        Some(Seen::Link(_)) => unreachable!(),
         None => unreachable!(),
     }
 }

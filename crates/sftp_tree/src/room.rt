@@ -1,13 +1,12 @@
 //! Whether what requests ask for keeps to the limits of the tree, in numbers.
-ghost use Rattle.std.specs.Prelude.{◌≡◌, option_copied};
+ghost use Rattle.std.specs.Prelude.{◌≡◌};
 ghost use Rattle.sftp_tree.specs.Asks.{asked};
-ghost use Rattle.sftp_tree.specs.Found.{IsThere};
+ghost use Rattle.sftp_tree.specs.Found.{node_of, IsThere};
 ghost use Rattle.sftp_tree.specs.Room as room;
 ghost use Rattle.sftp_tree.specs.Tree as tree;
 
 use crate::asks::PathAsk;
-use crate::found::{Found, is_file, is_taken};
-use crate::nodes::Node;
+use crate::found::Found;
 use crate::trees::Tree;
 use sftp_path::{DEPTH_LIMIT, Place};
 use sftp_wire::Attrs;
@@ -21,7 +20,7 @@ impl Tree {
         match ask {
             PathAsk::Mkdir { .. } => self.has_room(&found.place),
             PathAsk::Symlink { .. } => self.has_room(&found.place),
-            PathAsk::Setstat { attrs, .. } => self.size_fits_of(attrs, found.node),
+            PathAsk::Setstat { attrs, .. } => self.size_fits_of(attrs, found),
             PathAsk::Rmdir { .. } => true,
             PathAsk::Remove { .. } => true,
             PathAsk::Stat { .. } => true,
@@ -81,7 +80,7 @@ impl Tree {
         ensures { result
             ≡ room.has_room_to_open self.now found.now.place (tree.node_at self.now.names found.now.place) }
     {
-        is_taken(found.node) || (self.has_room(&found.place) && self.has_numbers())
+        found.is_taken() || (self.has_room(&found.place) && self.has_numbers())
     }
 
     /// Whether the node at the old place, with all below it, keeps to the limit of names in a place at the new one.
@@ -103,11 +102,11 @@ impl Tree {
         }
     }
 
-    /// Whether the node, if it is a file, may have the size that is given, if one is. Any other node keeps to the
+    /// Whether what was found, if it is a file, may have the size that is given, if one is. Any other node keeps to the
     /// limits.
-    fn size_fits_of(&self, attrs: &Attrs, node: Option<&Node>) -> bool
-        ensures { result ≡ room.size_fits_at (tree.limits self.now) attrs.now.size (option_copied node.entry) }
+    fn size_fits_of(&self, attrs: &Attrs, found: &Found<'_>) -> bool
+        ensures { result ≡ room.size_fits_at (tree.limits self.now) attrs.now.size (node_of found.now) }
     {
-        !is_file(node) || self.size_fits(attrs)
+        !found.is_file() || self.size_fits(attrs)
     }
 }

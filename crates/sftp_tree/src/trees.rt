@@ -154,7 +154,7 @@ impl Tree {
         ensures err { OnErr result (self.new ≡ self.old) }
     {
         let named = file_named(Some(&node));
-        self.names.put(place, node)?;
+        self.names.put(&place, node)?;
         self.files.count_name(named);
         Ok(())
     }
@@ -171,7 +171,7 @@ impl Tree {
     {
         let number = FileNo::new(self.made);
         self.files.put(number, content)?;
-        if let Err(error) = self.names.put(place, Node::File(number)) {
+        if let Err(error) = self.names.put(&place, Node::File(number)) {
             self.files.forget_name(Some(number));
             return Err(error);
         }
@@ -210,7 +210,7 @@ impl Tree {
         ensures ok { OnOk result (self.new ≡ tree.trim (changes.put_in_its_stead self.old old.now new)) }
         ensures err { OnErr result (self.new ≡ self.old) }
     {
-        let gone = self.names.move_node(old, new)?;
+        let gone = self.names.move_node(old, &new)?;
         self.files.forget_name(file_named(gone.as_ref()));
         Ok(())
     }

@@ -15,11 +15,11 @@ use Rattle.sftp_tree.specs.declared.file_contents.Content.{Content}
 use Rattle.sftp_tree.specs.declared.nodes.Node.{Node}
 use Rattle.sftp_tree.specs.declared.nodes.Node.TheVariants.{Dir, File, Link}
 use Rattle.sftp_tree.specs.declared.causes.Cause.{Cause}
-use Rattle.sftp_tree.specs.declared.causes.Cause.TheVariants.{BadPath, NoEntry, Exists, IsDir, NotLink, NotFile, NotEmpty, Root, Inside, NoRoom}
+use Rattle.sftp_tree.specs.declared.causes.Cause.TheVariants.{BadPath, NoEntry, Exists, IsDir, NotLink, NotFile, NotEmpty, Root, Inside, NoRoom, NotDir}
 use Rattle.sftp_tree.specs.Tree.{Tree, WellFormed, IsKept, limits, fits, node_at, content_at, is_taken, is_directory, is_link, has_entries}
 use Rattle.sftp_tree.specs.Attributes.{directory_owner, changed_owner, changed_content, resized}
 use Rattle.sftp_tree.specs.Causes.{CauseSet, every_cause, is_none, no_causes, when}
-use Rattle.sftp_tree.specs.PlaceCauses.{making_causes, needing_causes, link_causes, file_causes, unlinking_causes, leaving_causes, giving_causes, moving_causes, clashing_causes, replacing_causes, exchanging_causes, goes_inside, are_one, are_one_file}
+use Rattle.sftp_tree.specs.PlaceCauses.{making_causes, needing_causes, link_causes, file_causes, unlinking_causes, leaving_causes, giving_causes, moving_causes, clashing_causes, replacing_causes, exchanging_causes, goes_inside, are_one, are_one_file, directory_causes}
 use Rattle.sftp_tree.specs.Changes.{with_changed_file, with_attributes, with_further_name, put_in_its_stead, new_content, with_emptied_file, with_opened}
 use Rattle.sftp_tree.specs.OpenFlags.{truncates}
 use Rattle.sftp_tree.specs.Requests.{led, new_led, causes, causes_at, new_causes_at, causes_between, own_causes, outcome_at, outcome_between, outcome_led, plain_of}
@@ -62,6 +62,14 @@ link-place None none = let there = none NoEntry in absurd cc
 link-place (Some (Dir owner)) none = let link = none NotLink in absurd cc
 link-place (Some (File number)) none = let link = none NotLink in absurd cc
 link-place (Some (Link goal)) none = refl
+
+-- a directory is where one is to be listed
+pub directory-place : (found : Option Node) → ((c : Cause) → directory_causes found c ≡ false) → is_directory found ≡ true
+unfolding when no_causes
+directory-place None none = let there = none NoEntry in absurd cc
+directory-place (Some (Dir owner)) none = refl
+directory-place (Some (File number)) none = let directory = none NotDir in absurd cc
+directory-place (Some (Link goal)) none = let directory = none NotDir in absurd cc
 
 -- no directory is where a name is to be removed
 pub name-place : (found : Option Node) → ((c : Cause) → unlinking_causes found c ≡ false) → is_directory found ≡ false

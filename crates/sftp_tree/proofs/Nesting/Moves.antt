@@ -101,7 +101,7 @@ directory-taken : (o : Option Node) → IsTrue (is_directory o) → is_taken o �
 directory-taken None h = cc
 directory-taken (Some node) h = refl
 
-branch-taken : (child : Child) → IsBranch child → is_taken (node_at (branch child) []) ≡ true
+pub branch-taken : (child : Child) → IsBranch child → is_taken (node_at (branch child) []) ≡ true
 unfolding get
 branch-taken (Dir names) h = directory-taken (node_at names []) h.1
 branch-taken (File number) h = refl

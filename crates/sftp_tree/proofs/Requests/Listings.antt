@@ -31,12 +31,6 @@ children-kept files (e ∷ es) place nodes = by (children-kept files es place no
 
 -- ---- the items, one by one
 
--- what is left of the children begins with the one that was read
-pub front : (all : List (Bor Name × Bor Node)) (i : ℕ) (x : Bor Name × Bor Node) → i < length all → x ≡ get_or all i x
-    → map deref_pair (drop i all) ≡ deref_pair x ∷ map deref_pair (drop (i + 1) all)
-front all i x within is =
-    ap (map deref_pair) (drop_more all i x within ∙ ap (λ y. y ∷ drop (i + 1) all) (sym is))
-
 -- the listing by the names of the tree
 pub listing-of : (t : Tree) (place : Place) (entries : Names) (found : Table Name Node) → entries ≡ t.names
     → found ≡ children entries place → filter_map (shown_child t) found ≡ listing t place
@@ -54,15 +48,6 @@ listed-on t items after it e rest whole is shows so_far =
     ∙ ap (λ xs. xs ++ filter_map (shown_child t) rest) (map-append entry_of items (it ∷ []))
     ∙ append_assoc (map entry_of items) (entry_of it ∷ []) (filter_map (shown_child t) rest)
     ∙ ap (λ o. map entry_of items ++ cons_option o (filter_map (shown_child t) rest)) (sym shows) ∙ so_far
-
--- no more are to come
-pub listed-all : (t : Tree) (items : List Item) (all : List (Bor Name × Bor Node)) (i : ℕ) (whole : Table Name Attrs)
-    → length all ≤ i → map entry_of items ++ filter_map (shown_child t) (map deref_pair (drop i all)) ≡ whole
-    → map entry_of items ≡ whole
-listed-all t items all i whole past so_far =
-    sym (append-nil (map entry_of items))
-    ∙ ap (λ xs. map entry_of items ++ filter_map (shown_child t) (map deref_pair xs)) (sym (drop_all i all past))
-    ∙ so_far
 
 -- ---- the reply
 

@@ -4,7 +4,7 @@ use Rattle.std.proofs.lemmas.Bool.{not-false, or_parts, lt-ltb}
 use Rattle.std.proofs.Math.Bool.{and-true}
 use Rattle.sftp_wire.specs.declared.attributes.Attrs.{Attrs}
 use Rattle.sftp_wire.specs.declared.packets.Ask.{Ask}
-use Rattle.sftp_wire.specs.declared.packets.Ask.TheVariants.{Setstat, Remove, Mkdir, Rmdir, Rename, Symlink, PosixRename, Hardlink, Stat, Lstat, Readlink, Realpath, Open}
+use Rattle.sftp_wire.specs.declared.packets.Ask.TheVariants.{Setstat, Remove, Mkdir, Rmdir, Rename, Symlink, PosixRename, Hardlink, Stat, Lstat, Readlink, Realpath, Open, Opendir}
 use Rattle.sftp_path.specs.Place.{Place, absolute}
 use Rattle.sftp_treefile.specs.TreeFile.{IsOwner, is_root, are_bytes}
 use Rattle.sftp_tree.specs.declared.nodes.Node.{Node}
@@ -25,7 +25,7 @@ use Rattle.sftp_tree.specs.Requests.{outcome_at, outcome_between, led, new_led, 
 use Rattle.sftp_tree.specs.Refusals.{IsFree, stat_ask}
 use Rattle.sftp_tree.specs.Plans.{changed, IsReady, CanTake, HasNode, IsPlanned, IsPlanAt, IsNaming, IsPlanBetween, IsFileAt, plan_to_open, IsSettingOf, IsSetting}
 use Rattle.sftp_tree.proofs.CauseLaws.Places.{FreeAt, FreeBetween, free-at, free-between, outcome-is}
-use Rattle.sftp_tree.proofs.CauseLaws.Limits.{free-place, file-place, name-place, link-place, taken-place, may-leave, may-replace, outside-of, given-below, free-alone}
+use Rattle.sftp_tree.proofs.CauseLaws.Limits.{free-place, file-place, name-place, link-place, directory-place, taken-place, may-leave, may-replace, outside-of, given-below, free-alone}
 use Rattle.sftp_tree.proofs.WellFormedTrees.Places.{nothing-below}
 use Rattle.sftp_tree.proofs.KeptTrees.Trims.{trimmed-already}
 use Rattle.sftp_tree.proofs.Walks.Links.{reached-unlinked}
@@ -243,6 +243,11 @@ stat-shown t given true path place attrs is leads shows =
     ap (λ o. led_to None o (λ place. shown_at t (node_at t.names place))) (subst (λ a. led t a ≡ Some (Ok place)) is leads) ∙ shows
 stat-shown t given false path place attrs is leads shows =
     ap (λ o. led_to None o (λ place. shown_at t (node_at t.names place))) (subst (λ a. led t a ≡ Some (Ok place)) is leads) ∙ shows
+
+pub listed-directory : (t : Tree) (path : List ℕ) (place : Place) → IsFree t (Opendir path)
+    → led t (Opendir path) ≡ Some (Ok place) → is_directory (node_at t.names place) ≡ true
+listed-directory t path place free leads =
+    directory-place (node_at t.names place) (free-at t (Opendir path) place free leads refl).none
 
 pub read-link : (t : Tree) (path : List ℕ) (place : Place) → IsFree t (Readlink path) → led t (Readlink path) ≡ Some (Ok place) → is_link (node_at t.names place) ≡ true
 read-link t path place free leads = link-place (node_at t.names place) (free-at t (Readlink path) place free leads refl).none

@@ -1,14 +1,15 @@
 -- Walks, component by component.
-use Rattle.std.proofs.Common.{◌≡◌, ℕ, zero, suc, ◌<◌, Bool, true, false, if◌then◌else◌, List, [], ◌∷◌, ◌++◌, refl, sym, ◌∙◌, ap, subst, Option, option_copied, Result, Ok, Err, Bor, arith}
+use Rattle.std.proofs.Common.{◌≡◌, ℕ, zero, suc, ◌<◌, Bool, true, false, if◌then◌else◌, List, [], ◌∷◌, ◌++◌, refl, sym, ◌∙◌, ap, subst, Option, Result, Ok, Err, Bor, arith}
 use Rattle.sftp_path.specs.Place.{Name, Place, components, is_absolute, is_good_path}
 use Rattle.sftp_tree.specs.declared.causes.Cause.{Cause}
 use Rattle.sftp_tree.specs.declared.causes.Cause.TheVariants.{BadPath, Loop}
-use Rattle.sftp_tree.specs.declared.walking.Met.{Met}
-use Rattle.sftp_tree.specs.declared.walking.Met.TheVariants.{Ends, Through}
-use Rattle.sftp_tree.specs.declared.nodes.Node.{Node}
-use Rattle.sftp_tree.specs.Tree.{Names, Tree, node_at}
+use Rattle.sftp_tree.specs.declared.stepping.Met.{Met}
+use Rattle.sftp_tree.specs.declared.stepping.Met.TheVariants.{Ends, Through}
+use Rattle.sftp_tree.specs.declared.entries.seen.Seen.{Seen}
+use Rattle.sftp_tree.specs.Tree.{Names, Tree}
+use Rattle.sftp_tree.specs.Trail.{IsLentAt}
 use Rattle.sftp_tree.specs.Walk.{Meeting, is_last, start_of, going_on, meets, walk_parts, walk, looked_parts, looked, link_limit, steps_of, reached}
-use Rattle.sftp_tree.specs.Walking.{meeting, StaysAtLink, FindsEnd}
+use Rattle.sftp_tree.specs.Stepping.{meeting, StaysAtLink, LendsEnd}
 
 -- ---- the place
 
@@ -79,9 +80,10 @@ looked_behind-some names follow left left' at at' target rest rest' some starts 
 pub stays : (met : Met) (target : Bor (List ℕ)) (before after : Place) → StaysAtLink met before after → met ≡ Through target → after ≡ before
 stays met target before after at_link is = subst (λ m. StaysAtLink m before after) is at_link
 
--- what the walk finds where it ends
-pub finds : (names : Names) (met : Met) (standing : Option (Bor Node)) (at : Place) → FindsEnd names met at → met ≡ Ends standing → option_copied standing ≡ node_at names at
-finds names met standing at found is = subst (λ m. FindsEnd names m at) is found
+-- what the walk lends where it ends
+pub lends : (names : Names) (met : Met) (name : Name) (lent : Option Seen) (at : Place) → LendsEnd names met at
+    → met ≡ Ends name lent → IsLentAt names (at ++ name ∷ []) lent
+lends names met name lent at there is = subst (λ m. LendsEnd names m at) is there
 
 pub below : (a b : ℕ) → b ≡ suc a → a < b
 below a b e = omega arith

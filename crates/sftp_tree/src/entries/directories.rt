@@ -6,6 +6,8 @@ ghost use Rattle.sftp_tree.specs.declared.nodes.Node.TheVariants.{Dir as dir_nod
 ghost use Rattle.sftp_tree.specs.Tree as tree;
 ghost use Rattle.sftp_tree.specs.PictureParts.{only_root};
 ghost use Rattle.sftp_tree.specs.Nesting.{branch_of, flat, IsBranch, AreChildren};
+ghost use Rattle.sftp_tree.specs.NodesBelow.{nodes_of};
+ghost use Rattle.sftp_tree.specs.Listings as listings;
 
 mod appending;
 
@@ -96,6 +98,8 @@ impl Dir {
     pub(crate) fn children(&self) -> btree_map::Iter<'_, Name, Child>
         ensures below { flat result ≡ drop 1 self.now }
         ensures children { AreChildren result }
+        ensures nodes { nodes_of result ≡ listings.children self.now [] }
+        ensures ordered { InOrder place_cmp self.now }
     {
         self.children.iter()
     }

@@ -1,7 +1,6 @@
 //! How many bytes a tree file takes at most, computed before memory is requested. A count that does not fit is the
 //! largest `usize`.
 use crate::entries::directories::{Child, Dir};
-use crate::nodes::Node;
 use crate::trees::Tree;
 use sftp_path::Place;
 
@@ -19,30 +18,6 @@ fn path_size(place: &Place) -> usize {
     let mut size = LENGTH + 1;
     for name in place.names() {
         size = size.saturating_add(name.as_slice().len()).saturating_add(1);
-    }
-    size
-}
-
-/// The size of an entry's kind and fields, without the bytes of a file.
-fn node_size(node: &Node) -> usize {
-    match node {
-        Node::Dir(_) => OWNED,
-        Node::File(_) => OWNED + LENGTH,
-        Node::Link(target) => target.as_slice().len().saturating_add(1 + LENGTH),
-    }
-}
-
-/// How many bytes the tree file takes, at most.
-pub(super) fn file_size(tree: &Tree) -> usize {
-    let mut size = tree
-        .files()
-        .size()
-        .saturating_add(HEAD)
-        .saturating_add(path_size(tree.home()));
-    for (place, node) in tree.names().iter() {
-        size = size
-            .saturating_add(path_size(place))
-            .saturating_add(node_size(node));
     }
     size
 }
@@ -76,7 +51,7 @@ fn size_below(dir: &Dir, path: usize) -> usize {
 }
 
 /// How many bytes the tree file takes, at most. The directory is the tree's root.
-pub(super) fn nested_size(tree: &Tree, root: &Dir) -> usize {
+pub(super) fn file_size(tree: &Tree, root: &Dir) -> usize {
     tree.files()
         .size()
         .saturating_add(HEAD)

@@ -4,6 +4,7 @@ ghost use Rattle.sftp_treefile.specs.Limits.{usual_limits};
 ghost use Rattle.sftp_treefile.specs.TreeFile.{place_of, IsPlaceText, IsOwner, AreRows, IsTreeFile};
 ghost use Rattle.sftp_tree.specs.PictureParts as parts;
 
+use super::rows::{Grown, grow};
 use crate::entries::Entries;
 use crate::file_contents::{Content, FileBytes};
 use crate::file_numbers::FileNo;
@@ -55,42 +56,23 @@ pub(super) fn node_of(
     }
 }
 
-/// The entries of a tree, and its files.
-#[derive(Drop)]
-struct Grown {
-    names: Entries,
-    files: Files,
-}
-
-/// The entries of a tree, and its files: the root, and what the entries of a tree file say.
-fn grow(alloc: Global, root: Owner, rows: Vec<Row>) -> Result<Grown, NoMemory>
-    requires root { IsOwner root }
-    requires rows { AreRows usual_limits [] rows.items }
-    requires count { length rows.items ≤ usual_limits.entries }
-    ensures { IfOk result (λ g. parts.IsGrown root rows.items g.names g.files) }
-{
-    let mut names = Entries::root(alloc, root)?;
-    let mut files = Files::new(alloc);
-    let mut numbers = Vec::new(alloc);
-    for row in rows {
-        let place = place_of(alloc, row.path.as_slice())?;
-        let made = files.len() as u32;
-        let next = FileNo::new(made);
-        let node = node_of(&mut files, &numbers, next, row.kind)?;
-        numbers.push(next)?;
-        names.put(place, node)?;
-    }
-    Ok(Grown { names, files })
-}
-
 /// The tree that a tree file describes.
 pub(super) fn tree_of(alloc: Global, file: TreeFile) -> Result<Tree, NoMemory>
     requires { IsTreeFile file }
     ensures { IfOk result (λ t. t ≡ parts.tree_of file) }
 {
     let home = place_of(alloc, file.home.as_slice())?;
-    let Grown { names, files } = grow(alloc, file.root, file.rows.into_vec())?;
+    let rows = file.rows.into_vec();
+    let len = rows.len() + 1;
+    let Grown { root, files } = grow(alloc, file.root, rows)?;
     let made = files.len() as u32;
     let owner = (file.uid, file.gid);
-    Ok(Tree::from_parts(names, files, made, file.limits, home, owner))
+    Ok(Tree::from_parts(
+        Entries::of(root, len),
+        files,
+        made,
+        file.limits,
+        home,
+        owner,
+    ))
 }

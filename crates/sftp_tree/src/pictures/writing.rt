@@ -11,6 +11,7 @@ ghost use Rattle.sftp_tree.specs.Tree.{IsKept, node_at, content_at};
 ghost use Rattle.sftp_tree.specs.Picture as spec;
 ghost use Rattle.sftp_tree.specs.PictureParts as parts;
 
+use super::branches::put_entries;
 use super::measuring::file_size;
 use crate::entries::Entries;
 use crate::file_numbers::FileNo;
@@ -29,15 +30,11 @@ const NO_OWNER: Owner = Owner {
     permissions: 0,
 };
 
-/// The owner of the root, which is a directory in every tree.
-#[tactic(auto, unfolding(sftp_path::specs::Table::get))]
-fn root_owner(alloc: Global, names: &Entries) -> Owner
+/// The owner of the root.
+fn root_owner(names: &Entries) -> Owner
     ensures { result ≡ spec.root_owner (node_at names.now []) }
 {
-    match names.get(&Place::root(alloc)) {
-        Some(Node::Dir(owner)) => *owner,
-        Some(Node::File(_)) | Some(Node::Link(_)) | None => NO_OWNER,
-    }
+    names.root_directory().owner()
 }
 
 /// Appends the head, which comes before the entries.
@@ -52,7 +49,7 @@ fn put_front(out: &mut Vec<u8>, tree: &Tree) -> Result<(), NoMemory>
         uid: tree.uid(),
         gid: tree.gid(),
         count: (tree.names().len() - 1) as u32,
-        root: root_owner(alloc, tree.names()),
+        root: root_owner(tree.names()),
     };
     put_head(out, &head)?;
     Ok(())
@@ -88,54 +85,13 @@ pub(super) fn put_name(
     Ok(())
 }
 
-/// Appends an entry below the root.
-fn put_entry(
-    out: &mut Vec<u8>,
-    firsts: &mut BTreeMap<FileNo, u32>,
-    tree: &Tree,
-    entry: u32,
-    place: &Place,
-    node: &Node,
-) -> Result<(), NoMemory>
-    requires path { length (absolute place.now) < 2 ^ 32 }
-    requires node { parts.IsShort tree.now.files node.now }
-    ensures out { OnOk result (out.new.items ≡ out.old.items
-        ++ row_text
-        (record { path = absolute place.now; kind = parts.known_kind tree.now.files firsts.old.entries node.now })) }
-    ensures firsts { OnOk result (firsts.new.entries ≡ parts.firsts_with firsts.old.entries entry node.now) }
-{
-    let path = absolute(place.allocator(), place.names())?;
-    match node {
-        Node::Dir(owner) => put_directory(out, &path, owner)?,
-        Node::File(number) => put_name(out, firsts, tree, &path, entry, *number)?,
-        Node::Link(target) => put_link(out, &path, target.as_slice())?,
-    }
-    Ok(())
-}
-
-/// Appends the entries below the root.
-fn put_entries(out: &mut Vec<u8>, tree: &Tree) -> Result<(), NoMemory>
-    ensures kept { IsKept tree.now }
-    ensures out { OnOk result (out.new.items
-        ≡ out.old.items ++ flat_map row_text (spec.rows_behind tree.now.files [] tree.now.names)) }
-{
-    let mut firsts = BTreeMap::new(tree.home().allocator());
-    let mut entries = tree.names().iter();
-    entries.next();
-    let mut entry = 1;
-    for (place, node) in entries {
-        put_entry(out, &mut firsts, tree, entry, place, node)?;
-        entry += 1;
-    }
-    Ok(())
-}
-
 /// The tree file of a tree. Memory for it is taken at once, so that the bytes of files are copied once.
 pub(super) fn picture_of(tree: &Tree) -> Result<Vec<u8>, NoMemory>
     ensures { IfOk result (λ v. v.items ≡ spec.picture tree.now) }
 {
-    let mut out = Vec::with_capacity(tree.home().allocator(), file_size(tree))?;
+    let root = tree.names().root_directory();
+    let mut out = Vec::with_capacity(tree.home().allocator(), file_size(tree, root))?;
     put_front(&mut out, tree)?;
-    put_entries(&mut out, tree)?;
+    put_entries(&mut out, tree, root)?;
     Ok(out)
 }

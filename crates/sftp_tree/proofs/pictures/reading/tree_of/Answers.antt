@@ -1,22 +1,69 @@
 -- The tree of a tree file is one.
-use Rattle.std.proofs.Common.{length, sym, ap, subst, ◌∙◌, arith}
+use Rattle.std.proofs.Common.{◌≡◌, ℕ, List, [], length, sym, ap, subst, ◌∙◌, arith}
+use Rattle.sftp_path.specs.Place.{Place, place_cmp}
+use Rattle.sftp_path.specs.Table.{InOrder}
+use Rattle.sftp_treefile.specs.declared.files.Row.{Row}
+use Rattle.sftp_treefile.specs.declared.files.TreeFile.{TreeFile}
 use Rattle.sftp_treefile.specs.TreeFile.{place_of}
-use Rattle.sftp_tree.specs.Tree.{IsKept}
+use Rattle.sftp_tree.specs.Tree.{Names, IsKept, is_directory, node_at}
+use Rattle.sftp_tree.specs.StoredFiles.{seen, AreCounted}
+use Rattle.sftp_tree.specs.PictureParts.{Stores, IsGrown, names_of, tree_of}
 use Rattle.sftp_tree.proofs.TreeFiles.Files.{kept_of_file}
-use Rattle.sftp_tree.proofs.TreeFiles.Numbers.{made_few}
+use Rattle.sftp_tree.proofs.TreeFiles.Numbers.{made_few, length-entries}
 use Rattle.sftp_tree.proofs.TreeFiles.Stores.{many_files, tree_grown}
 use Rattle.sftp_tree.proofs.pictures.reading.tree_of.Goals as goal
+use Rattle.sftp_tree.proofs.pictures.reading.tree_of.Goals.{After-len-made}
 
 pub overflow_cast-made : goal.overflow_cast-made
 overflow_cast-made c =
-    let rows = c.into_vec.result.items in
-    omega (arith, c.len-made.ensures, many_files c.args.file.root rows c.in_ok-names.field-0.names c.in_ok-names.field-0.files c.in_ok-names.ensures, made_few rows, ap length c.into_vec.ensures, c.requires.count)
+    let rows = c.into_vec-rows.result.items in
+    let g = c.in_ok-root.field-0 in
+    omega (arith, c.len-made.ensures, many_files c.args.file.root rows g.root g.files c.in_ok-root.ensures, made_few rows, ap length c.into_vec-rows.ensures, c.requires.count)
+
+names-are : (c : After-len-made) → c.in_ok-root.field-0.root ≡ names_of c.args.file.root c.args.file.rows
+names-are c = c.in_ok-root.ensures.names_are ∙ ap (names_of c.args.file.root) c.into_vec-rows.ensures
+
+pub of-requires-clause-ordered : goal.of-requires-clause-ordered
+of-requires-clause-ordered c =
+    subst (λ (ns : Names). InOrder place_cmp ns) (sym (names-are c))
+    (kept_of_file c.args.file c.requires).well_formed.ordered
+
+pub of-requires-clause-directory : goal.of-requires-clause-directory
+of-requires-clause-directory c =
+    ap (λ (ns : Names). is_directory (node_at ns [])) (names-are c)
+    ∙ (kept_of_file c.args.file c.requires).well_formed.root
+
+pub of-requires-clause-count : goal.of-requires-clause-count
+of-requires-clause-count c =
+    let rows = c.into_vec-rows.result.items in
+    omega (arith, c.len-len.ensures, ap length c.in_ok-root.ensures.names_are, length-entries [] rows)
+
+-- the tree of the entries, whose root is the one that was read
+same : (file : TreeFile) (rows : List Row) (names root : Names) (files : Stores) (made : ℕ) (home : Place)
+    → names ≡ root → rows ≡ file.rows → IsGrown file.root rows root files → made ≡ length files
+    → home ≡ place_of file.home → seen names files made file.limits home file.uid file.gid ≡ tree_of file
+same file rows names root files made home are rows-are grown made-is home-is =
+    ap (λ ns. seen ns files made file.limits home file.uid file.gid) are
+    ∙ tree_grown file rows root files made home rows-are grown made-is home-is
 
 pub from_parts-requires-clause-kept : goal.from_parts-requires-clause-kept
 from_parts-requires-clause-kept c =
-    let same = tree_grown c.args.file c.into_vec.result.items c.in_ok-names.field-0.names c.in_ok-names.field-0.files c.len-made.result c.in_ok-home.home c.into_vec.ensures c.in_ok-names.ensures c.len-made.ensures (c.in_ok-home.ensures ∙ ap place_of c.as_slice.ensures) in
-    subst IsKept (sym same) (kept_of_file c.args.file c.requires)
+    let g = c.in_ok-root.field-0 in
+    subst IsKept
+    (sym
+    (same c.args.file c.into_vec-rows.result.items c.of.result g.root g.files c.len-made.result c.in_ok-home.home
+    c.of.ensures c.into_vec-rows.ensures c.in_ok-root.ensures c.len-made.ensures
+    (c.in_ok-home.ensures ∙ ap place_of c.as_slice.ensures)))
+    (kept_of_file c.args.file c.requires)
+
+pub from_parts-requires-clause-counted : goal.from_parts-requires-clause-counted
+from_parts-requires-clause-counted c =
+    subst (λ ns. AreCounted ns c.in_ok-root.field-0.files) (sym c.of.ensures) c.in_ok-root.ensures.counted
 
 pub returns : goal.returns
 returns c =
-    c.from_parts.ensures ∙ tree_grown c.args.file c.into_vec.result.items c.in_ok-names.field-0.names c.in_ok-names.field-0.files c.len-made.result c.in_ok-home.home c.into_vec.ensures c.in_ok-names.ensures c.len-made.ensures (c.in_ok-home.ensures ∙ ap place_of c.as_slice.ensures)
+    let g = c.in_ok-root.field-0 in
+    c.from_parts.ensures
+    ∙ same c.args.file c.into_vec-rows.result.items c.of.result g.root g.files c.len-made.result c.in_ok-home.home
+    c.of.ensures c.into_vec-rows.ensures c.in_ok-root.ensures c.len-made.ensures
+    (c.in_ok-home.ensures ∙ ap place_of c.as_slice.ensures)

@@ -31,8 +31,8 @@ blank-seen names stores bounds home alone none usual root =
 
 pub from_parts-requires-clause-kept : goal.from_parts-requires-clause-kept
 from_parts-requires-clause-kept c =
-    subst IsKept (sym (blank-seen _ _ _ _ c.in_ok-names.ensures c.new-files.ensures c.usual_limits.ensures c.root-home.ensures)) blank_kept
+    subst IsKept (sym (blank-seen _ _ _ _ c.root-names.ensures c.new-files.ensures c.usual_limits.ensures c.root-home.ensures)) blank_kept
 
 pub returns : goal.returns
 returns c =
-    c.from_parts.ensures ∙ blank-seen _ _ _ _ c.in_ok-names.ensures c.new-files.ensures c.usual_limits.ensures c.root-home.ensures
+    c.from_parts.ensures ∙ blank-seen _ _ _ _ c.root-names.ensures c.new-files.ensures c.usual_limits.ensures c.root-home.ensures

@@ -6,9 +6,10 @@ use Rattle.sftp_tree.proofs.trees.Tree.follow_route.Given as goal
 
 abbrev pub invariant-loop-component : goal.invariant-loop-component
 invariant-loop-component l = record {
+  names : l.trail.names ≡ l.self.names;
   steps : list_all is_step l.route ≡ true;
-  same : walks.walk l.self.names l.follow 40 [] l.fn.route ≡ walks.walk l.self.names l.follow l.links_left l.at l.route;
+  same : walks.walk l.self.names l.follow 40 [] l.fn.route ≡ walks.walk l.self.names l.follow l.links_left l.trail.at l.route;
 }
 
 abbrev pub decreases-loop-component : goal.decreases-loop-component
-decreases-loop-component l = walks.looked l.self.names l.follow l.links_left l.at l.route
+decreases-loop-component l = walks.looked l.self.names l.follow l.links_left l.trail.at l.route

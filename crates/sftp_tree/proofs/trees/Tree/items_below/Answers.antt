@@ -1,60 +1,70 @@
-use Rattle.std.proofs.Common.{List, ◌+◌, ◌++◌, map, filter_map, drop, sym, subst, ap, ◌∙◌}
+use Rattle.std.proofs.Common.{◌≡◌, ◌∷◌, List, ◌++◌, map, filter_map, [], refl, sym, subst, ap, ◌∙◌}
 use Rattle.std.specs.List.{AllByRecursion}
-use Rattle.std.specs.Map.Iter.{deref_pair}
-use Rattle.sftp_path.specs.Place.{Name}
 use Rattle.sftp_path.specs.Table.{Table}
-use Rattle.sftp_tree.specs.declared.nodes.Node.{Node}
+use Rattle.sftp_path.specs.Place.{Name}
+use Rattle.sftp_tree.specs.declared.entries.directories.Child.{Child}
 use Rattle.sftp_tree.specs.declared.listings.Item.{Item}
-use Rattle.sftp_tree.specs.Tree.{IsNode}
-use Rattle.sftp_tree.specs.Listings.{shown_child, listing}
+use Rattle.sftp_tree.specs.Tree.{IsNode, is_directory}
+use Rattle.sftp_tree.specs.Listings.{children, shown_child, listing}
 use Rattle.sftp_tree.specs.Items.{entry_of}
-use Rattle.sftp_tree.proofs.Requests.Listings.{children-kept, front, listing-of, listed-on, listed-all}
+use Rattle.sftp_tree.specs.Nesting.{Children, AreBranches}
+use Rattle.sftp_tree.specs.NodesBelow.{nodes_of}
+use Rattle.sftp_tree.proofs.Nesting.NodesBelow.{children-alike, own-kept, listed-child, listed-none}
+use Rattle.sftp_tree.proofs.Requests.Listings.{children-kept, listing-of}
 use Rattle.sftp_tree.proofs.trees.Tree.items_below.Goals as goal
 
-pub loop-child-init : goal.loop-child-init
-loop-child-init c =
+pub directory_of-dir-requires : goal.directory_of-dir-requires
+directory_of-dir-requires c = ap is_directory c.requires.there.node ∙ c.requires.directory
+
+pub loop-name-init : goal.loop-name-init
+loop-name-init c =
     let t = c.args.self.now in
-    let place = c.args.place.now in
-    let found = map deref_pair c.as_slice-child-items.result.now in
-    let is = ap (map deref_pair) c.as_slice-child-items.ensures.value ∙ c.in_ok-children.ensures in
+    let place = c.args.found.now.place in
+    let dir = c.directory_of-dir.result.now in
+    let left = c.into_iter-name-iterator.result in
+    let given : left ≡ c.children-name-items.result = c.into_iter-name-iterator.ensures.into_iter_gives in
+    let is : nodes_of left ≡ children t.names place =
+    ap nodes_of given ∙ c.children-name-items.ensures.nodes
+    ∙ children-alike t.names dir place c.requires.kept.well_formed.ordered c.children-name-items.ensures.ordered
+    (c.directory_of-dir.ensures t.names c.requires.there) in
     record {
       listed =
-          ap (λ (xs : List Item). map entry_of xs ++ filter_map (shown_child t) found) c.new-items.ensures.items
-          ∙ listing-of t place c.names.result.now found c.names.ensures.names is;
+          ap (λ (xs : List Item). map entry_of xs ++ filter_map (shown_child t) (nodes_of left)) c.new-items.ensures.items
+          ∙ listing-of t place t.names (nodes_of left) refl is;
       nodes =
           subst (AllByRecursion (λ e. IsNode t.files e.1)) (sym is)
-          (children-kept t.files c.names.result.now place
-          (subst (AllByRecursion (λ e. IsNode t.files e.1))
-          (sym c.names.ensures.names) c.names.ensures.kept.well_formed.nodes));
+          (children-kept t.files t.names place c.requires.kept.well_formed.nodes);
+      branches = subst AreBranches (sym given) c.children-name-items.ensures.children.1;
     }
 
 pub item-requires : goal.item-requires
 item-requires c =
-    let at = c.loop-child in
-    (subst (AllByRecursion (λ e. IsNode c.args.self.now.files e.1))
-    (front c.as_slice-child-items.result.now at.child-index c.child-item.result c.loop-child-test.true
-    c.child-item.is) at.invariant.nodes).0
+    let at = c.loop-name in
+    let x : Name × Child = (c.in-Some.name.now, c.in-Some.child.now) in
+    (own-kept c.args.self.now.files x c.next.new.self
+    (subst (λ (cs : Children). AllByRecursion (λ e. IsNode c.args.self.now.files e.1) (nodes_of cs))
+    c.in-Some.ensures.steps at.invariant.nodes)).0
 
-pub loop-child-preserved : goal.loop-child-preserved
-loop-child-preserved c =
+pub loop-name-preserved : goal.loop-name-preserved
+loop-name-preserved c =
     let t = c.args.self.now in
-    let at = c.loop-child in
-    let all = c.as_slice-child-items.result.now in
-    let x = c.child-item.result in
-    let rest = map deref_pair (drop (at.child-index + 1) all) in
-    let is = front all at.child-index x c.loop-child-test.true c.child-item.is in
+    let at = c.loop-name in
+    let x : Name × Child = (c.in-Some.name.now, c.in-Some.child.now) in
+    let branches : AreBranches (x ∷ c.next.new.self) = subst AreBranches c.in-Some.ensures.steps at.invariant.branches in
     record {
       listed =
-          listed-on t at.items.items c.push.new.self.items c.in_ok-item.field-0 (deref_pair x) rest
-          (listing t c.args.place.now)
-          c.in_ok-push.ensures.items c.in_ok-item.ensures
-          (ap (λ (es : Table Name Node). map entry_of at.items.items ++ filter_map (shown_child t) es) (sym is)
-          ∙ at.invariant.listed);
-      nodes = (subst (AllByRecursion (λ e. IsNode t.files e.1)) is at.invariant.nodes).1;
+          listed-child t at.items.items c.push.new.self.items c.in_ok-item.field-0 x c.next.new.self
+          (listing t c.args.found.now.place) branches.0 c.in_ok-push.ensures.items c.in_ok-item.ensures
+          (ap (λ (cs : Children). map entry_of at.items.items ++ filter_map (shown_child t) (nodes_of cs))
+          (sym c.in-Some.ensures.steps) ∙ at.invariant.listed);
+      nodes =
+          (own-kept t.files x c.next.new.self
+          (subst (λ (cs : Children). AllByRecursion (λ e. IsNode t.files e.1) (nodes_of cs))
+          c.in-Some.ensures.steps at.invariant.nodes)).1;
+      branches = branches.1;
     }
 
 pub returns : goal.returns
 returns c =
-    listed-all c.args.self.now c.loop-child.items.items c.as_slice-child-items.result.now c.loop-child.child-index
-    (listing c.args.self.now c.args.place.now)
-    c.loop-child-test.false c.loop-child.invariant.listed
+    listed-none c.args.self.now c.loop-name.items.items c.loop-name.name-iterator
+    (listing c.args.self.now c.args.found.now.place) c.in-None.ensures.steps.0 c.loop-name.invariant.listed

@@ -18,7 +18,7 @@ forget_name-requires c =
     one-to-lose c.self.inside.files c.put.new.self c.new-number.result c.args.content c.in_ok-put.ensures.ok
 
 -- the files are as before
-files-back : (c : goal.After-forget_name) → c.forget_name.new.self ≡ c.self.inside.files
+files-back : (c : goal.After-drop-place-inside-in-Err) → c.forget_name.new.self ≡ c.self.inside.files
 files-back c =
     let inside = c.self.inside in
     let free =
@@ -54,7 +54,7 @@ overflow_add-self c =
     (ap (λ (t : Tree). nat_lt (t.made + 1) (2 ^ 32)) c.self.view_is ∙ last) in
     omega (arith, small)
 
-parts : (c : goal.After-self-1)
+parts : (c : goal.After-drop-place-inside-2)
     →
     (seen c.put-2.new.self c.put.new.self (c.self.inside.made + 1) c.self.inside.limits c.self.inside.home
     c.self.inside.uid c.self.inside.gid ≡ with_new_file c.args.self.now c.args.place c.args.content) ×
@@ -66,7 +66,7 @@ parts c =
     let both = made-parts inside.names inside.files inside.made inside.limits inside.home inside.uid inside.gid c.args.place c.args.content c.self.invariant.0 c.self.invariant.1 absent c.put-2.new.self c.put.new.self (c.in_default.ensures.ok ∙ ap (λ n. with_node inside.names c.args.place (File n)) number) (c.in_ok-put.ensures.ok ∙ ap (λ n. put nat_cmp inside.files n (record { content = c.args.content; names = 1; pins = 0 })) number) in
     (both.0 ∙ ap (λ (t : Tree). with_new_file t c.args.place c.args.content) c.self.view_is, both.1)
 
-kept : (c : goal.After-self-1) → IsKept (with_new_file c.args.self.now c.args.place c.args.content)
+kept : (c : goal.After-drop-place-inside-2) → IsKept (with_new_file c.args.self.now c.args.place c.args.content)
 kept c =
     kept-new c.args.self.now c.args.place c.args.content (subst IsKept c.self.view_is c.self.invariant.0) c.requires
 

@@ -33,7 +33,7 @@ forget_name-requires c =
     (name-to-lose c.self.inside.names c.self.inside.files c.self.invariant.1 c.args.new (node_at c.self.inside.names c.args.new) refl)
 
 -- the tree afterwards, and its counts
-parts : (c : goal.Joined-gone) → (seen c.move_node.new.self c.forget_name.new.self c.self.inside.made c.self.inside.limits c.self.inside.home c.self.inside.uid c.self.inside.gid ≡ trim (put_in_its_stead c.args.self.now c.args.old.now c.args.new)) × AreCounted c.move_node.new.self c.forget_name.new.self
+parts : (c : goal.After-drop-new-inside-2) → (seen c.move_node.new.self c.forget_name.new.self c.self.inside.made c.self.inside.limits c.self.inside.home c.self.inside.uid c.self.inside.gid ≡ trim (put_in_its_stead c.args.self.now c.args.old.now c.args.new)) × AreCounted c.move_node.new.self c.forget_name.new.self
 parts c =
     let names = c.self.inside.names in
     let old = c.args.old.now in

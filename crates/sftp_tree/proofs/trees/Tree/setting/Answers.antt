@@ -1,4 +1,5 @@
-use Rattle.std.proofs.Common.{sym, ◌∙◌, ap, Some, option_copied}
+use Rattle.std.proofs.Common.{sym, ◌∙◌, ap, Some, option_map}
+use Rattle.sftp_tree.specs.Seen.{node_seen}
 use Rattle.sftp_tree.specs.declared.nodes.Node.TheVariants.{Dir}
 use Rattle.sftp_tree.proofs.WellFormedTrees.Found.{node-kept}
 use Rattle.sftp_tree.proofs.trees.Tree.setting.Goals as goal
@@ -6,4 +7,4 @@ use Rattle.sftp_tree.proofs.trees.Tree.setting.Goals as goal
 pub changed_owner-requires : goal.changed_owner-requires
 changed_owner-requires c =
     node-kept c.args.self.now c.args.place (Dir c.in-Dir.owner) c.requires.kept
-    (sym c.requires.there ∙ ap option_copied c.in-Some.is ∙ ap Some c.in-Dir.is)
+    (sym c.requires.there ∙ ap (option_map node_seen) c.in-Some.is ∙ ap (λ s. Some (node_seen s)) c.in-Dir.is)

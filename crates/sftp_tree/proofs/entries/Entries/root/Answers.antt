@@ -1,0 +1,6 @@
+use Rattle.std.proofs.Common.{sym, ap, length}
+use Rattle.sftp_tree.proofs.Nesting.Moves.{root-branch}
+use Rattle.sftp_tree.proofs.entries.Entries.root.Goals as goal
+
+pub invariant_of-result : goal.invariant_of-result
+invariant_of-result c = (root-branch c.new.result c.args.owner c.new.ensures, sym (ap length c.new.ensures))
