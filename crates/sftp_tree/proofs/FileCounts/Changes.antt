@@ -62,13 +62,3 @@ pub reversed : (o : Ordering) → is_eq (ordering_reverse o) ≡ is_eq o
 reversed Less = refl
 reversed Equal = refl
 reversed Greater = refl
-
--- what is written through a reference into the map is put there
-pub written-put : {K X : Type 0} (cmp : K → K → Ordering) → IsTotalOrder cmp → IsAntisymmetric cmp → (m n : BTreeMap K X) (key : K) (value : X) → IsOrdered cmp m → IsSome (get_by (cmp key) m) → WritesThrough cmp (cmp key) m value n → n.entries ≡ put cmp m.entries key value
-unfolding get
-written-put cmp total same m n key value order there through =
-    let updates = through.3 there in
-    same_table cmp total same n.entries (put cmp m.entries key value) through.4 (InOrder-put cmp total m.entries key value order)
-    (λ at.
-    updates.0 at ∙ (λ i. cond ((ap is_eq (total.antisymm key at) ∙ reversed (cmp at key)) i) (Some value) (get_by (cmp at) m))
-    ∙ sym (get-put cmp total m.entries key value at))

@@ -63,14 +63,6 @@ apart-from old new apart tie =
     let begun : begins old new ≡ true = ap (begins old) (one ∙ sym (append-nil old)) ∙ begins-append old [] in
     cc
 
--- the node at the old place with nothing below it is put at the new one, and taken from the old one
-pub alone-moved : (names : Names) (old new : Place) (it : Node) → InOrder place_cmp names → node_at names old ≡ Some it → has_entries names old ≡ false → begins old new ≡ false → ((n : Name) (ns : Place) → node_at names (new ++ n ∷ ns) ≡ None) → rekeyed old new (without_node names new) ≡ without_node (with_node names new it) old
-alone-moved names old new it order there empty apart alone =
-    rekeyed-alone_put_first old new (without_node names new) it (InOrder-without place_cmp names new order)
-    (get-without_elsewhere place_cmp place_cmp-total names new old order (apart-from old new apart) ∙ there)
-    (λ n ns. nothing-freed names new order (old ++ n ∷ ns) (alone-there names old empty n ns)) (nothing-from names new order alone)
-    ∙ ap (λ ns. without_node ns old) (put-freed names new order it)
-
 -- ---- all entries, one by one
 
 places_decide : (p q : Place) → Decides (same_place p q) (p ≡ q)

@@ -180,15 +180,6 @@ last_child os o top ordered is =
 
 -- ---- the place of the last one
 
-pub place_push : (os : List Opened) (o : Opened) → place_from (os ++ o ∷ []) ≡ place_from os ++ o.name ∷ []
-place_push os o = map-append (λ (x : Opened). x.name) os (o ∷ [])
-
-pub place_above : (os : List Opened) (o : Opened) → place_from os ≡ parent (place_from (os ++ o ∷ []))
-place_above os o = sym (parent-entered (place_from os) o.name) ∙ ap parent (sym (place_push os o))
-
-pub length-place : (os : List Opened) → length (place_from os) ≡ length os
-length-place os = length-map os (λ (o : Opened). o.name)
-
 -- ---- a directory as a child
 
 pub dir_branch : (owner : Owner) (cs : Children) → AreChildren cs → IsBranch (children.Dir (flat_of owner cs))

@@ -63,16 +63,6 @@ write-room t number offset new within there = by (content_at t.files number) ref
         fits-content t number (written_content offset new content) within
         ∙ size-written (limits t) offset new content.bytes (content-fits t number content within is)
 
--- what is written ends below the largest size
-pub is-writable : (t : Tree) (offset : ℕ) (new : List ℕ) → IsKept t → IsTrue (write_fits (limits t) offset new)
-    → IsWritable offset new
-is-writable t offset new kept fit =
-    by (length new) (offset + length new)
-    (subst (λ (bounds : TreeLimits). IsTrue (write_fits bounds offset new)) kept.well_formed.limits fit)
-  where
-    by : (n m : ℕ) → (n == 0 || nat_le m 16777216) ≡ true → 0 < n → m < 2 ^ 63
-    by n m fit some = grind (arith, nat_tests)
-
 -- ---- the tree
 
 content-of : (t : Tree) (number : ℕ) (content : Content) → IsKept t → content_at t.files number ≡ Some content

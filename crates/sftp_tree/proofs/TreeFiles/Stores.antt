@@ -264,28 +264,10 @@ pushed_unpinned numbers next (kinds.Further entry) stores after order none chang
 pushed_unpinned numbers next (kinds.Link target) stores after order none is =
     subst (AllByRecursion (λ (e : ℕ × Stored). e.1.pins ≡ 0)) (sym is) none
 
--- the place of the next row is free
-later_absent : (names : Names) (place : Place) → AllByRecursion (λ q. place_cmp q place ≡ Less) (keys_of names) → node_at names place ≡ None
-later_absent [] place later = get-empty place_cmp place
-later_absent (e ∷ es) place later =
-    let differ : is_eq (place_cmp place e.0) ≡ false = ap is_eq (place_cmp-total.antisymm place e.0 ∙ ap ordering_reverse later.0) in
-    get-cons place_cmp e es place ∙ ap (λ b. cond b (Some e.1) (node_at es place)) differ ∙ later_absent es place later.1
-
 pub keys_before : (root : Owner) (rows : List Row) (row : Row) → IsNext usual_limits rows row → AllByRecursion (λ q. place_cmp q (place_of row.path) ≡ Less) (keys_of (names_of root rows))
 keys_before root rows row next =
     let keys : keys_of (bare_names root rows) ≡ keys_of (names_of root rows) = ap keys_of (sym (names_bare root rows)) ∙ keys_of-map_values bare (names_of root rows) in
     subst (λ (ks : List Place). AllByRecursion (λ q. place_cmp q (place_of row.path) ≡ Less) ks) keys (later_than_all root rows row next)
-
-pub row_absent : (root : Owner) (rows : List Row) (row : Row) (names : Names) (place : Place) → IsNext usual_limits rows row → names ≡ names_of root rows → place ≡ place_of row.path → node_at names place ≡ None
-row_absent root rows row names place next names-are place-is =
-    (λ i. node_at (names-are i) (place-is i)) ∙ later_absent (names_of root rows) (place_of row.path) (keys_before root rows row next)
-
--- and its parent is a directory
-pub row_in_directory : (root : Owner) (rows : List Row) (row : Row) (names : Names) (place : Place) → IsOwner root → AreRows usual_limits [] rows → IsNext usual_limits rows row → names ≡ names_of root rows → place ≡ place_of row.path
-    → IsTrue (is_directory (node_at names (parent place)))
-row_in_directory root rows row names place owner fit next names-are place-is =
-    (λ i. is_directory (node_at (names-are i) (parent (place-is i)))) ∙ sym (directory_bare (names_of root rows) (parent (place_of row.path)))
-    ∙ ap (λ (ns : Names). is_directory (node_at ns (parent (place_of row.path)))) (names_bare root rows) ∙ row_parent root rows row owner fit next
 
 entry_put : (root : Owner) (rows : List Row) (row : Row) (names new : Names) (place : Place) (standing : Node) → IsNext usual_limits rows row → names ≡ names_of root rows
     → place ≡ place_of row.path → standing ≡ node_of rows row.kind → new ≡ with_node names place standing → new ≡ names_of root (rows ++ row ∷ [])
