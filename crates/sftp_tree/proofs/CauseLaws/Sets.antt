@@ -1,9 +1,9 @@
 -- Sets of causes: what is in none, and `NoRoom`.
-use Rattle.std.proofs.Common.{rules, ◌≡◌, ℕ, zero, suc, Bool, true, false, ◌&&◌, List, [], ◌∷◌, refl, IsTrue, ◌||◌, not, sym, ap, ◌∙◌}
+use Rattle.std.proofs.Common.{rules, ◌≡◌, ℕ, zero, suc, Bool, true, false, ◌&&◌, List, [], ◌∷◌, refl, IsTrue}
 use Rattle.std.specs.List.{list_any}
 use Rattle.std.proofs.lemmas.Bool.{or_parts, eq-eqb}
 use Rattle.sftp_tree.specs.declared.causes.Cause.{Cause}
-use Rattle.sftp_tree.specs.declared.causes.Cause.TheVariants.{BadPath, BadFlags, NoRoom}
+use Rattle.sftp_tree.specs.declared.causes.Cause.TheVariants.{BadFlags}
 use Rattle.sftp_tree.specs.Tree.{Tree, fits}
 use Rattle.sftp_tree.specs.Causes.{CauseSet, every_cause, row, only, is_none, when}
 use Rattle.sftp_tree.specs.Requests.{with_room}

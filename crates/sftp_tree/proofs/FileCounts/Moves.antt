@@ -14,14 +14,13 @@ use Rattle.sftp_path.specs.Place.{Name, Place, place_cmp, begins}
 use Rattle.sftp_path.specs.Table.{InOrder, get, put, without, from_entries}
 use Rattle.sftp_path.specs.Rekeying.{rekeyed, renamed, NothingFrom}
 use Rattle.sftp_path.proofs.Order.{place_cmp-total, place_cmp-same, begins-append}
-use Rattle.sftp_path.proofs.Table.Laws.{get-put, get-without, get-without_here, get-without_elsewhere, InOrder-put, InOrder-without, same_table}
-use Rattle.sftp_path.proofs.Move.Entries.{count-rekeyed, rekeyed-alone_put_first, rekeyed-last_of}
+use Rattle.sftp_path.proofs.Table.Laws.{get-put, get-without, get-without_here, InOrder-put, InOrder-without, same_table}
+use Rattle.sftp_path.proofs.Move.Entries.{count-rekeyed, rekeyed-last_of}
 use Rattle.sftp_path.proofs.Table.Entries.{get-front}
 use Rattle.sftp_treefile.specs.TreeFile.{same_place}
 use Rattle.sftp_tree.specs.declared.nodes.Node.{Node}
-use Rattle.sftp_tree.specs.Tree.{Names, node_at, with_node, without_node, has_entries, names_file, times_named}
+use Rattle.sftp_tree.specs.Tree.{Names, node_at, with_node, without_node, names_file, times_named}
 use Rattle.sftp_tree.proofs.FileCounts.Names.{one_name, named-without}
-use Rattle.sftp_tree.proofs.WellFormedTrees.Places.{alone-there}
 use Rattle.sftp_tree.proofs.FileCounts.Changes.{reversed}
 
 -- ---- a place that is freed

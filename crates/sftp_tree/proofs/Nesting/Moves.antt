@@ -1,14 +1,12 @@
 -- What a directory has once a child moved to another place.
 use Rattle.std.proofs.Common.{◌≡◌, ◌==◌, ◌&&◌, Bool, true, false, [], ◌∷◌, ◌++◌, length, Option, Some, None, IsTrue}
 use Rattle.std.proofs.Common.{is_some, option_copied, Bor, refl, sym, ap, subst, ◌∙◌, arith, IfSome}
-use Rattle.std.specs.List.{AllByRecursion}
 use Rattle.std.specs.List.Sorted.{IsStrictlySortedBy}
 use Rattle.std.specs.Cmp.Lexicographic.{nat_list_eq_equiv}
-use Rattle.std.proofs.lemmas.List.{append-nil, append_assoc}
+use Rattle.std.proofs.lemmas.List.{append-nil}
 use Rattle.std.proofs.lemmas.Bool.Decides.{nat_tests}
-use Rattle.sftp_path.specs.Place.{Name, Place, place_cmp, same_bytes, begins, parent}
-use Rattle.sftp_path.specs.Table.{InOrder, get}
-use Rattle.sftp_path.proofs.Order.{parent-entered}
+use Rattle.sftp_path.specs.Place.{Name, Place, same_bytes, begins}
+use Rattle.sftp_path.specs.Table.{get}
 use Rattle.sftp_treefile.specs.declared.files.Owner.{Owner}
 use Rattle.sftp_tree.specs.declared.nodes.Node.{Node}
 use Rattle.sftp_tree.specs.declared.nodes.Node.TheVariants as nodes

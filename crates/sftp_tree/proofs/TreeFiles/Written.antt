@@ -1,17 +1,14 @@
 -- A tree file is written entry by entry.
-use Rattle.std.proofs.Common.{◌≡◌, ℕ, zero, suc, ◌+◌, ◌-◌, ◌<◌, ◌≤◌, ◌^◌, ◌==◌, Bool, true, false, cond, if◌then◌else◌, List, [], ◌∷◌, ◌++◌, length, take, drop, Option, Some, None, refl, sym, ap, subst, ◌∙◌, arith}
+use Rattle.std.proofs.Common.{◌≡◌, ℕ, suc, ◌+◌, ◌-◌, ◌<◌, ◌≤◌, ◌^◌, ◌==◌, Bool, true, false, cond, if◌then◌else◌, List, [], ◌∷◌, ◌++◌, length, take, Option, Some, None, refl, sym, ap, ◌∙◌, arith}
 use Rattle.std.specs.Prelude.{IfSome}
 use Rattle.std.specs.List.{flat_map, AllByRecursion}
-use Rattle.std.specs.Map.Iter.{TakesFirst}
 use Rattle.std.specs.Option.{option_map}
 use Rattle.std.specs.Ordering.{nat_cmp, is_eq}
 use Rattle.std.specs.Cmp.{nat_cmp_total}
 use Rattle.std.proofs.lemmas.Bool.{eqb-true, eq-eqb}
-use Rattle.std.proofs.lemmas.List.{append-nil, length-take-le, take-append-drop, flat_map_more}
 use Rattle.sftp_path.specs.Place.{Place, absolute}
-use Rattle.sftp_path.specs.Table.{get, put}
-use Rattle.sftp_path.proofs.Table.Laws.{get-empty, get-put}
-use Rattle.sftp_treefile.specs.declared.files.Row.{Row}
+use Rattle.sftp_path.specs.Table.{get}
+use Rattle.sftp_path.proofs.Table.Laws.{get-put}
 use Rattle.sftp_treefile.specs.Limits.{usual_limits}
 use Rattle.sftp_treefile.specs.TreeFile.{row_text}
 use Rattle.sftp_treefile.specs.TreeFileParts.{head_bytes}
@@ -25,7 +22,7 @@ use Rattle.sftp_tree.specs.Picture.{entry_naming, naming, kind_of, rows_behind, 
 use Rattle.sftp_tree.specs.PictureParts.{only_root, head_of, Firsts, with_first, firsts_with, known_kind, IsShort}
 use Rattle.sftp_tree.proofs.TreeFiles.Tables.{IsPlace, IsFitNode}
 use Rattle.sftp_tree.proofs.TreeFiles.Contents.{number_is}
-use Rattle.sftp_tree.proofs.TreeFiles.Named.{place_text, row_of, one_row, rows_push, IsBelowRoot, IsFitContent, all_at, length-rows}
+use Rattle.sftp_tree.proofs.TreeFiles.Named.{place_text, IsBelowRoot, IsFitContent, all_at, length-rows}
 use Rattle.sftp_tree.proofs.Limits.Tests.{stands-of}
 use Rattle.sftp_tree.proofs.TreeFiles.Files.{limits_from, usual-entries, split_tree, fit_files}
 

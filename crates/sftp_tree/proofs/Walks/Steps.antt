@@ -1,6 +1,6 @@
 -- Walks, component by component.
 use Rattle.std.proofs.Common.{◌≡◌, ℕ, zero, suc, ◌<◌, Bool, true, false, if◌then◌else◌, List, [], ◌∷◌, ◌++◌, refl, sym, ◌∙◌, ap, subst, Option, Result, Ok, Err, Bor, arith}
-use Rattle.sftp_path.specs.Place.{Name, Place, components, is_absolute, is_good_path}
+use Rattle.sftp_path.specs.Place.{Name, Place, components, is_good_path}
 use Rattle.sftp_tree.specs.declared.causes.Cause.{Cause}
 use Rattle.sftp_tree.specs.declared.causes.Cause.TheVariants.{BadPath, Loop}
 use Rattle.sftp_tree.specs.declared.stepping.Met.{Met}
