@@ -1,6 +1,6 @@
 -- Sets of causes as bits.
 use Rattle.std.proofs.Common.{rules, ◌≡◌, ◌≢◌, ◌==◌, ◌<◌, ℕ, ◌*◌, ◌%◌, ◌^◌, Bool, true, false, ◌&&◌, ◌||◌, refl, sym, ap, ◌∙◌, lit<, arith}
-use Rattle.std.specs.Int.{bit_at, w16, w32}
+use Rattle.std.specs.Int.{bit_at, w32}
 use Rattle.std.specs.Int.Bits.{bit_or}
 use Rattle.std.specs.Prelude.{max}
 use Rattle.std.proofs.lemmas.Bool.{eqb-true, eqb-false}

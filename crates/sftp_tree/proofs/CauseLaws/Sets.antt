@@ -1,9 +1,9 @@
 -- Sets of causes: what is in none, and `NoRoom`.
-use Rattle.std.proofs.Common.{rules, ◌≡◌, ℕ, zero, suc, Bool, true, false, ◌&&◌, List, [], ◌∷◌, refl, IsTrue, ◌||◌, not, sym, ap, ◌∙◌}
+use Rattle.std.proofs.Common.{rules, ◌≡◌, ℕ, zero, suc, Bool, true, false, ◌&&◌, List, [], ◌∷◌, refl, IsTrue}
 use Rattle.std.specs.List.{list_any}
 use Rattle.std.proofs.lemmas.Bool.{or_parts, eq-eqb}
 use Rattle.sftp_tree.specs.declared.causes.Cause.{Cause}
-use Rattle.sftp_tree.specs.declared.causes.Cause.TheVariants.{BadPath, BadFlags, NoRoom}
+use Rattle.sftp_tree.specs.declared.causes.Cause.TheVariants.{BadFlags}
 use Rattle.sftp_tree.specs.Tree.{Tree, fits}
 use Rattle.sftp_tree.specs.Causes.{CauseSet, every_cause, row, only, is_none, when}
 use Rattle.sftp_tree.specs.Requests.{with_room}
@@ -29,19 +29,6 @@ none-at set (c ∷ cs) (suc n) other none last = none-at set cs n other (or_part
 -- where no cause is in a set, none of them is
 pub none-each : (set : CauseSet) → IsTrue (is_none set) → (c : Cause) → set c ≡ false
 none-each set none c = search rules
-
-pub each-none : (set : CauseSet) → ((c : Cause) → set c ≡ false) → is_none set ≡ true
-each-none set none = λ i. is_none (λ c. none c i)
-
--- one that is in a set is found
-pub some-found : (set : CauseSet) (c : Cause) → set c ≡ true → list_any set every_cause ≡ true
-some-found set c holds = by (list_any set every_cause) refl
-  where
-    by : (b : Bool) → list_any set every_cause ≡ b → b ≡ true
-    by true is = refl
-    by false is =
-        let none = none-each set (ap not is) c in
-        cc
 
 pub only-itself : (c : Cause) → only c c ≡ true
 only-itself c = eq-eqb (row c) (row c) refl

@@ -1,14 +1,10 @@
 -- Files that are changed one at a time: what a call on the map makes of them.
-use Rattle.std.proofs.Common.{rules, ◌≡◌, ◌≢◌, ℕ, ◌-◌, true, false, refl, sym, ap, ◌∙◌, arith, Option, Some, None, is_some, IsSome, cond, option_and_then, nat_le, if◌then◌else◌, Bool}
-use Rattle.std.proofs.lemmas.Bool.Decides.{nat_tests}
+use Rattle.std.proofs.Common.{rules, ◌≡◌, ◌≢◌, ℕ, true, false, refl, sym, ap, ◌∙◌, Option, Some, None, is_some, option_and_then, if◌then◌else◌}
 use Rattle.std.specs.Ordering.{nat_cmp, is_eq, ordering_reverse}
 use Rattle.std.specs.declared.cmp.Ordering.{Ordering}
 use Rattle.std.specs.declared.cmp.Ordering.TheVariants.{Less, Equal, Greater}
-use Rattle.std.specs.Cmp.{IsTotalOrder}
-use Rattle.std.specs.FinMap.{IsAntisymmetric}
 use Rattle.std.specs.BTreeMap.{BTreeMap, IsOrdered, UpdatesBy, WritesThrough, get_by}
-use Rattle.sftp_path.specs.Table.{get, put}
-use Rattle.sftp_path.proofs.Table.Laws.{get-put, InOrder-put, same_table}
+use Rattle.sftp_path.specs.Table.{get}
 use Rattle.sftp_tree.specs.declared.file_contents.Stored.{Stored}
 use Rattle.sftp_tree.specs.StoredFiles.{IsChanged, is_held_still, where_held}
 
@@ -62,13 +58,3 @@ pub reversed : (o : Ordering) → is_eq (ordering_reverse o) ≡ is_eq o
 reversed Less = refl
 reversed Equal = refl
 reversed Greater = refl
-
--- what is written through a reference into the map is put there
-pub written-put : {K X : Type 0} (cmp : K → K → Ordering) → IsTotalOrder cmp → IsAntisymmetric cmp → (m n : BTreeMap K X) (key : K) (value : X) → IsOrdered cmp m → IsSome (get_by (cmp key) m) → WritesThrough cmp (cmp key) m value n → n.entries ≡ put cmp m.entries key value
-unfolding get
-written-put cmp total same m n key value order there through =
-    let updates = through.3 there in
-    same_table cmp total same n.entries (put cmp m.entries key value) through.4 (InOrder-put cmp total m.entries key value order)
-    (λ at.
-    updates.0 at ∙ (λ i. cond ((ap is_eq (total.antisymm key at) ∙ reversed (cmp at key)) i) (Some value) (get_by (cmp at) m))
-    ∙ sym (get-put cmp total m.entries key value at))

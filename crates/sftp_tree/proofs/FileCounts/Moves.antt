@@ -14,14 +14,13 @@ use Rattle.sftp_path.specs.Place.{Name, Place, place_cmp, begins}
 use Rattle.sftp_path.specs.Table.{InOrder, get, put, without, from_entries}
 use Rattle.sftp_path.specs.Rekeying.{rekeyed, renamed, NothingFrom}
 use Rattle.sftp_path.proofs.Order.{place_cmp-total, place_cmp-same, begins-append}
-use Rattle.sftp_path.proofs.Table.Laws.{get-put, get-without, get-without_here, get-without_elsewhere, InOrder-put, InOrder-without, same_table}
-use Rattle.sftp_path.proofs.Move.Entries.{count-rekeyed, rekeyed-alone_put_first, rekeyed-last_of}
+use Rattle.sftp_path.proofs.Table.Laws.{get-put, get-without, get-without_here, InOrder-put, InOrder-without, same_table}
+use Rattle.sftp_path.proofs.Move.Entries.{count-rekeyed, rekeyed-last_of}
 use Rattle.sftp_path.proofs.Table.Entries.{get-front}
 use Rattle.sftp_treefile.specs.TreeFile.{same_place}
 use Rattle.sftp_tree.specs.declared.nodes.Node.{Node}
-use Rattle.sftp_tree.specs.Tree.{Names, node_at, with_node, without_node, has_entries, names_file, times_named}
+use Rattle.sftp_tree.specs.Tree.{Names, node_at, with_node, without_node, names_file, times_named}
 use Rattle.sftp_tree.proofs.FileCounts.Names.{one_name, named-without}
-use Rattle.sftp_tree.proofs.WellFormedTrees.Places.{alone-there}
 use Rattle.sftp_tree.proofs.FileCounts.Changes.{reversed}
 
 -- ---- a place that is freed
@@ -62,14 +61,6 @@ apart-from old new apart tie =
     let one : new ≡ old = place_cmp-same new old tie in
     let begun : begins old new ≡ true = ap (begins old) (one ∙ sym (append-nil old)) ∙ begins-append old [] in
     cc
-
--- the node at the old place with nothing below it is put at the new one, and taken from the old one
-pub alone-moved : (names : Names) (old new : Place) (it : Node) → InOrder place_cmp names → node_at names old ≡ Some it → has_entries names old ≡ false → begins old new ≡ false → ((n : Name) (ns : Place) → node_at names (new ++ n ∷ ns) ≡ None) → rekeyed old new (without_node names new) ≡ without_node (with_node names new it) old
-alone-moved names old new it order there empty apart alone =
-    rekeyed-alone_put_first old new (without_node names new) it (InOrder-without place_cmp names new order)
-    (get-without_elsewhere place_cmp place_cmp-total names new old order (apart-from old new apart) ∙ there)
-    (λ n ns. nothing-freed names new order (old ++ n ∷ ns) (alone-there names old empty n ns)) (nothing-from names new order alone)
-    ∙ ap (λ ns. without_node ns old) (put-freed names new order it)
 
 -- ---- all entries, one by one
 

@@ -1,21 +1,13 @@
 -- Which moves keep to the most names of a place.
-use Rattle.std.proofs.Common.{◌≡◌, ℕ, ◌-◌, Bool, true, false, ◌&&◌, ◌||◌, not, cond, [], ◌∷◌, length, refl, sym, ◌∙◌, ap, nat_le}
+use Rattle.std.proofs.Common.{◌≡◌, ℕ, ◌-◌, Bool, true, ◌&&◌, ◌||◌, not, [], ◌∷◌, length, refl, sym, ◌∙◌, ap, nat_le}
 use Rattle.std.specs.Cmp.Lexicographic.{bytes_decides, texts_ties, nat_list_cmp_total}
 use Rattle.std.specs.Ordering.{ordering_then, is_eq, is_le}
 use Rattle.std.specs.declared.cmp.Ordering.{Ordering}
 use Rattle.std.specs.declared.cmp.Ordering.TheVariants.{Less, Equal, Greater}
-use Rattle.std.specs.declared.ops.Bound.TheVariants.{Included, Unbounded}
-use Rattle.std.specs.List.{list_all, filter, AllByRecursion}
-use Rattle.std.specs.List.Sorted.{IsStrictlySortedBy}
-use Rattle.std.specs.Map.{keys_of}
-use Rattle.std.specs.BTreeMap.Range.{entries_between}
 use Rattle.std.proofs.lemmas.Bool.{and_parts}
-use Rattle.std.proofs.lemmas.Map.Keys.{sorted_head, sorted_tail}
 use Rattle.std.specs.Cmp.{Equal-is}
 use Rattle.sftp_path.specs.Place.{Place, name_cmp, place_cmp, same_bytes, begins}
 use Rattle.sftp_tree.specs.declared.nodes.Node.{Node}
-use Rattle.sftp_tree.specs.Tree.{Names}
-use Rattle.sftp_tree.specs.Room.{reaches_at_most}
 use Rattle.sftp_tree.proofs.PlaceTables.Below.{between-names}
 
 -- ---- the places that a place begins are in a row, from it on
@@ -57,47 +49,5 @@ begins-equal (m ∷ ms) (n ∷ ns) e =
 
 -- ---- the row
 
--- whether each entry of the row in front reaches at most so far
-abbrev pub row_reaches : Place → ℕ → Names → Bool
-row_reaches top room [] = true
-row_reaches top room (e ∷ es) = cond (begins top e.0) (nat_le (length e.0 - length top) room && row_reaches top room es) true
-
 reaches : Place → ℕ → Place × Node → Bool
 reaches top room e = not (begins top e.0) || nat_le (length e.0 - length top) room
-
-none-further : (top : Place) (room : ℕ) (a : Place) (es : Names) → place_cmp top a ≡ Less → begins top a ≡ false → AllByRecursion (λ k. place_cmp a k ≡ Less) (keys_of es) → list_all (reaches top room) es ≡ true
-unfolding reaches
-none-further top room a [] after apart further = refl
-none-further top room a (e ∷ es) after apart further =
-    (λ i. (not (out (begins top e.0) refl i) || nat_le (length e.0 - length top) room) && none-further top room a es after apart further.1 i)
-  where
-    out : (b : Bool) → begins top e.0 ≡ b → begins top e.0 ≡ false
-    out true begun = let it = begins-between top a e.0 after further.0 begun in cc
-    out false begun = begun
-
-row-turn : (top : Place) (room : ℕ) (e : Place × Node) (es row : Names) (o : Ordering) → place_cmp top e.0 ≡ o → AllByRecursion (λ k. place_cmp e.0 k ≡ Less) (keys_of es) → list_all (reaches top room) es ≡ row_reaches top room row → (reaches top room e && list_all (reaches top room) es) ≡ row_reaches top room (cond (is_le o && true) (e ∷ row) row)
-unfolding reaches
-row-turn top room e es row Less is further rest = by (begins top e.0) refl
-  where
-    by : (b : Bool) → begins top e.0 ≡ b → ((not b || nat_le (length e.0 - length top) room) && list_all (reaches top room) es) ≡ cond b (nat_le (length e.0 - length top) room && row_reaches top room row) true
-    by true begun = ap (λ b. nat_le (length e.0 - length top) room && b) rest
-    by false apart = none-further top room e.0 es is apart further
-row-turn top room e es row Equal is further rest = by (begins top e.0) (begins-equal top e.0 is)
-  where
-    by : (b : Bool) → b ≡ true → ((not b || nat_le (length e.0 - length top) room) && list_all (reaches top room) es) ≡ cond b (nat_le (length e.0 - length top) room && row_reaches top room row) true
-    by true begun = ap (λ b. nat_le (length e.0 - length top) room && b) rest
-    by false apart = cc
-row-turn top room e es row Greater is further rest = by (begins top e.0) refl ∙ rest
-  where
-    by : (b : Bool) → begins top e.0 ≡ b → ((not b || nat_le (length e.0 - length top) room) && list_all (reaches top room) es) ≡ list_all (reaches top room) es
-    by true begun = let le = sym (ap is_le is) ∙ begins-le top e.0 begun in cc
-    by false apart = refl
-
-row-is : (top : Place) (room : ℕ) (es : Names) → IsStrictlySortedBy place_cmp (keys_of es) → list_all (reaches top room) es ≡ row_reaches top room (filter (λ e. is_le (place_cmp top e.0) && true) es)
-row-is top room [] ordered = refl
-row-is top room (e ∷ es) ordered =
-    row-turn top room e es (filter (λ e. is_le (place_cmp top e.0) && true) es) (place_cmp top e.0) refl (sorted_head place_cmp e.0 (keys_of es) ordered) (row-is top room es (sorted_tail place_cmp e.0 (keys_of es) ordered))
-
-pub reaches-row : (top : Place) (room : ℕ) (es : Names) → IsStrictlySortedBy place_cmp (keys_of es) → reaches_at_most es top room ≡ row_reaches top room (entries_between place_cmp (Included top) Unbounded es)
-unfolding reaches
-reaches-row top room es ordered = row-is top room es ordered

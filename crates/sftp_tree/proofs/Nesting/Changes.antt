@@ -22,7 +22,7 @@ use Rattle.sftp_tree.specs.Tree.{Names, node_at, is_directory, is_taken}
 use Rattle.sftp_tree.specs.Nesting.{Children, branch, branch_of, flat_of, IsBranch, AreBranches, AreChildren}
 use Rattle.sftp_tree.specs.Nesting.{IsGrafted, IsSet}
 use Rattle.sftp_tree.proofs.PlaceTables.Each.{each-get, get-each, lookup_holds}
-use Rattle.sftp_tree.proofs.Nesting.Tables.{get-flat, get-root, alone-none, sorted-flat_of}
+use Rattle.sftp_tree.proofs.Nesting.Tables.{get-flat, get-root, sorted-flat_of}
 
 abbrev Map : Type 0
 Map = BTreeMap Name Child

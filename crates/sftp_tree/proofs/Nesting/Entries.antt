@@ -9,10 +9,10 @@ use Rattle.std.specs.Cmp.Lexicographic.{bytes_decides, nat_list_eq_equiv, lists_
 use Rattle.std.proofs.lemmas.Bool.{cases_Bool, and_parts}
 use Rattle.std.proofs.lemmas.List.{append-nil, append_assoc}
 use Rattle.sftp_path.specs.Place.{Name, Place, place_cmp, same_bytes, begins, is_below}
-use Rattle.sftp_path.specs.Rekeying.{rekeyed, NothingFrom}
+use Rattle.sftp_path.specs.Rekeying.{rekeyed}
 use Rattle.sftp_path.specs.Table.{InOrder, get}
 use Rattle.sftp_path.proofs.Move.Laws.{rekeyed-unique, size-rekeyed}
-use Rattle.sftp_path.proofs.Order.{place_cmp-total, place_cmp-same, begins-front, begins-itself, begins-append}
+use Rattle.sftp_path.proofs.Order.{place_cmp-total, place_cmp-same, begins-front, begins-itself}
 use Rattle.sftp_path.proofs.Table.Entries.{without-absent}
 use Rattle.sftp_path.proofs.Table.Laws.{get-cons, same_table, get-put, get-without, InOrder-put, InOrder-without}
 use Rattle.sftp_path.proofs.Table.Laws.{size-put, size-put_present, size-without}

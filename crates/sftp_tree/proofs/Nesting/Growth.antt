@@ -11,7 +11,7 @@ use Rattle.std.specs.declared.cmp.Ordering.{Ordering}
 use Rattle.std.specs.declared.cmp.Ordering.TheVariants.{Less, Equal, Greater}
 use Rattle.std.proofs.Math.Seq.{take-append_seam}
 use Rattle.std.proofs.lemmas.Cmp.{tied_itself}
-use Rattle.std.proofs.lemmas.List.{length-append, length-map, map-append}
+use Rattle.std.proofs.lemmas.List.{length-append, map-append}
 use Rattle.sftp_path.specs.Place.{Name, Place, name_cmp, place_cmp, parent, begins}
 use Rattle.sftp_path.specs.Table.{InOrder, get}
 use Rattle.sftp_path.proofs.Order.{begins-front, parent-entered}
@@ -179,15 +179,6 @@ last_child os o top ordered is =
     sorted_before place_cmp (keys_of o.dir) (o.name ∷ []) (keys_of (placed o.name s.rest)) keys
 
 -- ---- the place of the last one
-
-pub place_push : (os : List Opened) (o : Opened) → place_from (os ++ o ∷ []) ≡ place_from os ++ o.name ∷ []
-place_push os o = map-append (λ (x : Opened). x.name) os (o ∷ [])
-
-pub place_above : (os : List Opened) (o : Opened) → place_from os ≡ parent (place_from (os ++ o ∷ []))
-place_above os o = sym (parent-entered (place_from os) o.name) ∙ ap parent (sym (place_push os o))
-
-pub length-place : (os : List Opened) → length (place_from os) ≡ length os
-length-place os = length-map os (λ (o : Opened). o.name)
 
 -- ---- a directory as a child
 

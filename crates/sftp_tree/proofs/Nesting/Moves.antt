@@ -1,14 +1,12 @@
 -- What a directory has once a child moved to another place.
 use Rattle.std.proofs.Common.{◌≡◌, ◌==◌, ◌&&◌, Bool, true, false, [], ◌∷◌, ◌++◌, length, Option, Some, None, IsTrue}
 use Rattle.std.proofs.Common.{is_some, option_copied, Bor, refl, sym, ap, subst, ◌∙◌, arith, IfSome}
-use Rattle.std.specs.List.{AllByRecursion}
 use Rattle.std.specs.List.Sorted.{IsStrictlySortedBy}
 use Rattle.std.specs.Cmp.Lexicographic.{nat_list_eq_equiv}
-use Rattle.std.proofs.lemmas.List.{append-nil, append_assoc}
+use Rattle.std.proofs.lemmas.List.{append-nil}
 use Rattle.std.proofs.lemmas.Bool.Decides.{nat_tests}
-use Rattle.sftp_path.specs.Place.{Name, Place, place_cmp, same_bytes, begins, parent}
-use Rattle.sftp_path.specs.Table.{InOrder, get}
-use Rattle.sftp_path.proofs.Order.{parent-entered}
+use Rattle.sftp_path.specs.Place.{Name, Place, same_bytes, begins}
+use Rattle.sftp_path.specs.Table.{get}
 use Rattle.sftp_treefile.specs.declared.files.Owner.{Owner}
 use Rattle.sftp_tree.specs.declared.nodes.Node.{Node}
 use Rattle.sftp_tree.specs.declared.nodes.Node.TheVariants as nodes
@@ -145,17 +143,6 @@ moved old new before filled first second after held empty was apart alone f g2 m
       ordered = g4.ordered;
     }
 
--- the places that are exchanged are taken
-pub moved-old : (old new : Place) (before filled : Names) (was : Bool) → begins new old ≡ false
-    → IsFilled new before filled was → IsTrue (is_taken (node_at before old)) → IsTrue (is_taken (node_at filled old))
-moved-old old new before filled was alone f taken =
-    subst (λ o. IsTrue (is_taken o)) (sym (f.elsewhere old alone)) taken
-
-pub moved-new : (old new : Place) (before filled first empty : Names) (was : Bool) → begins old new ≡ false
-    → IsFilled new before filled was → IsGrafted old filled first empty → IsTrue (is_taken (node_at first new))
-moved-new old new before filled first empty was apart f g2 =
-    subst (λ o. IsTrue (is_taken o)) (sym (g2.elsewhere new apart)) f.taken
-
 -- what was at the new place
 pub gone-free : (new : Place) (before filled : Names) → IsFilled new before filled false → None ≡ node_at before new
 gone-free new before filled f = by (node_at before new) (sym f.was)
@@ -163,19 +150,6 @@ gone-free new before filled f = by (node_at before new) (sym f.was)
     by : (o : Option Node) → is_taken o ≡ false → None ≡ o
     by None free = refl
     by (Some node) free = cc
-
-pub gone-taken : (old new : Place) (before filled first empty : Names) (child : Child) → begins old new ≡ false
-    → IsFilled new before filled true → IsGrafted old filled first empty
-    → ((rest : Place) → node_at (branch child) rest ≡ node_at first (new ++ rest))
-    → node_at (branch child) [] ≡ node_at before new
-gone-taken old new before filled first empty child apart f g2 gone =
-    gone [] ∙ ap (node_at first) (append-nil new) ∙ g2.elsewhere new apart
-    ∙ ap (λ (x : Names). node_at x new) (f.same refl)
-
-pub parent-of : (place : Place) (names : Place) (name : Name) (table : Names) → place ≡ names ++ name ∷ []
-    → IsTrue (is_directory (node_at table (parent place))) → IsTrue (is_directory (node_at table names))
-parent-of place names name table is directory =
-    subst (λ (x : Place). IsTrue (is_directory (node_at table x))) (ap parent is ∙ parent-entered names name) directory
 
 -- the same, where the places are given by their parents and last names
 pub moved-at : (old new o n : Place) (before filled first second after held empty : Names) (was : Bool) → old ≡ o

@@ -18,14 +18,13 @@ use Rattle.sftp_path.proofs.Order.{bytes_cmp-same}
 use Rattle.sftp_path.proofs.Table.Laws.{same_table}
 use Rattle.sftp_treefile.specs.declared.files.Owner.{Owner}
 use Rattle.sftp_tree.specs.declared.nodes.Node.{Node}
-use Rattle.sftp_tree.specs.declared.nodes.Node.TheVariants as nodes
 use Rattle.sftp_tree.specs.declared.entries.directories.Child.{Child}
 use Rattle.sftp_tree.specs.declared.entries.directories.Child.TheVariants.{Dir, File, Link}
 use Rattle.sftp_tree.specs.Tree.{Names, Files, Tree, IsNode, node_at, is_directory}
 use Rattle.sftp_tree.specs.Listings.{children, shown_child}
 use Rattle.sftp_tree.specs.Trail.{IsAt}
 use Rattle.sftp_tree.specs.Nesting.{Children, branch, branch_of, flat_of, IsBranch, AreBranches, AreChildren}
-use Rattle.sftp_tree.specs.NodesBelow.{named_node, nodes_of}
+use Rattle.sftp_tree.specs.NodesBelow.{nodes_of}
 use Rattle.sftp_tree.proofs.Nesting.Tables.{get-flat, sorted-flat_of}
 use Rattle.sftp_tree.proofs.Requests.Listings.{listed-on}
 use Rattle.sftp_tree.proofs.Requests.ListedNames.{children-rise, child-at}

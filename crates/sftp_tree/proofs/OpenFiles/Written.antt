@@ -1,5 +1,5 @@
 -- A file to which bytes are written: its size, and that the tree stays one within the limits.
-use Rattle.std.proofs.Common.{◌≡◌, ℕ, ◌+◌, ◌-◌, ◌<◌, ◌^◌, ◌==◌, ◌||◌, Bool, true, false, List, ◌++◌, length, take, drop, append_assoc, refl, ap, subst, ◌∙◌, arith, Option, Some, None, is_some, IsTrue, nat_le, nat_lt, if◌then◌else◌}
+use Rattle.std.proofs.Common.{◌≡◌, ℕ, ◌+◌, ◌-◌, ◌<◌, ◌==◌, ◌||◌, Bool, true, false, List, ◌++◌, length, take, drop, append_assoc, refl, ap, ◌∙◌, arith, Option, Some, None, is_some, IsTrue, nat_le, nat_lt, if◌then◌else◌}
 use Rattle.std.specs.Ordering.{nat_cmp}
 use Rattle.std.specs.FinMap.{nat_cmp-IsAntisymmetric}
 use Rattle.std.proofs.lemmas.Bool.{and_from}
@@ -14,7 +14,6 @@ use Rattle.sftp_tree.specs.declared.file_contents.Content.{Content}
 use Rattle.sftp_tree.specs.Tree.{Tree, IsKept, IsContent, HasFile, limits, fits, content_at}
 use Rattle.sftp_tree.specs.Attributes.{resized}
 use Rattle.sftp_tree.specs.Room.{size_fits}
-use Rattle.sftp_tree.specs.StoredFiles.{IsWritable}
 use Rattle.sftp_tree.specs.FileChanges.{overwritten, written, write_fits, written_content, with_written_file, after_write, after_set}
 use Rattle.sftp_tree.proofs.PlaceTables.Each.{each-get}
 use Rattle.sftp_tree.proofs.WellFormedTrees.Fields.{resized-bytes, bytes-dropped, changed-owner-fits}
@@ -62,16 +61,6 @@ write-room t number offset new within there = by (content_at t.files number) ref
     by (Some content) is there =
         fits-content t number (written_content offset new content) within
         ∙ size-written (limits t) offset new content.bytes (content-fits t number content within is)
-
--- what is written ends below the largest size
-pub is-writable : (t : Tree) (offset : ℕ) (new : List ℕ) → IsKept t → IsTrue (write_fits (limits t) offset new)
-    → IsWritable offset new
-is-writable t offset new kept fit =
-    by (length new) (offset + length new)
-    (subst (λ (bounds : TreeLimits). IsTrue (write_fits bounds offset new)) kept.well_formed.limits fit)
-  where
-    by : (n m : ℕ) → (n == 0 || nat_le m 16777216) ≡ true → 0 < n → m < 2 ^ 63
-    by n m fit some = grind (arith, nat_tests)
 
 -- ---- the tree
 

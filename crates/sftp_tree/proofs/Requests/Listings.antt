@@ -1,9 +1,8 @@
 -- Listings: that what is right below a place is shown, and what a reply to OPENDIR says.
-use Rattle.std.proofs.Common.{◌≡◌, ℕ, ◌+◌, ◌<◌, ◌≤◌, List, [], ◌∷◌, ◌++◌, map, drop, get_or, length, Bor, filter_map}
+use Rattle.std.proofs.Common.{◌≡◌, ℕ, List, [], ◌∷◌, ◌++◌, map, filter_map}
 use Rattle.std.proofs.Common.{option_map, sym, ◌∙◌, ap, Option, Some, None, Ok}
 use Rattle.std.specs.List.{cons_option, AllByRecursion}
-use Rattle.std.specs.Map.Iter.{deref_pair}
-use Rattle.std.proofs.lemmas.List.{append-nil, append_assoc, map-append, drop_more, drop_all}
+use Rattle.std.proofs.lemmas.List.{append_assoc, map-append}
 use Rattle.sftp_wire.specs.declared.attributes.Attrs.{Attrs}
 use Rattle.sftp_wire.specs.declared.packets.Ask.TheVariants.{Opendir}
 use Rattle.sftp_path.specs.Place.{Name, Place}

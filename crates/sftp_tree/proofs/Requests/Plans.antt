@@ -21,13 +21,12 @@ use Rattle.sftp_tree.specs.Causes.{no_causes, when}
 use Rattle.sftp_tree.specs.PlaceCauses.{removing_causes, unlinking_causes, are_one, leaving_causes, giving_causes, exchanging_causes, opening_causes}
 use Rattle.sftp_tree.specs.Walk.{reached}
 use Rattle.sftp_tree.specs.Changes.{with_further_name, put_in_its_stead, with_attributes, with_new_file, new_content, with_emptied_file, with_opened, with_changed_file}
-use Rattle.sftp_tree.specs.Requests.{outcome_at, outcome_between, led, new_led, led_to, shown_at, shown_to, target_of, target_to, text_to, number_at, file_to, causes_at}
+use Rattle.sftp_tree.specs.Requests.{outcome_at, outcome_between, led, new_led, led_to, shown_at, shown_to, target_of, target_to, text_to, number_at, file_to}
 use Rattle.sftp_tree.specs.Refusals.{IsFree, stat_ask}
 use Rattle.sftp_tree.specs.Plans.{changed, IsReady, CanTake, HasNode, IsPlanned, IsPlanAt, IsNaming, IsPlanBetween, IsFileAt, plan_to_open, IsSettingOf, IsSetting}
 use Rattle.sftp_tree.proofs.CauseLaws.Places.{FreeAt, FreeBetween, free-at, free-between, outcome-is}
 use Rattle.sftp_tree.proofs.CauseLaws.Limits.{free-place, file-place, name-place, link-place, directory-place, taken-place, may-leave, may-replace, outside-of, given-below, free-alone}
 use Rattle.sftp_tree.proofs.WellFormedTrees.Places.{nothing-below}
-use Rattle.sftp_tree.proofs.KeptTrees.Trims.{trimmed-already}
 use Rattle.sftp_tree.proofs.Walks.Links.{reached-unlinked}
 use Rattle.sftp_tree.proofs.WellFormedTrees.Found.{absent-of, below-root, apart-of, node-kept, moved-is}
 

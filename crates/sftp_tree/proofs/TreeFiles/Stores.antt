@@ -1,11 +1,11 @@
 -- The files of the rows so far, as the code keeps them: each with the count of its names.
 use Rattle.std.proofs.Common.{◌≡◌, ◌≢◌, ℕ, zero, suc, ◌+◌, ◌-◌, ◌^◌, ◌<◌, ◌≤◌, Bool, true, false, cond, if◌then◌else◌, List, [], ◌∷◌, ◌++◌, length, take, Option, Some, None, option_and_then, refl, sym, ap, subst, ◌∙◌, arith}
-use Rattle.std.specs.Prelude.{IsTrue, not, slice_index}
+use Rattle.std.specs.Prelude.{not, slice_index}
 use Rattle.std.specs.List.{filter, AllByRecursion}
 use Rattle.std.specs.List.Sorted.{IsStrictlySortedBy}
 use Rattle.std.specs.Map.{keys_of}
 use Rattle.std.specs.Option.{IfSome}
-use Rattle.std.specs.Ordering.{nat_cmp, is_eq, ordering_reverse}
+use Rattle.std.specs.Ordering.{nat_cmp}
 use Rattle.std.specs.declared.cmp.Ordering.TheVariants.{Less}
 use Rattle.std.specs.Cmp.{nat_cmp_total, nat_cmp_is}
 use Rattle.std.specs.FinMap.{nat_cmp-IsAntisymmetric}
@@ -15,10 +15,9 @@ use Rattle.std.proofs.lemmas.List.{length-append, append-nil, length-map}
 use Rattle.std.proofs.lemmas.List.Elements.{filter-append}
 use Rattle.std.proofs.lemmas.List.Filters.{length-filter_both}
 use Rattle.std.proofs.lemmas.Map.Made.{keys_of-map_values}
-use Rattle.sftp_path.specs.Place.{Place, place_cmp, parent}
+use Rattle.sftp_path.specs.Place.{Place, place_cmp}
 use Rattle.sftp_path.specs.Table.{InOrder, get, put, retain}
 use Rattle.sftp_path.proofs.Order.{place_cmp-total}
-use Rattle.sftp_path.proofs.Table.Laws.{get-empty, get-cons}
 use Rattle.sftp_path.proofs.Table.Values.{with_values-put}
 use Rattle.sftp_treefile.specs.declared.files.Owner.{Owner}
 use Rattle.sftp_treefile.specs.declared.files.Kind.{Kind}
@@ -26,20 +25,20 @@ use Rattle.sftp_treefile.specs.declared.files.Kind.TheVariants as kinds
 use Rattle.sftp_treefile.specs.declared.files.Row.{Row}
 use Rattle.sftp_treefile.specs.declared.files.TreeFile.{TreeFile}
 use Rattle.sftp_treefile.specs.Limits.{usual_limits}
-use Rattle.sftp_treefile.specs.TreeFile.{place_of, IsOwner, IsKind, IsNext, AreRows}
+use Rattle.sftp_treefile.specs.TreeFile.{place_of, IsKind, IsNext, AreRows}
 use Rattle.sftp_tree.specs.declared.file_contents.Content.{Content}
 use Rattle.sftp_tree.specs.declared.file_contents.Stored.{Stored}
 use Rattle.sftp_tree.specs.declared.nodes.Node.{Node}
 use Rattle.sftp_tree.specs.declared.nodes.Node.TheVariants.{Dir, File, Link}
-use Rattle.sftp_tree.specs.Tree.{Names, Files, node_at, with_node, is_directory, names_file, times_named}
+use Rattle.sftp_tree.specs.Tree.{Names, Files, with_node, names_file, times_named}
 use Rattle.sftp_tree.specs.StoredFiles.{contents, seen, AreCounted, file_named, IsChanged, IsChangedWhereNamed, with_a_name}
 use Rattle.sftp_tree.specs.PictureParts.{content_of, contents_of, node_of, only_root, names_of, numbered_from, numbers_from, known_number, known_node, IsKnown, Stores, HaveRoom, AreWithEntry, IsGrown, tree_of}
 use Rattle.sftp_tree.proofs.PlaceTables.Each.{each-get, each-put}
 use Rattle.sftp_tree.proofs.FileCounts.Pins.{by-number, none_pinned}
 use Rattle.sftp_tree.proofs.FileCounts.Names.{at-number, at-entries, raised}
 use Rattle.sftp_tree.proofs.PlaceTables.Rising.{all_both, all_from_map, insert_last}
-use Rattle.sftp_tree.proofs.TreeFiles.Tables.{later_than_all, row_parent, bare_names}
-use Rattle.sftp_tree.proofs.TreeFiles.Shapes.{bare, directory_bare, names_bare}
+use Rattle.sftp_tree.proofs.TreeFiles.Tables.{later_than_all, bare_names}
+use Rattle.sftp_tree.proofs.TreeFiles.Shapes.{bare, names_bare}
 use Rattle.sftp_tree.proofs.TreeFiles.Numbers.{made_by, made_few, contents_split, FirstAt, first_at, names_push, length-entries, IsBelow, AreBelow, all_below}
 use Rattle.sftp_tree.proofs.TreeFiles.Contents.{each_number, numbered_order}
 
@@ -264,28 +263,10 @@ pushed_unpinned numbers next (kinds.Further entry) stores after order none chang
 pushed_unpinned numbers next (kinds.Link target) stores after order none is =
     subst (AllByRecursion (λ (e : ℕ × Stored). e.1.pins ≡ 0)) (sym is) none
 
--- the place of the next row is free
-later_absent : (names : Names) (place : Place) → AllByRecursion (λ q. place_cmp q place ≡ Less) (keys_of names) → node_at names place ≡ None
-later_absent [] place later = get-empty place_cmp place
-later_absent (e ∷ es) place later =
-    let differ : is_eq (place_cmp place e.0) ≡ false = ap is_eq (place_cmp-total.antisymm place e.0 ∙ ap ordering_reverse later.0) in
-    get-cons place_cmp e es place ∙ ap (λ b. cond b (Some e.1) (node_at es place)) differ ∙ later_absent es place later.1
-
 pub keys_before : (root : Owner) (rows : List Row) (row : Row) → IsNext usual_limits rows row → AllByRecursion (λ q. place_cmp q (place_of row.path) ≡ Less) (keys_of (names_of root rows))
 keys_before root rows row next =
     let keys : keys_of (bare_names root rows) ≡ keys_of (names_of root rows) = ap keys_of (sym (names_bare root rows)) ∙ keys_of-map_values bare (names_of root rows) in
     subst (λ (ks : List Place). AllByRecursion (λ q. place_cmp q (place_of row.path) ≡ Less) ks) keys (later_than_all root rows row next)
-
-pub row_absent : (root : Owner) (rows : List Row) (row : Row) (names : Names) (place : Place) → IsNext usual_limits rows row → names ≡ names_of root rows → place ≡ place_of row.path → node_at names place ≡ None
-row_absent root rows row names place next names-are place-is =
-    (λ i. node_at (names-are i) (place-is i)) ∙ later_absent (names_of root rows) (place_of row.path) (keys_before root rows row next)
-
--- and its parent is a directory
-pub row_in_directory : (root : Owner) (rows : List Row) (row : Row) (names : Names) (place : Place) → IsOwner root → AreRows usual_limits [] rows → IsNext usual_limits rows row → names ≡ names_of root rows → place ≡ place_of row.path
-    → IsTrue (is_directory (node_at names (parent place)))
-row_in_directory root rows row names place owner fit next names-are place-is =
-    (λ i. is_directory (node_at (names-are i) (parent (place-is i)))) ∙ sym (directory_bare (names_of root rows) (parent (place_of row.path)))
-    ∙ ap (λ (ns : Names). is_directory (node_at ns (parent (place_of row.path)))) (names_bare root rows) ∙ row_parent root rows row owner fit next
 
 entry_put : (root : Owner) (rows : List Row) (row : Row) (names new : Names) (place : Place) (standing : Node) → IsNext usual_limits rows row → names ≡ names_of root rows
     → place ≡ place_of row.path → standing ≡ node_of rows row.kind → new ≡ with_node names place standing → new ≡ names_of root (rows ++ row ∷ [])

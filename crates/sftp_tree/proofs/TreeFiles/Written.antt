@@ -1,17 +1,14 @@
 -- A tree file is written entry by entry.
-use Rattle.std.proofs.Common.{◌≡◌, ℕ, zero, suc, ◌+◌, ◌-◌, ◌<◌, ◌≤◌, ◌^◌, ◌==◌, Bool, true, false, cond, if◌then◌else◌, List, [], ◌∷◌, ◌++◌, length, take, drop, Option, Some, None, refl, sym, ap, subst, ◌∙◌, arith}
+use Rattle.std.proofs.Common.{◌≡◌, ℕ, suc, ◌+◌, ◌-◌, ◌<◌, ◌≤◌, ◌^◌, ◌==◌, Bool, true, false, cond, if◌then◌else◌, List, [], ◌∷◌, ◌++◌, length, take, Option, Some, None, refl, sym, ap, ◌∙◌, arith}
 use Rattle.std.specs.Prelude.{IfSome}
 use Rattle.std.specs.List.{flat_map, AllByRecursion}
-use Rattle.std.specs.Map.Iter.{TakesFirst}
 use Rattle.std.specs.Option.{option_map}
 use Rattle.std.specs.Ordering.{nat_cmp, is_eq}
 use Rattle.std.specs.Cmp.{nat_cmp_total}
 use Rattle.std.proofs.lemmas.Bool.{eqb-true, eq-eqb}
-use Rattle.std.proofs.lemmas.List.{append-nil, length-take-le, take-append-drop, flat_map_more}
 use Rattle.sftp_path.specs.Place.{Place, absolute}
-use Rattle.sftp_path.specs.Table.{get, put}
-use Rattle.sftp_path.proofs.Table.Laws.{get-empty, get-put}
-use Rattle.sftp_treefile.specs.declared.files.Row.{Row}
+use Rattle.sftp_path.specs.Table.{get}
+use Rattle.sftp_path.proofs.Table.Laws.{get-put}
 use Rattle.sftp_treefile.specs.Limits.{usual_limits}
 use Rattle.sftp_treefile.specs.TreeFile.{row_text}
 use Rattle.sftp_treefile.specs.TreeFileParts.{head_bytes}
@@ -25,7 +22,7 @@ use Rattle.sftp_tree.specs.Picture.{entry_naming, naming, kind_of, rows_behind, 
 use Rattle.sftp_tree.specs.PictureParts.{only_root, head_of, Firsts, with_first, firsts_with, known_kind, IsShort}
 use Rattle.sftp_tree.proofs.TreeFiles.Tables.{IsPlace, IsFitNode}
 use Rattle.sftp_tree.proofs.TreeFiles.Contents.{number_is}
-use Rattle.sftp_tree.proofs.TreeFiles.Named.{place_text, row_of, one_row, rows_push, IsBelowRoot, IsFitContent, all_at, length-rows}
+use Rattle.sftp_tree.proofs.TreeFiles.Named.{place_text, IsBelowRoot, IsFitContent, all_at, length-rows}
 use Rattle.sftp_tree.proofs.Limits.Tests.{stands-of}
 use Rattle.sftp_tree.proofs.TreeFiles.Files.{limits_from, usual-entries, split_tree, fit_files}
 
@@ -45,47 +42,12 @@ node_short t kept (Link target) fits = target_length target (fits.1, fits.0)
 
 -- ---- one entry more
 
-take_push : {A : Type 0} (i : ℕ) (xs : List A) (x : A) (rest : List A) → drop i xs ≡ x ∷ rest → take (suc i) xs ≡ take i xs ++ x ∷ []
-take_push zero [] x rest is = absurd cc
-take_push (suc i) [] x rest is = absurd cc
-take_push zero (y ∷ xs) x rest is = let same : y ≡ x = cc in ap (λ z. z ∷ []) same
-take_push (suc i) (y ∷ xs) x rest is = ap (λ zs. y ∷ zs) (take_push i xs x rest is)
-
-pub drop_push : {A : Type 0} (i : ℕ) (xs : List A) (x : A) (rest : List A) → drop i xs ≡ x ∷ rest → drop (suc i) xs ≡ rest
-drop_push zero [] x rest is = absurd cc
-drop_push (suc i) [] x rest is = absurd cc
-drop_push zero (y ∷ xs) x rest is = let same : xs ≡ rest = cc in same
-drop_push (suc i) (y ∷ xs) x rest is = drop_push i xs x rest is
-
-drop_within : {A : Type 0} (i : ℕ) (xs : List A) (x : A) (rest : List A) → drop i xs ≡ x ∷ rest → i < length xs
-drop_within zero [] x rest is = absurd cc
-drop_within (suc i) [] x rest is = absurd cc
-drop_within zero (y ∷ xs) x rest is = omega arith
-drop_within (suc i) (y ∷ xs) x rest is = omega (arith, drop_within i xs x rest is)
-
-all_drop : {A : Type 0} (P : A → Type 0) (i : ℕ) (xs : List A) (x : A) (rest : List A) → AllByRecursion P xs → drop i xs ≡ x ∷ rest → P x
-all_drop P zero [] x rest all is = absurd cc
-all_drop P (suc i) [] x rest all is = absurd cc
-all_drop P zero (y ∷ xs) x rest all is = let same : y ≡ x = cc in subst P same all.0
-all_drop P (suc i) (y ∷ xs) x rest all is = all_drop P i xs x rest all.1 is
-
 -- what is known of an entry below the root
 pub record Entry (t : Tree) (i : ℕ) (e : Place × Node) : Type 0 where
   pub below : IsBelowRoot e
   pub node : IsFitNode e.1
   pub within : i < length t.names
   pub few : length t.names ≤ usual_limits.entries + 1
-
-pub entry_there : (t : Tree) → IsKept t → (i : ℕ) (e : Place × Node) (rest : Names) → drop (suc i) t.names ≡ e ∷ rest → Entry t (suc i) e
-entry_there t kept i e rest is =
-    let s = split_tree t (stands-of t kept) in
-    let there : drop i s.entries ≡ e ∷ rest = ap (drop (suc i)) (sym s.names_are) ∙ is in
-    record {
-      below = all_drop IsBelowRoot i s.entries e rest s.below there;
-      node = all_drop (λ (q : Place × Node). IsFitNode q.1) i s.entries e rest s.table.nodes.1 there;
-      within = drop_within (suc i) t.names e rest is;
-      few = omega (arith, (limits_from t kept.within_limits).entries, usual-entries t (stands-of t kept));
-    }
 
 -- ---- the first names that were met
 
@@ -156,38 +118,6 @@ pub record Written (t : Tree) (start out : List ℕ) (firsts : Firsts) (entry : 
   pub out_is : out ≡ start ++ flat_map row_text (rows_behind t.files [] (take entry t.names))
   pub firsts_are : AreFirsts firsts (take entry t.names)
 
-pub written_push : (t : Tree) → IsKept t → (start out more : List ℕ) (firsts new : Firsts) (i : ℕ) (e : Place × Node) (rest : Names) → drop (suc i) t.names ≡ e ∷ rest → Written t start out firsts (suc i)
-    → more ≡ out ++ row_text (record { path = absolute e.0; kind = known_kind t.files firsts e.1 }) → new ≡ firsts_with firsts (suc i) e.1 → Written t start more new (suc (suc i))
-written_push t kept start out more firsts new i e rest there w put met =
-    let n = entry_there t kept i e rest there in
-    let front = take (suc i) t.names in
-    let fronts : take (suc (suc i)) t.names ≡ front ++ e ∷ [] = take_push (suc i) t.names e rest there in
-    let count : length front ≡ suc i = length-take-le (suc i) t.names (omega (arith, n.within)) in
-    let row : record { path = absolute e.0; kind = known_kind t.files firsts e.1 } ≡ row_of t.files front e = (λ j. record { path = absolute e.0; kind = known t.files firsts front e.1 w.firsts_are j }) in
-    let rows : rows_behind t.files [] (front ++ e ∷ []) ≡ rows_behind t.files [] front ++ row_of t.files front e ∷ [] =
-    rows_push t.files [] front e ∙ ap (λ (rs : List Row). rows_behind t.files [] front ++ rs) (one_row t.files front e n.below.1) in
-    record {
-      out_is = put ∙ (λ j. w.out_is j ++ row_text (row j)) ∙ flat_map_more row_text start (rows_behind t.files [] front) (row_of t.files front e)
-          ∙ ap (λ (rs : List Row). start ++ flat_map row_text rs) (sym rows)
-          ∙ ap (λ (ns : Names). start ++ flat_map row_text (rows_behind t.files [] ns)) (sym fronts);
-      firsts_are = subst (AreFirsts new) (sym fronts) (subst (λ (f : Firsts). AreFirsts f (front ++ e ∷ [])) (ap (λ k. firsts_with firsts k e.1) count ∙ sym met) (firsts_push firsts front e w.firsts_are));
-    }
-
--- at its start the root was met, which has no entry
-pub written_start : (t : Tree) → IsKept t → (start : List ℕ) (firsts : Firsts) → firsts ≡ [] → Written t start start firsts 1
-written_start t kept start firsts none =
-    let s = split_tree t (stands-of t kept) in
-    let root : take 1 t.names ≡ only_root s.root = ap (take 1) s.names_are in
-    record {
-      out_is = sym (append-nil start) ∙ ap (λ (ns : Names). start ++ flat_map row_text (rows_behind t.files [] ns)) (sym root);
-      firsts_are = λ number. ap (λ (f : Firsts). get nat_cmp f number) none ∙ get-empty nat_cmp number ∙ ap (entry_naming number) (sym root);
-    }
-
-pub written_all : (t : Tree) (start out : List ℕ) (firsts : Firsts) (entry : ℕ) → Written t start out firsts entry → drop entry t.names ≡ [] → out ≡ start ++ flat_map row_text (rows_behind t.files [] t.names)
-written_all t start out firsts entry w none =
-    let all : take entry t.names ≡ t.names = sym (append-nil (take entry t.names)) ∙ ap (λ (ns : Names). take entry t.names ++ ns) (sym none) ∙ take-append-drop entry t.names in
-    w.out_is ∙ ap (λ (ns : Names). start ++ flat_map row_text (rows_behind t.files [] ns)) all
-
 -- ---- the head
 
 -- the root is one of the places
@@ -207,23 +137,3 @@ picture_written t kept =
     omega (arith, ap length (ap (rows_behind t.files []) s.names_are), length-rows t.files (only_root s.root) s.entries s.below, ap length s.names_are) in
     spelled_head (file_of t)
     ∙ ap (λ n. head_bytes (record { limits = t.limits; home = absolute t.home; uid = t.uid; gid = t.gid; count = n; root = root_owner (node_at t.names []) }) ++ flat_map row_text (rows_behind t.files [] t.names)) count
-
--- ---- at any number of an entry
-
-pub entry_at : (t : Tree) → IsKept t → (entry : ℕ) (e : Place × Node) (rest : Names) → 1 ≤ entry → drop entry t.names ≡ e ∷ rest → Entry t entry e
-entry_at t kept zero e rest above is = absurd (omega arith)
-entry_at t kept (suc i) e rest above is = entry_there t kept i e rest is
-
-pub written_next : (t : Tree) → IsKept t → (start out more : List ℕ) (firsts new : Firsts) (entry : ℕ) (e : Place × Node) (rest : Names) → 1 ≤ entry → drop entry t.names ≡ e ∷ rest → Written t start out firsts entry
-    → more ≡ out ++ row_text (record { path = absolute e.0; kind = known_kind t.files firsts e.1 }) → new ≡ firsts_with firsts entry e.1 → (drop (entry + 1) t.names ≡ rest) × Written t start more new (entry + 1)
-written_next t kept start out more firsts new zero e rest above is w put met = absurd (omega arith)
-written_next t kept start out more firsts new (suc i) e rest above is w put met =
-    let same : suc (suc i) ≡ suc i + 1 = omega arith in (
-      ap (λ n. drop n t.names) (sym same) ∙ drop_push (suc i) t.names e rest is,
-      subst (Written t start more new) same (written_push t kept start out more firsts new i e rest is w put met),
-    )
-
--- the first entry is passed over
-pub passed_over : {A : Type 0} (shows : A → Place × Node) (s : Names) (r : Option A) (t : Names) → TakesFirst shows s r t → drop 1 s ≡ t
-passed_over shows s None t takes = ap (drop 1) takes.0 ∙ sym takes.1
-passed_over shows s (Some x) t takes = ap (drop 1) takes

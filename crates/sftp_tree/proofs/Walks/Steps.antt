@@ -1,6 +1,6 @@
 -- Walks, component by component.
 use Rattle.std.proofs.Common.{◌≡◌, ℕ, zero, suc, ◌<◌, Bool, true, false, if◌then◌else◌, List, [], ◌∷◌, ◌++◌, refl, sym, ◌∙◌, ap, subst, Option, Result, Ok, Err, Bor, arith}
-use Rattle.sftp_path.specs.Place.{Name, Place, components, is_absolute, is_good_path}
+use Rattle.sftp_path.specs.Place.{Name, Place, components, is_good_path}
 use Rattle.sftp_tree.specs.declared.causes.Cause.{Cause}
 use Rattle.sftp_tree.specs.declared.causes.Cause.TheVariants.{BadPath, Loop}
 use Rattle.sftp_tree.specs.declared.stepping.Met.{Met}
@@ -97,10 +97,3 @@ reached-good t follow path good = ap (λ b. if b then walk t.names follow link_l
 pub reached-bad : (t : Tree) (follow : Bool) (path : List ℕ) → is_good_path path ≡ false → reached t follow path ≡ Err BadPath
 unfolding reached
 reached-bad t follow path bad = ap (λ b. if b then walk t.names follow link_limit [] (steps_of t path) else Err BadPath) bad
-
--- the components that the code's walk goes over
-pub steps-absolute : (t : Tree) (path : List ℕ) (absolute : Bool) (home left : List Name) → absolute ≡ is_absolute path → absolute ≡ true → home ≡ [] → left ≡ components path → home ++ left ≡ steps_of t path
-steps-absolute t path absolute home left is so none parts = cc
-
-pub steps-relative : (t : Tree) (path : List ℕ) (absolute : Bool) (home left : List Name) → absolute ≡ is_absolute path → absolute ≡ false → home ≡ t.home → left ≡ components path → home ++ left ≡ steps_of t path
-steps-relative t path absolute home left is so there parts = cc

@@ -1,6 +1,6 @@
 -- Fields that fit their places on the wire, as parts of a tree: paths, owners and contents.
-use Rattle.std.proofs.Common.{rules, ℕ, zero, suc, ◌-◌, ◌&&◌, List, [], ◌∷◌, length, take, replicate, refl, ◌∙◌, Option, Some, None, unwrap_or, IsTrue, nat_lt, ◌<◌, ◌^◌, ◌%◌, drop, arith, lit<}
-use Rattle.std.specs.Option.{option_map, IfSome}
+use Rattle.std.proofs.Common.{rules, ℕ, zero, suc, ◌-◌, ◌&&◌, List, [], ◌∷◌, length, take, replicate, refl, ◌∙◌, Option, Some, None, unwrap_or, IsTrue, nat_lt, drop}
+use Rattle.std.specs.Option.{option_map}
 use Rattle.std.proofs.lemmas.Bool.{lt-ltb, and_parts, and_from}
 use Rattle.std.proofs.lemmas.List.Folds.{list_all-append}
 use Rattle.sftp_wire.specs.declared.attributes.Attrs.{Attrs}

@@ -1,6 +1,6 @@
-use Rattle.std.proofs.Common.{Some, None, [], ◌∷◌, sym, ap, ◌∙◌}
+use Rattle.std.proofs.Common.{Some, [], sym, ap, ◌∙◌}
 use Rattle.sftp_tree.specs.declared.nodes.Node.TheVariants as nodes
-use Rattle.sftp_tree.specs.Tree.{Names, has_entries}
+use Rattle.sftp_tree.specs.Tree.{has_entries}
 use Rattle.sftp_tree.specs.Seen.{branch_seen}
 use Rattle.sftp_tree.proofs.Nesting.Entries.{has_entries-alike, has_entries-alone, has_entries-nothing}
 use Rattle.sftp_tree.proofs.entries.Entries.has_entries.Goals as goal

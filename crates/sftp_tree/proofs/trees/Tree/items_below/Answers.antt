@@ -1,6 +1,5 @@
-use Rattle.std.proofs.Common.{◌≡◌, ◌∷◌, List, ◌++◌, map, filter_map, [], refl, sym, subst, ap, ◌∙◌}
+use Rattle.std.proofs.Common.{◌≡◌, ◌∷◌, List, ◌++◌, map, filter_map, refl, sym, subst, ap, ◌∙◌}
 use Rattle.std.specs.List.{AllByRecursion}
-use Rattle.sftp_path.specs.Table.{Table}
 use Rattle.sftp_path.specs.Place.{Name}
 use Rattle.sftp_tree.specs.declared.entries.directories.Child.{Child}
 use Rattle.sftp_tree.specs.declared.listings.Item.{Item}

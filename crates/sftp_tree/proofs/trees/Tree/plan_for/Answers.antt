@@ -1,5 +1,4 @@
 use Rattle.std.proofs.Common.{subst, ap, ◌∙◌, IfSome}
-use Rattle.sftp_tree.specs.Walking.{IsPlaceOf}
 use Rattle.sftp_tree.specs.Found.{IsFoundIn, new_placed}
 use Rattle.sftp_tree.specs.Asks.{asked}
 use Rattle.sftp_tree.specs.Ends.{ok_where}

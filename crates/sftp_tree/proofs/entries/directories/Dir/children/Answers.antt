@@ -1,4 +1,4 @@
-use Rattle.std.proofs.Common.{[], ap, sym, subst, ◌∙◌}
+use Rattle.std.proofs.Common.{[], ap, subst, ◌∙◌}
 use Rattle.sftp_path.specs.Place.{place_cmp}
 use Rattle.sftp_path.specs.Table.{InOrder}
 use Rattle.sftp_tree.specs.Tree.{Names}
