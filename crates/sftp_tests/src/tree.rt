@@ -7,8 +7,12 @@ use std::test::Fail;
 mod causes;
 mod directories;
 mod files;
+mod listings;
 mod longest;
+mod opens;
 mod pictures;
+
+use listings::Listed;
 
 /// The attributes that a request gives.
 #[derive(Clone, Copy)]
@@ -56,6 +60,9 @@ enum Call<'a> {
     Lstat(&'a [u8]),
     RealPath(&'a [u8]),
     ReadLink(&'a [u8]),
+    /// The path, the flags and the attributes.
+    Open(&'a [u8], u32, Given),
+    Opendir(&'a [u8]),
 }
 
 /// Does a request.
@@ -73,6 +80,8 @@ fn perform(tree: &mut Tree, call: &Call) -> Result<(), Refused> {
         Call::Lstat(path) => show(tree, path, false),
         Call::RealPath(path) => lead(tree, path),
         Call::ReadLink(path) => read(tree, path),
+        Call::Open(path, flags, given) => opens::open(tree, path, *flags, *given),
+        Call::Opendir(path) => listings::list(tree, path),
     }
 }
 
@@ -104,6 +113,10 @@ enum Step<'a> {
     Leads(&'a [u8], &'a [u8]),
     /// READLINK gives the target.
     Reads(&'a [u8], &'a [u8]),
+    /// OPEN to read gives both paths the same number of a file, or two numbers.
+    OpensOne(&'a [u8], &'a [u8], bool),
+    /// OPENDIR gives just these items, in this order.
+    Lists(&'a [u8], &'a [Listed<'a>]),
     /// Just these causes hold of the request, and they allow just these codes of 0 to 9.
     Judges(Call<'a>, &'a [Cause], &'a [u32]),
     /// These bytes are the tree's file.
@@ -184,6 +197,8 @@ fn holds(alloc: Global, tree: &mut Tree, step: &Step) -> Result<bool, AllocError
         }
         Step::Leads(path, text) => leads(tree, path, text),
         Step::Reads(path, target) => reads(tree, path, target),
+        Step::OpensOne(one, other, same) => opens::opens_one(tree, one, other, *same),
+        Step::Lists(path, items) => listings::lists(tree, path, items),
         Step::Judges(call, expected, codes) => {
             causes::judges(alloc, tree, call, expected, codes)?
         }
@@ -239,6 +254,9 @@ fn scripts(rt: HostRuntime) -> Result<(), Fail> {
         files::SCRIPTS,
         files::MOVES,
         causes::SCRIPTS,
+        opens::SCRIPTS,
+        opens::BAD_FLAGS,
+        listings::SCRIPTS,
     ] {
         let wrong = wrong_script(rt.alloc(), table)?;
         assert!(rt; wrong.is_none(), "{wrong:?}");

@@ -157,10 +157,10 @@ impl Tree {
         Ok(())
     }
 
-    /// OPEN: opens a file, and returns its number. `flags` has the bits of `OpenFlags`. With CREAT, a place that is free
-    /// gets a new file, which is empty and has the number that follows the last one given. If the attributes give no
-    /// owner, it gets the tree's; if they give no permissions, 0o644. Of the permissions given the low twelve bits
-    /// count, and other attributes are ignored. With TRUNC a file that exists becomes empty; its attributes stay.
+    /// OPEN: opens a file, and returns its number. `flags` has the bits of `OpenFlags`. With CREAT, a free place gets a
+    /// new file, which is empty and has the number that follows the last one given. If the attributes give no owner, it
+    /// gets the tree's; if they give no permissions, 0o644. Of the permissions given the low twelve bits count, and
+    /// other attributes are ignored. With TRUNC a file that exists becomes empty; its attributes stay.
     ///
     /// # Errors
     ///

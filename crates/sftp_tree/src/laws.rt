@@ -1,18 +1,21 @@
 //! Laws of trees, as theorems on the definitions that the contracts name. The functions do nothing; each promise is in
 //! the contract.
 ghost use Rattle.std.specs.Prelude.{◌≡◌, ◌↔◌, ◌⊎◌, ◌<◌, ◌≤◌, ◌||◌, ℕ, Bool, if◌then◌else◌};
-ghost use Rattle.std.specs.Prelude.{List, Some, None, Result, Ok, [], IsTrue};
+ghost use Rattle.std.specs.Prelude.{List, Some, None, Result, Ok, [], ◌∷◌, ◌++◌, true, false, IsTrue};
 ghost use Rattle.sftp_wire.specs.declared.packets.Ask.{Ask};
 ghost use Rattle.sftp_wire.specs.Spelling.{FitsAsk};
-ghost use Rattle.sftp_path.specs.Place.{Name, Place, parent, are_names, is_good_path};
+ghost use Rattle.sftp_path.specs.Place.{Name, Place, name_cmp, parent, are_names, is_good_path};
+ghost use Rattle.sftp_path.specs.Table.{InOrder, get};
 ghost use Rattle.sftp_treefile.specs.TreeFile.{are_bytes};
 ghost use Rattle.sftp_tree.specs.declared.causes.Cause.{Cause};
 ghost use Rattle.sftp_tree.specs.declared.nodes.Node.TheVariants.{File};
-ghost use Rattle.sftp_tree.specs.Tree.{Names, Tree, WellFormed, IsKept, IsTrimmed, limits, fits, is_directory, node_at};
-ghost use Rattle.sftp_tree.specs.Tree.{content_at, times_named, times_pinned, is_named, is_pinned, is_held, trimmed, trim};
+ghost use Rattle.sftp_tree.specs.Tree.{Names, Tree, WellFormed, IsKept, IsTrimmed, limits, fits, is_directory, is_link};
+ghost use Rattle.sftp_tree.specs.Tree.{node_at, content_at, times_named, times_pinned, is_named, is_held, trimmed};
+ghost use Rattle.sftp_tree.specs.Tree.{trim, is_pinned};
 ghost use Rattle.sftp_tree.specs.Walk.{walk, reached, looked, steps_of, looked_limit, link_limit};
 ghost use Rattle.sftp_tree.specs.WalkRules.{Leads};
-ghost use Rattle.sftp_tree.specs.Requests.{outcome, after};
+ghost use Rattle.sftp_tree.specs.Requests.{outcome, after, shown_at};
+ghost use Rattle.sftp_tree.specs.Listings.{listing};
 ghost use Rattle.sftp_tree.specs.Refusals.{IsFree};
 
 /// No request changes the limits of a tree.
@@ -76,6 +79,14 @@ pub fn files_live_while_held()
     ensures pins { (t : Tree) (ask : Ask) → (after t ask).pins ≡ t.pins }
 {}
 
+/// A listing has its names in order, each once. A name of it has the attributes that LSTAT shows of the node with that
+/// name right below the place, and no other name has any.
+pub fn listings_are_of_children()
+    ensures order { (t : Tree) (place : Place) → WellFormed t → InOrder name_cmp (listing t place) }
+    ensures shown { (t : Tree) (place : Place) (name : Name) → WellFormed t →
+        get name_cmp (listing t place) name ≡ shown_at t (node_at t.names (place ++ name ∷ [])) }
+{}
+
 /// The function of walks leads where the rules of walks lead, and nowhere else.
 pub fn walks_are_by_the_rules()
     ensures { (names : Names) (follow : Bool) (left : ℕ) (at : Place) (path : List Name) (answer : Result Place Cause) →
@@ -88,10 +99,13 @@ pub fn walks_end()
         looked t.names follow link_limit [] (steps_of t path) ≤ looked_limit }
 {}
 
-/// A path leads to a place that is a list of names and whose parent is a directory.
+/// A path leads to a place that is a list of names and whose parent is a directory. If a last link is followed, no link
+/// is there.
 pub fn walks_give_places()
     ensures names { (t : Tree) (follow : Bool) (path : List ℕ) (place : Place) → IsKept t → IsTrue (are_bytes path) →
         reached t follow path ≡ Ok place → IsTrue (are_names place) }
     ensures parent { (t : Tree) (follow : Bool) (path : List ℕ) (place : Place) → IsKept t → IsTrue (are_bytes path) →
         reached t follow path ≡ Ok place → IsTrue (is_directory (node_at t.names (parent place))) }
+    ensures unlinked { (t : Tree) (path : List ℕ) (place : Place) → IsKept t → reached t true path ≡ Ok place →
+        is_link (node_at t.names place) ≡ false }
 {}

@@ -73,6 +73,7 @@ const NONE: &[Step] = &[
 
 /// The causes and the codes that each allows, in the order of the status table.
 const CODES: &[(Cause, &[u32])] = &[
+    (Cause::BadFlags, &[4, 5]),
     (Cause::BadPath, &[4, 5]),
     (Cause::NoEntry, &[2]),
     (Cause::NotDir, &[2, 4]),
@@ -84,7 +85,11 @@ const CODES: &[(Cause, &[u32])] = &[
     (Cause::NotEmpty, &[4]),
     (Cause::Root, &[4]),
     (Cause::Inside, &[4]),
+    (Cause::BadHandle, &[4]),
+    (Cause::WrongKind, &[4]),
+    (Cause::NotOpenFor, &[3, 4]),
     (Cause::NoRoom, &[4]),
+    (Cause::Unknown, &[8]),
 ];
 
 fn text(alloc: Global, bytes: &[u8]) -> Result<ByteString, AllocError> {
@@ -134,6 +139,14 @@ fn ask(alloc: Global, call: &Call) -> Result<Ask, AllocError> {
             path: text(alloc, path)?,
         },
         Call::ReadLink(path) => Ask::Readlink {
+            path: text(alloc, path)?,
+        },
+        Call::Open(path, flags, given) => Ask::Open {
+            path: text(alloc, path)?,
+            pflags: *flags,
+            attrs: attrs(*given),
+        },
+        Call::Opendir(path) => Ask::Opendir {
             path: text(alloc, path)?,
         },
     })

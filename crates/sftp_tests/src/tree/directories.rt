@@ -111,6 +111,7 @@ const DEEPEST: &[Step] = &[
     Step::Descends(b"/d", 64),
     Step::Refused(Call::Mkdir(TOO_DEEP, Given::Nothing), Cause::NoRoom),
     Step::Refused(Call::Symlink(b"x", TOO_DEEP), Cause::NoRoom),
+    Step::Refused(Call::Open(TOO_DEEP, 0x0a, Given::Nothing), Cause::NoRoom),
 ];
 
 const FORTY: &[Step] = &[

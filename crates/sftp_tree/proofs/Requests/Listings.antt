@@ -1,5 +1,6 @@
 -- Listings: that what is right below a place is shown, and what a reply to OPENDIR says.
-use Rattle.std.proofs.Common.{◌≡◌, ℕ, ◌+◌, ◌<◌, ◌≤◌, List, [], ◌∷◌, ◌++◌, map, drop, get_or, length, Bor, filter_map, option_map, sym, ◌∙◌, ap, Option, Some, None, Ok}
+use Rattle.std.proofs.Common.{◌≡◌, ℕ, ◌+◌, ◌<◌, ◌≤◌, List, [], ◌∷◌, ◌++◌, map, drop, get_or, length, Bor, filter_map}
+use Rattle.std.proofs.Common.{option_map, sym, ◌∙◌, ap, Option, Some, None, Ok}
 use Rattle.std.specs.List.{cons_option, AllByRecursion}
 use Rattle.std.specs.Map.Iter.{deref_pair}
 use Rattle.std.proofs.lemmas.List.{append-nil, append_assoc, map-append, drop_more, drop_all}
@@ -60,11 +61,13 @@ pub listed-all : (t : Tree) (items : List Item) (all : List (Bor Name × Bor Nod
     → map entry_of items ≡ whole
 listed-all t items all i whole past so_far =
     sym (append-nil (map entry_of items))
-    ∙ ap (λ xs. map entry_of items ++ filter_map (shown_child t) (map deref_pair xs)) (sym (drop_all i all past)) ∙ so_far
+    ∙ ap (λ xs. map entry_of items ++ filter_map (shown_child t) (map deref_pair xs)) (sym (drop_all i all past))
+    ∙ so_far
 
 -- ---- the reply
 
 pub listing-told : (t : Tree) (path : List ℕ) (place : Place) (items : Table Name Attrs)
     → led t (Opendir path) ≡ Some (Ok place) → items ≡ listing t place → listing_to t (Opendir path) ≡ Some items
 unfolding listing_to
-listing-told t path place items leads is = ap (λ o. led_to None o (λ place. Some (listing t place))) leads ∙ ap Some (sym is)
+listing-told t path place items leads is = ap (λ o. led_to None o (λ place. Some (listing t place))) leads
+    ∙ ap Some (sym is)

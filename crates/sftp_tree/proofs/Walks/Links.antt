@@ -1,5 +1,6 @@
 -- A walk that follows a last link does not end at a link.
-use Rattle.std.proofs.Common.{◌≡◌, ℕ, zero, suc, Bool, true, false, if◌then◌else◌, List, [], ◌∷◌, ◌++◌, refl, sym, ◌∙◌, ap, subst, Option, Some, None, Result, Ok, Err, IsTrue}
+use Rattle.std.proofs.Common.{◌≡◌, ℕ, zero, suc, Bool, true, false, if◌then◌else◌, List, [], ◌∷◌, ◌++◌, refl, sym, ◌∙◌}
+use Rattle.std.proofs.Common.{ap, subst, Option, Some, None, Result, Ok, Err, IsTrue}
 use Rattle.sftp_path.specs.Place.{Name, Place, parent, components, is_absolute, is_good_path}
 use Rattle.sftp_tree.specs.declared.nodes.Node.{Node}
 use Rattle.sftp_tree.specs.declared.nodes.Node.TheVariants.{Dir, File, Link}
@@ -8,7 +9,8 @@ use Rattle.sftp_tree.specs.declared.causes.Cause.TheVariants.{BadPath}
 use Rattle.sftp_tree.specs.Tree.{Tree, IsKept, node_at, is_directory, is_link}
 use Rattle.sftp_tree.specs.Walk.{Meeting, is_last, start_of, meets, walk, steps_of, reached, link_limit}
 use Rattle.sftp_tree.proofs.Walks.Steps.{behind_link, walk_on, walk-nil, walk-cons, reached-good, reached-bad}
-use Rattle.sftp_tree.proofs.Walks.Meetings.{MetBy, by_dot, by_dot_dot, by_directory, by_last_file, by_file, by_link, by_last_link, by_last_absent, by_absent, met_by}
+use Rattle.sftp_tree.proofs.Walks.Meetings.{MetBy, by_dot, by_dot_dot, by_directory, by_last_file, by_file, by_link}
+use Rattle.sftp_tree.proofs.Walks.Meetings.{by_last_link, by_last_absent, by_absent, met_by}
 use Rattle.sftp_tree.proofs.WellFormedTrees.Places.{directory-taken}
 
 abbrev IsAt : Tree → Place → Type 0
@@ -66,7 +68,8 @@ unlinked t zero kept = unlinked-parts t zero kept (λ at target rest stands. tt)
 unlinked t (suc left) kept =
     unlinked-parts t (suc left) kept
     (λ at target rest stands.
-    unlinked t left kept (start_of at target) (components target ++ rest) (start-at t kept at (is_absolute target) stands))
+    unlinked t left kept (start_of at target) (components target ++ rest)
+    (start-at t kept at (is_absolute target) stands))
 
 -- ---- a whole path
 

@@ -1,5 +1,7 @@
 -- A place that is below another has one name more if it is right below it.
-use Rattle.std.proofs.Common.{◌≡◌, ◌==◌, ◌-◌, ℕ, if◌then◌else◌, slice_get, length, get_or, nat_lt, sym, ap, ◌∙◌, refl, true, false, Option, Some, None, is_some, IfSome, option_copied, Bor, ltb-true, ltb-false, eq-eqb}
+use Rattle.std.proofs.Common.{◌≡◌, ◌==◌, ◌-◌, ℕ, if◌then◌else◌, slice_get, length, get_or, nat_lt, sym, ap, ◌∙◌, refl}
+use Rattle.std.proofs.Common.{true, false, Option, Some, None, is_some, IfSome, option_copied, Bor, ltb-true}
+use Rattle.std.proofs.Common.{ltb-false, eq-eqb}
 use Rattle.std.proofs.lemmas.Bool.{false_from_ne_true, eqb-true}
 use Rattle.std.proofs.lemmas.Option.{slice_get_read, slice_get_past}
 use Rattle.sftp_path.specs.Place.{Name, Place}
@@ -23,15 +25,22 @@ returns-then-saturating_sub-ne1 c =
     let more : c.saturating_sub.result ≡ length c.args.other.now - length c.args.place.now =
     c.saturating_sub.ensures ∙ (λ i. c.depth.ensures i - c.depth-2.ensures i) in
     let other : (length c.args.other.now - length c.args.place.now == 1) ≡ false =
-    false_from_ne_true (length c.args.other.now - length c.args.place.now == 1) (λ one. c.if-saturating_sub-ne1.true (more ∙ eqb-true (length c.args.other.now - length c.args.place.now) 1 one)) in
-    sym (begun-below c.args.place.now c.args.other.now begun ∙ ap (λ b. if b then slice_get c.args.other.now (length c.args.place.now) else None) other)
+    false_from_ne_true (length c.args.other.now - length c.args.place.now == 1)
+    (λ one. c.if-saturating_sub-ne1.true
+    (more ∙ eqb-true (length c.args.other.now - length c.args.place.now) 1 one)) in
+    sym
+    (begun-below c.args.place.now c.args.other.now begun
+    ∙ ap (λ b. if b then slice_get c.args.other.now (length c.args.place.now) else None) other)
 
 pub returns : goal.returns
 returns c =
     let begun = sym c.starts_with.ensures ∙ c.if-not-starts_with.false in
     let more : length c.args.other.now - length c.args.place.now ≡ 1 =
     sym (c.saturating_sub.ensures ∙ (λ i. c.depth.ensures i - c.depth-2.ensures i)) ∙ c.if-saturating_sub-ne1.false in
-    let one : (length c.args.other.now - length c.args.place.now == 1) ≡ true = eq-eqb (length c.args.other.now - length c.args.place.now) 1 more in
+    let one : (length c.args.other.now - length c.args.place.now == 1) ≡ true =
+    eq-eqb (length c.args.other.now - length c.args.place.now) 1 more in
     read c.names.result.now c.depth-3.result c.get.result c.get.ensures.lookup.0 c.get.ensures.lookup.1
     ∙ (λ i. slice_get (c.names.ensures.names i) (c.depth-3.ensures i))
-    ∙ sym (begun-below c.args.place.now c.args.other.now begun ∙ ap (λ b. if b then slice_get c.args.other.now (length c.args.place.now) else None) one)
+    ∙ sym
+    (begun-below c.args.place.now c.args.other.now begun
+    ∙ ap (λ b. if b then slice_get c.args.other.now (length c.args.place.now) else None) one)

@@ -23,13 +23,17 @@ loop-child-init c =
           ∙ listing-of t place c.names.result.now found c.names.ensures.names is;
       nodes =
           subst (AllByRecursion (λ e. IsNode t.files e.1)) (sym is)
-          (children-kept t.files c.names.result.now place (subst (AllByRecursion (λ e. IsNode t.files e.1)) (sym c.names.ensures.names) c.names.ensures.kept.well_formed.nodes));
+          (children-kept t.files c.names.result.now place
+          (subst (AllByRecursion (λ e. IsNode t.files e.1))
+          (sym c.names.ensures.names) c.names.ensures.kept.well_formed.nodes));
     }
 
 pub item-requires : goal.item-requires
 item-requires c =
     let at = c.loop-child in
-    (subst (AllByRecursion (λ e. IsNode c.args.self.now.files e.1)) (front c.as_slice-child-items.result.now at.child-index c.child-item.result c.loop-child-test.true c.child-item.is) at.invariant.nodes).0
+    (subst (AllByRecursion (λ e. IsNode c.args.self.now.files e.1))
+    (front c.as_slice-child-items.result.now at.child-index c.child-item.result c.loop-child-test.true
+    c.child-item.is) at.invariant.nodes).0
 
 pub loop-child-preserved : goal.loop-child-preserved
 loop-child-preserved c =
@@ -41,13 +45,16 @@ loop-child-preserved c =
     let is = front all at.child-index x c.loop-child-test.true c.child-item.is in
     record {
       listed =
-          listed-on t at.items.items c.push.new.self.items c.in_ok-item.field-0 (deref_pair x) rest (listing t c.args.place.now)
+          listed-on t at.items.items c.push.new.self.items c.in_ok-item.field-0 (deref_pair x) rest
+          (listing t c.args.place.now)
           c.in_ok-push.ensures.items c.in_ok-item.ensures
-          (ap (λ (es : Table Name Node). map entry_of at.items.items ++ filter_map (shown_child t) es) (sym is) ∙ at.invariant.listed);
+          (ap (λ (es : Table Name Node). map entry_of at.items.items ++ filter_map (shown_child t) es) (sym is)
+          ∙ at.invariant.listed);
       nodes = (subst (AllByRecursion (λ e. IsNode t.files e.1)) is at.invariant.nodes).1;
     }
 
 pub returns : goal.returns
 returns c =
-    listed-all c.args.self.now c.loop-child.items.items c.as_slice-child-items.result.now c.loop-child.child-index (listing c.args.self.now c.args.place.now)
+    listed-all c.args.self.now c.loop-child.items.items c.as_slice-child-items.result.now c.loop-child.child-index
+    (listing c.args.self.now c.args.place.now)
     c.loop-child-test.false c.loop-child.invariant.listed

@@ -9,6 +9,7 @@ use Rattle.sftp_tree.proofs.trees.Tree.items_below.Given as goal
 
 abbrev pub invariant-loop-child : goal.invariant-loop-child
 invariant-loop-child l = record {
-  listed : map entry_of l.items.items ++ filter_map (shown_child l.self) (map deref_pair (drop l.child-index l.child-items)) ≡ listing l.self l.place;
+  listed : map entry_of l.items.items ++ filter_map (shown_child l.self)
+      (map deref_pair (drop l.child-index l.child-items)) ≡ listing l.self l.place;
   nodes : AllByRecursion (λ e. IsNode l.self.files e.1) (map deref_pair (drop l.child-index l.child-items));
 }

@@ -3,8 +3,10 @@ use Rattle.sftp_tree.proofs.trees.Tree.open_file.Goals as goal
 
 pub number_at-number-requires : goal.number_at-number-requires
 number_at-number-requires c =
-    number-there c.args.self.now c.args.path.now c.args.flags c.args.attrs.now c.in_ok-places.places.old c.in_ok-places.ensures.well.0.kept c.in_ok-places.ensures.free c.in_ok-places.ensures.led.first
+    number-there c.args.self.now c.args.path.now c.args.flags c.args.attrs.now c.in_ok-places.places.old
+    c.in_ok-places.ensures.well.0.kept c.in_ok-places.ensures.free c.in_ok-places.ensures.led.first
 
 pub returns-clause-number : goal.returns-clause-number
 returns-clause-number c =
-    number-told c.args.self.now c.args.path.now c.args.flags c.args.attrs.now c.in_ok-places.places.old c.number_at-number.result c.in_ok-places.ensures.led.first c.number_at-number.ensures
+    number-told c.args.self.now c.args.path.now c.args.flags c.args.attrs.now c.in_ok-places.places.old
+    c.number_at-number.result c.in_ok-places.ensures.led.first c.number_at-number.ensures

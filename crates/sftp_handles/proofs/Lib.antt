@@ -1,0 +1,7 @@
+pub mod Pins
+pub mod Steps
+pub mod GivenTables
+pub mod GoodStates
+pub mod GoodSteps
+pub mod GoodPaths
+pub mod GoodLaws

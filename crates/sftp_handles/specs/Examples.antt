@@ -1,0 +1,82 @@
+-- What the worked examples name: states, requests through handles, and their answers.
+use Rattle.std.specs.Prelude.{ℕ, List, [], ◌∷◌, map, codes}
+use Rattle.sftp_wire.specs.declared.attributes.Attrs.{Attrs}
+use Rattle.sftp_wire.specs.declared.names.NameItem.{NameItem}
+use Rattle.sftp_wire.specs.declared.packets.Ask.{Ask}
+use Rattle.sftp_wire.specs.declared.packets.Ask.TheVariants.{Open, Opendir, Readdir}
+use Rattle.sftp_wire.specs.declared.packets.Answer.{Answer}
+use Rattle.sftp_wire.specs.declared.packets.Answer.TheVariants.{Status, Handle, Name}
+use Rattle.sftp_wire.specs.Examples.{no_attributes}
+use Rattle.sftp_tree.specs.declared.nodes.Node.TheVariants.{File}
+use Rattle.sftp_tree.specs.Tree.{Tree}
+use Rattle.sftp_tree.specs.Attributes.{said}
+use Rattle.sftp_tree.specs.Picture.{blank}
+use Rattle.sftp_tree.specs.WalkExamples.{directory, tree_of, holding, empty_file}
+use Rattle.sftp_handles.specs.State.{State}
+
+-- ---- states
+
+-- nothing is open
+abbrev pub closed : Tree → State
+closed t = record { tree = t; handles = [] }
+
+-- the blank tree after so many files were made
+abbrev pub emptied : ℕ → Tree
+emptied made = record blank { made = made }
+
+-- the file `/f` with this text
+abbrev pub with_text : List ℕ → Tree
+with_text bytes = holding ((codes "f" ∷ [], File 0) ∷ []) (record empty_file { bytes = bytes })
+
+-- the directory `/d` with the directories `/d/a`, `/d/b` and `/d/c`
+abbrev pub with_three : Tree
+with_three =
+    tree_of ((codes "d" ∷ [], directory) ∷ (codes "d" ∷ codes "a" ∷ [], directory)
+    ∷ (codes "d" ∷ codes "b" ∷ [], directory) ∷ (codes "d" ∷ codes "c" ∷ [], directory) ∷ [])
+
+-- the directory `/d`, which is empty
+abbrev pub with_none : Tree
+with_none = tree_of ((codes "d" ∷ [], directory) ∷ [])
+
+-- the directory `/d` with the file `/d/f`, which has this text
+abbrev pub with_file_below : List ℕ → Tree
+with_file_below bytes =
+    holding ((codes "d" ∷ [], directory) ∷ (codes "d" ∷ codes "f" ∷ [], File 0) ∷ [])
+    (record empty_file { bytes = bytes })
+
+-- ---- requests and their answers
+
+-- a file is opened with these flags, and gets this handle
+abbrev pub opened : List ℕ → ℕ → List ℕ → Ask × Answer
+opened path flags handle = (Open path flags no_attributes, Handle handle)
+
+-- a directory is opened, and gets this handle
+abbrev pub opened_directory : List ℕ → List ℕ → Ask × Answer
+opened_directory path handle = (Opendir path, Handle handle)
+
+-- a status with this code
+abbrev pub code : ℕ → Answer
+code n = Status n [] []
+
+-- what is done
+abbrev pub done : Ask → Ask × Answer
+done ask = (ask, code 0)
+
+-- a name with these attributes
+abbrev pub item : Attrs → List ℕ → NameItem
+item attrs name = record { filename = name; longname = []; attrs = attrs }
+
+-- the attributes of a directory, and of a file of so many bytes
+abbrev pub of_directory : Attrs
+of_directory = said 0 0 0 0o040755
+
+abbrev pub of_file : ℕ → Attrs
+of_file size = said size 0 0 0o100644
+
+-- more names are asked for, and these directories given
+abbrev pub more : List ℕ → List (List ℕ) → Ask × Answer
+more handle names = (Readdir handle, Name (map (item of_directory) names))
+
+-- more names are asked for, and there are none
+abbrev pub no_more : List ℕ → Ask × Answer
+no_more handle = (Readdir handle, code 1)

@@ -1,0 +1,139 @@
+-- The requests through handles: by what each sees of its handle and by the limits alone, the causes that hold, what its
+-- reply says, and what it changes (draft-ietf-secsh-filexfer-02, sections 6.3, 6.4 and 6.7 to 6.9; OpenSSH's PROTOCOL,
+-- section 4.6 for fsync). The causes are this profile's own.
+use Rattle.std.specs.Prelude.{◌&&◌, not, nat_lt, ℕ, Bool, true, if◌then◌else◌, [], ◌∷◌, length, Option, Some}
+use Rattle.std.specs.Prelude.{None, is_some}
+use Rattle.sftp_wire.specs.declared.open_flags.OpenFlags.{OpenFlags}
+use Rattle.sftp_wire.specs.declared.packets.Ask.{Ask}
+use Rattle.sftp_wire.specs.declared.packets.Ask.TheVariants.{Read, Write, Fstat, Fsetstat, Readdir, Fsync}
+use Rattle.sftp_wire.specs.declared.packets.Answer.{Answer}
+use Rattle.sftp_treefile.specs.declared.limits.TreeLimits.{TreeLimits}
+use Rattle.sftp_tree.specs.declared.causes.Cause.TheVariants.{BadHandle, WrongKind, NotOpenFor, NoRoom}
+use Rattle.sftp_tree.specs.declared.file_contents.Content.{Content}
+use Rattle.sftp_tree.specs.Tree.{content_fits}
+use Rattle.sftp_tree.specs.Attributes.{changed_content, shown_content}
+use Rattle.sftp_tree.specs.OpenFlags.{reads, writes, appends}
+use Rattle.sftp_tree.specs.FileChanges.{bytes_at, written_content}
+use Rattle.sftp_tree.specs.Causes.{CauseSet, no_causes, when, is_none}
+use Rattle.sftp_handles.specs.Handles.{Left}
+use Rattle.sftp_handles.specs.Seen.{Needed, anything, a_file, a_listing, Seen, absent, other_kind, something, file}
+use Rattle.sftp_handles.specs.Seen.{listing}
+use Rattle.sftp_handles.specs.Replies.{Said, ok, shows, gives, ended, lists, struck, names_given}
+
+-- ---- how the file was opened (draft, section 6.3)
+
+abbrev pub may_read : OpenFlags → Bool
+may_read flags = reads flags.0
+
+abbrev pub may_write : OpenFlags → Bool
+may_write flags = writes flags.0
+
+-- whether each WRITE goes to the end
+abbrev pub goes_to_end : OpenFlags → Bool
+goes_to_end flags = appends flags.0
+
+-- ---- the table of requests
+
+-- what there is to say of a request through a handle
+pub record Row : Type 0 where
+  -- what must be open
+  pub needed : Needed
+  -- the causes by how the file was opened
+  pub refused : OpenFlags → CauseSet
+  -- the content of the file after it, if it changes that
+  pub content : OpenFlags → Content → Option Content
+  -- what its reply says of the file
+  pub told : TreeLimits → Content → Said
+
+-- of a request on either kind that changes no content
+abbrev pub plain_row : Row
+plain_row = record {
+  needed = anything;
+  refused = λ flags. no_causes;
+  content = λ flags before. None;
+  told = λ bounds before. ok;
+}
+
+-- of a request on a file
+abbrev pub file_row : Row
+file_row = record plain_row { needed = a_file }
+
+-- the cause of a file that was opened for something else
+abbrev pub unless_open_for : Bool → CauseSet
+unless_open_for holds = when no_causes NotOpenFor (not holds)
+
+-- where a WRITE starts: at its offset, or at the end
+abbrev pub start_of : OpenFlags → ℕ → Content → ℕ
+start_of flags offset before = if goes_to_end flags then length before.bytes else offset
+
+-- the bytes from the offset, or that the end was reached, whatever length was asked for
+abbrev pub read_from : TreeLimits → ℕ → ℕ → Content → Said
+read_from bounds offset len before =
+    if nat_lt offset (length before.bytes) then gives (bytes_at bounds offset len before.bytes) else ended
+
+abbrev pub row_of : Ask → Row
+row_of (Read handle offset len) = record file_row {
+  refused = λ flags. unless_open_for (may_read flags);
+  told = λ bounds before. read_from bounds offset len before;
+}
+row_of (Write handle offset bytes) = record file_row {
+  refused = λ flags. unless_open_for (may_write flags);
+  content = λ flags before. Some (written_content (start_of flags offset before) bytes before);
+}
+row_of (Fstat handle) = record file_row { told = λ bounds before. shows (Some (shown_content before)) }
+row_of (Fsetstat handle attrs) = record file_row {
+  refused = λ flags. when no_causes NotOpenFor (is_some attrs.size && not (may_write flags));
+  content = λ flags before. Some (changed_content attrs before);
+}
+row_of (Fsync handle) = file_row
+row_of (Readdir handle) = record plain_row { needed = a_listing }
+row_of other = plain_row
+
+-- ---- the causes
+
+-- `NoRoom` holds if no other cause holds and the file would have too many bytes
+abbrev pub with_file_room : TreeLimits → CauseSet → Option Content → CauseSet
+with_file_room bounds set None = set
+with_file_room bounds set (Some next) = when set NoRoom (is_none set && not (content_fits bounds next))
+
+abbrev pub causes_of : TreeLimits → Row → Seen → CauseSet
+causes_of bounds row absent = when no_causes BadHandle true
+causes_of bounds row other_kind = when no_causes WrongKind true
+causes_of bounds row something = no_causes
+causes_of bounds row (file number flags before) = with_file_room bounds (row.refused flags) (row.content flags before)
+causes_of bounds row (listing left) = no_causes
+
+-- ---- what the reply says
+
+-- some of the names, or that there are no more
+abbrev pub listed : Left → Said
+listed [] = ended
+listed (e ∷ es) = lists (e ∷ es)
+
+abbrev pub said_of : TreeLimits → Row → Seen → Said
+said_of bounds row (file number flags before) = row.told bounds before
+said_of bounds row (listing left) = listed left
+said_of bounds row other = ok
+
+-- ---- the change
+
+-- what a request changes of what it sees
+pub data Change : Type 0 where
+  nothing : Change
+  -- the file of a number gets this content
+  rewrites : ℕ → Content → Change
+  -- the listing has this left
+  leaves : Left → Change
+  -- the handle is closed
+  closes : Change
+
+abbrev pub change_file : ℕ → Option Content → Change
+change_file number None = nothing
+change_file number (Some next) = rewrites number next
+
+-- the names that the reply gives are struck out
+abbrev pub change_of : Row → Seen → Answer → Change
+change_of row something answer = closes
+change_of row (file number flags before) answer = change_file number (row.content flags before)
+change_of row (listing left) answer = leaves (struck left (names_given answer))
+change_of row other answer = nothing

@@ -1,0 +1,136 @@
+-- What replies say (draft-ietf-secsh-filexfer-02, section 7). Which fields of a reply are free is this profile's own.
+use Rattle.std.specs.Prelude.{◌==◌, ◌&&◌, not, nat_le, nat_lt, ℕ, Bool, true, false, List, [], ◌∷◌, length, map}
+use Rattle.std.specs.Prelude.{Option, Some, None}
+use Rattle.std.specs.List.{list_any, list_all}
+use Rattle.sftp_wire.specs.declared.attributes.Attrs.{Attrs}
+use Rattle.sftp_wire.specs.declared.names.NameItem.{NameItem}
+use Rattle.sftp_wire.specs.declared.packets.Answer.{Answer}
+use Rattle.sftp_wire.specs.declared.packets.Answer.TheVariants as replies
+use Rattle.sftp_wire.specs.Spelling.{handle_limit}
+use Rattle.sftp_path.specs.Place.{Name, name_cmp, same_bytes}
+use Rattle.sftp_path.specs.Table.{get, retain}
+use Rattle.sftp_tree.specs.Causes.{CauseSet, allow}
+use Rattle.sftp_handles.specs.Handles.{Left, Handles, is_open}
+
+-- ---- statuses
+
+-- a status with a code that one of the causes allows
+abbrev pub refuses : CauseSet → Answer → Bool
+refuses set (replies.Status code message language) = allow set code
+refuses set other = false
+
+-- a status with this code
+abbrev pub has_code : ℕ → Answer → Bool
+has_code wanted (replies.Status code message language) = code == wanted
+has_code wanted other = false
+
+-- ---- attributes
+
+abbrev pub same_number : Option ℕ → Option ℕ → Bool
+same_number (Some a) (Some b) = a == b
+same_number _ _ = false
+
+abbrev pub same_numbers : Option (ℕ × ℕ) → Option (ℕ × ℕ) → Bool
+same_numbers (Some a) (Some b) = a.0 == b.0 && a.1 == b.1
+same_numbers _ _ = false
+
+-- whether both attributes have the size, the owner and the permissions, and the same ones; times and extended pairs are
+-- free
+abbrev pub same_attributes : Attrs → Attrs → Bool
+same_attributes a b =
+    same_number a.size b.size && (same_numbers a.owner b.owner && same_number a.permissions b.permissions)
+
+-- the attributes of what was asked for
+abbrev pub is_shown : Option Attrs → Answer → Bool
+is_shown (Some shown) (replies.Attrs attrs) = same_attributes shown attrs
+is_shown _ _ = false
+
+-- ---- bytes
+
+-- these bytes of a file
+abbrev pub is_data : List ℕ → Answer → Bool
+is_data bytes (replies.Data given) = same_bytes bytes given
+is_data bytes other = false
+
+-- ---- names
+
+-- one name; what else is said of it is free
+abbrev pub is_one_name : List ℕ → List NameItem → Bool
+is_one_name text (item ∷ []) = same_bytes text item.filename
+is_one_name text _ = false
+
+abbrev pub is_named : Option (List ℕ) → Answer → Bool
+is_named (Some text) (replies.Name items) = is_one_name text items
+is_named _ _ = false
+
+abbrev pub is_among : Name → List Name → Bool
+is_among name names = list_any (same_bytes name) names
+
+-- no name comes twice
+abbrev pub are_distinct : List Name → Bool
+are_distinct [] = true
+are_distinct (name ∷ names) = not (is_among name names) && are_distinct names
+
+abbrev pub has_attributes : Option Attrs → Attrs → Bool
+has_attributes None attrs = false
+has_attributes (Some left) attrs = same_attributes left attrs
+
+-- a name that the listing still has to give, with its attributes
+abbrev pub is_left : Left → NameItem → Bool
+is_left left item = has_attributes (get name_cmp left item.filename) item.attrs
+
+abbrev pub names_in : List NameItem → List Name
+names_in items = map (λ item. item.filename) items
+
+-- one or more of the names that the listing still has to give, each once, in any order
+abbrev pub are_some_left : Left → List NameItem → Bool
+are_some_left left items = nat_lt 0 (length items) && (list_all (is_left left) items && are_distinct (names_in items))
+
+abbrev pub gives_some : Left → Answer → Bool
+gives_some left (replies.Name items) = are_some_left left items
+gives_some left other = false
+
+-- the names that a reply gives
+abbrev pub names_given : Answer → List Name
+names_given (replies.Name items) = names_in items
+names_given other = []
+
+-- what is left without these names
+abbrev pub struck : Left → List Name → Left
+struck left names = retain left (λ e. not (is_among e.0 names))
+
+-- ---- handles
+
+-- a handle that is not open and not too long
+abbrev pub is_new_handle : Handles → Answer → Bool
+is_new_handle handles (replies.Handle name) = nat_le (length name) handle_limit && not (is_open handles name)
+is_new_handle handles other = false
+
+-- ---- what a reply says
+
+-- what the reply to a request that was done says
+pub data Said : Type 0 where
+  -- OK
+  ok : Said
+  -- the attributes of what was asked for
+  shows : Option Attrs → Said
+  -- a name of these bytes
+  names : Option (List ℕ) → Said
+  -- these bytes of a file
+  gives : List ℕ → Said
+  -- that the end was reached
+  ended : Said
+  -- some of the names that a listing still has to give
+  lists : Left → Said
+  -- a handle that is not one of these
+  opens : Handles → Said
+
+-- whether an answer says it; OK has the code 0, and the end the code 1
+abbrev pub says : Said → Answer → Bool
+says ok answer = has_code 0 answer
+says (shows shown) answer = is_shown shown answer
+says (names text) answer = is_named text answer
+says (gives bytes) answer = is_data bytes answer
+says ended answer = has_code 1 answer
+says (lists left) answer = gives_some left answer
+says (opens handles) answer = is_new_handle handles answer

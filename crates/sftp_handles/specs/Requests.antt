@@ -1,0 +1,104 @@
+-- All requests of a session: the causes that hold, what the reply says, and the state after it
+-- (draft-ietf-secsh-filexfer-02, section 6; OpenSSH's PROTOCOL, section 4). That an unknown extension is always refused
+-- is the draft's, section 8.
+use Rattle.std.specs.Prelude.{◌&&◌, not, ℕ, Bool, true, List, Option, Some, None}
+use Rattle.std.specs.Option.{option_map}
+use Rattle.sftp_wire.specs.declared.packets.Ask.{Ask}
+use Rattle.sftp_wire.specs.declared.packets.Ask.TheVariants as asks
+use Rattle.sftp_wire.specs.declared.packets.Answer.{Answer}
+use Rattle.sftp_wire.specs.declared.packets.Answer.TheVariants as replies
+use Rattle.sftp_wire.specs.Spelling.{asked_handle}
+use Rattle.sftp_tree.specs.declared.causes.Cause.TheVariants.{NoRoom, Unknown}
+use Rattle.sftp_tree.specs.Tree.{Tree, limits, with_content}
+use Rattle.sftp_tree.specs.Causes.{CauseSet, no_causes, when, is_none}
+use Rattle.sftp_tree.specs.Requests as paths
+use Rattle.sftp_tree.specs.Requests.{Told, done, attributes, name, file, listed, led, led_to, told_at}
+use Rattle.sftp_handles.specs.declared.opens.Open.{Open}
+use Rattle.sftp_handles.specs.declared.opens.Open.TheVariants.{File, Listing}
+use Rattle.sftp_handles.specs.Handles.{Handles, with_open, without_open, kept_flags}
+use Rattle.sftp_handles.specs.State.{State, settled, has_handle_left}
+use Rattle.sftp_handles.specs.Seen.{Seen, seen}
+use Rattle.sftp_handles.specs.Replies.{Said, ok, shows, names, opens, says}
+use Rattle.sftp_handles.specs.HandleRequests.{row_of, causes_of, said_of, Change, nothing, rewrites, leaves, closes}
+use Rattle.sftp_handles.specs.HandleRequests.{change_of}
+
+-- what a request sees of the handle that it names
+abbrev pub seen_by : State → Ask → List ℕ → Seen
+seen_by s ask handle = seen s (row_of ask).needed handle
+
+-- ---- the causes
+
+-- of a request that opens something: `NoRoom` holds too if no other cause holds and there are too many handles already
+abbrev pub with_handle_room : State → CauseSet → CauseSet
+with_handle_room s set = when set NoRoom (is_none set && not (has_handle_left s))
+
+-- of a request that names no handle
+abbrev pub path_causes : State → Ask → CauseSet
+path_causes s (asks.Open path pflags attrs) = with_handle_room s (paths.causes s.tree (asks.Open path pflags attrs))
+path_causes s (asks.Opendir path) = with_handle_room s (paths.causes s.tree (asks.Opendir path))
+path_causes s (asks.Unknown extension rest) = when no_causes Unknown true
+path_causes s other = paths.causes s.tree other
+
+abbrev pub causes_by : State → Ask → Option (List ℕ) → CauseSet
+causes_by s ask (Some handle) = causes_of (limits s.tree) (row_of ask) (seen_by s ask handle)
+causes_by s ask None = path_causes s ask
+
+-- the causes that hold
+unfoldable pub causes : State → Ask → CauseSet
+causes s ask = causes_by s ask (asked_handle ask)
+
+-- ---- what the reply says
+
+-- what the reply to a request on paths tells
+unfoldable pub told_to : Tree → Ask → Told
+told_to t ask = led_to done (led t ask) (told_at t ask)
+
+-- a request that opens something is answered by a new handle
+abbrev pub said_by : Handles → Told → Said
+said_by handles done = ok
+said_by handles (attributes shown) = shows shown
+said_by handles (name text) = names text
+said_by handles (file number) = opens handles
+said_by handles (listed left) = opens handles
+
+abbrev pub said_to : State → Ask → Option (List ℕ) → Said
+said_to s ask (Some handle) = said_of (limits s.tree) (row_of ask) (seen_by s ask handle)
+said_to s ask None = said_by s.handles (told_to s.tree ask)
+
+-- the answer of a request that no cause refuses
+unfoldable pub answers : State → Ask → Answer → Bool
+answers s ask answer = says (said_to s ask (asked_handle ask)) answer
+
+-- ---- the state after a request that no cause refuses
+
+-- the flags of OPEN
+abbrev pub flags_of : Ask → ℕ
+flags_of (asks.Open path pflags attrs) = pflags
+flags_of other = 0
+
+-- what a request opens
+abbrev pub opened_by : ℕ → Told → Option Open
+opened_by pflags (file number) = option_map (λ n. File n (kept_flags pflags)) number
+opened_by pflags (listed left) = Some (Listing left)
+opened_by pflags other = None
+
+-- what is opened is open under the handle that the reply gives
+abbrev pub with_new : Handles → Option Open → Answer → Handles
+with_new handles (Some it) (replies.Handle handle) = with_open handles handle it
+with_new handles _ _ = handles
+
+abbrev pub changed : State → List ℕ → Change → State
+changed s handle nothing = settled s.tree s.handles
+changed s handle (rewrites number next) =
+    settled (record s.tree { files = with_content s.tree.files number next }) s.handles
+changed s handle (leaves left) = settled s.tree (with_open s.handles handle (Listing left))
+changed s handle closes = settled s.tree (without_open s.handles handle)
+
+abbrev pub target_by : State → Ask → Answer → Option (List ℕ) → State
+target_by s ask answer (Some handle) = changed s handle (change_of (row_of ask) (seen_by s ask handle) answer)
+target_by s ask answer None =
+    settled (paths.outcome s.tree ask) (with_new s.handles (opened_by (flags_of ask) (told_to s.tree ask)) answer)
+
+-- the state after it; the reply says which handle is new, and which names a listing gave
+unfoldable pub target : State → Ask → Answer → State
+target s ask answer = target_by s ask answer (asked_handle ask)

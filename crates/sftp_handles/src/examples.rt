@@ -1,0 +1,155 @@
+//! Worked examples: what sessions allow through handles, computed by the checker on the definitions that the contracts
+//! name. The functions do nothing; each promise is in the contract.
+#![tactic(auto, unfolding(crate::specs::Allowed::step, crate::specs::Allowed::steps, crate::specs::Requests::causes, crate::specs::Requests::answers, crate::specs::Requests::target, crate::specs::Requests::told_to, crate::specs::Seen::seen, crate::specs::Handles::pins_of, sftp_tree::specs::Requests::led, sftp_tree::specs::Causes::no_causes, sftp_tree::specs::Causes::when, sftp_tree::specs::Causes::joined, sftp_tree::specs::Requests::plain_causes, sftp_tree::specs::Requests::causes, sftp_tree::specs::Requests::outcome, sftp_tree::specs::Listings::children, sftp_tree::specs::Listings::listing, sftp_tree::specs::Walk::meets, sftp_tree::specs::Walk::walk_parts, sftp_tree::specs::Walk::walk, sftp_tree::specs::Walk::reached, sftp_tree::specs::Tree::has_entries, sftp_tree::specs::Tree::fits, sftp_path::specs::Place::components, sftp_path::specs::Place::parts, sftp_path::specs::Place::is_good_path, sftp_path::specs::Table::get, sftp_path::specs::Table::put, sftp_path::specs::Table::without, sftp_path::specs::Table::retain, sftp_path::specs::Table::from_entries))]
+
+ghost use Rattle.std.specs.Prelude.{◌≡◌, ◌∷◌, [], Some, None, codes};
+ghost use Rattle.sftp_wire.specs.declared.packets.Ask.TheVariants.{Open, Close, Read, Write, Fstat, Fsetstat};
+ghost use Rattle.sftp_wire.specs.declared.packets.Ask.TheVariants.{Readdir, Remove, Fsync, Unknown};
+ghost use Rattle.sftp_wire.specs.declared.packets.Answer.TheVariants.{Data, Handle, Name, Attrs};
+ghost use Rattle.sftp_wire.specs.Examples.{no_attributes};
+ghost use Rattle.sftp_tree.specs.Picture.{blank};
+ghost use Rattle.sftp_handles.specs.Allowed.{steps};
+ghost use Rattle.sftp_handles.specs.Examples.{closed, emptied, with_text, with_three, with_none, with_file_below};
+ghost use Rattle.sftp_handles.specs.Examples.{opened, opened_directory, code, done, item, of_file, more, no_more};
+
+/// A file lives while it is open: it is made, written, removed and still read. It is gone once it is closed.
+pub fn removed_while_open()
+    ensures { steps (closed blank) (opened (codes "f") 0xb (codes "h") ∷ done (Write (codes "h") 0 (codes "abc"))
+        ∷ done (Remove (codes "f")) ∷ (Read (codes "h") 0 10, Data (codes "abc")) ∷ done (Close (codes "h")) ∷ [])
+        ≡ Some (closed (emptied 1)) }
+{}
+
+/// READDIR gives the names of a directory in any order and in any parts, and then says that there are no more.
+pub fn names_in_any_order()
+    ensures parts { steps (closed with_three) (opened_directory (codes "/d") (codes "h")
+        ∷ more (codes "h") (codes "b" ∷ [])
+        ∷ more (codes "h") (codes "c" ∷ codes "a" ∷ []) ∷ no_more (codes "h") ∷ done (Close (codes "h")) ∷ [])
+        ≡ Some (closed with_three) }
+    ensures none { steps (closed with_none) (opened_directory (codes "/d") (codes "h") ∷ no_more (codes "h")
+        ∷ no_more (codes "h") ∷ done (Close (codes "h")) ∷ [])
+        ≡ Some (closed with_none) }
+{}
+
+/// No reply gives a name twice, a name that was given before, a name that is not there, or no name; nor does one say
+/// that there are no more while there are.
+pub fn wrong_names()
+    ensures ended_early { steps (closed with_three) (opened_directory (codes "/d") (codes "h")
+        ∷ more (codes "h") (codes "b" ∷ []) ∷ no_more (codes "h") ∷ []) ≡ None }
+    ensures twice { steps (closed with_three) (opened_directory (codes "/d") (codes "h")
+        ∷ more (codes "h") (codes "b" ∷ codes "b" ∷ []) ∷ []) ≡ None }
+    ensures given { steps (closed with_three) (opened_directory (codes "/d") (codes "h")
+        ∷ more (codes "h") (codes "b" ∷ []) ∷ more (codes "h") (codes "b" ∷ []) ∷ []) ≡ None }
+    ensures absent { steps (closed with_three) (opened_directory (codes "/d") (codes "h")
+        ∷ more (codes "h") (codes "e" ∷ []) ∷ []) ≡ None }
+    ensures empty { steps (closed with_three) (opened_directory (codes "/d") (codes "h")
+        ∷ more (codes "h") [] ∷ []) ≡ None }
+    ensures not_ended { steps (closed with_none) (opened_directory (codes "/d") (codes "h")
+        ∷ more (codes "h") [] ∷ []) ≡ None }
+{}
+
+/// A listing gives the attributes of the moment when the directory was opened, and not those of later.
+pub fn attributes_of_the_opening()
+    ensures before { steps (closed (with_file_below [])) (opened_directory (codes "/d") (codes "l")
+        ∷ opened (codes "/d/f") 0x2 (codes "h") ∷ done (Write (codes "h") 0 (codes "abc"))
+        ∷ (Readdir (codes "l"), Name (item (of_file 0) (codes "f") ∷ []))
+        ∷ done (Close (codes "l")) ∷ done (Close (codes "h")) ∷ [])
+        ≡ Some (closed (with_file_below (codes "abc"))) }
+    ensures later { steps (closed (with_file_below [])) (opened_directory (codes "/d") (codes "l")
+        ∷ opened (codes "/d/f") 0x2 (codes "h") ∷ done (Write (codes "h") 0 (codes "abc"))
+        ∷ (Readdir (codes "l"), Name (item (of_file 3) (codes "f") ∷ [])) ∷ []) ≡ None }
+{}
+
+/// No data changes nothing, at any offset. Data past the end comes behind zeros. A file that is appended to gets all
+/// data at its end, whatever the offset.
+pub fn written_bytes()
+    ensures no_data { steps (closed (with_text [])) (opened (codes "/f") 0x2 (codes "h")
+        ∷ done (Write (codes "h") 18446744073709551615 []) ∷ done (Close (codes "h")) ∷ [])
+        ≡ Some (closed (with_text [])) }
+    ensures past_the_end { steps (closed (with_text (codes "a"))) (opened (codes "/f") 0x2 (codes "h")
+        ∷ done (Write (codes "h") 3 (codes "b")) ∷ done (Close (codes "h")) ∷ [])
+        ≡ Some (closed (with_text (97 ∷ 0 ∷ 0 ∷ 98 ∷ []))) }
+    ensures within { steps (closed (with_text (codes "abc"))) (opened (codes "/f") 0x2 (codes "h")
+        ∷ done (Write (codes "h") 1 (codes "x")) ∷ done (Close (codes "h")) ∷ [])
+        ≡ Some (closed (with_text (codes "axc"))) }
+    ensures appended { steps (closed (with_text [])) (opened (codes "/f") 0xe (codes "h")
+        ∷ done (Write (codes "h") 100 (codes "xy")) ∷ (Fstat (codes "h"), Attrs (of_file 2))
+        ∷ done (Close (codes "h")) ∷ [])
+        ≡ Some (closed (with_text (codes "xy"))) }
+    ensures truncated { steps (closed (with_text (codes "abc"))) (opened (codes "/f") 0x1a (codes "h")
+        ∷ done (Close (codes "h")) ∷ []) ≡ Some (closed (with_text [])) }
+{}
+
+/// READ gives the bytes from the offset, as many as are asked for and are there. At the end and past it, it says that
+/// the end was reached, whatever length is asked for; below the end no length gives no bytes.
+pub fn read_bytes()
+    ensures given { steps (closed (with_text (codes "abc"))) (opened (codes "/f") 0x1 (codes "h")
+        ∷ (Read (codes "h") 1 1, Data (codes "b")) ∷ (Read (codes "h") 1 4294967295, Data (codes "bc"))
+        ∷ (Read (codes "h") 2 0, Data []) ∷ (Read (codes "h") 3 0, code 1) ∷ (Read (codes "h") 4 1, code 1)
+        ∷ done (Fsync (codes "h")) ∷ done (Close (codes "h")) ∷ [])
+        ≡ Some (closed (with_text (codes "abc"))) }
+    ensures fewer { steps (closed (with_text (codes "abc"))) (opened (codes "/f") 0x1 (codes "h")
+        ∷ (Read (codes "h") 0 3, Data (codes "ab")) ∷ []) ≡ None }
+    ensures no_end { steps (closed (with_text (codes "abc"))) (opened (codes "/f") 0x1 (codes "h")
+        ∷ (Read (codes "h") 3 1, Data []) ∷ []) ≡ None }
+{}
+
+/// OPEN with bad flags is refused with code 4 or 5, and with no other.
+pub fn bad_flags()
+    ensures failed { steps (closed (with_text [])) ((Open (codes "/f") 0x10 no_attributes, code 4) ∷ [])
+        ≡ Some (closed (with_text [])) }
+    ensures bad_message { steps (closed (with_text [])) ((Open (codes "/f") 0x10 no_attributes, code 5) ∷ [])
+        ≡ Some (closed (with_text [])) }
+    ensures not_2 { steps (closed (with_text [])) ((Open (codes "/f") 0x10 no_attributes, code 2) ∷ []) ≡ None }
+    ensures not_3 { steps (closed (with_text [])) ((Open (codes "/f") 0x10 no_attributes, code 3) ∷ []) ≡ None }
+    ensures not_8 { steps (closed (with_text [])) ((Open (codes "/f") 0x10 no_attributes, code 8) ∷ []) ≡ None }
+    ensures not_done { steps (closed (with_text [])) (opened (codes "/f") 0x10 (codes "h") ∷ []) ≡ None }
+{}
+
+/// A handle is closed once: then it is not open any more, which has the code 4.
+pub fn closed_twice()
+    ensures refused { steps (closed (with_text [])) (opened (codes "/f") 0x1 (codes "h") ∷ done (Close (codes "h"))
+        ∷ (Close (codes "h"), code 4) ∷ (Fstat (codes "h"), code 4) ∷ []) ≡ Some (closed (with_text [])) }
+    ensures not_done { steps (closed (with_text [])) (opened (codes "/f") 0x1 (codes "h") ∷ done (Close (codes "h"))
+        ∷ done (Close (codes "h")) ∷ []) ≡ None }
+{}
+
+/// READDIR through the handle of a file, and READ, WRITE, FSTAT, FSETSTAT or fsync through that of a listing, have the
+/// code 4 alone.
+pub fn other_kinds()
+    ensures refused { steps (closed (with_file_below [])) (opened_directory (codes "/d") (codes "l")
+        ∷ opened (codes "/d/f") 0x1 (codes "h") ∷ (Readdir (codes "h"), code 4) ∷ (Read (codes "l") 0 1, code 4)
+        ∷ (Write (codes "l") 0 [], code 4) ∷ (Fstat (codes "l"), code 4) ∷ (Fsetstat (codes "l") no_attributes, code 4)
+        ∷ (Fsync (codes "l"), code 4) ∷ done (Close (codes "l")) ∷ done (Close (codes "h")) ∷ [])
+        ≡ Some (closed (with_file_below [])) }
+    ensures not_3 { steps (closed with_none) (opened_directory (codes "/d") (codes "l")
+        ∷ (Read (codes "l") 0 1, code 3) ∷ []) ≡ None }
+{}
+
+/// READ through a handle that was opened to write alone has the code 3 or 4, as has WRITE through one that was opened
+/// to read.
+pub fn opened_for_something_else()
+    ensures read { steps (closed (with_text [])) (opened (codes "/f") 0x2 (codes "h") ∷ (Read (codes "h") 0 1, code 3)
+        ∷ (Read (codes "h") 0 1, code 4) ∷ done (Close (codes "h")) ∷ []) ≡ Some (closed (with_text [])) }
+    ensures written { steps (closed (with_text [])) (opened (codes "/f") 0x1 (codes "h")
+        ∷ (Write (codes "h") 0 [], code 3) ∷ (Write (codes "h") 0 [], code 4) ∷ done (Close (codes "h")) ∷ [])
+        ≡ Some (closed (with_text [])) }
+    ensures not_1 { steps (closed (with_text [])) (opened (codes "/f") 0x2 (codes "h")
+        ∷ (Read (codes "h") 0 1, code 1) ∷ []) ≡ None }
+{}
+
+/// No reply gives a handle that is open. A handle that was closed may be given again, and a handle may have no bytes.
+pub fn new_handles()
+    ensures open { steps (closed (with_text [])) (opened (codes "/f") 0x1 (codes "h")
+        ∷ opened (codes "/f") 0x1 (codes "h") ∷ []) ≡ None }
+    ensures again { steps (closed (with_text [])) (opened (codes "/f") 0x1 (codes "h") ∷ done (Close (codes "h"))
+        ∷ opened (codes "/f") 0x1 (codes "h") ∷ done (Close (codes "h")) ∷ []) ≡ Some (closed (with_text [])) }
+    ensures no_bytes { steps (closed (with_text [])) (opened (codes "/f") 0x1 [] ∷ done (Close []) ∷ [])
+        ≡ Some (closed (with_text [])) }
+{}
+
+/// An extension that is not known has the code 8 alone.
+pub fn unknown_extensions()
+    ensures refused { steps (closed blank) ((Unknown (codes "x@y") [], code 8) ∷ []) ≡ Some (closed blank) }
+    ensures not_4 { steps (closed blank) ((Unknown (codes "x@y") [], code 4) ∷ []) ≡ None }
+    ensures not_done { steps (closed blank) (done (Unknown (codes "x@y") []) ∷ []) ≡ None }
+{}

@@ -1,0 +1,16 @@
+//! Handles and sessions: what is open, what a request through a handle sees, and which replies a session allows
+//! (draft-ietf-secsh-filexfer-02, sections 6.3, 6.4 and 6.7).
+#![tactic(auto)]
+
+pub mod examples;
+mod given_table;
+pub mod laws;
+mod listings;
+mod opens;
+pub mod pin_laws;
+mod tables;
+
+pub use given_table::GivenTable;
+pub use listings::Listing;
+pub use opens::Open;
+pub use tables::{HandleTable, PutError};

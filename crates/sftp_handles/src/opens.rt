@@ -1,0 +1,14 @@
+//! What a handle opens: a file, or a listing of a directory.
+
+use crate::listings::Listing;
+use sftp_tree::FileNo;
+use sftp_wire::OpenFlags;
+
+/// What is open under a handle.
+#[derive(Debug, Drop)]
+pub enum Open {
+    /// A file, by its number, and how it was opened: the bits READ, WRITE and APPEND of the flags of OPEN.
+    File { file: FileNo, flags: OpenFlags },
+    /// A directory, with the names that its listing still has to give.
+    Listing { left: Listing },
+}

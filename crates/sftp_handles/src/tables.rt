@@ -1,0 +1,91 @@
+//! Tables of handles: finite maps from names to what is open under them.
+ghost use Rattle.std.specs.Prelude.{◌≡◌, ◌≤◌, [], ℕ, Bool, None, Some, IsTrue, IfOk, IfErr, OnOk, OnErr};
+ghost use Rattle.std.specs.Prelude.{length, option_copied};
+ghost use Rattle.sftp_wire.specs.Spelling.{handle_limit};
+ghost use Rattle.sftp_path.specs.Place.{bytes_cmp};
+ghost use Rattle.sftp_path.specs.Table.{InOrder, size};
+ghost use Rattle.sftp_handles.specs.declared.tables.PutError.TheVariants.{Taken, NoMemory};
+ghost use Rattle.sftp_handles.specs.Handles.{Handles, open_at, with_open, without_open, is_open};
+
+use crate::opens::Open;
+use std::alloc::Global;
+use thiserror::Error;
+
+/// Why nothing was put into a table.
+#[derive(Clone, Copy, Debug, PartialEq, Eq, Error)]
+pub enum PutError {
+    /// The wanted name is open already.
+    #[error("the name is open")]
+    Taken,
+    /// Memory ran out.
+    #[error("out of memory")]
+    NoMemory,
+}
+
+/// A table of what is open, by the names of the handles. A name is a byte string of at most `HANDLE_LIMIT` bytes. No
+/// call but `put` takes memory.
+pub trait HandleTable: Sized + Drop {
+    /// What is open under each name.
+    ghost handles: { Self → Handles };
+
+    /// Whether a new handle gets the name that is wanted for it.
+    ghost takes_want: { Bool };
+
+    /// A table in which nothing is open.
+    fn empty(alloc: Global) -> Self
+        ensures { handles result ≡ [] };
+
+    /// How many handles are open.
+    fn len(&self) -> usize
+        ensures { result ≡ size (handles self.now) };
+
+    /// What is open under the name.
+    fn find(&self, name: &[u8]) -> Option<&Open>
+        ensures { option_copied result ≡ open_at (handles self.now) name.now };
+
+    /// Opens something else under a name that is open, and returns what was open before.
+    ///
+    /// # Errors
+    ///
+    /// Returns its argument if the name is not open; the table is then as before.
+    fn swap(&mut self, name: &[u8], it: Open) -> Result<Open, Open>
+        ensures before { IfOk result (λ before. open_at (handles self.old) name.now ≡ Some before) }
+        ensures swapped { OnOk result (handles self.new ≡ with_open (handles self.old) name.now it) }
+        ensures absent { OnErr result (open_at (handles self.old) name.now ≡ None) }
+        ensures back { IfErr result (λ back. back ≡ it) }
+        ensures err { OnErr result (handles self.new ≡ handles self.old) };
+
+    /// Opens something under a new name, and returns the name. A table that gives names of its own ignores the one that
+    /// is wanted.
+    ///
+    /// # Errors
+    ///
+    /// `Taken` if the wanted name is open already and the table would give it, `NoMemory` if memory runs out; what was
+    /// to be opened comes back, and the table is as before.
+    fn put(&mut self, it: Open, want: Vec<u8>) -> Result<Vec<u8>, (Open, PutError)>
+        requires { length want.items ≤ handle_limit }
+        ensures closed { IfOk result (λ name. open_at (handles self.old) name.items ≡ None) }
+        ensures opened { IfOk result (λ name. handles self.new ≡ with_open (handles self.old) name.items it) }
+        ensures short { IfOk result (λ name. length name.items ≤ handle_limit) }
+        ensures wanted { IfOk result (λ name. IsTrue takes_want → name.items ≡ want.items) }
+        ensures taken { IfErr result (λ e. e.1 ≡ Taken →
+            IsTrue takes_want × IsTrue (is_open (handles self.old) want.items)) }
+        ensures refused { IfErr result (λ e. e.1 ≡ NoMemory → IsTrue takes_want →
+            open_at (handles self.old) want.items ≡ None) }
+        ensures back { IfErr result (λ e. e.0 ≡ it) }
+        ensures err { OnErr result (handles self.new ≡ handles self.old) };
+
+    /// Closes a name, and returns what was open under it.
+    fn take(&mut self, name: &[u8]) -> Option<Open>
+        ensures before { result ≡ open_at (handles self.old) name.now }
+        ensures closed { handles self.new ≡ without_open (handles self.old) name.now };
+
+    /// Closes a name as `take` does. A table that gives names of its own gives the newest name again, as if it had not
+    /// been opened.
+    fn give_back(&mut self, name: &[u8]) -> Option<Open>
+        ensures before { result ≡ open_at (handles self.old) name.now }
+        ensures closed { handles self.new ≡ without_open (handles self.old) name.now };
+
+    /// The names are in order, each once.
+    ghost ordered: { (table : Self) → InOrder bytes_cmp (handles table) };
+}
