@@ -1,5 +1,6 @@
 pub mod Pins
 pub mod Steps
+pub mod NewStates
 pub mod GivenTables
 pub mod GoodStates
 pub mod GoodSteps

@@ -8,9 +8,11 @@ pub mod laws;
 mod listings;
 mod opens;
 pub mod pin_laws;
+mod sessions;
 mod tables;
 
 pub use given_table::GivenTable;
 pub use listings::Listing;
 pub use opens::Open;
+pub use sessions::Session;
 pub use tables::{HandleTable, PutError};
