@@ -6,3 +6,4 @@ pub mod GoodStates
 pub mod GoodSteps
 pub mod GoodPaths
 pub mod GoodLaws
+pub mod SeenCauses

@@ -8,3 +8,4 @@ pub mod Allowed
 pub mod Examples
 pub mod Given
 pub mod Laws
+pub mod Found

@@ -3,11 +3,14 @@
 #![tactic(auto)]
 
 pub mod examples;
+mod found;
 mod given_table;
+mod handle_causes;
 pub mod laws;
 mod listings;
 mod opens;
 pub mod pin_laws;
+mod session_causes;
 mod sessions;
 mod tables;
 

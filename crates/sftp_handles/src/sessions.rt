@@ -10,8 +10,8 @@ use std::marker::Model;
 /// A tree, and the handles that are open on it. Each file is pinned as often as it is open.
 #[derive(Drop)]
 pub struct Session<T: HandleTable> {
-    tree: Tree,
-    table: T,
+    pub(crate) tree: Tree,
+    pub(crate) table: T,
 }
 
 impl<T: HandleTable> Model for Session<T> {
