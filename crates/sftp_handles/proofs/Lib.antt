@@ -7,3 +7,4 @@ pub mod GoodSteps
 pub mod GoodPaths
 pub mod GoodLaws
 pub mod SeenCauses
+pub mod SeenAnswers

@@ -8,6 +8,7 @@ mod given_table;
 mod handle_causes;
 pub mod laws;
 mod listings;
+mod open_files;
 mod opens;
 pub mod pin_laws;
 mod session_causes;
