@@ -1,5 +1,5 @@
 -- What replies to requests on open files say, by what is found under the handle.
-use Rattle.std.proofs.Common.{◌≡◌, ◌&&◌, ◌||◌, ℕ, true, List, Option, Some, None, Ok, option_map}
+use Rattle.std.proofs.Common.{◌≡◌, ◌&&◌, ◌||◌, ℕ, true, false, List, Option, Some, None, Ok, option_map}
 use Rattle.std.proofs.Common.{refl, ap, ◌∙◌, IsTrue}
 use Rattle.std.proofs.lemmas.Bool.{eq-eqb}
 use Rattle.std.proofs.lemmas.Option.{same_Some}
@@ -7,6 +7,7 @@ use Rattle.sftp_wire.specs.declared.open_flags.OpenFlags.{OpenFlags}
 use Rattle.sftp_wire.specs.declared.packets.Ask.{Ask}
 use Rattle.sftp_treefile.specs.declared.limits.TreeLimits.{TreeLimits}
 use Rattle.sftp_tree.specs.declared.causes.Cause.{Cause}
+use Rattle.sftp_tree.specs.declared.causes.Cause.TheVariants.{NotOpenFor}
 use Rattle.sftp_tree.specs.declared.file_contents.Content.{Content}
 use Rattle.sftp_tree.specs.Tree.{content_at, limits}
 use Rattle.sftp_tree.specs.Causes.{row, no_causes, when, is_none}
@@ -50,3 +51,8 @@ pub shown-found : {A B : Type 0} (f : Content → A) (g : A → B) (content : Op
     → option_map f content ≡ Some shown → option_map (λ before. g (f before)) content ≡ Some (g shown)
 shown-found f g None shown is = absurd cc
 shown-found f g (Some before) shown is = ap (λ a. Some (g a)) (same_Some (f before) shown is)
+
+-- no cause is in the set of a file that was opened for what is asked
+pub open-for : IsTrue (is_none (when no_causes NotOpenFor false))
+unfolding when no_causes
+open-for = refl
