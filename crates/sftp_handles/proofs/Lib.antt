@@ -1,5 +1,6 @@
 pub mod Pins
 pub mod Steps
+pub mod NewStates
 pub mod GivenTables
 pub mod GoodStates
 pub mod GoodSteps
@@ -7,3 +8,5 @@ pub mod GoodPaths
 pub mod GoodLaws
 pub mod FirstListings
 pub mod Strikes
+pub mod SeenCauses
+pub mod SeenAnswers

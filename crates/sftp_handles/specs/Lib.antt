@@ -7,3 +7,5 @@ pub mod Requests
 pub mod Allowed
 pub mod Examples
 pub mod Given
+pub mod Laws
+pub mod Found

@@ -3,14 +3,20 @@
 #![tactic(auto)]
 
 pub mod examples;
+mod found;
 mod given_table;
+mod handle_causes;
 pub mod laws;
 mod listings;
+mod open_files;
 mod opens;
 pub mod pin_laws;
+mod session_causes;
+mod sessions;
 mod tables;
 
 pub use given_table::GivenTable;
 pub use listings::Listing;
 pub use opens::Open;
+pub use sessions::Session;
 pub use tables::{HandleTable, PutError};

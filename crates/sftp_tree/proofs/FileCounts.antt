@@ -3,3 +3,4 @@ pub mod Pins
 pub mod Changes
 pub mod Names
 pub mod Moves
+pub mod Unpinned

@@ -1,5 +1,5 @@
 -- Files as the code keeps them: each with the counts of its names and of its pins.
-use Rattle.std.specs.Prelude.{◌≡◌, ◌≢◌, ℕ, ◌+◌, ◌-◌, ◌^◌, ◌<◌, ◌||◌, nat_lt, Bool, List, length, Option, Some, None, if◌then◌else◌, option_and_then}
+use Rattle.std.specs.Prelude.{◌≡◌, ◌≢◌, ℕ, ◌+◌, ◌-◌, ◌^◌, ◌<◌, ◌||◌, nat_lt, Bool, List, [], ◌∷◌, length, Option, Some, None, if◌then◌else◌, option_and_then}
 use Rattle.std.specs.Ordering.{nat_cmp}
 use Rattle.std.specs.List.{AllByRecursion}
 use Rattle.sftp_wire.specs.declared.attributes.Attrs.{Attrs}
@@ -80,6 +80,15 @@ without_a_pin s = where_held (record s { pins = s.pins - 1 })
 -- it gets another content, made of its own
 abbrev pub with_content_made : (Content → Content) → Stored → Option Stored
 with_content_made change s = Some (record s { content = change s.content })
+
+-- it has no pin any more
+abbrev pub without_pins : Stored → Stored
+without_pins s = record s { pins = 0 }
+
+-- the files that have a name, and no pins
+abbrev pub unpinned : Table ℕ Stored → Table ℕ Stored
+unpinned [] = []
+unpinned (e ∷ es) = if nat_lt 0 e.1.names then (e.0, without_pins e.1) ∷ unpinned es else unpinned es
 
 -- its attributes are set
 abbrev pub with_attributes_set : Attrs → Stored → Option Stored

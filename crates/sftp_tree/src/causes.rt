@@ -128,14 +128,14 @@ pub struct Causes {
 
 impl Causes {
     /// The empty set.
-    pub(crate) fn none() -> Causes
+    pub fn none() -> Causes
         ensures { in_set result ≡ sets.no_causes }
     {
         Causes { bits: 0 }
     }
 
     /// The set with this cause too, if it holds.
-    pub(crate) fn when(self, cause: Cause, holds: bool) -> Causes
+    pub fn when(self, cause: Cause, holds: bool) -> Causes
         ensures { in_set result ≡ sets.when (in_set self) cause holds }
     {
         if !holds {

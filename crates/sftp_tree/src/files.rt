@@ -1,5 +1,5 @@
 //! The files of a tree, by their numbers. No other module knows how they are kept.
-ghost use Rattle.std.specs.Prelude.{◌≡◌, ◌+◌, ◌<◌, ◌^◌, [], length, OnOk, OnErr, IfSome, option_copied};
+ghost use Rattle.std.specs.Prelude.{◌≡◌, ◌+◌, ◌<◌, ◌^◌, [], nat_lt, length, OnOk, OnErr, IfSome, option_copied};
 ghost use Rattle.std.specs.Ordering.{nat_cmp};
 ghost use Rattle.sftp_path.specs.Table.{get, put};
 ghost use Rattle.sftp_treefile.specs.TreeFile.{IsOwner};
@@ -8,6 +8,7 @@ ghost use Rattle.sftp_tree.specs.Attributes.{changed_owner};
 ghost use Rattle.sftp_tree.specs.StoredFiles.{IsChanged, IsChangedWhereNamed, contents};
 ghost use Rattle.sftp_tree.specs.StoredFiles.{with_a_name, without_a_name, with_attributes_set};
 ghost use Rattle.sftp_tree.specs.StoredFiles.{with_a_pin, without_a_pin, with_bytes_written, pin_count_at, IsWritable};
+ghost use Rattle.sftp_tree.specs.StoredFiles.{unpinned, without_pins};
 
 use crate::file_contents::{Content, Stored, change};
 use crate::file_numbers::FileNo;
@@ -165,6 +166,13 @@ impl Files {
     {
         unpin(&mut self.by_number, number);
     }
+
+    /// Takes all pins away. A file is removed that has no name.
+    pub(crate) fn unpin_all(&mut self)
+        ensures { self.new ≡ unpinned self.old }
+    {
+        unpin_all(&mut self.by_number);
+    }
 }
 
 /// Counts a further name of a file, if one is named.
@@ -280,4 +288,19 @@ fn unpin(files: &mut BTreeMap<FileNo, Stored>, number: FileNo)
     if !stored.is_held() {
         files.remove(&number);
     }
+}
+
+/// Takes all pins away. A file is removed that has no name.
+fn unpin_all(files: &mut BTreeMap<FileNo, Stored>)
+    ensures { files.new.entries ≡ unpinned files.old.entries }
+{
+    files.retain(
+        |_, stored: &mut Stored| -> bool
+            ensures held { result ≡ nat_lt 0 stored.old.names }
+            ensures unpinned { stored.new ≡ without_pins stored.old }
+        {
+            stored.pins = 0;
+            stored.names > 0
+        },
+    );
 }

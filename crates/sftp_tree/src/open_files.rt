@@ -1,6 +1,6 @@
 //! Files by their numbers: what the requests on open files read of them and change in them (draft, sections 6.4, 6.8
 //! and 6.9). Each call is for a file that exists.
-ghost use Rattle.std.specs.Prelude.{◌≡◌, Some, is_some, option_map, take, drop, IfErr, IsTrue, OnOk, OnErr};
+ghost use Rattle.std.specs.Prelude.{◌≡◌, Some, is_some, option_map, length, take, drop, IfErr, IsTrue, OnOk, OnErr};
 ghost use Rattle.sftp_tree.specs.Tree as tree;
 ghost use Rattle.sftp_tree.specs.Attributes as attributes;
 ghost use Rattle.sftp_tree.specs.FileChanges as changes;
@@ -17,6 +17,17 @@ impl Tree {
         ensures { result ≡ is_some (tree.content_at self.now.files number) }
     {
         self.content(number).is_some()
+    }
+
+    /// How many bytes a file has.
+    pub fn byte_count(&self, number: FileNo) -> u64
+        requires { tree.HasFile self.now.files number }
+        ensures { option_map (λ content. length content.bytes) (tree.content_at self.now.files number) ≡ Some result }
+    {
+        match self.content(number) {
+            Some(content) => content.bytes.as_slice().len() as u64,
+            None => unreachable!(),
+        }
     }
 
     /// READ: the bytes of a file from an offset on, at most `len` of them and at most as many as the tree's limit of
@@ -86,7 +97,7 @@ impl Tree {
     }
 
     /// Whether bytes that are written to a file from an offset on keep to the limit.
-    fn write_fits(&self, offset: u64, new: &[u8]) -> bool
+    pub fn write_fits(&self, offset: u64, new: &[u8]) -> bool
         ensures { result ≡ changes.write_fits (tree.limits self.now) offset new.now }
     {
         let most = u64::from(self.tree_limits().file_bytes);

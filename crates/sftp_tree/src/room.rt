@@ -91,7 +91,7 @@ impl Tree {
     }
 
     /// Whether a file may have the size that is given, if one is.
-    pub(crate) fn size_fits(&self, attrs: &Attrs) -> bool
+    pub fn size_fits(&self, attrs: &Attrs) -> bool
         ensures fits { result ≡ room.size_fits (tree.limits self.now) attrs.now.size }
         ensures kept { tree.IsKept self.now }
     {

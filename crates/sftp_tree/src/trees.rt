@@ -1,5 +1,5 @@
 //! The tree.
-ghost use Rattle.std.specs.Prelude.{◌≡◌, ◌<◌, ◌^◌, false, None, option_copied, OnOk, OnErr, IsTrue, ◌+◌, nat_lt};
+ghost use Rattle.std.specs.Prelude.{◌≡◌, [], ◌<◌, ◌^◌, false, None, option_copied, OnOk, OnErr, IsTrue, ◌+◌, nat_lt};
 ghost use Rattle.sftp_path.specs.Place.{are_names, parent};
 ghost use Rattle.sftp_treefile.specs.TreeFile.{IsOwner, is_root, same_place};
 
@@ -11,6 +11,7 @@ use crate::nodes::{Node, file_named};
 use sftp_path::{NoMemory, Place};
 use sftp_treefile::{Owner, TreeLimits};
 use sftp_wire::Attrs;
+use std::alloc::Global;
 use std::marker::Model;
 
 /// A tree of directories, files and symbolic links, within the limits.
@@ -102,6 +103,11 @@ impl Tree {
         &self.home
     }
 
+    /// The allocator of the tree.
+    pub fn allocator(&self) -> Global {
+        self.home.allocator()
+    }
+
     /// The user who owns what is made with no owner given.
     pub(crate) fn uid(&self) -> u32
         ensures { result ≡ self.now.uid }
@@ -117,7 +123,7 @@ impl Tree {
     }
 
     /// The limits of the tree.
-    pub(crate) fn tree_limits(&self) -> TreeLimits
+    pub fn tree_limits(&self) -> TreeLimits
         ensures limits { result ≡ tree.limits self.now }
         ensures kept { tree.IsKept self.now }
     {
@@ -286,5 +292,13 @@ impl Tree {
         ensures { self.new ≡ file_changes.after_unpin self.old number }
     {
         self.files.unpin(number);
+    }
+
+    /// Takes all pins away. A file is removed that has no name. It takes no memory.
+    pub fn unpin_all(&mut self)
+        ensures unpinned { self.new ≡ tree.trim (record self.old { pins = [] }) }
+        ensures kept { tree.IsKept self.new }
+    {
+        self.files.unpin_all();
     }
 }

@@ -142,7 +142,7 @@ pub length-resized : (size : ℕ) (bytes : List ℕ) → length (resized size by
 length-resized size bytes =
     omega (arith, length-append (take size bytes) (replicate (size - length bytes) 0), length-take size bytes, length-replicate {A = ℕ} (size - length bytes) 0)
 
-changed-fits : (bounds : TreeLimits) (size : Option ℕ) (bytes : List ℕ) → nat_le (length bytes) bounds.file_bytes ≡ true → nat_le (length (unwrap_or (option_map (λ n. resized n bytes) size) bytes)) bounds.file_bytes ≡ size_fits bounds size
+pub changed-fits : (bounds : TreeLimits) (size : Option ℕ) (bytes : List ℕ) → nat_le (length bytes) bounds.file_bytes ≡ true → nat_le (length (unwrap_or (option_map (λ n. resized n bytes) size) bytes)) bounds.file_bytes ≡ size_fits bounds size
 changed-fits bounds None bytes fit = fit
 changed-fits bounds (Some size) bytes fit = ap (λ n. nat_le n bounds.file_bytes) (length-resized size bytes)
 

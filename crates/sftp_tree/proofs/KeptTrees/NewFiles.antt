@@ -1,7 +1,5 @@
 -- A tree with a new file: that it fits the limits, and that it stays a tree. A file that loses its bytes.
-use Rattle.std.proofs.Common.{◌≡◌, ◌==◌, ◌<◌, ◌^◌, ℕ, ◌+◌, ◌-◌, Bool, true, false, ◌&&◌, ◌||◌, List, [], ◌∷◌, length}
-use Rattle.std.proofs.Common.{replicate, refl, sym, ap, subst, ◌∙◌, arith, lit<, Option, Some, None, is_some, nat_lt}
-use Rattle.std.proofs.Common.{nat_le, IsTrue, IfSome, cond, option_map, option_and_then}
+use Rattle.std.proofs.Common.{◌≡◌, ◌==◌, ◌<◌, ◌^◌, ℕ, ◌+◌, ◌-◌, Bool, true, false, ◌&&◌, ◌||◌, List, [], ◌∷◌, length, replicate, refl, sym, ap, subst, ◌∙◌, arith, lit<, Option, Some, None, is_some, nat_lt, nat_le, IsTrue, IfSome, cond, option_map, option_and_then}
 use Rattle.std.specs.Ordering.{nat_cmp}
 use Rattle.std.specs.FinMap.{nat_cmp-IsAntisymmetric}
 use Rattle.std.specs.List.{AllByRecursion}
@@ -65,8 +63,7 @@ well-formed-file t content well is_content = record {
       each-put nat_cmp nat_cmp-IsAntisymmetric nat_cmp_total (λ e. IsContent e.1) t.files t.made content well.numbered
       is_content well.contents;
   given =
-      each-put nat_cmp nat_cmp-IsAntisymmetric nat_cmp_total
-      (λ e. e.0 < t.made + 1) t.files t.made content well.numbered
+      each-put nat_cmp nat_cmp-IsAntisymmetric nat_cmp_total (λ e. e.0 < t.made + 1) t.files t.made content well.numbered
       (next t.made)
       (each-weaker (λ e. e.0 < t.made) (λ e. e.0 < t.made + 1) (λ e early. later e.0 t.made early) t.files well.given);
   pins = well.pins;
@@ -105,8 +102,7 @@ kept-new t place content kept can =
           each-put nat_cmp nat_cmp-IsAntisymmetric nat_cmp_total held t.files t.made content kept.well_formed.numbered
           (or_left (is_named names t.made) (is_pinned t.pins t.made) named)
           (each-weaker (λ e. IsTrue (is_held t e.0)) held
-          (λ e h. or_weaker (is_named t.names e.0) (is_named names e.0) (is_pinned t.pins e.0)
-          (named-put t.names place (File t.made) e.0 can.absent) h)
+          (λ e h. or_weaker (is_named t.names e.0) (is_named names e.0) (is_pinned t.pins e.0) (named-put t.names place (File t.made) e.0 can.absent) h)
           t.files kept.trimmed);
     }
 
@@ -123,15 +119,9 @@ unfolding fits
 fits-new t place content kept absent new short =
     let fit = fits-parts t kept in
     (λ i.
-    entries-with t place (File t.made) absent i &&
-    (depths-with t place (File t.made) absent i &&
-    (fit.home i &&
-    (links-with t place (File t.made) absent i &&
-    (files-with t t.made content new i && nat_lt (t.made + 1) (2 ^ 32))))))
+    entries-with t place (File t.made) absent i && (depths-with t place (File t.made) absent i && (fit.home i && (links-with t place (File t.made) absent i && (files-with t t.made content new i && nat_lt (t.made + 1) (2 ^ 32))))))
     ∙ (λ i.
-    nat_le (length t.names) (limits t).entries &&
-    ((depth_fits place && fit.depths i) &&
-    (true && ((true && fit.links i) && ((short i && fit.files i) && nat_lt (t.made + 1) (2 ^ 32))))))
+    nat_le (length t.names) (limits t).entries && ((depth_fits place && fit.depths i) && (true && ((true && fit.links i) && ((short i && fit.files i) && nat_lt (t.made + 1) (2 ^ 32))))))
     ∙ in-one (nat_le (length t.names) (limits t).entries) (depth_fits place) (nat_lt (t.made + 1) (2 ^ 32))
 
 -- ---- a file that loses its bytes
@@ -229,28 +219,18 @@ module _ (names : Names) (files : Table ℕ Stored) (made : ℕ) (limits : TreeL
       new : Stored
       new = record { content = content; names = 1; pins = 0 }
 
-      right : (number : ℕ) (s : Stored) → get nat_cmp (put nat_cmp files made new) number ≡ Some s
-          → s.names ≡ times_named (with_node names place (File made)) number
+      right : (number : ℕ) (s : Stored) → get nat_cmp (put nat_cmp files made new) number ≡ Some s → s.names ≡ times_named (with_node names place (File made)) number
       right number s there =
           by-number made number
           (λ same.
-          let one : s.names ≡ 1 =
-          ap (λ (s : Stored). s.names)
-          (same_Some s new
-          (sym there ∙ ap (get nat_cmp (put nat_cmp files made new)) same
-          ∙ get-put_here nat_cmp nat_cmp_total files made new)) in
-          let none =
-          none-named names (contents files) made kept.well_formed.nodes
-          (not-given the_tree made kept.well_formed (omega arith)) in
+          let one : s.names ≡ 1 = ap (λ (s : Stored). s.names) (same_Some s new (sym there ∙ ap (get nat_cmp (put nat_cmp files made new)) same ∙ get-put_here nat_cmp nat_cmp_total files made new)) in
+          let none = none-named names (contents files) made kept.well_formed.nodes (not-given the_tree made kept.well_formed (omega arith)) in
           let here = one-here made in
           let m = named-more names place (File made) absent made in
           let all : s.names ≡ times_named (with_node names place (File made)) made = omega arith in
           all ∙ ap (times_named (with_node names place (File made))) (sym same))
           (λ differ.
-          let before =
-          sym
-          (get-put_elsewhere nat_cmp nat_cmp_total files made number new
-          (λ tie. differ (nat_cmp-IsAntisymmetric number made tie))) ∙ there in
+          let before = sym (get-put_elsewhere nat_cmp nat_cmp_total files made number new (λ tie. differ (nat_cmp-IsAntisymmetric number made tie))) ∙ there in
           let n = count-at names files counted number s before in
           let none = one-elsewhere made number differ in
           let m = named-more names place (File made) absent number in
@@ -258,8 +238,7 @@ module _ (names : Names) (files : Table ℕ Stored) (made : ℕ) (limits : TreeL
 
       counts : AreCounted (with_node names place (File made)) (put nat_cmp files made new)
       counts =
-          at-entries (λ number (s : Stored). s.names ≡ times_named (with_node names place (File made)) number)
-          (put nat_cmp files made new)
+          at-entries (λ number (s : Stored). s.names ≡ times_named (with_node names place (File made)) number) (put nat_cmp files made new)
           (InOrder-put nat_cmp nat_cmp_total files made new (files-in_order files kept.well_formed.numbered)) right
 
 -- a file that was put at a free number and lost its name leaves the others as they were
@@ -278,8 +257,7 @@ put-back files middle after number content order free is changed =
     ∙ sym free ∙ ap (get nat_cmp files) (sym same))
     (λ differ.
     changed.others other differ ∙ ap (λ table. get nat_cmp table other) is
-    ∙ get-put_elsewhere nat_cmp nat_cmp_total files number other new
-    (λ tie. differ (nat_cmp-IsAntisymmetric other number tie))))
+    ∙ get-put_elsewhere nat_cmp nat_cmp_total files number other new (λ tie. differ (nat_cmp-IsAntisymmetric other number tie))))
 
 -- it has a name to lose
 pub one-to-lose : (files middle : Table ℕ Stored) (number : ℕ) (content : Content)

@@ -80,7 +80,7 @@ well-formed-pins t number often well there = record {
   gid = well.gid;
 }
 
-fits-pins : (t : Tree) (pins : Pins) → IsTrue (fits t) → IsTrue (fits (record t { pins = pins }))
+pub fits-pins : (t : Tree) (pins : Pins) → IsTrue (fits t) → IsTrue (fits (record t { pins = pins }))
 fits-pins t pins within =
     let parts = fits-parts t within in
     fits-from (record t { pins = pins }) (record {

@@ -35,7 +35,7 @@ length-overwritten offset new bytes =
     )
 
 -- a file keeps to the limit after a WRITE just where the WRITE does
-size-written : (bounds : TreeLimits) (offset : ℕ) (new bytes : List ℕ) → nat_le (length bytes) bounds.file_bytes ≡ true
+pub size-written : (bounds : TreeLimits) (offset : ℕ) (new bytes : List ℕ) → nat_le (length bytes) bounds.file_bytes ≡ true
     → nat_le (length (written offset new bytes)) bounds.file_bytes ≡ write_fits bounds offset new
 size-written bounds offset new bytes fit = by (length new == 0)
   where

@@ -1,0 +1,58 @@
+-- What replies to requests on open files say, by what is found under the handle.
+use Rattle.std.proofs.Common.{◌≡◌, ◌&&◌, ◌||◌, ℕ, true, false, List, Option, Some, None, Ok, option_map}
+use Rattle.std.proofs.Common.{refl, ap, ◌∙◌, IsTrue}
+use Rattle.std.proofs.lemmas.Bool.{eq-eqb}
+use Rattle.std.proofs.lemmas.Option.{same_Some}
+use Rattle.sftp_wire.specs.declared.open_flags.OpenFlags.{OpenFlags}
+use Rattle.sftp_wire.specs.declared.packets.Ask.{Ask}
+use Rattle.sftp_treefile.specs.declared.limits.TreeLimits.{TreeLimits}
+use Rattle.sftp_tree.specs.declared.causes.Cause.{Cause}
+use Rattle.sftp_tree.specs.declared.causes.Cause.TheVariants.{NotOpenFor}
+use Rattle.sftp_tree.specs.declared.file_contents.Content.{Content}
+use Rattle.sftp_tree.specs.Tree.{content_at, limits}
+use Rattle.sftp_tree.specs.Causes.{row, no_causes, when, is_none}
+use Rattle.sftp_handles.specs.State.{State}
+use Rattle.sftp_handles.specs.Handles.{open_at}
+use Rattle.sftp_handles.specs.Seen.{a_file, seen, seen_among, seen_file}
+use Rattle.sftp_handles.specs.Replies.{Said}
+use Rattle.sftp_handles.specs.HandleRequests.{Row, row_of, said_of}
+use Rattle.sftp_handles.specs.Requests.{said_to}
+use Rattle.sftp_handles.specs.Found.{found_file}
+use Rattle.sftp_handles.proofs.SeenCauses.{seen-found}
+
+-- no cause is in the empty set
+pub none-free : IsTrue (is_none no_causes)
+unfolding no_causes
+none-free = refl
+
+-- the only cause holds
+pub cause-holds : (cause : Cause) → IsTrue (when no_causes cause true cause)
+unfolding when no_causes
+cause-holds cause = ap (λ b. b && true || no_causes cause) (eq-eqb (row cause) (row cause) refl)
+
+of-content : (bounds : TreeLimits) (row : Row) (number : ℕ) (flags : OpenFlags) (content : Option Content) (said : Said)
+    → option_map (row.told bounds) content ≡ Some said → said_of bounds row (seen_file number flags content) ≡ said
+of-content bounds row number flags None said is = absurd cc
+of-content bounds row number flags (Some before) said is = same_Some (row.told bounds before) said is
+
+-- what is said of the file that is found
+pub said-found : (s : State) (ask : Ask) (handle : List ℕ) → (row_of ask).needed ≡ a_file
+    → (f : ℕ × OpenFlags) (said : Said) → found_file (open_at s.handles handle) ≡ Ok f
+    → option_map ((row_of ask).told (limits s.tree)) (content_at s.tree.files f.0) ≡ Some said
+    → said_to s ask (Some handle) ≡ said
+unfolding seen
+said-found s ask handle needs f said is there =
+    ap (λ n. said_of (limits s.tree) (row_of ask) (seen_among s.tree.files n (open_at s.handles handle))) needs
+    ∙ (ap (said_of (limits s.tree) (row_of ask)) (seen-found s.tree.files (open_at s.handles handle) f is)
+    ∙ of-content (limits s.tree) (row_of ask) f.0 f.1 (content_at s.tree.files f.0) said there)
+
+-- of what is shown
+pub shown-found : {A B : Type 0} (f : Content → A) (g : A → B) (content : Option Content) (shown : A)
+    → option_map f content ≡ Some shown → option_map (λ before. g (f before)) content ≡ Some (g shown)
+shown-found f g None shown is = absurd cc
+shown-found f g (Some before) shown is = ap (λ a. Some (g a)) (same_Some (f before) shown is)
+
+-- no cause is in the set of a file that was opened for what is asked
+pub open-for : IsTrue (is_none (when no_causes NotOpenFor false))
+unfolding when no_causes
+open-for = refl

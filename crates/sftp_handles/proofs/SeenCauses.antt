@@ -1,0 +1,175 @@
+-- The causes of requests through handles, by what is found under the handle.
+use Rattle.std.proofs.Common.{◌≡◌, ◌&&◌, not, ℕ, Bool, true, List, Option, Some, None, Result, Ok, Err, IfOk, is_some, option_map}
+use Rattle.std.proofs.Common.{refl, sym, ap, ◌∙◌, IsTrue, nat_lt}
+use Rattle.std.proofs.lemmas.Bool.{lt-ltb, eq-eqb}
+use Rattle.sftp_wire.specs.declared.open_flags.OpenFlags.{OpenFlags}
+use Rattle.sftp_wire.specs.declared.packets.Ask.{Ask}
+use Rattle.sftp_path.specs.Place.{bytes_cmp}
+use Rattle.sftp_path.proofs.Table.Counts.{count-found}
+use Rattle.sftp_treefile.specs.declared.limits.TreeLimits.{TreeLimits}
+use Rattle.sftp_tree.specs.declared.causes.Cause.{Cause}
+use Rattle.sftp_tree.specs.declared.file_contents.Content.{Content}
+use Rattle.sftp_tree.specs.Tree.{Tree, Files, IsKept, HasFile, content_at, content_fits, limits}
+use Rattle.sftp_tree.specs.Room.{size_fits}
+use Rattle.sftp_tree.specs.Attributes.{changed_content}
+use Rattle.sftp_tree.specs.FileChanges.{write_fits, written_content}
+use Rattle.sftp_tree.proofs.OpenFiles.Written.{size-written}
+use Rattle.sftp_tree.proofs.CauseLaws.Limits.{changed-fits}
+use Rattle.sftp_wire.specs.declared.attributes.Attrs.{Attrs}
+use Rattle.std.proofs.lemmas.Option.{same_Some}
+use Rattle.sftp_tree.specs.Causes.{CauseSet, no_causes, when}
+use Rattle.sftp_handles.specs.declared.opens.Open.{Open}
+use Rattle.sftp_handles.specs.declared.opens.Open.TheVariants.{File, Listing}
+use Rattle.sftp_handles.specs.Handles.{open_at, opens_file, times_open}
+use Rattle.sftp_handles.specs.State.{State, Good}
+use Rattle.sftp_handles.specs.Seen.{a_file, seen, seen_among, seen_file}
+use Rattle.sftp_handles.specs.HandleRequests.{Row, row_of, causes_of, with_file_room, start_of, may_write, unless_open_for}
+use Rattle.sftp_handles.specs.Requests.{causes, causes_by}
+use Rattle.sftp_wire.specs.Spelling.{asked_handle}
+use Rattle.sftp_wire.specs.declared.packets.Ask.TheVariants.{Write, Fsetstat}
+use Rattle.sftp_tree.specs.declared.causes.Cause.TheVariants.{BadHandle, NotOpenFor}
+use Rattle.sftp_tree.proofs.Limits.Entries.{content-fits}
+use Rattle.sftp_handles.specs.Found.{found_file, with_room}
+use Rattle.sftp_handles.proofs.Pins.{pins-times}
+use Rattle.sftp_handles.proofs.GoodStates.{good-opens}
+
+-- a file that is open exists
+pub open-exists : (s : State) (handle : List ℕ) (number : ℕ) (flags : OpenFlags) → Good s
+    → open_at s.handles handle ≡ Some (File number flags) → HasFile s.tree.files number
+open-exists s handle number flags good there =
+    good-opens s good number
+    (ap (nat_lt 0) (pins-times s.handles number)
+    ∙ lt-ltb 0 (times_open s.handles number)
+    (count-found bytes_cmp s.handles handle (File number flags) (opens_file number) there (eq-eqb number number refl)))
+
+pub found-exists : (s : State) (handle : List ℕ) (found : Option Open) → Good s → open_at s.handles handle ≡ found
+    → IfOk (found_file found) (λ f. HasFile s.tree.files f.0)
+found-exists s handle None good is = tt
+found-exists s handle (Some (File number flags)) good is = open-exists s handle number flags good is
+found-exists s handle (Some (Listing left)) good is = tt
+
+-- of a request that changes no content
+module _ (bounds : TreeLimits) (row : Row) (files : Files)
+    (same : (flags : OpenFlags) (before : Content) → row.content flags before ≡ None) where
+  pub of-content : (number : ℕ) (flags : OpenFlags) (content : Option Content) → IsTrue (is_some content)
+      → causes_of bounds row (seen_file number flags content) ≡ row.refused flags
+  of-content number flags None there = absurd cc
+  of-content number flags (Some before) there = ap (with_file_room bounds (row.refused flags)) (same flags before)
+
+-- where there is a next content, by whether it fits
+pub room-causes : (bounds : TreeLimits) (row : Row) (number : ℕ) (flags : OpenFlags) (content : Option Content) (fits : Bool)
+    → (next : Content → Content) → ((before : Content) → row.content flags before ≡ Some (next before))
+    → option_map (λ before. content_fits bounds (next before)) content ≡ Some fits
+    → causes_of bounds row (seen_file number flags content) ≡ with_room (row.refused flags) fits
+room-causes bounds row number flags None fits next is there = absurd cc
+room-causes bounds row number flags (Some before) fits next is there =
+    ap (with_file_room bounds (row.refused flags)) (is before)
+    ∙ ap (with_room (row.refused flags)) (same_Some (content_fits bounds (next before)) fits there)
+
+-- a WRITE has room where the tree says so
+pub write-room : (t : Tree) (number start : ℕ) (flags : OpenFlags) (offset : ℕ) (new : List ℕ) (fits : Bool) (content : Option Content)
+    → IsKept t → content_at t.files number ≡ content
+    → option_map (start_of flags offset) content ≡ Some start → fits ≡ write_fits (limits t) start new
+    → option_map (λ before. content_fits (limits t) (written_content (start_of flags offset before) new before)) content ≡ Some fits
+write-room t number start flags offset new fits None kept is there same = absurd cc
+write-room t number start flags offset new fits (Some before) kept is there same =
+    ap Some
+    (ap (λ n. content_fits (limits t) (written_content n new before)) (same_Some (start_of flags offset before) start there)
+    ∙ size-written (limits t) start new before.bytes (content-fits t number before kept.within_limits is)
+    ∙ sym same)
+
+-- and an FSETSTAT
+pub set-room : (t : Tree) (number : ℕ) (attrs : Attrs) (fits : Bool) (content : Option Content)
+    → IsKept t → content_at t.files number ≡ content → IsTrue (is_some content) → fits ≡ size_fits (limits t) attrs.size
+    → option_map (λ before. content_fits (limits t) (changed_content attrs before)) content ≡ Some fits
+set-room t number attrs fits None kept is there same = absurd cc
+set-room t number attrs fits (Some before) kept is there same =
+    ap Some (changed-fits (limits t) attrs.size before.bytes (content-fits t number before kept.within_limits is) ∙ sym same)
+
+-- ---- by what the code found
+
+error_of : Result (ℕ × OpenFlags) Cause → Cause
+error_of (Ok f) = BadHandle
+error_of (Err cause) = cause
+
+file_of : ℕ × OpenFlags → Result (ℕ × OpenFlags) Cause → ℕ × OpenFlags
+file_of other (Ok f) = f
+file_of other (Err cause) = other
+
+abbrev one_cause : Cause → CauseSet
+one_cause cause = when no_causes cause true
+
+pub lost-causes : (bounds : TreeLimits) (row : Row) (files : Files) (found : Option Open) (cause : Cause)
+    → found_file found ≡ Err cause
+    → causes_of bounds row (seen_among files a_file found) ≡ when no_causes cause true
+unfolding error_of
+lost-causes bounds row files None cause is = ap (λ r. one_cause (error_of r)) is
+lost-causes bounds row files (Some (File number flags)) cause is = absurd cc
+lost-causes bounds row files (Some (Listing left)) cause is = ap (λ r. one_cause (error_of r)) is
+
+pub seen-found : (files : Files) (found : Option Open) (f : ℕ × OpenFlags) → found_file found ≡ Ok f
+    → seen_among files a_file found ≡ seen_file f.0 f.1 (content_at files f.0)
+unfolding file_of
+seen-found files None f is = absurd cc
+seen-found files (Some (File number flags)) f is =
+    ap (λ r. let g = file_of f r in seen_file g.0 g.1 (content_at files g.0)) is
+seen-found files (Some (Listing left)) f is = absurd cc
+
+module _ (s : State) (handle : List ℕ) where
+  -- the handle opens no file
+  pub write-lost : (offset : ℕ) (new : List ℕ) (cause : Cause) → found_file (open_at s.handles handle) ≡ Err cause
+      → causes s (Write handle offset new) ≡ when no_causes cause true
+  unfolding causes seen
+  write-lost offset new cause is =
+      lost-causes (limits s.tree) (row_of (Write handle offset new)) s.tree.files (open_at s.handles handle) cause is
+
+  pub set-lost : (attrs : Attrs) (cause : Cause) → found_file (open_at s.handles handle) ≡ Err cause
+      → causes s (Fsetstat handle attrs) ≡ when no_causes cause true
+  unfolding causes seen
+  set-lost attrs cause is =
+      lost-causes (limits s.tree) (row_of (Fsetstat handle attrs)) s.tree.files (open_at s.handles handle) cause is
+
+  -- it opens one
+  pub write-found : (offset : ℕ) (new : List ℕ) (f : ℕ × OpenFlags) (fits : Bool)
+      → found_file (open_at s.handles handle) ≡ Ok f
+      → option_map (λ before. content_fits (limits s.tree) (written_content (start_of f.1 offset before) new before))
+      (content_at s.tree.files f.0) ≡ Some fits
+      → causes s (Write handle offset new) ≡ with_room (unless_open_for (may_write f.1)) fits
+  unfolding causes seen
+  write-found offset new f fits is there =
+      ap (causes_of (limits s.tree) (row_of (Write handle offset new))) (seen-found s.tree.files (open_at s.handles handle) f is)
+      ∙ room-causes (limits s.tree) (row_of (Write handle offset new)) f.0 f.1 (content_at s.tree.files f.0) fits
+      (λ before. written_content (start_of f.1 offset before) new before) (λ before. refl) there
+
+  pub set-found : (attrs : Attrs) (f : ℕ × OpenFlags) (fits : Bool)
+      → found_file (open_at s.handles handle) ≡ Ok f
+      → option_map (λ before. content_fits (limits s.tree) (changed_content attrs before))
+      (content_at s.tree.files f.0) ≡ Some fits
+      → causes s (Fsetstat handle attrs) ≡ with_room (when no_causes NotOpenFor (is_some attrs.size && not (may_write f.1))) fits
+  unfolding causes seen
+  set-found attrs f fits is there =
+      ap (causes_of (limits s.tree) (row_of (Fsetstat handle attrs))) (seen-found s.tree.files (open_at s.handles handle) f is)
+      ∙ room-causes (limits s.tree) (row_of (Fsetstat handle attrs)) f.0 f.1 (content_at s.tree.files f.0) fits
+      (changed_content attrs) (λ before. refl) there
+
+-- of requests that change no content
+module _ (s : State) (ask : Ask) (handle : List ℕ) (asked : asked_handle ask ≡ Some handle)
+    (needs : (row_of ask).needed ≡ a_file)
+    (same : (flags : OpenFlags) (before : Content) → (row_of ask).content flags before ≡ None) where
+  by-seen : causes s ask ≡ causes_of (limits s.tree) (row_of ask) (seen_among s.tree.files a_file (open_at s.handles handle))
+  unfolding causes seen
+  by-seen =
+      ap (causes_by s ask) asked
+      ∙ ap (λ n. causes_of (limits s.tree) (row_of ask) (seen_among s.tree.files n (open_at s.handles handle))) needs
+
+  pub plain-lost : (cause : Cause) → found_file (open_at s.handles handle) ≡ Err cause
+      → causes s ask ≡ when no_causes cause true
+  plain-lost cause is =
+      by-seen ∙ lost-causes (limits s.tree) (row_of ask) s.tree.files (open_at s.handles handle) cause is
+
+  pub plain-found : (f : ℕ × OpenFlags) → found_file (open_at s.handles handle) ≡ Ok f → HasFile s.tree.files f.0
+      → causes s ask ≡ (row_of ask).refused f.1
+  plain-found f is there =
+      by-seen
+      ∙ (ap (causes_of (limits s.tree) (row_of ask)) (seen-found s.tree.files (open_at s.handles handle) f is)
+      ∙ of-content (limits s.tree) (row_of ask) s.tree.files same f.0 f.1 (content_at s.tree.files f.0) there)

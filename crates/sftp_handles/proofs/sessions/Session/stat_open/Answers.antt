@@ -1,0 +1,34 @@
+use Rattle.std.proofs.Common.{◌≡◌, refl, sym, ap, subst, ◌∙◌, Some, option_map}
+use Rattle.sftp_wire.specs.declared.packets.Ask.TheVariants.{Fstat}
+use Rattle.sftp_tree.specs.Tree.{content_at}
+use Rattle.sftp_tree.specs.Attributes.{shown_content}
+use Rattle.sftp_tree.specs.Causes.{is_none}
+use Rattle.sftp_handles.specs.State.{State}
+use Rattle.sftp_handles.specs.Replies.{shows}
+use Rattle.sftp_handles.proofs.SeenCauses.{plain-found, plain-lost}
+use Rattle.sftp_handles.proofs.SeenAnswers.{none-free, cause-holds, said-found, shown-found}
+use Rattle.sftp_handles.proofs.sessions.Session.stat_open.Goals as goal
+
+pub returns-in-Ok-clause-free : goal.returns-in-Ok-clause-free
+returns-in-Ok-clause-free g c =
+    ap is_none
+    (plain-found c.args.self.now (Fstat c.args.handle.now) c.args.handle.now refl refl (λ flags before. refl)
+    c.in-Ok.found (sym c.in-Ok.ensures.found) c.in-Ok.ensures.there)
+    ∙ none-free
+
+pub returns-in-Ok-clause-shown : goal.returns-in-Ok-clause-shown
+returns-in-Ok-clause-shown g c =
+    said-found c.args.self.now (Fstat c.args.handle.now) c.args.handle.now refl c.in-Ok.found
+    (shows (Some c.stat_file.result)) (sym c.in-Ok.ensures.found)
+    (shown-found shown_content (λ attrs. shows (Some attrs)) (content_at c.args.self.now.tree.files c.in-Ok.found.0)
+    c.stat_file.result
+    (subst
+    (λ (s : State). option_map shown_content (content_at s.tree.files c.in-Ok.found.0) ≡ Some c.stat_file.result)
+    c.self.view_is c.stat_file.ensures))
+
+pub returns-in-Err-clause-refused : goal.returns-in-Err-clause-refused
+returns-in-Err-clause-refused g c =
+    ap (λ set. set c.in-Err.cause)
+    (plain-lost c.args.self.now (Fstat c.args.handle.now) c.args.handle.now refl refl (λ flags before. refl)
+    c.in-Err.cause (sym c.in-Err.ensures.found))
+    ∙ cause-holds c.in-Err.cause

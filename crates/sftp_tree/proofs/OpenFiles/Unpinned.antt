@@ -1,0 +1,46 @@
+-- The tree without any pins: it stays one within the limits.
+use Rattle.std.proofs.Common.{◌≡◌, ℕ, [], ◌∙◌, ap, subst, sym}
+use Rattle.std.specs.Ordering.{nat_cmp}
+use Rattle.sftp_path.specs.Place.{Place}
+use Rattle.sftp_path.specs.Table.{Table}
+use Rattle.sftp_path.proofs.Table.Laws.{InOrder-empty}
+use Rattle.sftp_treefile.specs.declared.limits.TreeLimits.{TreeLimits}
+use Rattle.sftp_tree.specs.declared.file_contents.Stored.{Stored}
+use Rattle.sftp_tree.specs.Tree.{Names, Tree, WellFormed, IsKept, trim}
+use Rattle.sftp_tree.specs.StoredFiles.{contents, pins_of, seen, AreCounted, unpinned}
+use Rattle.sftp_tree.proofs.FileCounts.Unpinned.{unpinned-pins, unpinned-counted, unpinned-contents}
+use Rattle.sftp_tree.proofs.KeptTrees.Trims.{kept-trim}
+use Rattle.sftp_tree.proofs.OpenFiles.Pinned.{fits-pins}
+
+well-formed-unpinned : (t : Tree) → WellFormed t → WellFormed (record t { pins = [] })
+well-formed-unpinned t well = record {
+  ordered = well.ordered;
+  named = well.named;
+  nodes = well.nodes;
+  root = well.root;
+  parents = well.parents;
+  numbered = well.numbered;
+  contents = well.contents;
+  given = well.given;
+  pins = InOrder-empty ℕ nat_cmp;
+  pinned = tt;
+  limits = well.limits;
+  home = well.home;
+  uid = well.uid;
+  gid = well.gid;
+}
+
+pub kept-unpinned : (t : Tree) → IsKept t → IsKept (trim (record t { pins = [] }))
+kept-unpinned t kept =
+    kept-trim (record t { pins = [] }) (well-formed-unpinned t kept.well_formed) (fits-pins t [] kept.within_limits)
+
+pub unpinned-parts : (names : Names) (files : Table ℕ Stored) (made : ℕ) (limits : TreeLimits) (home : Place) (uid gid : ℕ)
+    → AreCounted names files → (after : Table ℕ Stored) → after ≡ unpinned files
+    → (seen names after made limits home uid gid ≡ trim (record (seen names files made limits home uid gid) { pins = [] }))
+    × AreCounted names after
+unpinned-parts names files made limits home uid gid counted after is =
+    let same = ap contents is ∙ unpinned-contents names files counted in
+    let none = ap pins_of is ∙ unpinned-pins files in (
+      (λ i. record { names = names; files = same i; made = made; pins = none i; limits = limits; home = home; uid = uid; gid = gid }),
+      subst (AreCounted names) (sym is) (unpinned-counted names files counted),
+    )
