@@ -7,5 +7,4 @@ pub mod Requests
 pub mod Allowed
 pub mod Examples
 pub mod Given
-pub mod Laws
 pub mod Found

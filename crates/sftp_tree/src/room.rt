@@ -83,11 +83,17 @@ impl Tree {
         found.is_taken() || (self.has_room(&found.place) && self.has_numbers())
     }
 
-    /// Whether the node at the old place, with all below it, keeps to the limit of names in a place at the new one.
+    /// Whether the node at the old place, with all below it, keeps to the limit of names in a place at the new one. What
+    /// is below is only looked at if the new place is deeper.
     fn move_fits(&self, old: &Place, new: &Place) -> bool
         ensures { result ≡ room.move_fits self.now.names old.now new.now }
     {
-        new.depth() <= DEPTH_LIMIT && self.names().reaches_at_most(old, DEPTH_LIMIT - new.depth())
+        let names = self.names();
+        let depth = new.depth();
+        if depth > DEPTH_LIMIT {
+            return false;
+        }
+        depth <= old.depth() || names.reaches_at_most(old, DEPTH_LIMIT - depth)
     }
 
     /// Whether a file may have the size that is given, if one is.

@@ -1,11 +1,12 @@
 -- Which trees keep to the limits after something went to another place.
-use Rattle.std.proofs.Common.{◌≡◌, ℕ, ◌+◌, ◌-◌, ◌≤◌, Bool, true, false, ◌&&◌, ◌||◌, not, cond, [], ◌∷◌, ◌++◌, length, drop, refl, sym, ◌∙◌, ap, arith, Option, Some, None, nat_le}
+use Rattle.std.proofs.Common.{◌≡◌, ℕ, ◌+◌, ◌-◌, ◌≤◌, Bool, true, false, ◌&&◌, ◌||◌, not, cond, [], ◌∷◌, ◌++◌, length}
+use Rattle.std.proofs.Common.{drop, refl, sym, ◌∙◌, ap, arith, Option, Some, None, nat_le}
 use Rattle.std.specs.Ordering.{is_eq}
 use Rattle.std.specs.Cmp.{Equal-is}
 use Rattle.std.specs.List.{list_all}
 use Rattle.std.specs.Map.{lookup, remove_entry}
 use Rattle.std.specs.BTreeMap.{is_at}
-use Rattle.std.proofs.lemmas.Bool.{and_parts}
+use Rattle.std.proofs.lemmas.Bool.{and_parts, and_from, or_right, leb-true, le-leb}
 use Rattle.std.proofs.lemmas.Bool.Decides.{nat_tests}
 use Rattle.std.proofs.lemmas.List.{append-nil, length-append}
 use Rattle.std.proofs.Math.Bool.{and-true}
@@ -19,7 +20,8 @@ use Rattle.sftp_path.proofs.Move.Tests as tests
 use Rattle.sftp_path.proofs.Move.Laws.{renamed-outside, length-renamed, size-rekeyed}
 use Rattle.sftp_path.proofs.Table.Entries.{without-absent}
 use Rattle.sftp_tree.specs.declared.nodes.Node.{Node}
-use Rattle.sftp_tree.specs.Tree.{Names, Tree, IsKept, limits, fits, depth_fits, link_fits, node_at, without_node, is_taken}
+use Rattle.sftp_tree.specs.Tree.{Names, Tree, IsKept, limits, fits, depth_fits, link_fits, node_at, without_node}
+use Rattle.sftp_tree.specs.Tree.{is_taken}
 use Rattle.sftp_tree.specs.Room.{reaches_at_most, move_fits}
 use Rattle.sftp_tree.specs.Changes.{moved, put_in_its_stead}
 use Rattle.sftp_tree.proofs.Limits.Entries.{fits-names}
@@ -150,3 +152,22 @@ fits-put_in_stead t old new kept taken nothing apart =
 pub nothing-from : (names : Names) (place : Place) → node_at names place ≡ None → ((n : Name) (ns : Place) → node_at names (place ++ n ∷ ns) ≡ None) → NothingFrom names place
 nothing-from names place here below [] = ap (node_at names) (append-nil place) ∙ here
 nothing-from names place here below (n ∷ ns) = below n ns
+
+-- what is not moved deeper still has places of few enough names
+pub reaches-shallow : (names : Names) (old : Place) (n : ℕ) → n ≤ length old
+    → list_all (λ e. depth_fits e.0) names ≡ true → reaches_at_most names old (depth_limit - n) ≡ true
+reaches-shallow [] old n shallow fit = refl
+reaches-shallow (e ∷ es) old n shallow fit =
+    let parts = and_parts (depth_fits e.0) (list_all (λ e. depth_fits e.0) es) fit in
+    let most = leb-true (length e.0) depth_limit parts.0 in
+    let short = le-leb (length e.0 - length old) (depth_limit - n) (omega (arith, most, shallow)) in
+    and_from (not (begins old e.0) || nat_le (length e.0 - length old) (depth_limit - n)) _
+    (or_right (not (begins old e.0)) (nat_le (length e.0 - length old) (depth_limit - n)) short) (reaches-shallow es old n shallow parts.1)
+
+-- so it fits at a place that is not too deep
+pub shallow-fits : (t : Tree) (old new : Place) → IsKept t → length new ≤ length old → length new ≤ 64
+    → move_fits t.names old new ≡ true
+shallow-fits t old new kept shallow short =
+    and_from (nat_le (length new) depth_limit) (reaches_at_most t.names old (depth_limit - length new))
+    (le-leb (length new) depth_limit short)
+    (reaches-shallow t.names old (length new) shallow (fits-parts t kept.within_limits).depths)
