@@ -246,11 +246,11 @@ outcome_on t ask place (Some (Err cause)) = t
 abbrev pub outcome_led : Tree → Ask → Option (Result Place Cause) → Option (Result Place Cause) → Tree
 outcome_led t ask end new_end = led_to t end (λ place. outcome_on t ask place new_end)
 
--- the tree that a request which no cause refuses asks for; files that lost their last name still exist
+-- the tree that a request which no cause refuses asks for; files that nothing holds any more still exist
 unfoldable pub outcome : Tree → Ask → Tree
 outcome t ask = outcome_led t ask (led t ask) (new_led t ask)
 
--- the tree after such a request: a file is removed with its last name
+-- the tree after such a request: a file goes with its last name, unless it is pinned
 abbrev pub after : Tree → Ask → Tree
 after t ask = trim (outcome t ask)
 

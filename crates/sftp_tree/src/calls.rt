@@ -54,7 +54,7 @@ impl Tree {
         Ok(())
     }
 
-    /// REMOVE: removes a name of a file, or a link. A file is removed with its last name.
+    /// REMOVE: removes a name of a file, or a link. A file goes with its last name, unless it is pinned.
     ///
     /// # Errors
     ///
@@ -108,7 +108,7 @@ impl Tree {
 
     /// posix-rename (OpenSSH's PROTOCOL, section 4.3): moves the node at the old path, with all below it, to the new
     /// place. A directory replaces an empty directory, and any other node replaces one that is not a directory. Nothing
-    /// is done if both are the same place, or names of one file. A file is removed with its last name.
+    /// is done if both are the same place, or names of one file. A file goes with its last name, unless it is pinned.
     ///
     /// # Errors
     ///

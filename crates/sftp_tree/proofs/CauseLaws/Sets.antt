@@ -30,6 +30,9 @@ none-at set (c ∷ cs) (suc n) other none last = none-at set cs n other (or_part
 pub none-each : (set : CauseSet) → IsTrue (is_none set) → (c : Cause) → set c ≡ false
 none-each set none c = search rules
 
+pub each-none : (set : CauseSet) → ((c : Cause) → set c ≡ false) → is_none set ≡ true
+each-none set none = λ i. is_none (λ c. none c i)
+
 pub only-itself : (c : Cause) → only c c ≡ true
 only-itself c = eq-eqb (row c) (row c) refl
 
