@@ -8,6 +8,8 @@
 #[cfg(test)]
 mod audit;
 #[cfg(test)]
+mod handles;
+#[cfg(test)]
 mod path;
 #[cfg(test)]
 mod tree;

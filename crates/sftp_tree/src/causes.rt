@@ -15,8 +15,8 @@ pub enum Cause {
     /// without writing, or have a bit that is no flag.
     #[error("BadFlags")]
     BadFlags,
-    /// A path, or the target of a new link, is longer than 4,096 bytes, has a component longer than 255, or has a byte 0;
-    /// or that target is empty.
+    /// A path, or the target of a new link, is longer than 4,096 bytes, has a component longer than 255, or has a byte
+    /// 0; or that target is empty.
     #[error("BadPath")]
     BadPath,
     /// The request needs something that does not exist, or the walk does.

@@ -1,5 +1,5 @@
-//! The entries of a tree: its places, each with its node. No other module knows how they are kept: as nested directories,
-//! with the count of the places that are taken.
+//! The entries of a tree: its places, each with its node. No other module knows how they are kept: as nested
+//! directories, with the count of the places that are taken.
 ghost use Rattle.std.specs.Prelude.{◌≡◌, [], length, false, None, IfOk, OnOk, OnErr, IsTrue, option_map};
 ghost use Rattle.sftp_path.specs.Place.{parent, begins, place_cmp};
 ghost use Rattle.sftp_path.specs.Rekeying.{rekeyed};

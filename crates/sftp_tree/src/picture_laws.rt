@@ -15,8 +15,8 @@ pub fn starts_are_one()
     ensures { (t u : Tree) (bytes : List ℕ) → IsStart t bytes → IsStart u bytes → t ≡ u }
 {}
 
-/// A tree within the limits has the same tree file as the tree that is read from it, whose files are numbered anew: from
-/// 0, by their first names, and only those that have a name.
+/// A tree within the limits has the same tree file as the tree that is read from it, whose files are numbered anew:
+/// from 0, by their first names, and only those that have a name.
 pub fn pictures_are_starts()
     ensures { (t : Tree) → WellFormed t → IsTrue (fits t) → IsStart (tree_of (file_of t)) (picture t) }
 {}

@@ -83,8 +83,8 @@ impl Tree {
         found.is_taken() || (self.has_room(&found.place) && self.has_numbers())
     }
 
-    /// Whether the node at the old place, with all below it, keeps to the limit of names in a place at the new one. What
-    /// is below is only looked at if the new place is deeper.
+    /// Whether the node at the old place, with all below it, keeps to the limit of names in a place at the new one.
+    /// What is below is only looked at if the new place is deeper.
     fn move_fits(&self, old: &Place, new: &Place) -> bool
         ensures { result ≡ room.move_fits self.now.names old.now new.now }
     {

@@ -1,5 +1,5 @@
-//! Worked examples: some bytes with the packets that they are read as, and some packets with their spellings, as theorems
-//! about the definitions that the contracts of `encode` and `front` name.
+//! Worked examples: some bytes with the packets that they are read as, and some packets with their spellings, as
+//! theorems about the definitions that the contracts of `encode` and `front` name.
 #![tactic(auto, unfolding(crate::specs::Spelling::spelling, crate::specs::Examples::hex, crate::specs::Reading::front_of, crate::specs::Reading::packet_of, crate::specs::Reading::client_packet_at, crate::specs::Reading::server_packet_at, crate::specs::Reading::extension_at, crate::specs::Reading::extension_data_at, crate::specs::Reading::names_at, crate::specs::Reading::name_item_at, crate::specs::Reading::attributes_at, crate::specs::Reading::attribute_fields_at, crate::specs::Reading::counted_pairs_at, crate::specs::Reading::pairs_at, crate::specs::Reading::pair_at, crate::specs::Reading::handle_at, crate::specs::Reading::string_at, crate::specs::Reading::two_uint32_at, crate::specs::Reading::uint64_at, crate::specs::Reading::uint32_at))]
 
 ghost use Rattle.std.specs.Prelude.{◌≡◌, true, [], ◌∷◌, codes};

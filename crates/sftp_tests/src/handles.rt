@@ -1,0 +1,110 @@
+//! Tables of handles, listings, and sessions.
+ghost use Rattle.std.specs.Prelude.{◌≤◌, length};
+
+use sftp_handles::{GivenTable, HandleTable, Listing, Open, PutError, Session};
+use sftp_path::{Name, NoMemory};
+use sftp_tree::{Cause, Tree};
+use sftp_wire::{Ask, Attrs, ByteString};
+use std::alloc::{AllocError, Global};
+use std::test::Fail;
+
+/// Attributes that say nothing.
+fn nothing() -> Attrs {
+    Attrs {
+        size: None,
+        owner: None,
+        permissions: None,
+        times: None,
+        extended: None,
+    }
+}
+
+/// Opens an empty listing under a name. `None` if that was done, and else why not.
+fn open_listing(
+    alloc: Global,
+    table: &mut GivenTable,
+    name: &[u8],
+) -> Result<Option<PutError>, AllocError>
+    requires { length name.now ≤ 256 }
+{
+    let it = Open::Listing {
+        left: Listing::empty(alloc),
+    };
+    let want = Vec::from_slice(alloc, name)?;
+    match table.put(it, want) {
+        Ok(_) => Ok(None),
+        Err(failed) => {
+            let (_back, error) = failed;
+            Ok(Some(error))
+        }
+    }
+}
+
+/// Whether a table gives the names that are wanted, each once.
+fn gives_names(alloc: Global, table: &mut GivenTable) -> Result<bool, AllocError> {
+    let first = open_listing(alloc, table, b"h")?;
+    let empty = open_listing(alloc, table, b"")?;
+    let again = open_listing(alloc, table, b"h")?;
+    Ok(first.is_none() && empty.is_none() && again == Some(PutError::Taken) && table.len() == 2)
+}
+
+/// Whether a handle is found until it is closed.
+fn closes_names(table: &mut GivenTable) -> bool {
+    let was_open = table.find(b"h").is_some();
+    let was_taken = table.take(b"h").is_some();
+    let is_open = table.find(b"h").is_some();
+    was_open && was_taken && !is_open && table.take(b"h").is_none() && table.len() == 1
+}
+
+#[test]
+fn given_names(rt: HostRuntime) -> Result<(), Fail> {
+    let mut table = GivenTable::empty(rt.alloc());
+    assert!(rt; gives_names(rt.alloc(), &mut table)?);
+    assert!(rt; closes_names(&mut table));
+    Ok(())
+}
+
+/// Whether a listing gives a name until it is struck out.
+fn strikes_names(alloc: Global) -> Result<bool, NoMemory> {
+    let mut listing = Listing::empty(alloc);
+    let Some(name) = Name::from_slice(alloc, b"f")? else {
+        return Ok(false);
+    };
+    listing.add(name.try_clone(alloc)?, nothing())?;
+    let was_left = listing.find(&name).is_some();
+    listing.strike(&name);
+    Ok(was_left && listing.find(&name).is_none() && listing.is_empty())
+}
+
+#[test]
+fn names_of_a_listing(rt: HostRuntime) -> Result<(), Fail> {
+    assert!(rt; strikes_names(rt.alloc())?);
+    Ok(())
+}
+
+/// Whether a cause refuses a request, and no other does.
+fn refuses_by(session: &Session<GivenTable>, ask: &Ask, cause: Cause) -> Result<bool, NoMemory> {
+    let causes = session.causes(ask)?;
+    Ok(causes.holds(cause) && !causes.holds(Cause::NoRoom) && causes.allow(4))
+}
+
+/// Whether a session in which nothing is open refuses requests on handles, and gives its tree back.
+fn refuses_closed_handles(alloc: Global) -> Result<bool, NoMemory> {
+    let tree = Tree::blank(alloc)?;
+    let bytes = tree.write()?;
+    let session: Session<GivenTable> = Session::new(tree)?;
+    let ask = Ask::Close {
+        handle: ByteString::from_slice(alloc, b"h")?,
+    };
+    let closed = refuses_by(&session, &ask, Cause::BadHandle)?;
+    let unread = session.read_open(b"h", 0, 1).err() == Some(Cause::BadHandle);
+    let unshown = session.stat_open(b"h").err() == Some(Cause::BadHandle);
+    let end = session.into_tree().write()?;
+    Ok(closed && unread && unshown && end.as_slice() == bytes.as_slice())
+}
+
+#[test]
+fn closed_handles(rt: HostRuntime) -> Result<(), Fail> {
+    assert!(rt; refuses_closed_handles(rt.alloc())?);
+    Ok(())
+}
