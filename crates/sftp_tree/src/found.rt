@@ -1,4 +1,4 @@
-//! What a path leads to: a place, and what stands there.
+//! What a path leads to: a place, and the node there.
 ghost use Rattle.std.specs.Prelude.{◌≡◌};
 ghost use Rattle.sftp_treefile.specs.TreeFile.{is_root};
 ghost use Rattle.sftp_tree.specs.Tree as tree;
@@ -10,11 +10,11 @@ use crate::entries::trail::Trail;
 use crate::trees::Tree;
 use sftp_path::Place;
 
-/// A place, and what stands there, which the tree lends.
+/// A place, and the node there, which the tree lends.
 #[derive(Drop)]
 pub(crate) struct Found<'a> {
     pub(crate) place: Place,
-    /// What stands there, or `None` if the place is free.
+    /// The node there, or `None` if the place is free.
     pub(crate) node: Option<Seen<'a>>,
 }
 
@@ -38,7 +38,7 @@ impl<'a> Found<'a> {
         self.node.is_some()
     }
 
-    /// Whether a directory stands there.
+    /// Whether the node is a directory.
     pub(crate) fn is_directory(&self) -> bool
         ensures { result ≡ tree.is_directory (node_of self.now) }
     {
@@ -52,7 +52,7 @@ impl<'a> Found<'a> {
         matches!(self.node, Some(Seen::File(_)))
     }
 
-    /// Whether a link stands there.
+    /// Whether the node is a link.
     pub(crate) fn is_link(&self) -> bool
         ensures { result ≡ tree.is_link (node_of self.now) }
     {

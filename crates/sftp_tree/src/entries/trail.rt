@@ -49,7 +49,7 @@ impl<'a> Trail<'a> {
         Seen::Dir(self.here.owner(), self.here)
     }
 
-    /// What stands there at a name.
+    /// The node of that name in the directory that the trail has reached.
     pub(crate) fn find(&self, name: &Name) -> Option<Seen<'a>>
         ensures { IsLentAt self.now.names (self.now.at ++ name.now ∷ []) result }
     {
