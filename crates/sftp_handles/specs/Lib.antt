@@ -8,3 +8,4 @@ pub mod Allowed
 pub mod Examples
 pub mod Given
 pub mod Found
+pub mod Judged

@@ -2,15 +2,21 @@
 //! (draft-ietf-secsh-filexfer-02, sections 6.3, 6.4 and 6.7).
 #![tactic(auto)]
 
+mod accepting;
+mod changing;
 pub mod examples;
 mod found;
 mod given_table;
+mod giving;
 mod handle_causes;
 pub mod laws;
 mod listings;
 mod open_files;
+mod opening;
 mod opens;
+mod performing;
 pub mod pin_laws;
+mod reading;
 mod session_causes;
 mod sessions;
 mod tables;

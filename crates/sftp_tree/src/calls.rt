@@ -9,16 +9,39 @@ ghost use Rattle.sftp_tree.specs.Requests as requests;
 ghost use Rattle.sftp_tree.specs.Refusals.{IsFree, IsRefusal, stat_ask};
 ghost use Rattle.sftp_tree.specs.Found.{node_of, IsThere};
 
-use crate::asks::PathAsk;
+use crate::asks::{PathAsk, path_ask};
 use crate::causes::Refused;
 use crate::entries::seen::Seen;
 use crate::file_numbers::FileNo;
 use crate::found::Found;
 use crate::trees::Tree;
 use sftp_path::absolute;
-use sftp_wire::Attrs;
+use sftp_wire::{Ask, Attrs};
 
 impl Tree {
+    /// Does a request on paths, whichever it is, and removes the files that nothing holds any more. What its reply says
+    /// is for the calls of the request.
+    ///
+    /// # Errors
+    ///
+    /// The first cause that holds, as for the call of the request. `NoMemory` if memory runs out. The tree is then as
+    /// before.
+    pub fn carry_out(&mut self, ask: &Ask) -> Result<(), Refused>
+        requires { IsTrue (requests.has_step ask.now) }
+        ensures free { OnOk result (IsFree self.old ask.now) }
+        ensures done { OnOk result (self.new ≡ requests.after self.old ask.now) }
+        ensures valid { tree.IsKept self.new }
+        ensures refused { IfErr result (λ refused. IsRefusal self.old ask.now refused) }
+        ensures kept { OnErr result (self.new ≡ self.old) }
+    {
+        let Some(path_ask) = path_ask(ask) else {
+            unreachable!();
+        };
+        let plan = self.plan(path_ask)?;
+        self.apply(plan)?;
+        Ok(())
+    }
+
     /// MKDIR: makes an empty directory. If the attributes give no owner, it gets the tree's; if they give no
     /// permissions, 0o755. Of the permissions given the low twelve bits count; other attributes are ignored.
     ///
@@ -174,6 +197,7 @@ impl Tree {
         ensures done { OnOk result (self.new ≡ requests.after self.old (Open path.now flags attrs.now)) }
         ensures number { IfOk result
             (λ number. requests.file_to self.old (Open path.now flags attrs.now) ≡ Some number) }
+        ensures valid { tree.IsKept self.new }
         ensures refused { IfErr result (λ refused. IsRefusal self.old (Open path.now flags attrs.now) refused) }
         ensures kept { OnErr result (self.new ≡ self.old) }
     {

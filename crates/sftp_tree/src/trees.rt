@@ -281,7 +281,8 @@ impl Tree {
     pub fn pin(&mut self, number: FileNo)
         requires file { tree.HasFile self.old.files number }
         requires few { tree.times_pinned self.old.pins number < 2 ^ 32 }
-        ensures { self.new ≡ file_changes.after_pin self.old number }
+        ensures pinned { self.new ≡ file_changes.after_pin self.old number }
+        ensures valid { tree.IsKept self.new }
     {
         self.files.pin(number);
     }
@@ -289,7 +290,8 @@ impl Tree {
     /// Takes away a pin of a file that is pinned. With its last pin a file is removed that has no name.
     pub fn unpin(&mut self, number: FileNo)
         requires { IsTrue (tree.is_pinned self.old.pins number) }
-        ensures { self.new ≡ file_changes.after_unpin self.old number }
+        ensures unpinned { self.new ≡ file_changes.after_unpin self.old number }
+        ensures valid { tree.IsKept self.new }
     {
         self.files.unpin(number);
     }

@@ -1,0 +1,29 @@
+-- What the code finds out about the answer to a request. Words of private contracts.
+use Rattle.std.specs.Prelude.{◌≡◌, ℕ, Bool, false, if◌then◌else◌, List, Option, Some, None, IsTrue}
+use Rattle.sftp_wire.specs.declared.packets.Ask.{Ask}
+use Rattle.sftp_wire.specs.declared.packets.Answer.{Answer}
+use Rattle.sftp_wire.specs.declared.packets.Answer.TheVariants as replies
+use Rattle.sftp_tree.specs.declared.causes.Refused.{Refused}
+use Rattle.sftp_tree.specs.declared.causes.Refused.TheVariants as refusals
+use Rattle.sftp_handles.specs.State.{State}
+use Rattle.sftp_handles.specs.Requests.{causes}
+use Rattle.sftp_handles.specs.Allowed.{Does, step}
+
+-- `ok` says whether the answer is allowed, and `end` is the state then
+pub record IsJudged (s : State) (ask : Ask) (answer : Answer) (ok : Bool) (end : State) : Type 0 where
+  pub step_is : step s ask answer ≡ (if ok then Some end else None)
+  pub kept : ok ≡ false → end ≡ s
+
+-- the same of a status of this code, with any texts
+abbrev pub IsJudgedCode : State → Ask → ℕ → Bool → State → Type 0
+IsJudgedCode s ask code ok end =
+    (message language : List ℕ) → IsJudged s ask (replies.Status code message language) ok end
+
+-- the request is done: no cause holds, and the reply says OK, with any texts
+abbrev pub IsDone : State → Ask → State → Type 0
+IsDone s ask end = (message language : List ℕ) → Does s ask (replies.Status 0 message language) end
+
+-- a refusal is a cause that holds, or says that memory ran out
+abbrev pub IsRefusal : State → Ask → Refused → Type 0
+IsRefusal s ask (refusals.Cause cause) = IsTrue (causes s ask cause)
+IsRefusal s ask refusals.NoMemory = Unit {0}

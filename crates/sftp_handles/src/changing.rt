@@ -1,0 +1,65 @@
+//! What requests change in open files, and CLOSE (draft, sections 6.3, 6.4 and 6.9; OpenSSH's PROTOCOL, section 4.6).
+ghost use Rattle.std.specs.Prelude.{◌≡◌, IsTrue, IfErr, OnOk, OnErr};
+ghost use Rattle.sftp_wire.specs.declared.packets.Ask.TheVariants.{Close, Write, Fsetstat, Fsync};
+ghost use Rattle.sftp_handles.specs.Requests.{causes};
+ghost use Rattle.sftp_handles.specs.Judged.{IsDone, IsRefusal};
+
+use crate::sessions::Session;
+use crate::tables::HandleTable;
+use sftp_tree::{Cause, Refused};
+use sftp_wire::Attrs;
+
+impl<T: HandleTable> Session<T> {
+    /// CLOSE: closes a handle. A file that has no name is removed with its last handle. It takes no memory.
+    ///
+    /// # Errors
+    ///
+    /// `BadHandle` if the handle is not open; the session is then as before.
+    pub(crate) fn close(&mut self, handle: &[u8]) -> Result<(), Cause>
+        ensures done { OnOk result (IsDone self.old (Close handle.now) self.new) }
+        ensures refused { IfErr result (λ cause. IsTrue (causes self.old (Close handle.now) cause)) }
+        ensures kept { OnErr result (self.new ≡ self.old) }
+    {
+        unreachable!()
+    }
+
+    /// WRITE: writes bytes to an open file, from an offset on, or at its end if it was opened to be appended to.
+    ///
+    /// # Errors
+    ///
+    /// `BadHandle` if the handle is not open, `WrongKind` if it is a directory's, `NotOpenFor` if the file was not
+    /// opened to be written, or `NoRoom`. `NoMemory` if memory runs out. The session is then as before.
+    pub(crate) fn write_open(&mut self, handle: &[u8], offset: u64, bytes: &[u8]) -> Result<(), Refused>
+        ensures done { OnOk result (IsDone self.old (Write handle.now offset bytes.now) self.new) }
+        ensures refused { IfErr result (IsRefusal self.old (Write handle.now offset bytes.now)) }
+        ensures kept { OnErr result (self.new ≡ self.old) }
+    {
+        Err(Refused::NoMemory)
+    }
+
+    /// FSETSTAT: sets the size, the owner and the permissions of an open file, each if it is given.
+    ///
+    /// # Errors
+    ///
+    /// `BadHandle` if the handle is not open, `WrongKind` if it is a directory's, `NotOpenFor` if a size is given and
+    /// the file was not opened to be written, or `NoRoom`. `NoMemory` if memory runs out. The session is then as before.
+    pub(crate) fn set_open(&mut self, handle: &[u8], attrs: &Attrs) -> Result<(), Refused>
+        ensures done { OnOk result (IsDone self.old (Fsetstat handle.now attrs.now) self.new) }
+        ensures refused { IfErr result (IsRefusal self.old (Fsetstat handle.now attrs.now)) }
+        ensures kept { OnErr result (self.new ≡ self.old) }
+    {
+        Err(Refused::NoMemory)
+    }
+
+    /// fsync: changes nothing, since the tree is in memory. It takes no memory.
+    ///
+    /// # Errors
+    ///
+    /// `BadHandle` if the handle is not open, `WrongKind` if it is a directory's.
+    pub(crate) fn sync_open(&self, handle: &[u8]) -> Result<(), Cause>
+        ensures done { OnOk result (IsDone self.now (Fsync handle.now) self.now) }
+        ensures refused { IfErr result (λ cause. IsTrue (causes self.now (Fsync handle.now) cause)) }
+    {
+        unreachable!()
+    }
+}
