@@ -68,6 +68,12 @@ judged-call_by_cause s ask end (Ok value) does refused kept = judged-ok s ask en
 judged-call_by_cause s ask end (Err cause) does refused kept =
     subst (λ (t : State). IsJudgedCode s ask 0 false t) (sym kept) (judged-not_ok s ask cause refused)
 
+-- a call that changes nothing
+pub judged-sync : {A : Type 0} (s : State) (ask : Ask) (call : Result A Cause) → OnOk call (IsDone s ask s)
+    → IfErr call (λ cause. IsTrue (causes s ask cause)) → IsJudgedCode s ask 0 (is_ok call) s
+judged-sync s ask (Ok value) does refused = judged-ok s ask s does
+judged-sync s ask (Err cause) does refused = judged-not_ok s ask cause refused
+
 -- ---- requests that change the tree
 
 record IsChange (s : State) (ask : Ask) : Type 0 where
@@ -308,3 +314,10 @@ list_open-judged s handle =
 pub unknown-judged : (s : State) (name rest : List ℕ) → IsJudgedCode s (asks.Unknown name rest) 0 false s
 unfolding causes
 unknown-judged s name rest = judged-not_ok s (asks.Unknown name rest) Unknown (cause-holds Unknown)
+
+-- ---- what `perform` cites
+
+pub ruleset performing = (
+  judged-call, kept-call, stat-judged, lstat-judged, real_path-judged, read_link-judged, open-judged,
+  open_directory-judged, stat_open-judged, read_open-judged, list_open-judged, unknown-judged,
+)

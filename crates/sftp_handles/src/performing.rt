@@ -13,6 +13,7 @@ impl<T: HandleTable> Session<T> {
     /// # Errors
     ///
     /// `NoMemory` if memory runs out; the session is then as before.
+    #[tactic(auto, using(crate::proofs::OkReplies::performing))]
     pub(crate) fn perform(&mut self, ask: &Ask) -> Result<bool, NoMemory>
         ensures ok { IfOk result (λ ok. IsJudgedCode self.old ask.now 0 ok self.new) }
         ensures err { OnErr result (self.new ≡ self.old) }
