@@ -6,6 +6,8 @@ use Rattle.std.proofs.lemmas.Bool.{and_parts}
 use Rattle.sftp_wire.specs.declared.packets.Ask.{Ask}
 use Rattle.sftp_wire.specs.declared.packets.Answer.{Answer}
 use Rattle.sftp_wire.specs.declared.packets.Answer.TheVariants.{Status, Extended}
+use Rattle.sftp_wire.specs.declared.packets.Request.{Request}
+use Rattle.sftp_wire.specs.declared.packets.Reply.{Reply}
 use Rattle.sftp_wire.specs.Spelling.{asked_handle}
 use Rattle.sftp_tree.specs.declared.causes.Cause.{Cause}
 use Rattle.sftp_tree.specs.Causes.{CauseSet, every_cause, allows, allow, is_none}
@@ -13,9 +15,9 @@ use Rattle.sftp_tree.proofs.CauseLaws.Sets.{none-each}
 use Rattle.sftp_handles.specs.State.{State}
 use Rattle.sftp_handles.specs.Replies.{Said, ok, shows, names, gives, ended, lists, opens, says, refuses}
 use Rattle.sftp_handles.specs.Requests.{causes, said_to, answers, target}
-use Rattle.sftp_handles.specs.Allowed.{Does, stepped, step}
+use Rattle.sftp_handles.specs.Allowed.{Does, Allowed, stepped, step}
 use Rattle.sftp_handles.specs.Judged.{IsJudged, IsJudgedCode, IsDone}
-use Rattle.sftp_handles.proofs.Steps.{done-step}
+use Rattle.sftp_handles.proofs.Steps.{done-step, allowed-step, step-is_allowed}
 
 -- ---- causes
 
@@ -182,3 +184,21 @@ unfolding answers
 judged-extended s ask bytes =
     judged-none s ask (Extended bytes)
     (not-answered s ask (Extended bytes) (says-extended (said_to s ask (asked_handle ask)) bytes) refl)
+
+-- ---- replies
+
+-- a reply with the id of the request is allowed exactly if its answer is
+pub allowed-reply : (s : State) (request : Request) (reply : Reply) (end : State) (allowed : Bool)
+    → reply.id ≡ request.id → IsJudged s request.ask reply.answer allowed end → IsTrue allowed
+    → Allowed s request reply end
+allowed-reply s request reply end true same judged is = step-is_allowed s request reply end same judged.step_is
+allowed-reply s request reply end false same judged is = absurd cc
+
+pub refused-reply : (s : State) (request : Request) (reply : Reply) (end : State) (allowed : Bool)
+    → IsJudged s request.ask reply.answer allowed end → allowed ≡ false
+    → (other : State) → Allowed s request reply other → ⊥
+refused-reply s request reply end true judged is other a = absurd cc
+refused-reply s request reply end false judged is other a =
+    let none : step s request.ask reply.answer ≡ None = judged.step_is in
+    let some = allowed-step s request reply other a in
+    cc
