@@ -1,6 +1,6 @@
 -- Replies that say OK: which requests are done, and which have another answer.
-use Rattle.std.proofs.Common.{◌≡◌, ◌&&◌, nat_lt, nat_le, ℕ, Bool, true, false, if◌then◌else◌, List, [], ◌∷◌, length}
-use Rattle.std.proofs.Common.{Option, Some, None, Result, Ok, Err, IsTrue, refl, sym, ap, subst, ◌∙◌, is_some}
+use Rattle.std.proofs.Common.{◌≡◌, nat_lt, nat_le, ℕ, Bool, true, false, if◌then◌else◌, List, [], ◌∷◌, length}
+use Rattle.std.proofs.Common.{Option, Some, None, Result, Ok, Err, IsTrue, refl, sym, ap, subst, ◌∙◌}
 use Rattle.std.specs.Prelude.{IfOk, IfErr, OnOk, OnErr, is_ok}
 use Rattle.sftp_wire.specs.declared.open_flags.OpenFlags.{OpenFlags}
 use Rattle.sftp_wire.specs.declared.attributes.Attrs.{Attrs}
@@ -11,7 +11,6 @@ use Rattle.sftp_wire.specs.declared.packets.Answer.TheVariants.{Status}
 use Rattle.sftp_wire.specs.Spelling.{asked_handle}
 use Rattle.sftp_path.specs.Place.{Place}
 use Rattle.sftp_path.specs.Table.{size}
-use Rattle.sftp_path.specs.declared.errors.NoMemory.{NoMemory}
 use Rattle.sftp_treefile.specs.declared.limits.TreeLimits.{TreeLimits}
 use Rattle.sftp_tree.specs.declared.causes.Cause.{Cause}
 use Rattle.sftp_tree.specs.declared.causes.Cause.TheVariants.{BadHandle, WrongKind, Unknown}
@@ -25,7 +24,7 @@ use Rattle.sftp_tree.specs.FileChanges.{bytes_at}
 use Rattle.sftp_tree.specs.Requests.{Told, done, led, led_to, new_led, told_at, has_step, follows, outcome, after}
 use Rattle.sftp_tree.specs.Requests as paths
 use Rattle.sftp_tree.specs.Refusals.{IsFree}
-use Rattle.sftp_tree.specs.Refusals as walks
+use Rattle.sftp_tree.specs.Refusals as of_tree
 use Rattle.sftp_tree.proofs.KeptTrees.Files.{pins-stay, limits-stay}
 use Rattle.sftp_tree.proofs.CauseLaws.Places.{free-led, lost-first}
 use Rattle.sftp_handles.specs.declared.opens.Open.{Open}
@@ -34,10 +33,10 @@ use Rattle.sftp_handles.specs.Handles.{Left, Handles, open_at, pins_of}
 use Rattle.sftp_handles.specs.State.{State, Good, settled, has_handle_left}
 use Rattle.sftp_handles.specs.Seen.{a_file, a_listing, seen, seen_among, seen_file}
 use Rattle.sftp_handles.specs.Replies.{Said, ok, shows, names, gives, ended, lists, opens, says}
-use Rattle.sftp_handles.specs.HandleRequests.{Row, row_of, causes_of, said_of, listed, read_from}
+use Rattle.sftp_handles.specs.HandleRequests.{Row, row_of, causes_of, said_of, listed}
 use Rattle.sftp_handles.specs.Requests.{causes, path_causes, causes_by, answers, target, target_by, told_to, said_to}
 use Rattle.sftp_handles.specs.Requests.{said_by, with_new, flags_of, opened_by}
-use Rattle.sftp_handles.specs.Judged.{IsJudged, IsJudgedCode, IsDone, IsRefusal, is_done, changes_tree}
+use Rattle.sftp_handles.specs.Judged.{IsJudgedCode, IsDone, IsRefusal, is_done, changes_tree}
 use Rattle.sftp_handles.proofs.GoodSteps.{room-of}
 use Rattle.sftp_handles.proofs.NewStates.{state_of}
 use Rattle.sftp_handles.proofs.SeenAnswers.{cause-holds}
@@ -54,12 +53,6 @@ judged-call s ask end (Err (refusals.Cause cause)) does refused kept =
     subst (λ (t : State). IsJudgedCode s ask 0 false t) (sym kept) (judged-not_ok s ask cause refused)
 judged-call s ask end (Err refusals.NoMemory) does refused kept = tt
 
-pub kept-call : {A : Type 0} (s end : State) (call : Result A Refused) → OnErr call (end ≡ s)
-    → OnErr (is_done call) (end ≡ s)
-kept-call s end (Ok value) kept = tt
-kept-call s end (Err (refusals.Cause cause)) kept = tt
-kept-call s end (Err refusals.NoMemory) kept = kept
-
 -- a call that takes no memory
 pub judged-call_by_cause : {A : Type 0} (s : State) (ask : Ask) (end : State) (call : Result A Cause)
     → OnOk call (IsDone s ask end) → IfErr call (λ cause. IsTrue (causes s ask cause)) → OnErr call (end ≡ s)
@@ -69,10 +62,10 @@ judged-call_by_cause s ask end (Err cause) does refused kept =
     subst (λ (t : State). IsJudgedCode s ask 0 false t) (sym kept) (judged-not_ok s ask cause refused)
 
 -- a call that changes nothing
-pub judged-sync : {A : Type 0} (s : State) (ask : Ask) (call : Result A Cause) → OnOk call (IsDone s ask s)
+pub judged-call_unchanged : {A : Type 0} (s : State) (ask : Ask) (call : Result A Cause) → OnOk call (IsDone s ask s)
     → IfErr call (λ cause. IsTrue (causes s ask cause)) → IsJudgedCode s ask 0 (is_ok call) s
-judged-sync s ask (Ok value) does refused = judged-ok s ask s does
-judged-sync s ask (Err cause) does refused = judged-not_ok s ask cause refused
+judged-call_unchanged s ask (Ok value) does refused = judged-ok s ask s does
+judged-call_unchanged s ask (Err cause) does refused = judged-not_ok s ask cause refused
 
 -- ---- requests that change the tree
 
@@ -110,7 +103,7 @@ change-causes s ask is = ap (causes_by s ask) (is-change s ask is).no_handle ∙
 
 -- a refusal of the tree is one of the session
 pub change-refused : (s : State) (ask : Ask) (refused : Refused) → IsTrue (changes_tree ask)
-    → walks.IsRefusal s.tree ask refused → IsRefusal s ask refused
+    → of_tree.IsRefusal s.tree ask refused → IsRefusal s ask refused
 change-refused s ask (refusals.Cause cause) changes is = ap (λ set. set cause) (change-causes s ask changes) ∙ is
 change-refused s ask refusals.NoMemory changes is = tt
 
@@ -318,6 +311,15 @@ unknown-judged s name rest = judged-not_ok s (asks.Unknown name rest) Unknown (c
 -- ---- what `perform` cites
 
 pub ruleset performing = (
-  judged-call, kept-call, stat-judged, lstat-judged, real_path-judged, read_link-judged, open-judged,
-  open_directory-judged, stat_open-judged, read_open-judged, list_open-judged, unknown-judged,
+  judged-call,
+  stat-judged,
+  lstat-judged,
+  real_path-judged,
+  read_link-judged,
+  open-judged,
+  open_directory-judged,
+  stat_open-judged,
+  read_open-judged,
+  list_open-judged,
+  unknown-judged,
 )

@@ -1,4 +1,4 @@
-use Rattle.std.proofs.Common.{ℕ, refl, sym, subst, ◌∙◌, IfOk}
+use Rattle.std.proofs.Common.{ℕ, sym, subst, ◌∙◌, IfOk}
 use Rattle.std.proofs.lemmas.Bool.{ne_eqb}
 use Rattle.sftp_tree.specs.Causes.{allow}
 use Rattle.sftp_handles.specs.Judged.{IsJudgedCode}
@@ -8,7 +8,8 @@ use Rattle.sftp_handles.proofs.sessions.Session.judge_status.Goals as goal
 pub returns-then-code-eq0-clause-ok : goal.returns-then-code-eq0-clause-ok
 returns-then-code-eq0-clause-ok g c =
     let s = c.args.self.now in
-    subst (λ (code : ℕ). IfOk c.perform.result (λ allowed. IsJudgedCode s c.args.ask.now code allowed c.perform.new.self))
+    let end = c.perform.new.self in
+    subst (λ (code : ℕ). IfOk c.perform.result (λ allowed. IsJudgedCode s c.args.ask.now code allowed end))
     (sym c.if-code-eq0.true) c.perform.ensures.ok
 
 pub returns-clause-ok : goal.returns-clause-ok

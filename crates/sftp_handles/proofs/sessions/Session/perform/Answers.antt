@@ -1,9 +1,9 @@
-use Rattle.std.proofs.Common.{sym, ap, subst, refl, ◌∙◌, IfOk}
+use Rattle.std.proofs.Common.{sym, ap, subst, ◌∙◌, IfOk}
 use Rattle.std.specs.Prelude.{is_ok}
 use Rattle.sftp_wire.specs.declared.packets.Ask.{Ask}
 use Rattle.sftp_wire.specs.declared.packets.Ask.TheVariants.{Close, Write, Fsetstat, Fsync}
 use Rattle.sftp_handles.specs.Judged.{IsJudgedCode, is_done}
-use Rattle.sftp_handles.proofs.OkReplies.{judged-call, judged-call_by_cause, judged-sync}
+use Rattle.sftp_handles.proofs.OkReplies.{judged-call, judged-call_by_cause, judged-call_unchanged}
 use Rattle.sftp_handles.proofs.sessions.Session.perform.Goals as goal
 
 pub returns-in-Close-clause-ok : goal.returns-in-Close-clause-ok
@@ -43,5 +43,5 @@ returns-in-Fsync-clause-ok g c =
     rw c.is_ok-in-Fsync.ensures.value
     (subst (λ (ask : Ask). IsJudgedCode s ask 0 (is_ok c.sync_open.result) s)
     (ap Fsync c.as_slice-in-Fsync.ensures ∙ sym c.in-Fsync.is)
-    (judged-sync s (Fsync c.as_slice-in-Fsync.result.now) c.sync_open.result c.sync_open.ensures.done
+    (judged-call_unchanged s (Fsync c.as_slice-in-Fsync.result.now) c.sync_open.result c.sync_open.ensures.done
     c.sync_open.ensures.refused))
