@@ -10,3 +10,4 @@ pub mod FirstListings
 pub mod Strikes
 pub mod SeenCauses
 pub mod SeenAnswers
+pub mod OpenChanges
