@@ -10,3 +10,5 @@ pub mod FirstListings
 pub mod Strikes
 pub mod SeenCauses
 pub mod SeenAnswers
+pub mod StillAnswers
+pub mod OtherAnswers
