@@ -1,6 +1,6 @@
 -- Answers of a kind that a request never has.
 use Rattle.std.proofs.Common.{◌≡◌, ◌&&◌, ℕ, Bool, true, false, if◌then◌else◌, List, [], ◌∷◌, Option, Some, None}
-use Rattle.std.proofs.Common.{Result, Ok, Err, refl, ap, ◌∙◌, nat_lt, length}
+use Rattle.std.proofs.Common.{Result, Ok, Err, refl, nat_lt, length}
 use Rattle.sftp_wire.specs.declared.attributes.Attrs.{Attrs}
 use Rattle.sftp_wire.specs.declared.names.NameItem.{NameItem}
 use Rattle.sftp_wire.specs.declared.open_flags.OpenFlags.{OpenFlags}
@@ -24,7 +24,7 @@ use Rattle.sftp_handles.specs.Replies.{Said, ok, shows, names, gives, ended, lis
 use Rattle.sftp_handles.specs.HandleRequests.{Row, row_of, said_of, listed, read_from}
 use Rattle.sftp_handles.specs.Requests.{answers, told_to, said_by, said_to}
 use Rattle.sftp_handles.specs.Judged.{IsJudged}
-use Rattle.sftp_handles.proofs.StillAnswers.{judged-other}
+use Rattle.sftp_handles.proofs.Judgements.{judged-none, not-answered}
 
 -- ---- what is said of no place, nor of what is open
 
@@ -124,8 +124,9 @@ pub other_attributes : (s : State) (ask : Ask) (attrs : Attrs) → asks_attribut
     → IsJudged s ask (replies.Attrs attrs) false s
 unfolding answers
 other_attributes s ask attrs is =
-    judged-other s ask (replies.Attrs attrs) refl
-    (unless-shows (said_to s ask (asked_handle ask)) attrs (shows-not s ask is))
+    judged-none s ask (replies.Attrs attrs)
+    (not-answered s ask (replies.Attrs attrs)
+    (unless-shows (said_to s ask (asked_handle ask)) attrs (shows-not s ask is)) refl)
 
 -- ---- bytes
 
@@ -175,8 +176,9 @@ pub other_bytes : (s : State) (ask : Ask) (bytes : List ℕ) → asks_bytes ask 
     → IsJudged s ask (replies.Data bytes) false s
 unfolding answers
 other_bytes s ask bytes is =
-    judged-other s ask (replies.Data bytes) refl
-    (unless-gives (said_to s ask (asked_handle ask)) bytes (gives-not s ask is))
+    judged-none s ask (replies.Data bytes)
+    (not-answered s ask (replies.Data bytes)
+    (unless-gives (said_to s ask (asked_handle ask)) bytes (gives-not s ask is)) refl)
 
 -- ---- names
 
@@ -230,5 +232,6 @@ pub other_names : (s : State) (ask : Ask) (items : List NameItem) → asks_names
     → IsJudged s ask (replies.Name items) false s
 unfolding answers
 other_names s ask items is =
-    judged-other s ask (replies.Name items) refl
-    (unless-names (said_to s ask (asked_handle ask)) items (names-not s ask is))
+    judged-none s ask (replies.Name items)
+    (not-answered s ask (replies.Name items)
+    (unless-names (said_to s ask (asked_handle ask)) items (names-not s ask is)) refl)

@@ -18,7 +18,6 @@ use Rattle.sftp_tree.specs.Causes.{CauseSet, is_none}
 use Rattle.sftp_tree.specs.Requests as paths
 use Rattle.sftp_tree.specs.Requests.{Told, led, led_to, outcome, shown_to, text_to, target_to, shown_at, target_of}
 use Rattle.sftp_tree.specs.Refusals.{IsFree, stat_ask}
-use Rattle.sftp_tree.proofs.CauseLaws.Sets.{none-each}
 use Rattle.sftp_handles.specs.declared.opens.Open.{Open as Opened}
 use Rattle.sftp_handles.specs.declared.opens.Open.TheVariants.{File, Listing}
 use Rattle.sftp_handles.specs.Handles.{Handles, Left, open_at}
@@ -29,58 +28,17 @@ use Rattle.sftp_handles.specs.Replies.{Said, says, refuses, same_attributes, is_
 use Rattle.sftp_handles.specs.HandleRequests.{Row, row_of, said_of, listed, read_from, change_of, change_file, nothing}
 use Rattle.sftp_handles.specs.Requests.{causes, answers, target, target_by, told_to, said_by, said_to, opened_by}
 use Rattle.sftp_handles.specs.Requests.{flags_of, with_new, changed}
-use Rattle.sftp_handles.specs.Allowed.{step, stepped}
 use Rattle.sftp_handles.specs.Judged.{IsJudged}
 use Rattle.sftp_handles.proofs.GoodStates.{good-settled}
-
--- ---- by tests
-
-judged-by : (s : State) (ask : Ask) (answer : Answer) (fits : Bool) → refuses (causes s ask) answer ≡ false
-    → (is_none (causes s ask) && answers s ask answer) ≡ fits → (fits ≡ true → target s ask answer ≡ s)
-    → IsJudged s ask answer fits s
-unfolding step
-judged-by s ask answer true unlike is still = record {
-  step_is = (λ i. stepped s ask answer (unlike i) (is i)) ∙ ap (λ (x : State). Some x) (still refl);
-  kept = λ e. refl;
-}
-judged-by s ask answer false unlike is still = record {
-  step_is = λ i. stepped s ask answer (unlike i) (is i);
-  kept = λ e. refl;
-}
-
-not-none : (set : CauseSet) (cause : Cause) → IsTrue (set cause) → is_none set ≡ false
-not-none set cause holds = by (is_none set) refl
-  where
-    by : (b : Bool) → is_none set ≡ b → is_none set ≡ false
-    by true is = absurd (let none = none-each set is cause in cc)
-    by false is = is
-
-and-false : (a b : Bool) → b ≡ false → (a && b) ≡ false
-and-false true b is = is
-and-false false b is = refl
-
-no-step : {A : Type 0} → false ≡ true → A
-no-step e = absurd cc
-
--- a cause holds, and the answer is no status
-pub judged-refused : (s : State) (ask : Ask) (answer : Answer) (cause : Cause) → refuses (causes s ask) answer ≡ false
-    → IsTrue (causes s ask cause) → IsJudged s ask answer false s
-judged-refused s ask answer cause unlike holds =
-    judged-by s ask answer false unlike (ap (λ b. b && answers s ask answer) (not-none (causes s ask) cause holds))
-    no-step
-
--- the answer is not the request's, nor a status
-pub judged-other : (s : State) (ask : Ask) (answer : Answer) → refuses (causes s ask) answer ≡ false
-    → answers s ask answer ≡ false → IsJudged s ask answer false s
-judged-other s ask answer unlike is =
-    judged-by s ask answer false unlike (and-false (is_none (causes s ask)) (answers s ask answer) is) no-step
+use Rattle.sftp_handles.proofs.Judgements.{judged-refused, judged-still}
 
 -- no cause holds, and the request leaves the state
 judged-free : (s : State) (ask : Ask) (answer : Answer) (fits : Bool) → refuses (causes s ask) answer ≡ false
     → IsTrue (is_none (causes s ask)) → answers s ask answer ≡ fits → target s ask answer ≡ s
     → IsJudged s ask answer fits s
 judged-free s ask answer fits unlike free is still =
-    judged-by s ask answer fits unlike (ap (λ b. b && answers s ask answer) free ∙ is) (λ e. still)
+    judged-still s ask answer fits unlike (λ e. still)
+    (sym (ap (λ b. b && answers s ask answer) free ∙ is))
 
 -- ---- requests on paths
 
@@ -117,7 +75,7 @@ module _ (s : State) (ask : Ask) (asked : asked_handle ask ≡ None) (left : out
   judged-path_refused : (answer : Answer) (cause : Cause) → refuses (causes s ask) answer ≡ false
       → IsTrue (paths.causes s.tree ask cause) → IsJudged s ask answer false s
   judged-path_refused answer cause unlike holds =
-      judged-refused s ask answer cause unlike (ap (λ set. set cause) same ∙ holds)
+      judged-refused s ask answer cause (ap (λ set. set cause) same ∙ holds) unlike
 
 led_to-same : (t : Tree) (end : Option (Result Place Cause)) → led_to t end (λ place. t) ≡ t
 led_to-same t None = refl

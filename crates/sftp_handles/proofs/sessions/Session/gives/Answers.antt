@@ -3,7 +3,8 @@ use Rattle.sftp_wire.specs.declared.packets.Ask.TheVariants.{Read}
 use Rattle.sftp_wire.specs.declared.packets.Answer.TheVariants as replies
 use Rattle.sftp_handles.specs.Replies as say
 use Rattle.sftp_handles.specs.Found.{read_said}
-use Rattle.sftp_handles.proofs.StillAnswers.{judged-read, judged-refused}
+use Rattle.sftp_handles.proofs.Judgements.{judged-refused}
+use Rattle.sftp_handles.proofs.StillAnswers.{judged-read}
 use Rattle.sftp_handles.proofs.sessions.Session.gives.Goals as goal
 
 pub returns-in-Ok-Some : goal.returns-in-Ok-Some
@@ -21,4 +22,4 @@ returns-in-Ok-None g c =
 pub returns-in-Err : goal.returns-in-Err
 returns-in-Err g c =
     judged-refused c.args.self.now (Read c.args.handle.now c.args.offset c.args.len) (replies.Data c.args.bytes.now)
-    c.in-Err.field-0 refl c.in-Err.ensures.refused
+    c.in-Err.field-0 c.in-Err.ensures.refused refl

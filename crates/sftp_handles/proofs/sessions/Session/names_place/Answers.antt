@@ -11,15 +11,14 @@ returns-in-Ok g c =
     let ask = Realpath c.args.path.now in
     let text = c.in-Ok.text.items in
     judged-realpath c.args.self.now c.args.path.now text c.as_slice.result.now c.args.names.now
-    c.is_one_name.result
-    (subst Good c.self.view_is c.self.invariant)
+    c.is_one_name.result (subst Good c.self.view_is c.self.invariant)
     (subst (λ (s : State). IsFree s.tree ask) c.self.view_is c.in-Ok.ensures.free)
     (subst (λ (s : State). paths.text_to s.tree ask ≡ Some text) c.self.view_is c.in-Ok.ensures.text)
     c.as_slice.ensures.value c.is_one_name.ensures
 
 pub returns-in-Err-Cause : goal.returns-in-Err-Cause
 returns-in-Err-Cause g c =
-    let cause = c.in-Err-Cause.field-0-0 in
-    realpath-refused c.args.self.now c.args.path.now c.args.names.now cause
-    (subst (λ refusal. IsRefusal c.args.self.now.tree (Realpath c.args.path.now) refusal) c.in-Err-Cause.field-0-is
-    (subst (λ (s : State). IsRefusal s.tree (Realpath c.args.path.now) c.in-Err-Cause.field-0) c.self.view_is c.in-Err-Cause.ensures.refused))
+    let ask = Realpath c.args.path.now in
+    realpath-refused c.args.self.now c.args.path.now c.args.names.now c.in-Err-Cause.field-0-0
+    (subst (λ refusal. IsRefusal c.args.self.now.tree ask refusal) c.in-Err-Cause.field-0-is
+    (subst (λ (s : State). IsRefusal s.tree ask c.in-Err-Cause.field-0) c.self.view_is c.in-Err-Cause.ensures.refused))

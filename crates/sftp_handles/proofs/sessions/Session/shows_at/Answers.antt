@@ -17,7 +17,7 @@ returns-in-Ok g c =
 pub returns-in-Err-Cause : goal.returns-in-Err-Cause
 returns-in-Err-Cause g c =
     let ask = stat_ask c.args.follow c.args.path.now in
-    let cause = c.in-Err-Cause.field-0-0 in
-    stat-refused c.args.self.now c.args.follow c.args.path.now c.args.attrs.now cause
+    stat-refused c.args.self.now c.args.follow c.args.path.now c.args.attrs.now
+    c.in-Err-Cause.field-0-0
     (subst (λ refusal. IsRefusal c.args.self.now.tree ask refusal) c.in-Err-Cause.field-0-is
     (subst (λ (s : State). IsRefusal s.tree ask c.in-Err-Cause.field-0) c.self.view_is c.in-Err-Cause.ensures.refused))

@@ -1,7 +1,8 @@
 use Rattle.sftp_wire.specs.declared.packets.Ask.TheVariants.{Fstat}
 use Rattle.sftp_wire.specs.declared.packets.Answer.TheVariants as replies
 use Rattle.std.proofs.Common.{refl}
-use Rattle.sftp_handles.proofs.StillAnswers.{judged-fstat, judged-refused}
+use Rattle.sftp_handles.proofs.Judgements.{judged-refused}
+use Rattle.sftp_handles.proofs.StillAnswers.{judged-fstat}
 use Rattle.sftp_handles.proofs.sessions.Session.shows_open.Goals as goal
 
 pub returns-in-Ok : goal.returns-in-Ok
@@ -11,5 +12,5 @@ returns-in-Ok g c =
 
 pub returns-in-Err : goal.returns-in-Err
 returns-in-Err g c =
-    judged-refused c.args.self.now (Fstat c.args.handle.now) (replies.Attrs c.args.attrs.now) c.in-Err.field-0 refl
-    c.in-Err.ensures.refused
+    judged-refused c.args.self.now (Fstat c.args.handle.now) (replies.Attrs c.args.attrs.now) c.in-Err.field-0
+    c.in-Err.ensures.refused refl
