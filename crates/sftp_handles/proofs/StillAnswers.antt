@@ -1,6 +1,6 @@
 -- Answers to requests that leave a good state as it is: what is shown, the bytes of a file, the text of a place.
-use Rattle.std.proofs.Common.{◌≡◌, ◌&&◌, ℕ, Bool, true, false, if◌then◌else◌, List, [], ◌∷◌, Option, Some, None}
-use Rattle.std.proofs.Common.{Result, Ok, Err, IsTrue, refl, sym, ap, ◌∙◌, nat_lt, length}
+use Rattle.std.proofs.Common.{◌≡◌, ◌&&◌, ℕ, Bool, true, false, List, Option, Some, None}
+use Rattle.std.proofs.Common.{Result, Ok, Err, IsTrue, refl, sym, ap, ◌∙◌}
 use Rattle.sftp_wire.specs.declared.attributes.Attrs.{Attrs}
 use Rattle.sftp_wire.specs.declared.names.NameItem.{NameItem}
 use Rattle.sftp_wire.specs.declared.open_flags.OpenFlags.{OpenFlags}
@@ -9,23 +9,22 @@ use Rattle.sftp_wire.specs.declared.packets.Ask.TheVariants as asks
 use Rattle.sftp_wire.specs.declared.packets.Answer.{Answer}
 use Rattle.sftp_wire.specs.declared.packets.Answer.TheVariants as replies
 use Rattle.sftp_wire.specs.Spelling.{asked_handle, answered_handle}
-use Rattle.sftp_treefile.specs.declared.limits.TreeLimits.{TreeLimits}
 use Rattle.sftp_path.specs.Place.{Place, absolute}
 use Rattle.sftp_tree.specs.declared.causes.Cause.{Cause}
 use Rattle.sftp_tree.specs.declared.file_contents.Content.{Content}
-use Rattle.sftp_tree.specs.Tree.{Tree, Files, node_at, content_at, limits}
-use Rattle.sftp_tree.specs.Causes.{CauseSet, is_none}
+use Rattle.sftp_tree.specs.Tree.{Tree, Files, node_at, content_at}
+use Rattle.sftp_tree.specs.Causes.{is_none}
 use Rattle.sftp_tree.specs.Requests as paths
 use Rattle.sftp_tree.specs.Requests.{Told, led, led_to, outcome, shown_to, text_to, target_to, shown_at, target_of}
 use Rattle.sftp_tree.specs.Refusals.{IsFree, stat_ask}
 use Rattle.sftp_handles.specs.declared.opens.Open.{Open as Opened}
 use Rattle.sftp_handles.specs.declared.opens.Open.TheVariants.{File, Listing}
-use Rattle.sftp_handles.specs.Handles.{Handles, Left, open_at}
+use Rattle.sftp_handles.specs.Handles.{Handles, open_at}
 use Rattle.sftp_handles.specs.State.{State, Good, settled}
-use Rattle.sftp_handles.specs.Seen.{Seen, a_file, seen, seen_among, absent, other_kind, something, file, listing}
+use Rattle.sftp_handles.specs.Seen.{a_file, seen, seen_among}
 use Rattle.sftp_handles.specs.Replies as say
 use Rattle.sftp_handles.specs.Replies.{Said, says, refuses, same_attributes, is_one_name, is_data}
-use Rattle.sftp_handles.specs.HandleRequests.{Row, row_of, said_of, listed, read_from, change_of, change_file, nothing}
+use Rattle.sftp_handles.specs.HandleRequests.{Row, row_of, change_of, change_file, nothing}
 use Rattle.sftp_handles.specs.Requests.{causes, answers, target, target_by, told_to, said_by, said_to, opened_by}
 use Rattle.sftp_handles.specs.Requests.{flags_of, with_new, changed}
 use Rattle.sftp_handles.specs.Judged.{IsJudged}
