@@ -13,3 +13,5 @@ pub mod SeenCauses
 pub mod SeenAnswers
 pub mod OkReplies
 pub mod OpenChanges
+pub mod StillAnswers
+pub mod OtherAnswers
