@@ -1,5 +1,6 @@
 pub mod Pins
 pub mod Steps
+pub mod Judgements
 pub mod NewStates
 pub mod GivenTables
 pub mod GoodStates
@@ -10,3 +11,4 @@ pub mod FirstListings
 pub mod Strikes
 pub mod SeenCauses
 pub mod SeenAnswers
+pub mod Opened
