@@ -17,7 +17,7 @@ pub pin-requires-clause-file : goal.pin-requires-clause-file
 pin-requires-clause-file g c =
     subst (λ (t : Tree). HasFile t.files c.in-Ok.file) (sym c.in-Ok.ensures.done)
     (opened.file-opened c.self-2.inside.tree c.args.path.now c.args.pflags c.args.attrs.now c.in-Ok.file
-    c.in-Ok.ensures.number (subst WellFormed c.in-Ok.ensures.done c.open_file.ensures.valid.well_formed))
+    c.in-Ok.ensures.number (subst WellFormed c.in-Ok.ensures.done c.in-Ok.ensures.valid.well_formed))
 
 pub pin-requires-clause-few : goal.pin-requires-clause-few
 pin-requires-clause-few g c =
