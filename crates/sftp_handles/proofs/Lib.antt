@@ -15,3 +15,4 @@ pub mod OkReplies
 pub mod OpenChanges
 pub mod StillAnswers
 pub mod OtherAnswers
+pub mod Opened

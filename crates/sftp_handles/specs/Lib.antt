@@ -9,3 +9,4 @@ pub mod Examples
 pub mod Given
 pub mod Found
 pub mod Judged
+pub mod Opening
