@@ -10,3 +10,6 @@ pub mod FirstListings
 pub mod Strikes
 pub mod SeenCauses
 pub mod SeenAnswers
+pub mod Starts
+pub mod HandleRoom
+pub mod TotalSteps
