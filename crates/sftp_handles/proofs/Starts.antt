@@ -2,6 +2,7 @@
 use Rattle.std.proofs.Common.{◌≡◌, ℕ, List, [], sym, ap, ◌∙◌, arith}
 use Rattle.std.proofs.lemmas.Bool.{le-leb}
 use Rattle.sftp_path.specs.Place.{bytes_cmp}
+use Rattle.sftp_path.specs.Table.{get}
 use Rattle.sftp_path.proofs.Table.Laws.{InOrder-empty}
 use Rattle.sftp_tree.specs.Tree.{Tree, Pins, IsKept, limits, trim}
 use Rattle.sftp_tree.proofs.KeptTrees.Trims.{trimmed-already}
@@ -12,7 +13,7 @@ use Rattle.sftp_handles.proofs.GoodStates.{OpensExist, good-by}
 
 -- nothing is open, so nothing is pinned
 none-open : (t : Tree) → OpensExist t.files []
-unfolding pins_of
+unfolding pins_of get
 none-open t number pinned = absurd cc
 
 pub good-start : (t : Tree) → IsKept t → Good (settled t [])
