@@ -1,5 +1,5 @@
 -- Room for a new handle, and the limits of a state.
-use Rattle.std.proofs.Common.{◌≡◌, ◌&&◌, not, nat_le, ℕ, ◌+◌, Bool, true, false, List, None, refl, sym, ap, ◌∙◌, IsTrue}
+use Rattle.std.proofs.Common.{◌≡◌, ◌&&◌, not, nat_le, ℕ, Bool, true, false, List, None, refl, sym, ap, ◌∙◌, IsTrue}
 use Rattle.sftp_wire.specs.declared.packets.Ask.{Ask}
 use Rattle.sftp_wire.specs.declared.packets.Ask.TheVariants.{Open, Opendir}
 use Rattle.sftp_path.specs.Place.{bytes_cmp}
@@ -7,9 +7,9 @@ use Rattle.sftp_path.specs.Table.{size}
 use Rattle.sftp_path.proofs.Table.Laws.{size-put}
 use Rattle.sftp_treefile.specs.declared.limits.TreeLimits.{TreeLimits}
 use Rattle.sftp_tree.specs.declared.causes.Cause.TheVariants.{NoRoom}
-use Rattle.sftp_tree.specs.Tree.{Tree, fits, limits}
+use Rattle.sftp_tree.specs.Tree.{fits, limits}
 use Rattle.sftp_tree.specs.Causes.{CauseSet, is_none, when}
-use Rattle.sftp_tree.specs.Requests.{with_room, plain_causes, outcome}
+use Rattle.sftp_tree.specs.Requests.{plain_causes, outcome}
 use Rattle.sftp_tree.specs.Requests.{causes as tree_causes}
 use Rattle.sftp_tree.proofs.CauseLaws.Sets.{none-each}
 use Rattle.sftp_tree.proofs.KeptTrees.Files.{limits-stay}

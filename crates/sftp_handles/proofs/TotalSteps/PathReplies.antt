@@ -1,6 +1,6 @@
 -- What the replies to requests on paths say can be said.
-use Rattle.std.proofs.Common.{◌≡◌, nat_le, ℕ, ◌+◌, ◌^◌, ◌<◌, ◌≤◌, true, false, List, length, Option, Some, None, Result, Ok, Err}
-use Rattle.std.proofs.Common.{is_some, refl, ap, sym, subst, ◌∙◌, arith, IsTrue, leb-true}
+use Rattle.std.proofs.Common.{◌≡◌, nat_le, ℕ, ◌+◌, ◌^◌, ◌<◌, true, false, List, length, Option, Some, None, Result}
+use Rattle.std.proofs.Common.{Ok, Err, is_some, refl, ap, sym, subst, ◌∙◌, arith, IsTrue, leb-true}
 use Rattle.std.specs.Option.{option_map}
 use Rattle.std.proofs.lemmas.Option.{same_Some}
 use Rattle.sftp_wire.specs.declared.attributes.Attrs.{Attrs}
@@ -50,7 +50,8 @@ link-there (Some (Dir owner)) none kind = absurd cc
 link-there (Some (File number)) none kind = absurd cc
 link-there (Some (Link linktarget)) none kind = (linktarget, refl)
 
-shown-of : (found : Option Content) → is_some found ≡ true → (attrs : Attrs) × (option_map shown_content found ≡ Some attrs)
+shown-of : (found : Option Content) → is_some found ≡ true
+    → (attrs : Attrs) × (option_map shown_content found ≡ Some attrs)
 shown-of None is = absurd cc
 shown-of (Some content) is = (shown_content content, refl)
 
@@ -73,17 +74,20 @@ node-kept t kept place standing is =
 module _ (s : State) (id : ℕ) (good : Good s) (small : id < 2 ^ 32) where
   -- ---- by where the path leads
 
+  -- what is said of a place can be said
+  abbrev pub IsSayableAt : Ask → Place → Type 0
+  IsSayableAt ask place = IsSayable id (said_by s.handles (told_at s.tree ask place))
+
   told-by : (ask : Ask)
-      → ((place : Place) → led s.tree ask ≡ Some (Ok place) → IsSayable id (said_by s.handles (told_at s.tree ask place)))
+      → ((place : Place) → led s.tree ask ≡ Some (Ok place) → IsSayableAt ask place)
       → (end : Option (Result Place Cause)) → led s.tree ask ≡ end
       → IsSayable id (said_by s.handles (led_to done end (told_at s.tree ask)))
   told-by ask at None leads = ok-sayable id small
   told-by ask at (Some (Ok place)) leads = at place leads
   told-by ask at (Some (Err cause)) leads = ok-sayable id small
 
-  -- what is said of each place to which the path may lead can be said
   pub path-sayable : (ask : Ask)
-      → ((place : Place) → led s.tree ask ≡ Some (Ok place) → IsSayable id (said_by s.handles (told_at s.tree ask place)))
+      → ((place : Place) → led s.tree ask ≡ Some (Ok place) → IsSayableAt ask place)
       → IsSayable id (said_by s.handles (told_to s.tree ask))
   unfolding told_to
   path-sayable ask at = told-by ask at (led s.tree ask) refl
@@ -105,13 +109,13 @@ module _ (s : State) (id : ℕ) (good : Good s) (small : id < 2 ^ 32) where
       subst (λ o. IsSayable id (shows (shown_at s.tree o))) (sym found.1) (shows-node found.0 kept.0 kept.1)
 
   -- a request for attributes
-  pub stat-sayable : (path : List ℕ) (place : Place) → IsFree s.tree (Stat path) → led s.tree (Stat path) ≡ Some (Ok place)
-      → IsSayable id (said_by s.handles (told_at s.tree (Stat path) place))
+  pub stat-sayable : (path : List ℕ) (place : Place) → IsFree s.tree (Stat path)
+      → led s.tree (Stat path) ≡ Some (Ok place) → IsSayableAt (Stat path) place
   stat-sayable path place free leads =
       shows-there place ((free-at s.tree (Stat path) place free leads refl).none NoEntry)
 
   pub lstat-sayable : (path : List ℕ) (place : Place) → IsFree s.tree (Lstat path)
-      → led s.tree (Lstat path) ≡ Some (Ok place) → IsSayable id (said_by s.handles (told_at s.tree (Lstat path) place))
+      → led s.tree (Lstat path) ≡ Some (Ok place) → IsSayableAt (Lstat path) place
   lstat-sayable path place free leads =
       shows-there place ((free-at s.tree (Lstat path) place free leads refl).none NoEntry)
 
@@ -125,8 +129,7 @@ module _ (s : State) (id : ℕ) (good : Good s) (small : id < 2 ^ 32) where
       (record { bytes_fit = bytes-by linktarget bytes; length_fits = omega (arith, short) }) (omega (arith, short))
 
   pub target-sayable : (path : List ℕ) (place : Place) → IsFree s.tree (Readlink path)
-      → led s.tree (Readlink path) ≡ Some (Ok place)
-      → IsSayable id (said_by s.handles (told_at s.tree (Readlink path) place))
+      → led s.tree (Readlink path) ≡ Some (Ok place) → IsSayableAt (Readlink path) place
   target-sayable path place free leads =
       let none = (free-at s.tree (Readlink path) place free leads refl).none in
       let found = link-there (node_at s.tree.names place) (none NoEntry) (none NotLink) in
@@ -139,8 +142,7 @@ module _ (s : State) (id : ℕ) (good : Good s) (small : id < 2 ^ 32) where
   leads-to path place leads = same_Some (reached s.tree true path) (Ok place) leads
 
   pub text-sayable : PathsLeadWell → (path : List ℕ) (place : Place) → IsTrue (are_bytes path)
-      → led s.tree (Realpath path) ≡ Some (Ok place)
-      → IsSayable id (said_by s.handles (told_at s.tree (Realpath path) place))
+      → led s.tree (Realpath path) ≡ Some (Ok place) → IsSayableAt (Realpath path) place
   text-sayable paths-lead path place bytes leads =
       let well = paths-lead s.tree good.tree true path place bytes (leads-to path place leads) in
       let fits = text-fits s.tree place good.tree well.named well.above in

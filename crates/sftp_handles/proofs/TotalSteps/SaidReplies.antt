@@ -1,10 +1,10 @@
 -- What a reply has to say can be said in one that can be encoded.
-use Rattle.std.proofs.Common.{◌≡◌, ◌==◌, ◌&&◌, not, nat_lt, nat_le, ℕ, ◌+◌, ◌^◌, ◌<◌, ◌≤◌, Bool, true, false, cond}
+use Rattle.std.proofs.Common.{◌≡◌, ◌==◌, not, nat_le, ℕ, ◌+◌, ◌^◌, ◌<◌, ◌≤◌, true, cond}
 use Rattle.std.proofs.Common.{List, [], ◌∷◌, ◌++◌, length, Option, Some, None, is_some, refl, sym, ap, subst, ◌∙◌}
 use Rattle.std.proofs.Common.{IsTrue, eq-eqb, arith, lit<, lit≤}
 use Rattle.std.specs.Ordering.{is_eq}
 use Rattle.std.specs.Cmp.Lexicographic.{nat_list_eq_equiv, nat_list_cmp_total}
-use Rattle.std.proofs.lemmas.Bool.{and_parts, and_from, le-leb}
+use Rattle.std.proofs.lemmas.Bool.{and_from, le-leb}
 use Rattle.std.proofs.lemmas.Cmp.{tied_itself}
 use Rattle.std.proofs.lemmas.List.{length-append}
 use Rattle.sftp_wire.specs.declared.attributes.Attrs.{Attrs}
@@ -16,14 +16,14 @@ use Rattle.sftp_wire.specs.declared.packets.Reply.{Reply}
 use Rattle.sftp_wire.specs.Spelling.{spelling, string, attributes, AreBytes, FitsString, FitsAttrs, HasSpelling}
 use Rattle.sftp_wire.specs.Spelling.{handle_limit}
 use Rattle.sftp_wire.specs.Examples.{no_attributes}
-use Rattle.sftp_path.specs.Place.{Name, bytes_cmp, name_cmp, is_name}
+use Rattle.sftp_path.specs.Place.{Name, bytes_cmp, name_cmp}
 use Rattle.sftp_path.specs.Table.{InOrder, get, size}
 use Rattle.sftp_path.proofs.Table.Laws.{get-cons}
 use Rattle.sftp_tree.specs.Attributes.{said}
 use Rattle.sftp_handles.specs.Handles.{Left, Handles, open_at, is_open}
 use Rattle.sftp_handles.specs.State.{IsItem, is_plain}
 use Rattle.sftp_handles.specs.Replies.{Said, ok, shows, names, gives, ended, lists, opens, says, same_attributes}
-use Rattle.sftp_handles.specs.Replies.{is_left, are_some_left, has_attributes}
+use Rattle.sftp_handles.specs.Replies.{is_left, has_attributes}
 use Rattle.sftp_handles.proofs.TotalSteps.PlaceTexts.{name-parts}
 use Rattle.sftp_handles.proofs.TotalSteps.NewHandles.{zeros, zeros-bytes, zeros-length, name-left}
 
@@ -67,12 +67,15 @@ record IsSaid (attrs : Attrs) : Type 0 where
   permissions : ℕ
   is : attrs ≡ said size uid gid permissions
 
-abbrev attributes_of : Option ℕ → Option (ℕ × ℕ) → Option ℕ → Option (ℕ × ℕ) → Option (List (List ℕ × List ℕ)) → Attrs
+abbrev Extended : Type 0
+Extended = List (List ℕ × List ℕ)
+
+abbrev attributes_of : Option ℕ → Option (ℕ × ℕ) → Option ℕ → Option (ℕ × ℕ) → Option Extended → Attrs
 attributes_of size owner permissions times extended =
     record { size = size; owner = owner; permissions = permissions; times = times; extended = extended }
 
 plain-said : (size : Option ℕ) (owner : Option (ℕ × ℕ)) (permissions : Option ℕ) (times : Option (ℕ × ℕ))
-    → (extended : Option (List (List ℕ × List ℕ))) → is_plain (attributes_of size owner permissions times extended) ≡ true
+    → (extended : Option Extended) → is_plain (attributes_of size owner permissions times extended) ≡ true
     → IsSaid (attributes_of size owner permissions times extended)
 plain-said (Some size) (Some owner) (Some permissions) None None is =
     record { size = size; uid = owner.0; gid = owner.1; permissions = permissions; is = refl }
@@ -166,7 +169,14 @@ item-spelled id text size uid gid permissions small bytes short fits = record {
     small,
     (
       lit< tt,
-      (record { filename = record { bytes_fit = bytes; length_fits = omega (arith, short) }; longname = empty; attrs = fits }, tt),
+      (
+        record {
+          filename = record { bytes_fit = bytes; length_fits = omega (arith, short) };
+          longname = empty;
+          attrs = fits;
+        },
+        tt,
+      ),
     ),
   );
   whole = omega (arith, item-length id text size uid gid permissions, behind_said text size uid gid permissions, short);
@@ -183,7 +193,8 @@ first-found name attrs left =
 first-left : (name : Name) (size uid gid permissions : ℕ) (left : Left)
     → is_left ((name, said size uid gid permissions) ∷ left) (item_of name (said size uid gid permissions)) ≡ true
 first-left name size uid gid permissions left =
-    ap (λ found. has_attributes found (said size uid gid permissions)) (first-found name (said size uid gid permissions) left)
+    ap (λ found. has_attributes found (said size uid gid permissions))
+    (first-found name (said size uid gid permissions) left)
     ∙ same-said size uid gid permissions
 
 first-sayable : (id : ℕ) (name : Name) (size uid gid permissions : ℕ) (left : Left) → id < 2 ^ 32
@@ -236,8 +247,8 @@ handle-length id handle = omega arith
 is-new : (handles : Handles) (handle : List ℕ) → length handle ≤ handle_limit → open_at handles handle ≡ None
     → says (opens handles) (replies.Handle handle) ≡ true
 is-new handles handle short absent =
-    and_from (nat_le (length handle) handle_limit) (not (is_open handles handle)) (le-leb (length handle) handle_limit short)
-    (ap (λ (found : Option _). not (is_some found)) absent)
+    and_from (nat_le (length handle) handle_limit) (not (is_open handles handle))
+    (le-leb (length handle) handle_limit short) (ap (λ (found : Option _). not (is_some found)) absent)
 
 handle-sayable : (id : ℕ) (handles : Handles) (handle : List ℕ) → id < 2 ^ 32 → AreBytes handle
     → length handle ≤ handle_limit → open_at handles handle ≡ None → IsSayable id (opens handles)

@@ -1,9 +1,10 @@
 -- What the replies to requests through handles say can be said.
 use Rattle.std.proofs.Common.{◌≡◌, nat_lt, ℕ, zero, suc, ◌^◌, ◌<◌, ◌≤◌, Bool, true, false, if◌then◌else◌, min, List, []}
-use Rattle.std.proofs.Common.{◌∷◌, length, take, drop, Option, Some, None, refl, ap, arith}
+use Rattle.std.proofs.Common.{◌∷◌, length, take, drop, Option, Some, None, refl, ap, IsTrue, arith}
 use Rattle.std.specs.Ordering.{nat_cmp}
 use Rattle.std.specs.FinMap.{nat_cmp-IsAntisymmetric}
 use Rattle.std.proofs.lemmas.List.{length-take}
+use Rattle.sftp_wire.specs.declared.open_flags.OpenFlags.{OpenFlags}
 use Rattle.sftp_wire.specs.declared.packets.Ask.{Ask}
 use Rattle.sftp_wire.specs.declared.packets.Ask.TheVariants.{Read, Fstat}
 use Rattle.sftp_wire.specs.Spelling.{AreBytes}
@@ -11,19 +12,20 @@ use Rattle.sftp_path.specs.Place.{bytes_cmp}
 use Rattle.sftp_path.proofs.Order.{bytes_cmp-same}
 use Rattle.sftp_treefile.specs.declared.limits.TreeLimits.{TreeLimits}
 use Rattle.sftp_treefile.specs.Limits.{usual_limits}
+use Rattle.sftp_treefile.specs.TreeFile.{are_bytes}
 use Rattle.sftp_tree.specs.declared.file_contents.Content.{Content}
 use Rattle.sftp_tree.specs.Tree.{IsContent, content_at, limits}
 use Rattle.sftp_tree.specs.Attributes.{shown_content}
 use Rattle.sftp_tree.specs.FileChanges.{bytes_at}
 use Rattle.sftp_tree.proofs.PlaceTables.Each.{each-get}
+use Rattle.sftp_tree.proofs.WellFormedTrees.Fields.{bytes-dropped}
 use Rattle.sftp_handles.specs.declared.opens.Open.{Open}
 use Rattle.sftp_handles.specs.declared.opens.Open.TheVariants.{File, Listing}
-use Rattle.sftp_wire.specs.declared.open_flags.OpenFlags.{OpenFlags}
 use Rattle.sftp_handles.specs.Handles.{Left, open_at}
 use Rattle.sftp_handles.specs.State.{State, Good, IsHandle, IsLeft}
 use Rattle.sftp_handles.specs.Seen.{Needed, anything, a_file, a_listing, seen, seen_among, seen_file}
 use Rattle.sftp_handles.specs.Replies.{gives, ended}
-use Rattle.sftp_handles.specs.HandleRequests.{row_of, said_of, listed, read_from}
+use Rattle.sftp_handles.specs.HandleRequests.{row_of, said_of, listed}
 use Rattle.sftp_handles.specs.Requests.{seen_by}
 use Rattle.sftp_handles.proofs.FirstListings.{content-shown}
 use Rattle.sftp_handles.proofs.TotalSteps.PlaceTexts.{bytes-by}
@@ -38,12 +40,6 @@ bytes-taken zero (b ∷ bytes) are = tt
 bytes-taken (suc n) [] are = tt
 bytes-taken (suc n) (b ∷ bytes) are = (are.0, bytes-taken n bytes are.1)
 
-bytes-dropped : (n : ℕ) (bytes : List ℕ) → AreBytes bytes → AreBytes (drop n bytes)
-bytes-dropped zero [] are = are
-bytes-dropped zero (b ∷ bytes) are = are
-bytes-dropped (suc n) [] are = are
-bytes-dropped (suc n) (b ∷ bytes) are = bytes-dropped n bytes are.1
-
 few-taken : (len limit : ℕ) (bytes : List ℕ) → length (take (min len limit) bytes) ≤ limit
 few-taken len limit bytes = omega (arith, length-take (min len limit) bytes)
 
@@ -51,12 +47,13 @@ module _ (s : State) (id : ℕ) (good : Good s) (small : id < 2 ^ 32) where
   read-limit : (limits s.tree).read_bytes ≡ usual_limits.read_bytes
   read-limit = ap (λ (bounds : TreeLimits). bounds.read_bytes) good.tree.well_formed.limits
 
-  read-by : (offset len : ℕ) (bytes : List ℕ) → AreBytes bytes → (b : Bool)
+  read-by : (offset len : ℕ) (bytes : List ℕ) → IsTrue (are_bytes bytes) → (b : Bool)
       → IsSayable id (if b then gives (bytes_at (limits s.tree) offset len bytes) else ended)
   read-by offset len bytes are true =
       let few = few-taken len (limits s.tree).read_bytes (drop offset bytes) in
       data-sayable id (bytes_at (limits s.tree) offset len bytes) small
-      (bytes-taken (min len (limits s.tree).read_bytes) (drop offset bytes) (bytes-dropped offset bytes are))
+      (bytes-taken (min len (limits s.tree).read_bytes) (drop offset bytes)
+      (bytes-by (drop offset bytes) (bytes-dropped offset bytes are)))
       (omega (arith, few, read-limit))
   read-by offset len bytes are false = ended-sayable id small
 
@@ -66,7 +63,7 @@ module _ (s : State) (id : ℕ) (good : Good s) (small : id < 2 ^ 32) where
   told-sayable (Read handle offset len) number content there =
       let is = each-get nat_cmp nat_cmp-IsAntisymmetric (λ e. IsContent e.1) s.tree.files number content
       good.tree.well_formed.contents there in
-      read-by offset len content.bytes (bytes-by content.bytes is.1) (nat_lt offset (length content.bytes))
+      read-by offset len content.bytes is.1 (nat_lt offset (length content.bytes))
   told-sayable (Fstat handle) number content there =
       let shown = content-shown s.tree number content good.tree there in
       attributes-sayable id (shown_content content) small shown.0 shown.1

@@ -124,7 +124,8 @@ sayable paths-lead s id (asks.Lstat path) good small bytes free =
 sayable paths-lead s id (asks.Readlink path) good small bytes free =
     path-sayable s id good small (asks.Readlink path) (λ place. target-sayable s id good small path place free)
 sayable paths-lead s id (asks.Realpath path) good small bytes free =
-    path-sayable s id good small (asks.Realpath path) (λ place. text-sayable s id good small paths-lead path place bytes)
+    path-sayable s id good small (asks.Realpath path)
+    (λ place. text-sayable s id good small paths-lead path place bytes)
 sayable paths-lead s id other good small bytes free =
     path-sayable s id good small other (λ place leads. ok-sayable id small)
 
