@@ -12,4 +12,5 @@ pub mod SeenCauses
 pub mod SeenAnswers
 pub mod Starts
 pub mod HandleRoom
+pub mod Opened
 pub mod TotalSteps

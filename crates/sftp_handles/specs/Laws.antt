@@ -1,7 +1,8 @@
 -- What the laws of steps name.
-use Rattle.std.specs.Prelude.{ℕ, ◌<◌, ◌^◌, Bool, true, false, List, IfSome, IsTrue}
+use Rattle.std.specs.Prelude.{◌≡◌, ℕ, ◌<◌, ◌^◌, Bool, true, false, List, IfSome, IsTrue}
 use Rattle.sftp_wire.specs.declared.packets.Ask.{Ask}
 use Rattle.sftp_wire.specs.declared.packets.Ask.TheVariants as asks
+use Rattle.sftp_wire.specs.declared.packets.Answer.TheVariants.{Handle}
 use Rattle.sftp_wire.specs.declared.packets.Packet.TheVariants.{Reply as reply_packet}
 use Rattle.sftp_wire.specs.declared.packets.Request.{Request}
 use Rattle.sftp_wire.specs.declared.packets.Reply.{Reply}
@@ -10,7 +11,8 @@ use Rattle.sftp_treefile.specs.TreeFile.{are_bytes}
 use Rattle.sftp_tree.specs.Requests.{path_of, outcome}
 use Rattle.sftp_handles.specs.declared.opens.Open.{Open}
 use Rattle.sftp_handles.specs.Handles.{with_open}
-use Rattle.sftp_handles.specs.State.{State}
+use Rattle.sftp_handles.specs.State.{State, settled}
+use Rattle.sftp_handles.specs.Requests.{target}
 use Rattle.sftp_handles.specs.Allowed.{Allowed}
 
 -- ---- requests that can be answered
@@ -39,3 +41,10 @@ is_opening other = false
 -- exist in it.
 abbrev pub asked_state : State → Ask → List ℕ → Open → State
 asked_state s ask handle it = record { tree = outcome s.tree ask; handles = with_open s.handles handle it }
+
+-- The state after such a request, answered by this handle, is the state asked for in which this is open under it; files
+-- that nothing holds any more are removed.
+abbrev pub IsOpenedBy : State → Ask → List ℕ → Open → Type 0
+IsOpenedBy s ask handle it =
+    target s ask (Handle handle)
+    ≡ settled (asked_state s ask handle it).tree (asked_state s ask handle it).handles

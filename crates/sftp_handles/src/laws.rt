@@ -18,7 +18,7 @@ ghost use Rattle.sftp_handles.specs.Replies.{struck};
 ghost use Rattle.sftp_handles.specs.State.{State, Good, settled, has_handle_left, handles_fit, state_fits};
 ghost use Rattle.sftp_handles.specs.Requests.{causes};
 ghost use Rattle.sftp_handles.specs.Allowed.{Allowed, step};
-ghost use Rattle.sftp_handles.specs.Laws.{IsAskable, IsAnswerable, is_opening, asked_state};
+ghost use Rattle.sftp_handles.specs.Laws.{IsAskable, IsAnswerable, is_opening, asked_state, IsOpenedBy};
 
 use sftp_tree::laws::walks_give_places;
 
@@ -79,8 +79,9 @@ pub fn names_are_struck_one_by_one()
         struck left (name ∷ names) ≡ struck (without name_cmp left name) names }
 {}
 
-/// There is room for a handle exactly if a state with a new handle more has not too many. So a request that opens
-/// something, and that no other cause refuses, has the cause `NoRoom` exactly if the state asked for breaks a limit.
+/// One more handle may be opened exactly if the state with a new handle, whichever it is, has not too many. A request
+/// that opens something, and that no other cause refuses, has the cause `NoRoom` exactly if the state that it asks for
+/// breaks a limit.
 pub fn handles_have_room()
     ensures left { (s : State) (handle : List ℕ) (it : Open) → open_at s.handles handle ≡ None →
         has_handle_left s
@@ -89,3 +90,12 @@ pub fn handles_have_room()
         IsTrue (is_none (plain_causes s.tree ask)) → open_at s.handles handle ≡ None →
         causes s ask NoRoom ≡ not (state_fits (asked_state s ask handle it)) }
 {}
+
+/// A request that opens something, and that no cause refuses, opens a file or a listing under the handle that its reply
+/// gives.
+pub fn handles_open_something()
+    ensures { (s : State) (ask : Ask) (handle : List ℕ) → Good s → IsTrue (is_opening ask) →
+        IsTrue (is_none (causes s ask)) → (it : Open) × IsOpenedBy s ask handle it }
+{
+    walks_give_places();
+}
