@@ -4,4 +4,5 @@ pub mod NewHandles
 pub mod SaidReplies
 pub mod SeenReplies
 pub mod PathReplies
+pub mod SpelledRequests
 pub mod SomeReplies

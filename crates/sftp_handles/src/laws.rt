@@ -4,7 +4,8 @@ ghost use Rattle.std.specs.Prelude.{◌≡◌, ◌↔◌, ◌<◌, not, ℕ, Lis
 ghost use Rattle.sftp_wire.specs.declared.packets.Ask.{Ask};
 ghost use Rattle.sftp_wire.specs.declared.packets.Request.{Request};
 ghost use Rattle.sftp_wire.specs.declared.packets.Reply.{Reply};
-ghost use Rattle.sftp_wire.specs.Spelling.{FitsAsk};
+ghost use Rattle.sftp_wire.specs.declared.packets.Packet.TheVariants.{Request as request_packet};
+ghost use Rattle.sftp_wire.specs.Spelling.{FitsAsk, HasSpelling};
 ghost use Rattle.sftp_tree.specs.declared.file_contents.Content.{Content};
 ghost use Rattle.sftp_tree.specs.declared.causes.Cause.TheVariants.{NoRoom};
 ghost use Rattle.sftp_tree.specs.Tree.{Tree, IsKept, HasFile, fits, limits, content_fits, with_content};
@@ -56,6 +57,11 @@ pub fn some_reply()
 {
     walks_give_places();
 }
+
+/// Each request that can be encoded can be asked: so `some_reply` holds of it.
+pub fn encoded_requests_are_askable()
+    ensures { (request : Request) → HasSpelling (request_packet request) → IsAskable request }
+{}
 
 /// A good state is settled: its files are pinned as they are open, and each has a name or is open.
 pub fn good_states_are_settled()
