@@ -12,5 +12,5 @@ pub mod SeenCauses
 pub mod SeenAnswers
 pub mod Starts
 pub mod HandleRoom
-pub mod Opened
+pub mod NewHandles
 pub mod TotalSteps
