@@ -16,3 +16,7 @@ pub mod OpenChanges
 pub mod StillAnswers
 pub mod OtherAnswers
 pub mod Opened
+pub mod Starts
+pub mod HandleRoom
+pub mod NewHandles
+pub mod TotalSteps

@@ -5,6 +5,7 @@ pub mod Replies
 pub mod HandleRequests
 pub mod Requests
 pub mod Allowed
+pub mod Laws
 pub mod Examples
 pub mod Given
 pub mod Found
