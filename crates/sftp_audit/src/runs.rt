@@ -35,10 +35,7 @@ pub fn end_of(start: Tree, exchanges: &[Exchange<'_>]) -> Result<Tree, Refusal>
 /// # Errors
 ///
 /// `NotAllowed` at the record of the first reply that is not allowed, and `NoMemory` if memory runs out.
-fn run(
-    session: &mut Session<GivenTable>,
-    exchanges: &[Exchange<'_>],
-) -> Result<(), Refusal>
+fn run(session: &mut Session<GivenTable>, exchanges: &[Exchange<'_>]) -> Result<(), Refusal>
     ensures ran { OnOk result (Run Allowed session.old (leading_pairs (ledger_of exchanges.now)) session.new) }
     ensures refused { IfErr result (λ e. e ≢ no_memory → (end : State) →
         Run Allowed session.old (leading_pairs (ledger_of exchanges.now)) end → ⊥) }

@@ -48,7 +48,7 @@ returns-clause-accepted c =
       events,
       end,
       accounts_made c.args.tree.now c.args.transcript.now start events end exchanges c.in_ok-start.ensures.found
-      c.in_ok-events.ensures.found paired ended,
+          c.in_ok-events.ensures.found paired ended,
       c.in_ok-tree.ensures,
       omega (arith, ap length paired.exchanges_are, length-map exchanges exchange_of, c.in_ok-exchanges.exchanges.ok.0),
     )
