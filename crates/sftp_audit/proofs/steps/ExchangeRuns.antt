@@ -21,8 +21,9 @@ rest_is : (exchanges : List RecordedExchange) (i : ℕ) (x : RecordedExchange) (
 rest_is exchanges i x r lt is given =
     let front : drop i exchanges ≡ x ∷ drop (i + 1) exchanges =
     drop_more exchanges i x lt ∙ ap (λ (y : RecordedExchange). y ∷ drop (i + 1) exchanges) (sym is) in
+    let behind = ledger_of (drop (i + 1) exchanges) in
     ap (λ (xs : List RecordedExchange). leading_pairs (ledger_of xs)) front
-    ∙ ap (λ (q : Option RecordedReply). leading_pairs ((x.request.now, option_map reply_of q) ∷ ledger_of (drop (i + 1) exchanges))) given
+    ∙ ap (λ (q : Option RecordedReply). leading_pairs ((x.request.now, option_map reply_of q) ∷ behind)) given
 
 -- a reply that is allowed takes the run on
 pub run_on : (exchanges : List RecordedExchange) (i : ℕ) (x : RecordedExchange) (answer : RecordedReply)

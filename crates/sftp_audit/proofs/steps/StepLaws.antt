@@ -75,7 +75,9 @@ settled_from turns [] close = refl
 settled_from turns (Asked request ∷ events) close =
     let same : (request.id == request.id) ≡ true = eq-eqb request.id request.id refl in
     let found = asked_waits request.id (turns request.id) events
-    (let g : turn_after request.id (after_request (turns request.id)) events ≡ closed = rw same at (close request.id) in g) in
+    (let g : turn_after request.id (after_request (turns request.id)) events ≡ closed =
+    rw same at (close request.id) in
+    g) in
     rw found.1 (ap suc (settled_from (λ id. after_event id (Asked request) (turns id)) events (λ id. close id)))
 settled_from turns (Replied reply ∷ events) close =
     settled_from (λ id. after_event id (Replied reply) (turns id)) events (λ id. close id)

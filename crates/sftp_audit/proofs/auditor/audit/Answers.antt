@@ -5,19 +5,21 @@ use Rattle.sftp_audit.specs.declared.errors.Refusal.TheVariants as refusals
 use Rattle.sftp_audit.specs.Explained.{Matching}
 use Rattle.sftp_audit.specs.Ledger.{IsComplete}
 use Rattle.sftp_audit.specs.Exchanges.{exchange_of, ledger_of}
-use Rattle.sftp_audit.specs.Audit.{error_of_tree, error_of_transcript, error_of_session}
+use Rattle.sftp_audit.specs.Audit.{HasStart, error_of_tree, error_of_transcript, error_of_session}
 use Rattle.sftp_audit.proofs.Accounts.{refused_by, reason_by, tree_reason, transcript_reason, session_reason}
 use Rattle.sftp_audit.proofs.Accounts.{turns_made, run_made, IsEnd, accounts_made}
 use Rattle.sftp_audit.proofs.auditor.audit.Goals as goal
 
 pub returns-in_err-events-clause-refused : goal.returns-in_err-events-clause-refused
 returns-in_err-events-clause-refused c =
-    refused_by c.args.tree.now c.args.transcript.now c.from_residual-in_err-events.result error_of_transcript transcript_errors.NoMemory c.in_err-events.field-0.0 c.from_residual-in_err-events.ensures.1 refl
+    refused_by c.args.tree.now c.args.transcript.now c.from_residual-in_err-events.result error_of_transcript
+    transcript_errors.NoMemory c.in_err-events.field-0.0 c.from_residual-in_err-events.ensures.1 refl
     (λ other start events end told. other (c.in_err-events.ensures.only events told.events_are))
 
 pub returns-in_err-exchanges-clause-refused : goal.returns-in_err-exchanges-clause-refused
 returns-in_err-exchanges-clause-refused c =
-    refused_by c.args.tree.now c.args.transcript.now c.from_residual-in_err-exchanges.result error_of_session refusals.NoMemory c.in_err-exchanges.field-0.0 c.from_residual-in_err-exchanges.ensures.1 refl
+    refused_by c.args.tree.now c.args.transcript.now c.from_residual-in_err-exchanges.result error_of_session
+    refusals.NoMemory c.in_err-exchanges.field-0.0 c.from_residual-in_err-exchanges.ensures.1 refl
     (λ other start events end told.
     let turns = turns_made c.args.tree.now c.args.transcript.now start events c.in_ok-events.events.items end
     (c.in_ok-events.ensures.only events told.events_are) told in
@@ -42,7 +44,8 @@ returns-clause-accepted c =
     let events = c.in_ok-events.events.items in
     let exchanges = c.in_ok-exchanges.exchanges.items in
     let end = c.in_ok-end.end in
-    let paired : IsComplete (ledger_of exchanges) events = rw c.as_slice.ensures.value at c.in_ok-exchanges.ensures.paired in
+    let paired : IsComplete (ledger_of exchanges) events =
+    rw c.as_slice.ensures.value at c.in_ok-exchanges.ensures.paired in
     let ended : IsEnd start exchanges end = rw c.as_slice-2.ensures.value at c.in_ok-end.ensures.ended in (
       start,
       events,
@@ -56,22 +59,27 @@ returns-clause-accepted c =
 pub returns-in_err-start-clause-reasons : goal.returns-in_err-start-clause-reasons
 returns-in_err-start-clause-reasons c =
     let error = c.in_err-start.field-0.0 in
-    reason_by c.args.tree.now c.args.transcript.now c.from_residual.result error_of_tree error c.from_residual.ensures.1 (tree_reason c.args.tree.now c.args.transcript.now error c.in_err-start.ensures.only)
+    reason_by c.args.tree.now c.args.transcript.now c.from_residual.result error_of_tree error
+    c.from_residual.ensures.1 (tree_reason c.args.tree.now c.args.transcript.now error c.in_err-start.ensures.only)
 
 pub returns-in_err-events-clause-reasons : goal.returns-in_err-events-clause-reasons
 returns-in_err-events-clause-reasons c =
     let error = c.in_err-events.field-0.0 in
-    reason_by c.args.tree.now c.args.transcript.now c.from_residual-in_err-events.result error_of_transcript error c.from_residual-in_err-events.ensures.1
-    (transcript_reason c.args.tree.now c.args.transcript.now error (c.in_ok-start.start, c.in_ok-start.ensures.found) c.in_err-events.ensures.only)
+    let start : HasStart c.args.tree.now = (c.in_ok-start.start, c.in_ok-start.ensures.found) in
+    reason_by c.args.tree.now c.args.transcript.now c.from_residual-in_err-events.result error_of_transcript error
+    c.from_residual-in_err-events.ensures.1
+    (transcript_reason c.args.tree.now c.args.transcript.now error start c.in_err-events.ensures.only)
 
 pub returns-in_err-exchanges-clause-reasons : goal.returns-in_err-exchanges-clause-reasons
 returns-in_err-exchanges-clause-reasons c =
     let refusal = c.in_err-exchanges.field-0.0 in
-    reason_by c.args.tree.now c.args.transcript.now c.from_residual-in_err-exchanges.result error_of_session refusal c.from_residual-in_err-exchanges.ensures.1
+    reason_by c.args.tree.now c.args.transcript.now c.from_residual-in_err-exchanges.result error_of_session refusal
+    c.from_residual-in_err-exchanges.ensures.1
     (session_reason c.args.tree.now c.args.transcript.now refusal (c.in_ok-start.start, c.in_ok-start.ensures.found))
 
 pub returns-in_err-end-clause-reasons : goal.returns-in_err-end-clause-reasons
 returns-in_err-end-clause-reasons c =
     let refusal = c.in_err-end.field-0.0 in
-    reason_by c.args.tree.now c.args.transcript.now c.from_residual-in_err-end.result error_of_session refusal c.from_residual-in_err-end.ensures.1
+    reason_by c.args.tree.now c.args.transcript.now c.from_residual-in_err-end.result error_of_session refusal
+    c.from_residual-in_err-end.ensures.1
     (session_reason c.args.tree.now c.args.transcript.now refusal (c.in_ok-start.start, c.in_ok-start.ensures.found))
