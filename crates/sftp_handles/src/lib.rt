@@ -19,6 +19,7 @@ pub mod pin_laws;
 mod reading;
 mod session_causes;
 mod sessions;
+mod shown;
 mod tables;
 
 pub use given_table::GivenTable;
