@@ -12,7 +12,7 @@ use Rattle.sftp_tree.specs.declared.nodes.Node.{Node}
 use Rattle.sftp_tree.specs.declared.nodes.Node.TheVariants as nodes
 use Rattle.sftp_tree.specs.declared.plans.Plan.{Plan}
 use Rattle.sftp_tree.specs.declared.plans.Plan.TheVariants.{Nothing, Put, Remove as Take, Move, SetOwner, SetFile, Make, Truncate}
-use Rattle.sftp_tree.specs.Tree.{Tree, IsTrimmed, IsNode, IsContent, fits, node_at, content_at, is_taken, is_directory, is_file, has_entries, trim}
+use Rattle.sftp_tree.specs.Tree.{Tree, IsKept, IsNode, IsContent, fits, node_at, content_at, is_taken, is_directory, is_file, has_entries, trim}
 use Rattle.sftp_tree.specs.Attributes.{directory_owner, file_owner, changed_owner}
 use Rattle.sftp_tree.specs.OpenFlags.{truncates}
 use Rattle.sftp_tree.specs.PlaceCauses.{are_one, goes_inside}
@@ -72,7 +72,7 @@ pub record CanMake (t : Tree) (place : Place) (content : Content) : Type 0 where
   pub room : IsTrue (fits (with_new_file t place content))
 
 abbrev pub IsReady : Tree → Plan → Type 0
-IsReady t Nothing = IsTrimmed t
+IsReady t Nothing = IsKept t
 IsReady t (Put place node) = CanPut t place node
 IsReady t (Take place) = CanTake t place
 IsReady t (Move old new) = CanMove t old new

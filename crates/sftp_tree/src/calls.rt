@@ -30,7 +30,7 @@ impl Tree {
         requires { IsTrue (requests.has_step ask.now) }
         ensures free { OnOk result (IsFree self.old ask.now) }
         ensures done { OnOk result (self.new ≡ requests.after self.old ask.now) }
-        ensures valid { tree.IsKept self.new }
+        ensures valid { OnOk result (tree.IsKept self.new) }
         ensures refused { IfErr result (λ refused. IsRefusal self.old ask.now refused) }
         ensures kept { OnErr result (self.new ≡ self.old) }
     {
@@ -197,7 +197,7 @@ impl Tree {
         ensures done { OnOk result (self.new ≡ requests.after self.old (Open path.now flags attrs.now)) }
         ensures number { IfOk result
             (λ number. requests.file_to self.old (Open path.now flags attrs.now) ≡ Some number) }
-        ensures valid { tree.IsKept self.new }
+        ensures valid { OnOk result (tree.IsKept self.new) }
         ensures refused { IfErr result (λ refused. IsRefusal self.old (Open path.now flags attrs.now) refused) }
         ensures kept { OnErr result (self.new ≡ self.old) }
     {

@@ -56,7 +56,7 @@ impl Tree {
         requires { tree.HasFile self.old.files number }
         ensures room { OnOk result (IsTrue (changes.write_fits (tree.limits self.old) offset new.now)) }
         ensures done { OnOk result (self.new ≡ changes.after_write self.old number offset new.now) }
-        ensures valid { tree.IsKept self.new }
+        ensures valid { OnOk result (tree.IsKept self.new) }
         ensures refused { IfErr result
             (changes.IsRoomRefusal (changes.write_fits (tree.limits self.old) offset new.now)) }
         ensures kept { OnErr result (self.new ≡ self.old) }
@@ -87,7 +87,7 @@ impl Tree {
         requires { tree.HasFile self.old.files number }
         ensures room { OnOk result (IsTrue (room.size_fits (tree.limits self.old) attrs.now.size)) }
         ensures done { OnOk result (self.new ≡ changes.after_set self.old number attrs.now) }
-        ensures valid { tree.IsKept self.new }
+        ensures valid { OnOk result (tree.IsKept self.new) }
         ensures refused { IfErr result (changes.IsRoomRefusal (room.size_fits (tree.limits self.old) attrs.now.size)) }
         ensures kept { OnErr result (self.new ≡ self.old) }
     {

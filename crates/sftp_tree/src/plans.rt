@@ -219,6 +219,7 @@ impl Tree {
         requires { spec.IsReady self.old plan }
         ensures ok { OnOk result (self.new ≡ tree.trim (spec.changed self.old plan.entry)) }
         ensures err { OnErr result (self.new ≡ self.old) }
+        ensures valid { OnOk result (tree.IsKept self.new) }
     {
         match plan {
             Plan::Nothing => Ok(()),
@@ -263,6 +264,7 @@ impl Tree {
             (self.new
             ≡ tree.trim (changes.with_emptied_file self.old number (tree.content_at self.old.files number))) }
         ensures err { OnErr result (self.new ≡ self.old) }
+        ensures valid { OnOk result (tree.IsKept self.new) }
     {
         let attrs = Attrs {
             size: Some(0),

@@ -158,6 +158,7 @@ impl Tree {
         ensures ok { OnOk result
             (self.new ≡ tree.trim (record self.old { names = tree.with_node self.old.names place node })) }
         ensures err { OnErr result (self.new ≡ self.old) }
+        ensures valid { OnOk result (tree.IsKept self.new) }
     {
         let named = file_named(Some(&node));
         self.names.put(&place, node)?;
@@ -174,6 +175,7 @@ impl Tree {
         requires { CanMake self.old place content }
         ensures ok { OnOk result (self.new ≡ tree.trim (changes.with_new_file self.old place content)) }
         ensures err { OnErr result (self.new ≡ self.old) }
+        ensures valid { OnOk result (tree.IsKept self.new) }
     {
         let number = FileNo::new(self.made);
         self.files.put(number, content)?;
@@ -191,7 +193,8 @@ impl Tree {
         requires taken { IsTrue (tree.is_taken (tree.node_at self.old.names place.now)) }
         requires below_root { is_root place.now ≡ false }
         requires empty { tree.has_entries self.old.names place.now ≡ false }
-        ensures { self.new ≡ tree.trim (record self.old { names = tree.without_node self.old.names place.now }) }
+        ensures removed { self.new ≡ tree.trim (record self.old { names = tree.without_node self.old.names place.now }) }
+        ensures valid { tree.IsKept self.new }
     {
         let gone = self.names.remove(place);
         self.files.forget_name(file_named(gone.as_ref()));
@@ -215,6 +218,7 @@ impl Tree {
         requires fits { IsTrue (tree.fits (changes.put_in_its_stead self.old old.now new)) }
         ensures ok { OnOk result (self.new ≡ tree.trim (changes.put_in_its_stead self.old old.now new)) }
         ensures err { OnErr result (self.new ≡ self.old) }
+        ensures valid { OnOk result (tree.IsKept self.new) }
     {
         let gone = self.names.move_node(old, &new)?;
         self.files.forget_name(file_named(gone.as_ref()));
@@ -225,8 +229,9 @@ impl Tree {
     pub(crate) fn set_owner(&mut self, place: &Place, owner: Owner)
         requires directory { IsTrue (tree.is_directory (tree.node_at self.old.names place.now)) }
         requires owner { IsOwner owner }
-        ensures { self.new
+        ensures owned { self.new
             ≡ tree.trim (record self.old { names = tree.with_node self.old.names place.now (Dir owner) }) }
+        ensures valid { tree.IsKept self.new }
     {
         self.names.set_owner(place, owner);
     }
@@ -245,6 +250,7 @@ impl Tree {
             ≡ tree.trim (changes.with_changed_file self.old attrs.now number (tree.content_at self.old.files number))) }
         ensures changed { OnOk result (self.new ≡ file_changes.after_set self.old number attrs.now) }
         ensures err { OnErr result (self.new ≡ self.old) }
+        ensures valid { OnOk result (tree.IsKept self.new) }
     {
         self.files.change_at(number, attrs)?;
         Ok(())
@@ -264,6 +270,7 @@ impl Tree {
         requires { IsTrue (file_changes.write_fits (tree.limits self.old) offset new.now) }
         ensures ok { OnOk result (self.new ≡ file_changes.after_write self.old number offset new.now) }
         ensures err { OnErr result (self.new ≡ self.old) }
+        ensures valid { OnOk result (tree.IsKept self.new) }
     {
         self.files.write_at(number, offset, new)?;
         Ok(())

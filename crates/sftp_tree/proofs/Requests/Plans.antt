@@ -90,13 +90,13 @@ done-set : (t : Tree) (attrs : Attrs) (place : Place) (found : Option Node) (pla
     → node_at t.names place ≡ found → IsTrue (fits (with_attributes t attrs place found))
     → IsSetting found place attrs plan → IsDone t (with_attributes t attrs place found) plan
 done-set t attrs place None plan kept there room is =
-    subst (IsDone t t) (sym is) (record { ready = kept.trimmed; done = refl })
+    subst (IsDone t t) (sym is) (record { ready = kept; done = refl })
 done-set t attrs place (Some (nodes.Dir owner)) plan kept there room is =
     subst (IsDone t (with_attributes t attrs place (Some (nodes.Dir owner)))) (sym is.0)
     (record { ready = record { directory = ap is_directory there; is_owner = is.1 }; done = refl })
 done-set t attrs place (Some (nodes.File number)) plan kept there room is = done-set-file t attrs number plan room is
 done-set t attrs place (Some (nodes.Link target)) plan kept there room is =
-    subst (IsDone t t) (sym is) (record { ready = kept.trimmed; done = refl })
+    subst (IsDone t t) (sym is) (record { ready = kept; done = refl })
 
 done-truncate : (t : Tree) (number : ℕ) (empties : Bool) (plan : Plan) → IsKept t
     → IsTrue (fits (if empties then with_emptied_file t number (content_at t.files number) else t))
@@ -105,7 +105,7 @@ done-truncate : (t : Tree) (number : ℕ) (empties : Bool) (plan : Plan) → IsK
 done-truncate t number true plan kept room is =
     subst (IsDone t (with_emptied_file t number (content_at t.files number))) (sym is) (record { ready = room; done = refl })
 done-truncate t number false plan kept room is =
-    subst (IsDone t t) (sym is) (record { ready = kept.trimmed; done = refl })
+    subst (IsDone t t) (sym is) (record { ready = kept; done = refl })
 
 -- neither a directory nor a link is changed when it is opened
 done-open : (t : Tree) (flags : ℕ) (attrs : Attrs) (place : Place) (found : Option Node) (plan : Plan)
@@ -127,9 +127,9 @@ done-open t flags attrs place None plan there well owner room is =
 done-open t flags attrs place (Some (nodes.File number)) plan there well owner room is =
     done-truncate t number (truncates flags) plan well.kept room is
 done-open t flags attrs place (Some (nodes.Dir other)) plan there well owner room is =
-    subst (IsDone t t) (sym is) (record { ready = well.kept.trimmed; done = refl })
+    subst (IsDone t t) (sym is) (record { ready = well.kept; done = refl })
 done-open t flags attrs place (Some (nodes.Link goal)) plan there well owner room is =
-    subst (IsDone t t) (sym is) (record { ready = well.kept.trimmed; done = refl })
+    subst (IsDone t t) (sym is) (record { ready = well.kept; done = refl })
 
 pub done-at : (t : Tree) (ask : Ask) (place : Place) (plan : Plan) → IsPlaceOf t place → FreeAt t ask place → HasNode t ask → IsPlanAt t ask place plan → IsDone t (outcome_at t ask place) plan
 done-at t (Mkdir path attrs) place plan well free good is =
@@ -144,7 +144,7 @@ done-at t (Setstat path attrs) place plan well free good is =
     done-set t attrs place (node_at t.names place) plan well.kept refl free.room is
 done-at t (Open path flags attrs) place plan well free good is =
     done-open t flags attrs place (node_at t.names place) plan refl well good free.room is
-done-at t other place plan well free good is = subst (IsDone t t) (sym is) (record { ready = well.kept.trimmed; done = refl })
+done-at t other place plan well free good is = subst (IsDone t t) (sym is) (record { ready = well.kept; done = refl })
 
 -- ---- with the two places that both paths lead to
 
@@ -170,7 +170,7 @@ done-move t oldpath newpath old new plan well free is =
     })
 
 done-exchange : (t : Tree) (old new : Place) (plan : Plan) (one : Bool) → are_one t.names old new ≡ one → IsPlaceOf t new → ((c : Cause) → leaving_causes t.names old c ≡ false) → ((c : Cause) → giving_causes new c ≡ false) → ((c : Cause) → exchanging_causes t.names old new c ≡ false) → IsTrue (fits (if one then t else put_in_its_stead t old new)) → plan ≡ (if one then Nothing else Move old new) → IsDone t (if one then t else put_in_its_stead t old new) plan
-done-exchange t old new plan true apart well here there both room is = subst (IsDone t t) (sym is) (record { ready = well.kept.trimmed; done = refl })
+done-exchange t old new plan true apart well here there both room is = subst (IsDone t t) (sym is) (record { ready = well.kept; done = refl })
 done-exchange t old new plan false apart well here there both room is =
     let leave = may-leave t old here in
     let may = may-replace t old new well.kept.well_formed leave both apart in
@@ -201,7 +201,7 @@ done-between t (PosixRename oldpath newpath) old new plan well free is =
 done-between t (Hardlink oldpath newpath) old new plan well free is =
     let file = file-place (node_at t.names old) free.at_old in
     done-link t old new plan (node_at t.names old) file.0 refl file.1 well (free-place (node_at t.names new) free.at_new) free.room is
-done-between t other old new plan well free is = subst (IsDone t t) (sym is) (record { ready = well.kept.trimmed; done = refl })
+done-between t other old new plan well free is = subst (IsDone t t) (sym is) (record { ready = well.kept; done = refl })
 
 -- only of a file is a name made
 pub file-at : (t : Tree) (ask : Ask) (old new : Place) → FreeBetween t ask old new → IsFileAt t ask old

@@ -31,3 +31,6 @@ returns-clause-ok c = (parts c).0 ∙ sym (trimmed-already _ (kept c).trimmed)
 
 pub returns-clause-changed : goal.returns-clause-changed
 returns-clause-changed c = (parts c).0
+
+pub returns-clause-valid : goal.returns-clause-valid
+returns-clause-valid c = (invariant_of-self-2 c).0

@@ -58,3 +58,6 @@ invariant_of-self-2 c =
 
 pub returns-clause-ok : goal.returns-clause-ok
 returns-clause-ok c = (parts c).0
+
+pub returns-clause-valid : goal.returns-clause-valid
+returns-clause-valid c = (invariant_of-self-2 c).0

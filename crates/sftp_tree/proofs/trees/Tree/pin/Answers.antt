@@ -38,5 +38,8 @@ invariant_of-self c =
     let kept = kept-pin c.args.self.now c.args.number before c.requires.file in
     (subst IsKept (sym (parts c).0) kept, (parts c).1)
 
-pub returns : goal.returns
-returns c = (parts c).0
+pub returns-clause-pinned : goal.returns-clause-pinned
+returns-clause-pinned c = (parts c).0
+
+pub returns-clause-valid : goal.returns-clause-valid
+returns-clause-valid c = (invariant_of-self c).0

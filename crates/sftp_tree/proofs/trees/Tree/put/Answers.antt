@@ -25,3 +25,6 @@ invariant_of-self-2 c = (subst IsKept (sym (parts c).0) (kept c), (parts c).1)
 
 pub returns-clause-ok : goal.returns-clause-ok
 returns-clause-ok c = (parts c).0 ∙ sym (trimmed-already _ (kept c).trimmed)
+
+pub returns-clause-valid : goal.returns-clause-valid
+returns-clause-valid c = (invariant_of-self-2 c).0

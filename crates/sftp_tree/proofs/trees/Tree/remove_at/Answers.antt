@@ -35,5 +35,8 @@ invariant_of-self c =
     let kept = kept-without c.args.self.now c.args.place.now (subst IsKept c.self.view_is c.self.invariant.0) c.requires.below_root c.requires.empty in
     (subst IsKept (sym (parts c).0) kept, (parts c).1)
 
-pub returns : goal.returns
-returns c = (parts c).0
+pub returns-clause-removed : goal.returns-clause-removed
+returns-clause-removed c = (parts c).0
+
+pub returns-clause-valid : goal.returns-clause-valid
+returns-clause-valid c = (invariant_of-self c).0

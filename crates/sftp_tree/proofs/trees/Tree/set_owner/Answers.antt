@@ -23,5 +23,8 @@ kept c = kept-owner-there c.args.self.now c.args.place.now c.args.owner (subst I
 pub invariant_of-self : goal.invariant_of-self
 invariant_of-self c = (subst IsKept (sym (tree c)) (kept c), counts c)
 
-pub returns : goal.returns
-returns c = tree c ∙ sym (trimmed-already _ (kept c).trimmed)
+pub returns-clause-owned : goal.returns-clause-owned
+returns-clause-owned c = tree c ∙ sym (trimmed-already _ (kept c).trimmed)
+
+pub returns-clause-valid : goal.returns-clause-valid
+returns-clause-valid c = (invariant_of-self c).0

@@ -37,5 +37,8 @@ invariant_of-self c =
     let kept = kept-unpin c.args.self.now c.args.number before there in
     (subst IsKept (sym (parts c).0) kept, (parts c).1)
 
-pub returns : goal.returns
-returns c = (parts c).0
+pub returns-clause-unpinned : goal.returns-clause-unpinned
+returns-clause-unpinned c = (parts c).0
+
+pub returns-clause-valid : goal.returns-clause-valid
+returns-clause-valid c = (invariant_of-self c).0
