@@ -29,7 +29,12 @@ impl<T: HandleTable> Session<T> {
     ///
     /// `BadHandle` if the handle is not open, `WrongKind` if it is a directory's, `NotOpenFor` if the file was not
     /// opened to be written, or `NoRoom`. `NoMemory` if memory runs out. The session is then as before.
-    pub(crate) fn write_open(&mut self, handle: &[u8], offset: u64, bytes: &[u8]) -> Result<(), Refused>
+    pub(crate) fn write_open(
+        &mut self,
+        handle: &[u8],
+        offset: u64,
+        bytes: &[u8],
+    ) -> Result<(), Refused>
         ensures done { OnOk result (IsDone self.old (Write handle.now offset bytes.now) self.new) }
         ensures refused { IfErr result (IsRefusal self.old (Write handle.now offset bytes.now)) }
         ensures kept { OnErr result (self.new ≡ self.old) }

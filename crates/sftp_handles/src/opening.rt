@@ -56,7 +56,11 @@ impl<T: HandleTable> Session<T> {
     /// # Errors
     ///
     /// `Taken` if the wanted name is open already, and else as the tree's call. The session is then as before.
-    pub(crate) fn open_directory(&mut self, path: &[u8], want: Vec<u8>) -> Result<Vec<u8>, NotOpened>
+    pub(crate) fn open_directory(
+        &mut self,
+        path: &[u8],
+        want: Vec<u8>,
+    ) -> Result<Vec<u8>, NotOpened>
         requires short { length want.items ≤ handle_limit }
         requires room { IsTrue (has_handle_left self.old) }
         ensures done { IfOk result (λ name. Does self.old (Opendir path.now) (replies.Handle name.items) self.new) }
