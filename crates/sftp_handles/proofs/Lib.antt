@@ -8,5 +8,10 @@ pub mod GoodPaths
 pub mod GoodLaws
 pub mod FirstListings
 pub mod Strikes
+pub mod DistinctNames
+pub mod NamesLeft
+pub mod Swaps
+pub mod Ends
+pub mod GivenNames
 pub mod SeenCauses
 pub mod SeenAnswers

@@ -7,5 +7,6 @@ pub mod Requests
 pub mod Allowed
 pub mod Examples
 pub mod Given
+pub mod Giving
 pub mod Found
 pub mod Judged

@@ -1,0 +1,48 @@
+-- What is open under a handle, exchanged twice and put back.
+use Rattle.std.proofs.Common.{◌≡◌, Bool, true, false, cond, List, ℕ, Option, Some, None, refl, sym, ap, ◌∙◌}
+use Rattle.std.specs.Ordering.{is_eq}
+use Rattle.std.specs.Cmp.{Equal-is}
+use Rattle.std.specs.Cmp.Lexicographic.{nat_list_cmp_total}
+use Rattle.sftp_path.specs.Place.{bytes_cmp}
+use Rattle.sftp_path.specs.Table.{InOrder}
+use Rattle.sftp_path.proofs.Order.{bytes_cmp-same}
+use Rattle.sftp_path.proofs.Table.Laws.{get-put, InOrder-put, same_table}
+use Rattle.sftp_handles.specs.declared.opens.Open.{Open}
+use Rattle.sftp_handles.specs.Handles.{Handles, open_at, with_open}
+
+of-last : (b : Bool) (first last found : Option Open) → cond b last (cond b first found) ≡ cond b last found
+of-last true first last found = refl
+of-last false first last found = refl
+
+-- of two exchanges the last counts
+pub opened-twice : (handles : Handles) (handle : List ℕ) (first last : Open) → InOrder bytes_cmp handles
+    → with_open (with_open handles handle first) handle last ≡ with_open handles handle last
+opened-twice handles handle first last order =
+    let between = with_open handles handle first in
+    let between_order = InOrder-put bytes_cmp nat_list_cmp_total handles handle first order in
+    same_table bytes_cmp nat_list_cmp_total bytes_cmp-same (with_open between handle last)
+    (with_open handles handle last)
+    (InOrder-put bytes_cmp nat_list_cmp_total between handle last between_order)
+    (InOrder-put bytes_cmp nat_list_cmp_total handles handle last order)
+    (λ at.
+    get-put bytes_cmp nat_list_cmp_total between handle last at
+    ∙ (ap (cond (is_eq (bytes_cmp at handle)) (Some last))
+    (get-put bytes_cmp nat_list_cmp_total handles handle first at)
+    ∙ (of-last (is_eq (bytes_cmp at handle)) (Some first) (Some last) (open_at handles at)
+    ∙ sym (get-put bytes_cmp nat_list_cmp_total handles handle last at))))
+
+same-there : (handles : Handles) (handle at : List ℕ) (it : Open) (b : Bool) → open_at handles handle ≡ Some it
+    → is_eq (bytes_cmp at handle) ≡ b → cond b (Some it) (open_at handles at) ≡ open_at handles at
+same-there handles handle at it true there same =
+    sym there ∙ ap (open_at handles) (sym (bytes_cmp-same at handle ((Equal-is (bytes_cmp at handle)).0 same)))
+same-there handles handle at it false there same = refl
+
+-- what is open is opened again
+pub opened-again : (handles : Handles) (handle : List ℕ) (it : Open) → InOrder bytes_cmp handles
+    → open_at handles handle ≡ Some it → with_open handles handle it ≡ handles
+opened-again handles handle it order there =
+    same_table bytes_cmp nat_list_cmp_total bytes_cmp-same (with_open handles handle it) handles
+    (InOrder-put bytes_cmp nat_list_cmp_total handles handle it order) order
+    (λ at.
+    get-put bytes_cmp nat_list_cmp_total handles handle it at
+    ∙ same-there handles handle at it (is_eq (bytes_cmp at handle)) there refl)
