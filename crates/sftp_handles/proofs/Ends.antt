@@ -28,7 +28,7 @@ use Rattle.sftp_handles.proofs.GoodStates.{good-settled}
 
 -- ---- an answer that is no refusal
 
-neither : (a b : Bool) → b ≡ false → (a && b) ≡ false
+pub neither : (a b : Bool) → b ≡ false → (a && b) ≡ false
 neither true b is = is
 neither false b is = refl
 

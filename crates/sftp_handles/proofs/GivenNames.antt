@@ -1,6 +1,6 @@
 -- READDIR: the names that its reply gives, and its end.
-use Rattle.std.proofs.Common.{◌≡◌, ◌&&◌, ℕ, Bool, true, false, List, [], ◌∷◌, Option, Some, None}
-use Rattle.std.proofs.Common.{refl, sym, ap, ◌∙◌}
+use Rattle.std.proofs.Common.{◌≡◌, ◌&&◌, nat_lt, ℕ, Bool, true, false, List, [], ◌∷◌, length, Option, Some, None, ◌↔◌}
+use Rattle.std.proofs.Common.{refl, sym, subst, ap, ◌∙◌}
 use Rattle.sftp_wire.specs.declared.names.NameItem.{NameItem}
 use Rattle.sftp_wire.specs.declared.packets.Ask.TheVariants.{Readdir}
 use Rattle.sftp_wire.specs.declared.packets.Answer.{Answer}
@@ -27,7 +27,7 @@ use Rattle.sftp_handles.proofs.GoodStates.{left-struck, good-listing}
 use Rattle.sftp_handles.proofs.NewStates.{state_of}
 use Rattle.sftp_handles.proofs.Strikes.{struck-none}
 use Rattle.sftp_handles.proofs.Swaps.{opened-again}
-use Rattle.sftp_handles.proofs.Ends.{step-free, judged-end}
+use Rattle.sftp_handles.proofs.Ends.{neither, step-free, judged-end}
 
 -- ---- what is open under the handle
 
@@ -41,7 +41,7 @@ listing-left s handle left good there =
 none-left : (items : List NameItem) → are_some_left [] items ≡ false
 unfolding get
 none-left [] = refl
-none-left (item ∷ items) = refl
+none-left (item ∷ items) = neither (nat_lt 0 (length (item ∷ items))) false refl
 
 -- no cause holds, and the names answer
 free-given : (s : State) (handle : List ℕ) (items : List NameItem) (found : Option Open)
@@ -144,6 +144,12 @@ has_none (Some (Listing [])) = true
 has_none (Some (Listing (e ∷ es))) = false
 has_none (Some (File number flags)) = false
 has_none None = false
+
+pub none-if_empty : (ok : Bool) (left : Left) → ok ≡ true ↔ left ≡ [] → ok ≡ has_none (Some (Listing left))
+none-if_empty true [] both = refl
+none-if_empty false [] both = both.1 refl
+none-if_empty true (e ∷ es) both = absurd (let none = both.0 refl in cc)
+none-if_empty false (e ∷ es) both = refl
 
 free-end : (s : State) (handle message language : List ℕ) (found : Option Open)
     → (is_none (causes_of (limits s.tree) (row_of (Readdir handle)) (seen_among s.tree.files a_listing found))

@@ -1,5 +1,5 @@
 -- Names that a reply to READDIR gives. Words of private contracts.
-use Rattle.std.specs.Prelude.{⊥, ℕ, Bool, false, List, Option, Some, None}
+use Rattle.std.specs.Prelude.{ℕ, Bool, false, List, Option, Some, None}
 use Rattle.sftp_wire.specs.declared.names.NameItem.{NameItem}
 use Rattle.sftp_path.specs.Place.{Name, name_cmp}
 use Rattle.sftp_path.specs.Table.{InOrder}
