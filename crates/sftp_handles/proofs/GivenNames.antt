@@ -1,6 +1,7 @@
 -- READDIR: the names that its reply gives, and its end.
 use Rattle.std.proofs.Common.{◌≡◌, ◌&&◌, nat_lt, ℕ, Bool, true, false, List, [], ◌∷◌, length, Option, Some, None, ◌↔◌}
 use Rattle.std.proofs.Common.{refl, sym, subst, ap, ◌∙◌}
+use Rattle.std.proofs.lemmas.Bool.{and_parts}
 use Rattle.sftp_wire.specs.declared.names.NameItem.{NameItem}
 use Rattle.sftp_wire.specs.declared.packets.Ask.TheVariants.{Readdir}
 use Rattle.sftp_wire.specs.declared.packets.Answer.{Answer}
@@ -27,7 +28,7 @@ use Rattle.sftp_handles.proofs.GoodStates.{left-struck, good-listing}
 use Rattle.sftp_handles.proofs.NewStates.{state_of}
 use Rattle.sftp_handles.proofs.Strikes.{struck-none}
 use Rattle.sftp_handles.proofs.Swaps.{opened-again}
-use Rattle.sftp_handles.proofs.Ends.{neither, step-free, judged-end}
+use Rattle.sftp_handles.proofs.Judgements.{allow-one, not-allowed, judged-none, judged-done}
 
 -- ---- what is open under the handle
 
@@ -37,11 +38,15 @@ pub listing-left : (s : State) (handle : List ℕ) (left : Left) → Good s
 listing-left s handle left good there =
     (each-get bytes_cmp bytes_cmp-same IsHandle s.handles handle (Listing left) good.handles there).1
 
+and-false : (b : Bool) → (b && false) ≡ false
+and-false true = refl
+and-false false = refl
+
 -- an empty listing gives no names
 none-left : (items : List NameItem) → are_some_left [] items ≡ false
 unfolding get
 none-left [] = refl
-none-left (item ∷ items) = neither (nat_lt 0 (length (item ∷ items))) false refl
+none-left (item ∷ items) = and-false (nat_lt 0 (length (item ∷ items)))
 
 -- no cause holds, and the names answer
 free-given : (s : State) (handle : List ℕ) (items : List NameItem) (found : Option Open)
@@ -113,17 +118,27 @@ module _ (s : State) (handle : List ℕ) (items : List NameItem) (good : Good s)
   pub good-struck : gives_names (open_at s.handles handle) items ≡ true → Good (struck_state s handle items)
   good-struck gives = good-struck_in (open_at s.handles handle) refl gives
 
-  -- the reply is judged by its names
-  pub judged-names : (ok : Bool) (end : State) → ok ≡ gives_names (open_at s.handles handle) items
-      → (ok ≡ true → end ≡ struck_state s handle items) → (ok ≡ false → end ≡ s)
-      → IsJudged s (Readdir handle) (Name items) ok end
-  judged-names ok end is done kept = record {
-    step_is =
-        step-free s (Readdir handle) (Name items) ok end refl (readdir-given s handle items ∙ sym is)
-        (λ yes.
-        target-struck (open_at s.handles handle) refl (sym is ∙ yes) ∙ sym (done yes));
-    kept = kept;
-  }
+  -- the names are an allowed answer
+  pub judged-given : gives_names (open_at s.handles handle) items ≡ true
+      → IsJudged s (Readdir handle) (Name items) true (struck_state s handle items)
+  judged-given gives =
+      let parts = and_parts (is_none (causes s (Readdir handle))) (answers s (Readdir handle) (Name items))
+      (readdir-given s handle items ∙ gives) in
+      judged-done s (Readdir handle) (Name items) (struck_state s handle items)
+      (record {
+        free = parts.0;
+        answered = parts.1;
+        changed = sym (target-struck (open_at s.handles handle) refl gives);
+      })
+
+-- they are none
+pub judged-not_given : (s : State) (handle : List ℕ) (items : List NameItem)
+    → gives_names (open_at s.handles handle) items ≡ false → IsJudged s (Readdir handle) (Name items) false s
+judged-not_given s handle items none =
+    judged-none s (Readdir handle) (Name items)
+    (not-allowed s (Readdir handle) (Name items) refl
+    (λ free.
+    ap (λ b. b && answers s (Readdir handle) (Name items)) (sym free) ∙ (readdir-given s handle items ∙ none)))
 
 -- the names come from a listing, in order
 listing-in : (s : State) (handle : List ℕ) (items : List NameItem) (found : Option Open) → Good s
@@ -183,7 +198,19 @@ target-end s handle message language (Some (Listing [])) good there none =
 
 pub readdir-ends : (s : State) (handle : List ℕ) (ok : Bool) → Good s → ok ≡ has_none (open_at s.handles handle)
     → IsJudgedCode s (Readdir handle) 1 ok s
-readdir-ends s handle ok good is =
-    judged-end s (Readdir handle) ok (λ message language. readdir-end s handle message language ∙ sym is)
-    (λ yes message language.
-    target-end s handle message language (open_at s.handles handle) good refl (sym is ∙ yes))
+readdir-ends s handle true good is message language =
+    let end = Status 1 message language in
+    let parts = and_parts (is_none (causes s (Readdir handle))) (answers s (Readdir handle) end)
+    (readdir-end s handle message language ∙ sym is) in
+    judged-done s (Readdir handle) end s
+    (record {
+      free = parts.0;
+      answered = parts.1;
+      changed = sym (target-end s handle message language (open_at s.handles handle) good refl (sym is));
+    })
+readdir-ends s handle false good is message language =
+    let end = Status 1 message language in
+    judged-none s (Readdir handle) end
+    (not-allowed s (Readdir handle) end (allow-one (causes s (Readdir handle)))
+    (λ free.
+    ap (λ b. b && answers s (Readdir handle) end) (sym free) ∙ (readdir-end s handle message language ∙ sym is)))

@@ -1,5 +1,6 @@
 pub mod Pins
 pub mod Steps
+pub mod Judgements
 pub mod NewStates
 pub mod GivenTables
 pub mod GoodStates

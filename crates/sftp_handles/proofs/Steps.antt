@@ -69,7 +69,7 @@ not-refused s ask answer free = by (refuses (causes s ask) answer) refl
     by true is = absurd (let some = refused-some (causes s ask) answer is in cc)
     by false is = is
 
-done-step : (s : State) (ask : Ask) (answer : Answer) (end : State) → Does s ask answer end
+pub done-step : (s : State) (ask : Ask) (answer : Answer) (end : State) → Does s ask answer end
     → step s ask answer ≡ Some end
 unfolding step
 done-step s ask answer end d =

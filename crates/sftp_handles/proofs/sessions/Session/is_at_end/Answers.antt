@@ -13,7 +13,6 @@ returns-in-Ok-None g c =
 pub returns-in-Ok-Some : goal.returns-in-Ok-Some
 returns-in-Ok-Some g c =
     read-gives c.args.self.now c.args.handle.now c.args.offset c.args.len c.in-Ok-Some.field-0-0.now
-    c.in-Ok-Some.ensures.free
     (rw c.in-Ok-Some.field-0-is at c.in-Ok-Some.ensures.read)
 
 pub returns-in-Err : goal.returns-in-Err

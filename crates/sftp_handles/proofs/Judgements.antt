@@ -1,0 +1,204 @@
+-- Judgements: whether an answer is allowed, and the state then, by the causes and by what the answer says.
+use Rattle.std.proofs.Common.{◌≡◌, ◌==◌, ◌&&◌, ℕ, Bool, true, false, List, [], ◌∷◌, Some, None, refl, sym, ap, ◌∙◌}
+use Rattle.std.proofs.Common.{IsTrue}
+use Rattle.std.specs.List.{list_any, AllByRecursion}
+use Rattle.std.proofs.lemmas.Bool.{and_parts}
+use Rattle.sftp_wire.specs.declared.packets.Ask.{Ask}
+use Rattle.sftp_wire.specs.declared.packets.Answer.{Answer}
+use Rattle.sftp_wire.specs.declared.packets.Answer.TheVariants.{Status, Extended}
+use Rattle.sftp_wire.specs.declared.packets.Request.{Request}
+use Rattle.sftp_wire.specs.declared.packets.Reply.{Reply}
+use Rattle.sftp_wire.specs.Spelling.{asked_handle}
+use Rattle.sftp_tree.specs.declared.causes.Cause.{Cause}
+use Rattle.sftp_tree.specs.Causes.{CauseSet, every_cause, allows, allow, is_none}
+use Rattle.sftp_tree.proofs.CauseLaws.Sets.{none-each}
+use Rattle.sftp_handles.specs.State.{State}
+use Rattle.sftp_handles.specs.Replies.{Said, ok, shows, names, gives, ended, lists, opens, says, refuses}
+use Rattle.sftp_handles.specs.Requests.{causes, said_to, answers, target}
+use Rattle.sftp_handles.specs.Allowed.{Does, Allowed, stepped, step}
+use Rattle.sftp_handles.specs.Judged.{IsJudged, IsJudgedCode, IsDone}
+use Rattle.sftp_handles.proofs.Steps.{done-step, allowed-step, step-is_allowed}
+
+-- ---- causes
+
+-- a cause that holds says that there is one
+pub some-holds : (set : CauseSet) (cause : Cause) → IsTrue (set cause) → is_none set ≡ false
+some-holds set cause holds = by (is_none set) refl
+  where
+    by : (b : Bool) → is_none set ≡ b → is_none set ≡ false
+    by true none = absurd (let is = none-each set none cause in cc)
+    by false some = some
+
+neither : (a b : Bool) → b ≡ false → (a && b) ≡ false
+neither true b is = is
+neither false b is = refl
+
+none-allow : (set : CauseSet) (test : Cause → Bool) (xs : List Cause)
+    → AllByRecursion (λ cause. test cause ≡ false) xs → list_any (λ cause. set cause && test cause) xs ≡ false
+none-allow set test [] all = refl
+none-allow set test (x ∷ xs) all = rw (neither (set x) (test x) all.0) (none-allow set test xs all.1)
+
+-- a code that no cause in the list allows
+abbrev IsFreeCode : ℕ → Type 0
+IsFreeCode code = AllByRecursion (λ cause. allows cause code ≡ false) every_cause
+
+-- no cause allows the code that says OK
+pub allow-zero : (set : CauseSet) → allow set 0 ≡ false
+allow-zero set =
+    let free : IsFreeCode 0 =
+    (refl, (refl, (refl, (refl, (refl, (refl, (refl, (refl, (refl, (refl, (refl, (refl, (refl, (refl, (refl, (refl,
+    (refl, tt))))))))))))))))) in
+    none-allow set (λ cause. allows cause 0) every_cause free
+
+-- nor the code that says that the end was reached
+pub allow-one : (set : CauseSet) → allow set 1 ≡ false
+allow-one set =
+    let free : IsFreeCode 1 =
+    (refl, (refl, (refl, (refl, (refl, (refl, (refl, (refl, (refl, (refl, (refl, (refl, (refl, (refl, (refl, (refl,
+    (refl, tt))))))))))))))))) in
+    none-allow set (λ cause. allows cause 1) every_cause free
+
+-- ---- steps by the causes and the answer
+
+stepped-none : (s : State) (ask : Ask) (answer : Answer) (free answered : Bool) → (free ≡ true → answered ≡ false)
+    → stepped s ask answer false (free && answered) ≡ None
+stepped-none s ask answer false answered never = refl
+stepped-none s ask answer true answered never = ap (stepped s ask answer false) (never refl)
+
+-- an answer that no cause allows, and that is not the request's where no cause holds
+pub not-allowed : (s : State) (ask : Ask) (answer : Answer) → refuses (causes s ask) answer ≡ false
+    → (is_none (causes s ask) ≡ true → answers s ask answer ≡ false) → step s ask answer ≡ None
+unfolding step
+not-allowed s ask answer unlike never =
+    ap (λ b. stepped s ask answer b (is_none (causes s ask) && answers s ask answer)) unlike
+    ∙ stepped-none s ask answer (is_none (causes s ask)) (answers s ask answer) never
+
+-- a cause holds, and none that does allows the answer
+pub none-allowed : (s : State) (ask : Ask) (answer : Answer) → is_none (causes s ask) ≡ false
+    → refuses (causes s ask) answer ≡ false → step s ask answer ≡ None
+none-allowed s ask answer some unlike =
+    not-allowed s ask answer unlike (λ free. absurd (let clash : true ≡ false = sym free ∙ some in cc))
+
+-- the answer is not the request's, and no cause allows it
+pub not-answered : (s : State) (ask : Ask) (answer : Answer) → answers s ask answer ≡ false
+    → refuses (causes s ask) answer ≡ false → step s ask answer ≡ None
+not-answered s ask answer other unlike = not-allowed s ask answer unlike (λ free. other)
+
+-- a cause that holds allows the answer
+pub refused-step : (s : State) (ask : Ask) (answer : Answer) → refuses (causes s ask) answer ≡ true
+    → step s ask answer ≡ Some s
+unfolding step
+refused-step s ask answer is =
+    ap (λ b. stepped s ask answer b (is_none (causes s ask) && answers s ask answer)) is
+
+-- ---- judgements
+
+pub judged-some : (s : State) (ask : Ask) (answer : Answer) (end : State) → step s ask answer ≡ Some end
+    → IsJudged s ask answer true end
+judged-some s ask answer end is = record { step_is = is; kept = λ e. absurd cc }
+
+pub judged-none : (s : State) (ask : Ask) (answer : Answer) → step s ask answer ≡ None
+    → IsJudged s ask answer false s
+judged-none s ask answer is = record { step_is = is; kept = λ e. refl }
+
+-- what a request was asked for is done
+pub judged-done : (s : State) (ask : Ask) (answer : Answer) (end : State) → Does s ask answer end
+    → IsJudged s ask answer true end
+judged-done s ask answer end d = judged-some s ask answer end (done-step s ask answer end d)
+
+-- a cause that holds refuses an answer that no cause allows
+pub judged-refused : (s : State) (ask : Ask) (answer : Answer) (cause : Cause) → IsTrue (causes s ask cause)
+    → refuses (causes s ask) answer ≡ false → IsJudged s ask answer false s
+judged-refused s ask answer cause holds unlike =
+    judged-none s ask answer (none-allowed s ask answer (some-holds (causes s ask) cause holds) unlike)
+
+-- an answer that no cause allows, to a request that then changes nothing: it is allowed if no cause holds and it is the
+-- request's
+pub judged-still : (s : State) (ask : Ask) (answer : Answer) (allowed : Bool)
+    → refuses (causes s ask) answer ≡ false → (answers s ask answer ≡ true → target s ask answer ≡ s)
+    → allowed ≡ (is_none (causes s ask) && answers s ask answer) → IsJudged s ask answer allowed s
+judged-still s ask answer true unlike still is =
+    let parts = and_parts (is_none (causes s ask)) (answers s ask answer) (sym is) in
+    judged-done s ask answer s (record { free = parts.0; answered = parts.1; changed = sym (still parts.1) })
+judged-still s ask answer false unlike still is = judged-none s ask answer (not-allowed s ask answer unlike never)
+  where
+    never : is_none (causes s ask) ≡ true → answers s ask answer ≡ false
+    never free = sym (is ∙ ap (λ b. b && answers s ask answer) free)
+
+-- ---- statuses
+
+-- a status of another code than 0 and 1 says nothing of a request that was done
+pub says-other : (said : Said) (code : ℕ) (message language : List ℕ) → (code == 0) ≡ false → (code == 1) ≡ false
+    → says said (Status code message language) ≡ false
+says-other ok code message language zero one = zero
+says-other (shows None) code message language zero one = refl
+says-other (shows (Some shown)) code message language zero one = refl
+says-other (names None) code message language zero one = refl
+says-other (names (Some text)) code message language zero one = refl
+says-other (gives bytes) code message language zero one = refl
+says-other ended code message language zero one = one
+says-other (lists left) code message language zero one = refl
+says-other (opens handles) code message language zero one = refl
+
+answers-other : (s : State) (ask : Ask) (code : ℕ) (message language : List ℕ) → (code == 0) ≡ false
+    → (code == 1) ≡ false → answers s ask (Status code message language) ≡ false
+unfolding answers
+answers-other s ask code message language = says-other (said_to s ask (asked_handle ask)) code message language
+
+-- so it is allowed exactly if a cause that holds allows its code
+pub judged-other : (s : State) (ask : Ask) (code : ℕ) (allowed : Bool) → (code == 0) ≡ false → (code == 1) ≡ false
+    → allow (causes s ask) code ≡ allowed → IsJudgedCode s ask code allowed s
+judged-other s ask code true zero one is message language =
+    judged-some s ask (Status code message language) s (refused-step s ask (Status code message language) is)
+judged-other s ask code false zero one is message language =
+    judged-none s ask (Status code message language)
+    (not-answered s ask (Status code message language) (answers-other s ask code message language zero one) is)
+
+-- a request that is done
+pub judged-ok : (s : State) (ask : Ask) (end : State) → IsDone s ask end → IsJudgedCode s ask 0 true end
+judged-ok s ask end done message language =
+    judged-done s ask (Status 0 message language) end (done message language)
+
+-- a request that a cause refuses
+pub judged-not_ok : (s : State) (ask : Ask) (cause : Cause) → IsTrue (causes s ask cause)
+    → IsJudgedCode s ask 0 false s
+judged-not_ok s ask cause holds message language =
+    judged-refused s ask (Status 0 message language) cause holds (allow-zero (causes s ask))
+
+-- ---- replies of extensions
+
+says-extended : (said : Said) (bytes : List ℕ) → says said (Extended bytes) ≡ false
+says-extended ok bytes = refl
+says-extended (shows None) bytes = refl
+says-extended (shows (Some shown)) bytes = refl
+says-extended (names None) bytes = refl
+says-extended (names (Some text)) bytes = refl
+says-extended (gives given) bytes = refl
+says-extended ended bytes = refl
+says-extended (lists left) bytes = refl
+says-extended (opens handles) bytes = refl
+
+-- no request has such an answer
+pub judged-extended : (s : State) (ask : Ask) (bytes : List ℕ) → IsJudged s ask (Extended bytes) false s
+unfolding answers
+judged-extended s ask bytes =
+    judged-none s ask (Extended bytes)
+    (not-answered s ask (Extended bytes) (says-extended (said_to s ask (asked_handle ask)) bytes) refl)
+
+-- ---- replies
+
+-- a reply with the id of the request is allowed exactly if its answer is
+pub allowed-reply : (s : State) (request : Request) (reply : Reply) (end : State) (allowed : Bool)
+    → reply.id ≡ request.id → IsJudged s request.ask reply.answer allowed end → IsTrue allowed
+    → Allowed s request reply end
+allowed-reply s request reply end true same judged is = step-is_allowed s request reply end same judged.step_is
+allowed-reply s request reply end false same judged is = absurd cc
+
+pub refused-reply : (s : State) (request : Request) (reply : Reply) (end : State) (allowed : Bool)
+    → IsJudged s request.ask reply.answer allowed end → allowed ≡ false
+    → (other : State) → Allowed s request reply other → ⊥
+refused-reply s request reply end true judged is other a = absurd cc
+refused-reply s request reply end false judged is other a =
+    let none : step s request.ask reply.answer ≡ None = judged.step_is in
+    let some = allowed-step s request reply other a in
+    cc
