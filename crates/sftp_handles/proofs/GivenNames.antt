@@ -7,6 +7,7 @@ use Rattle.sftp_wire.specs.declared.packets.Ask.TheVariants.{Readdir}
 use Rattle.sftp_wire.specs.declared.packets.Answer.{Answer}
 use Rattle.sftp_wire.specs.declared.packets.Answer.TheVariants.{Status, Name}
 use Rattle.sftp_path.specs.Place.{bytes_cmp}
+use Rattle.sftp_path.specs.Place as places
 use Rattle.sftp_path.specs.Table.{get, retain}
 use Rattle.sftp_path.proofs.Order.{bytes_cmp-same}
 use Rattle.sftp_tree.specs.Causes.{no_causes, when, is_none}
@@ -15,7 +16,7 @@ use Rattle.sftp_tree.proofs.PlaceTables.Each.{each-get}
 use Rattle.sftp_tree.proofs.KeptTrees.Trims.{trimmed-already}
 use Rattle.sftp_handles.specs.declared.opens.Open.{Open}
 use Rattle.sftp_handles.specs.declared.opens.Open.TheVariants.{File, Listing}
-use Rattle.sftp_handles.specs.Handles.{Left, open_at, with_open, pins_of}
+use Rattle.sftp_handles.specs.Handles.{Left, Handles, open_at, with_open, pins_of}
 use Rattle.sftp_handles.specs.State.{State, Good, IsHandle, IsLeft, settled}
 use Rattle.sftp_handles.specs.Seen.{a_listing, seen, seen_among}
 use Rattle.sftp_handles.specs.Replies.{names_in, names_given, are_some_left, says, struck}
@@ -130,6 +131,22 @@ module _ (s : State) (handle : List ℕ) (items : List NameItem) (good : Good s)
         answered = parts.1;
         changed = sym (target-struck (open_at s.handles handle) refl gives);
       })
+
+-- the code struck the names that the reply gives
+module _ (s : State) (handle : List ℕ) (items : List NameItem) (given : List places.Name) (handles : Handles) (good : Good s)
+    (gives : true ≡ gives_names (open_at s.handles handle) items) (same : given ≡ names_in items)
+    (is : handles ≡ with_struck s.handles handle given (open_at s.handles handle)) where
+  struck-is : struck_state s handle items ≡ state_of s.tree handles
+  struck-is =
+      ap (state_of s.tree)
+      (ap (λ names. with_struck s.handles handle names (open_at s.handles handle)) (sym same) ∙ sym is)
+
+  pub good-given : Good (state_of s.tree handles)
+  good-given = subst Good struck-is (good-struck s handle items good (sym gives))
+
+  pub given-judged : IsJudged s (Readdir handle) (Name items) true (state_of s.tree handles)
+  given-judged =
+      subst (IsJudged s (Readdir handle) (Name items) true) struck-is (judged-given s handle items good (sym gives))
 
 -- they are none
 pub judged-not_given : (s : State) (handle : List ℕ) (items : List NameItem)
