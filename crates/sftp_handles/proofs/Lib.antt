@@ -16,3 +16,12 @@ pub mod Ends
 pub mod GivenNames
 pub mod SeenCauses
 pub mod SeenAnswers
+pub mod OkReplies
+pub mod OpenChanges
+pub mod StillAnswers
+pub mod OtherAnswers
+pub mod Opened
+pub mod Starts
+pub mod HandleRoom
+pub mod NewHandles
+pub mod TotalSteps

@@ -5,12 +5,14 @@
 mod accepting;
 mod changing;
 pub mod examples;
+mod first_listings;
 mod found;
 mod given_table;
 mod giving;
 mod handle_causes;
 pub mod laws;
 mod listings;
+mod not_opened;
 mod open_files;
 mod opening;
 mod opens;
