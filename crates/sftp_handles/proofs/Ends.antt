@@ -44,7 +44,8 @@ told-end handles (listed left) message language = refl
 
 -- nor does one that needs a file, unless it says so of a file
 module _ (s : State) (ask : Ask) (handle message language : List ℕ)
-    (told : (before : Content) → says ((row_of ask).told (limits s.tree) before) (Status 1 message language) ≡ false) where
+    (told : (before : Content)
+    → says ((row_of ask).told (limits s.tree) before) (Status 1 message language) ≡ false) where
   of-content : (number : ℕ) (flags : OpenFlags) (found : Option Content)
       → says (said_of (limits s.tree) (row_of ask) (seen_file number flags found)) (Status 1 message language) ≡ false
   of-content number flags None = refl

@@ -8,7 +8,7 @@ use Rattle.sftp_wire.specs.declared.packets.Answer.{Answer}
 use Rattle.sftp_wire.specs.declared.packets.Answer.TheVariants.{Status, Name}
 use Rattle.sftp_path.specs.Place.{bytes_cmp}
 use Rattle.sftp_path.specs.Place as places
-use Rattle.sftp_path.specs.Table.{get, retain}
+use Rattle.sftp_path.specs.Table.{get}
 use Rattle.sftp_path.proofs.Order.{bytes_cmp-same}
 use Rattle.sftp_tree.specs.Causes.{no_causes, when, is_none}
 use Rattle.sftp_tree.specs.Tree.{Tree, Pins, limits, trim}
@@ -16,7 +16,7 @@ use Rattle.sftp_tree.proofs.PlaceTables.Each.{each-get}
 use Rattle.sftp_tree.proofs.KeptTrees.Trims.{trimmed-already}
 use Rattle.sftp_handles.specs.declared.opens.Open.{Open}
 use Rattle.sftp_handles.specs.declared.opens.Open.TheVariants.{File, Listing}
-use Rattle.sftp_handles.specs.Handles.{Left, Handles, open_at, with_open, pins_of}
+use Rattle.sftp_handles.specs.Handles.{Left, Handles, open_at, with_open}
 use Rattle.sftp_handles.specs.State.{State, Good, IsHandle, IsLeft, settled}
 use Rattle.sftp_handles.specs.Seen.{a_listing, seen, seen_among}
 use Rattle.sftp_handles.specs.Replies.{names_in, names_given, are_some_left, says, struck}
@@ -28,7 +28,7 @@ use Rattle.sftp_handles.proofs.Pins.{pins-listing_again}
 use Rattle.sftp_handles.proofs.GoodStates.{left-struck, good-listing}
 use Rattle.sftp_handles.proofs.NewStates.{state_of}
 use Rattle.sftp_handles.proofs.Strikes.{struck-none}
-use Rattle.sftp_handles.proofs.Swaps.{opened-again}
+use Rattle.sftp_handles.proofs.Swaps.{opened-back}
 use Rattle.sftp_handles.proofs.Judgements.{allow-one, not-allowed, judged-none, judged-done}
 
 -- ---- what is open under the handle
@@ -72,7 +72,8 @@ readdir-target : (s : State) (handle : List ℕ) (left : Left) (answer : Answer)
     ≡ settled s.tree (with_open s.handles handle (Listing (struck left (names_given answer))))
 unfolding target seen
 readdir-target s handle left answer there =
-    ap (λ found. changed s handle (change_of (row_of (Readdir handle)) (seen_among s.tree.files a_listing found) answer))
+    ap
+    (λ found. changed s handle (change_of (row_of (Readdir handle)) (seen_among s.tree.files a_listing found) answer))
     there
 
 -- ---- the state after
@@ -133,8 +134,8 @@ module _ (s : State) (handle : List ℕ) (items : List NameItem) (good : Good s)
       })
 
 -- the code struck the names that the reply gives
-module _ (s : State) (handle : List ℕ) (items : List NameItem) (given : List places.Name) (handles : Handles) (good : Good s)
-    (gives : true ≡ gives_names (open_at s.handles handle) items) (same : given ≡ names_in items)
+module _ (s : State) (handle : List ℕ) (items : List NameItem) (given : List places.Name) (handles : Handles)
+    (good : Good s) (gives : true ≡ gives_names (open_at s.handles handle) items) (same : given ≡ names_in items)
     (is : handles ≡ with_struck s.handles handle given (open_at s.handles handle)) where
   struck-is : struck_state s handle items ≡ state_of s.tree handles
   struck-is =
@@ -211,7 +212,7 @@ target-end s handle message language (Some (Listing [])) good there none =
     ∙ (settled-listing s handle [] (struck [] []) good there
     ∙ ap (state_of s.tree)
     (ap (λ left. with_open s.handles handle (Listing left)) (struck-none [])
-    ∙ opened-again s.handles handle (Listing []) good.ordered there))
+    ∙ opened-back s.handles handle (Listing []) good.ordered there))
 
 pub readdir-ends : (s : State) (handle : List ℕ) (ok : Bool) → Good s → ok ≡ has_none (open_at s.handles handle)
     → IsJudgedCode s (Readdir handle) 1 ok s

@@ -20,7 +20,8 @@ no-name-left left name is_left no_name = by (get name_cmp left name) refl
     by None there = there
     by (Some attrs) there =
         absurd
-        (let item : IsItem (name, attrs) = each-get name_cmp bytes_cmp-same IsItem left name attrs is_left.items there in
+        (let item : IsItem (name, attrs) =
+        each-get name_cmp bytes_cmp-same IsItem left name attrs is_left.items there in
         let named : is_name name ≡ true = item.0 in
         cc)
 

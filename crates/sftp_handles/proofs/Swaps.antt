@@ -1,5 +1,5 @@
 -- What is open under a handle, exchanged twice and put back.
-use Rattle.std.proofs.Common.{◌≡◌, Bool, true, false, cond, List, ℕ, Option, Some, None, refl, sym, subst, ap, ◌∙◌}
+use Rattle.std.proofs.Common.{◌≡◌, Bool, true, false, cond, List, ℕ, Some, None, refl, sym, subst, ap, ◌∙◌}
 use Rattle.std.specs.Ordering.{is_eq}
 use Rattle.std.specs.Cmp.{Equal-is}
 use Rattle.std.specs.Cmp.Lexicographic.{nat_list_cmp_total}
@@ -12,27 +12,7 @@ use Rattle.sftp_handles.specs.declared.opens.Open.TheVariants.{Listing}
 use Rattle.sftp_handles.specs.Handles.{Left, Handles, open_at, with_open}
 use Rattle.sftp_handles.specs.Replies.{struck}
 use Rattle.sftp_handles.specs.Giving.{with_struck}
-
-of-last : (b : Bool) (first last found : Option Open) → cond b last (cond b first found) ≡ cond b last found
-of-last true first last found = refl
-of-last false first last found = refl
-
--- of two exchanges the last counts
-pub opened-twice : (handles : Handles) (handle : List ℕ) (first last : Open) → InOrder bytes_cmp handles
-    → with_open (with_open handles handle first) handle last ≡ with_open handles handle last
-opened-twice handles handle first last order =
-    let between = with_open handles handle first in
-    let between_order = InOrder-put bytes_cmp nat_list_cmp_total handles handle first order in
-    same_table bytes_cmp nat_list_cmp_total bytes_cmp-same (with_open between handle last)
-    (with_open handles handle last)
-    (InOrder-put bytes_cmp nat_list_cmp_total between handle last between_order)
-    (InOrder-put bytes_cmp nat_list_cmp_total handles handle last order)
-    (λ at.
-    get-put bytes_cmp nat_list_cmp_total between handle last at
-    ∙ (ap (cond (is_eq (bytes_cmp at handle)) (Some last))
-    (get-put bytes_cmp nat_list_cmp_total handles handle first at)
-    ∙ (of-last (is_eq (bytes_cmp at handle)) (Some first) (Some last) (open_at handles at)
-    ∙ sym (get-put bytes_cmp nat_list_cmp_total handles handle last at))))
+use Rattle.sftp_handles.proofs.Opened.{opened-again}
 
 same-there : (handles : Handles) (handle at : List ℕ) (it : Open) (b : Bool) → open_at handles handle ≡ Some it
     → is_eq (bytes_cmp at handle) ≡ b → cond b (Some it) (open_at handles at) ≡ open_at handles at
@@ -40,10 +20,10 @@ same-there handles handle at it true there same =
     sym there ∙ ap (open_at handles) (sym (bytes_cmp-same at handle ((Equal-is (bytes_cmp at handle)).0 same)))
 same-there handles handle at it false there same = refl
 
--- what is open is opened again
-pub opened-again : (handles : Handles) (handle : List ℕ) (it : Open) → InOrder bytes_cmp handles
+-- what is open is put back
+pub opened-back : (handles : Handles) (handle : List ℕ) (it : Open) → InOrder bytes_cmp handles
     → open_at handles handle ≡ Some it → with_open handles handle it ≡ handles
-opened-again handles handle it order there =
+opened-back handles handle it order there =
     same_table bytes_cmp nat_list_cmp_total bytes_cmp-same (with_open handles handle it) handles
     (InOrder-put bytes_cmp nat_list_cmp_total handles handle it order) order
     (λ at.
@@ -68,5 +48,5 @@ pub struck-apart : (before between after : Handles) (handle : List ℕ) (names :
 struck-apart before between after handle names first left next order there taken struck_is back =
     back
     ∙ ((λ i. with_open (taken i) handle (Listing (struck_is i)))
-    ∙ (opened-twice before handle first (Listing (struck left names)) order
+    ∙ (opened-again before handle first (Listing (struck left names)) order
     ∙ ap (with_struck before handle names) (sym there)))

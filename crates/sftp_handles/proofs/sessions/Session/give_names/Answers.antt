@@ -1,4 +1,4 @@
-use Rattle.std.proofs.Common.{◌≡◌, subst, sym, ap, ◌∙◌, true}
+use Rattle.std.proofs.Common.{◌≡◌, subst, sym, ◌∙◌, true}
 use Rattle.sftp_wire.specs.declared.packets.Ask.TheVariants.{Readdir}
 use Rattle.sftp_wire.specs.declared.packets.Answer.TheVariants.{Name}
 use Rattle.sftp_handles.specs.State.{State}

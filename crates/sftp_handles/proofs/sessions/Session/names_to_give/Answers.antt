@@ -1,5 +1,4 @@
 use Rattle.std.proofs.Common.{sym, ap, ◌∙◌, Some}
-use Rattle.sftp_handles.specs.declared.opens.Open.TheVariants.{Listing}
 use Rattle.sftp_handles.proofs.GivenNames.{listing-left}
 use Rattle.sftp_handles.proofs.NewStates.{state_of}
 use Rattle.sftp_handles.proofs.sessions.Session.names_to_give.Goals as goal
