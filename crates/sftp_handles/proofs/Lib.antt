@@ -9,6 +9,8 @@ pub mod GoodPaths
 pub mod GoodLaws
 pub mod FirstListings
 pub mod Strikes
+pub mod DistinctNames
+pub mod NamesLeft
 pub mod SeenCauses
 pub mod SeenAnswers
 pub mod OkReplies
@@ -16,6 +18,9 @@ pub mod OpenChanges
 pub mod StillAnswers
 pub mod OtherAnswers
 pub mod Opened
+pub mod Swaps
+pub mod Ends
+pub mod GivenNames
 pub mod Starts
 pub mod HandleRoom
 pub mod NewHandles

@@ -22,6 +22,7 @@ mod reading;
 mod session_causes;
 mod sessions;
 mod shown;
+mod striking;
 mod tables;
 
 pub use given_table::GivenTable;
