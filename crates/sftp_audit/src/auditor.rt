@@ -39,7 +39,7 @@ pub struct Accepted {
 /// - `Tree` if the bytes are not a tree file; the fault is the first one from left to right.
 /// - `Transcript` if the tree file is good, but the bytes are not a transcript file; the fault is the first one from
 ///   left to right.
-/// - `Refused` if both files are good, but the tree does not explain the session.
+/// - `Refused` if the tree file is good and the tree does not explain the session.
 /// - `NoMemory` if memory ran out. The other errors never have `NoMemory` inside.
 pub fn audit(alloc: Global, tree: &[u8], transcript: &[u8]) -> Result<Accepted, AuditError>
     // An accepted session accounts for a run, and the result is the tree where it ends.
