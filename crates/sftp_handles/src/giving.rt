@@ -94,8 +94,6 @@ impl<T: HandleTable> Session<T> {
     fn is_at_end(&self, handle: &[u8], offset: u64, len: u32) -> bool
         ensures { IsJudgedCode self.now (Read handle.now offset len) 1 result self.now }
     {
-        // A use of a field lets the prover know that the session is good.
-        let _ = &self.tree;
         match self.read_open(handle, offset, len) {
             Ok(None) => true,
             Ok(Some(_)) => false,

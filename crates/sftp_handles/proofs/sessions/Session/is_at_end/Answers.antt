@@ -1,13 +1,11 @@
-use Rattle.std.proofs.Common.{subst}
 use Rattle.sftp_wire.specs.declared.packets.Ask.TheVariants.{Read}
-use Rattle.sftp_handles.specs.State.{Good}
 use Rattle.sftp_handles.proofs.Ends.{read-ends, read-gives, refused-never-ends}
 use Rattle.sftp_handles.proofs.sessions.Session.is_at_end.Goals as goal
 
 pub returns-in-Ok-None : goal.returns-in-Ok-None
 returns-in-Ok-None g c =
     read-ends c.args.self.now c.args.handle.now c.args.offset c.args.len
-    (subst Good c.self.view_is c.self.invariant) c.in-Ok-None.ensures.free
+    c.in-Ok-None.ensures.kept c.in-Ok-None.ensures.free
     (rw c.in-Ok-None.field-0-is at c.in-Ok-None.ensures.read)
 
 pub returns-in-Ok-Some : goal.returns-in-Ok-Some
