@@ -43,17 +43,109 @@ IsFreeCode code = AllByRecursion (λ cause. allows cause code ≡ false) every_c
 -- no cause allows the code that says OK
 pub allow-zero : (set : CauseSet) → allow set 0 ≡ false
 allow-zero set =
-    let free : IsFreeCode 0 =
-    (refl, (refl, (refl, (refl, (refl, (refl, (refl, (refl, (refl, (refl, (refl, (refl, (refl, (refl, (refl, (refl,
-    (refl, tt))))))))))))))))) in
+    let free : IsFreeCode 0 = (
+      refl,
+      (
+        refl,
+        (
+          refl,
+          (
+            refl,
+            (
+              refl,
+              (
+                refl,
+                (
+                  refl,
+                  (
+                    refl,
+                    (
+                      refl,
+                      (
+                        refl,
+                        (
+                          refl,
+                          (
+                            refl,
+                            (
+                              refl,
+                              (
+                                refl,
+                                (
+                                  refl,
+                                  (
+                                    refl,
+                                    (refl, tt),
+                                  ),
+                                ),
+                              ),
+                            ),
+                          ),
+                        ),
+                      ),
+                    ),
+                  ),
+                ),
+              ),
+            ),
+          ),
+        ),
+      ),
+    ) in
     none-allow set (λ cause. allows cause 0) every_cause free
 
 -- nor the code that says that the end was reached
 pub allow-one : (set : CauseSet) → allow set 1 ≡ false
 allow-one set =
-    let free : IsFreeCode 1 =
-    (refl, (refl, (refl, (refl, (refl, (refl, (refl, (refl, (refl, (refl, (refl, (refl, (refl, (refl, (refl, (refl,
-    (refl, tt))))))))))))))))) in
+    let free : IsFreeCode 1 = (
+      refl,
+      (
+        refl,
+        (
+          refl,
+          (
+            refl,
+            (
+              refl,
+              (
+                refl,
+                (
+                  refl,
+                  (
+                    refl,
+                    (
+                      refl,
+                      (
+                        refl,
+                        (
+                          refl,
+                          (
+                            refl,
+                            (
+                              refl,
+                              (
+                                refl,
+                                (
+                                  refl,
+                                  (
+                                    refl,
+                                    (refl, tt),
+                                  ),
+                                ),
+                              ),
+                            ),
+                          ),
+                        ),
+                      ),
+                    ),
+                  ),
+                ),
+              ),
+            ),
+          ),
+        ),
+      ),
+    ) in
     none-allow set (λ cause. allows cause 1) every_cause free
 
 -- ---- steps by the causes and the answer
