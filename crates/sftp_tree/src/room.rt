@@ -49,7 +49,7 @@ impl Tree {
     {
         match ask {
             PathAsk::Rename { .. } => move_fits(old, &new.place),
-            PathAsk::PosixRename { .. } => { self.are_one(old, new) || move_fits(old, &new.place) }
+            PathAsk::PosixRename { .. } => self.are_one(old, new) || move_fits(old, &new.place),
             PathAsk::Hardlink { .. } => self.has_room(&new.place),
             PathAsk::Mkdir { .. } => true,
             PathAsk::Rmdir { .. } => true,
