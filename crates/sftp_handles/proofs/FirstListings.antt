@@ -1,19 +1,23 @@
 -- What the listing of a directory gives at first can be given.
 use Rattle.std.proofs.Common.{◌≡◌, ◌==◌, ◌&&◌, not, nat_lt, nat_le, ℕ, ◌+◌, ◌^◌, ◌<◌, ◌≤◌, true, List, [], ◌∷◌, ◌++◌}
-use Rattle.std.proofs.Common.{length, Option, Some, None, refl, sym, ap, subst, ◌∙◌, IsTrue, leb-true, arith, lit<}
+use Rattle.std.proofs.Common.{append_assoc, map, length, Option, Some, None, refl, sym, ap, subst, ◌∙◌, IsTrue, leb-true, arith, lit<}
 use Rattle.std.specs.Ordering.{nat_cmp}
 use Rattle.std.specs.List.{list_all}
 use Rattle.std.specs.Option.{option_map}
 use Rattle.std.specs.Cmp.Lexicographic.{nat_list_cmp_total}
 use Rattle.std.specs.FinMap.{nat_cmp-IsAntisymmetric}
 use Rattle.std.proofs.lemmas.Bool.{and_parts}
+use Rattle.std.proofs.lemmas.List.{map-append}
 use Rattle.std.proofs.lemmas.List.Folds.{list_all-append}
 use Rattle.std.proofs.lemmas.Option.{same_Some}
 use Rattle.sftp_wire.specs.declared.attributes.Attrs.{Attrs}
 use Rattle.sftp_wire.specs.Spelling.{FitsAttrs}
 use Rattle.sftp_path.specs.Place.{Name, Place, name_cmp, place_cmp, is_name, are_names, is_good_path, name_limit}
 use Rattle.sftp_path.specs.Place.{components}
+use Rattle.sftp_path.specs.Table.{InOrder, put}
 use Rattle.sftp_path.proofs.Order.{bytes_cmp-same, place_cmp-same}
+use Rattle.sftp_path.proofs.Table.Laws.{from_entries-is}
+use Rattle.sftp_path.proofs.Table.Entries.{InOrder-front, get-front, from_entries-last}
 use Rattle.sftp_treefile.specs.declared.limits.TreeLimits.{TreeLimits}
 use Rattle.sftp_treefile.specs.TreeFile.{is_target}
 use Rattle.sftp_tree.specs.declared.file_contents.Content.{Content}
@@ -23,13 +27,16 @@ use Rattle.sftp_tree.specs.Tree.{Tree, IsKept, IsNode, IsContent, node_at, conte
 use Rattle.sftp_tree.specs.Attributes.{said, shown, shown_content}
 use Rattle.sftp_tree.specs.Requests.{shown_at}
 use Rattle.sftp_tree.specs.Listings.{listing}
+use Rattle.sftp_tree.specs.declared.listings.Item.{Item}
+use Rattle.sftp_tree.specs.Items.{entry_of}
 use Rattle.sftp_tree.proofs.PlaceTables.Each.{each-get, get-each, each-all}
 use Rattle.sftp_tree.proofs.Limits.Tests.{fits-parts}
 use Rattle.sftp_tree.proofs.Requests.ListedNames.{listing-rises, listed-at}
+use Rattle.sftp_handles.specs.Handles.{Left}
 use Rattle.sftp_handles.specs.State.{IsItem, IsLeft, is_plain}
 
 -- attributes that an entry of a listing may have
-abbrev IsShown : Attrs → Type 0
+abbrev pub IsShown : Attrs → Type 0
 IsShown attrs = FitsAttrs attrs × IsTrue (is_plain attrs)
 
 said-shown : (size uid gid permissions : ℕ) → size < 2 ^ 64 → uid < 2 ^ 32 → gid < 2 ^ 32 → permissions < 2 ^ 32
@@ -37,7 +44,7 @@ said-shown : (size uid gid permissions : ℕ) → size < 2 ^ 64 → uid < 2 ^ 32
 said-shown size uid gid permissions sized user group bits =
     (record { size = sized; owner = (user, group); permissions = bits; times = tt; extended = tt }, refl)
 
-short-target : (linktarget : List ℕ) → is_target linktarget ≡ true → length linktarget ≤ 4096
+pub short-target : (linktarget : List ℕ) → is_target linktarget ≡ true → length linktarget ≤ 4096
 unfolding is_good_path
 short-target linktarget is =
     let parts = and_parts (nat_lt 0 (length linktarget)) (is_good_path linktarget) is in
@@ -46,7 +53,7 @@ short-target linktarget is =
     && list_all (λ part. nat_le (length part) name_limit) (components linktarget)) parts.1 in
     leb-true (length linktarget) 4096 sizes.0
 
-content-shown : (t : Tree) (number : ℕ) (content : Content) → IsKept t → content_at t.files number ≡ Some content
+pub content-shown : (t : Tree) (number : ℕ) (content : Content) → IsKept t → content_at t.files number ≡ Some content
     → IsShown (shown_content content)
 content-shown t number content kept there =
     let well = kept.well_formed in
@@ -67,7 +74,7 @@ number-shown t number None attrs kept there is = absurd cc
 number-shown t number (Some content) attrs kept there is =
     subst IsShown (same_Some (shown_content content) attrs is) (content-shown t number content kept there)
 
-node-shown : (t : Tree) (standing : Node) (attrs : Attrs) → IsKept t → IsNode t.files standing
+pub node-shown : (t : Tree) (standing : Node) (attrs : Attrs) → IsKept t → IsNode t.files standing
     → link_fits standing ≡ true → shown t standing ≡ Some attrs → IsShown attrs
 node-shown t (Dir owner) attrs kept node link is =
     subst IsShown (same_Some (said 0 owner.uid owner.gid (0o040000 + owner.permissions)) attrs is)
@@ -113,3 +120,27 @@ listing-fits t kept place =
           item-of t kept place name attrs (node_at t.names (place ++ name ∷ [])) refl
           (sym (listed-at t place name kept.well_formed) ∙ there));
     }
+
+-- ---- a listing made item by item
+
+-- an entry behind all others is put at the end
+put-last : (es : Left) (e : Name × Attrs) (es-left : Left) → InOrder name_cmp (es ++ e ∷ es-left)
+    → put name_cmp es e.0 e.1 ≡ es ++ e ∷ []
+put-last es e es-left order =
+    let absent = get-front name_cmp nat_list_cmp_total bytes_cmp-same es e es-left order in
+    let front : InOrder name_cmp (es ++ e ∷ []) =
+    InOrder-front name_cmp (es ++ e ∷ []) es-left
+    (subst (InOrder name_cmp) (sym (append_assoc es (e ∷ []) es-left)) order) in
+    ap (λ t. put name_cmp t e.0 e.1)
+    (sym (from_entries-is name_cmp nat_list_cmp_total bytes_cmp-same es (InOrder-front name_cmp es (e ∷ []) front)))
+    ∙ (sym (from_entries-last name_cmp nat_list_cmp_total bytes_cmp-same es e absent)
+    ∙ from_entries-is name_cmp nat_list_cmp_total bytes_cmp-same (es ++ e ∷ []) front)
+
+-- and so is the entry of an item that comes next
+pub item-last : (so_far : List Item) (item : Item) (items-left : List Item)
+    → InOrder name_cmp (map entry_of (so_far ++ item ∷ items-left))
+    → put name_cmp (map entry_of so_far) item.name item.attrs ≡ map entry_of (so_far ++ item ∷ [])
+item-last so_far item items-left order =
+    put-last (map entry_of so_far) (entry_of item) (map entry_of items-left)
+    (subst (InOrder name_cmp) (map-append entry_of so_far (item ∷ items-left)) order)
+    ∙ sym (map-append entry_of so_far (item ∷ []))

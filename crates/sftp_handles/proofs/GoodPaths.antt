@@ -93,7 +93,7 @@ module _ (paths-lead : PathsLeadWell) (s : State) (ask : Ask) (good : Good s) (f
 -- ---- OPEN
 
 -- the place that OPEN led to has a name of the file that is opened
-opened-named : (t : Tree) (pflags : ℕ) (attrs : Attrs) (place : Place) (found : Option Node)
+pub opened-named : (t : Tree) (pflags : ℕ) (attrs : Attrs) (place : Place) (found : Option Node)
     → node_at t.names place ≡ found → (n : ℕ) → number_at t found ≡ Some n
     → node_at (with_opened t pflags attrs place found).names place ≡ Some (nodes.File n)
 opened-named t pflags attrs place None there n is =

@@ -5,12 +5,14 @@
 mod accepting;
 mod changing;
 pub mod examples;
+mod first_listings;
 mod found;
 mod given_table;
 mod giving;
 mod handle_causes;
 pub mod laws;
 mod listings;
+mod not_opened;
 mod open_files;
 mod opening;
 mod opens;
@@ -20,6 +22,7 @@ mod reading;
 mod session_causes;
 mod sessions;
 mod shown;
+mod striking;
 mod tables;
 
 pub use given_table::GivenTable;

@@ -74,7 +74,7 @@ impl<T: HandleTable> Session<T> {
     }
 
     /// Whether one more handle may be opened.
-    fn has_handle_left(&self) -> bool
+    pub(crate) fn has_handle_left(&self) -> bool
         ensures { result ≡ state.has_handle_left self.now }
     {
         let most = self.tree.tree_limits().open_handles as usize;

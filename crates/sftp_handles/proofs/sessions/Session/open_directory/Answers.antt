@@ -1,0 +1,41 @@
+use Rattle.std.proofs.Common.{◌≡◌, None, Ok, Err, length, ◌≤◌, sym, ap, subst, ◌∙◌, List, ℕ, Result, map, IfOk, Some}
+use Rattle.sftp_wire.specs.declared.packets.Ask.TheVariants as asks
+use Rattle.sftp_wire.specs.declared.packets.Answer.TheVariants as replies
+use Rattle.sftp_tree.specs.Items.{entry_of}
+use Rattle.sftp_tree.specs.Causes.{is_none}
+use Rattle.sftp_tree.specs.Requests as paths
+use Rattle.sftp_handles.specs.declared.opens.Open.TheVariants.{Listing}
+use Rattle.sftp_handles.specs.Handles.{with_open}
+use Rattle.sftp_handles.specs.State.{State, Good, IsLeft, has_handle_left}
+use Rattle.sftp_handles.specs.Allowed.{Does}
+use Rattle.sftp_handles.proofs.NewStates.{state_of}
+use Rattle.sftp_handles.proofs.Opened as opened
+use Rattle.sftp_handles.proofs.sessions.Session.open_directory.Goals as goal
+
+pub listing_of-requires : goal.listing_of-requires
+listing_of-requires g c =
+    (opened.left-fits c.self.inside.tree c.args.path.now (map entry_of c.in-Ok.items.items) c.in-Ok.ensures.kept
+    c.in-Ok.ensures.listed).ordered
+
+pub open_listing-requires-clause-left : goal.open_listing-requires-clause-left
+open_listing-requires-clause-left g c =
+    subst IsLeft (sym c.in-Ok-listing_of.ensures)
+    (opened.left-fits c.self.inside.tree c.args.path.now (map entry_of c.in-Ok.items.items) c.in-Ok.ensures.kept
+    c.in-Ok.ensures.listed)
+
+pub returns-in-Ok-listing_of-clause-done : goal.returns-in-Ok-listing_of-clause-done
+returns-in-Ok-listing_of-clause-done g c =
+    let s = c.args.self.now in
+    let ask = asks.Opendir c.args.path.now in
+    let listed : paths.listing_to s.tree ask ≡ Some c.in-Ok-listing_of.left =
+    ap (λ (s : State). paths.listing_to s.tree ask) (sym c.self.view_is)
+    ∙ (c.in-Ok.ensures.listed ∙ ap Some (sym c.in-Ok-listing_of.ensures)) in
+    let free = ap (λ (s : State). is_none (paths.causes s.tree ask)) (sym c.self.view_is) ∙ c.in-Ok.ensures.free in
+    opened.listed-ok s c.open_listing.new.self c.args.path.now c.in-Ok-listing_of.left c.open_listing.result
+    (λ name. name.items) (subst Good c.self.view_is c.self.invariant) listed c.requires.room free
+    c.open_listing.ensures.closed c.open_listing.ensures.opened c.open_listing.ensures.short
+
+pub returns-in-Err-clause-failed : goal.returns-in-Err-clause-failed
+returns-in-Err-clause-failed g c =
+    opened.refused-listing c.args.self.now c.self.inside.tree c.args.path.now c.in-Err.refused
+    (ap (λ (s : State). s.tree) c.self.view_is) c.in-Err.ensures.refused

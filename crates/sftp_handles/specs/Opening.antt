@@ -1,0 +1,13 @@
+-- Why nothing is opened. Words of private contracts.
+use Rattle.std.specs.Prelude.{ℕ, List, IsTrue}
+use Rattle.sftp_wire.specs.declared.packets.Ask.{Ask}
+use Rattle.sftp_handles.specs.declared.not_opened.NotOpened.{NotOpened}
+use Rattle.sftp_handles.specs.declared.not_opened.NotOpened.TheVariants.{Taken, Refused}
+use Rattle.sftp_handles.specs.Handles.{is_open}
+use Rattle.sftp_handles.specs.State.{State}
+use Rattle.sftp_handles.specs.Judged.{IsRefusal}
+
+-- the name that is wanted is open, or the request is refused
+abbrev pub IsNotOpened : State → Ask → List ℕ → NotOpened → Type 0
+IsNotOpened s ask want Taken = IsTrue (is_open s.handles want)
+IsNotOpened s ask want (Refused refused) = IsRefusal s ask refused

@@ -1,0 +1,25 @@
+//! What a listing gives at first.
+ghost use Rattle.std.specs.Prelude.{◌≡◌, map, IfOk};
+ghost use Rattle.sftp_path.specs.Place.{name_cmp};
+ghost use Rattle.sftp_path.specs.Table.{InOrder};
+ghost use Rattle.sftp_tree.specs.Items.{entry_of};
+
+use crate::listings::Listing;
+use sftp_path::NoMemory;
+use sftp_tree::Item;
+
+/// A listing that gives these items, which are in rising order of their names.
+///
+/// # Errors
+///
+/// `NoMemory` if memory runs out.
+pub(crate) fn listing_of(items: Vec<Item>) -> Result<Listing, NoMemory>
+    requires { InOrder name_cmp (map entry_of items.items) }
+    ensures { IfOk result (λ left. left ≡ map entry_of items.items) }
+{
+    let mut left = Listing::empty(*items.allocator());
+    for item in items {
+        left.add(item.name, item.attrs)?;
+    }
+    Ok(left)
+}
