@@ -23,7 +23,7 @@ use Rattle.sftp_handles.specs.Handles.{Handles, open_at}
 use Rattle.sftp_handles.specs.State.{State, Good, settled}
 use Rattle.sftp_handles.specs.Seen.{a_file, seen, seen_among}
 use Rattle.sftp_handles.specs.Replies as say
-use Rattle.sftp_handles.specs.Replies.{Said, says, refuses, same_attributes, is_one_name, is_data}
+use Rattle.sftp_handles.specs.Replies.{Said, says, refuses, same_attributes, is_one_name}
 use Rattle.sftp_handles.specs.HandleRequests.{Row, row_of, change_of, change_file, nothing}
 use Rattle.sftp_handles.specs.Requests.{causes, answers, target, target_by, told_to, said_by, said_to, opened_by}
 use Rattle.sftp_handles.specs.Requests.{flags_of, with_new, changed}
