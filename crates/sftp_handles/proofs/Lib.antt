@@ -12,3 +12,4 @@ pub mod Strikes
 pub mod SeenCauses
 pub mod SeenAnswers
 pub mod Opened
+pub mod HandleReplies

@@ -9,7 +9,7 @@ ghost use Rattle.sftp_handles.specs.Handles as handles;
 ghost use Rattle.sftp_handles.specs.State.{IsLeft, has_handle_left};
 ghost use Rattle.sftp_handles.specs.Allowed.{Does};
 ghost use Rattle.sftp_handles.specs.Judged.{IsJudged};
-ghost use Rattle.sftp_handles.specs.Opening.{IsNotOpened};
+ghost use Rattle.sftp_handles.specs.Opening.{IsNotOpened, not_opened};
 
 use crate::first_listings::listing_of;
 use crate::listings::Listing;
@@ -64,10 +64,15 @@ impl<T: HandleTable> Session<T> {
     /// # Errors
     ///
     /// `Taken` if the wanted name is open already, and else as the tree's call. The session is then as before.
-    pub(crate) fn open_directory(&mut self, path: &[u8], want: Vec<u8>) -> Result<Vec<u8>, NotOpened>
+    pub(crate) fn open_directory(
+        &mut self,
+        path: &[u8],
+        want: Vec<u8>,
+    ) -> Result<Vec<u8>, NotOpened>
         requires short { length want.items ≤ handle_limit }
         requires room { IsTrue (has_handle_left self.old) }
-        ensures done { IfOk result (λ name. Does self.old (asks.Opendir path.now) (replies.Handle name.items) self.new) }
+        ensures done { IfOk result
+            (λ name. Does self.old (asks.Opendir path.now) (replies.Handle name.items) self.new) }
         ensures wanted { IfOk result (λ name. IsTrue T.takes_want → name.items ≡ want.items) }
         ensures failed { IfErr result (IsNotOpened self.old (asks.Opendir path.now) want.items) }
         ensures kept { OnErr result (self.new ≡ self.old) }
@@ -93,7 +98,8 @@ impl<T: HandleTable> Session<T> {
         requires left { IsLeft left }
         ensures closed { IfOk result (λ name. handles.open_at self.old.handles name.items ≡ None) }
         ensures opened { IfOk result (λ name. self.new ≡ record self.old {
-            handles = handles.with_open self.old.handles name.items (opens.Listing left) }) }
+          handles = handles.with_open self.old.handles name.items (opens.Listing left);
+        }) }
         ensures short { IfOk result (λ name. length name.items ≤ handle_limit) }
         ensures wanted { IfOk result (λ name. IsTrue T.takes_want → name.items ≡ want.items) }
         ensures failed { IfErr result (λ e. (asked : ask) → IsNotOpened self.old asked want.items e) }
@@ -153,7 +159,13 @@ impl<T: HandleTable> Session<T> {
     /// # Errors
     ///
     /// `NoMemory` if memory runs out; the session is then as before.
-    fn judge_file(&mut self, path: &[u8], pflags: u32, attrs: &Attrs, handle: &[u8]) -> Result<bool, NoMemory>
+    fn judge_file(
+        &mut self,
+        path: &[u8],
+        pflags: u32,
+        attrs: &Attrs,
+        handle: &[u8],
+    ) -> Result<bool, NoMemory>
         requires { IsTrue T.takes_want }
         ensures ok { IfOk result
             (λ ok. IsJudged self.old (asks.Open path.now pflags attrs.now) (replies.Handle handle.now) ok self.new) }
@@ -164,10 +176,8 @@ impl<T: HandleTable> Session<T> {
         }
         let want = Vec::from_slice(self.tree.allocator(), handle)?;
         match self.open_file(path, pflags, attrs, want) {
-            Ok(_) => Ok(true),
-            Err(NotOpened::Taken) => Ok(false),
-            Err(NotOpened::Refused(Refused::Cause(_))) => Ok(false),
-            Err(NotOpened::Refused(Refused::NoMemory)) => Err(NoMemory),
+            Ok(_name) => Ok(true),
+            Err(failed) => not_opened(failed),
         }
     }
 
@@ -187,10 +197,8 @@ impl<T: HandleTable> Session<T> {
         }
         let want = Vec::from_slice(self.tree.allocator(), handle)?;
         match self.open_directory(path, want) {
-            Ok(_) => Ok(true),
-            Err(NotOpened::Taken) => Ok(false),
-            Err(NotOpened::Refused(Refused::Cause(_))) => Ok(false),
-            Err(NotOpened::Refused(Refused::NoMemory)) => Err(NoMemory),
+            Ok(_name) => Ok(true),
+            Err(failed) => not_opened(failed),
         }
     }
 
@@ -199,6 +207,21 @@ impl<T: HandleTable> Session<T> {
         ensures { result ≡ (nat_le (length handle.now) handle_limit && has_handle_left self.now) }
     {
         handle.len() <= HANDLE_LIMIT && self.has_handle_left()
+    }
+}
+
+/// Says that nothing was opened.
+///
+/// # Errors
+///
+/// `NoMemory` if that is since memory ran out.
+fn not_opened(failed: NotOpened) -> Result<bool, NoMemory>
+    ensures { result ≡ not_opened failed }
+{
+    match failed {
+        NotOpened::Taken => Ok(false),
+        NotOpened::Refused(Refused::Cause(_)) => Ok(false),
+        NotOpened::Refused(Refused::NoMemory) => Err(NoMemory),
     }
 }
 
@@ -221,6 +244,8 @@ fn give_back<T: HandleTable>(table: &mut T, handle: &[u8])
 fn kept_flags(pflags: u32) -> OpenFlags
     ensures { result ≡ handles.kept_flags pflags }
 {
-    let kept = OpenFlags::READ.union(OpenFlags::WRITE).union(OpenFlags::APPEND);
+    let kept = OpenFlags::READ
+        .union(OpenFlags::WRITE)
+        .union(OpenFlags::APPEND);
     OpenFlags::from_bits_retain(pflags).intersection(kept)
 }
