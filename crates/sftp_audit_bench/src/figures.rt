@@ -62,7 +62,10 @@ pub(crate) fn print_speed<R: AllocGlobal + Clock + Print>(
 }
 
 /// The least of the times in microseconds that audits of a session take, the tree read and written again.
-fn least_micros<R: AllocGlobal + Clock>(rt: &R, session: &Session) -> Result<u128, BenchError> {
+pub(crate) fn least_micros<R: AllocGlobal + Clock>(
+    rt: &R,
+    session: &Session,
+) -> Result<u128, BenchError> {
     let mut least = u128::MAX;
     for _ in 0..AUDITS {
         least = least.min(micros(rt, session)?);

@@ -6,6 +6,7 @@
 mod deep;
 mod errors;
 mod figures;
+mod handles;
 mod sessions;
 mod trees;
 
@@ -31,12 +32,14 @@ fn run(rt: &HostRuntime) -> Result<(), BenchError> {
         [] | [_] => {
             figures::print_counts(rt)?;
             trees::print_counts(rt)?;
-            deep::print_counts(rt)
+            deep::print_counts(rt)?;
+            handles::print_counts(rt)
         }
         [_, word] if word.as_str() == "measure" => {
             figures::print_figures(rt)?;
             trees::print_figures(rt)?;
-            deep::print_figures(rt)
+            deep::print_figures(rt)?;
+            handles::print_figures(rt)
         }
         _ => Err(BenchError::Usage),
     }

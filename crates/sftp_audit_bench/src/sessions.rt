@@ -156,6 +156,21 @@ pub(crate) fn put_reply(
     out.extend_from_slice(rest)
 }
 
+/// Records a packet of that side, type and id, with further bytes in two parts.
+pub(crate) fn put_packet(
+    out: &mut Vec<u8>,
+    side: u8,
+    packet: u8,
+    id: u32,
+    first: &[u8],
+    second: &[u8],
+) -> Result<(), AllocError> {
+    out.push(side)?;
+    put_head(out, packet, id, first.len().saturating_add(second.len()))?;
+    out.extend_from_slice(first)?;
+    out.extend_from_slice(second)
+}
+
 /// Records a NAME reply of one name, of which nothing else is said.
 fn put_target(out: &mut Vec<u8>, id: u32, target: &[u8]) -> Result<(), AllocError> {
     out.push(b'S')?;

@@ -37,7 +37,7 @@ use Rattle.sftp_handles.specs.Handles.{Left}
 use Rattle.sftp_handles.specs.State.{IsItem, IsLeft, is_plain}
 
 -- attributes that an entry of a listing may have
-abbrev IsShown : Attrs → Type 0
+abbrev pub IsShown : Attrs → Type 0
 IsShown attrs = FitsAttrs attrs × IsTrue (is_plain attrs)
 
 said-shown : (size uid gid permissions : ℕ) → size < 2 ^ 64 → uid < 2 ^ 32 → gid < 2 ^ 32 → permissions < 2 ^ 32
@@ -45,7 +45,7 @@ said-shown : (size uid gid permissions : ℕ) → size < 2 ^ 64 → uid < 2 ^ 32
 said-shown size uid gid permissions sized user group bits =
     (record { size = sized; owner = (user, group); permissions = bits; times = tt; extended = tt }, refl)
 
-short-target : (linktarget : List ℕ) → is_target linktarget ≡ true → length linktarget ≤ 4096
+pub short-target : (linktarget : List ℕ) → is_target linktarget ≡ true → length linktarget ≤ 4096
 unfolding is_good_path
 short-target linktarget is =
     let parts = and_parts (nat_lt 0 (length linktarget)) (is_good_path linktarget) is in
@@ -54,7 +54,7 @@ short-target linktarget is =
     && list_all (λ part. nat_le (length part) name_limit) (components linktarget)) parts.1 in
     leb-true (length linktarget) 4096 sizes.0
 
-content-shown : (t : Tree) (number : ℕ) (content : Content) → IsKept t → content_at t.files number ≡ Some content
+pub content-shown : (t : Tree) (number : ℕ) (content : Content) → IsKept t → content_at t.files number ≡ Some content
     → IsShown (shown_content content)
 content-shown t number content kept there =
     let well = kept.well_formed in
@@ -75,7 +75,7 @@ number-shown t number None attrs kept there is = absurd cc
 number-shown t number (Some content) attrs kept there is =
     subst IsShown (same_Some (shown_content content) attrs is) (content-shown t number content kept there)
 
-node-shown : (t : Tree) (standing : Node) (attrs : Attrs) → IsKept t → IsNode t.files standing
+pub node-shown : (t : Tree) (standing : Node) (attrs : Attrs) → IsKept t → IsNode t.files standing
     → link_fits standing ≡ true → shown t standing ≡ Some attrs → IsShown attrs
 node-shown t (Dir owner) attrs kept node link is =
     subst IsShown (same_Some (said 0 owner.uid owner.gid (0o040000 + owner.permissions)) attrs is)

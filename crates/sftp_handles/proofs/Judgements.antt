@@ -1,21 +1,24 @@
 -- Judgements: whether an answer is allowed, and the state then, by the causes and by what the answer says.
 use Rattle.std.proofs.Common.{◌≡◌, ◌==◌, ◌&&◌, ℕ, Bool, true, false, List, [], ◌∷◌, Some, None, refl, sym, ap, ◌∙◌}
 use Rattle.std.proofs.Common.{IsTrue}
-use Rattle.std.specs.List.{list_any, AllByRecursion}
+use Rattle.std.specs.List.{list_any}
 use Rattle.std.proofs.lemmas.Bool.{and_parts}
 use Rattle.sftp_wire.specs.declared.packets.Ask.{Ask}
 use Rattle.sftp_wire.specs.declared.packets.Answer.{Answer}
 use Rattle.sftp_wire.specs.declared.packets.Answer.TheVariants.{Status, Extended}
+use Rattle.sftp_wire.specs.declared.packets.Request.{Request}
+use Rattle.sftp_wire.specs.declared.packets.Reply.{Reply}
 use Rattle.sftp_wire.specs.Spelling.{asked_handle}
 use Rattle.sftp_tree.specs.declared.causes.Cause.{Cause}
+use Rattle.sftp_tree.specs.declared.causes.Cause.TheVariants.{BadFlags}
 use Rattle.sftp_tree.specs.Causes.{CauseSet, every_cause, allows, allow, is_none}
 use Rattle.sftp_tree.proofs.CauseLaws.Sets.{none-each}
 use Rattle.sftp_handles.specs.State.{State}
 use Rattle.sftp_handles.specs.Replies.{Said, ok, shows, names, gives, ended, lists, opens, says, refuses}
 use Rattle.sftp_handles.specs.Requests.{causes, said_to, answers, target}
-use Rattle.sftp_handles.specs.Allowed.{Does, stepped, step}
+use Rattle.sftp_handles.specs.Allowed.{Does, Allowed, stepped, step}
 use Rattle.sftp_handles.specs.Judged.{IsJudged, IsJudgedCode, IsDone}
-use Rattle.sftp_handles.proofs.Steps.{done-step}
+use Rattle.sftp_handles.proofs.Steps.{done-step, allowed-step, step-is_allowed}
 
 -- ---- causes
 
@@ -31,30 +34,26 @@ neither : (a b : Bool) → b ≡ false → (a && b) ≡ false
 neither true b is = is
 neither false b is = refl
 
-none-allow : (set : CauseSet) (test : Cause → Bool) (xs : List Cause)
-    → AllByRecursion (λ cause. test cause ≡ false) xs → list_any (λ cause. set cause && test cause) xs ≡ false
-none-allow set test [] all = refl
-none-allow set test (x ∷ xs) all = rw (neither (set x) (test x) all.0) (none-allow set test xs all.1)
+none-allow : (set : CauseSet) (test : Cause → Bool) (causes : List Cause) → ((cause : Cause) → test cause ≡ false)
+    → list_any (λ cause. set cause && test cause) causes ≡ false
+none-allow set test [] none = refl
+none-allow set test (c ∷ cs) none = rw (neither (set c) (test c) (none c)) (none-allow set test cs none)
 
--- a code that no cause in the list allows
-abbrev IsFreeCode : ℕ → Type 0
-IsFreeCode code = AllByRecursion (λ cause. allows cause code ≡ false) every_cause
+zero-not_allowed : (cause : Cause) → allows cause 0 ≡ false
+zero-not_allowed BadFlags = refl
+zero-not_allowed _ = refl
 
 -- no cause allows the code that says OK
 pub allow-zero : (set : CauseSet) → allow set 0 ≡ false
-allow-zero set =
-    let free : IsFreeCode 0 =
-    (refl, (refl, (refl, (refl, (refl, (refl, (refl, (refl, (refl, (refl, (refl, (refl, (refl, (refl, (refl, (refl,
-    (refl, tt))))))))))))))))) in
-    none-allow set (λ cause. allows cause 0) every_cause free
+allow-zero set = none-allow set (λ cause. allows cause 0) every_cause zero-not_allowed
+
+one-not_allowed : (cause : Cause) → allows cause 1 ≡ false
+one-not_allowed BadFlags = refl
+one-not_allowed _ = refl
 
 -- nor the code that says that the end was reached
 pub allow-one : (set : CauseSet) → allow set 1 ≡ false
-allow-one set =
-    let free : IsFreeCode 1 =
-    (refl, (refl, (refl, (refl, (refl, (refl, (refl, (refl, (refl, (refl, (refl, (refl, (refl, (refl, (refl, (refl,
-    (refl, tt))))))))))))))))) in
-    none-allow set (λ cause. allows cause 1) every_cause free
+allow-one set = none-allow set (λ cause. allows cause 1) every_cause one-not_allowed
 
 -- ---- steps by the causes and the answer
 
@@ -182,3 +181,21 @@ unfolding answers
 judged-extended s ask bytes =
     judged-none s ask (Extended bytes)
     (not-answered s ask (Extended bytes) (says-extended (said_to s ask (asked_handle ask)) bytes) refl)
+
+-- ---- replies
+
+-- a reply with the id of the request is allowed exactly if its answer is
+pub allowed-reply : (s : State) (request : Request) (reply : Reply) (end : State) (allowed : Bool)
+    → reply.id ≡ request.id → IsJudged s request.ask reply.answer allowed end → IsTrue allowed
+    → Allowed s request reply end
+allowed-reply s request reply end true same judged is = step-is_allowed s request reply end same judged.step_is
+allowed-reply s request reply end false same judged is = absurd cc
+
+pub refused-reply : (s : State) (request : Request) (reply : Reply) (end : State) (allowed : Bool)
+    → IsJudged s request.ask reply.answer allowed end → allowed ≡ false
+    → (other : State) → Allowed s request reply other → ⊥
+refused-reply s request reply end true judged is other a = absurd cc
+refused-reply s request reply end false judged is other a =
+    let none : step s request.ask reply.answer ≡ None = judged.step_is in
+    let some = allowed-step s request reply other a in
+    cc

@@ -1,8 +1,11 @@
 -- What the code finds out about the answer to a request. Words of private contracts.
-use Rattle.std.specs.Prelude.{◌≡◌, ℕ, Bool, false, if◌then◌else◌, List, Option, Some, None, IsTrue}
+use Rattle.std.specs.Prelude.{◌≡◌, ℕ, Bool, true, false, if◌then◌else◌, List, Some, None, Result, Ok, Err}
+use Rattle.std.specs.Prelude.{IsTrue}
 use Rattle.sftp_wire.specs.declared.packets.Ask.{Ask}
+use Rattle.sftp_wire.specs.declared.packets.Ask.TheVariants as asks
 use Rattle.sftp_wire.specs.declared.packets.Answer.{Answer}
 use Rattle.sftp_wire.specs.declared.packets.Answer.TheVariants as replies
+use Rattle.sftp_path.specs.declared.errors.NoMemory.{NoMemory}
 use Rattle.sftp_tree.specs.declared.causes.Refused.{Refused}
 use Rattle.sftp_tree.specs.declared.causes.Refused.TheVariants as refusals
 use Rattle.sftp_handles.specs.State.{State}
@@ -27,3 +30,21 @@ IsDone s ask end = (message language : List ℕ) → Does s ask (replies.Status 
 abbrev pub IsRefusal : State → Ask → Refused → Type 0
 IsRefusal s ask (refusals.Cause cause) = IsTrue (causes s ask cause)
 IsRefusal s ask refusals.NoMemory = Unit {0}
+
+-- whether a call was done, and not refused by a cause; `NoMemory` where memory ran out
+abbrev pub is_done : {A : Type 0} → Result A Refused → Result Bool NoMemory
+is_done (Ok value) = Ok true
+is_done (Err (refusals.Cause cause)) = Ok false
+is_done (Err refusals.NoMemory) = Err (record {})
+
+-- whether a request changes the tree, and opens nothing, by its paths alone
+abbrev pub changes_tree : Ask → Bool
+changes_tree (asks.Mkdir path attrs) = true
+changes_tree (asks.Rmdir path) = true
+changes_tree (asks.Remove path) = true
+changes_tree (asks.Setstat path attrs) = true
+changes_tree (asks.Rename oldpath newpath) = true
+changes_tree (asks.PosixRename oldpath newpath) = true
+changes_tree (asks.Hardlink oldpath newpath) = true
+changes_tree (asks.Symlink targetpath linkpath) = true
+changes_tree other = false

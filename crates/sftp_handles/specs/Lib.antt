@@ -5,8 +5,10 @@ pub mod Replies
 pub mod HandleRequests
 pub mod Requests
 pub mod Allowed
+pub mod Laws
 pub mod Examples
 pub mod Given
+pub mod Giving
 pub mod Found
 pub mod Judged
 pub mod Opening

@@ -4,6 +4,9 @@ ghost use Rattle.sftp_wire.specs.declared.packets.Ask.TheVariants.{Close, Write,
 ghost use Rattle.sftp_handles.specs.Requests.{causes};
 ghost use Rattle.sftp_handles.specs.Judged.{IsDone, IsRefusal};
 
+use crate::found::may_write;
+use crate::handle_causes::cannot_resize;
+use crate::opens::Open;
 use crate::sessions::Session;
 use crate::tables::HandleTable;
 use sftp_tree::{Cause, Refused};
@@ -20,7 +23,16 @@ impl<T: HandleTable> Session<T> {
         ensures refused { IfErr result (λ cause. IsTrue (causes self.old (Close handle.now) cause)) }
         ensures kept { OnErr result (self.new ≡ self.old) }
     {
-        unreachable!()
+        match self.table.take(handle) {
+            Some(it) => {
+                match &it {
+                    Open::File { file, .. } => self.tree.unpin(*file),
+                    Open::Listing { .. } => {}
+                }
+                Ok(())
+            }
+            None => Err(Cause::BadHandle),
+        }
     }
 
     /// WRITE: writes bytes to an open file, from an offset on, or at its end if it was opened to be appended to.
@@ -29,12 +41,26 @@ impl<T: HandleTable> Session<T> {
     ///
     /// `BadHandle` if the handle is not open, `WrongKind` if it is a directory's, `NotOpenFor` if the file was not
     /// opened to be written, or `NoRoom`. `NoMemory` if memory runs out. The session is then as before.
-    pub(crate) fn write_open(&mut self, handle: &[u8], offset: u64, bytes: &[u8]) -> Result<(), Refused>
+    pub(crate) fn write_open(
+        &mut self,
+        handle: &[u8],
+        offset: u64,
+        bytes: &[u8],
+    ) -> Result<(), Refused>
         ensures done { OnOk result (IsDone self.old (Write handle.now offset bytes.now) self.new) }
         ensures refused { IfErr result (IsRefusal self.old (Write handle.now offset bytes.now)) }
         ensures kept { OnErr result (self.new ≡ self.old) }
     {
-        Err(Refused::NoMemory)
+        match self.file_at(handle) {
+            Ok(found) => {
+                if !may_write(found.1) {
+                    return Err(Refused::Cause(Cause::NotOpenFor));
+                }
+                let start = self.start_of(found.0, found.1, offset);
+                self.tree.write_at(found.0, start, bytes)
+            }
+            Err(cause) => Err(Refused::Cause(cause)),
+        }
     }
 
     /// FSETSTAT: sets the size, the owner and the permissions of an open file, each if it is given.
@@ -42,13 +68,22 @@ impl<T: HandleTable> Session<T> {
     /// # Errors
     ///
     /// `BadHandle` if the handle is not open, `WrongKind` if it is a directory's, `NotOpenFor` if a size is given and
-    /// the file was not opened to be written, or `NoRoom`. `NoMemory` if memory runs out. The session is then as before.
+    /// the file was not opened to be written, or `NoRoom`. `NoMemory` if memory runs out. The session is then as
+    /// before.
     pub(crate) fn set_open(&mut self, handle: &[u8], attrs: &Attrs) -> Result<(), Refused>
         ensures done { OnOk result (IsDone self.old (Fsetstat handle.now attrs.now) self.new) }
         ensures refused { IfErr result (IsRefusal self.old (Fsetstat handle.now attrs.now)) }
         ensures kept { OnErr result (self.new ≡ self.old) }
     {
-        Err(Refused::NoMemory)
+        match self.file_at(handle) {
+            Ok(found) => {
+                if cannot_resize(found.1, attrs) {
+                    return Err(Refused::Cause(Cause::NotOpenFor));
+                }
+                self.tree.set_file(found.0, attrs)
+            }
+            Err(cause) => Err(Refused::Cause(cause)),
+        }
     }
 
     /// fsync: changes nothing, since the tree is in memory. It takes no memory.
@@ -60,6 +95,10 @@ impl<T: HandleTable> Session<T> {
         ensures done { OnOk result (IsDone self.now (Fsync handle.now) self.now) }
         ensures refused { IfErr result (λ cause. IsTrue (causes self.now (Fsync handle.now) cause)) }
     {
-        unreachable!()
+        let _ = &self.tree;
+        match self.file_at(handle) {
+            Ok(_) => Ok(()),
+            Err(cause) => Err(cause),
+        }
     }
 }

@@ -1,13 +1,20 @@
 //! READDIR: the names that a listing gives, and its end (draft, section 6.7).
-ghost use Rattle.std.specs.Prelude.{◌≡◌, IfOk, OnErr};
-ghost use Rattle.sftp_wire.specs.declared.packets.Ask.TheVariants.{Readdir};
+ghost use Rattle.std.specs.Prelude.{◌≡◌, is_some, IfOk, IfSome, OnErr};
+ghost use Rattle.sftp_wire.specs.declared.packets.Ask.TheVariants.{Read, Readdir};
 ghost use Rattle.sftp_wire.specs.declared.packets.Answer.TheVariants as replies;
+ghost use Rattle.sftp_handles.specs.Handles.{open_at};
+ghost use Rattle.sftp_handles.specs.Replies.{names_in};
+ghost use Rattle.sftp_handles.specs.Giving.{IsListing, gives_names, with_struck};
 ghost use Rattle.sftp_handles.specs.Judged.{IsJudged, IsJudgedCode};
 
+use crate::listings::Listing;
+use crate::opens::Open;
 use crate::sessions::Session;
 use crate::tables::HandleTable;
+use sftp_path::Name;
 use sftp_tree::NoMemory;
 use sftp_wire::{Ask, Names};
+use std::alloc::Global;
 
 impl<T: HandleTable> Session<T> {
     /// READDIR: whether names are some of those that the listing still has to give, each once and with its attributes.
@@ -21,7 +28,31 @@ impl<T: HandleTable> Session<T> {
             (λ ok. IsJudged self.old (Readdir handle.now) (replies.Name names.now) ok self.new) }
         ensures err { OnErr result (self.new ≡ self.old) }
     {
-        Err(NoMemory)
+        match self.names_to_give(handle, names)? {
+            Some(given) => {
+                let alloc = self.tree.allocator();
+                strike_names(&mut self.table, alloc, handle, given.as_slice());
+                Ok(true)
+            }
+            None => Ok(false),
+        }
+    }
+
+    /// The names of a reply, if a listing is open that still has to give them.
+    ///
+    /// # Errors
+    ///
+    /// `NoMemory` if memory runs out.
+    fn names_to_give(&self, handle: &[u8], names: &Names) -> Result<Option<Vec<Name>>, NoMemory>
+        ensures given { IfOk result (λ o. IfSome o (λ given. given.items ≡ names_in names.now)) }
+        ensures gives { IfOk result (λ o.
+            is_some o ≡ gives_names (open_at self.now.handles handle.now) names.now) }
+    {
+        match self.table.find(handle) {
+            Some(Open::Listing { left }) => left.chosen(self.tree.allocator(), names),
+            Some(Open::File { .. }) => Ok(None),
+            None => Ok(None),
+        }
     }
 
     /// Whether a request has come to an end: it is READ at the end of a file or past it, or READDIR of a listing that
@@ -29,6 +60,79 @@ impl<T: HandleTable> Session<T> {
     pub(crate) fn has_ended(&self, ask: &Ask) -> bool
         ensures { IsJudgedCode self.now ask.now 1 result self.now }
     {
-        unreachable!()
+        match ask {
+            Ask::Read {
+                handle,
+                offset,
+                len,
+            } => self.is_at_end(handle.as_slice(), *offset, *len),
+            Ask::Readdir { handle } => self.has_given_all(handle.as_slice()),
+            Ask::Open { .. } => false,
+            Ask::Close { .. } => false,
+            Ask::Write { .. } => false,
+            Ask::Lstat { .. } => false,
+            Ask::Fstat { .. } => false,
+            Ask::Setstat { .. } => false,
+            Ask::Fsetstat { .. } => false,
+            Ask::Opendir { .. } => false,
+            Ask::Remove { .. } => false,
+            Ask::Mkdir { .. } => false,
+            Ask::Rmdir { .. } => false,
+            Ask::Realpath { .. } => false,
+            Ask::Stat { .. } => false,
+            Ask::Rename { .. } => false,
+            Ask::Readlink { .. } => false,
+            Ask::Symlink { .. } => false,
+            Ask::PosixRename { .. } => false,
+            Ask::Hardlink { .. } => false,
+            Ask::Fsync { .. } => false,
+            Ask::Unknown { .. } => false,
+        }
+    }
+
+    /// READ: whether the offset is the end of the file or past it.
+    fn is_at_end(&self, handle: &[u8], offset: u64, len: u32) -> bool
+        ensures { IsJudgedCode self.now (Read handle.now offset len) 1 result self.now }
+    {
+        match self.read_open(handle, offset, len) {
+            Ok(None) => true,
+            Ok(Some(_)) => false,
+            Err(_) => false,
+        }
+    }
+
+    /// READDIR: whether a listing is open that has nothing left to give.
+    fn has_given_all(&self, handle: &[u8]) -> bool
+        ensures { IsJudgedCode self.now (Readdir handle.now) 1 result self.now }
+    {
+        match self.table.find(handle) {
+            Some(Open::Listing { left }) => left.is_empty(),
+            Some(Open::File { .. }) => false,
+            None => false,
+        }
+    }
+}
+
+/// Strikes names from the listing that is open under a handle. It takes no memory: the listing is taken out for as long
+/// as it changes, and an empty one is in its place.
+fn strike_names<T: HandleTable>(table: &mut T, alloc: Global, handle: &[u8], given: &[Name])
+    requires { IsListing (open_at (T.handles table.old) handle.now) }
+    ensures { T.handles table.new
+        ≡ with_struck (T.handles table.old) handle.now given.now (open_at (T.handles table.old) handle.now) }
+{
+    let empty = Open::Listing {
+        left: Listing::empty(alloc),
+    };
+    match table.swap(handle, empty) {
+        Ok(Open::Listing { left }) => {
+            let mut left = left;
+            left.strike_all(given);
+            match table.swap(handle, Open::Listing { left }) {
+                Ok(_) => {}
+                Err(_) => unreachable!(),
+            }
+        }
+        Ok(Open::File { .. }) => unreachable!(),
+        Err(_) => unreachable!(),
     }
 }

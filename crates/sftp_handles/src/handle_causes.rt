@@ -102,7 +102,7 @@ impl<T: HandleTable> Session<T> {
     }
 
     /// Where a WRITE starts: at its offset, or at the end.
-    fn start_of(&self, file: FileNo, flags: OpenFlags, offset: u64) -> u64
+    pub(crate) fn start_of(&self, file: FileNo, flags: OpenFlags, offset: u64) -> u64
         requires { HasFile self.now.tree.files file }
         ensures { option_map (rows.start_of flags offset) (content_at self.now.tree.files file) ≡ Some result }
     {
@@ -112,7 +112,7 @@ impl<T: HandleTable> Session<T> {
 }
 
 /// Whether a size is given for a file that was not opened to be written.
-fn cannot_resize(flags: OpenFlags, attrs: &Attrs) -> bool
+pub(crate) fn cannot_resize(flags: OpenFlags, attrs: &Attrs) -> bool
     ensures { result ≡ (is_some attrs.now.size && not (rows.may_write flags)) }
 {
     attrs.size.is_some() && !may_write(flags)

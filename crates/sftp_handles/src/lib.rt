@@ -21,6 +21,8 @@ pub mod pin_laws;
 mod reading;
 mod session_causes;
 mod sessions;
+mod shown;
+mod striking;
 mod tables;
 
 pub use given_table::GivenTable;

@@ -6,6 +6,7 @@ ghost use Rattle.sftp_handles.specs.Requests.{causes, said_to};
 ghost use Rattle.sftp_handles.specs.Replies.{shows};
 ghost use Rattle.sftp_handles.specs.HandleRequests.{read_from};
 ghost use Rattle.sftp_handles.specs.Found.{read_said};
+ghost use Rattle.sftp_handles.specs.State.{Good};
 ghost use Rattle.sftp_tree.specs.Tree.{HasFile, content_at, limits};
 
 use crate::found::may_read;
@@ -25,6 +26,7 @@ impl<T: HandleTable> Session<T> {
         ensures shown { IfOk result (λ attrs.
             said_to self.now (Fstat handle.now) (Some handle.now) ≡ shows (Some attrs)) }
         ensures refused { IfErr result (λ cause. IsTrue (causes self.now (Fstat handle.now) cause)) }
+        ensures kept { OnOk result (Good self.now) }
     {
         match self.file_at(handle) {
             Ok(found) => Ok(self.tree.stat_file(found.0)),
@@ -44,6 +46,7 @@ impl<T: HandleTable> Session<T> {
         ensures read { IfOk result (λ bytes.
             said_to self.now (Read handle.now offset len) (Some handle.now) ≡ read_said (option_copied bytes)) }
         ensures refused { IfErr result (λ cause. IsTrue (causes self.now (Read handle.now offset len) cause)) }
+        ensures kept { OnOk result (Good self.now) }
     {
         match self.file_at(handle) {
             Ok(found) => {
@@ -60,8 +63,9 @@ impl<T: HandleTable> Session<T> {
     /// as the tree's limit of one READ; nothing at the end of the file and past it. It takes no memory.
     fn bytes_of(&self, file: FileNo, offset: u64, len: u32) -> Option<&[u8]>
         requires { HasFile self.now.tree.files file }
-        ensures { option_map (read_from (limits self.now.tree) offset len) (content_at self.now.tree.files file)
+        ensures read { option_map (read_from (limits self.now.tree) offset len) (content_at self.now.tree.files file)
             ≡ Some (read_said (option_copied result)) }
+        ensures kept { Good self.now }
     {
         if offset >= self.tree.byte_count(file) {
             return None;

@@ -4,6 +4,7 @@ use std::alloc::{AllocError, Global};
 use std::test::Fail;
 
 mod files;
+mod handles;
 mod links;
 mod records;
 mod refusals;
@@ -114,7 +115,12 @@ fn first_wrong<'a>(alloc: Global, sessions: &[Session<'a>]) -> Result<Option<&'a
 
 #[test]
 fn tables_of_sessions(rt: HostRuntime) -> Result<(), Fail> {
-    for table in [files::SESSIONS, links::SESSIONS, sessions::SESSIONS] {
+    for table in [
+        files::SESSIONS,
+        handles::SESSIONS,
+        links::SESSIONS,
+        sessions::SESSIONS,
+    ] {
         let wrong = first_wrong(rt.alloc(), table)?;
         assert!(rt; wrong.is_none(), "{wrong:?}");
     }

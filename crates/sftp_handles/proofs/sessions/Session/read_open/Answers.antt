@@ -26,7 +26,7 @@ returns-else-not-may_read-clause-free g c =
 pub returns-else-not-may_read-clause-read : goal.returns-else-not-may_read-clause-read
 returns-else-not-may_read-clause-read g c =
     said-found c.args.self.now (Read c.args.handle.now c.args.offset c.args.len) c.args.handle.now refl c.in-Ok.found
-    (read_said (option_copied c.bytes_of.result)) (sym c.in-Ok.ensures.found) c.bytes_of.ensures
+    (read_said (option_copied c.bytes_of.result)) (sym c.in-Ok.ensures.found) c.bytes_of.ensures.read
 
 pub returns-in-Err-clause-refused : goal.returns-in-Err-clause-refused
 returns-in-Err-clause-refused g c =

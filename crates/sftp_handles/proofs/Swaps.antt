@@ -1,0 +1,52 @@
+-- What is open under a handle, exchanged twice and put back.
+use Rattle.std.proofs.Common.{◌≡◌, Bool, true, false, cond, List, ℕ, Some, None, refl, sym, subst, ap, ◌∙◌}
+use Rattle.std.specs.Ordering.{is_eq}
+use Rattle.std.specs.Cmp.{Equal-is}
+use Rattle.std.specs.Cmp.Lexicographic.{nat_list_cmp_total}
+use Rattle.sftp_path.specs.Place.{Name, bytes_cmp}
+use Rattle.sftp_path.specs.Table.{InOrder}
+use Rattle.sftp_path.proofs.Order.{bytes_cmp-same}
+use Rattle.sftp_path.proofs.Table.Laws.{get-put, get-put_here, InOrder-put, same_table}
+use Rattle.sftp_handles.specs.declared.opens.Open.{Open}
+use Rattle.sftp_handles.specs.declared.opens.Open.TheVariants.{Listing}
+use Rattle.sftp_handles.specs.Handles.{Left, Handles, open_at, with_open}
+use Rattle.sftp_handles.specs.Replies.{struck}
+use Rattle.sftp_handles.specs.Giving.{with_struck}
+use Rattle.sftp_handles.proofs.Opened.{opened-again}
+
+same-there : (handles : Handles) (handle at : List ℕ) (it : Open) (b : Bool) → open_at handles handle ≡ Some it
+    → is_eq (bytes_cmp at handle) ≡ b → cond b (Some it) (open_at handles at) ≡ open_at handles at
+same-there handles handle at it true there same =
+    sym there ∙ ap (open_at handles) (sym (bytes_cmp-same at handle ((Equal-is (bytes_cmp at handle)).0 same)))
+same-there handles handle at it false there same = refl
+
+-- what is open is put back
+pub opened-back : (handles : Handles) (handle : List ℕ) (it : Open) → InOrder bytes_cmp handles
+    → open_at handles handle ≡ Some it → with_open handles handle it ≡ handles
+opened-back handles handle it order there =
+    same_table bytes_cmp nat_list_cmp_total bytes_cmp-same (with_open handles handle it) handles
+    (InOrder-put bytes_cmp nat_list_cmp_total handles handle it order) order
+    (λ at.
+    get-put bytes_cmp nat_list_cmp_total handles handle it at
+    ∙ same-there handles handle at it (is_eq (bytes_cmp at handle)) there refl)
+
+-- what was opened last is open
+pub opened-there : (before after : Handles) (handle : List ℕ) (it : Open) → after ≡ with_open before handle it
+    → open_at after handle ≡ None → ⊥
+opened-there before after handle it is none =
+    let here : open_at (with_open before handle it) handle ≡ Some it =
+    get-put_here bytes_cmp nat_list_cmp_total before handle it in
+    let there : open_at (with_open before handle it) handle ≡ None = subst (λ h. open_at h handle ≡ None) is none in
+    cc
+
+-- a listing was out of its table while names were struck
+pub struck-apart : (before between after : Handles) (handle : List ℕ) (names : List Name) (first : Open)
+    (left next : Left) → InOrder bytes_cmp before → open_at before handle ≡ Some (Listing left)
+    → between ≡ with_open before handle first → next ≡ struck left names
+    → after ≡ with_open between handle (Listing next)
+    → after ≡ with_struck before handle names (open_at before handle)
+struck-apart before between after handle names first left next order there taken struck_is back =
+    back
+    ∙ ((λ i. with_open (taken i) handle (Listing (struck_is i)))
+    ∙ (opened-again before handle first (Listing (struck left names)) order
+    ∙ ap (with_struck before handle names) (sym there)))

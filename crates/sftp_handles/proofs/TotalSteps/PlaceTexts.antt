@@ -1,0 +1,83 @@
+-- How long names and the texts of places are, and that they are bytes.
+use Rattle.std.proofs.Common.{◌≡◌, ◌&&◌, not, nat_lt, ◌==◌, ℕ, ◌+◌, ◌-◌, ◌*◌, ◌≤◌, true, List, [], ◌∷◌, ◌++◌, length}
+use Rattle.std.proofs.Common.{Option, Some, None, refl, IsTrue, arith, ltb-true, leb-true, lit<}
+use Rattle.std.proofs.lemmas.Bool.{and_parts}
+use Rattle.std.specs.List.{list_all, flat_map}
+use Rattle.std.proofs.lemmas.List.{length-append, length-take}
+use Rattle.sftp_wire.specs.Spelling.{AreBytes, FitsString}
+use Rattle.sftp_path.specs.Place.{Name, Place, place_cmp, parent, absolute, are_names, is_name, is_name_byte}
+use Rattle.sftp_path.proofs.Order.{place_cmp-same}
+use Rattle.sftp_treefile.specs.TreeFile.{are_bytes}
+use Rattle.sftp_tree.specs.declared.nodes.Node.{Node}
+use Rattle.sftp_tree.specs.Tree.{Tree, IsKept, node_at, is_directory, depth_fits}
+use Rattle.sftp_tree.proofs.PlaceTables.Each.{each-get, each-all}
+use Rattle.sftp_tree.proofs.Limits.Tests.{fits-parts}
+
+-- ---- bytes
+
+-- bytes that a test finds to be bytes
+pub bytes-by : (bytes : List ℕ) → are_bytes bytes ≡ true → AreBytes bytes
+bytes-by [] is = tt
+bytes-by (b ∷ bytes) is =
+    let parts = and_parts (nat_lt b 256) (are_bytes bytes) is in
+    (ltb-true b 256 parts.0, bytes-by bytes parts.1)
+
+bytes-joined : (xs ys : List ℕ) → AreBytes xs → AreBytes ys → AreBytes (xs ++ ys)
+bytes-joined [] ys all rest = rest
+bytes-joined (x ∷ xs) ys all rest = (all.0, bytes-joined xs ys all.1 rest)
+
+name-bytes : (name : List ℕ) → list_all is_name_byte name ≡ true → AreBytes name
+name-bytes [] is = tt
+name-bytes (b ∷ name) is =
+    let parts = and_parts (is_name_byte b) (list_all is_name_byte name) is in
+    let byte = and_parts (nat_lt b 256) (not (b == 0) && not (b == 47)) parts.0 in
+    (ltb-true b 256 byte.0, name-bytes name parts.1)
+
+-- ---- names, each behind a `/`
+
+pub name-parts : (name : Name) → is_name name ≡ true → (length name ≤ 255) × AreBytes name
+name-parts name is = grind (arith, and_parts, leb-true, name-bytes)
+
+abbrev behind_slash : Name → List ℕ
+behind_slash name = 47 ∷ name
+
+names-text : (place : Place) → are_names place ≡ true
+    → (length (flat_map behind_slash place) ≤ 256 * length place) × AreBytes (flat_map behind_slash place)
+names-text [] are = (omega arith, tt)
+names-text (name ∷ place) are =
+    let parts = and_parts (is_name name) (are_names place) are in
+    let here = name-parts name parts.0 in
+    let rest = names-text place parts.1 in (
+      omega (arith, length-append (behind_slash name) (flat_map behind_slash place), here.0, rest.0),
+      bytes-joined (behind_slash name) (flat_map behind_slash place) (lit< tt, here.1) rest.1,
+    )
+
+text-parts : (place : Place) → are_names place ≡ true
+    → (length (absolute place) ≤ 256 * length place + 1) × AreBytes (absolute place)
+text-parts [] are = (omega arith, (lit< tt, tt))
+text-parts (name ∷ place) are = let all = names-text (name ∷ place) are in (omega (arith, all.0), all.1)
+
+-- ---- the depth of a place
+
+there : (found : Option Node) → is_directory found ≡ true → (node : Node) × (found ≡ Some node)
+there None is = absurd cc
+there (Some node) is = (node, refl)
+
+directory-depth : (t : Tree) (place : Place) → IsKept t → is_directory (node_at t.names place) ≡ true
+    → length place ≤ 64
+directory-depth t place kept is =
+    let found = there (node_at t.names place) is in
+    let test = λ (e : Place × Node). depth_fits e.0 in
+    leb-true (length place) 64
+    (each-get place_cmp place_cmp-same (λ e. IsTrue (test e)) t.names place found.0
+    (each-all test t.names (fits-parts t kept.within_limits).depths) found.1)
+
+-- the text of a place whose parent is a directory can be written
+pub text-fits : (t : Tree) (place : Place) → IsKept t → are_names place ≡ true
+    → is_directory (node_at t.names (parent place)) ≡ true
+    → FitsString (absolute place) × (length (absolute place) ≤ 33000)
+text-fits t place kept are is =
+    let deep = directory-depth t (parent place) kept is in
+    let all = text-parts place are in
+    let short : length (absolute place) ≤ 33000 = omega (arith, deep, all.0, length-take (length place - 1) place) in
+    (record { bytes_fit = all.1; length_fits = omega (arith, short) }, short)

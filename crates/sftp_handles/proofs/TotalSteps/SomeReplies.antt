@@ -1,0 +1,140 @@
+-- Some reply to each request is allowed, and can be encoded.
+use Rattle.std.proofs.Common.{◌≡◌, ◌&&◌, ◌||◌, ℕ, ◌^◌, ◌<◌, Bool, true, false, not, List, [], ◌∷◌, refl, ap, inl, inr}
+use Rattle.std.proofs.Common.{IsTrue, IfSome, lit<}
+use Rattle.std.specs.List.{list_any}
+use Rattle.sftp_wire.specs.declared.packets.Ask.{Ask}
+use Rattle.sftp_wire.specs.declared.packets.Ask.TheVariants as asks
+use Rattle.sftp_wire.specs.declared.packets.Request.{Request}
+use Rattle.sftp_wire.specs.Spelling.{asked_handle}
+use Rattle.sftp_treefile.specs.TreeFile.{are_bytes}
+use Rattle.sftp_tree.specs.declared.causes.Cause.{Cause}
+use Rattle.sftp_tree.specs.declared.causes.Cause.TheVariants.{NoEntry, NotDir, Loop, Unknown}
+use Rattle.sftp_tree.specs.Causes.{CauseSet, every_cause, allows, is_none}
+use Rattle.sftp_tree.specs.Requests.{path_of}
+use Rattle.sftp_tree.specs.Requests as paths
+use Rattle.sftp_tree.proofs.Requests.Trees.{PathsLeadWell}
+use Rattle.sftp_handles.specs.State.{State, Good, has_handle_left}
+use Rattle.sftp_handles.specs.Requests.{causes, answers, target, said_to}
+use Rattle.sftp_handles.specs.Laws.{IsAskable, IsAnswerable}
+use Rattle.sftp_handles.proofs.GoodSteps.{room-of}
+use Rattle.sftp_handles.proofs.TotalSteps.SaidReplies.{IsSayable, reply_of, status_of, status-spelled, ok-sayable}
+use Rattle.sftp_handles.proofs.TotalSteps.SeenReplies.{handle-sayable}
+use Rattle.sftp_handles.proofs.TotalSteps.PathReplies.{path-sayable, stat-sayable, lstat-sayable, target-sayable}
+use Rattle.sftp_handles.proofs.TotalSteps.PathReplies.{text-sayable, handle-left}
+
+-- ---- where a cause holds
+
+-- a code of each cause
+abbrev first_code : Cause → ℕ
+first_code NoEntry = 2
+first_code NotDir = 2
+first_code Loop = 2
+first_code Unknown = 8
+first_code other = 4
+
+first-allowed : (cause : Cause) → allows cause (first_code cause) ≡ true
+first-allowed NoEntry = refl
+first-allowed NotDir = refl
+first-allowed Loop = refl
+first-allowed Unknown = refl
+first-allowed other = refl
+
+first-small : (cause : Cause) → first_code cause < 2 ^ 32
+first-small NoEntry = lit< tt
+first-small NotDir = lit< tt
+first-small Loop = lit< tt
+first-small Unknown = lit< tt
+first-small other = lit< tt
+
+-- one of the causes of a list that are in a set allows the code
+abbrev allowed_by : CauseSet → List Cause → ℕ → Bool
+allowed_by set causes code = list_any (λ cause. set cause && allows cause code) causes
+
+some-code : (set : CauseSet) (xs : List Cause) → list_any set xs ≡ true
+    → (code : ℕ) × (code < 2 ^ 32) × (allowed_by set xs code ≡ true)
+some-code set [] is = absurd cc
+some-code set (x ∷ xs) is = by (some-code set xs) (set x) refl
+  where
+    by : (list_any set xs ≡ true → (code : ℕ) × (code < 2 ^ 32) × (allowed_by set xs code ≡ true))
+        → (b : Bool) → set x ≡ b → (code : ℕ) × (code < 2 ^ 32) × (allowed_by set (x ∷ xs) code ≡ true)
+    by rest true hit = (first_code x, first-small x, rw (hit, first-allowed x) refl)
+    by rest false miss =
+        let later = rest (let e : (false || list_any set xs) ≡ true = rw miss at is in e) in
+        (later.0, later.1, rw miss later.2)
+
+abbrev request_of : ℕ → Ask → Request
+request_of id ask = record { id = id; ask = ask }
+
+refused : (s : State) (id : ℕ) (ask : Ask) → id < 2 ^ 32 → list_any (causes s ask) every_cause ≡ true
+    → IsAnswerable s (request_of id ask)
+refused s id ask small one =
+    let found = some-code (causes s ask) every_cause one in
+    record {
+      reply = reply_of id (status_of found.0);
+      end = s;
+      allowed =
+          record { same_id = refl; step = inl (record { cause = found.2; unchanged = refl }) };
+      spelled = status-spelled id found.0 small found.1;
+    }
+
+-- ---- where none holds
+
+answered : (s : State) (id : ℕ) (ask : Ask) → is_none (causes s ask) ≡ true
+    → IsSayable id (said_to s ask (asked_handle ask)) → IsAnswerable s (request_of id ask)
+unfolding answers
+answered s id ask free said = record {
+  reply = reply_of id said.answer;
+  end = target s ask said.answer;
+  allowed =
+      record {
+        same_id = refl;
+        step = inr (record { free = free; answered = said.says; changed = refl });
+      };
+  spelled = said.spelled;
+}
+
+sayable : PathsLeadWell → (s : State) (id : ℕ) (ask : Ask) → Good s → id < 2 ^ 32
+    → IfSome (path_of ask) (λ path. IsTrue (are_bytes path)) → is_none (causes s ask) ≡ true
+    → IsSayable id (said_to s ask (asked_handle ask))
+unfolding causes
+sayable paths-lead s id (asks.Close handle) good small bytes free =
+    handle-sayable s id good small (asks.Close handle) handle
+sayable paths-lead s id (asks.Read handle offset len) good small bytes free =
+    handle-sayable s id good small (asks.Read handle offset len) handle
+sayable paths-lead s id (asks.Write handle offset data_bytes) good small bytes free =
+    handle-sayable s id good small (asks.Write handle offset data_bytes) handle
+sayable paths-lead s id (asks.Fstat handle) good small bytes free =
+    handle-sayable s id good small (asks.Fstat handle) handle
+sayable paths-lead s id (asks.Fsetstat handle attrs) good small bytes free =
+    handle-sayable s id good small (asks.Fsetstat handle attrs) handle
+sayable paths-lead s id (asks.Readdir handle) good small bytes free =
+    handle-sayable s id good small (asks.Readdir handle) handle
+sayable paths-lead s id (asks.Fsync handle) good small bytes free =
+    handle-sayable s id good small (asks.Fsync handle) handle
+sayable paths-lead s id (asks.Open path pflags attrs) good small bytes free =
+    let left = (room-of (paths.causes s.tree (asks.Open path pflags attrs)) (has_handle_left s) free).1 in
+    path-sayable s id good small (asks.Open path pflags attrs) (λ place leads. handle-left s id good small left)
+sayable paths-lead s id (asks.Opendir path) good small bytes free =
+    let left = (room-of (paths.causes s.tree (asks.Opendir path)) (has_handle_left s) free).1 in
+    path-sayable s id good small (asks.Opendir path) (λ place leads. handle-left s id good small left)
+sayable paths-lead s id (asks.Stat path) good small bytes free =
+    path-sayable s id good small (asks.Stat path) (λ place. stat-sayable s id good small path place free)
+sayable paths-lead s id (asks.Lstat path) good small bytes free =
+    path-sayable s id good small (asks.Lstat path) (λ place. lstat-sayable s id good small path place free)
+sayable paths-lead s id (asks.Readlink path) good small bytes free =
+    path-sayable s id good small (asks.Readlink path) (λ place. target-sayable s id good small path place free)
+sayable paths-lead s id (asks.Realpath path) good small bytes free =
+    path-sayable s id good small (asks.Realpath path)
+    (λ place. text-sayable s id good small paths-lead path place bytes)
+sayable paths-lead s id other good small bytes free =
+    path-sayable s id good small other (λ place leads. ok-sayable id small)
+
+pub some-allowed : PathsLeadWell → (s : State) (request : Request) → Good s → IsAskable request
+    → IsAnswerable s request
+some-allowed paths-lead s request good askable = by (list_any (causes s request.ask) every_cause) refl
+  where
+    by : (b : Bool) → list_any (causes s request.ask) every_cause ≡ b → IsAnswerable s request
+    by true one = refused s request.id request.ask askable.id one
+    by false none =
+        answered s request.id request.ask (ap not none)
+        (sayable paths-lead s request.id request.ask good askable.id askable.path (ap not none))

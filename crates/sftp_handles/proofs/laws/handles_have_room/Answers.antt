@@ -1,0 +1,5 @@
+use Rattle.sftp_handles.proofs.HandleRoom.{left-fits, asked-room}
+use Rattle.sftp_handles.proofs.laws.handles_have_room.Goals as goal
+
+pub returns : goal.returns
+returns c = record { left = left-fits; opening = asked-room }

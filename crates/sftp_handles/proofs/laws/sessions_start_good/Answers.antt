@@ -1,0 +1,5 @@
+use Rattle.sftp_handles.proofs.Starts.{good-start, same-start}
+use Rattle.sftp_handles.proofs.laws.sessions_start_good.Goals as goal
+
+pub returns : goal.returns
+returns c = record { good = good-start; same = same-start }

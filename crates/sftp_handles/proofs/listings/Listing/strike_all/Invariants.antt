@@ -1,0 +1,12 @@
+-- What is left once the names so far are struck has the others still to be struck.
+use Rattle.std.proofs.Common.{◌≡◌, drop}
+use Rattle.sftp_path.specs.Place.{name_cmp}
+use Rattle.sftp_path.specs.Table.{InOrder}
+use Rattle.sftp_handles.specs.Replies.{struck}
+use Rattle.sftp_handles.proofs.listings.Listing.strike_all.Given as goal
+
+abbrev pub invariant-loop-name : goal.invariant-loop-name
+invariant-loop-name l = record {
+  ordered : InOrder name_cmp l.self;
+  rest : struck l.self (drop l.name-index l.names) ≡ struck l.initial.self l.names;
+}
