@@ -34,11 +34,11 @@ use Rattle.sftp_handles.proofs.Judgements.{not-allowed, not-answered, judged-non
 
 -- ---- requests that open nothing
 
--- whether a request opens nothing
-abbrev pub opens_nothing : Ask → Bool
-opens_nothing (asks.Open path pflags attrs) = false
-opens_nothing (asks.Opendir path) = false
-opens_nothing other = true
+-- whether a request opens something
+abbrev pub asks_handle : Ask → Bool
+asks_handle (asks.Open path pflags attrs) = true
+asks_handle (asks.Opendir path) = true
+asks_handle other = false
 
 says-attributes : (handles : Handles) (shown : Option Attrs) (handle : List ℕ)
     → says (said_by handles (attributes shown)) (Handle handle) ≡ false
@@ -73,7 +73,7 @@ says-seen bounds row handle none (seen_file number flags before) = none before
 says-seen bounds row handle none (listing []) = refl
 says-seen bounds row handle none (listing (e ∷ es)) = refl
 
-answers-none : (s : State) (ask : Ask) (handle : List ℕ) → opens_nothing ask ≡ true
+answers-none : (s : State) (ask : Ask) (handle : List ℕ) → asks_handle ask ≡ false
     → answers s ask (Handle handle) ≡ false
 unfolding answers told_to
 answers-none s (asks.Open path pflags attrs) handle is = absurd cc
@@ -111,9 +111,9 @@ answers-none s other handle is =
     says-led s.handles (led s.tree other) (told_at s.tree other) handle (λ place. refl)
 
 -- no HANDLE answers such a request
-pub judged-nothing : (s : State) (ask : Ask) (handle : List ℕ) → opens_nothing ask ≡ true
+pub other_handle : (s : State) (ask : Ask) (handle : List ℕ) → asks_handle ask ≡ false
     → IsJudged s ask (Handle handle) false s
-judged-nothing s ask handle is =
+other_handle s ask handle is =
     judged-none s ask (Handle handle) (not-answered s ask (Handle handle) (answers-none s ask handle is) refl)
 
 -- ---- requests that open something

@@ -119,6 +119,7 @@ impl<T: HandleTable> Session<T> {
     /// # Errors
     ///
     /// `NoMemory` if memory runs out; the session is then as before.
+    #[tactic(auto, using(crate::proofs::HandleReplies::other_handle))]
     pub(crate) fn judge_handle(&mut self, ask: &Ask, handle: &[u8]) -> Result<bool, NoMemory>
         requires { IsTrue T.takes_want }
         ensures ok { IfOk result (λ ok. IsJudged self.old ask.now (replies.Handle handle.now) ok self.new) }
@@ -131,26 +132,26 @@ impl<T: HandleTable> Session<T> {
                 attrs,
             } => self.judge_file(path.as_slice(), *pflags, attrs, handle),
             Ask::Opendir { path } => self.judge_directory(path.as_slice(), handle),
-            Ask::Close { .. } => Ok(false),
-            Ask::Read { .. } => Ok(false),
-            Ask::Write { .. } => Ok(false),
-            Ask::Fstat { .. } => Ok(false),
-            Ask::Fsetstat { .. } => Ok(false),
-            Ask::Readdir { .. } => Ok(false),
-            Ask::Fsync { .. } => Ok(false),
-            Ask::Unknown { .. } => Ok(false),
-            Ask::Lstat { .. } => Ok(false),
-            Ask::Setstat { .. } => Ok(false),
-            Ask::Remove { .. } => Ok(false),
-            Ask::Mkdir { .. } => Ok(false),
-            Ask::Rmdir { .. } => Ok(false),
-            Ask::Realpath { .. } => Ok(false),
-            Ask::Stat { .. } => Ok(false),
-            Ask::Rename { .. } => Ok(false),
-            Ask::Readlink { .. } => Ok(false),
-            Ask::Symlink { .. } => Ok(false),
-            Ask::PosixRename { .. } => Ok(false),
-            Ask::Hardlink { .. } => Ok(false),
+            Ask::Close { .. }
+            | Ask::Read { .. }
+            | Ask::Write { .. }
+            | Ask::Lstat { .. }
+            | Ask::Fstat { .. }
+            | Ask::Setstat { .. }
+            | Ask::Fsetstat { .. }
+            | Ask::Readdir { .. }
+            | Ask::Remove { .. }
+            | Ask::Mkdir { .. }
+            | Ask::Rmdir { .. }
+            | Ask::Realpath { .. }
+            | Ask::Stat { .. }
+            | Ask::Rename { .. }
+            | Ask::Readlink { .. }
+            | Ask::Symlink { .. }
+            | Ask::PosixRename { .. }
+            | Ask::Hardlink { .. }
+            | Ask::Fsync { .. }
+            | Ask::Unknown { .. } => Ok(false),
         }
     }
 
