@@ -11,4 +11,5 @@ pub mod Given
 pub mod Giving
 pub mod Found
 pub mod Judged
+pub mod Answered
 pub mod Opening

@@ -3,6 +3,7 @@
 #![tactic(auto)]
 
 mod accepting;
+mod answering;
 mod changing;
 pub mod examples;
 mod first_listings;
@@ -12,6 +13,7 @@ mod giving;
 mod handle_causes;
 pub mod laws;
 mod listings;
+mod naming;
 mod not_opened;
 mod open_files;
 mod opening;
@@ -21,6 +23,7 @@ pub mod pin_laws;
 mod reading;
 mod session_causes;
 mod sessions;
+mod showing;
 mod shown;
 mod striking;
 mod tables;

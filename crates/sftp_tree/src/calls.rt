@@ -42,6 +42,23 @@ impl Tree {
         Ok(())
     }
 
+    /// Whether no cause refuses a request on paths.
+    ///
+    /// # Errors
+    ///
+    /// The first cause that holds, as for the call of the request. `NoMemory` if memory runs out.
+    pub fn check(&self, ask: &Ask) -> Result<(), Refused>
+        requires { IsTrue (requests.has_step ask.now) }
+        ensures free { OnOk result (IsFree self.now ask.now) }
+        ensures refused { IfErr result (λ refused. IsRefusal self.now ask.now refused) }
+    {
+        let Some(path_ask) = path_ask(ask) else {
+            unreachable!();
+        };
+        self.free_places(path_ask)?;
+        Ok(())
+    }
+
     /// MKDIR: makes an empty directory. If the attributes give no owner, it gets the tree's; if they give no
     /// permissions, 0o755. Of the permissions given the low twelve bits count; other attributes are ignored.
     ///

@@ -96,6 +96,30 @@ impl Cause {
         self as u32
     }
 
+    /// The status code that this program's own replies have for the cause: the first of those that it allows, in the
+    /// order of their numbers.
+    pub fn code(self) -> u32
+        ensures { IsTrue (sets.allows self result) }
+    {
+        match self {
+            Cause::NoEntry | Cause::NotDir | Cause::Loop => 2,
+            Cause::NotOpenFor => 3,
+            Cause::BadFlags
+            | Cause::BadPath
+            | Cause::Exists
+            | Cause::IsDir
+            | Cause::NotLink
+            | Cause::NotFile
+            | Cause::NotEmpty
+            | Cause::Root
+            | Cause::Inside
+            | Cause::BadHandle
+            | Cause::WrongKind
+            | Cause::NoRoom => 4,
+            Cause::Unknown => 8,
+        }
+    }
+
     /// Whether this cause allows the status code.
     pub fn allows(self, code: u32) -> bool
         ensures { result ≡ sets.allows self code }
