@@ -1,9 +1,9 @@
-use Rattle.std.proofs.Common.{◌≡◌, ◌<◌, ◌^◌, sym, ap, subst, ◌∙◌}
+use Rattle.std.proofs.Common.{◌<◌, ◌^◌, sym, ap, subst, ◌∙◌}
 use Rattle.std.proofs.lemmas.Result.{err_from_is_err_and}
 use Rattle.sftp_wire.specs.declared.packets.Ask.TheVariants as asks
 use Rattle.sftp_tree.specs.Tree.{Tree, WellFormed, HasFile, times_pinned}
 use Rattle.sftp_tree.proofs.KeptTrees.Files.{pins-stay}
-use Rattle.sftp_handles.specs.State.{State, Good, has_handle_left}
+use Rattle.sftp_handles.specs.State.{State, Good}
 use Rattle.sftp_handles.proofs.NewStates.{state_of}
 use Rattle.sftp_handles.proofs.Opened as opened
 use Rattle.sftp_handles.proofs.sessions.Session.open_file.Goals as goal
