@@ -1,5 +1,5 @@
 -- What the parts of an audit say of the whole.
-use Rattle.std.proofs.Common.{◌≡◌, ◌≢◌, ℕ, List, Result, IsTrue, sym, ap, subst, ◌∙◌}
+use Rattle.std.proofs.Common.{◌≡◌, ◌≢◌, ℕ, List, [], Result, IsTrue, sym, ap, subst, ◌∙◌}
 use Rattle.std.specs.Result.{IfErr, IsErrAnd}
 use Rattle.std.proofs.lemmas.Result.{err_from_is_err_and}
 use Rattle.sftp_audit.specs.declared.events.Event.{Event}
@@ -12,14 +12,16 @@ use Rattle.sftp_audit.specs.declared.errors.Refusal.TheVariants as refusals
 use Rattle.sftp_audit.specs.declared.errors.AuditError.{AuditError}
 use Rattle.sftp_audit.specs.declared.errors.AuditError.TheVariants as audit_errors
 use Rattle.sftp_audit.specs.declared.exchanges.Exchange.{Exchange as RecordedExchange}
-use Rattle.sftp_tree.specs.Tree.{Tree}
-use Rattle.sftp_audit.specs.Replies.{Allowed}
+use Rattle.sftp_tree.specs.Tree.{Tree, trim}
 use Rattle.sftp_tree.specs.Picture.{IsStart}
+use Rattle.sftp_handles.specs.State.{State}
+use Rattle.sftp_handles.specs.Allowed.{Allowed}
 use Rattle.sftp_audit.specs.Transcript.{IsRecord}
 use Rattle.sftp_audit.specs.Explained.{Matching, in_window, exchanges_of, leading_pairs, Run}
 use Rattle.sftp_audit.specs.Ledger.{IsComplete}
 use Rattle.sftp_audit.specs.Exchanges.{ledger_of}
-use Rattle.sftp_audit.specs.Audit.{Accounts, HasStart, IsReason, error_of_tree, error_of_transcript, error_of_session}
+use Rattle.sftp_audit.specs.Audit.{started, Accounts, HasStart, IsReason, error_of_tree, error_of_transcript}
+use Rattle.sftp_audit.specs.Audit.{error_of_session}
 
 -- no run is accounted for
 abbrev pub HasNoRun : List ℕ → List ℕ → Type 0
@@ -65,26 +67,34 @@ pub turns_made : (tree transcript : List ℕ) (start : Tree) (events made : List
 turns_made tree transcript start events made end same told =
     (subst Matching (sym same) told.explained.matching, rw same told.explained.within_window)
 
--- and so is its run
-pub run_made : (tree transcript : List ℕ) (start state : Tree) (events made : List Event) (end : Tree)
-    (exchanges : List RecordedExchange) → made ≡ events → state ≡ start → exchanges_of made ≡ ledger_of exchanges
-    → Accounts tree transcript start events end → Run Allowed state (leading_pairs (ledger_of exchanges)) end
-run_made tree transcript start state events made end exchanges same is paired told =
+-- and its run leads to its last state
+pub run_made : (tree transcript : List ℕ) (start read : Tree) (events made : List Event) (end : Tree)
+    (exchanges : List RecordedExchange) → made ≡ events → read ≡ start → exchanges_of made ≡ ledger_of exchanges
+    → (told : Accounts tree transcript start events end)
+    → Run Allowed (started read) (leading_pairs (ledger_of exchanges)) told.last
+run_made tree transcript start read events made end exchanges same is paired told =
     let pairs : leading_pairs (ledger_of exchanges) ≡ leading_pairs (exchanges_of events) =
     ap leading_pairs (sym paired ∙ ap exchanges_of same) in
     rw (is, pairs) told.explained.run
 
+-- the exchanges lead from the start to a last state, and the end is its tree once nothing is open
+abbrev pub IsEnd : Tree → List RecordedExchange → Tree → Type 0
+IsEnd start exchanges end =
+    (last : State) × Run Allowed (started start) (leading_pairs (ledger_of exchanges)) last
+    × (end ≡ trim (record last.tree { pins = [] }))
+
 -- a run is accounted for by its parts
 pub accounts_made : (tree transcript : List ℕ) (start : Tree) (events : List Event) (end : Tree)
     (exchanges : List RecordedExchange) → IsStart start tree → IsRecord events transcript
-    → IsComplete (ledger_of exchanges) events → Run Allowed start (leading_pairs (ledger_of exchanges)) end
-    → Accounts tree transcript start events end
-accounts_made tree transcript start events end exchanges is_start recorded complete run = record {
+    → IsComplete (ledger_of exchanges) events → IsEnd start exchanges end → Accounts tree transcript start events end
+accounts_made tree transcript start events end exchanges is_start recorded complete ended = record {
   start_is = is_start;
   events_are = recorded;
+  last = ended.0;
   explained = record {
     matching = complete.matching;
     within_window = complete.within_window;
-    run = rw complete.exchanges_are run;
+    run = rw complete.exchanges_are ended.1;
   };
+  end_is = ended.2;
 }

@@ -1,4 +1,3 @@
-pub mod Verdicts
 pub mod RunEnds
 pub mod ExchangeRuns
 pub mod StepLaws

@@ -1,3 +1,5 @@
+pub mod Runs
 pub mod Sessions
 pub mod Links
+pub mod Reads
 pub mod Records

@@ -1,5 +1,5 @@
 -- Which files an auditor accepts: those of a starting tree and of a recorded session that account for a run.
-use Rattle.std.specs.Prelude.{ℕ, ◌^◌, ◌-◌, min, List, length}
+use Rattle.std.specs.Prelude.{◌≡◌, ℕ, ◌^◌, ◌-◌, min, List, [], length}
 use Rattle.sftp_audit.specs.declared.events.Event.{Event}
 use Rattle.sftp_treefile.specs.declared.errors.TreeError.{TreeError}
 use Rattle.sftp_treefile.specs.declared.errors.TreeError.TheVariants as tree_errors
@@ -9,18 +9,25 @@ use Rattle.sftp_audit.specs.declared.errors.Refusal.{Refusal}
 use Rattle.sftp_audit.specs.declared.errors.Refusal.TheVariants as refusals
 use Rattle.sftp_audit.specs.declared.errors.AuditError.{AuditError}
 use Rattle.sftp_audit.specs.declared.errors.AuditError.TheVariants as audit_errors
-use Rattle.sftp_tree.specs.Tree.{Tree}
+use Rattle.sftp_tree.specs.Tree.{Tree, trim}
 use Rattle.sftp_tree.specs.Picture.{IsStart}
-use Rattle.sftp_audit.specs.Replies.{Allowed}
+use Rattle.sftp_handles.specs.State.{State, settled}
+use Rattle.sftp_handles.specs.Allowed.{Allowed}
 use Rattle.sftp_audit.specs.Transcript.{IsRecord}
 use Rattle.sftp_audit.specs.Explained.{Explained, exchanges_of}
 
--- the tree file is the start, the transcript records the events, and these are explained from the start to
--- the end
+-- the state in which a session begins on a tree: nothing is open
+abbrev pub started : Tree → State
+started t = settled t []
+
+-- the tree file is the start, the transcript records the events, these are explained from the start to a last state,
+-- and the end is the tree of that state once nothing is open
 pub record Accounts (tree transcript : List ℕ) (start : Tree) (events : List Event) (end : Tree) : Type 0 where
   pub start_is : IsStart start tree
   pub events_are : IsRecord events transcript
-  pub explained : Explained Allowed start events end
+  pub last : State
+  pub explained : Explained Allowed (started start) events last
+  pub end_is : end ≡ trim (record last.tree { pins = [] })
 
 -- the number of requests, capped at 2^64 - 1
 abbrev pub request_count : List Event → ℕ

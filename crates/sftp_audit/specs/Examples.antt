@@ -3,8 +3,8 @@ use Rattle.std.specs.Prelude.{ℕ, List, [], ◌∷◌, ◌++◌, map, codes, So
 use Rattle.sftp_wire.specs.declared.attributes.Attrs.{Attrs}
 use Rattle.sftp_wire.specs.declared.names.NameItem.{NameItem}
 use Rattle.sftp_wire.specs.declared.packets.Ask.TheVariants.{Opendir, Mkdir, Rmdir, Stat, Lstat, Realpath, Readlink}
-use Rattle.sftp_wire.specs.declared.packets.Ask.TheVariants.{Symlink}
-use Rattle.sftp_wire.specs.declared.packets.Answer.TheVariants.{Status, Data, Name, Attrs as attributes}
+use Rattle.sftp_wire.specs.declared.packets.Ask.TheVariants.{Symlink, Open, Read, Close}
+use Rattle.sftp_wire.specs.declared.packets.Answer.TheVariants.{Status, Handle, Data, Name, Attrs as attributes}
 use Rattle.sftp_wire.specs.Examples.{hex, no_attributes, version_bytes}
 use Rattle.sftp_audit.specs.declared.events.Event.{Event}
 use Rattle.sftp_audit.specs.declared.events.Event.TheVariants.{Asked, Replied}
@@ -13,8 +13,11 @@ use Rattle.sftp_tree.specs.declared.nodes.Node.{Node}
 use Rattle.sftp_tree.specs.declared.nodes.Node.TheVariants.{Dir, Link}
 use Rattle.sftp_tree.specs.Tree.{Tree}
 use Rattle.sftp_tree.specs.Picture.{blank}
-use Rattle.sftp_audit.specs.Replies.{Allowed}
+use Rattle.sftp_handles.specs.State.{State}
+use Rattle.sftp_handles.specs.Allowed.{Allowed}
+use Rattle.sftp_handles.specs.Examples.{with_text}
 use Rattle.sftp_audit.specs.Explained.{Explained}
+use Rattle.sftp_audit.specs.Audit.{started}
 
 -- ---- trees
 
@@ -44,6 +47,10 @@ with_a_and_b_bytes =
 abbrev pub with_link : Tree
 with_link = tree_of (([], plain_directory) ∷ (codes "l" ∷ [], Link (codes "x y")) ∷ [])
 
+-- nothing but the file `/f`, with the text `abcde`
+abbrev pub with_five_letters : Tree
+with_five_letters = with_text (codes "abcde")
+
 -- ---- events
 
 -- a request for a directory of the tree's own owner
@@ -53,7 +60,6 @@ mkdir id path = Asked (record { id = id; ask = Mkdir path no_attributes })
 abbrev pub rmdir : ℕ → List ℕ → Event
 rmdir id path = Asked (record { id = id; ask = Rmdir path })
 
--- a request that cannot be judged yet
 abbrev pub open_directory : ℕ → List ℕ → Event
 open_directory id path = Asked (record { id = id; ask = Opendir path })
 
@@ -73,9 +79,24 @@ read_link id path = Asked (record { id = id; ask = Readlink path })
 abbrev pub symlink : ℕ → List ℕ → List ℕ → Event
 symlink id linktarget link = Asked (record { id = id; ask = Symlink linktarget link })
 
+-- a request for a file, to read it
+abbrev pub open_to_read : ℕ → List ℕ → Event
+open_to_read id path = Asked (record { id = id; ask = Open path 1 no_attributes })
+
+-- a request for so many bytes behind a handle, from an offset on
+abbrev pub read : ℕ → List ℕ → ℕ → ℕ → Event
+read id handle offset len = Asked (record { id = id; ask = Read handle offset len })
+
+abbrev pub close : ℕ → List ℕ → Event
+close id handle = Asked (record { id = id; ask = Close handle })
+
 -- a reply with a code, and no texts
 abbrev pub status : ℕ → ℕ → Event
 status id code = Replied (record { id = id; answer = Status code [] [] })
+
+-- a reply with a handle
+abbrev pub handle_reply : ℕ → List ℕ → Event
+handle_reply id handle = Replied (record { id = id; answer = Handle handle })
 
 -- a reply with bytes of a file
 abbrev pub data_reply : ℕ → List ℕ → Event
@@ -127,7 +148,7 @@ same_directory_twice code = mkdir 1 (codes "/a") ∷ mkdir 2 (codes "a/.") ∷ s
 abbrev pub data_for_mkdir : List Event
 data_for_mkdir = mkdir 1 (codes "/a") ∷ data_reply 1 (codes "a") ∷ []
 
--- a request that cannot be judged yet, for a directory that does not exist, with the code that says so
+-- a request for a directory that does not exist, with the code that says so
 abbrev pub opendir_of_nothing : List Event
 opendir_of_nothing = open_directory 1 (codes "/a") ∷ status 1 2 ∷ []
 
@@ -141,6 +162,14 @@ link_session names attrs =
 -- the parent of the root's parent is asked for
 abbrev pub above_the_root : List Event
 above_the_root = real_path 1 (codes "/../..") ∷ name_reply 1 (codes "/" ∷ []) ∷ []
+
+-- `/f` is opened to read; three parts of it are asked for before any is answered, and the replies come in the opposite
+-- order: that the end was reached, the fourth and fifth byte, and these for the first three; then it is closed
+abbrev pub read_in_parts : List ℕ → List Event
+read_in_parts first =
+    open_to_read 1 (codes "/f") ∷ handle_reply 1 (codes "h") ∷ read 2 (codes "h") 0 3 ∷ read 3 (codes "h") 3 3
+    ∷ read 4 (codes "h") 6 3 ∷ status 4 1 ∷ data_reply 3 (codes "de") ∷ data_reply 2 first
+    ∷ close 5 (codes "h") ∷ status 5 0 ∷ []
 
 -- the transcript file of a session without a request: the opening, an INIT of version 3, and the VERSION
 abbrev pub handshake_bytes : List ℕ
@@ -157,6 +186,6 @@ backward_replies_bytes =
     hex (codes "53 00000011 65 00000002 00000000 00000000 00000000") ++
     hex (codes "53 00000011 65 00000001 00000000 00000000 00000000")
 
--- no run from the blank tree explains the events, whatever the end
-abbrev pub Unexplained : List Event → Type 0
-Unexplained events = (end : Tree) → ¬ Explained Allowed blank events end
+-- no run from the tree explains the events, whatever the end
+abbrev pub Unexplained : Tree → List Event → Type 0
+Unexplained start events = (end : State) → ¬ Explained Allowed (started start) events end

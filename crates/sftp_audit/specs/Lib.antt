@@ -1,10 +1,7 @@
-pub mod Replies
-pub mod Verdicts
 pub mod Transcript
 pub mod Records
 pub mod Explained
 pub mod Audit
 pub mod Examples
-pub mod Laws
 pub mod Ledger
 pub mod Exchanges

@@ -1,6 +1,6 @@
 -- Recorded sessions as bytes: the transcript file. This profile's own; the packets are those of
 -- draft-ietf-secsh-filexfer-02, section 4 on.
-use Rattle.std.specs.Prelude.{◌≡◌, ℕ, ◌≤◌, Bool, true, List, ◌∷◌, ◌++◌, codes, Result, MatchResult, IsTrue}
+use Rattle.std.specs.Prelude.{◌≡◌, ℕ, ◌≤◌, List, ◌∷◌, ◌++◌, codes, Result, MatchResult}
 use Rattle.std.specs.Global.{Vec}
 use Rattle.std.specs.List.{flat_map, AllByRecursion}
 use Rattle.sftp_wire.specs.declared.packets.Packet.{Packet}
@@ -13,7 +13,6 @@ use Rattle.sftp_audit.specs.declared.errors.TranscriptError.{TranscriptError}
 use Rattle.sftp_audit.specs.declared.errors.TranscriptError.TheVariants.{NoMemory}
 use Rattle.sftp_audit.specs.declared.events.Event.{Event}
 use Rattle.sftp_audit.specs.declared.events.Event.TheVariants.{Asked, Replied}
-use Rattle.sftp_audit.specs.Replies.{has_step}
 
 -- `SFTPTR01`
 abbrev pub transcript_opening : List ℕ
@@ -37,15 +36,9 @@ record_text packet = direction_of (side_of packet) ∷ spelling packet
 abbrev pub event_record : Event → List ℕ
 event_record event = record_text (packet_of event)
 
--- a reply, or a request that can be judged
-abbrev pub is_judged : Event → Bool
-is_judged (Asked request) = has_step request.ask
-is_judged (Replied reply) = true
-
--- what an event of a transcript file may be; the other requests cannot be judged yet, and are not read
-pub record IsEvent (event : Event) : Type 0 where
-  pub spelled : HasSpelling (packet_of event)
-  pub judged : IsTrue (is_judged event)
+-- an event of a transcript file: any request, and any reply
+abbrev pub IsEvent : Event → Type 0
+IsEvent event = HasSpelling (packet_of event)
 
 -- the events, one record after the other
 pub record AreRecords (events : List Event) (bytes : List ℕ) : Type 0 where

@@ -25,7 +25,7 @@ pub enum TranscriptError {
     Start {
         record: u64,
     },
-    /// The packet cannot be read, or is a request that cannot be judged yet (`WrongType`).
+    /// The packet cannot be read.
     #[error("record {record}: Wire {fault}")]
     Wire {
         fault: sftp_wire::Fault,
@@ -73,7 +73,7 @@ pub enum Refusal {
     /// A request that comes 1,024 requests or more after one that is unanswered. This limit is this profile's own.
     #[error("record {record}: Window")]
     Window { record: u64 },
-    /// A reply that the tree does not allow when the requests are done one at a time in the order asked.
+    /// A reply that is not allowed when the requests are done one at a time in the order asked.
     #[error("record {record}: NotAllowed")]
     NotAllowed { record: u64 },
     /// A request that has no reply: the oldest one.
@@ -120,7 +120,7 @@ pub enum AuditError {
     /// The bytes are not a tree file.
     #[error("tree: {0}")]
     Tree(TreeError),
-    /// The bytes are not a transcript file, or record a request that cannot be judged yet.
+    /// The bytes are not a transcript file.
     #[error("transcript: {0}")]
     Transcript(TranscriptError),
     /// The tree does not explain the session.

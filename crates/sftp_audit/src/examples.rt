@@ -3,17 +3,18 @@
 ghost use Rattle.std.specs.Prelude.{◌≡◌, List, [], ◌∷◌, codes};
 ghost use Rattle.sftp_tree.specs.Picture.{picture, blank};
 ghost use Rattle.sftp_audit.specs.Transcript.{IsRecord};
-ghost use Rattle.sftp_audit.specs.Replies.{Allowed};
+ghost use Rattle.sftp_handles.specs.Allowed.{Allowed};
 ghost use Rattle.sftp_audit.specs.Explained.{Explained};
+ghost use Rattle.sftp_audit.specs.Audit.{started};
 ghost use Rattle.sftp_audit.specs.Examples.{with_a, with_a_and_b, with_a_and_b_bytes, with_link, handshake_bytes};
 ghost use Rattle.sftp_audit.specs.Examples.{backward_replies, backward_replies_bytes, one_unanswered};
 ghost use Rattle.sftp_audit.specs.Examples.{same_directory_twice, data_for_mkdir, opendir_of_nothing, link_session};
 ghost use Rattle.sftp_audit.specs.Examples.{one_answered_twice, of_link, with_no_permissions};
-ghost use Rattle.sftp_audit.specs.Examples.{above_the_root, Unexplained};
+ghost use Rattle.sftp_audit.specs.Examples.{above_the_root, with_five_letters, read_in_parts, Unexplained};
 
 /// A session without a request ends where it starts.
 pub fn nothing_asked()
-    ensures explained { Explained Allowed blank [] blank }
+    ensures explained { Explained Allowed (started blank) [] (started blank) }
     ensures recorded { IsRecord [] handshake_bytes }
 {}
 
@@ -22,7 +23,7 @@ pub fn nothing_asked()
 /// the requests in the order asked, where `/a` is not empty; the end has both directories, and 77 bytes as a
 /// tree file.
 pub fn out_of_order_run()
-    ensures explained { Explained Allowed blank (backward_replies 4) with_a_and_b }
+    ensures explained { Explained Allowed (started blank) (backward_replies 4) (started with_a_and_b) }
     ensures pictured { picture with_a_and_b ≡ with_a_and_b_bytes }
     ensures recorded { IsRecord (backward_replies 4) backward_replies_bytes }
 {}
@@ -30,49 +31,64 @@ pub fn out_of_order_run()
 /// The same session is not explained if the removal says OK, nor if it says NO_SUCH_FILE, which would be right only in
 /// the order in which the replies came.
 pub fn wrong_codes()
-    ensures removed { Unexplained (backward_replies 0) }
-    ensures in_order_of_arrival { Unexplained (backward_replies 2) }
+    ensures removed { Unexplained blank (backward_replies 0) }
+    ensures in_order_of_arrival { Unexplained blank (backward_replies 2) }
 {}
 
 /// The same session is not explained if a request has no reply, nor if one has two.
 pub fn wrong_turns()
-    ensures unanswered { Unexplained one_unanswered }
-    ensures answered_twice { Unexplained one_answered_twice }
+    ensures unanswered { Unexplained blank one_unanswered }
+    ensures answered_twice { Unexplained blank one_answered_twice }
 {}
 
 /// `/a` and `a/.` lead to one place, so that the second request to make it is refused with FAILURE and not
 /// with NO_SUCH_FILE.
 pub fn made_twice_refused()
-    ensures taken { Explained Allowed blank (same_directory_twice 4) with_a }
-    ensures not_absent { Unexplained (same_directory_twice 2) }
+    ensures taken { Explained Allowed (started blank) (same_directory_twice 4) (started with_a) }
+    ensures not_absent { Unexplained blank (same_directory_twice 2) }
 {}
 
-/// A reply of another kind does not explain a request to make a directory, and no reply explains a request that cannot
-/// be judged yet.
+/// A reply of another kind does not explain a request to make a directory.
 pub fn other_kinds()
-    ensures other_reply { Unexplained data_for_mkdir }
-    ensures other_request { Unexplained opendir_of_nothing }
+    ensures { Unexplained blank data_for_mkdir }
+{}
+
+/// OPENDIR of a path that leads to nothing is refused with NO_SUCH_FILE.
+pub fn nothing_to_open()
+    ensures { Explained Allowed (started blank) opendir_of_nothing (started blank) }
 {}
 
 /// The link `/l` to `x y` is made; READLINK gives its target, STAT finds no such file, since the target does not
 /// exist, and LSTAT gives the target's length as the size, the tree's owner, and the permissions of a link.
 pub fn link_is_made()
-    ensures { Explained Allowed blank (link_session (codes "x y" ∷ []) (of_link 3)) with_link }
+    ensures { Explained Allowed (started blank) (link_session (codes "x y" ∷ []) (of_link 3)) (started with_link) }
 {}
 
 /// The same session is not explained if LSTAT gives another size, or leaves the permissions out.
 pub fn wrong_attributes()
-    ensures other_size { Unexplained (link_session (codes "x y" ∷ []) (of_link 4)) }
-    ensures no_permissions { Unexplained (link_session (codes "x y" ∷ []) (with_no_permissions 3)) }
+    ensures other_size { Unexplained blank (link_session (codes "x y" ∷ []) (of_link 4)) }
+    ensures no_permissions { Unexplained blank (link_session (codes "x y" ∷ []) (with_no_permissions 3)) }
 {}
 
 /// The same session is not explained if READLINK gives another text, or two names.
 pub fn wrong_names()
-    ensures other_text { Unexplained (link_session (codes "x" ∷ []) (of_link 3)) }
-    ensures two_names { Unexplained (link_session (codes "x y" ∷ codes "x y" ∷ []) (of_link 3)) }
+    ensures other_text { Unexplained blank (link_session (codes "x" ∷ []) (of_link 3)) }
+    ensures two_names { Unexplained blank (link_session (codes "x y" ∷ codes "x y" ∷ []) (of_link 3)) }
 {}
 
 /// The parent of the root is the root: REALPATH gives `/`.
 pub fn root_is_its_parent()
-    ensures { Explained Allowed blank above_the_root blank }
+    ensures { Explained Allowed (started blank) above_the_root (started blank) }
+{}
+
+/// A file is read in the draft's own order: OPEN gives a handle, READs through it are asked for before any is answered,
+/// their replies come in the opposite order, and CLOSE ends it. The file has `abcde`; READ from 0 gives `abc`, from 3
+/// `de`, which is all that is left, and from 6 that the end was reached.
+pub fn file_is_read()
+    ensures { Explained Allowed (started with_five_letters) (read_in_parts (codes "abc")) (started with_five_letters) }
+{}
+
+/// The same session is not explained if one byte of the data is another.
+pub fn wrong_byte()
+    ensures { Unexplained with_five_letters (read_in_parts (codes "abd")) }
 {}

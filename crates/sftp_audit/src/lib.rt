@@ -11,7 +11,6 @@ mod exchanges;
 pub mod laws;
 mod ledger;
 mod records;
-mod replies;
 mod runs;
 
 pub use auditor::{Accepted, audit};

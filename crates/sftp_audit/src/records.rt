@@ -4,17 +4,14 @@ ghost use Rattle.std.specs.Prelude.{◌≡◌, ℕ, List, ◌++◌, ◌<◌, len
 ghost use Rattle.sftp_wire.specs.declared.packets.Packet.{Packet};
 ghost use Rattle.sftp_wire.specs.Spelling.{spelling, HasSpelling, side_of};
 ghost use Rattle.sftp_audit.specs.declared.events.Event.{Event};
-ghost use Rattle.sftp_audit.specs.declared.events.Event.TheVariants.{Asked};
-ghost use Rattle.sftp_audit.specs.Replies.{has_step};
-ghost use Rattle.sftp_audit.specs.Transcript.{transcript_opening, packet_of, event_record, is_judged};
-ghost use Rattle.sftp_audit.specs.Transcript.{IsEvent, AreRecords, IsRecord, GivesRecorded};
+ghost use Rattle.sftp_audit.specs.Transcript.{transcript_opening, packet_of, event_record, IsEvent, AreRecords};
+ghost use Rattle.sftp_audit.specs.Transcript.{IsRecord, GivesRecorded};
 ghost use Rattle.sftp_audit.specs.Records.{side_of_direction, read_fault, Begins, GivesOnly};
 ghost use Rattle.sftp_audit.specs.Records.{IsInit, BeginsInit, IsVersion, BeginsVersion};
 
 use crate::errors::TranscriptError;
 use crate::events::Event;
-use crate::replies::has_step;
-use sftp_wire::{Fault, Packet, Request, Side, WireError, front};
+use sftp_wire::{Fault, Packet, Side, WireError, front};
 use std::alloc::Global;
 
 /// What a transcript file begins with.
@@ -38,7 +35,7 @@ const PROTOCOL_VERSION: u32 = 3;
 /// - `Start` if the first record is no INIT of version 3 or more from the client, or the second is no VERSION 3 from
 ///   the server, or the file ends before one of them begins, or a later record is an INIT or a VERSION.
 /// - `Direction` if the byte before a packet is neither `C` nor `S`.
-/// - `Wire` if a packet cannot be read; its fault is `WrongType` if the packet is a request that cannot be judged yet.
+/// - `Wire` if a packet cannot be read.
 /// - `Truncated` if the file ends inside a record.
 /// - `NoMemory` if memory runs out.
 pub fn read_events(alloc: Global, bytes: &[u8]) -> Result<Vec<Event>, TranscriptError>
@@ -142,29 +139,15 @@ fn take_event(alloc: Global, bytes: &[u8], number: u64) -> Result<(Event, &[u8])
 
 /// The event of a packet: `Start` if the packet is an INIT or a VERSION.
 fn event_of(packet: Packet, number: u64) -> Result<Event, TranscriptError>
-    ensures found { IfOk result (λ event. (packet ≡ packet_of event) × IsTrue (is_judged event)) }
-    ensures none { IfErr result (λ _. (event : Event) → packet ≡ packet_of event → IsTrue (is_judged event) → ⊥) }
+    ensures found { IfOk result (λ event. packet ≡ packet_of event) }
+    ensures none { IfErr result (λ _. (event : Event) → packet ≡ packet_of event → ⊥) }
 {
     match packet {
-        Packet::Request(request) => event_of_request(request, number),
+        Packet::Request(request) => Ok(Event::Asked(request)),
         Packet::Reply(reply) => Ok(Event::Replied(reply)),
         Packet::Init { .. } => Err(TranscriptError::Start { record: number }),
         Packet::Version { .. } => Err(TranscriptError::Start { record: number }),
     }
-}
-
-/// The event of a request: `WrongType` if the request cannot be judged yet.
-fn event_of_request(request: Request, number: u64) -> Result<Event, TranscriptError>
-    ensures found { IfOk result (λ event. (event ≡ Asked request) × IsTrue (is_judged event)) }
-    ensures none { IfErr result (λ _. has_step request.ask ≡ false) }
-{
-    if !has_step(&request.ask) {
-        return Err(TranscriptError::Wire {
-            fault: Fault::WrongType,
-            record: number,
-        });
-    }
-    Ok(Event::Asked(request))
 }
 
 /// The packet of the record in front, and the bytes behind it. `Start` if no byte is left.

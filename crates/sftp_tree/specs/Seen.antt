@@ -1,7 +1,5 @@
 -- What stands at a place, as it is lent.
-use Rattle.std.specs.Prelude.{Option, Some, None, [], ◌∷◌, ⊤}
-use Rattle.sftp_path.specs.Place.{place_cmp}
-use Rattle.sftp_path.specs.Table.{InOrder}
+use Rattle.std.specs.Prelude.{Option, Some, None, [], ◌∷◌}
 use Rattle.sftp_tree.specs.declared.nodes.Node.{Node}
 use Rattle.sftp_tree.specs.declared.nodes.Node.TheVariants as nodes
 use Rattle.sftp_tree.specs.declared.entries.seen.Seen.{Seen}
@@ -20,10 +18,3 @@ branch_seen None = []
 branch_seen (Some (Dir owner dir)) = dir.now
 branch_seen (Some (File number)) = ([], nodes.File number) ∷ []
 branch_seen (Some (Link target)) = ([], nodes.Link target.now) ∷ []
-
--- the table of a directory that is lent is in order
-abbrev pub IsWhole : Option Seen → Type 0
-IsWhole None = ⊤
-IsWhole (Some (Dir owner dir)) = InOrder place_cmp dir.now
-IsWhole (Some (File number)) = ⊤
-IsWhole (Some (Link target)) = ⊤

@@ -178,8 +178,7 @@ impl Tree {
 
     /// Whether what a request asks for keeps to the limits.
     fn has_room_for(&self, ask: PathAsk<'_>, ends: &Ends<'_>) -> bool
-        requires old { EndIsThere self.now.names ends.now.old }
-        requires new { NewEndIsThere self.now.names ends.now.new }
+        requires { spec.EndsAreWell self.now ends.now.old ends.now.new }
         ensures { result
             ≡ room.has_room_for self.now (asked ask.entry) (placed ends.now.old) (new_placed ends.now.new) }
     {

@@ -1,14 +1,12 @@
 //! The entries of a tree: its places, each with its node. No other module knows how they are kept: as nested
 //! directories, with the count of the places that are taken.
-ghost use Rattle.std.specs.Prelude.{◌≡◌, [], length, false, None, IfOk, OnOk, OnErr, IsTrue, option_map};
+ghost use Rattle.std.specs.Prelude.{◌≡◌, [], length, false, None, IfOk, OnOk, OnErr, IsTrue};
 ghost use Rattle.sftp_path.specs.Place.{parent, begins, place_cmp};
 ghost use Rattle.sftp_path.specs.Rekeying.{rekeyed};
 ghost use Rattle.sftp_path.specs.Table.{InOrder};
 ghost use Rattle.sftp_treefile.specs.TreeFile.{is_root};
 ghost use Rattle.sftp_tree.specs.declared.nodes.Node.TheVariants.{Dir as dir_node};
 ghost use Rattle.sftp_tree.specs.Tree as tree;
-ghost use Rattle.sftp_tree.specs.Room as rooms;
-ghost use Rattle.sftp_tree.specs.Seen.{node_seen};
 ghost use Rattle.sftp_tree.specs.PictureParts.{only_root};
 
 mod below;
@@ -25,7 +23,6 @@ pub(crate) mod trail;
 use crate::nodes::Node;
 pub(crate) use below::is_below;
 use directories::{Child, Dir};
-use seen::Seen;
 use sftp_path::{NoMemory, Place};
 use sftp_treefile::Owner;
 use std::alloc::Global;
@@ -81,43 +78,11 @@ impl Entries {
         &self.root
     }
 
-    /// What stands at a place.
-    pub(crate) fn get(&self, place: &Place) -> Option<Seen<'_>>
-        ensures { option_map node_seen result ≡ tree.node_at self.now place.now }
-    {
-        self.root.at(place.names())
-    }
-
     /// How many places are taken, the root among them.
     pub(crate) fn len(&self) -> usize
         ensures { result ≡ length self.now }
     {
         self.len
-    }
-
-    /// Whether a place has entries below it.
-    pub(crate) fn has_entries(&self, place: &Place) -> bool
-        ensures { result ≡ tree.has_entries self.now place.now }
-    {
-        match self.root.at(place.names()) {
-            Some(Seen::Dir(_, dir)) => dir.has_children(),
-            Some(Seen::File(_)) => false,
-            Some(Seen::Link(_)) => false,
-            None => false,
-        }
-    }
-
-    /// Whether each place that begins with `top` has at most `room` names behind it. Only what is below `top` is looked
-    /// at.
-    pub(crate) fn reaches_at_most(&self, top: &Place, room: usize) -> bool
-        ensures { result ≡ rooms.reaches_at_most self.now top.now room }
-    {
-        match self.root.at(top.names()) {
-            Some(Seen::Dir(_, dir)) => dir.reaches_at_most(room),
-            Some(Seen::File(_)) => true,
-            Some(Seen::Link(_)) => true,
-            None => true,
-        }
     }
 
     /// Puts a node at a free place in a directory.

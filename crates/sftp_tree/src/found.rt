@@ -1,9 +1,11 @@
 //! What a path leads to: a place, and the node there.
-ghost use Rattle.std.specs.Prelude.{◌≡◌};
+ghost use Rattle.std.specs.Prelude.{◌≡◌, ◌&&◌};
 ghost use Rattle.sftp_treefile.specs.TreeFile.{is_root};
 ghost use Rattle.sftp_tree.specs.Tree as tree;
+ghost use Rattle.sftp_tree.specs.Tree.{Names as table, Tree as kept_tree};
 ghost use Rattle.sftp_tree.specs.PlaceCauses as place_causes;
-ghost use Rattle.sftp_tree.specs.Found.{node_of, IsThere};
+ghost use Rattle.sftp_tree.specs.Room as rooms;
+ghost use Rattle.sftp_tree.specs.Found.{node_of, IsThere, IsFoundIn};
 
 use crate::entries::seen::Seen;
 use crate::entries::trail::Trail;
@@ -57,6 +59,32 @@ impl<'a> Found<'a> {
         ensures { result ≡ tree.is_link (node_of self.now) }
     {
         matches!(self.node, Some(Seen::Link(_)))
+    }
+
+    /// Whether the node is a directory that has entries.
+    pub(crate) fn has_entries(&self) -> bool
+        ensures { (names : table) → IsThere names self.now →
+            result ≡ (tree.is_directory (node_of self.now) && tree.has_entries names self.now.place) }
+    {
+        match self.node {
+            Some(Seen::Dir(_, dir)) => dir.has_children(),
+            Some(Seen::File(_)) => false,
+            Some(Seen::Link(_)) => false,
+            None => false,
+        }
+    }
+
+    /// Whether each place that begins with this one has at most `room` names behind it.
+    pub(crate) fn reaches_at_most(&self, room: usize) -> bool
+        ensures { (t : kept_tree) → IsFoundIn t self.now →
+            result ≡ rooms.reaches_at_most t.names self.now.place room }
+    {
+        match self.node {
+            Some(Seen::Dir(_, dir)) => dir.reaches_at_most(room),
+            Some(Seen::File(_)) => true,
+            Some(Seen::Link(_)) => true,
+            None => true,
+        }
     }
 }
 

@@ -3,6 +3,8 @@ ghost use Rattle.std.specs.Prelude.{◌≡◌, Bool};
 ghost use Rattle.sftp_tree.specs.Asks.{asked};
 ghost use Rattle.sftp_tree.specs.Refusals.{in_set};
 ghost use Rattle.sftp_tree.specs.PlaceCauses as place_causes;
+ghost use Rattle.sftp_tree.specs.Tree as tree;
+ghost use Rattle.sftp_tree.specs.Tree.{Names as table};
 ghost use Rattle.sftp_tree.specs.Found.{node_of, IsThere};
 ghost use Rattle.sftp_tree.specs.Requests as requests;
 
@@ -96,10 +98,9 @@ impl Tree {
         requires { IsThere self.now.names found.now }
         ensures { in_set result ≡ place_causes.removing_causes self.now.names found.now.place }
     {
-        let full = found.is_directory() && self.names().has_entries(&found.place);
         needing(found)
             .when(Cause::NotDir, found.is_taken() && !found.is_directory())
-            .when(Cause::NotEmpty, full)
+            .when(Cause::NotEmpty, found.has_entries())
             .when(Cause::Root, is_root(&found.place))
     }
 
@@ -137,8 +138,7 @@ impl Tree {
         if self.are_one(old, new) {
             return Causes::none();
         }
-        let entries = self.names().has_entries(&new.place);
-        clashing(old, new, entries).when(Cause::Inside, self.goes_inside(old, &new.place))
+        clashing(old, new).when(Cause::Inside, self.goes_inside(old, &new.place))
     }
 }
 
@@ -211,8 +211,10 @@ fn giving(place: &Place) -> Causes
 }
 
 /// The causes of a node that is to replace another.
-fn clashing(goes: &Found<'_>, stays: &Found<'_>, entries: bool) -> Causes
-    ensures { in_set result ≡ place_causes.clashing_causes (node_of goes.now) (node_of stays.now) entries }
+fn clashing(goes: &Found<'_>, stays: &Found<'_>) -> Causes
+    ensures { (names : table) → IsThere names stays.now → in_set result
+        ≡ place_causes.clashing_causes (node_of goes.now) (node_of stays.now)
+        (tree.has_entries names stays.now.place) }
 {
     let from_directory = goes.is_directory();
     let to_directory = stays.is_directory();
@@ -225,5 +227,5 @@ fn clashing(goes: &Found<'_>, stays: &Found<'_>, entries: bool) -> Causes
             Cause::IsDir,
             (goes.is_taken() && !from_directory) && to_directory,
         )
-        .when(Cause::NotEmpty, from_directory && (to_directory && entries))
+        .when(Cause::NotEmpty, from_directory && stays.has_entries())
 }

@@ -1,9 +1,10 @@
 //! Whether what requests ask for keeps to the limits of the tree, in numbers.
 ghost use Rattle.std.specs.Prelude.{◌≡◌};
 ghost use Rattle.sftp_tree.specs.Asks.{asked};
-ghost use Rattle.sftp_tree.specs.Found.{node_of, IsThere};
+ghost use Rattle.sftp_tree.specs.Found.{node_of, IsThere, IsFoundIn};
 ghost use Rattle.sftp_tree.specs.Room as room;
 ghost use Rattle.sftp_tree.specs.Tree as tree;
+ghost use Rattle.sftp_tree.specs.Tree.{Tree as kept_tree};
 
 use crate::asks::PathAsk;
 use crate::found::Found;
@@ -42,15 +43,13 @@ impl Tree {
         old: &Found<'_>,
         new: &Found<'_>,
     ) -> bool
-        requires old { IsThere self.now.names old.now }
+        requires old { IsFoundIn self.now old.now }
         requires new { IsThere self.now.names new.now }
         ensures { result ≡ room.has_room_between self.now (asked ask.entry) old.now.place new.now.place }
     {
         match ask {
-            PathAsk::Rename { .. } => self.move_fits(&old.place, &new.place),
-            PathAsk::PosixRename { .. } => {
-                self.are_one(old, new) || self.move_fits(&old.place, &new.place)
-            }
+            PathAsk::Rename { .. } => move_fits(old, &new.place),
+            PathAsk::PosixRename { .. } => self.are_one(old, new) || move_fits(old, &new.place),
             PathAsk::Hardlink { .. } => self.has_room(&new.place),
             PathAsk::Mkdir { .. } => true,
             PathAsk::Rmdir { .. } => true,
@@ -83,19 +82,6 @@ impl Tree {
         found.is_taken() || (self.has_room(&found.place) && self.has_numbers())
     }
 
-    /// Whether the node at the old place, with all below it, keeps to the limit of names in a place at the new one.
-    /// What is below is only looked at if the new place is deeper.
-    fn move_fits(&self, old: &Place, new: &Place) -> bool
-        ensures { result ≡ room.move_fits self.now.names old.now new.now }
-    {
-        let names = self.names();
-        let depth = new.depth();
-        if depth > DEPTH_LIMIT {
-            return false;
-        }
-        depth <= old.depth() || names.reaches_at_most(old, DEPTH_LIMIT - depth)
-    }
-
     /// Whether a file may have the size that is given, if one is.
     pub fn size_fits(&self, attrs: &Attrs) -> bool
         ensures fits { result ≡ room.size_fits (tree.limits self.now) attrs.now.size }
@@ -115,4 +101,16 @@ impl Tree {
     {
         !found.is_file() || self.size_fits(attrs)
     }
+}
+
+/// Whether the node that was found, with all below it, keeps to the limit of names in a place at the new one. What is
+/// below is only looked at if the new place is deeper.
+fn move_fits(old: &Found<'_>, new: &Place) -> bool
+    ensures { (t : kept_tree) → IsFoundIn t old.now → result ≡ room.move_fits t.names old.now.place new.now }
+{
+    let depth = new.depth();
+    if depth > DEPTH_LIMIT {
+        return false;
+    }
+    depth <= old.place.depth() || old.reaches_at_most(DEPTH_LIMIT - depth)
 }

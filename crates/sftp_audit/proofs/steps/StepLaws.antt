@@ -1,33 +1,26 @@
--- Laws of steps and runs: a start and its replies fix the end, and a session whose turns close runs each of its
--- requests.
+-- Laws of runs: a start and the events fix the end, and a session whose turns close runs each of its requests.
 use Rattle.std.proofs.Common.{◌≡◌, ◌==◌, ℕ, suc, Bool, true, false, List, [], ◌∷◌, length, Option, Some, refl, ap}
 use Rattle.std.proofs.Common.{eq-eqb}
 use Rattle.sftp_wire.specs.declared.packets.Request.{Request}
 use Rattle.sftp_wire.specs.declared.packets.Reply.{Reply}
 use Rattle.sftp_audit.specs.declared.events.Event.{Event}
 use Rattle.sftp_audit.specs.declared.events.Event.TheVariants.{Asked, Replied}
-use Rattle.sftp_tree.specs.Tree.{Tree}
-use Rattle.sftp_audit.specs.Replies.{Allowed}
+use Rattle.sftp_handles.specs.State.{State}
+use Rattle.sftp_handles.specs.Allowed.{Allowed}
 use Rattle.sftp_audit.specs.Explained.{Turn, closed, waiting, broken, after_request, after_event, turn_after}
 use Rattle.sftp_audit.specs.Explained.{next_reply, exchanges_of, leading_pairs, Matching, Explained}
-use Rattle.sftp_audit.proofs.steps.RunEnds.{step_end, step_end-of_allowed, run_end, run_end-of_run}
+use Rattle.sftp_audit.proofs.steps.RunEnds.{run_end, run_end-of_run}
 
 -- ---- one end
 
-same_end : (o : Option Tree) (a b : Tree) → o ≡ Some a → o ≡ Some b → a ≡ b
+same_end : (o : Option State) (a b : State) → o ≡ Some a → o ≡ Some b → a ≡ b
 same_end o a b is_a is_b = cc
 
-pub allowed-one_end : (t : Tree) (request : Request) (reply : Reply) (a b : Tree) → Allowed t request reply a
-    → Allowed t request reply b → a ≡ b
-allowed-one_end t request reply a b to_a to_b =
-    same_end (step_end t request reply) a b (step_end-of_allowed t request reply a to_a)
-    (step_end-of_allowed t request reply b to_b)
-
-pub explained-one_end : (t : Tree) (events : List Event) (a b : Tree) → Explained Allowed t events a
-    → Explained Allowed t events b → a ≡ b
-explained-one_end t events a b to_a to_b =
+pub explained-one_end : (s : State) (events : List Event) (a b : State) → Explained Allowed s events a
+    → Explained Allowed s events b → a ≡ b
+explained-one_end s events a b to_a to_b =
     let pairs : List (Request × Reply) = leading_pairs (exchanges_of events) in
-    same_end (run_end t pairs) a b (run_end-of_run t pairs a to_a.run) (run_end-of_run t pairs b to_b.run)
+    same_end (run_end s pairs) a b (run_end-of_run s pairs a to_a.run) (run_end-of_run s pairs b to_b.run)
 
 -- ---- each request runs
 
@@ -82,7 +75,9 @@ settled_from turns [] close = refl
 settled_from turns (Asked request ∷ events) close =
     let same : (request.id == request.id) ≡ true = eq-eqb request.id request.id refl in
     let found = asked_waits request.id (turns request.id) events
-    (let g : turn_after request.id (after_request (turns request.id)) events ≡ closed = rw same at (close request.id) in g) in
+    (let g : turn_after request.id (after_request (turns request.id)) events ≡ closed =
+    rw same at (close request.id) in
+    g) in
     rw found.1 (ap suc (settled_from (λ id. after_event id (Asked request) (turns id)) events (λ id. close id)))
 settled_from turns (Replied reply ∷ events) close =
     settled_from (λ id. after_event id (Replied reply) (turns id)) events (λ id. close id)

@@ -40,9 +40,9 @@ module _ (apart : (p q : Packet) (x y : List ℕ) → HasSpelling p → HasSpell
   AreRecords-one (e ∷ es) [] bytes are same = no_events (e ∷ es) bytes (ap length same.bytes_are) are
   AreRecords-one (e ∷ es) (o ∷ os) bytes are same =
       let first : Begins bytes (packet_of e) (flat_map event_record es) =
-      record { spelled = are.spelled.0.spelled; bytes_are = are.bytes_are ∙ flat_map-cons event_record e es } in
+      record { spelled = are.spelled.0; bytes_are = are.bytes_are ∙ flat_map-cons event_record e es } in
       let second : Begins bytes (packet_of o) (flat_map event_record os) =
-      record { spelled = same.spelled.0.spelled; bytes_are = same.bytes_are ∙ flat_map-cons event_record o os } in
+      record { spelled = same.spelled.0; bytes_are = same.bytes_are ∙ flat_map-cons event_record o os } in
       let one = Begins-one bytes (packet_of e) (packet_of o) (flat_map event_record es)
       (flat_map event_record os) first second in
       let rest = AreRecords-one es os (flat_map event_record es)

@@ -1,14 +1,20 @@
 -- A worked example: the bytes of a transcript file record its events.
 use Rattle.std.proofs.Common.{◌≡◌, nat_lt, ℕ, ◌^◌, ◌<◌, ◌≤◌, ◌++◌, length, codes, List, []}
-use Rattle.std.proofs.Common.{◌∷◌, IsTrue, refl, lit<, lit≤}
+use Rattle.std.proofs.Common.{◌∷◌, IsTrue, refl, lit<, lit≤, ltb-true}
 use Rattle.std.specs.List.{list_all, flat_map, AllByRecursion}
+use Rattle.std.proofs.lemmas.Bool.{and_parts}
 use Rattle.sftp_wire.specs.declared.packets.Packet.TheVariants.{Init, Version}
-use Rattle.sftp_wire.specs.Spelling.{spelling, FitsString, FitsPair, FitsAttrs, HasSpelling}
+use Rattle.sftp_wire.specs.Spelling.{spelling, AreBytes, FitsString, FitsPair, FitsAttrs, HasSpelling}
 use Rattle.sftp_wire.specs.Examples.{hex, no_attributes, server_extensions}
 use Rattle.sftp_audit.specs.declared.events.Event.{Event}
 use Rattle.sftp_audit.specs.Transcript.{IsEvent, IsRecord, event_record, transcript_opening, packet_of}
-use Rattle.sftp_audit.proofs.answers.PlaceTexts.{bytes_by}
 use Rattle.sftp_audit.specs.Examples.{mkdir, rmdir, status, handshake_bytes, backward_replies, backward_replies_bytes}
+
+bytes_by : (bytes : List ℕ) → IsTrue (list_all (λ b. nat_lt b 256) bytes) → AreBytes bytes
+bytes_by [] is = tt
+bytes_by (b ∷ bytes) is =
+    let parts = and_parts (nat_lt b 256) (list_all (λ x. nat_lt x 256) bytes) is in
+    (ltb-true b 256 parts.0, bytes_by bytes parts.1)
 
 string_by : (bytes : List ℕ) → IsTrue (list_all (λ b. nat_lt b 256) bytes) → length bytes < 2 ^ 32 → FitsString bytes
 string_by bytes is short = record { bytes_fit = bytes_by bytes is; length_fits = short }
@@ -19,12 +25,12 @@ nothing_fits = record { size = tt; owner = tt; permissions = tt; times = tt; ext
 mkdir_spelled : (id : ℕ) (path : List ℕ) → id < 2 ^ 32 → FitsString path
     → length (spelling (packet_of (mkdir id path))) ≤ 34000 → IsEvent (mkdir id path)
 mkdir_spelled id path small fits whole =
-    record { spelled = record { fields = (small, (fits, nothing_fits)); whole = whole; handle = tt; canonical = refl }; judged = refl }
+    record { fields = (small, (fits, nothing_fits)); whole = whole; handle = tt; canonical = refl }
 
 rmdir_spelled : (id : ℕ) (path : List ℕ) → id < 2 ^ 32 → FitsString path
     → length (spelling (packet_of (rmdir id path))) ≤ 34000 → IsEvent (rmdir id path)
 rmdir_spelled id path small fits whole =
-    record { spelled = record { fields = (small, fits); whole = whole; handle = tt; canonical = refl }; judged = refl }
+    record { fields = (small, fits); whole = whole; handle = tt; canonical = refl }
 
 empty : FitsString []
 empty = record { bytes_fit = tt; length_fits = lit< tt }
@@ -32,7 +38,7 @@ empty = record { bytes_fit = tt; length_fits = lit< tt }
 status_spelled : (id code : ℕ) → id < 2 ^ 32 → code < 2 ^ 32 → length (spelling (packet_of (status id code))) ≤ 34000
     → IsEvent (status id code)
 status_spelled id code small code_small whole =
-    record { spelled = record { fields = (small, (code_small, empty, empty)); whole = whole; handle = tt; canonical = refl }; judged = refl }
+    record { fields = (small, (code_small, empty, empty)); whole = whole; handle = tt; canonical = refl }
 
 one : FitsString (codes "1")
 one = string_by (codes "1") refl (lit< tt)

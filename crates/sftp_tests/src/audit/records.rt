@@ -172,54 +172,22 @@ const TAILS: &[Tail] = &[
         b"C\0\0\0\x05\x01\0\0\0\x03",
         TranscriptError::Start { record: 3 },
     ),
-    // Requests that cannot be judged yet: OPEN of "/a" to read, OPENDIR of "/a", and an extension named "x".
+    // All kinds of requests and replies are read: OPEN and OPENDIR of "/a", CLOSE of the handle "h", and an extension
+    // named "x"; HANDLE, DATA, NAME, ATTRS and EXTENDED_REPLY.
     (
-        "OPEN",
+        "no side behind requests",
         28,
-        b"C\0\0\0\x13\x03\0\0\0\x01\0\0\0\x02/a\0\0\0\x01\0\0\0\0",
-        TranscriptError::Wire {
-            fault: Fault::WrongType,
-            record: 3,
-        },
+        b"C\0\0\0\x13\x03\0\0\0\x01\0\0\0\x02/a\0\0\0\x01\0\0\0\0\
+        C\0\0\0\x0b\x0b\0\0\0\x02\0\0\0\x02/aC\0\0\0\x0a\x04\0\0\0\x03\0\0\0\x01h\
+        C\0\0\0\x0a\xc8\0\0\0\x04\0\0\0\x01xD",
+        TranscriptError::Direction { record: 7 },
     ),
     (
-        "OPENDIR",
-        28,
-        b"C\0\0\0\x0b\x0b\0\0\0\x01\0\0\0\x02/a",
-        TranscriptError::Wire {
-            fault: Fault::WrongType,
-            record: 3,
-        },
-    ),
-    (
-        "EXTENDED",
-        28,
-        b"C\0\0\0\x0a\xc8\0\0\0\x01\0\0\0\x01x",
-        TranscriptError::Wire {
-            fault: Fault::WrongType,
-            record: 3,
-        },
-    ),
-    (
-        "OPENDIR later",
-        70,
-        b"C\0\0\0\x0b\x0b\0\0\0\x02\0\0\0\x02/a",
-        TranscriptError::Wire {
-            fault: Fault::WrongType,
-            record: 5,
-        },
-    ),
-    // All kinds of replies are read before it: HANDLE, DATA, NAME, ATTRS and EXTENDED_REPLY.
-    (
-        "OPENDIR behind all replies",
+        "no side behind replies",
         48,
         b"S\0\0\0\x0a\x66\0\0\0\x01\0\0\0\x01hS\0\0\0\x0a\x67\0\0\0\x01\0\0\0\x01h\
-        S\0\0\0\x09\x68\0\0\0\x01\0\0\0\0S\0\0\0\x09\x69\0\0\0\x01\0\0\0\0S\0\0\0\x05\xc9\0\0\0\x01\
-        C\0\0\0\x0b\x0b\0\0\0\x02\0\0\0\x02/a",
-        TranscriptError::Wire {
-            fault: Fault::WrongType,
-            record: 9,
-        },
+        S\0\0\0\x09\x68\0\0\0\x01\0\0\0\0S\0\0\0\x09\x69\0\0\0\x01\0\0\0\0S\0\0\0\x05\xc9\0\0\0\x01D",
+        TranscriptError::Direction { record: 9 },
     ),
 ];
 

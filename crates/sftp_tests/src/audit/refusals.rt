@@ -18,6 +18,9 @@ const REMOVE_ROOT: &[u8] = b"C\0\0\0\x0a\x0f\0\0\0\x01\0\0\0\x01/";
 
 const REMOVE_L: &[u8] = b"C\0\0\0\x0b\x0f\0\0\0\x01\0\0\0\x02/l";
 
+/// OPENDIR of `/a`.
+const OPENDIR_A: &[u8] = b"C\0\0\0\x0b\x0b\0\0\0\x01\0\0\0\x02/a";
+
 /// STAT of a byte 0.
 const STAT_NUL: &[u8] = b"C\0\0\0\x0a\x11\0\0\0\x01\0\0\0\x01\0";
 
@@ -48,6 +51,7 @@ const ROWS: &[Row] = &[
     ("BadPath: the path of a link", BLANK, LINK_NUL, &[4, 5]),
     ("NoEntry: RMDIR", BLANK, REMOVE_X, &[2]),
     ("NoEntry: STAT", BELOW_X, STAT_D, &[2]),
+    ("NoEntry: OPENDIR", BLANK, OPENDIR_A, &[2]),
     ("NoEntry: on the way", LINK_BELOW_NOTHING, REAL_PATH_L, &[2]),
     ("NotDir: a link", LINK_TO_ITSELF, REMOVE_L, &[2, 4]),
     ("NotDir: on the way", TWO_NAMES, STAT_BEHIND_FILE, &[2, 4]),

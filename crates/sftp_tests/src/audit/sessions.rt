@@ -2,8 +2,7 @@
 use super::{
     BLANK, DONE, MAKE_A, NOT_ALLOWED, OPENING, Session, Verdict, WITH_A, is_judged, status,
 };
-use sftp_audit::{Refusal, TranscriptError};
-use sftp_wire::Fault;
+use sftp_audit::Refusal;
 use std::alloc::{AllocError, Global};
 use std::test::Fail;
 
@@ -16,9 +15,6 @@ const FAILED_AGAIN: &[u8] = b"S\0\0\0\x11\x65\0\0\0\x02\0\0\0\x04\0\0\0\0\0\0\0\
 
 /// RMDIR of `/a` with the id 1.
 const REMOVE_A: &[u8] = b"C\0\0\0\x0b\x0f\0\0\0\x01\0\0\0\x02/a";
-
-/// OPENDIR of `/a` with the id 1.
-const OPENDIR_A: &[u8] = b"C\0\0\0\x0b\x0b\0\0\0\x01\0\0\0\x02/a";
 
 /// HANDLE and DATA to the id 1, both with one byte.
 const HANDLE: &[u8] = b"S\0\0\0\x0a\x66\0\0\0\x01\0\0\0\x01h";
@@ -184,20 +180,12 @@ fn is_answered(
 /// RMDIR of `/x` with the id 2.
 const REMOVE_X_AGAIN: &[u8] = b"C\0\0\0\x0b\x0f\0\0\0\x02\0\0\0\x02/x";
 
-/// A status of any code answers no request with another id, and no request that cannot be judged yet.
+/// A status of any code answers no request with another id.
 #[test]
 fn codes_that_answer_nothing(rt: HostRuntime) -> Result<(), Fail> {
     let unknown = Verdict::Refused(Refusal::UnknownReply { record: 4 });
-    let unjudged = Verdict::Transcript(TranscriptError::Wire {
-        fault: Fault::WrongType,
-        record: 3,
-    });
     for code in 0..10_u8 {
-        assert!(rt;
-            is_answered(rt.alloc(), REMOVE_X_AGAIN, code, &unknown)?
-                && is_answered(rt.alloc(), OPENDIR_A, code, &unjudged)?,
-            "code {code}"
-        );
+        assert!(rt; is_answered(rt.alloc(), REMOVE_X_AGAIN, code, &unknown)?, "code {code}");
     }
     Ok(())
 }

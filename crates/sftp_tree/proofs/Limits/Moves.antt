@@ -49,7 +49,7 @@ place-found test place node (e ∷ es) all there =
     by true same first rest is = ap test (place_cmp-same place e.0 ((Equal-is (place_cmp place e.0)).0 same)) ∙ first
     by false apart first rest is = rest is
 
-place-passes : (test : Place → Bool) (place : Place) (names : Names) → list_all (λ e. test e.0) names ≡ true → is_taken (node_at names place) ≡ true → test place ≡ true
+pub place-passes : (test : Place → Bool) (place : Place) (names : Names) → list_all (λ e. test e.0) names ≡ true → is_taken (node_at names place) ≡ true → test place ≡ true
 unfolding get
 place-passes test place names all taken = by (lookup (is_at (place_cmp place)) names) refl taken
   where

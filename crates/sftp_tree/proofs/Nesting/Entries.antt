@@ -21,6 +21,7 @@ use Rattle.sftp_tree.specs.declared.nodes.Node.{Node}
 use Rattle.sftp_tree.specs.declared.entries.directories.Child.{Child}
 use Rattle.sftp_tree.specs.declared.entries.directories.Child.TheVariants.{Dir}
 use Rattle.sftp_tree.specs.Tree.{Names, node_at, with_node, without_node, is_taken, is_directory, has_entries}
+use Rattle.sftp_tree.specs.Trail.{IsAt}
 use Rattle.sftp_tree.specs.Nesting.{branch, branch_of, IsBranch, IsGrafted, IsSet, IsMoved}
 use Rattle.sftp_tree.proofs.FileCounts.Moves.{nothing-from}
 use Rattle.sftp_tree.proofs.Nesting.Moves.{nothing, beside, branch-taken}
@@ -209,8 +210,7 @@ not-both : (found : Option Node) → is_taken found ≡ true → found ≡ None 
 not-both found taken none = let it : is_taken found ≡ false = ap is_taken none in cc
 
 -- what is below a place is what the directory there has below it
-pub has_entries-alike : (es fs : Names) (p : Place)
-    → ((rest : Place) → node_at fs rest ≡ node_at es (p ++ rest)) → has_entries fs [] ≡ has_entries es p
+pub has_entries-alike : (es fs : Names) (p : Place) → IsAt es p fs → has_entries fs [] ≡ has_entries es p
 has_entries-alike es fs p alike =
     elim (cases_Bool (has_entries fs [])) [
       | inl some ↦
@@ -226,14 +226,6 @@ has_entries-alike es fs p alike =
             | inr other ↦ none ∙ sym other
           ]
     ]
-
-pub has_entries-alone : (node : Node) → has_entries (([], node) ∷ []) [] ≡ false
-unfolding has_entries
-has_entries-alone node = refl
-
-pub has_entries-nothing : has_entries [] [] ≡ false
-unfolding has_entries
-has_entries-nothing = refl
 
 -- ---- a node that moves
 

@@ -1,19 +1,23 @@
 -- How many names the places of a directory have, from those of its children.
-use Rattle.std.proofs.Common.{◌≡◌, ◌+◌, ◌&&◌, ℕ, suc, nat_le, ◌||◌, Bool, true, false, not, [], ◌∷◌, ◌++◌, length, drop, ◌-◌, Some}
-use Rattle.std.proofs.Common.{IsTrue, refl, sym, ap, ◌∙◌, arith, length-append}
-use Rattle.std.specs.List.{list_all, list_any, AllByRecursion}
-use Rattle.std.specs.List.Sorted.{IsStrictlySortedBy}
+use Rattle.std.proofs.Common.{◌≡◌, ◌+◌, ◌&&◌, ℕ, suc, nat_le, ◌||◌, Bool, true, false, cond, not, [], ◌∷◌, ◌++◌, length, drop}
+use Rattle.std.proofs.Common.{◌-◌, Some, refl, sym, ap, ◌∙◌, arith, length-append}
+use Rattle.std.specs.Ordering.{is_eq}
+use Rattle.std.specs.List.{list_all, list_any}
+use Rattle.std.proofs.lemmas.Bool.{and_from}
 use Rattle.std.proofs.lemmas.Bool.Decides.{nat_tests}
+use Rattle.std.proofs.lemmas.Cmp.{tied_itself}
 use Rattle.sftp_path.specs.Place.{Name, Place, place_cmp, is_below, begins}
-use Rattle.sftp_path.specs.Table.{InOrder}
-use Rattle.sftp_path.proofs.Order.{begins-front, begins-append, place_cmp-same, place_cmp-total}
+use Rattle.sftp_path.proofs.Order.{begins-front, begins-append, place_cmp-total}
+use Rattle.sftp_path.proofs.Table.Laws.{get-cons}
 use Rattle.sftp_treefile.specs.declared.files.Owner.{Owner}
 use Rattle.sftp_tree.specs.declared.nodes.Node.{Node}
 use Rattle.sftp_tree.specs.declared.entries.directories.Child.{Child}
-use Rattle.sftp_tree.specs.Tree.{Names, node_at, has_entries}
+use Rattle.sftp_tree.specs.Tree.{Names, node_at, is_taken, has_entries}
 use Rattle.sftp_tree.specs.Room.{reaches_at_most}
-use Rattle.sftp_tree.proofs.PlaceTables.Each.{each-get, get-each, each-all, all-each}
+use Rattle.sftp_tree.specs.Trail.{IsAt}
 use Rattle.sftp_tree.specs.Nesting.{Children, branch, placed, flat, flat_of, have_at_most}
+use Rattle.sftp_tree.proofs.Limits.Moves.{place-passes}
+use Rattle.sftp_tree.proofs.WellFormedTrees.Places.{alone-there}
 
 one-more : (a room : ℕ) → nat_le (suc a) (room + 1) ≡ nat_le a room
 one-more a room = grind (arith, nat_tests)
@@ -114,55 +118,77 @@ behind top rest room =
     let fewer : length (top ++ rest) - length top ≡ length rest = omega (arith, length-append top rest) in
     (λ i. not (begins-append top rest i) || nat_le (fewer i) room)
 
+-- a test that each place passes which is taken, all keys pass
+keys-pass : (test : Place → Bool) (es : Names) → ((q : Place) → is_taken (node_at es q) ≡ true → test q ≡ true)
+    → list_all (λ e. test e.0) es ≡ true
+keys-pass test [] passes = refl
+keys-pass test (e ∷ es) passes =
+    and_from (test e.0) (list_all (λ e. test e.0) es) (passes e.0 here)
+    (keys-pass test es (λ q taken. passes q (behind q taken)))
+  where
+    here : is_taken (node_at (e ∷ es) e.0) ≡ true
+    here =
+        ap is_taken (get-cons place_cmp e es e.0
+        ∙ ap (λ o. cond (is_eq o) (Some e.1) (node_at es e.0)) (tied_itself place_cmp-total e.0))
+
+    by : (q : Place) (b : Bool) → is_taken (node_at es q) ≡ true → is_taken (cond b (Some e.1) (node_at es q)) ≡ true
+    by q true taken = refl
+    by q false taken = taken
+
+    behind : (q : Place) → is_taken (node_at es q) ≡ true → is_taken (node_at (e ∷ es) q) ≡ true
+    behind q taken = ap is_taken (get-cons place_cmp e es q) ∙ by q (is_eq (place_cmp q e.0)) taken
+
+-- whether a place that begins with the top has at most so many names behind it
+few : Place → ℕ → Place → Bool
+few top room q = not (begins top q) || nat_le (length q - length top) room
+
 -- what a directory has below it is what is below its place
-pub reach-alike : (names below : Names) (top : Place) (room : ℕ) → InOrder place_cmp names → InOrder place_cmp below
-    → ((rest : Place) → node_at below rest ≡ node_at names (top ++ rest))
+pub reach-alike : (names below : Names) (top : Place) (room : ℕ) → IsAt names top below
     → have_at_most room below ≡ reaches_at_most names top room
-unfolding have_at_most
-reach-alike names below top room order order' alike =
+unfolding have_at_most few
+reach-alike names below top room alike =
     both-ways (list_all (λ e. nat_le (length e.0) room) below) (reaches_at_most names top room) to from
   where
-    inside : (b : Bool) (key : Place) (node : Node) → begins top key ≡ b
-        → AllByRecursion (λ e. IsTrue (nat_le (length e.0) room)) below → node_at names key ≡ Some node
-        → IsTrue (not b || nat_le (length key - length top) room)
-    inside true key node in_top all there =
-        let is : key ≡ top ++ drop (length top) key = begins-front top key in_top in
-        let found : node_at below (drop (length top) key) ≡ Some node =
-        alike (drop (length top) key) ∙ ap (node_at names) (sym is) ∙ there in
-        let few : IsTrue (nat_le (length (drop (length top) key)) room) =
-        each-get place_cmp place_cmp-same (λ e. IsTrue (nat_le (length e.0) room)) below (drop (length top) key) node all found in
-        let fewer : length key - length top ≡ length (drop (length top) key) =
-        omega (arith, length-append top (drop (length top) key), ap length is) in
-        ap (λ n. nat_le n room) fewer ∙ few
-    inside false key node out all there = refl
+    inside : (q : Place) (b : Bool) → begins top q ≡ b → list_all (λ e. nat_le (length e.0) room) below ≡ true
+        → is_taken (node_at names q) ≡ true → (not b || nat_le (length q - length top) room) ≡ true
+    inside q true in_top all taken =
+        let is : q ≡ top ++ drop (length top) q = begins-front top q in_top in
+        let found : is_taken (node_at below (drop (length top) q)) ≡ true =
+        ap is_taken (alike (drop (length top) q) ∙ ap (node_at names) (sym is)) ∙ taken in
+        let fewer : length q - length top ≡ length (drop (length top) q) =
+        omega (arith, length-append top (drop (length top) q), ap length is) in
+        ap (λ n. nat_le n room) fewer
+        ∙ place-passes (λ place. nat_le (length place) room) (drop (length top) q) below all found
+    inside q false out all taken = refl
 
     to : list_all (λ e. nat_le (length e.0) room) below ≡ true → reaches_at_most names top room ≡ true
-    to all =
-        all-each (λ e. not (begins top e.0) || nat_le (length e.0 - length top) room) names
-        (get-each place_cmp place_cmp-same place_cmp-total
-        (λ e. IsTrue (not (begins top e.0) || nat_le (length e.0 - length top) room)) names order
-        (λ key node there.
-        inside (begins top key) key node refl (each-all (λ e. nat_le (length e.0) room) below all) there))
+    to all = keys-pass (few top room) names (λ q taken. inside q (begins top q) refl all taken)
 
     from : reaches_at_most names top room ≡ true → list_all (λ e. nat_le (length e.0) room) below ≡ true
     from all =
-        all-each (λ e. nat_le (length e.0) room) below
-        (get-each place_cmp place_cmp-same place_cmp-total (λ e. IsTrue (nat_le (length e.0) room)) below order'
-        (λ key node there.
-        sym (behind top key room)
-        ∙ each-get place_cmp place_cmp-same
-        (λ e. IsTrue (not (begins top e.0) || nat_le (length e.0 - length top) room)) names (top ++ key) node
-        (each-all (λ e. not (begins top e.0) || nat_le (length e.0 - length top) room) names all)
-        (sym (alike key) ∙ there)))
+        keys-pass (λ place. nat_le (length place) room) below
+        (λ q taken. sym (behind top q room)
+        ∙ place-passes (few top room) (top ++ q) names all (ap is_taken (sym (alike q)) ∙ taken))
 
-pub reach-nothing : (room : ℕ) → have_at_most room [] ≡ true
-unfolding have_at_most
-reach-nothing room = refl
+-- where nothing is below a place, no names are behind it
+pub reach-leaf : (names : Names) (top : Place) (room : ℕ) → has_entries names top ≡ false
+    → reaches_at_most names top room ≡ true
+unfolding few
+reach-leaf names top room empty =
+    keys-pass (few top room) names (λ q taken. by q (begins top q) refl taken)
+  where
+    nothing : (rest : Place) → is_taken (node_at names (top ++ rest)) ≡ true → length rest ≡ 0
+    nothing [] taken = refl
+    nothing (n ∷ ns) taken =
+        let none : is_taken (node_at names (top ++ n ∷ ns)) ≡ false = ap is_taken (alone-there names top empty n ns) in
+        cc
 
-pub alone-ordered : (node : Node) → InOrder place_cmp (([], node) ∷ [])
-unfolding IsStrictlySortedBy
-alone-ordered node = (tt, tt)
-
-pub nothing-ordered : InOrder {X = Node} place_cmp []
-unfolding IsStrictlySortedBy
-nothing-ordered = tt
+    by : (q : Place) (b : Bool) → begins top q ≡ b → is_taken (node_at names q) ≡ true
+        → (not b || nat_le (length q - length top) room) ≡ true
+    by q true in_top taken =
+        let is : q ≡ top ++ drop (length top) q = begins-front top q in_top in
+        let none = nothing (drop (length top) q) (ap (λ place. is_taken (node_at names place)) (sym is) ∙ taken) in
+        let zero : length q - length top ≡ 0 =
+        omega (arith, length-append top (drop (length top) q), ap length is, none) in
+        ap (λ n. nat_le n room) zero ∙ none-yet room
+    by q false out taken = refl

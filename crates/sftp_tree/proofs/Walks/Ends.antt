@@ -1,10 +1,13 @@
 -- What is known of the ends of a request's paths.
-use Rattle.std.proofs.Common.{◌≡◌, ◌⊎◌, inl, inr, ap, Option, Some, Result, Ok, Err, IfOk}
+use Rattle.std.proofs.Common.{◌≡◌, ◌⊎◌, ◌∙◌, ℕ, true, false, inl, inr, sym, ap, Option, Some, Result, Ok, Err, IfOk}
 use Rattle.sftp_path.specs.Place.{Place}
 use Rattle.sftp_tree.specs.declared.causes.Cause.{Cause}
 use Rattle.sftp_tree.specs.declared.found.Found.{Found}
-use Rattle.sftp_tree.specs.Tree.{Tree, IsKept}
-use Rattle.sftp_tree.specs.Found.{IsFoundIn, placed, new_placed}
+use Rattle.sftp_tree.specs.Tree.{Tree, IsKept, is_directory}
+use Rattle.sftp_tree.specs.Room.{reaches_at_most}
+use Rattle.sftp_tree.specs.Found.{IsFoundIn, node_of, placed, new_placed}
+use Rattle.sftp_tree.proofs.Nesting.Reach.{reach-leaf}
+use Rattle.sftp_tree.proofs.WellFormedTrees.Places.{nothing-below}
 
 -- a tree in which something was found is kept
 pub end-kept : (t : Tree) (end : Result Found Cause) (place : Place) → IfOk end (IsFoundIn t) → placed end ≡ Ok place
@@ -19,3 +22,11 @@ lost-placed end new cause lost = elim lost [
   | inl first ↦ inl (ap placed first)
   | inr second ↦ inr (ap new_placed second)
 ]
+
+-- what was found and is no directory has nothing below it
+pub reach-no-directory : (t : Tree) (found : Found) (room : ℕ) → IsFoundIn t found
+    → is_directory (node_of found) ≡ false → reaches_at_most t.names found.place room ≡ true
+reach-no-directory t found room is_in none =
+    let whole = is_in.place.kept.well_formed in
+    reach-leaf t.names found.place room
+    (nothing-below t.names found.place whole.ordered whole.parents (ap is_directory (sym is_in.lent.node) ∙ none))

@@ -1,5 +1,5 @@
 -- What a walk meets, by the node there.
-use Rattle.std.proofs.Common.{◌≡◌, Bool, true, false, nat_eq, if◌then◌else◌, List, [], ◌∷◌, ◌++◌, ℕ, refl, ◌∙◌, ap, Option, Some, None, IsTrue, ◌||◌, sym}
+use Rattle.std.proofs.Common.{◌≡◌, Bool, true, false, nat_eq, if◌then◌else◌, List, [], ◌∷◌, ◌++◌, ℕ, refl, ◌∙◌, ap, Option, Some, None, IsTrue}
 use Rattle.std.specs.List.{list_all}
 use Rattle.std.specs.BTreeMap.{is_at}
 use Rattle.std.proofs.lemmas.Bool.{and_parts, and_from, and_right, false≢true}

@@ -3,7 +3,7 @@ ghost use Rattle.std.specs.Prelude.{◌≡◌, [], ◌∷◌, ◌++◌, Some, op
 ghost use Rattle.sftp_path.specs.Place.{Place};
 ghost use Rattle.sftp_tree.specs.Tree as tree;
 ghost use Rattle.sftp_tree.specs.Nesting.{branch};
-ghost use Rattle.sftp_tree.specs.Seen.{node_seen, branch_seen, IsWhole};
+ghost use Rattle.sftp_tree.specs.Seen.{node_seen, branch_seen};
 
 use super::directories::{Child, Dir};
 use super::seen::Seen;
@@ -30,7 +30,6 @@ impl Dir {
         ensures there { option_map node_seen result ≡ tree.node_at self.now names.now }
         ensures below { (rest : Place) →
             tree.node_at (branch_seen result) rest ≡ tree.node_at self.now (names.now ++ rest) }
-        ensures whole { IsWhole result }
     {
         let mut dir = self;
         let mut left = names;

@@ -6,5 +6,5 @@ use Rattle.sftp_audit.proofs.runs.run.Given as goal
 
 -- what is left to do leads where the whole does
 abbrev pub invariant-loop-exchange : goal.invariant-loop-exchange
-invariant-loop-exchange l = run_end l.tree (leading_pairs (ledger_of (drop l.exchange-index l.exchanges)))
-    ≡ run_end l.fn.tree (leading_pairs (ledger_of l.fn.exchanges))
+invariant-loop-exchange l = run_end l.session (leading_pairs (ledger_of (drop l.exchange-index l.exchanges)))
+    ≡ run_end l.fn.session (leading_pairs (ledger_of l.fn.exchanges))

@@ -1,0 +1,5 @@
+use Rattle.sftp_audit.proofs.worked.Reads.{other_byte}
+use Rattle.sftp_audit.proofs.examples.wrong_byte.Goals as goal
+
+pub returns : goal.returns
+returns c = other_byte
