@@ -56,13 +56,14 @@ returns-in-Ok-clause-done g c =
 
 pub invariant_of-self-in-Err-1 : goal.invariant_of-self-in-Err-1
 invariant_of-self-in-Err-1 g c =
-    let good = subst Good c.self.view_is c.self.invariant in
     subst Good
     (sym (opened.given-back c.args.self.now
     (state_of c.self-2.inside.tree (g.T.HandleTable.handles c.self-2.inside.table)) c.in_ok-name.name.items
-    c.empty.result good c.in_ok-name.ensures.closed (c.self-2.view_is ∙ c.in_ok-name.ensures.opened)
+    c.empty.result (subst Good c.self.view_is c.self.invariant) c.in_ok-name.ensures.closed
+    (c.self-2.view_is ∙ c.in_ok-name.ensures.opened)
     c.open_file.new.self (g.T.HandleTable.handles c.give_back.new.table) c.as_slice-in-Err.result.now
-    c.as_slice-in-Err.ensures.value c.in-Err.ensures.kept c.give_back.ensures)) good
+    c.as_slice-in-Err.ensures.value c.in-Err.ensures.kept c.give_back.ensures))
+    (subst Good c.self.view_is c.self.invariant)
 
 pub returns-in-Err-clause-kept : goal.returns-in-Err-clause-kept
 returns-in-Err-clause-kept g c =
