@@ -97,7 +97,6 @@ impl<T: HandleTable> Session<T> {
         ensures done { OnOk result (IsDone self.now (Fsync handle.now) self.now) }
         ensures refused { IfErr result (λ cause. IsTrue (causes self.now (Fsync handle.now) cause)) }
     {
-        let _ = &self.tree;
         match self.file_at(handle) {
             Ok(_) => Ok(()),
             Err(cause) => Err(cause),
