@@ -8,6 +8,7 @@ pub mod Allowed
 pub mod Laws
 pub mod Examples
 pub mod Given
+pub mod Slots
 pub mod Found
 pub mod Judged
 pub mod Opening

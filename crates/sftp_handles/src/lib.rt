@@ -22,10 +22,13 @@ mod reading;
 mod session_causes;
 mod sessions;
 mod shown;
+mod slab_table;
+mod slots;
 mod tables;
 
 pub use given_table::GivenTable;
 pub use listings::Listing;
 pub use opens::Open;
 pub use sessions::Session;
+pub use slab_table::SlabTable;
 pub use tables::{HandleTable, PutError};

@@ -97,7 +97,8 @@ impl<T: HandleTable> Session<T> {
         requires left { IsLeft left }
         ensures closed { IfOk result (λ name. handles.open_at self.old.handles name.items ≡ None) }
         ensures opened { IfOk result (λ name. self.new ≡ record self.old {
-            handles = handles.with_open self.old.handles name.items (opens.Listing left) }) }
+          handles = handles.with_open self.old.handles name.items (opens.Listing left);
+        }) }
         ensures short { IfOk result (λ name. length name.items ≤ handle_limit) }
         ensures wanted { IfOk result (λ name. IsTrue T.takes_want → name.items ≡ want.items) }
         ensures failed { IfErr result (λ e. (asked : ask) → IsNotOpened self.old asked want.items e) }
@@ -157,7 +158,13 @@ impl<T: HandleTable> Session<T> {
     /// # Errors
     ///
     /// `NoMemory` if memory runs out; the session is then as before.
-    fn judge_file(&mut self, path: &[u8], pflags: u32, attrs: &Attrs, handle: &[u8]) -> Result<bool, NoMemory>
+    fn judge_file(
+        &mut self,
+        path: &[u8],
+        pflags: u32,
+        attrs: &Attrs,
+        handle: &[u8],
+    ) -> Result<bool, NoMemory>
         requires { IsTrue T.takes_want }
         ensures ok { IfOk result
             (λ ok. IsJudged self.old (asks.Open path.now pflags attrs.now) (replies.Handle handle.now) ok self.new) }
@@ -225,6 +232,8 @@ fn give_back<T: HandleTable>(table: &mut T, handle: &[u8])
 fn kept_flags(pflags: u32) -> OpenFlags
     ensures { result ≡ handles.kept_flags pflags }
 {
-    let kept = OpenFlags::READ.union(OpenFlags::WRITE).union(OpenFlags::APPEND);
+    let kept = OpenFlags::READ
+        .union(OpenFlags::WRITE)
+        .union(OpenFlags::APPEND);
     OpenFlags::from_bits_retain(pflags).intersection(kept)
 }

@@ -1,0 +1,196 @@
+//! A table of the handles that this program's server gives.
+ghost use Rattle.std.specs.Prelude.{◌≡◌, ◌+◌, ◌%◌, ◌^◌, ◌==◌, false, if◌then◌else◌, map, None, Some};
+ghost use Rattle.std.specs.Prelude.{IsTrue, IfOk, IfErr, IfSome, OnOk, OnErr, IfNone, option_copied};
+ghost use Rattle.std.specs.Cmp.Lexicographic.{nat_list_cmp_total};
+ghost use Rattle.slab.specs.Slab.{entries};
+ghost use Rattle.sftp_path.specs.Place.{bytes_cmp};
+ghost use Rattle.sftp_path.specs.Table.{size};
+ghost use Rattle.sftp_path.proofs.Table.Laws.{InOrder-from_entries};
+ghost use Rattle.sftp_handles.specs.declared.tables.PutError.TheVariants.{NoMemory};
+ghost use Rattle.sftp_handles.specs.Handles.{open_at, with_open, without_open};
+ghost use Rattle.sftp_handles.specs.Slots.{slot_name, named_slot, slab_handles, IsNameAt, IsNumbered};
+
+use crate::opens::Open;
+use crate::slots::{Slot, name_of};
+use crate::tables::{HandleTable, PutError};
+use byteorder::{BigEndian, ByteOrder};
+use slab::Slab;
+use std::alloc::Global;
+use std::marker::Model;
+use std::mem;
+
+/// The handles that are open in a session with this program's server. A name has 12 bytes: the number of a slot, and
+/// then a serial that counts the openings from 0; after 2^32 - 1 comes 0. The slot freed last is used before others.
+#[derive(Drop)]
+pub struct SlabTable {
+    opens: Slab<Slot>,
+    // the serial of the next opening
+    serial: u32,
+}
+
+impl Model for SlabTable {
+    ghost use Rattle.sftp_handles.specs.Slots.{Slots, IsNumbered};
+
+    ghost Value = { Slots };
+
+    ghost view = { λ t. record { opens = t.opens; serial = t.serial } };
+
+    ghost invariant = { λ t. IsNumbered t.opens };
+}
+
+impl HandleTable for SlabTable {
+    ghost handles = { λ table. slab_handles table.opens };
+
+    ghost takes_want = { false };
+
+    fn empty(alloc: Global) -> SlabTable {
+        SlabTable {
+            opens: Slab::new(alloc),
+            serial: 0,
+        }
+    }
+
+    fn len(&self) -> usize {
+        count_open(&self.opens)
+    }
+
+    fn find(&self, name: &[u8]) -> Option<&Open> {
+        find_open(&self.opens, name)
+    }
+
+    fn swap(&mut self, name: &[u8], it: Open) -> Result<Open, Open> {
+        swap_open(&mut self.opens, name, it)
+    }
+
+    fn put(&mut self, it: Open, want: Vec<u8>) -> Result<Vec<u8>, (Open, PutError)> {
+        let name = put_open(&mut self.opens, self.serial, it, want)?;
+        self.serial = self.serial.wrapping_add(1);
+        Ok(name)
+    }
+
+    fn take(&mut self, name: &[u8]) -> Option<Open> {
+        let slot = take_slot(&mut self.opens, name)?;
+        Some(slot.opened)
+    }
+
+    fn give_back(&mut self, name: &[u8]) -> Option<Open> {
+        let slot = take_slot(&mut self.opens, name)?;
+        self.serial = serial_before(self.serial, slot.serial);
+        Some(slot.opened)
+    }
+
+    ghost ordered = { λ table. InOrder-from_entries bytes_cmp nat_list_cmp_total
+        (map named_slot (entries table.opens)) };
+}
+
+/// The serial of the next opening once an opening is given back: that of the opening if it is the newest, and else as
+/// it was.
+fn serial_before(next: u32, given_back: u32) -> u32
+    ensures { result ≡ (if next == (given_back + 1) % 2 ^ 32 then given_back else next) }
+{
+    if next == given_back.wrapping_add(1) {
+        given_back
+    } else {
+        next
+    }
+}
+
+/// The number of the slot that has a name.
+fn slot_of(opens: &Slab<Slot>, name: &[u8]) -> Option<usize>
+    requires { IsNumbered opens.now }
+    ensures found { IfSome result (λ number. IsNameAt opens.now name.now number) }
+    ensures absent { IfNone result (open_at (slab_handles opens.now) name.now ≡ None) }
+{
+    if name.len() != 12 {
+        return None;
+    }
+    let number = BigEndian::read_u64(name) as usize;
+    let slot = opens.get(number)?;
+    if name == name_of(number, slot.serial).as_slice() {
+        Some(number)
+    } else {
+        None
+    }
+}
+
+/// How many slots are in use.
+fn count_open(opens: &Slab<Slot>) -> usize
+    requires { IsNumbered opens.now }
+    ensures { result ≡ size (slab_handles opens.now) }
+{
+    opens.len()
+}
+
+/// What is open under a name.
+fn find_open<'a>(opens: &'a Slab<Slot>, name: &[u8]) -> Option<&'a Open>
+    requires { IsNumbered opens.now }
+    ensures { option_copied result ≡ open_at (slab_handles opens.now) name.now }
+{
+    let number = slot_of(opens, name)?;
+    Some(&opens[number].opened)
+}
+
+/// Opens something else under a name that is open, and returns what was open before.
+///
+/// # Errors
+///
+/// Returns its argument if the name is not open.
+fn swap_open(opens: &mut Slab<Slot>, name: &[u8], it: Open) -> Result<Open, Open>
+    requires { IsNumbered opens.old }
+    ensures before { IfOk result (λ before. open_at (slab_handles opens.old) name.now ≡ Some before) }
+    ensures swapped { OnOk result (slab_handles opens.new ≡ with_open (slab_handles opens.old) name.now it) }
+    ensures absent { OnErr result (open_at (slab_handles opens.old) name.now ≡ None) }
+    ensures back { IfErr result (λ back. back ≡ it) }
+    ensures err { OnErr result (opens.new ≡ opens.old) }
+    ensures numbered { IsNumbered opens.new }
+{
+    let Some(number) = slot_of(opens, name) else {
+        return Err(it);
+    };
+    let slot = &mut opens[number];
+    Ok(mem::replace(&mut slot.opened, it))
+}
+
+/// Opens something in a free slot, and returns its name.
+///
+/// # Errors
+///
+/// `NoMemory` if memory runs out; what was to be opened comes back.
+fn put_open(
+    opens: &mut Slab<Slot>,
+    serial: u32,
+    it: Open,
+    want: Vec<u8>,
+) -> Result<Vec<u8>, (Open, PutError)>
+    requires { IsNumbered opens.old }
+    ensures closed { IfOk result (λ name. open_at (slab_handles opens.old) name.items ≡ None) }
+    ensures opened { IfOk result (λ name. slab_handles opens.new ≡ with_open (slab_handles opens.old) name.items it) }
+    ensures named { IfOk result (λ name. name.items ≡ slot_name opens.old.vacant_key serial) }
+    ensures refused { IfErr result (λ e. e.1 ≡ NoMemory) }
+    ensures back { IfErr result (λ e. e.0 ≡ it) }
+    ensures err { OnErr result (opens.new.slots ≡ opens.old.slots) }
+    ensures numbered { IsNumbered opens.new }
+{
+    if opens.reserve(1).is_err() {
+        return Err((it, PutError::NoMemory));
+    }
+    let spelled = name_of(opens.vacant_key(), serial);
+    let Ok(name) = Vec::from_slice(*want.allocator(), spelled.as_slice()) else {
+        return Err((it, PutError::NoMemory));
+    };
+    opens.insert_reserved(Slot { serial, opened: it });
+    Ok(name)
+}
+
+/// Frees the slot of a name, and returns what was in it.
+fn take_slot(opens: &mut Slab<Slot>, name: &[u8]) -> Option<Slot>
+    requires { IsNumbered opens.old }
+    ensures closed { slab_handles opens.new ≡ without_open (slab_handles opens.old) name.now }
+    ensures before { IfSome result (λ slot. open_at (slab_handles opens.old) name.now ≡ Some slot.opened) }
+    ensures absent { IfNone result (open_at (slab_handles opens.old) name.now ≡ None) }
+    ensures freed { IfSome result (λ slot. name.now ≡ slot_name opens.new.vacant_key slot.serial) }
+    ensures numbered { IsNumbered opens.new }
+{
+    let number = slot_of(opens, name)?;
+    Some(opens.remove(number))
+}
