@@ -9,8 +9,8 @@ use Rattle.std.proofs.lemmas.Map.Text.{is_eq-slice_cmp}
 use Rattle.std.proofs.lemmas.Slice.Eq.{bytes_eq-Decides}
 use Rattle.byteorder.specs.Endian.{big_number}
 use Rattle.byteorder.specs.Numbers.{big_number-reads_back}
-use Rattle.slab.specs.Slab.{Slab, get, Updates, entries_from, entries, slab_len}
-use Rattle.slab.proofs.SlabLemmas.{length-entries}
+use Rattle.slab.specs.Slab.{Slab, get, with_value, Updates, entries_from, entries, slab_len}
+use Rattle.slab.proofs.SlabLemmas.{length-entries, Updates-with_value}
 use Rattle.sftp_wire.specs.Spelling.{uint32}
 use Rattle.sftp_path.specs.Place.{bytes_cmp}
 use Rattle.sftp_path.specs.Table.{from_entries, size}
@@ -20,7 +20,7 @@ use Rattle.sftp_path.proofs.Table.Laws.{InOrder-from_entries, InOrder-put, InOrd
 use Rattle.sftp_handles.specs.declared.opens.Open.{Open}
 use Rattle.sftp_handles.specs.declared.slots.Slot.{Slot}
 use Rattle.sftp_handles.specs.Handles.{open_at, with_open, without_open}
-use Rattle.sftp_handles.specs.Slots.{slot_name, named_slot, handles_from, slab_handles, IsNumbered}
+use Rattle.sftp_handles.specs.Slots.{slot_name, named_slot, handles_from, slab_handles, IsNameAt, IsNumbered}
 
 -- ---- names
 
@@ -39,6 +39,11 @@ names-apart name number serial fits differs = by (bytes_eq name (slot_name numbe
     by true is =
         let same = (bytes_eq-Decides name (slot_name number serial)).0 is in
         absurd (differs (ap (big_number 8) same ∙ name-number number serial fits))
+
+-- a name has 12 bytes
+pub length-name : (number serial : ℕ) → length (slot_name number serial) ≡ 12
+unfolding slot_name
+length-name number serial = refl
 
 -- ---- what is open
 
@@ -116,11 +121,55 @@ open-absent opens name numbered other =
     by number slot found (inr differs) =
         names-apart name number slot.serial (numbered number (ap is_some found)) differs
 
+-- nothing is open under a name of another length
+pub open-length : (opens : Slab Slot) (name : List ℕ) → IsNumbered opens → (length name ≢ 12)
+    → open_at (slab_handles opens) name ≡ None
+open-length opens name numbered differs =
+    open-absent opens name numbered
+    (λ slot found. by slot (bytes_eq name (slot_name (big_number 8 name) slot.serial)) refl)
+  where
+    by : (slot : Slot) (b : Bool) → bytes_eq name (slot_name (big_number 8 name) slot.serial) ≡ b → b ≡ false
+    by slot false is = refl
+    by slot true is =
+        let same = (bytes_eq-Decides name (slot_name (big_number 8 name) slot.serial)).0 is in
+        absurd (differs (ap length same ∙ length-name (big_number 8 name) slot.serial))
+
+-- nothing is open under a name whose slot is free
+pub open-free : (opens : Slab Slot) (name : List ℕ) (number : ℕ) → IsNumbered opens → number ≡ big_number 8 name
+    → get opens number ≡ None → open_at (slab_handles opens) name ≡ None
+open-free opens name number numbered is free =
+    open-absent opens name numbered (λ slot found.
+    let missing : get opens (big_number 8 name) ≡ None = ap (get opens) (sym is) ∙ free in
+    absurd cc)
+
+-- nothing is open under a name that is not that of its slot
+pub open-other : (opens : Slab Slot) (name : List ℕ) (number : ℕ) (slot : Slot) → IsNumbered opens
+    → number ≡ big_number 8 name → get opens number ≡ Some slot
+    → bytes_eq name (slot_name number slot.serial) ≡ false → open_at (slab_handles opens) name ≡ None
+open-other opens name number slot numbered is found differs =
+    open-absent opens name numbered (λ other here.
+    let same : slot ≡ other = cc in
+    ap (λ n. bytes_eq name (slot_name n other.serial)) (sym is)
+    ∙ (ap (λ (s : Slot). bytes_eq name (slot_name number s.serial)) (sym same) ∙ differs))
+
 -- the slot with this name is open under it
 pub open-present : (opens : Slab Slot) (number : ℕ) (slot : Slot) → IsNumbered opens → get opens number ≡ Some slot
     → open_at (slab_handles opens) (slot_name number slot.serial) ≡ Some slot.opened
 open-present opens number slot numbered found =
     found-some 0 opens.slots number number slot (omega arith) (numbered number (ap is_some found)) found
+
+-- the name of a slot
+pub name-at : (opens : Slab Slot) (name : List ℕ) (number : ℕ) (slot : Slot) → get opens number ≡ Some slot
+    → IsNameAt opens name number → name ≡ slot_name number slot.serial
+name-at opens name number slot found named = rw found at named
+
+-- what is open under the name of a slot
+pub open-named : (opens : Slab Slot) (name : List ℕ) (number : ℕ) (slot : Slot) → IsNumbered opens
+    → get opens number ≡ Some slot → IsNameAt opens name number
+    → open_at (slab_handles opens) name ≡ Some slot.opened
+open-named opens name number slot numbered found named =
+    ap (open_at (slab_handles opens)) (name-at opens name number slot found named)
+    ∙ open-present opens number slot numbered found
 
 -- what is open under a name is in the slot of its number
 pub open-found : (opens : Slab Slot) (name : List ℕ) → IsNumbered opens
@@ -244,6 +293,48 @@ changed-without old new number slot was found updates =
     ∙ (ap (λ b. cond b None (open_at (slab_handles old) at))
     (nat_list_eq_equiv.symm at name ∙ sym (is_eq-slice_cmp name at))
     ∙ sym (get-without bytes_cmp nat_list_cmp_total (slab_handles old) name at in_order)))
+
+-- ---- calls
+
+-- something is open in a slot that was free
+pub opened-put : (old ready new : Slab Slot) (number : ℕ) (slot : Slot) (name : List ℕ) → IsNumbered old
+    → ready.slots ≡ old.slots → number < 2 ^ 64 → get ready number ≡ None → Updates ready new number (Some slot)
+    → name ≡ slot_name number slot.serial → slab_handles new ≡ with_open (slab_handles old) name slot.opened
+opened-put old ready new number slot name was kept fits free updates named =
+    let numbered : IsNumbered ready =
+    λ at in_use. was at (ap (λ slots. is_some (get_or slots at None)) (sym kept) ∙ in_use) in
+    changed-put ready new number slot numbered fits updates (λ other found. absurd cc)
+    ∙ (ap (λ slots. with_open (handles_from 0 slots) (slot_name number slot.serial) slot.opened) kept
+    ∙ ap (λ n. with_open (slab_handles old) n slot.opened) (sym named))
+
+-- nothing was open under the name of a free slot
+pub closed-put : (old ready : Slab Slot) (number serial : ℕ) (name : List ℕ) → IsNumbered old
+    → ready.slots ≡ old.slots → number < 2 ^ 64 → get ready number ≡ None → name ≡ slot_name number serial
+    → open_at (slab_handles old) name ≡ None
+closed-put old ready number serial name was kept fits free named =
+    open-free old name number was (sym (ap (big_number 8) named ∙ name-number number serial fits))
+    (ap (λ slots. get_or slots number None) (sym kept) ∙ free)
+
+-- something else is open in a slot
+pub swapped-at : (opens : Slab Slot) (name : List ℕ) (number : ℕ) (slot : Slot) (it : Open) → IsNumbered opens
+    → get opens number ≡ Some slot → IsNameAt opens name number
+    → slab_handles (with_value opens number (record { serial = slot.serial; opened = it }))
+    ≡ with_open (slab_handles opens) name it
+swapped-at opens name number slot it was found named =
+    let after : Slot = record { serial = slot.serial; opened = it } in
+    let present = ap is_some found in
+    changed-put opens (with_value opens number after) number after was (was number present)
+    (Updates-with_value opens number after present)
+    (λ other same. let is : slot ≡ other = cc in ap (λ (s : Slot). s.serial) (sym is))
+    ∙ ap (λ n. with_open (slab_handles opens) n it) (sym (name-at opens name number slot found named))
+
+-- a slot was freed
+pub freed-at : (old new : Slab Slot) (name : List ℕ) (number : ℕ) (slot : Slot) → IsNumbered old
+    → get old number ≡ Some slot → IsNameAt old name number → Updates old new number None
+    → slab_handles new ≡ without_open (slab_handles old) name
+freed-at old new name number slot was found named updates =
+    changed-without old new number slot was found updates
+    ∙ ap (without_open (slab_handles old)) (sym (name-at old name number slot found named))
 
 -- ---- how many
 

@@ -1,8 +1,9 @@
 //! A table of the handles that this program's server gives.
-ghost use Rattle.std.specs.Prelude.{◌≡◌, ◌+◌, ◌%◌, ◌^◌, ◌==◌, false, if◌then◌else◌, map, None, Some};
-ghost use Rattle.std.specs.Prelude.{IsTrue, IfOk, IfErr, IfSome, OnOk, OnErr, IfNone, option_copied};
+ghost use Rattle.std.specs.Prelude.{◌≡◌, ◌≤◌, ◌+◌, ◌%◌, ◌^◌, ◌==◌, false, if◌then◌else◌, map, None, Some};
+ghost use Rattle.std.specs.Prelude.{IsTrue, IfOk, IfErr, IfSome, OnOk, OnErr, IfNone, length, option_copied};
 ghost use Rattle.std.specs.Cmp.Lexicographic.{nat_list_cmp_total};
 ghost use Rattle.slab.specs.Slab.{entries};
+ghost use Rattle.sftp_wire.specs.Spelling.{handle_limit};
 ghost use Rattle.sftp_path.specs.Place.{bytes_cmp};
 ghost use Rattle.sftp_path.specs.Table.{size};
 ghost use Rattle.sftp_path.proofs.Table.Laws.{InOrder-from_entries};
@@ -11,7 +12,7 @@ ghost use Rattle.sftp_handles.specs.Handles.{open_at, with_open, without_open};
 ghost use Rattle.sftp_handles.specs.Slots.{slot_name, named_slot, slab_handles, IsNameAt, IsNumbered};
 
 use crate::opens::Open;
-use crate::slots::{Slot, name_of};
+use crate::slots::Slot;
 use crate::tables::{HandleTable, PutError};
 use byteorder::{BigEndian, ByteOrder};
 use slab::Slab;
@@ -95,6 +96,17 @@ fn serial_before(next: u32, given_back: u32) -> u32
     }
 }
 
+/// The name of a slot's opening: the number of the slot as 8 bytes, then the serial as 4 bytes.
+#[tactic(auto, unfolding(crate::specs::Slots::slot_name))]
+fn name_of(number: usize, serial: u32) -> [u8; 12]
+    ensures { result ≡ slot_name number serial }
+{
+    let mut name = [0; 12];
+    BigEndian::write_u64(&mut name, number as u64);
+    BigEndian::write_u32(&mut name[8..], serial);
+    name
+}
+
 /// The number of the slot that has a name.
 fn slot_of(opens: &Slab<Slot>, name: &[u8]) -> Option<usize>
     requires { IsNumbered opens.now }
@@ -166,6 +178,7 @@ fn put_open(
     ensures closed { IfOk result (λ name. open_at (slab_handles opens.old) name.items ≡ None) }
     ensures opened { IfOk result (λ name. slab_handles opens.new ≡ with_open (slab_handles opens.old) name.items it) }
     ensures named { IfOk result (λ name. name.items ≡ slot_name opens.old.vacant_key serial) }
+    ensures short { IfOk result (λ name. length name.items ≤ handle_limit) }
     ensures refused { IfErr result (λ e. e.1 ≡ NoMemory) }
     ensures back { IfErr result (λ e. e.0 ≡ it) }
     ensures err { OnErr result (opens.new.slots ≡ opens.old.slots) }
