@@ -2,16 +2,19 @@
 use Rattle.std.proofs.Common.{◌≡◌, ◌≢◌, ◌⊎◌, ◌+◌, ◌<◌, ◌^◌, ℕ, zero, suc, Bool, true, false, cond, List}
 use Rattle.std.proofs.Common.{[], ◌∷◌, length, map, get_or, Option, None, Some, is_some, refl, sym, ap, subst, ◌∙◌}
 use Rattle.std.proofs.Common.{inl, inr, zero-add, arith}
-use Rattle.std.specs.Prelude.{bytes_eq, IsSome}
+use Rattle.std.specs.Prelude.{◌==◌, ◌-◌, take, drop, if◌then◌else◌, bytes_eq, IsSome}
+use Rattle.std.specs.Int.{w32, from_be_bytes}
 use Rattle.std.specs.Cmp.Lexicographic.{nat_list_cmp_total, nat_list_eq_equiv}
-use Rattle.std.proofs.lemmas.Bool.{cases_eq}
+use Rattle.std.proofs.Math.Nat.{mod-lt}
+use Rattle.std.proofs.lemmas.Bool.{cases_eq, eq-eqb, eqb-true}
+use Rattle.std.proofs.lemmas.Nat.{from_be_bytes-to_be_bytes_4}
 use Rattle.std.proofs.lemmas.Map.Text.{is_eq-slice_cmp}
 use Rattle.std.proofs.lemmas.Slice.Eq.{bytes_eq-Decides}
 use Rattle.byteorder.specs.Endian.{big_number}
 use Rattle.byteorder.specs.Numbers.{big_number-reads_back}
 use Rattle.slab.specs.Slab.{Slab, get, with_value, Updates, entries_from, entries, slab_len}
 use Rattle.slab.proofs.SlabLemmas.{length-entries, Updates-with_value}
-use Rattle.sftp_wire.specs.Spelling.{uint32}
+use Rattle.sftp_wire.specs.Spelling.{uint32, uint64}
 use Rattle.sftp_path.specs.Place.{bytes_cmp}
 use Rattle.sftp_path.specs.Table.{from_entries, size}
 use Rattle.sftp_path.proofs.Order.{bytes_cmp-same}
@@ -20,7 +23,8 @@ use Rattle.sftp_path.proofs.Table.Laws.{InOrder-from_entries, InOrder-put, InOrd
 use Rattle.sftp_handles.specs.declared.opens.Open.{Open}
 use Rattle.sftp_handles.specs.declared.slots.Slot.{Slot}
 use Rattle.sftp_handles.specs.Handles.{open_at, with_open, without_open}
-use Rattle.sftp_handles.specs.Slots.{slot_name, named_slot, handles_from, slab_handles, IsNameAt, IsNumbered}
+use Rattle.sftp_handles.specs.Slots.{slot_name, named_slot, handles_from, slab_handles, serial_before}
+use Rattle.sftp_handles.specs.Slots.{IsNameAt, IsNewest, IsNumbered}
 
 -- ---- names
 
@@ -242,15 +246,15 @@ module _ (old new : Slab Slot) (number serial : ℕ) (slot : Option Slot) (was :
           ≡ cond (bytes_eq at (slot_name number serial)) (opened_in slot) (open_at (slab_handles old) at)
       by (inl same) =
           let b = bytes_eq at (slot_name number serial) in
-          let now : open_at (slab_handles new) at ≡ cond b (opened_in slot) None =
+          let present : open_at (slab_handles new) at ≡ cond b (opened_in slot) None =
           open-found new at still-numbered
           ∙ (ap (λ n. shown at n (get new n)) same
           ∙ (ap (shown at number) updates.changed ∙ shown-is at number serial slot after)) in
-          let then : open_at (slab_handles old) at ≡ cond b (opened_in (get old number)) None =
+          let former : open_at (slab_handles old) at ≡ cond b (opened_in (get old number)) None =
           open-found old at was
           ∙ (ap (λ n. shown at n (get old n)) same ∙ shown-is at number serial (get old number) before) in
-          now ∙ (choice b (opened_in slot) (opened_in (get old number))
-          ∙ ap (cond b (opened_in slot)) (sym then))
+          present ∙ (choice b (opened_in slot) (opened_in (get old number))
+          ∙ ap (cond b (opened_in slot)) (sym former))
       by (inr differs) =
           open-found new at still-numbered
           ∙ (ap (shown at (big_number 8 at)) (updates.others (big_number 8 at) differs)
@@ -335,6 +339,42 @@ pub freed-at : (old new : Slab Slot) (name : List ℕ) (number : ℕ) (slot : Sl
 freed-at old new name number slot was found named updates =
     changed-without old new number slot was found updates
     ∙ ap (without_open (slab_handles old)) (sym (name-at old name number slot found named))
+
+-- ---- serials
+
+-- a name begins with its slot
+pub first-bytes : (name : List ℕ) (number serial : ℕ) → name ≡ slot_name number serial → take 8 name ≡ uint64 number
+unfolding slot_name
+first-bytes name number serial is = ap (take 8) is
+
+last-bytes : (name : List ℕ) (number serial : ℕ) → name ≡ slot_name number serial → drop 8 name ≡ uint32 serial
+unfolding slot_name
+last-bytes name number serial is = ap (drop 8) is
+
+same-serial : (a b : ℕ) → a < 2 ^ 32 → b < 2 ^ 32 → uint32 a ≡ uint32 b → a ≡ b
+same-serial a b a-fits b-fits same =
+    sym (from_be_bytes-to_be_bytes_4 a a-fits) ∙ (ap (from_be_bytes w32) same ∙ from_be_bytes-to_be_bytes_4 b b-fits)
+
+module _ (name : List ℕ) (number given old new : ℕ) (fits : given < 2 ^ 32) (named : name ≡ slot_name number given)
+    (next : new ≡ (if given == serial_before old then given else old)) where
+  -- the newest name is given again
+  pub given-newest : IsNewest old name → slot_name number new ≡ name
+  given-newest newest =
+      let same : given ≡ serial_before old =
+      same-serial given (serial_before old) fits (mod-lt (old + (2 ^ 32 - 1)) (omega arith))
+      (sym (last-bytes name number given named) ∙ newest) in
+      let chosen : new ≡ given = next ∙ ap (λ b. if b then given else old) (eq-eqb given (serial_before old) same) in
+      ap (slot_name number) chosen ∙ sym named
+
+  -- another leaves the next serial as it was
+  pub given-older : (IsNewest old name → ⊥) → new ≡ old
+  given-older older = next ∙ by (given == serial_before old) refl
+    where
+      by : (b : Bool) → (given == serial_before old) ≡ b → (if b then given else old) ≡ old
+      by false is = refl
+      by true is =
+          let same = eqb-true given (serial_before old) is in
+          absurd (older (last-bytes name number given named ∙ ap uint32 same))
 
 -- ---- how many
 

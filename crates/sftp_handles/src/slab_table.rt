@@ -1,6 +1,6 @@
 //! A table of the handles that this program's server gives.
-ghost use Rattle.std.specs.Prelude.{◌≡◌, ◌≤◌, ◌+◌, ◌%◌, ◌^◌, ◌==◌, false, if◌then◌else◌, map, None, Some};
-ghost use Rattle.std.specs.Prelude.{IsTrue, IfOk, IfErr, IfSome, OnOk, OnErr, IfNone, length, option_copied};
+ghost use Rattle.std.specs.Prelude.{◌≡◌, ◌<◌, ◌≤◌, ◌^◌, ◌==◌, [], false, if◌then◌else◌, map, None, Some};
+ghost use Rattle.std.specs.Prelude.{IfOk, IfErr, IfSome, OnSome, OnOk, OnErr, IfNone, length, option_copied};
 ghost use Rattle.std.specs.Cmp.Lexicographic.{nat_list_cmp_total};
 ghost use Rattle.slab.specs.Slab.{entries};
 ghost use Rattle.sftp_wire.specs.Spelling.{handle_limit};
@@ -9,7 +9,8 @@ ghost use Rattle.sftp_path.specs.Table.{size};
 ghost use Rattle.sftp_path.proofs.Table.Laws.{InOrder-from_entries};
 ghost use Rattle.sftp_handles.specs.declared.tables.PutError.TheVariants.{NoMemory};
 ghost use Rattle.sftp_handles.specs.Handles.{open_at, with_open, without_open};
-ghost use Rattle.sftp_handles.specs.Slots.{slot_name, named_slot, slab_handles, IsNameAt, IsNumbered};
+ghost use Rattle.sftp_handles.specs.Slots.{slot_name, next_name, named_slot, slab_handles, serial_after, serial_before};
+ghost use Rattle.sftp_handles.specs.Slots.{IsNameAt, IsNext, IsNewest, IsNumbered};
 
 use crate::opens::Open;
 use crate::slots::Slot;
@@ -44,7 +45,10 @@ impl HandleTable for SlabTable {
 
     ghost takes_want = { false };
 
-    fn empty(alloc: Global) -> SlabTable {
+    fn empty(alloc: Global) -> SlabTable
+        ensures empty { slab_handles result.opens ≡ [] }
+        ensures first { next_name result ≡ slot_name 0 0 }
+    {
         SlabTable {
             opens: Slab::new(alloc),
             serial: 0,
@@ -63,20 +67,42 @@ impl HandleTable for SlabTable {
         swap_open(&mut self.opens, name, it)
     }
 
-    fn put(&mut self, it: Open, want: Vec<u8>) -> Result<Vec<u8>, (Open, PutError)> {
+    fn put(&mut self, it: Open, want: Vec<u8>) -> Result<Vec<u8>, (Open, PutError)>
+        ensures named { IfOk result (λ name. name.items ≡ next_name self.old) }
+        ensures counted { OnOk result (self.new.serial ≡ serial_after self.old.serial) }
+        ensures closed { IfOk result (λ name. open_at (slab_handles self.old.opens) name.items ≡ None) }
+        ensures opened { IfOk result (λ name.
+            slab_handles self.new.opens ≡ with_open (slab_handles self.old.opens) name.items it) }
+        ensures short { IfOk result (λ name. length name.items ≤ handle_limit) }
+        ensures refused { IfErr result (λ e. e.1 ≡ NoMemory) }
+        ensures back { IfErr result (λ e. e.0 ≡ it) }
+        ensures err { OnErr result (slab_handles self.new.opens ≡ slab_handles self.old.opens) }
+    {
         let name = put_open(&mut self.opens, self.serial, it, want)?;
         self.serial = self.serial.wrapping_add(1);
         Ok(name)
     }
 
-    fn take(&mut self, name: &[u8]) -> Option<Open> {
+    fn take(&mut self, name: &[u8]) -> Option<Open>
+        ensures next { OnSome result (IsNext self.new name.now) }
+        ensures serial { self.new.serial ≡ self.old.serial }
+        ensures before { result ≡ open_at (slab_handles self.old.opens) name.now }
+        ensures closed { slab_handles self.new.opens ≡ without_open (slab_handles self.old.opens) name.now }
+    {
         let slot = take_slot(&mut self.opens, name)?;
         Some(slot.opened)
     }
 
-    fn give_back(&mut self, name: &[u8]) -> Option<Open> {
+    fn give_back(&mut self, name: &[u8]) -> Option<Open>
+        ensures next { OnSome result (IsNext self.new name.now) }
+        ensures newest { OnSome result (IsNewest self.old.serial name.now → next_name self.new ≡ name.now) }
+        ensures older { OnSome result ((IsNewest self.old.serial name.now → ⊥) → self.new.serial ≡ self.old.serial) }
+        ensures absent { IfNone result (self.new.serial ≡ self.old.serial) }
+        ensures before { result ≡ open_at (slab_handles self.old.opens) name.now }
+        ensures closed { slab_handles self.new.opens ≡ without_open (slab_handles self.old.opens) name.now }
+    {
         let slot = take_slot(&mut self.opens, name)?;
-        self.serial = serial_before(self.serial, slot.serial);
+        self.serial = serial_given_back(self.serial, slot.serial);
         Some(slot.opened)
     }
 
@@ -84,12 +110,13 @@ impl HandleTable for SlabTable {
         (map named_slot (entries table.opens)) };
 }
 
-/// The serial of the next opening once an opening is given back: that of the opening if it is the newest, and else as
-/// it was.
-fn serial_before(next: u32, given_back: u32) -> u32
-    ensures { result ≡ (if next == (given_back + 1) % 2 ^ 32 then given_back else next) }
+/// The serial of the next opening after one was given back: that of the opening if it was the newest, and else as it
+/// was.
+fn serial_given_back(next: u32, given_back: u32) -> u32
+    ensures serial { result ≡ (if given_back == serial_before next then given_back else next) }
+    ensures fits { given_back < 2 ^ 32 }
 {
-    if next == given_back.wrapping_add(1) {
+    if given_back == next.wrapping_sub(1) {
         given_back
     } else {
         next
@@ -118,7 +145,8 @@ fn slot_of(opens: &Slab<Slot>, name: &[u8]) -> Option<usize>
     }
     let number = BigEndian::read_u64(name) as usize;
     let slot = opens.get(number)?;
-    if name == name_of(number, slot.serial).as_slice() {
+    let spelled = name_of(number, slot.serial);
+    if name == spelled.as_slice() {
         Some(number)
     } else {
         None
@@ -204,6 +232,6 @@ fn take_slot(opens: &mut Slab<Slot>, name: &[u8]) -> Option<Slot>
     ensures freed { IfSome result (λ slot. name.now ≡ slot_name opens.new.vacant_key slot.serial) }
     ensures numbered { IsNumbered opens.new }
 {
-    let number = slot_of(opens, name)?;
-    Some(opens.remove(number))
+    let freed = slot_of(opens, name)?;
+    Some(opens.remove(freed))
 }

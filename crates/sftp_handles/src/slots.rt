@@ -3,7 +3,7 @@
 use crate::opens::Open;
 
 /// A slot in use: what is open, and the serial of its opening.
-#[derive(Debug, Drop)]
+#[derive(Drop)]
 pub struct Slot {
     pub serial: u32,
     pub opened: Open,

@@ -1,7 +1,7 @@
 //! Tables of handles, listings, and sessions.
 ghost use Rattle.std.specs.Prelude.{◌≤◌, length};
 
-use sftp_handles::{GivenTable, HandleTable, Listing, Open, PutError, Session};
+use sftp_handles::{GivenTable, HandleTable, Listing, Open, PutError, Session, SlabTable};
 use sftp_path::{Name, NoMemory};
 use sftp_tree::{Cause, Tree};
 use sftp_wire::{Ask, Attrs, ByteString};
@@ -61,6 +61,72 @@ fn given_names(rt: HostRuntime) -> Result<(), Fail> {
     let mut table = GivenTable::empty(rt.alloc());
     assert!(rt; gives_names(rt.alloc(), &mut table)?);
     assert!(rt; closes_names(&mut table));
+    Ok(())
+}
+
+/// Opens an empty listing, and returns the name that the table gives it; empty if memory runs out.
+fn open_given(alloc: Global, table: &mut SlabTable) -> Vec<u8> {
+    let it = Open::Listing {
+        left: Listing::empty(alloc),
+    };
+    match table.put(it, Vec::new(alloc)) {
+        Ok(name) => name,
+        Err(_) => Vec::new(alloc),
+    }
+}
+
+/// Whether the first openings get slots and serials from 0 on.
+fn counts_openings(alloc: Global, table: &mut SlabTable) -> bool {
+    let first = open_given(alloc, table);
+    let second = open_given(alloc, table);
+    first.as_slice() == b"\0\0\0\0\0\0\0\0\0\0\0\0"
+        && second.as_slice() == b"\0\0\0\0\0\0\0\x01\0\0\0\x01"
+        && table.len() == 2
+}
+
+/// Whether a slot that was freed is used with the next serial, and the name that it had is not open.
+fn uses_freed_slots(alloc: Global, table: &mut SlabTable) -> bool {
+    let first = b"\0\0\0\0\0\0\0\0\0\0\0\0";
+    let was_open = table.take(first).is_some();
+    let third = open_given(alloc, table);
+    was_open
+        && third.as_slice() == b"\0\0\0\0\0\0\0\0\0\0\0\x02"
+        && table.find(third.as_slice()).is_some()
+        && table.find(first).is_none()
+}
+
+/// Whether of two slots that were freed the last is used first.
+fn uses_the_last_freed(alloc: Global, table: &mut SlabTable) -> bool {
+    let was_open = table.take(b"\0\0\0\0\0\0\0\0\0\0\0\x02").is_some();
+    let was_open_too = table.take(b"\0\0\0\0\0\0\0\x01\0\0\0\x01").is_some();
+    let fourth = open_given(alloc, table);
+    let fifth = open_given(alloc, table);
+    was_open
+        && was_open_too
+        && fourth.as_slice() == b"\0\0\0\0\0\0\0\x01\0\0\0\x03"
+        && fifth.as_slice() == b"\0\0\0\0\0\0\0\0\0\0\0\x04"
+}
+
+/// Whether the newest name is given again once it is given back, and an older one is not.
+fn gives_back_the_newest(alloc: Global, table: &mut SlabTable) -> bool {
+    let newest = b"\0\0\0\0\0\0\0\0\0\0\0\x04";
+    let was_open = table.give_back(newest).is_some();
+    let again = open_given(alloc, table);
+    let older_was_open = table.give_back(b"\0\0\0\0\0\0\0\x01\0\0\0\x03").is_some();
+    let next = open_given(alloc, table);
+    was_open
+        && again.as_slice() == newest
+        && older_was_open
+        && next.as_slice() == b"\0\0\0\0\0\0\0\x01\0\0\0\x05"
+}
+
+#[test]
+fn names_of_slots(rt: HostRuntime) -> Result<(), Fail> {
+    let mut table = SlabTable::empty(rt.alloc());
+    assert!(rt; counts_openings(rt.alloc(), &mut table));
+    assert!(rt; uses_freed_slots(rt.alloc(), &mut table));
+    assert!(rt; uses_the_last_freed(rt.alloc(), &mut table));
+    assert!(rt; gives_back_the_newest(rt.alloc(), &mut table));
     Ok(())
 }
 

@@ -23,7 +23,7 @@ returns-then-eq-clause-found c =
     sym c.get.ensures ∙ ap option_copied c.in_ok-slot.was in
     rw found
     ((bytes_eq-Decides c.args.name.now c.as_slice.result.now).0 (sym c.eq.ensures ∙ c.if-eq.true)
-    ∙ (c.as_slice.ensures ∙ c.name_of.ensures))
+    ∙ (c.as_slice.ensures ∙ c.name_of-spelled.ensures))
 
 pub returns-else-eq-clause-absent : goal.returns-else-eq-clause-absent
 returns-else-eq-clause-absent c =
@@ -31,6 +31,6 @@ returns-else-eq-clause-absent c =
     let slot = c.in_ok-slot.slot.now in
     let found : get c.args.opens.now number ≡ Some slot = sym c.get.ensures ∙ ap option_copied c.in_ok-slot.was in
     let differs : bytes_eq c.args.name.now (slot_name number slot.serial) ≡ false =
-    ap (bytes_eq c.args.name.now) (sym (c.as_slice.ensures ∙ c.name_of.ensures))
+    ap (bytes_eq c.args.name.now) (sym (c.as_slice.ensures ∙ c.name_of-spelled.ensures))
     ∙ (sym c.eq.ensures ∙ c.if-eq.false) in
     open-other c.args.opens.now c.args.name.now number slot c.requires c.read_u64-number.ensures found differs
