@@ -75,49 +75,51 @@ fn open_given(alloc: Global, table: &mut SlabTable) -> Vec<u8> {
     }
 }
 
+// The names of the first openings: the number of a slot in 8 bytes, and a serial in 4.
+const FIRST: &[u8] = b"\0\0\0\0\0\0\0\0\0\0\0\0";
+
+const SECOND: &[u8] = b"\0\0\0\0\0\0\0\x01\0\0\0\x01";
+
+const THIRD: &[u8] = b"\0\0\0\0\0\0\0\0\0\0\0\x02";
+
+const FOURTH: &[u8] = b"\0\0\0\0\0\0\0\x01\0\0\0\x03";
+
+const FIFTH: &[u8] = b"\0\0\0\0\0\0\0\0\0\0\0\x04";
+
+const SIXTH: &[u8] = b"\0\0\0\0\0\0\0\x01\0\0\0\x05";
+
 /// Whether the first openings get slots and serials from 0 on.
 fn counts_openings(alloc: Global, table: &mut SlabTable) -> bool {
     let first = open_given(alloc, table);
     let second = open_given(alloc, table);
-    first.as_slice() == b"\0\0\0\0\0\0\0\0\0\0\0\0"
-        && second.as_slice() == b"\0\0\0\0\0\0\0\x01\0\0\0\x01"
-        && table.len() == 2
+    first.as_slice() == FIRST && second.as_slice() == SECOND && table.len() == 2
 }
 
 /// Whether a slot that was freed is used with the next serial, and the name that it had is not open.
 fn uses_freed_slots(alloc: Global, table: &mut SlabTable) -> bool {
-    let first = b"\0\0\0\0\0\0\0\0\0\0\0\0";
-    let was_open = table.take(first).is_some();
+    let was_open = table.take(FIRST).is_some();
     let third = open_given(alloc, table);
     was_open
-        && third.as_slice() == b"\0\0\0\0\0\0\0\0\0\0\0\x02"
-        && table.find(third.as_slice()).is_some()
-        && table.find(first).is_none()
+        && third.as_slice() == THIRD
+        && table.find(THIRD).is_some()
+        && table.find(FIRST).is_none()
 }
 
 /// Whether of two slots that were freed the last is used first.
 fn uses_the_last_freed(alloc: Global, table: &mut SlabTable) -> bool {
-    let was_open = table.take(b"\0\0\0\0\0\0\0\0\0\0\0\x02").is_some();
-    let was_open_too = table.take(b"\0\0\0\0\0\0\0\x01\0\0\0\x01").is_some();
+    let was_open = table.take(THIRD).is_some() && table.take(SECOND).is_some();
     let fourth = open_given(alloc, table);
     let fifth = open_given(alloc, table);
-    was_open
-        && was_open_too
-        && fourth.as_slice() == b"\0\0\0\0\0\0\0\x01\0\0\0\x03"
-        && fifth.as_slice() == b"\0\0\0\0\0\0\0\0\0\0\0\x04"
+    was_open && fourth.as_slice() == FOURTH && fifth.as_slice() == FIFTH
 }
 
 /// Whether the newest name is given again once it is given back, and an older one is not.
 fn gives_back_the_newest(alloc: Global, table: &mut SlabTable) -> bool {
-    let newest = b"\0\0\0\0\0\0\0\0\0\0\0\x04";
-    let was_open = table.give_back(newest).is_some();
+    let was_open = table.give_back(FIFTH).is_some();
     let again = open_given(alloc, table);
-    let older_was_open = table.give_back(b"\0\0\0\0\0\0\0\x01\0\0\0\x03").is_some();
-    let next = open_given(alloc, table);
-    was_open
-        && again.as_slice() == newest
-        && older_was_open
-        && next.as_slice() == b"\0\0\0\0\0\0\0\x01\0\0\0\x05"
+    let older_was_open = table.give_back(FOURTH).is_some();
+    let sixth = open_given(alloc, table);
+    was_open && again.as_slice() == FIFTH && older_was_open && sixth.as_slice() == SIXTH
 }
 
 #[test]
