@@ -1,6 +1,6 @@
-use Rattle.std.proofs.Common.{◌≡◌, ◌∙◌, sym, ap}
+use Rattle.std.proofs.Common.{◌∙◌, sym, ap}
 use Rattle.sftp_handles.specs.Slots.{slot_name}
-use Rattle.sftp_handles.proofs.SlotTables.{opened-put, closed-put, length-name}
+use Rattle.sftp_handles.proofs.SlotTables.{opened-put, closed-put}
 use Rattle.sftp_handles.proofs.slab_table.put_open.Goals as goal
 
 pub returns-clause-closed : goal.returns-clause-closed
