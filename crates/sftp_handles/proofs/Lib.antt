@@ -3,6 +3,7 @@ pub mod Steps
 pub mod Judgements
 pub mod NewStates
 pub mod GivenTables
+pub mod SlotTables
 pub mod GoodStates
 pub mod GoodSteps
 pub mod GoodPaths

@@ -26,10 +26,13 @@ mod sessions;
 mod showing;
 mod shown;
 mod striking;
+mod slab_table;
+mod slots;
 mod tables;
 
 pub use given_table::GivenTable;
 pub use listings::Listing;
 pub use opens::Open;
 pub use sessions::Session;
+pub use slab_table::SlabTable;
 pub use tables::{HandleTable, PutError};

@@ -1,7 +1,7 @@
 //! Tables of handles, listings, and sessions.
 ghost use Rattle.std.specs.Prelude.{◌≤◌, length};
 
-use sftp_handles::{GivenTable, HandleTable, Listing, Open, PutError, Session};
+use sftp_handles::{GivenTable, HandleTable, Listing, Open, PutError, Session, SlabTable};
 use sftp_path::{Name, NoMemory};
 use sftp_tree::{Cause, Tree};
 use sftp_wire::{Ask, Attrs, ByteString};
@@ -61,6 +61,74 @@ fn given_names(rt: HostRuntime) -> Result<(), Fail> {
     let mut table = GivenTable::empty(rt.alloc());
     assert!(rt; gives_names(rt.alloc(), &mut table)?);
     assert!(rt; closes_names(&mut table));
+    Ok(())
+}
+
+/// Opens an empty listing, and returns the name that the table gives it; empty if memory runs out.
+fn open_given(alloc: Global, table: &mut SlabTable) -> Vec<u8> {
+    let it = Open::Listing {
+        left: Listing::empty(alloc),
+    };
+    match table.put(it, Vec::new(alloc)) {
+        Ok(name) => name,
+        Err(_) => Vec::new(alloc),
+    }
+}
+
+// The names of the first openings: the number of a slot in 8 bytes, and a serial in 4.
+const FIRST: &[u8] = b"\0\0\0\0\0\0\0\0\0\0\0\0";
+
+const SECOND: &[u8] = b"\0\0\0\0\0\0\0\x01\0\0\0\x01";
+
+const THIRD: &[u8] = b"\0\0\0\0\0\0\0\0\0\0\0\x02";
+
+const FOURTH: &[u8] = b"\0\0\0\0\0\0\0\x01\0\0\0\x03";
+
+const FIFTH: &[u8] = b"\0\0\0\0\0\0\0\0\0\0\0\x04";
+
+const SIXTH: &[u8] = b"\0\0\0\0\0\0\0\x01\0\0\0\x05";
+
+/// Whether the first openings get slots and serials from 0 on.
+fn counts_openings(alloc: Global, table: &mut SlabTable) -> bool {
+    let first = open_given(alloc, table);
+    let second = open_given(alloc, table);
+    first.as_slice() == FIRST && second.as_slice() == SECOND && table.len() == 2
+}
+
+/// Whether a slot that was freed is used with the next serial, and the name that it had is not open.
+fn uses_freed_slots(alloc: Global, table: &mut SlabTable) -> bool {
+    let was_open = table.take(FIRST).is_some();
+    let third = open_given(alloc, table);
+    was_open
+        && third.as_slice() == THIRD
+        && table.find(THIRD).is_some()
+        && table.find(FIRST).is_none()
+}
+
+/// Whether of two slots that were freed the last is used first.
+fn uses_the_last_freed(alloc: Global, table: &mut SlabTable) -> bool {
+    let was_open = table.take(THIRD).is_some() && table.take(SECOND).is_some();
+    let fourth = open_given(alloc, table);
+    let fifth = open_given(alloc, table);
+    was_open && fourth.as_slice() == FOURTH && fifth.as_slice() == FIFTH
+}
+
+/// Whether the newest name is given again once it is given back, and an older one is not.
+fn gives_back_the_newest(alloc: Global, table: &mut SlabTable) -> bool {
+    let was_open = table.give_back(FIFTH).is_some();
+    let again = open_given(alloc, table);
+    let older_was_open = table.give_back(FOURTH).is_some();
+    let sixth = open_given(alloc, table);
+    was_open && again.as_slice() == FIFTH && older_was_open && sixth.as_slice() == SIXTH
+}
+
+#[test]
+fn names_of_slots(rt: HostRuntime) -> Result<(), Fail> {
+    let mut table = SlabTable::empty(rt.alloc());
+    assert!(rt; counts_openings(rt.alloc(), &mut table));
+    assert!(rt; uses_freed_slots(rt.alloc(), &mut table));
+    assert!(rt; uses_the_last_freed(rt.alloc(), &mut table));
+    assert!(rt; gives_back_the_newest(rt.alloc(), &mut table));
     Ok(())
 }
 

@@ -1,0 +1,6 @@
+use Rattle.std.proofs.Common.{◌∙◌, sym}
+use Rattle.sftp_handles.proofs.SlotTables.{open-count}
+use Rattle.sftp_handles.proofs.slab_table.count_open.Goals as goal
+
+pub returns : goal.returns
+returns c = c.len.ensures ∙ sym (open-count c.args.opens.now c.requires)

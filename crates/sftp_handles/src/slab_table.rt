@@ -1,0 +1,237 @@
+//! A table of the handles that this program's server gives.
+ghost use Rattle.std.specs.Prelude.{◌≡◌, ◌<◌, ◌≤◌, ◌^◌, ◌==◌, [], false, if◌then◌else◌, map, None, Some};
+ghost use Rattle.std.specs.Prelude.{IfOk, IfErr, IfSome, OnSome, OnOk, OnErr, IfNone, length, option_copied};
+ghost use Rattle.std.specs.Cmp.Lexicographic.{nat_list_cmp_total};
+ghost use Rattle.slab.specs.Slab.{entries};
+ghost use Rattle.sftp_wire.specs.Spelling.{handle_limit};
+ghost use Rattle.sftp_path.specs.Place.{bytes_cmp};
+ghost use Rattle.sftp_path.specs.Table.{size};
+ghost use Rattle.sftp_path.proofs.Table.Laws.{InOrder-from_entries};
+ghost use Rattle.sftp_handles.specs.declared.tables.PutError.TheVariants.{NoMemory};
+ghost use Rattle.sftp_handles.specs.Handles.{open_at, with_open, without_open};
+ghost use Rattle.sftp_handles.specs.Slots.{slot_name, next_name, named_slot, slab_handles, serial_after, serial_before};
+ghost use Rattle.sftp_handles.specs.Slots.{IsNameAt, IsNext, IsNewest, IsNumbered};
+
+use crate::opens::Open;
+use crate::slots::Slot;
+use crate::tables::{HandleTable, PutError};
+use byteorder::{BigEndian, ByteOrder};
+use slab::Slab;
+use std::alloc::Global;
+use std::marker::Model;
+use std::mem;
+
+/// The handles that are open in a session with this program's server. A name has 12 bytes: the number of a slot, and
+/// then a serial that counts the openings from 0; after 2^32 - 1 comes 0. The slot freed last is used before others.
+#[derive(Drop)]
+pub struct SlabTable {
+    opens: Slab<Slot>,
+    // the serial of the next opening
+    serial: u32,
+}
+
+impl Model for SlabTable {
+    ghost use Rattle.sftp_handles.specs.Slots.{Slots, IsNumbered};
+
+    ghost Value = { Slots };
+
+    ghost view = { λ t. record { opens = t.opens; serial = t.serial } };
+
+    ghost invariant = { λ t. IsNumbered t.opens };
+}
+
+impl HandleTable for SlabTable {
+    ghost handles = { λ table. slab_handles table.opens };
+
+    ghost takes_want = { false };
+
+    fn empty(alloc: Global) -> SlabTable
+        ensures empty { slab_handles result.opens ≡ [] }
+        ensures first { next_name result ≡ slot_name 0 0 }
+    {
+        SlabTable {
+            opens: Slab::new(alloc),
+            serial: 0,
+        }
+    }
+
+    fn len(&self) -> usize {
+        count_open(&self.opens)
+    }
+
+    fn find(&self, name: &[u8]) -> Option<&Open> {
+        find_open(&self.opens, name)
+    }
+
+    fn swap(&mut self, name: &[u8], it: Open) -> Result<Open, Open> {
+        swap_open(&mut self.opens, name, it)
+    }
+
+    fn put(&mut self, it: Open, want: Vec<u8>) -> Result<Vec<u8>, (Open, PutError)>
+        ensures named { IfOk result (λ name. name.items ≡ next_name self.old) }
+        ensures counted { OnOk result (self.new.serial ≡ serial_after self.old.serial) }
+        ensures closed { IfOk result (λ name. open_at (slab_handles self.old.opens) name.items ≡ None) }
+        ensures opened { IfOk result (λ name.
+            slab_handles self.new.opens ≡ with_open (slab_handles self.old.opens) name.items it) }
+        ensures short { IfOk result (λ name. length name.items ≤ handle_limit) }
+        ensures refused { IfErr result (λ e. e.1 ≡ NoMemory) }
+        ensures back { IfErr result (λ e. e.0 ≡ it) }
+        ensures err { OnErr result (slab_handles self.new.opens ≡ slab_handles self.old.opens) }
+    {
+        let name = put_open(&mut self.opens, self.serial, it, want)?;
+        self.serial = self.serial.wrapping_add(1);
+        Ok(name)
+    }
+
+    fn take(&mut self, name: &[u8]) -> Option<Open>
+        ensures next { OnSome result (IsNext self.new name.now) }
+        ensures serial { self.new.serial ≡ self.old.serial }
+        ensures before { result ≡ open_at (slab_handles self.old.opens) name.now }
+        ensures closed { slab_handles self.new.opens ≡ without_open (slab_handles self.old.opens) name.now }
+    {
+        let slot = take_slot(&mut self.opens, name)?;
+        Some(slot.opened)
+    }
+
+    fn give_back(&mut self, name: &[u8]) -> Option<Open>
+        ensures next { OnSome result (IsNext self.new name.now) }
+        ensures newest { OnSome result (IsNewest self.old.serial name.now → next_name self.new ≡ name.now) }
+        ensures older { OnSome result ((IsNewest self.old.serial name.now → ⊥) → self.new.serial ≡ self.old.serial) }
+        ensures absent { IfNone result (self.new.serial ≡ self.old.serial) }
+        ensures before { result ≡ open_at (slab_handles self.old.opens) name.now }
+        ensures closed { slab_handles self.new.opens ≡ without_open (slab_handles self.old.opens) name.now }
+    {
+        let slot = take_slot(&mut self.opens, name)?;
+        self.serial = serial_given_back(self.serial, slot.serial);
+        Some(slot.opened)
+    }
+
+    ghost ordered = { λ table. InOrder-from_entries bytes_cmp nat_list_cmp_total
+        (map named_slot (entries table.opens)) };
+}
+
+/// The serial of the next opening after one was given back: that of the opening if it was the newest, and else as it
+/// was.
+fn serial_given_back(next: u32, given_back: u32) -> u32
+    ensures serial { result ≡ (if given_back == serial_before next then given_back else next) }
+    ensures fits { given_back < 2 ^ 32 }
+{
+    if given_back == next.wrapping_sub(1) {
+        given_back
+    } else {
+        next
+    }
+}
+
+/// The name of a slot's opening: the number of the slot as 8 bytes, then the serial as 4 bytes.
+#[tactic(auto, unfolding(crate::specs::Slots::slot_name))]
+fn name_of(number: usize, serial: u32) -> [u8; 12]
+    ensures { result ≡ slot_name number serial }
+{
+    let mut name = [0; 12];
+    BigEndian::write_u64(&mut name, number as u64);
+    BigEndian::write_u32(&mut name[8..], serial);
+    name
+}
+
+/// The number of the slot that has a name.
+fn slot_of(opens: &Slab<Slot>, name: &[u8]) -> Option<usize>
+    requires { IsNumbered opens.now }
+    ensures found { IfSome result (λ number. IsNameAt opens.now name.now number) }
+    ensures absent { IfNone result (open_at (slab_handles opens.now) name.now ≡ None) }
+{
+    if name.len() != 12 {
+        return None;
+    }
+    let number = BigEndian::read_u64(name) as usize;
+    let slot = opens.get(number)?;
+    let spelled = name_of(number, slot.serial);
+    if name == spelled.as_slice() {
+        Some(number)
+    } else {
+        None
+    }
+}
+
+/// How many slots are in use.
+fn count_open(opens: &Slab<Slot>) -> usize
+    requires { IsNumbered opens.now }
+    ensures { result ≡ size (slab_handles opens.now) }
+{
+    opens.len()
+}
+
+/// What is open under a name.
+fn find_open<'a>(opens: &'a Slab<Slot>, name: &[u8]) -> Option<&'a Open>
+    requires { IsNumbered opens.now }
+    ensures { option_copied result ≡ open_at (slab_handles opens.now) name.now }
+{
+    let number = slot_of(opens, name)?;
+    Some(&opens[number].opened)
+}
+
+/// Opens something else under a name that is open, and returns what was open before.
+///
+/// # Errors
+///
+/// Returns its argument if the name is not open.
+fn swap_open(opens: &mut Slab<Slot>, name: &[u8], it: Open) -> Result<Open, Open>
+    requires { IsNumbered opens.old }
+    ensures before { IfOk result (λ before. open_at (slab_handles opens.old) name.now ≡ Some before) }
+    ensures swapped { OnOk result (slab_handles opens.new ≡ with_open (slab_handles opens.old) name.now it) }
+    ensures absent { OnErr result (open_at (slab_handles opens.old) name.now ≡ None) }
+    ensures back { IfErr result (λ back. back ≡ it) }
+    ensures err { OnErr result (opens.new ≡ opens.old) }
+    ensures numbered { IsNumbered opens.new }
+{
+    let Some(number) = slot_of(opens, name) else {
+        return Err(it);
+    };
+    let slot = &mut opens[number];
+    Ok(mem::replace(&mut slot.opened, it))
+}
+
+/// Opens something in a free slot, and returns its name.
+///
+/// # Errors
+///
+/// `NoMemory` if memory runs out; what was to be opened comes back.
+fn put_open(
+    opens: &mut Slab<Slot>,
+    serial: u32,
+    it: Open,
+    want: Vec<u8>,
+) -> Result<Vec<u8>, (Open, PutError)>
+    requires { IsNumbered opens.old }
+    ensures closed { IfOk result (λ name. open_at (slab_handles opens.old) name.items ≡ None) }
+    ensures opened { IfOk result (λ name. slab_handles opens.new ≡ with_open (slab_handles opens.old) name.items it) }
+    ensures named { IfOk result (λ name. name.items ≡ slot_name opens.old.vacant_key serial) }
+    ensures short { IfOk result (λ name. length name.items ≤ handle_limit) }
+    ensures refused { IfErr result (λ e. e.1 ≡ NoMemory) }
+    ensures back { IfErr result (λ e. e.0 ≡ it) }
+    ensures err { OnErr result (opens.new.slots ≡ opens.old.slots) }
+    ensures numbered { IsNumbered opens.new }
+{
+    if opens.reserve(1).is_err() {
+        return Err((it, PutError::NoMemory));
+    }
+    let spelled = name_of(opens.vacant_key(), serial);
+    let Ok(name) = Vec::from_slice(*want.allocator(), spelled.as_slice()) else {
+        return Err((it, PutError::NoMemory));
+    };
+    opens.insert_reserved(Slot { serial, opened: it });
+    Ok(name)
+}
+
+/// Frees the slot of a name, and returns what was in it.
+fn take_slot(opens: &mut Slab<Slot>, name: &[u8]) -> Option<Slot>
+    requires { IsNumbered opens.old }
+    ensures closed { slab_handles opens.new ≡ without_open (slab_handles opens.old) name.now }
+    ensures before { IfSome result (λ slot. open_at (slab_handles opens.old) name.now ≡ Some slot.opened) }
+    ensures absent { IfNone result (open_at (slab_handles opens.old) name.now ≡ None) }
+    ensures freed { IfSome result (λ slot. name.now ≡ slot_name opens.new.vacant_key slot.serial) }
+    ensures numbered { IsNumbered opens.new }
+{
+    let freed = slot_of(opens, name)?;
+    Some(opens.remove(freed))
+}
