@@ -26,3 +26,6 @@ pub mod Starts
 pub mod HandleRoom
 pub mod NewHandles
 pub mod TotalSteps
+pub mod AnswersSpelled
+pub mod AnswersShown
+pub mod AnswersSteps
