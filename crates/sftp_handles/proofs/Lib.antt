@@ -27,3 +27,6 @@ pub mod Starts
 pub mod HandleRoom
 pub mod NewHandles
 pub mod TotalSteps
+pub mod AnswersSpelled
+pub mod AnswersShown
+pub mod AnswersSteps

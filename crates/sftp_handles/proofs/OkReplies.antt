@@ -37,6 +37,7 @@ use Rattle.sftp_handles.specs.HandleRequests.{Row, row_of, causes_of, said_of, l
 use Rattle.sftp_handles.specs.Requests.{causes, path_causes, causes_by, answers, target, target_by, told_to, said_to}
 use Rattle.sftp_handles.specs.Requests.{said_by, with_new, flags_of, opened_by}
 use Rattle.sftp_handles.specs.Judged.{IsJudgedCode, IsDone, IsRefusal, is_done, changes_tree}
+use Rattle.sftp_handles.specs.Answered.{says_ok}
 use Rattle.sftp_handles.proofs.GoodSteps.{room-of}
 use Rattle.sftp_handles.proofs.NewStates.{state_of}
 use Rattle.sftp_handles.proofs.SeenAnswers.{cause-holds}
@@ -52,20 +53,6 @@ judged-call s ask end (Ok value) does refused kept = judged-ok s ask end does
 judged-call s ask end (Err (refusals.Cause cause)) does refused kept =
     subst (λ (t : State). IsJudgedCode s ask 0 false t) (sym kept) (judged-not_ok s ask cause refused)
 judged-call s ask end (Err refusals.NoMemory) does refused kept = tt
-
--- a call that takes no memory
-pub judged-call_by_cause : {A : Type 0} (s : State) (ask : Ask) (end : State) (call : Result A Cause)
-    → OnOk call (IsDone s ask end) → IfErr call (λ cause. IsTrue (causes s ask cause)) → OnErr call (end ≡ s)
-    → IsJudgedCode s ask 0 (is_ok call) end
-judged-call_by_cause s ask end (Ok value) does refused kept = judged-ok s ask end does
-judged-call_by_cause s ask end (Err cause) does refused kept =
-    subst (λ (t : State). IsJudgedCode s ask 0 false t) (sym kept) (judged-not_ok s ask cause refused)
-
--- a call that changes nothing
-pub judged-call_unchanged : {A : Type 0} (s : State) (ask : Ask) (call : Result A Cause) → OnOk call (IsDone s ask s)
-    → IfErr call (λ cause. IsTrue (causes s ask cause)) → IsJudgedCode s ask 0 (is_ok call) s
-judged-call_unchanged s ask (Ok value) does refused = judged-ok s ask s does
-judged-call_unchanged s ask (Err cause) does refused = judged-not_ok s ask cause refused
 
 -- ---- requests that change the tree
 
@@ -208,31 +195,31 @@ path-other s ask (Ok place) leads free other =
     subst (λ end. IsOther (said_by s.handles (led_to done end (told_at s.tree ask)))) (sym leads) (other place)
 path-other s ask (Err failed) leads free other = absurd (led-nowhere s.tree ask failed leads free)
 
-pub stat-judged : (s : State) (path : List ℕ) → IsJudgedCode s (asks.Stat path) 0 false s
+stat-judged : (s : State) (path : List ℕ) → IsJudgedCode s (asks.Stat path) 0 false s
 unfolding causes led
 stat-judged s path =
     other-judged s (asks.Stat path)
     (λ free. path-other s (asks.Stat path) (reached s.tree true path) refl free (λ place. tt))
 
-pub lstat-judged : (s : State) (path : List ℕ) → IsJudgedCode s (asks.Lstat path) 0 false s
+lstat-judged : (s : State) (path : List ℕ) → IsJudgedCode s (asks.Lstat path) 0 false s
 unfolding causes led
 lstat-judged s path =
     other-judged s (asks.Lstat path)
     (λ free. path-other s (asks.Lstat path) (reached s.tree false path) refl free (λ place. tt))
 
-pub real_path-judged : (s : State) (path : List ℕ) → IsJudgedCode s (asks.Realpath path) 0 false s
+real_path-judged : (s : State) (path : List ℕ) → IsJudgedCode s (asks.Realpath path) 0 false s
 unfolding causes led
 real_path-judged s path =
     other-judged s (asks.Realpath path)
     (λ free. path-other s (asks.Realpath path) (reached s.tree true path) refl free (λ place. tt))
 
-pub read_link-judged : (s : State) (path : List ℕ) → IsJudgedCode s (asks.Readlink path) 0 false s
+read_link-judged : (s : State) (path : List ℕ) → IsJudgedCode s (asks.Readlink path) 0 false s
 unfolding causes led
 read_link-judged s path =
     other-judged s (asks.Readlink path)
     (λ free. path-other s (asks.Readlink path) (reached s.tree false path) refl free (λ place. tt))
 
-pub open-judged : (s : State) (path : List ℕ) (pflags : ℕ) (attrs : Attrs)
+open-judged : (s : State) (path : List ℕ) (pflags : ℕ) (attrs : Attrs)
     → IsJudgedCode s (asks.Open path pflags attrs) 0 false s
 unfolding causes led
 open-judged s path pflags attrs =
@@ -240,7 +227,7 @@ open-judged s path pflags attrs =
     (λ free. path-other s (asks.Open path pflags attrs) (reached s.tree (follows (asks.Open path pflags attrs)) path)
     refl (room-of (paths.causes s.tree (asks.Open path pflags attrs)) (has_handle_left s) free).0 (λ place. tt))
 
-pub open_directory-judged : (s : State) (path : List ℕ) → IsJudgedCode s (asks.Opendir path) 0 false s
+open_directory-judged : (s : State) (path : List ℕ) → IsJudgedCode s (asks.Opendir path) 0 false s
 unfolding causes led
 open_directory-judged s path =
     other-judged s (asks.Opendir path)
@@ -278,7 +265,7 @@ module _ (bounds : TreeLimits) (row : Row) (files : Files) where
   listing-other (Some (File number flags)) free = absurd (one-cause WrongKind free)
   listing-other (Some (Listing left)) free = listed-other left
 
-pub stat_open-judged : (s : State) (handle : List ℕ) → IsJudgedCode s (asks.Fstat handle) 0 false s
+stat_open-judged : (s : State) (handle : List ℕ) → IsJudgedCode s (asks.Fstat handle) 0 false s
 unfolding causes seen
 stat_open-judged s handle =
     other-judged s (asks.Fstat handle)
@@ -288,7 +275,7 @@ read-other : (b : Bool) (bytes : List ℕ) → IsOther (if b then gives bytes el
 read-other true bytes = tt
 read-other false bytes = tt
 
-pub read_open-judged : (s : State) (handle : List ℕ) (offset len : ℕ)
+read_open-judged : (s : State) (handle : List ℕ) (offset len : ℕ)
     → IsJudgedCode s (asks.Read handle offset len) 0 false s
 unfolding causes seen
 read_open-judged s handle offset len =
@@ -296,7 +283,7 @@ read_open-judged s handle offset len =
     (file-other (limits s.tree) (row_of (asks.Read handle offset len)) s.tree.files (open_at s.handles handle)
     (λ before. read-other (nat_lt offset (length before.bytes)) (bytes_at (limits s.tree) offset len before.bytes)))
 
-pub list_open-judged : (s : State) (handle : List ℕ) → IsJudgedCode s (asks.Readdir handle) 0 false s
+list_open-judged : (s : State) (handle : List ℕ) → IsJudgedCode s (asks.Readdir handle) 0 false s
 unfolding causes seen
 list_open-judged s handle =
     other-judged s (asks.Readdir handle)
@@ -304,22 +291,21 @@ list_open-judged s handle =
 
 -- ---- extensions that are not known
 
-pub unknown-judged : (s : State) (name rest : List ℕ) → IsJudgedCode s (asks.Unknown name rest) 0 false s
+unknown-judged : (s : State) (name rest : List ℕ) → IsJudgedCode s (asks.Unknown name rest) 0 false s
 unfolding causes
 unknown-judged s name rest = judged-not_ok s (asks.Unknown name rest) Unknown (cause-holds Unknown)
 
--- ---- what `perform` cites
+-- ---- requests whose reply says something else
 
-pub ruleset performing = (
-  judged-call,
-  stat-judged,
-  lstat-judged,
-  real_path-judged,
-  read_link-judged,
-  open-judged,
-  open_directory-judged,
-  stat_open-judged,
-  read_open-judged,
-  list_open-judged,
-  unknown-judged,
-)
+pub judged-other_reply : (s : State) (ask : Ask) → says_ok ask ≡ false → IsJudgedCode s ask 0 false s
+judged-other_reply s (asks.Open path pflags attrs) is = open-judged s path pflags attrs
+judged-other_reply s (asks.Opendir path) is = open_directory-judged s path
+judged-other_reply s (asks.Read handle offset len) is = read_open-judged s handle offset len
+judged-other_reply s (asks.Readdir handle) is = list_open-judged s handle
+judged-other_reply s (asks.Stat path) is = stat-judged s path
+judged-other_reply s (asks.Lstat path) is = lstat-judged s path
+judged-other_reply s (asks.Fstat handle) is = stat_open-judged s handle
+judged-other_reply s (asks.Realpath path) is = real_path-judged s path
+judged-other_reply s (asks.Readlink path) is = read_link-judged s path
+judged-other_reply s (asks.Unknown name rest) is = unknown-judged s name rest
+judged-other_reply s other is = absurd cc

@@ -1,14 +1,15 @@
 //! The answers that this program's own sessions give (draft, sections 6 and 7).
-ghost use Rattle.std.specs.Prelude.{◌≡◌, Some, IfOk, IfErr, OnErr};
+ghost use Rattle.std.specs.Prelude.{◌≡◌, Some, IsTrue, IfOk, IfErr, OnErr};
 ghost use Rattle.sftp_wire.specs.declared.packets.Packet.TheVariants.{Reply as reply_packet};
 ghost use Rattle.sftp_wire.specs.Spelling.{HasSpelling};
 ghost use Rattle.sftp_handles.specs.Allowed.{Allowed, step};
 ghost use Rattle.sftp_handles.specs.Judged.{IsRefusal};
-ghost use Rattle.sftp_handles.specs.Answered.{IsSpelledAnswer, IsAnswered};
+ghost use Rattle.sftp_handles.specs.Answered.{IsSpelledAnswer, IsAnswered, says_ok};
 
 use crate::sessions::Session;
+use crate::showing::status;
 use crate::tables::HandleTable;
-use sftp_tree::{NoMemory, Refused};
+use sftp_tree::{Cause, NoMemory, Refused};
 use sftp_wire::{Answer, Ask, Reply, Request};
 
 impl<T: HandleTable> Session<T> {
@@ -23,7 +24,11 @@ impl<T: HandleTable> Session<T> {
         ensures spelled { IfOk result (λ reply. HasSpelling (reply_packet reply)) }
         ensures err { OnErr result (self.new ≡ self.old) }
     {
-        Err(NoMemory)
+        let answer = self.answer_to(&request.ask)?;
+        Ok(Reply {
+            id: request.id,
+            answer,
+        })
     }
 
     /// Answers a request without its id.
@@ -36,7 +41,11 @@ impl<T: HandleTable> Session<T> {
         ensures spelled { IfOk result IsSpelledAnswer }
         ensures err { OnErr result (self.new ≡ self.old) }
     {
-        Err(NoMemory)
+        match self.do_free(ask) {
+            Ok(answer) => Ok(answer),
+            Err(Refused::Cause(cause)) => Ok(status(self.tree.allocator(), cause.code())),
+            Err(Refused::NoMemory) => Err(NoMemory),
+        }
     }
 
     /// Does a request that no cause refuses, and returns its answer.
@@ -49,6 +58,54 @@ impl<T: HandleTable> Session<T> {
         ensures refused { IfErr result (IsRefusal self.old ask.now) }
         ensures kept { OnErr result (self.new ≡ self.old) }
     {
-        Err(Refused::NoMemory)
+        match ask {
+            Ask::Open {
+                path,
+                pflags,
+                attrs,
+            } => self.answer_open(path.as_slice(), *pflags, attrs),
+            Ask::Opendir { path } => self.answer_opendir(path.as_slice()),
+            Ask::Readdir { handle } => self.answer_readdir(handle.as_slice()),
+            Ask::Stat { path } => self.answer_stat(path.as_slice(), true),
+            Ask::Lstat { path } => self.answer_stat(path.as_slice(), false),
+            Ask::Fstat { handle } => self.answer_fstat(handle.as_slice()),
+            Ask::Read {
+                handle,
+                offset,
+                len,
+            } => self.answer_read(handle.as_slice(), *offset, *len),
+            Ask::Realpath { path } => self.answer_real_path(path.as_slice()),
+            Ask::Readlink { path } => self.answer_read_link(path.as_slice()),
+            Ask::Unknown { .. } => Err(Refused::Cause(Cause::Unknown)),
+            Ask::Close { .. }
+            | Ask::Write { .. }
+            | Ask::Setstat { .. }
+            | Ask::Fsetstat { .. }
+            | Ask::Remove { .. }
+            | Ask::Mkdir { .. }
+            | Ask::Rmdir { .. }
+            | Ask::Rename { .. }
+            | Ask::Symlink { .. }
+            | Ask::PosixRename { .. }
+            | Ask::Hardlink { .. }
+            | Ask::Fsync { .. } => self.answer_ok(ask),
+        }
+    }
+
+    /// Does a request whose reply says OK, and returns that.
+    ///
+    /// # Errors
+    ///
+    /// The first cause that holds. `NoMemory` if memory runs out. The session is then as before.
+    fn answer_ok(&mut self, ask: &Ask) -> Result<Answer, Refused>
+        requires { IsTrue (says_ok ask.now) }
+        ensures done { IfOk result (λ answer. IsAnswered self.old ask.now answer self.new) }
+        ensures refused { IfErr result (IsRefusal self.old ask.now) }
+        ensures kept { OnErr result (self.new ≡ self.old) }
+    {
+        match self.do_ok(ask) {
+            Ok(()) => Ok(status(self.tree.allocator(), 0)),
+            Err(refused) => Err(refused),
+        }
     }
 }

@@ -1,6 +1,7 @@
 //! Requests whose reply says OK.
 ghost use Rattle.std.specs.Prelude.{◌≡◌, IsTrue, IfOk, IfErr, OnOk, OnErr};
 ghost use Rattle.sftp_handles.specs.Judged.{IsJudgedCode, IsDone, IsRefusal, is_done, changes_tree};
+ghost use Rattle.sftp_handles.specs.Answered.{says_ok};
 
 use crate::sessions::Session;
 use crate::tables::HandleTable;
@@ -13,38 +14,54 @@ impl<T: HandleTable> Session<T> {
     /// # Errors
     ///
     /// `NoMemory` if memory runs out; the session is then as before.
-    #[tactic(auto, using(crate::proofs::OkReplies::performing))]
     pub(crate) fn perform(&mut self, ask: &Ask) -> Result<bool, NoMemory>
         ensures ok { IfOk result (λ ok. IsJudgedCode self.old ask.now 0 ok self.new) }
         ensures err { OnErr result (self.new ≡ self.old) }
     {
+        if !says_ok(ask) {
+            return Ok(false);
+        }
+        is_done(self.do_ok(ask))
+    }
+
+    /// Does a request whose reply says OK.
+    ///
+    /// # Errors
+    ///
+    /// The first cause that holds. `NoMemory` if memory runs out. The session is then as before.
+    pub(crate) fn do_ok(&mut self, ask: &Ask) -> Result<(), Refused>
+        requires { IsTrue (says_ok ask.now) }
+        ensures done { OnOk result (IsDone self.old ask.now self.new) }
+        ensures refused { IfErr result (IsRefusal self.old ask.now) }
+        ensures kept { OnErr result (self.new ≡ self.old) }
+    {
         match ask {
-            Ask::Close { handle } => Ok(self.close(handle.as_slice()).is_ok()),
+            Ask::Close { handle } => Ok(self.close(handle.as_slice())?),
             Ask::Write {
                 handle,
                 offset,
                 bytes,
-            } => is_done(self.write_open(handle.as_slice(), *offset, bytes.as_slice())),
-            Ask::Fsetstat { handle, attrs } => is_done(self.set_open(handle.as_slice(), attrs)),
-            Ask::Fsync { handle } => Ok(self.sync_open(handle.as_slice()).is_ok()),
-            Ask::Mkdir { .. } => is_done(self.change_tree(ask)),
-            Ask::Rmdir { .. } => is_done(self.change_tree(ask)),
-            Ask::Remove { .. } => is_done(self.change_tree(ask)),
-            Ask::Setstat { .. } => is_done(self.change_tree(ask)),
-            Ask::Rename { .. } => is_done(self.change_tree(ask)),
-            Ask::PosixRename { .. } => is_done(self.change_tree(ask)),
-            Ask::Hardlink { .. } => is_done(self.change_tree(ask)),
-            Ask::Symlink { .. } => is_done(self.change_tree(ask)),
-            Ask::Open { .. } => Ok(false),
-            Ask::Opendir { .. } => Ok(false),
-            Ask::Read { .. } => Ok(false),
-            Ask::Readdir { .. } => Ok(false),
-            Ask::Stat { .. } => Ok(false),
-            Ask::Lstat { .. } => Ok(false),
-            Ask::Fstat { .. } => Ok(false),
-            Ask::Realpath { .. } => Ok(false),
-            Ask::Readlink { .. } => Ok(false),
-            Ask::Unknown { .. } => Ok(false),
+            } => self.write_open(handle.as_slice(), *offset, bytes.as_slice()),
+            Ask::Fsetstat { handle, attrs } => self.set_open(handle.as_slice(), attrs),
+            Ask::Fsync { handle } => Ok(self.sync_open(handle.as_slice())?),
+            Ask::Mkdir { .. } => self.change_tree(ask),
+            Ask::Rmdir { .. } => self.change_tree(ask),
+            Ask::Remove { .. } => self.change_tree(ask),
+            Ask::Setstat { .. } => self.change_tree(ask),
+            Ask::Rename { .. } => self.change_tree(ask),
+            Ask::PosixRename { .. } => self.change_tree(ask),
+            Ask::Hardlink { .. } => self.change_tree(ask),
+            Ask::Symlink { .. } => self.change_tree(ask),
+            Ask::Open { .. }
+            | Ask::Opendir { .. }
+            | Ask::Read { .. }
+            | Ask::Readdir { .. }
+            | Ask::Stat { .. }
+            | Ask::Lstat { .. }
+            | Ask::Fstat { .. }
+            | Ask::Realpath { .. }
+            | Ask::Readlink { .. }
+            | Ask::Unknown { .. } => unreachable!(),
         }
     }
 
@@ -72,5 +89,35 @@ fn is_done(outcome: Result<(), Refused>) -> Result<bool, NoMemory>
         Ok(()) => Ok(true),
         Err(Refused::Cause(_)) => Ok(false),
         Err(Refused::NoMemory) => Err(NoMemory),
+    }
+}
+
+/// Whether a request that is done is answered by OK.
+fn says_ok(ask: &Ask) -> bool
+    ensures { result ≡ says_ok ask.now }
+{
+    match ask {
+        Ask::Close { .. }
+        | Ask::Write { .. }
+        | Ask::Fsetstat { .. }
+        | Ask::Fsync { .. }
+        | Ask::Mkdir { .. }
+        | Ask::Rmdir { .. }
+        | Ask::Remove { .. }
+        | Ask::Setstat { .. }
+        | Ask::Rename { .. }
+        | Ask::PosixRename { .. }
+        | Ask::Hardlink { .. }
+        | Ask::Symlink { .. } => true,
+        Ask::Open { .. }
+        | Ask::Opendir { .. }
+        | Ask::Read { .. }
+        | Ask::Readdir { .. }
+        | Ask::Stat { .. }
+        | Ask::Lstat { .. }
+        | Ask::Fstat { .. }
+        | Ask::Realpath { .. }
+        | Ask::Readlink { .. }
+        | Ask::Unknown { .. } => false,
     }
 }

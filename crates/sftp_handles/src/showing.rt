@@ -3,12 +3,15 @@ ghost use Rattle.std.specs.Prelude.{◌≡◌, IfOk, IfErr};
 ghost use Rattle.sftp_wire.specs.declared.packets.Ask.TheVariants.{Fstat, Read, Readlink, Realpath};
 ghost use Rattle.sftp_tree.specs.Refusals.{stat_ask};
 ghost use Rattle.sftp_handles.specs.Judged.{IsRefusal};
-ghost use Rattle.sftp_handles.specs.Answered.{IsAnswered};
+ghost use Rattle.sftp_handles.specs.Answered.{IsAnswered, status_of, only_name};
+ghost use Rattle.sftp_wire.specs.Examples.{no_attributes};
 
 use crate::sessions::Session;
 use crate::tables::HandleTable;
-use sftp_tree::Refused;
-use sftp_wire::Answer;
+use sftp_tree::laws::walks_give_places;
+use sftp_tree::{NoMemory, Refused};
+use sftp_wire::{Answer, Attrs, ByteString, NameItem, Names};
+use std::alloc::Global;
 
 impl<T: HandleTable> Session<T> {
     /// STAT and LSTAT: the attributes of what a path leads to.
@@ -20,7 +23,10 @@ impl<T: HandleTable> Session<T> {
         ensures done { IfOk result (λ answer. IsAnswered self.now (stat_ask follow path.now) answer self.now) }
         ensures refused { IfErr result (IsRefusal self.now (stat_ask follow path.now)) }
     {
-        Err(Refused::NoMemory)
+        match self.tree.stat(path, follow) {
+            Ok(shown) => Ok(Answer::Attrs(shown)),
+            Err(refused) => Err(refused),
+        }
     }
 
     /// FSTAT: the attributes of an open file.
@@ -32,7 +38,10 @@ impl<T: HandleTable> Session<T> {
         ensures done { IfOk result (λ answer. IsAnswered self.now (Fstat handle.now) answer self.now) }
         ensures refused { IfErr result (IsRefusal self.now (Fstat handle.now)) }
     {
-        Err(Refused::NoMemory)
+        match self.stat_open(handle) {
+            Ok(shown) => Ok(Answer::Attrs(shown)),
+            Err(cause) => Err(Refused::Cause(cause)),
+        }
     }
 
     /// REALPATH: the absolute text of the place that a path leads to, as the only name, without attributes.
@@ -44,7 +53,9 @@ impl<T: HandleTable> Session<T> {
         ensures done { IfOk result (λ answer. IsAnswered self.now (Realpath path.now) answer self.now) }
         ensures refused { IfErr result (IsRefusal self.now (Realpath path.now)) }
     {
-        Err(Refused::NoMemory)
+        walks_give_places();
+        let text = self.tree.real_path(path)?;
+        Ok(one_name(self.tree.allocator(), text)?)
     }
 
     /// READLINK: the target of a link, as the only name, without attributes.
@@ -56,7 +67,8 @@ impl<T: HandleTable> Session<T> {
         ensures done { IfOk result (λ answer. IsAnswered self.now (Readlink path.now) answer self.now) }
         ensures refused { IfErr result (IsRefusal self.now (Readlink path.now)) }
     {
-        Err(Refused::NoMemory)
+        let target = self.tree.read_link(path)?;
+        Ok(one_name(self.tree.allocator(), target)?)
     }
 
     /// READ: the bytes of an open file, or the code that its end was reached.
@@ -73,6 +85,55 @@ impl<T: HandleTable> Session<T> {
         ensures done { IfOk result (λ answer. IsAnswered self.now (Read handle.now offset len) answer self.now) }
         ensures refused { IfErr result (IsRefusal self.now (Read handle.now offset len)) }
     {
-        Err(Refused::NoMemory)
+        match self.read_open(handle, offset, len) {
+            Ok(Some(bytes)) => {
+                let copy = ByteString::from_slice(self.tree.allocator(), bytes)?;
+                Ok(Answer::Data(copy))
+            }
+            Ok(None) => Ok(status(self.tree.allocator(), 1)),
+            Err(cause) => Err(Refused::Cause(cause)),
+        }
+    }
+}
+
+/// A status with this code, whose texts are empty. It takes no memory.
+pub(crate) fn status(alloc: Global, code: u32) -> Answer
+    ensures { result ≡ status_of code }
+{
+    Answer::Status {
+        code,
+        message: ByteString::new(Vec::new(alloc)),
+        language: ByteString::new(Vec::new(alloc)),
+    }
+}
+
+/// A text as the only name, which is its long name too, without attributes.
+///
+/// # Errors
+///
+/// `NoMemory` if memory runs out.
+fn one_name(alloc: Global, text: Vec<u8>) -> Result<Answer, NoMemory>
+    ensures { IfOk result (λ answer. answer ≡ only_name text.items) }
+{
+    let longname = ByteString::from_slice(alloc, text.as_slice())?;
+    let item = NameItem {
+        filename: ByteString::new(text),
+        longname,
+        attrs: no_attributes(),
+    };
+    let names = vec![in alloc; item]?;
+    Ok(Answer::Name(Names::new(names)))
+}
+
+/// Attributes without any field.
+fn no_attributes() -> Attrs
+    ensures { result ≡ no_attributes }
+{
+    Attrs {
+        size: None,
+        owner: None,
+        permissions: None,
+        times: None,
+        extended: None,
     }
 }

@@ -62,7 +62,7 @@ node-shows t (File number) is = shown-of (content_at t.files number) is
 node-shows t (Link linktarget) is = (said (length linktarget) t.uid t.gid 0o120777, refl)
 
 -- the node at a place fits its fields and the limits
-node-kept : (t : Tree) → IsKept t → (place : Place) (standing : Node) → node_at t.names place ≡ Some standing
+pub node-kept : (t : Tree) → IsKept t → (place : Place) (standing : Node) → node_at t.names place ≡ Some standing
     → IsNode t.files standing × (link_fits standing ≡ true)
 node-kept t kept place standing is =
     let test = λ (e : Place × Node). link_fits e.1 in (
@@ -146,7 +146,7 @@ module _ (s : State) (id : ℕ) (good : Good s) (small : id < 2 ^ 32) where
   text-sayable paths-lead path place bytes leads =
       let well = paths-lead s.tree good.tree true path place bytes (leads-to path place leads) in
       let fits = text-fits s.tree place good.tree well.named well.above in
-      name-sayable id (absolute place) small fits.0 fits.1
+      name-sayable id (absolute place) small fits.0 (omega (arith, fits.1))
 
   -- ---- handles
 

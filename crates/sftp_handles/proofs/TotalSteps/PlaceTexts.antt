@@ -75,9 +75,9 @@ directory-depth t place kept is =
 -- the text of a place whose parent is a directory can be written
 pub text-fits : (t : Tree) (place : Place) → IsKept t → are_names place ≡ true
     → is_directory (node_at t.names (parent place)) ≡ true
-    → FitsString (absolute place) × (length (absolute place) ≤ 33000)
+    → FitsString (absolute place) × (length (absolute place) ≤ 16641)
 text-fits t place kept are is =
     let deep = directory-depth t (parent place) kept is in
     let all = text-parts place are in
-    let short : length (absolute place) ≤ 33000 = omega (arith, deep, all.0, length-take (length place - 1) place) in
+    let short : length (absolute place) ≤ 16641 = omega (arith, deep, all.0, length-take (length place - 1) place) in
     (record { bytes_fit = all.1; length_fits = omega (arith, short) }, short)

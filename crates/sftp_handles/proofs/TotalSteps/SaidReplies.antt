@@ -36,7 +36,7 @@ pub record IsSayable (id : ℕ) (said : Said) : Type 0 where
   pub says : IsTrue (says said answer)
   pub spelled : HasSpelling (reply_packet (reply_of id answer))
 
-empty : FitsString []
+pub empty : FitsString []
 empty = record { bytes_fit = tt; length_fits = lit< tt }
 
 -- ---- statuses
@@ -60,21 +60,21 @@ ended-sayable id small = record { answer = status_of 1; says = refl; spelled = s
 -- ---- attributes
 
 -- attributes that have a size, an owner and permissions, and nothing else
-record IsSaid (attrs : Attrs) : Type 0 where
-  size : ℕ
-  uid : ℕ
-  gid : ℕ
-  permissions : ℕ
-  is : attrs ≡ said size uid gid permissions
+pub record IsSaid (attrs : Attrs) : Type 0 where
+  pub size : ℕ
+  pub uid : ℕ
+  pub gid : ℕ
+  pub permissions : ℕ
+  pub is : attrs ≡ said size uid gid permissions
 
-abbrev Extended : Type 0
+abbrev pub Extended : Type 0
 Extended = List (List ℕ × List ℕ)
 
-abbrev attributes_of : Option ℕ → Option (ℕ × ℕ) → Option ℕ → Option (ℕ × ℕ) → Option Extended → Attrs
+abbrev pub attributes_of : Option ℕ → Option (ℕ × ℕ) → Option ℕ → Option (ℕ × ℕ) → Option Extended → Attrs
 attributes_of size owner permissions times extended =
     record { size = size; owner = owner; permissions = permissions; times = times; extended = extended }
 
-plain-said : (size : Option ℕ) (owner : Option (ℕ × ℕ)) (permissions : Option ℕ) (times : Option (ℕ × ℕ))
+pub plain-said : (size : Option ℕ) (owner : Option (ℕ × ℕ)) (permissions : Option ℕ) (times : Option (ℕ × ℕ))
     → (extended : Option Extended) → is_plain (attributes_of size owner permissions times extended) ≡ true
     → IsSaid (attributes_of size owner permissions times extended)
 plain-said (Some size) (Some owner) (Some permissions) None None is =
@@ -88,11 +88,11 @@ plain-said (Some size) (Some owner) (Some permissions) None (Some extended) is =
 same-itself : (n : ℕ) → (n == n) ≡ true
 same-itself n = eq-eqb n n refl
 
-same-said : (size uid gid permissions : ℕ)
+pub same-said : (size uid gid permissions : ℕ)
     → same_attributes (said size uid gid permissions) (said size uid gid permissions) ≡ true
 same-said size uid gid permissions = simp (same-itself)
 
-attributes-spelled : (id size uid gid permissions : ℕ) → id < 2 ^ 32 → FitsAttrs (said size uid gid permissions)
+pub attributes-spelled : (id size uid gid permissions : ℕ) → id < 2 ^ 32 → FitsAttrs (said size uid gid permissions)
     → HasSpelling (reply_packet (reply_of id (replies.Attrs (said size uid gid permissions))))
 unfolding spelling
 attributes-spelled id size uid gid permissions small fits =
@@ -131,7 +131,7 @@ name-length : (id : ℕ) (text : List ℕ)
 unfolding spelling
 name-length id text = omega arith
 
-nothing-fits : FitsAttrs no_attributes
+pub nothing-fits : FitsAttrs no_attributes
 nothing-fits = record { size = tt; owner = tt; permissions = tt; times = tt; extended = tt }
 
 pub name-sayable : (id : ℕ) (text : List ℕ) → id < 2 ^ 32 → FitsString text → length text ≤ 33000
@@ -218,7 +218,7 @@ listing-sayable id name attrs left small item =
 
 -- ---- bytes
 
-data-length : (id : ℕ) (bytes : List ℕ)
+pub data-length : (id : ℕ) (bytes : List ℕ)
     → length (spelling (reply_packet (reply_of id (replies.Data bytes)))) ≡ 13 + length bytes
 unfolding spelling
 data-length id bytes = omega arith

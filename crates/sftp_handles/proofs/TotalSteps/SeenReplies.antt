@@ -34,13 +34,13 @@ use Rattle.sftp_handles.proofs.TotalSteps.SaidReplies.{attributes-sayable, listi
 
 -- ---- the bytes that a READ gives
 
-bytes-taken : (n : ℕ) (bytes : List ℕ) → AreBytes bytes → AreBytes (take n bytes)
+pub bytes-taken : (n : ℕ) (bytes : List ℕ) → AreBytes bytes → AreBytes (take n bytes)
 bytes-taken zero [] are = tt
 bytes-taken zero (b ∷ bytes) are = tt
 bytes-taken (suc n) [] are = tt
 bytes-taken (suc n) (b ∷ bytes) are = (are.0, bytes-taken n bytes are.1)
 
-few-taken : (len limit : ℕ) (bytes : List ℕ) → length (take (min len limit) bytes) ≤ limit
+pub few-taken : (len limit : ℕ) (bytes : List ℕ) → length (take (min len limit) bytes) ≤ limit
 few-taken len limit bytes = omega (arith, length-take (min len limit) bytes)
 
 module _ (s : State) (id : ℕ) (good : Good s) (small : id < 2 ^ 32) where

@@ -1,0 +1,48 @@
+-- The answers that are given are steps: refusals with a code that their cause allows, and what was done.
+use Rattle.std.proofs.Common.{◌≡◌, ◌&&◌, ◌^◌, ◌<◌, ℕ, List, [], Some, IsTrue, refl, ap, ◌∙◌, lit<}
+use Rattle.std.specs.List.{list_any}
+use Rattle.std.proofs.lemmas.Bool.{and_from, not-false}
+use Rattle.sftp_wire.specs.declared.packets.Ask.{Ask}
+use Rattle.sftp_wire.specs.declared.packets.Ask.TheVariants as asks
+use Rattle.sftp_wire.specs.declared.packets.Answer.{Answer}
+use Rattle.sftp_tree.specs.declared.causes.Cause.{Cause}
+use Rattle.sftp_tree.specs.declared.causes.Cause.TheVariants.{Unknown}
+use Rattle.sftp_tree.specs.Causes.{CauseSet, every_cause, allows, allow}
+use Rattle.sftp_handles.specs.State.{State}
+use Rattle.sftp_handles.specs.Requests.{causes}
+use Rattle.sftp_handles.specs.Allowed.{step}
+use Rattle.sftp_handles.specs.Judged.{IsDone}
+use Rattle.sftp_handles.specs.Answered.{IsAnswered, status_of}
+use Rattle.sftp_handles.proofs.Steps.{done-step}
+use Rattle.sftp_handles.proofs.Judgements.{some-holds, refused-step}
+use Rattle.sftp_handles.proofs.SeenAnswers.{cause-holds}
+use Rattle.sftp_handles.proofs.AnswersSpelled.{spelled-status}
+
+-- ---- refusals
+
+-- a cause that holds allows each of its codes
+allow-by : (set : CauseSet) (cause : Cause) (code : ℕ) → IsTrue (set cause) → IsTrue (allows cause code)
+    → IsTrue (allow set code)
+allow-by set cause code holds allowed =
+    not-false (allow set code)
+    (some-holds (λ c. set c && allows c code) cause (and_from (set cause) (allows cause code) holds allowed))
+
+pub refusal-step : (s : State) (ask : Ask) (cause : Cause) (code : ℕ) → IsTrue (causes s ask cause)
+    → IsTrue (allows cause code) → step s ask (status_of code) ≡ Some s
+refusal-step s ask cause code holds allowed =
+    refused-step s ask (status_of code) (allow-by (causes s ask) cause code holds allowed)
+
+-- an extension that is not known is refused
+pub unknown-refused : (s : State) (name rest : List ℕ) → IsTrue (causes s (asks.Unknown name rest) Unknown)
+unfolding causes
+unknown-refused s name rest = cause-holds Unknown
+
+-- ---- what was done
+
+pub answered-step : (s : State) (ask : Ask) (answer : Answer) (end : State) → IsAnswered s ask answer end
+    → step s ask answer ≡ Some end
+answered-step s ask answer end answered = done-step s ask answer end answered.does
+
+-- a request that says OK
+pub answered-ok : (s : State) (ask : Ask) (end : State) → IsDone s ask end → IsAnswered s ask (status_of 0) end
+answered-ok s ask end done = record { does = done [] []; spelled = spelled-status 0 (lit< tt) }

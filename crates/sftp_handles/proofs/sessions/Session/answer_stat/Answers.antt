@@ -1,0 +1,20 @@
+use Rattle.std.proofs.Common.{◌≡◌, Some, subst}
+use Rattle.sftp_tree.specs.Requests as paths
+use Rattle.sftp_tree.specs.Refusals.{IsFree, IsRefusal, stat_ask}
+use Rattle.sftp_handles.specs.State.{State, Good}
+use Rattle.sftp_handles.proofs.AnswersShown.{answered-stat, stat-refusal}
+use Rattle.sftp_handles.proofs.sessions.Session.answer_stat.Goals as goal
+
+pub returns-in-Ok-clause-done : goal.returns-in-Ok-clause-done
+returns-in-Ok-clause-done g c =
+    let ask = stat_ask c.args.follow c.args.path.now in
+    answered-stat c.args.self.now c.args.follow c.args.path.now c.in-Ok.shown
+    (subst Good c.self.view_is c.self.invariant)
+    (subst (λ (s : State). IsFree s.tree ask) c.self.view_is c.in-Ok.ensures.free)
+    (subst (λ (s : State). paths.shown_to s.tree ask ≡ Some c.in-Ok.shown) c.self.view_is c.in-Ok.ensures.shown)
+
+pub returns-in-Err-clause-refused : goal.returns-in-Err-clause-refused
+returns-in-Err-clause-refused g c =
+    let ask = stat_ask c.args.follow c.args.path.now in
+    stat-refusal c.args.self.now c.args.follow c.args.path.now c.in-Err.refused
+    (subst (λ (s : State). IsRefusal s.tree ask c.in-Err.refused) c.self.view_is c.in-Err.ensures.refused)

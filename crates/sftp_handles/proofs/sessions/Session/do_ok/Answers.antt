@@ -1,0 +1,29 @@
+use Rattle.std.proofs.Common.{sym, ap, subst, ◌∙◌, OnOk}
+use Rattle.sftp_wire.specs.declared.packets.Ask.{Ask}
+use Rattle.sftp_wire.specs.declared.packets.Ask.TheVariants.{Close, Write, Fsetstat, Fsync}
+use Rattle.sftp_handles.specs.Judged.{IsDone}
+use Rattle.sftp_handles.proofs.sessions.Session.do_ok.Goals as goal
+
+pub returns-in_ok-close-in-Close-clause-done : goal.returns-in_ok-close-in-Close-clause-done
+returns-in_ok-close-in-Close-clause-done g c =
+    subst (λ (ask : Ask). IsDone c.args.self.now ask c.close.new.self) (ap Close c.as_slice.ensures ∙ sym c.in-Close.is)
+    c.in_ok-close-in-Close.ensures.done
+
+pub returns-in-Write-clause-done : goal.returns-in-Write-clause-done
+returns-in-Write-clause-done g c =
+    subst (λ (ask : Ask). OnOk c.write_open.result (IsDone c.args.self.now ask c.write_open.new.self))
+    ((λ i. Write (c.as_slice-in-Write.ensures i) c.in-Write.offset (c.as_slice-in-Write-2.ensures i))
+    ∙ sym c.in-Write.is)
+    c.write_open.ensures.done
+
+pub returns-in-Fsetstat-clause-done : goal.returns-in-Fsetstat-clause-done
+returns-in-Fsetstat-clause-done g c =
+    subst (λ (ask : Ask). OnOk c.set_open.result (IsDone c.args.self.now ask c.set_open.new.self))
+    (ap (λ handle. Fsetstat handle c.in-Fsetstat.attrs) c.as_slice-in-Fsetstat.ensures ∙ sym c.in-Fsetstat.is)
+    c.set_open.ensures.done
+
+pub returns-in_ok-sync_open-in-Fsync-clause-done : goal.returns-in_ok-sync_open-in-Fsync-clause-done
+returns-in_ok-sync_open-in-Fsync-clause-done g c =
+    subst (λ (ask : Ask). IsDone c.args.self.now ask c.args.self.now)
+    (ap Fsync c.as_slice-in-Fsync.ensures ∙ sym c.in-Fsync.is)
+    c.in_ok-sync_open-in-Fsync.ensures.done
