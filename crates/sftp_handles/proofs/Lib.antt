@@ -21,7 +21,10 @@ pub mod Opened
 pub mod Swaps
 pub mod Ends
 pub mod GivenNames
+pub mod FirstNames
 pub mod Starts
 pub mod HandleRoom
 pub mod NewHandles
 pub mod TotalSteps
+pub mod NameReplies
+pub mod HandleReplies

@@ -9,6 +9,7 @@ pub mod Laws
 pub mod Examples
 pub mod Given
 pub mod Giving
+pub mod FirstNames
 pub mod Found
 pub mod Judged
 pub mod Answered

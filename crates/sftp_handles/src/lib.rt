@@ -27,6 +27,7 @@ mod showing;
 mod shown;
 mod striking;
 mod tables;
+mod taking;
 
 pub use given_table::GivenTable;
 pub use listings::Listing;
