@@ -23,6 +23,7 @@ pub mod HandleReplies
 pub mod Swaps
 pub mod Ends
 pub mod GivenNames
+pub mod FirstNames
 pub mod Starts
 pub mod HandleRoom
 pub mod NewHandles
@@ -30,3 +31,5 @@ pub mod TotalSteps
 pub mod AnswersSpelled
 pub mod AnswersShown
 pub mod AnswersSteps
+pub mod NameReplies
+pub mod HandleReplies

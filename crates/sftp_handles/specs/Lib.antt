@@ -10,6 +10,7 @@ pub mod Examples
 pub mod Given
 pub mod Giving
 pub mod Slots
+pub mod FirstNames
 pub mod Found
 pub mod Judged
 pub mod Answered

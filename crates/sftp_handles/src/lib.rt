@@ -29,6 +29,7 @@ mod striking;
 mod slab_table;
 mod slots;
 mod tables;
+mod taking;
 
 pub use given_table::GivenTable;
 pub use listings::Listing;

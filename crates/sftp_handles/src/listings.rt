@@ -6,7 +6,7 @@ ghost use Rattle.sftp_path.specs.Table.{InOrder, get, put, without};
 use sftp_path::{Name, NoMemory};
 use sftp_wire::Attrs;
 use std::alloc::Global;
-use std::collections::BTreeMap;
+use std::collections::{BTreeMap, btree_map};
 use std::marker::Model;
 
 /// The names that a listing still has to give, in rising order of their bytes, with their attributes. Finding a name
@@ -63,6 +63,13 @@ impl Listing {
         ensures { option_copied result ≡ get name_cmp self.now name.now }
     {
         self.names.get(name)
+    }
+
+    /// The names that are left, in order, with their attributes.
+    pub(crate) fn entries(&self) -> btree_map::Iter<'_, Name, Attrs>
+        ensures { result ≡ self.now }
+    {
+        self.names.iter()
     }
 
     /// Strikes a name out.

@@ -1,13 +1,25 @@
 //! The answers to OPEN, OPENDIR and READDIR (draft, sections 6.3 and 6.7).
-ghost use Rattle.std.specs.Prelude.{◌≡◌, IfOk, IfErr, OnErr};
-ghost use Rattle.sftp_wire.specs.declared.packets.Ask.TheVariants.{Open, Opendir, Readdir};
+ghost use Rattle.std.specs.Prelude.{◌≡◌, false, [], IfOk, IfErr, OnOk, OnErr, IsTrue};
+ghost use Rattle.sftp_wire.specs.declared.packets.Ask.TheVariants as asks;
+ghost use Rattle.sftp_wire.specs.declared.packets.Answer.TheVariants as replies;
+ghost use Rattle.sftp_wire.specs.Spelling.{AreBytes};
+ghost use Rattle.sftp_handles.specs.Handles.{open_at};
+ghost use Rattle.sftp_handles.specs.State as state;
+ghost use Rattle.sftp_handles.specs.Replies.{names_in};
+ghost use Rattle.sftp_handles.specs.Laws.{is_opening};
+ghost use Rattle.sftp_handles.specs.FirstNames.{AreFirst};
 ghost use Rattle.sftp_handles.specs.Judged.{IsRefusal};
 ghost use Rattle.sftp_handles.specs.Answered.{IsAnswered};
 
+use crate::giving::strike_names;
+use crate::not_opened::NotOpened;
+use crate::opens::Open;
 use crate::sessions::Session;
 use crate::tables::HandleTable;
-use sftp_tree::Refused;
-use sftp_wire::{Answer, Attrs};
+use sftp_path::Name;
+use sftp_tree::{Cause, Refused};
+use sftp_wire::{Answer, Ask, Attrs, ByteString, Names};
+use std::alloc::Global;
 
 /// How many names a reply to READDIR gives at most.
 pub const NAMES_IN_REPLY: usize = 32;
@@ -20,16 +32,24 @@ impl<T: HandleTable> Session<T> {
     /// The first cause that holds. `NoMemory` if memory runs out. The session is then as before.
     pub(crate) fn answer_open(
         &mut self,
+        ask: &Ask,
         path: &[u8],
         pflags: u32,
         attrs: &Attrs,
     ) -> Result<Answer, Refused>
-        ensures done { IfOk result
-            (λ answer. IsAnswered self.old (Open path.now pflags attrs.now) answer self.new) }
-        ensures refused { IfErr result (IsRefusal self.old (Open path.now pflags attrs.now)) }
+        requires table { T.takes_want ≡ false }
+        requires asked { ask.now ≡ asks.Open path.now pflags attrs.now }
+        ensures done { IfOk result (λ answer. IsAnswered self.old ask.now answer self.new) }
+        ensures refused { IfErr result (IsRefusal self.old ask.now) }
         ensures kept { OnErr result (self.new ≡ self.old) }
     {
-        Err(Refused::NoMemory)
+        self.check_handles(ask)?;
+        let want = Vec::new(self.tree.allocator());
+        match self.open_file(path, pflags, attrs, want) {
+            Ok(name) => Ok(handle_reply(name)),
+            Err(NotOpened::Refused(refused)) => Err(refused),
+            Err(NotOpened::Taken) => unreachable!(),
+        }
     }
 
     /// OPENDIR: a new handle.
@@ -37,12 +57,38 @@ impl<T: HandleTable> Session<T> {
     /// # Errors
     ///
     /// The first cause that holds. `NoMemory` if memory runs out. The session is then as before.
-    pub(crate) fn answer_opendir(&mut self, path: &[u8]) -> Result<Answer, Refused>
-        ensures done { IfOk result (λ answer. IsAnswered self.old (Opendir path.now) answer self.new) }
-        ensures refused { IfErr result (IsRefusal self.old (Opendir path.now)) }
+    pub(crate) fn answer_opendir(&mut self, ask: &Ask, path: &[u8]) -> Result<Answer, Refused>
+        requires table { T.takes_want ≡ false }
+        requires asked { ask.now ≡ asks.Opendir path.now }
+        ensures done { IfOk result (λ answer. IsAnswered self.old ask.now answer self.new) }
+        ensures refused { IfErr result (IsRefusal self.old ask.now) }
         ensures kept { OnErr result (self.new ≡ self.old) }
     {
-        Err(Refused::NoMemory)
+        self.check_handles(ask)?;
+        let want = Vec::new(self.tree.allocator());
+        match self.open_directory(path, want) {
+            Ok(name) => Ok(handle_reply(name)),
+            Err(NotOpened::Refused(refused)) => Err(refused),
+            Err(NotOpened::Taken) => unreachable!(),
+        }
+    }
+
+    /// Whether a request that opens something finds room for one more handle.
+    ///
+    /// # Errors
+    ///
+    /// If there is none, the first cause that holds: one of the path's, or else `NoRoom`. `NoMemory` if memory runs
+    /// out.
+    fn check_handles(&self, ask: &Ask) -> Result<(), Refused>
+        requires { IsTrue (is_opening ask.now) }
+        ensures left { OnOk result (IsTrue (state.has_handle_left self.now)) }
+        ensures refused { IfErr result (IsRefusal self.now ask.now) }
+    {
+        if self.has_handle_left() {
+            return Ok(());
+        }
+        self.tree.check(ask)?;
+        Err(Refused::Cause(Cause::NoRoom))
     }
 
     /// READDIR: the first names that the listing still has to give, `NAMES_IN_REPLY` or fewer, each with the same long
@@ -52,10 +98,56 @@ impl<T: HandleTable> Session<T> {
     ///
     /// The cause that holds. `NoMemory` if memory runs out. The session is then as before.
     pub(crate) fn answer_readdir(&mut self, handle: &[u8]) -> Result<Answer, Refused>
-        ensures done { IfOk result (λ answer. IsAnswered self.old (Readdir handle.now) answer self.new) }
-        ensures refused { IfErr result (IsRefusal self.old (Readdir handle.now)) }
+        ensures done { IfOk result (λ answer. IsAnswered self.old (asks.Readdir handle.now) answer self.new) }
+        ensures refused { IfErr result (IsRefusal self.old (asks.Readdir handle.now)) }
         ensures kept { OnErr result (self.new ≡ self.old) }
     {
-        Err(Refused::NoMemory)
+        let given = self.first_names(handle)?;
+        let alloc = self.tree.allocator();
+        if given.0.is_empty() {
+            return Ok(end_reply(alloc));
+        }
+        strike_names(&mut self.table, alloc, handle, given.0.as_slice());
+        Ok(Answer::Name(given.1))
+    }
+
+    /// The first names that a listing still has to give, and the items of the reply that gives them.
+    ///
+    /// # Errors
+    ///
+    /// `BadHandle` if the handle is not open, `WrongKind` if it is a file's. `NoMemory` if memory runs out.
+    fn first_names(&self, handle: &[u8]) -> Result<(Vec<Name>, Names), Refused>
+        ensures first { IfOk result (λ given. AreFirst (open_at self.now.handles handle.now) given.1) }
+        ensures names { IfOk result (λ given. given.0.items ≡ names_in given.1) }
+        ensures refused { IfErr result (IsRefusal self.now (asks.Readdir handle.now)) }
+    {
+        match self.table.find(handle) {
+            Some(Open::Listing { left }) => {
+                let given = left.first(self.tree.allocator(), NAMES_IN_REPLY)?;
+                Ok(given)
+            }
+            Some(Open::File { .. }) => Err(Refused::Cause(Cause::WrongKind)),
+            None => Err(Refused::Cause(Cause::BadHandle)),
+        }
+    }
+}
+
+/// A reply with a new handle. It takes no memory.
+fn handle_reply(name: Vec<u8>) -> Answer
+    ensures reply { result ≡ replies.Handle name.items }
+    ensures bytes { AreBytes name.items }
+{
+    let _bytes = name.as_slice();
+    Answer::Handle(ByteString::new(name))
+}
+
+/// A reply that there are no more names, with empty texts. It takes no memory.
+fn end_reply(alloc: Global) -> Answer
+    ensures { result ≡ replies.Status 1 [] [] }
+{
+    Answer::Status {
+        code: 1,
+        message: ByteString::new(Vec::new(alloc)),
+        language: ByteString::new(Vec::new(alloc)),
     }
 }

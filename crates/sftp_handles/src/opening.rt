@@ -4,6 +4,7 @@ ghost use Rattle.sftp_wire.specs.Spelling.{handle_limit};
 ghost use Rattle.sftp_wire.specs.declared.packets.Ask.{Ask as ask};
 ghost use Rattle.sftp_wire.specs.declared.packets.Ask.TheVariants as asks;
 ghost use Rattle.sftp_wire.specs.declared.packets.Answer.TheVariants as replies;
+ghost use Rattle.sftp_handles.specs.declared.not_opened.NotOpened.TheVariants as failures;
 ghost use Rattle.sftp_handles.specs.declared.opens.Open.TheVariants as opens;
 ghost use Rattle.sftp_handles.specs.Handles as handles;
 ghost use Rattle.sftp_handles.specs.State.{IsLeft, has_handle_left};
@@ -41,6 +42,7 @@ impl<T: HandleTable> Session<T> {
             (λ name. Does self.old (asks.Open path.now pflags attrs.now) (replies.Handle name.items) self.new) }
         ensures wanted { IfOk result (λ name. IsTrue T.takes_want → name.items ≡ want.items) }
         ensures failed { IfErr result (IsNotOpened self.old (asks.Open path.now pflags attrs.now) want.items) }
+        ensures taken { IfErr result (λ e. e ≡ failures.Taken → IsTrue T.takes_want) }
         ensures kept { OnErr result (self.new ≡ self.old) }
     {
         let alloc = self.tree.allocator();
@@ -75,6 +77,7 @@ impl<T: HandleTable> Session<T> {
             (λ name. Does self.old (asks.Opendir path.now) (replies.Handle name.items) self.new) }
         ensures wanted { IfOk result (λ name. IsTrue T.takes_want → name.items ≡ want.items) }
         ensures failed { IfErr result (IsNotOpened self.old (asks.Opendir path.now) want.items) }
+        ensures taken { IfErr result (λ e. e ≡ failures.Taken → IsTrue T.takes_want) }
         ensures kept { OnErr result (self.new ≡ self.old) }
     {
         match self.tree.list(path) {
@@ -103,6 +106,7 @@ impl<T: HandleTable> Session<T> {
         ensures short { IfOk result (λ name. length name.items ≤ handle_limit) }
         ensures wanted { IfOk result (λ name. IsTrue T.takes_want → name.items ≡ want.items) }
         ensures failed { IfErr result (λ e. (asked : ask) → IsNotOpened self.old asked want.items e) }
+        ensures taken { IfErr result (λ e. e ≡ failures.Taken → IsTrue T.takes_want) }
         ensures kept { OnErr result (self.new ≡ self.old) }
     {
         match self.table.put(Open::Listing { left }, want) {

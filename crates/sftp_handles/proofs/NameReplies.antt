@@ -1,0 +1,223 @@
+-- READDIR: the reply that gives the first names of a listing, and the reply that there are no more.
+use Rattle.std.proofs.Common.{◌≡◌, ◌==◌, nat_lt, ℕ, zero, suc, ◌+◌, ◌*◌, ◌^◌, ◌<◌, ◌≤◌, Bool, true, false, List}
+use Rattle.std.proofs.Common.{[], ◌∷◌, ◌++◌, length, take, Option, Some, None, refl, sym, ap, subst, ◌∙◌, arith, IsTrue, lit<, inl, inr}
+use Rattle.std.specs.List.{AllByRecursion, flat_map}
+use Rattle.std.proofs.lemmas.Bool.{both_ways, eqb-true, lt-ltb}
+use Rattle.std.proofs.lemmas.List.{length-append, length-map}
+use Rattle.sftp_wire.specs.declared.attributes.Attrs.{Attrs}
+use Rattle.sftp_wire.specs.declared.names.NameItem.{NameItem}
+use Rattle.sftp_wire.specs.declared.open_flags.OpenFlags.{OpenFlags}
+use Rattle.sftp_wire.specs.declared.packets.Ask.{Ask}
+use Rattle.sftp_wire.specs.declared.packets.Ask.TheVariants.{Readdir}
+use Rattle.sftp_wire.specs.declared.packets.Answer.{Answer}
+use Rattle.sftp_wire.specs.declared.packets.Answer.TheVariants as replies
+use Rattle.sftp_wire.specs.declared.packets.Packet.TheVariants.{Reply as reply_packet}
+use Rattle.sftp_wire.specs.Spelling.{spelling, attributes, name_item, FitsString, FitsAttrs, FitsNameItem}
+use Rattle.sftp_path.specs.Place.{Name}
+use Rattle.sftp_tree.specs.declared.causes.Cause.TheVariants.{BadHandle, WrongKind}
+use Rattle.sftp_tree.specs.Tree.{limits}
+use Rattle.sftp_handles.specs.declared.opens.Open.{Open}
+use Rattle.sftp_handles.specs.declared.opens.Open.TheVariants.{File, Listing}
+use Rattle.sftp_handles.specs.Handles.{Left, Handles, open_at}
+use Rattle.sftp_handles.specs.State.{State, Good, IsItem, is_plain}
+use Rattle.sftp_handles.specs.Seen.{a_listing, seen, seen_among}
+use Rattle.sftp_handles.specs.Replies.{names_in, refuses, are_some_left}
+use Rattle.sftp_handles.specs.HandleRequests.{row_of, causes_of}
+use Rattle.sftp_handles.specs.Requests.{causes}
+use Rattle.sftp_handles.specs.Allowed.{Does}
+use Rattle.sftp_handles.specs.Judged.{IsJudged}
+use Rattle.sftp_handles.specs.Answered.{IsSpelledAnswer, IsAnswered}
+use Rattle.sftp_handles.specs.Giving.{gives_names, with_struck}
+use Rattle.sftp_handles.specs.FirstNames.{item_of, first_items, names_in_reply, AreFirst}
+use Rattle.sftp_handles.proofs.FirstNames.{first-some}
+use Rattle.sftp_handles.proofs.GivenNames.{has_none, listing-left, given-judged, readdir-ends}
+use Rattle.sftp_handles.proofs.Judgements.{allow-one}
+use Rattle.sftp_handles.proofs.SeenAnswers.{cause-holds}
+use Rattle.sftp_handles.proofs.NewStates.{state_of}
+use Rattle.sftp_handles.proofs.Steps.{step-is_allowed}
+use Rattle.sftp_handles.proofs.TotalSteps.PlaceTexts.{name-parts}
+use Rattle.sftp_handles.proofs.TotalSteps.SaidReplies.{reply_of, status-spelled}
+
+-- ---- how long an item is
+
+abbrev Extended : Type 0
+Extended = List (List ℕ × List ℕ)
+
+abbrev attributes_of : Option ℕ → Option (ℕ × ℕ) → Option ℕ → Option (ℕ × ℕ) → Option Extended → Attrs
+attributes_of size owner permissions times extended =
+    record { size = size; owner = owner; permissions = permissions; times = times; extended = extended }
+
+fields-length : (size : Option ℕ) (owner : Option (ℕ × ℕ)) (permissions : Option ℕ) (times : Option (ℕ × ℕ))
+    → (extended : Option Extended) → is_plain (attributes_of size owner permissions times extended) ≡ true
+    → length (attributes (attributes_of size owner permissions times extended)) ≡ 24
+fields-length (Some size) (Some owner) (Some permissions) None None is = omega arith
+fields-length None owner permissions times extended is = absurd cc
+fields-length (Some size) None permissions times extended is = absurd cc
+fields-length (Some size) (Some owner) None times extended is = absurd cc
+fields-length (Some size) (Some owner) (Some permissions) (Some times) extended is = absurd cc
+fields-length (Some size) (Some owner) (Some permissions) None (Some extended) is = absurd cc
+
+plain-length : (attrs : Attrs) → is_plain attrs ≡ true → length (attributes attrs) ≡ 24
+plain-length attrs = fields-length attrs.size attrs.owner attrs.permissions attrs.times attrs.extended
+
+item-parts : (name : Name) (fields : List ℕ)
+    → length ((4 ∷ []) ++ (name ++ fields)) ≡ 1 + (length name + length fields)
+item-parts name fields = grind (arith, length-append)
+
+item-length : (e : Name × Attrs) → IsItem e → length (name_item (item_of e)) ≤ 542
+item-length e item =
+    let short = (name-parts e.0 item.0).0 in
+    let plain = plain-length e.1 item.2 in
+    grind (arith, length-append, short, plain)
+
+items-length : (n : ℕ) (left : Left) → AllByRecursion IsItem left
+    → length (flat_map name_item (first_items n left)) ≤ 542 * n
+items-length zero [] items = omega arith
+items-length zero (e ∷ es) items = omega arith
+items-length (suc n) [] items = omega arith
+items-length (suc n) (e ∷ es) items =
+    let here = item-length e items.0 in
+    let rest = items-length n es items.1 in
+    omega (arith, here, rest, length-append (name_item (item_of e)) (flat_map name_item (first_items n es)))
+
+-- ---- the reply can be encoded
+
+items-fit : (n : ℕ) (left : Left) → AllByRecursion IsItem left → AllByRecursion FitsNameItem (first_items n left)
+items-fit zero [] items = tt
+items-fit zero (e ∷ es) items = tt
+items-fit (suc n) [] items = tt
+items-fit (suc n) (e ∷ es) items =
+    let parts = name-parts e.0 items.0.0 in
+    let text : FitsString e.0 = record { bytes_fit = parts.1; length_fits = omega (arith, parts.0) } in
+    (record { filename = text; longname = text; attrs = items.0.1 }, items-fit n es items.1)
+
+few-items : (n : ℕ) (left : Left) → length (first_items n left) ≤ n
+few-items zero [] = omega arith
+few-items zero (e ∷ es) = omega arith
+few-items (suc n) [] = omega arith
+few-items (suc n) (e ∷ es) = omega (arith, few-items n es)
+
+reply-length : (id : ℕ) (items : List NameItem)
+    → length (spelling (reply_packet (reply_of id (replies.Name items)))) ≡ 13 + length (flat_map name_item items)
+unfolding spelling
+reply-length id items = omega arith
+
+pub first-spelled : (left : Left) → AllByRecursion IsItem left
+    → IsSpelledAnswer (replies.Name (first_items names_in_reply left))
+first-spelled left items id small =
+    let few = few-items names_in_reply left in
+    let short = items-length names_in_reply left items in
+    record {
+      fields = (small, (omega (arith, few), items-fit names_in_reply left items));
+      whole = omega (arith, reply-length id (first_items names_in_reply left), short);
+      handle = tt;
+      canonical = refl;
+    }
+
+pub end-spelled : IsSpelledAnswer (replies.Status 1 [] [])
+end-spelled id small = status-spelled id 1 small (lit< tt)
+
+-- ---- whether there are names, as the code finds out
+
+pub some-items : (len : ℕ) (names : List Name) (items : List NameItem) (empty : Bool) → len ≡ length names
+    → names ≡ names_in items → empty ≡ (len == 0) → empty ≡ false → nat_lt 0 (length items) ≡ true
+some-items len names [] empty is same test some =
+    let none : len ≡ 0 = is ∙ ap (λ (xs : List Name). length xs) same in
+    absurd (both_ways empty some (test ∙ ap (λ n. n == 0) none))
+some-items len names (item ∷ items) empty is same test some = lt-ltb 0 (length (item ∷ items)) (omega arith)
+
+pub no-items : (len : ℕ) (names : List Name) (items : List NameItem) (empty : Bool) → len ≡ length names
+    → names ≡ names_in items → empty ≡ (len == 0) → empty ≡ true → length items ≡ 0
+no-items len names items empty is same test none =
+    let zero_is : len ≡ 0 = eqb-true len 0 (sym test ∙ none) in
+    sym (length-map items (λ (item : NameItem). item.filename))
+    ∙ (ap (λ (xs : List Name). length xs) (sym same) ∙ (sym is ∙ zero_is))
+
+-- ---- what was judged to be allowed
+
+-- an answer that no cause allows is the request's
+judged-does : (s : State) (ask : Ask) (answer : Answer) (end : State) → refuses (causes s ask) answer ≡ false
+    → IsJudged s ask answer true end → Does s ask answer end
+judged-does s ask answer end unlike judged =
+    let allowed =
+    step-is_allowed s (record { id = 0; ask = ask }) (record { id = 0; answer = answer }) end refl judged.step_is in
+    elim allowed.step [
+      | inl r ↦ absurd (both_ways (refuses (causes s ask) answer) unlike r.cause)
+      | inr d ↦ d
+    ]
+
+-- a listing that gives no names has none
+none-in : (items : List NameItem) (found : Option Open) → AreFirst found items → length items ≡ 0
+    → has_none found ≡ true
+none-in items None first none = absurd first
+none-in items (Some (File number flags)) first none = absurd first
+none-in items (Some (Listing [])) first none = refl
+none-in items (Some (Listing (e ∷ es))) first none =
+    absurd (omega (arith, none, ap (λ (xs : List NameItem). length xs) first))
+
+-- ---- the listing that is open
+
+module _ (s : State) (handle : List ℕ) (good : Good s) where
+  given-in : (items : List NameItem) (found : Option Open) → open_at s.handles handle ≡ found → AreFirst found items
+      → nat_lt 0 (length items) ≡ true
+      → (gives_names found items ≡ true) × IsSpelledAnswer (replies.Name items)
+  given-in items None there first some = absurd first
+  given-in items (Some (File number flags)) there first some = absurd first
+  given-in items (Some (Listing left)) there first some =
+      let is_left = listing-left s handle left good there in (
+        subst (λ (xs : List NameItem). are_some_left left xs ≡ true) (sym first)
+            (first-some names_in_reply left is_left
+            (ap (λ (xs : List NameItem). nat_lt 0 (length xs)) (sym first) ∙ some)),
+        subst (λ (xs : List NameItem). IsSpelledAnswer (replies.Name xs)) (sym first) (first-spelled left is_left.items),
+      )
+
+  -- its names are given
+  pub first-given : (items : List NameItem) → AreFirst (open_at s.handles handle) items
+      → nat_lt 0 (length items) ≡ true → gives_names (open_at s.handles handle) items ≡ true
+  first-given items first some = (given-in items (open_at s.handles handle) refl first some).0
+
+  -- the names that were struck are those of the reply
+  pub readdir-answered : (items : List NameItem) (given : List Name) (handles : Handles)
+      → AreFirst (open_at s.handles handle) items → nat_lt 0 (length items) ≡ true → given ≡ names_in items
+      → handles ≡ with_struck s.handles handle given (open_at s.handles handle)
+      → IsAnswered s (Readdir handle) (replies.Name items) (state_of s.tree handles)
+  readdir-answered items given handles first some same is =
+      let gives = given-in items (open_at s.handles handle) refl first some in
+      record {
+        does =
+            judged-does s (Readdir handle) (replies.Name items) (state_of s.tree handles) refl
+            (given-judged s handle items given handles good (sym gives.0) same is);
+        spelled = gives.1;
+      }
+
+  -- it has nothing left
+  pub readdir-ended : (items : List NameItem) → AreFirst (open_at s.handles handle) items → length items ≡ 0
+      → IsAnswered s (Readdir handle) (replies.Status 1 [] []) s
+  readdir-ended items first none = record {
+    does =
+        judged-does s (Readdir handle) (replies.Status 1 [] []) s (allow-one (causes s (Readdir handle)))
+        (readdir-ends s handle true good (sym (none-in items (open_at s.handles handle) first none)) [] []);
+    spelled = end-spelled;
+  }
+
+-- ---- no listing is open
+
+pub readdir-of_file : (s : State) (handle : List ℕ) (number : ℕ) (flags : OpenFlags)
+    → open_at s.handles handle ≡ Some (File number flags) → IsTrue (causes s (Readdir handle) WrongKind)
+unfolding causes seen
+readdir-of_file s handle number flags there =
+    ap
+    (λ found.
+    causes_of (limits s.tree) (row_of (Readdir handle)) (seen_among s.tree.files a_listing found) WrongKind)
+    there
+    ∙ cause-holds WrongKind
+
+pub readdir-of_none : (s : State) (handle : List ℕ) → open_at s.handles handle ≡ None
+    → IsTrue (causes s (Readdir handle) BadHandle)
+unfolding causes seen
+readdir-of_none s handle there =
+    ap
+    (λ found.
+    causes_of (limits s.tree) (row_of (Readdir handle)) (seen_among s.tree.files a_listing found) BadHandle)
+    there
+    ∙ cause-holds BadHandle

@@ -1,0 +1,26 @@
+-- The first names of a listing, as a reply to READDIR gives them. Words of private contracts.
+use Rattle.std.specs.Prelude.{◌≡◌, ℕ, List, Option, Some, None, map, take}
+use Rattle.sftp_wire.specs.declared.attributes.Attrs.{Attrs}
+use Rattle.sftp_wire.specs.declared.names.NameItem.{NameItem}
+use Rattle.sftp_path.specs.Place.{Name}
+use Rattle.sftp_handles.specs.declared.opens.Open.{Open}
+use Rattle.sftp_handles.specs.declared.opens.Open.TheVariants.{File, Listing}
+use Rattle.sftp_handles.specs.Handles.{Left}
+
+-- an item with the attributes of a name, which is its long name too
+abbrev pub item_of : Name × Attrs → NameItem
+item_of e = record { filename = e.0; longname = e.0; attrs = e.1 }
+
+-- the first names of a listing, as items: so many, or all if these are fewer
+abbrev pub first_items : ℕ → Left → List NameItem
+first_items most left = map item_of (take most left)
+
+-- how many names a reply gives at most
+abbrev pub names_in_reply : ℕ
+names_in_reply = 32
+
+-- what is open is a listing, and these are its first names
+abbrev pub AreFirst : Option Open → List NameItem → Type 0
+AreFirst (Some (Listing left)) items = items ≡ first_items names_in_reply left
+AreFirst (Some (File number flags)) items = ⊥
+AreFirst None items = ⊥
