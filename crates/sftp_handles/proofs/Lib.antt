@@ -20,6 +20,7 @@ pub mod StillAnswers
 pub mod OtherAnswers
 pub mod Opened
 pub mod HandleReplies
+pub mod HandleAnswers
 pub mod Swaps
 pub mod Ends
 pub mod GivenNames
@@ -33,3 +34,4 @@ pub mod AnswersShown
 pub mod AnswersSteps
 pub mod NameReplies
 pub mod HandleReplies
+pub mod HandleAnswers
