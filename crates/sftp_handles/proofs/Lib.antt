@@ -33,5 +33,3 @@ pub mod AnswersSpelled
 pub mod AnswersShown
 pub mod AnswersSteps
 pub mod NameReplies
-pub mod HandleReplies
-pub mod HandleAnswers

@@ -25,9 +25,9 @@ mod session_causes;
 mod sessions;
 mod showing;
 mod shown;
-mod striking;
 mod slab_table;
 mod slots;
+mod striking;
 mod tables;
 mod taking;
 
