@@ -1,5 +1,5 @@
 //! The answers that this program's own sessions give (draft, sections 6 and 7).
-ghost use Rattle.std.specs.Prelude.{◌≡◌, Some, IsTrue, IfOk, IfErr, OnErr};
+ghost use Rattle.std.specs.Prelude.{◌≡◌, ◌^◌, ◌<◌, Some, IsTrue, IfOk, IfErr, OnErr};
 ghost use Rattle.sftp_wire.specs.declared.packets.Packet.TheVariants.{Reply as reply_packet};
 ghost use Rattle.sftp_wire.specs.Spelling.{HasSpelling};
 ghost use Rattle.sftp_handles.specs.Allowed.{Allowed, step};
@@ -25,10 +25,7 @@ impl<T: HandleTable> Session<T> {
         ensures err { OnErr result (self.new ≡ self.old) }
     {
         let answer = self.answer_to(&request.ask)?;
-        Ok(Reply {
-            id: request.id,
-            answer,
-        })
+        Ok(reply_with(request.id, answer))
     }
 
     /// Answers a request without its id.
@@ -41,9 +38,10 @@ impl<T: HandleTable> Session<T> {
         ensures spelled { IfOk result IsSpelledAnswer }
         ensures err { OnErr result (self.new ≡ self.old) }
     {
+        let alloc = self.tree.allocator();
         match self.do_free(ask) {
             Ok(answer) => Ok(answer),
-            Err(Refused::Cause(cause)) => Ok(status(self.tree.allocator(), cause.code())),
+            Err(Refused::Cause(cause)) => Ok(status(alloc, cause.code())),
             Err(Refused::NoMemory) => Err(NoMemory),
         }
     }
@@ -103,9 +101,18 @@ impl<T: HandleTable> Session<T> {
         ensures refused { IfErr result (IsRefusal self.old ask.now) }
         ensures kept { OnErr result (self.new ≡ self.old) }
     {
+        let alloc = self.tree.allocator();
         match self.do_ok(ask) {
-            Ok(()) => Ok(status(self.tree.allocator(), 0)),
+            Ok(()) => Ok(status(alloc, 0)),
             Err(refused) => Err(refused),
         }
     }
+}
+
+/// The reply with this id.
+fn reply_with(id: u32, answer: Answer) -> Reply
+    ensures reply { result ≡ record { id = id; answer = answer } }
+    ensures fits { id < 2 ^ 32 }
+{
+    Reply { id, answer }
 }

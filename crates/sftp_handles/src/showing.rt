@@ -1,5 +1,5 @@
 //! The answers to requests that change nothing: attributes, texts and bytes (draft, sections 6.4, 6.8, 6.10 and 6.11).
-ghost use Rattle.std.specs.Prelude.{◌≡◌, IfOk, IfErr};
+ghost use Rattle.std.specs.Prelude.{◌≡◌, ◌^◌, ◌<◌, IfOk, IfErr};
 ghost use Rattle.sftp_wire.specs.declared.packets.Ask.TheVariants.{Fstat, Read, Readlink, Realpath};
 ghost use Rattle.sftp_tree.specs.Refusals.{stat_ask};
 ghost use Rattle.sftp_handles.specs.Judged.{IsRefusal};
@@ -98,7 +98,8 @@ impl<T: HandleTable> Session<T> {
 
 /// A status with this code, whose texts are empty. It takes no memory.
 pub(crate) fn status(alloc: Global, code: u32) -> Answer
-    ensures { result ≡ status_of code }
+    ensures status { result ≡ status_of code }
+    ensures fits { code < 2 ^ 32 }
 {
     Answer::Status {
         code,

@@ -18,6 +18,6 @@ pub returns-in-Ok-None-clause-done : goal.returns-in-Ok-None-clause-done
 returns-in-Ok-None-clause-done g c =
     let s = c.args.self.now in
     let ask = Read c.args.handle.now c.args.offset c.args.len in
-    subst (λ answer. IsAnswered s ask answer s) (sym c.status.ensures)
+    subst (λ answer. IsAnswered s ask answer s) (sym c.status.ensures.status)
     (answered-end s c.args.handle.now c.args.offset c.args.len c.in-Ok-None.ensures.kept c.in-Ok-None.ensures.free
     (rw c.in-Ok-None.field-0-is at c.in-Ok-None.ensures.read))

@@ -1,0 +1,23 @@
+use Rattle.std.proofs.Common.{◌≡◌, Some, sym, ap, subst, ◌∙◌}
+use Rattle.sftp_handles.specs.State.{State}
+use Rattle.sftp_handles.specs.Allowed.{step}
+use Rattle.sftp_handles.specs.Answered.{IsSpelledAnswer}
+use Rattle.sftp_handles.proofs.AnswersSpelled.{spelled-status}
+use Rattle.sftp_handles.proofs.AnswersSteps.{answered-step, refusal-step}
+use Rattle.sftp_handles.proofs.sessions.Session.answer_to.Goals as goal
+
+pub returns-in-Ok-clause-answered : goal.returns-in-Ok-clause-answered
+returns-in-Ok-clause-answered g c =
+    answered-step c.args.self.now c.args.ask.now c.in-Ok.answer c.do_free.new.self c.in-Ok.ensures.done
+
+pub returns-in-Err-Cause-clause-answered : goal.returns-in-Err-Cause-clause-answered
+returns-in-Err-Cause-clause-answered g c =
+    let s = c.args.self.now in
+    subst (λ answer. step s c.args.ask.now answer ≡ Some c.do_free.new.self) (sym c.status.ensures.status)
+    (refusal-step s c.args.ask.now c.in-Err-Cause.cause c.code.result
+    (rw c.in-Err-Cause.field-0-is at c.in-Err-Cause.ensures.refused) c.code.ensures
+    ∙ ap (λ (end : State). Some end) (sym c.in-Err-Cause.ensures.kept))
+
+pub returns-in-Err-Cause-clause-spelled : goal.returns-in-Err-Cause-clause-spelled
+returns-in-Err-Cause-clause-spelled g c =
+    subst IsSpelledAnswer (sym c.status.ensures.status) (spelled-status c.code.result c.status.ensures.fits)
