@@ -60,10 +60,10 @@ first-front items rest left most is few many =
 same-itself : (n : ℕ) → (n == n) ≡ true
 same-itself n = eq-eqb n n refl
 
-abbrev Extended : Type 0
+abbrev pub Extended : Type 0
 Extended = List (List ℕ × List ℕ)
 
-abbrev attributes_of : Option ℕ → Option (ℕ × ℕ) → Option ℕ → Option (ℕ × ℕ) → Option Extended → Attrs
+abbrev pub attributes_of : Option ℕ → Option (ℕ × ℕ) → Option ℕ → Option (ℕ × ℕ) → Option Extended → Attrs
 attributes_of size owner permissions times extended =
     record { size = size; owner = owner; permissions = permissions; times = times; extended = extended }
 

@@ -29,7 +29,7 @@ use Rattle.sftp_handles.specs.Judged.{IsJudged}
 use Rattle.sftp_handles.specs.Answered.{IsSpelledAnswer, IsAnswered}
 use Rattle.sftp_handles.specs.Giving.{gives_names, with_struck}
 use Rattle.sftp_handles.specs.FirstNames.{item_of, first_items, names_in_reply, AreFirst}
-use Rattle.sftp_handles.proofs.FirstNames.{first-some}
+use Rattle.sftp_handles.proofs.FirstNames.{Extended, attributes_of, first-some}
 use Rattle.sftp_handles.proofs.GivenNames.{has_none, listing-left, given-judged, readdir-ends}
 use Rattle.sftp_handles.proofs.Judgements.{allow-one}
 use Rattle.sftp_handles.proofs.SeenAnswers.{cause-holds}
@@ -39,13 +39,6 @@ use Rattle.sftp_handles.proofs.TotalSteps.PlaceTexts.{name-parts}
 use Rattle.sftp_handles.proofs.TotalSteps.SaidReplies.{reply_of, status-spelled}
 
 -- ---- how long an item is
-
-abbrev Extended : Type 0
-Extended = List (List ℕ × List ℕ)
-
-abbrev attributes_of : Option ℕ → Option (ℕ × ℕ) → Option ℕ → Option (ℕ × ℕ) → Option Extended → Attrs
-attributes_of size owner permissions times extended =
-    record { size = size; owner = owner; permissions = permissions; times = times; extended = extended }
 
 fields-length : (size : Option ℕ) (owner : Option (ℕ × ℕ)) (permissions : Option ℕ) (times : Option (ℕ × ℕ))
     → (extended : Option Extended) → is_plain (attributes_of size owner permissions times extended) ≡ true
@@ -59,10 +52,6 @@ fields-length (Some size) (Some owner) (Some permissions) None (Some extended) i
 
 plain-length : (attrs : Attrs) → is_plain attrs ≡ true → length (attributes attrs) ≡ 24
 plain-length attrs = fields-length attrs.size attrs.owner attrs.permissions attrs.times attrs.extended
-
-item-parts : (name : Name) (fields : List ℕ)
-    → length ((4 ∷ []) ++ (name ++ fields)) ≡ 1 + (length name + length fields)
-item-parts name fields = grind (arith, length-append)
 
 item-length : (e : Name × Attrs) → IsItem e → length (name_item (item_of e)) ≤ 542
 item-length e item =

@@ -115,7 +115,12 @@ impl<T: HandleTable> Session<T> {
 
 /// Strikes names from the listing that is open under a handle. It takes no memory: the listing is taken out for as long
 /// as it changes, and an empty one is in its place.
-pub(crate) fn strike_names<T: HandleTable>(table: &mut T, alloc: Global, handle: &[u8], given: &[Name])
+pub(crate) fn strike_names<T: HandleTable>(
+    table: &mut T,
+    alloc: Global,
+    handle: &[u8],
+    given: &[Name],
+)
     requires { IsListing (open_at (T.handles table.old) handle.now) }
     ensures { T.handles table.new
         ≡ with_struck (T.handles table.old) handle.now given.now (open_at (T.handles table.old) handle.now) }

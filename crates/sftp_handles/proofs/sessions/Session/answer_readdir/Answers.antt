@@ -1,4 +1,4 @@
-use Rattle.std.proofs.Common.{◌≡◌, ◌∙◌, nat_lt, true, sym, subst, length}
+use Rattle.std.proofs.Common.{◌∙◌, sym, subst}
 use Rattle.sftp_wire.specs.declared.packets.Ask.TheVariants.{Readdir}
 use Rattle.sftp_wire.specs.declared.packets.Answer.{Answer}
 use Rattle.sftp_wire.specs.declared.packets.Answer.TheVariants.{Name}
