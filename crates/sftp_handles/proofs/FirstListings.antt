@@ -1,6 +1,7 @@
 -- What the listing of a directory gives at first can be given.
 use Rattle.std.proofs.Common.{◌≡◌, ◌==◌, ◌&&◌, not, nat_lt, nat_le, ℕ, ◌+◌, ◌^◌, ◌<◌, ◌≤◌, true, List, [], ◌∷◌, ◌++◌}
-use Rattle.std.proofs.Common.{append_assoc, map, length, Option, Some, None, refl, sym, ap, subst, ◌∙◌, IsTrue, leb-true, arith, lit<}
+use Rattle.std.proofs.Common.{append_assoc, map, length, Option, Some, None, refl, sym, ap, subst, ◌∙◌, IsTrue}
+use Rattle.std.proofs.Common.{leb-true, arith, lit<}
 use Rattle.std.specs.Ordering.{nat_cmp}
 use Rattle.std.specs.List.{list_all}
 use Rattle.std.specs.Option.{option_map}

@@ -2,14 +2,14 @@
 use Rattle.std.proofs.Common.{inl, inr, sym, subst}
 use Rattle.sftp_wire.specs.declared.packets.Request.{Request}
 use Rattle.sftp_wire.specs.declared.packets.Reply.{Reply}
-use Rattle.sftp_wire.specs.Spelling.{FitsAsk}
+use Rattle.sftp_tree.specs.AskValues.{IsAsk}
 use Rattle.sftp_tree.proofs.Requests.Trees.{PathsLeadWell}
 use Rattle.sftp_handles.specs.State.{State, Good}
 use Rattle.sftp_handles.specs.Allowed.{Allowed}
 use Rattle.sftp_handles.proofs.GoodPaths.{ListingsFit, good-target}
 
 pub allowed-good : PathsLeadWell → (s : State) (request : Request) (reply : Reply) (end : State)
-    → ListingsFit s.tree → Good s → FitsAsk request.ask
+    → ListingsFit s.tree → Good s → IsAsk request.ask
     → Allowed s request reply end → Good end
 allowed-good paths-lead s request reply end lists good fit a = elim a.step [
   | inl r ↦ subst Good (sym r.unchanged) good

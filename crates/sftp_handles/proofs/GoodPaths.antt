@@ -11,7 +11,8 @@ use Rattle.sftp_wire.specs.declared.packets.Ask.{Ask}
 use Rattle.sftp_wire.specs.declared.packets.Ask.TheVariants.{Open, Opendir}
 use Rattle.sftp_wire.specs.declared.packets.Answer.{Answer}
 use Rattle.sftp_wire.specs.declared.packets.Answer.TheVariants as replies
-use Rattle.sftp_wire.specs.Spelling.{FitsAsk, handle_limit}
+use Rattle.sftp_wire.specs.Spelling.{handle_limit}
+use Rattle.sftp_tree.specs.AskValues.{IsAsk}
 use Rattle.sftp_path.specs.Place.{Place, bytes_cmp, place_cmp}
 use Rattle.sftp_path.specs.Table.{size}
 use Rattle.sftp_path.proofs.Order.{bytes_cmp-same, place_cmp-same, place_cmp-total}
@@ -56,7 +57,7 @@ not-open (Some it) is = absurd cc
 
 -- ---- nothing is opened
 
-module _ (paths-lead : PathsLeadWell) (s : State) (ask : Ask) (good : Good s) (fit : FitsAsk ask)
+module _ (paths-lead : PathsLeadWell) (s : State) (ask : Ask) (good : Good s) (fit : IsAsk ask)
     (free : IsFree s.tree ask) where
   stands : Stands (outcome s.tree ask)
   stands = outcome-stands paths-lead s.tree ask good.tree.well_formed good.tree.within_limits fit free
@@ -126,7 +127,7 @@ exist-with_pin files pins m here others number pinned =
         others number (ap (nat_lt 0) none ∙ more)
 
 module _ (paths-lead : PathsLeadWell) (s : State) (path : List ℕ) (pflags : ℕ) (attrs : Attrs) (good : Good s)
-    (fit : FitsAsk (Open path pflags attrs))
+    (fit : IsAsk (Open path pflags attrs))
     (free : is_none (with_handle_room s (paths.causes s.tree (Open path pflags attrs))) ≡ true) where
   abbrev ask : Ask
   ask = Open path pflags attrs
@@ -187,7 +188,7 @@ ListingsFit t = (place : Place) → IsLeft (listing t place)
 
 module _ (paths-lead : PathsLeadWell) (s : State) (listings-fit : ListingsFit s.tree) (path : List ℕ)
     (good : Good s)
-    (fit : FitsAsk (Opendir path))
+    (fit : IsAsk (Opendir path))
     (free : is_none (with_handle_room s (paths.causes s.tree (Opendir path))) ≡ true) where
   abbrev list_ask : Ask
   list_ask = Opendir path
@@ -241,7 +242,7 @@ with-none : (s : State) (o : Option Opened) (answer : Answer) → o ≡ None →
 with-none s None answer is = refl
 with-none s (Some it) answer is = absurd cc
 
-good-other : PathsLeadWell → (s : State) (ask : Ask) (answer : Answer) → Good s → FitsAsk ask → IsFree s.tree ask
+good-other : PathsLeadWell → (s : State) (ask : Ask) (answer : Answer) → Good s → IsAsk ask → IsFree s.tree ask
     → ((place : Place) → opened_by (flags_of ask) (told_at s.tree ask place) ≡ None)
     → Good (settled (outcome s.tree ask) (with_new s.handles (opened_by (flags_of ask) (told_to s.tree ask)) answer))
 unfolding told_to
@@ -252,7 +253,7 @@ good-other paths-lead s ask answer good fit free none =
     (good-plain paths-lead s ask good fit free)
 
 pub good-target : PathsLeadWell → (s : State) (ask : Ask) (answer : Answer)
-    → ListingsFit s.tree → Good s → FitsAsk ask
+    → ListingsFit s.tree → Good s → IsAsk ask
     → is_none (causes s ask) ≡ true → answers s ask answer ≡ true → Good (target s ask answer)
 unfolding causes answers target
 good-target paths-lead s (Open path pflags attrs) answer lists good fit free answered =

@@ -8,7 +8,7 @@ use Rattle.sftp_wire.specs.declared.open_flags.OpenFlags.{OpenFlags}
 use Rattle.sftp_wire.specs.declared.packets.Ask.{Ask}
 use Rattle.sftp_wire.specs.declared.packets.Ask.TheVariants.{Write, Fsetstat}
 use Rattle.sftp_wire.specs.declared.packets.Answer.{Answer}
-use Rattle.sftp_wire.specs.Spelling.{FitsAsk}
+use Rattle.sftp_tree.specs.AskValues.{IsAsk}
 use Rattle.sftp_path.specs.Place.{bytes_cmp}
 use Rattle.sftp_path.proofs.Order.{bytes_cmp-same}
 use Rattle.sftp_treefile.specs.declared.limits.TreeLimits.{TreeLimits}
@@ -57,16 +57,16 @@ written-bytes false offset new bytes fit h =
     (bytes-dropped (offset + length new) bytes h)
 
 -- what comes after a request is the content of a file
-next-content : (ask : Ask) (flags : OpenFlags) (before next : Content) → FitsAsk ask → IsContent before
+next-content : (ask : Ask) (flags : OpenFlags) (before next : Content) → IsAsk ask → IsContent before
     → (row_of ask).content flags before ≡ Some next → IsContent next
 next-content (Write handle offset bytes) flags before next fit is e =
     subst IsContent (same_Some (written_content (start_of flags offset before) bytes before) next e) (
       is.0,
       written-bytes (length bytes == 0) (start_of flags offset before) bytes before.bytes
-          (bytes-fit bytes fit.2.bytes_fit) is.1,
+          (bytes-fit bytes fit) is.1,
     )
 next-content (Fsetstat handle attrs) flags before next fit is e =
-    subst IsContent (same_Some (changed_content attrs before) next e) (changed-content-fits attrs before fit.1 is)
+    subst IsContent (same_Some (changed_content attrs before) next e) (changed-content-fits attrs before fit is)
 next-content other flags before next fit is e = absurd cc
 
 -- ---- where no cause holds
@@ -93,7 +93,7 @@ room-left bounds set next free = (room-of set (content_fits bounds next) free).1
 
 -- ---- a request through a handle
 
-module _ (s : State) (ask : Ask) (handle : List ℕ) (answer : Answer) (good : Good s) (fit : FitsAsk ask) where
+module _ (s : State) (ask : Ask) (handle : List ℕ) (answer : Answer) (good : Good s) (fit : IsAsk ask) where
   of-file : (number : ℕ) (flags : OpenFlags) (before : Content) (next : Option Content)
       → (row_of ask).content flags before ≡ next → content_at s.tree.files number ≡ Some before
       → is_none (with_file_room (limits s.tree) ((row_of ask).refused flags) next) ≡ true

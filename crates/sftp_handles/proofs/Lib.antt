@@ -18,6 +18,7 @@ pub mod OpenChanges
 pub mod StillAnswers
 pub mod OtherAnswers
 pub mod Opened
+pub mod HandleReplies
 pub mod Swaps
 pub mod Ends
 pub mod GivenNames
@@ -27,4 +28,4 @@ pub mod HandleRoom
 pub mod NewHandles
 pub mod TotalSteps
 pub mod NameReplies
-pub mod HandleReplies
+pub mod OpenReplies

@@ -1,6 +1,7 @@
 -- READDIR: the reply that gives the first names of a listing, and the reply that there are no more.
 use Rattle.std.proofs.Common.{◌≡◌, ◌==◌, nat_lt, ℕ, zero, suc, ◌+◌, ◌*◌, ◌^◌, ◌<◌, ◌≤◌, Bool, true, false, List}
-use Rattle.std.proofs.Common.{[], ◌∷◌, ◌++◌, length, take, Option, Some, None, refl, sym, ap, subst, ◌∙◌, arith, IsTrue, lit<, inl, inr}
+use Rattle.std.proofs.Common.{[], ◌∷◌, ◌++◌, length, take, Option, Some, None, refl, sym, ap, subst, ◌∙◌, arith}
+use Rattle.std.proofs.Common.{IsTrue, lit<, inl, inr}
 use Rattle.std.specs.List.{AllByRecursion, flat_map}
 use Rattle.std.proofs.lemmas.Bool.{both_ways, eqb-true, lt-ltb}
 use Rattle.std.proofs.lemmas.List.{length-append, length-map}
@@ -157,7 +158,8 @@ module _ (s : State) (handle : List ℕ) (good : Good s) where
         subst (λ (xs : List NameItem). are_some_left left xs ≡ true) (sym first)
             (first-some names_in_reply left is_left
             (ap (λ (xs : List NameItem). nat_lt 0 (length xs)) (sym first) ∙ some)),
-        subst (λ (xs : List NameItem). IsSpelledAnswer (replies.Name xs)) (sym first) (first-spelled left is_left.items),
+        subst (λ (xs : List NameItem). IsSpelledAnswer (replies.Name xs)) (sym first)
+            (first-spelled left is_left.items),
       )
 
   -- its names are given

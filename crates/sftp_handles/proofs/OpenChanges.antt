@@ -42,7 +42,7 @@ use Rattle.sftp_handles.specs.Found.{found_file, with_room}
 use Rattle.sftp_handles.specs.Judged.{IsDone, IsRefusal}
 use Rattle.sftp_handles.proofs.Pins.{pins-times, pins-close_file, pins-close_listing}
 use Rattle.sftp_handles.proofs.NewStates.{state_of}
-use Rattle.sftp_handles.proofs.GoodStates.{good-settled}
+use Rattle.sftp_handles.proofs.GoodStates.{good-settled, good-closed}
 use Rattle.sftp_handles.proofs.SeenCauses.{seen-found, write-found, set-found, write-room, set-room}
 use Rattle.sftp_handles.proofs.SeenAnswers.{none-free, cause-holds, open-for}
 
@@ -278,7 +278,7 @@ open-pinned s handle number flags good there =
 module _ (s : State) (handle : List ℕ) (handles : Handles) (closed : handles ≡ without_open s.handles handle)
     (good : Good s) where
   -- its pin goes with the handle of a file
-  pub file-closed : (number : ℕ) (flags : OpenFlags) (t : Tree)
+  file-closed : (number : ℕ) (flags : OpenFlags) (t : Tree)
       → open_at s.handles handle ≡ Some (File number flags) → t ≡ after_unpin s.tree number
       → state_of t handles ≡ settled s.tree (without_open s.handles handle)
   unfolding with_pins_of
@@ -288,7 +288,7 @@ module _ (s : State) (handle : List ℕ) (handles : Handles) (closed : handles �
       (ap (λ pins. without_pin pins number) good.pinned ∙ sym (pins-close_file s.handles handle number flags there))
 
   -- a listing has none
-  pub listing-closed : (left : Left) → open_at s.handles handle ≡ Some (Listing left)
+  listing-closed : (left : Left) → open_at s.handles handle ≡ Some (Listing left)
       → state_of s.tree handles ≡ settled s.tree (without_open s.handles handle)
   listing-closed left there =
       ap (state_of s.tree) closed
@@ -296,7 +296,23 @@ module _ (s : State) (handle : List ℕ) (handles : Handles) (closed : handles �
       (settled-already s.tree (without_open s.handles handle) good.tree
       (good.pinned ∙ sym (pins-close_listing s.handles handle left there)))
 
-  -- nor has what is not open
+  -- whatever was open
+  pub it-closed : (it : Open) (t : Tree) → open_at s.handles handle ≡ Some it
+      → ((number : ℕ) (flags : OpenFlags) → it ≡ File number flags → t ≡ after_unpin s.tree number)
+      → ((left : Left) → it ≡ Listing left → t ≡ s.tree)
+      → state_of t handles ≡ settled s.tree (without_open s.handles handle)
+  it-closed (File number flags) t there of_file of_listing =
+      file-closed number flags t there (of_file number flags refl)
+  it-closed (Listing left) t there of_file of_listing =
+      ap (λ t. state_of t handles) (of_listing left refl) ∙ listing-closed left there
+
+  pub good-it_closed : (it : Open) (t : Tree) → open_at s.handles handle ≡ Some it
+      → ((number : ℕ) (flags : OpenFlags) → it ≡ File number flags → t ≡ after_unpin s.tree number)
+      → ((left : Left) → it ≡ Listing left → t ≡ s.tree) → Good (state_of t handles)
+  good-it_closed it t there of_file of_listing =
+      subst Good (sym (it-closed it t there of_file of_listing)) (good-closed s handle it good there)
+
+  -- nothing was open
   pub nothing-closed : open_at s.handles handle ≡ None → state_of s.tree handles ≡ s
   nothing-closed absent = ap (state_of s.tree) (closed ∙ without-absent bytes_cmp s.handles handle absent)
 

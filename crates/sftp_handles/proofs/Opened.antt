@@ -1,9 +1,9 @@
 -- What is opened under a new handle: the state after it, that it is good, and which steps it makes.
 use Rattle.std.proofs.Common.{◌≡◌, ◌==◌, ◌&&◌, ◌||◌, not, nat_lt, nat_le, ℕ, ◌+◌, ◌<◌, ◌≤◌, ◌^◌, Bool, true, false}
-use Rattle.std.proofs.Common.{cond, if◌then◌else◌, List, [], ◌∷◌, length, Option, Some, None, Result, Ok, Err, is_some}
-use Rattle.std.proofs.Common.{refl, sym, ap, subst, ◌∙◌, IsTrue, IfOk, arith, leb-true}
+use Rattle.std.proofs.Common.{cond, List, [], ◌∷◌, length, Option, Some, None, Result, Ok, Err, is_some, refl, sym, ap}
+use Rattle.std.proofs.Common.{subst, ◌∙◌, IfOk, arith, leb-true}
 use Rattle.std.specs.Ordering.{is_eq}
-use Rattle.std.specs.List.{AllByRecursion, filter}
+use Rattle.std.specs.List.{filter}
 use Rattle.std.specs.Cmp.{Equal-is}
 use Rattle.std.specs.Cmp.Lexicographic.{nat_list_cmp_total, nat_list_eq_equiv, texts_ties}
 use Rattle.std.proofs.Math.Bool.{and-false}
@@ -14,13 +14,13 @@ use Rattle.sftp_wire.specs.declared.open_flags.OpenFlags.{OpenFlags}
 use Rattle.sftp_wire.specs.declared.packets.Ask.{Ask}
 use Rattle.sftp_wire.specs.declared.packets.Ask.TheVariants as asks
 use Rattle.sftp_wire.specs.declared.packets.Answer.TheVariants as replies
-use Rattle.sftp_wire.specs.Spelling.{handle_limit, asked_handle}
-use Rattle.sftp_path.specs.Place.{Name, Place, bytes_cmp, place_cmp}
+use Rattle.sftp_wire.specs.Spelling.{handle_limit}
+use Rattle.sftp_path.specs.Place.{Place, bytes_cmp, place_cmp}
 use Rattle.sftp_path.specs.Table.{InOrder, size, retain}
 use Rattle.sftp_path.proofs.Order.{bytes_cmp-same, place_cmp-same}
 use Rattle.sftp_path.proofs.Table.Counts.{one_if}
-use Rattle.sftp_path.proofs.Table.Laws.{InOrder-put, InOrder-without, get-put, get-put_here, get-without}
-use Rattle.sftp_path.proofs.Table.Laws.{size-put, same_table}
+use Rattle.sftp_path.proofs.Table.Laws.{InOrder-put, InOrder-without, get-put, get-put_here, get-without, size-put}
+use Rattle.sftp_path.proofs.Table.Laws.{same_table}
 use Rattle.sftp_treefile.specs.declared.limits.TreeLimits.{TreeLimits}
 use Rattle.sftp_tree.specs.declared.causes.Cause.{Cause}
 use Rattle.sftp_tree.specs.declared.causes.Cause.TheVariants.{NoRoom}
@@ -34,8 +34,8 @@ use Rattle.sftp_tree.specs.FileChanges.{after_pin}
 use Rattle.sftp_tree.specs.Listings.{listing}
 use Rattle.sftp_tree.specs.Causes.{CauseSet, is_none, when, only}
 use Rattle.sftp_tree.specs.Requests as paths
-use Rattle.sftp_tree.specs.Requests.{Told, done, attributes, name, file, listed, led, led_to, told_at, outcome, after}
-use Rattle.sftp_tree.specs.Requests.{number_at, number_of, names_of, file_to, listing_to, outcome_led, new_led}
+use Rattle.sftp_tree.specs.Requests.{done, file, listed, led, led_to, told_at, outcome, after, number_of, names_of}
+use Rattle.sftp_tree.specs.Requests.{file_to, listing_to, outcome_led, new_led}
 use Rattle.sftp_tree.proofs.CauseLaws.Places.{outcome-is}
 use Rattle.sftp_tree.proofs.CauseLaws.Sets.{none-each, each-none}
 use Rattle.sftp_tree.proofs.KeptTrees.Files.{pins-stay, limits-stay}
@@ -43,20 +43,15 @@ use Rattle.sftp_tree.proofs.KeptTrees.Trims.{named-there, trimmed-already}
 use Rattle.sftp_tree.proofs.PlaceTables.Each.{each-get, each-put}
 use Rattle.sftp_handles.specs.declared.opens.Open.{Open}
 use Rattle.sftp_handles.specs.declared.opens.Open.TheVariants.{File, Listing}
-use Rattle.sftp_handles.specs.declared.not_opened.NotOpened.{NotOpened}
-use Rattle.sftp_handles.specs.declared.not_opened.NotOpened.TheVariants as failures
 use Rattle.sftp_handles.specs.Handles.{Left, Handles, open_at, with_open, without_open, is_open, pins_of, times_open}
 use Rattle.sftp_handles.specs.Handles.{opens_file, kept_flags}
-use Rattle.sftp_handles.specs.State.{State, Good, settled, IsOpen, IsHandle, IsLeft, has_handle_left, handles_fit}
-use Rattle.sftp_handles.specs.Replies.{Said, is_new_handle, says, refuses}
+use Rattle.sftp_handles.specs.State.{State, Good, settled, IsOpen, IsHandle, IsLeft, has_handle_left}
+use Rattle.sftp_handles.specs.Replies.{is_new_handle, says}
 use Rattle.sftp_handles.specs.Requests.{causes, answers, target, said_by, told_to, opened_by, with_new}
-use Rattle.sftp_handles.specs.Allowed.{Does, step, stepped}
-use Rattle.sftp_handles.specs.Judged.{IsJudged, IsRefusal}
-use Rattle.sftp_handles.specs.Opening.{IsNotOpened}
+use Rattle.sftp_handles.specs.Allowed.{Does}
+use Rattle.sftp_handles.specs.Judged.{IsRefusal}
 use Rattle.sftp_handles.proofs.Pins.{pin-times, pins-times, pins-open_file, pins-open_listing}
-use Rattle.sftp_handles.proofs.Steps.{done-step}
 use Rattle.sftp_handles.proofs.NewStates.{state_of}
-use Rattle.sftp_handles.proofs.GoodSteps.{room-of}
 use Rattle.sftp_handles.proofs.GoodPaths.{opened-named}
 use Rattle.sftp_handles.proofs.FirstListings.{listing-fits}
 
@@ -169,7 +164,8 @@ module _ (t : Tree) (path : List ℕ) (pflags : ℕ) (attrs : Attrs) (n : ℕ) w
   unfolding file_to told_to
   told-file = by (led t open_ask)
     where
-      by : (end : Option (Result Place Cause)) → led_to None end (λ place. number_of (told_at t open_ask place)) ≡ Some n
+      by : (end : Option (Result Place Cause))
+          → led_to None end (λ place. number_of (told_at t open_ask place)) ≡ Some n
           → led_to done end (told_at t open_ask) ≡ file (Some n)
       by None is = absurd cc
       by (Some (Err cause)) is = absurd cc
@@ -312,7 +308,8 @@ module _ (t : Tree) (path : List ℕ) where
   unfolding listing_to told_to
   told-listing left = by (led t list_ask)
     where
-      by : (end : Option (Result Place Cause)) → led_to None end (λ place. names_of (told_at t list_ask place)) ≡ Some left
+      by : (end : Option (Result Place Cause))
+          → led_to None end (λ place. names_of (told_at t list_ask place)) ≡ Some left
           → led_to done end (told_at t list_ask) ≡ listed left
       by None is = absurd cc
       by (Some (Err cause)) is = absurd cc
@@ -323,7 +320,8 @@ module _ (t : Tree) (path : List ℕ) where
   unfolding listing_to
   left-fits left kept = by (led t list_ask)
     where
-      by : (end : Option (Result Place Cause)) → led_to None end (λ place. names_of (told_at t list_ask place)) ≡ Some left
+      by : (end : Option (Result Place Cause))
+          → led_to None end (λ place. names_of (told_at t list_ask place)) ≡ Some left
           → IsLeft left
       by None is = absurd cc
       by (Some (Err cause)) is = absurd cc
@@ -449,29 +447,6 @@ module _ (s listed : State) (handle : List ℕ) (left : Left) (good : Good s)
         subst (Does s (asks.Open path pflags attrs) (replies.Handle handle)) (sym end-is)
         (does-file s path pflags attrs n handle good opens short absent room
         (ap (λ t. is_none (paths.causes t (asks.Open path pflags attrs))) (sym tree_is) ∙ free))
-
--- ---- what a HANDLE answers
-
--- a handle that is too long, or one more than may be open, is no answer to a request that opens something
-without-room : (s : State) (set : CauseSet) → has_handle_left s ≡ false
-    → is_none (when set NoRoom (is_none set && not (has_handle_left s))) ≡ false
-without-room s set full = by (is_none (when set NoRoom (is_none set && not (has_handle_left s)))) refl
-  where
-    by : (b : Bool) → is_none (when set NoRoom (is_none set && not (has_handle_left s))) ≡ b
-        → is_none (when set NoRoom (is_none set && not (has_handle_left s))) ≡ false
-    by true none = absurd (let left = (room-of set (has_handle_left s) none).1 in cc)
-    by false some = some
-
--- a name that is not new answers nothing
-says-old : (s : State) (told : Told) (handle : List ℕ) → is_new_handle s.handles (replies.Handle handle) ≡ false
-    → says (said_by s.handles told) (replies.Handle handle) ≡ false
-says-old s done handle old = refl
-says-old s (attributes None) handle old = refl
-says-old s (attributes (Some shown)) handle old = refl
-says-old s (name None) handle old = refl
-says-old s (name (Some text)) handle old = refl
-says-old s (file number) handle old = old
-says-old s (listed left) handle old = old
 
 -- ---- OPENDIR, by what opening the listing returned
 

@@ -1,6 +1,8 @@
 -- Why nothing is opened. Words of private contracts.
-use Rattle.std.specs.Prelude.{ℕ, List, IsTrue}
+use Rattle.std.specs.Prelude.{ℕ, Bool, false, List, Result, Ok, Err, IsTrue}
 use Rattle.sftp_wire.specs.declared.packets.Ask.{Ask}
+use Rattle.sftp_path.specs.declared.errors.NoMemory.{NoMemory}
+use Rattle.sftp_tree.specs.declared.causes.Refused.TheVariants as refusals
 use Rattle.sftp_handles.specs.declared.not_opened.NotOpened.{NotOpened}
 use Rattle.sftp_handles.specs.declared.not_opened.NotOpened.TheVariants.{Taken, Refused}
 use Rattle.sftp_handles.specs.Handles.{is_open}
@@ -11,3 +13,9 @@ use Rattle.sftp_handles.specs.Judged.{IsRefusal}
 abbrev pub IsNotOpened : State → Ask → List ℕ → NotOpened → Type 0
 IsNotOpened s ask want Taken = IsTrue (is_open s.handles want)
 IsNotOpened s ask want (Refused refused) = IsRefusal s ask refused
+
+-- what that says of a HANDLE: it is not allowed, but where memory ran out nothing is known
+abbrev pub not_opened : NotOpened → Result Bool NoMemory
+not_opened Taken = Ok false
+not_opened (Refused (refusals.Cause cause)) = Ok false
+not_opened (Refused refusals.NoMemory) = Err (record {})

@@ -1,6 +1,11 @@
 //! What requests change in open files, and CLOSE (draft, sections 6.3, 6.4 and 6.9; OpenSSH's PROTOCOL, section 4.6).
-ghost use Rattle.std.specs.Prelude.{◌≡◌, IsTrue, IfErr, OnOk, OnErr};
+ghost use Rattle.std.specs.Prelude.{◌≡◌, ℕ, IsTrue, IfErr, OnOk, OnErr};
 ghost use Rattle.sftp_wire.specs.declared.packets.Ask.TheVariants.{Close, Write, Fsetstat, Fsync};
+ghost use Rattle.sftp_wire.specs.declared.open_flags.OpenFlags.{OpenFlags};
+ghost use Rattle.sftp_tree.specs.Tree.{is_pinned};
+ghost use Rattle.sftp_tree.specs.FileChanges.{after_unpin};
+ghost use Rattle.sftp_handles.specs.declared.opens.Open.TheVariants.{File, Listing};
+ghost use Rattle.sftp_handles.specs.Handles.{Left};
 ghost use Rattle.sftp_handles.specs.Requests.{causes};
 ghost use Rattle.sftp_handles.specs.Judged.{IsDone, IsRefusal};
 
@@ -9,7 +14,7 @@ use crate::handle_causes::cannot_resize;
 use crate::opens::Open;
 use crate::sessions::Session;
 use crate::tables::HandleTable;
-use sftp_tree::{Cause, Refused};
+use sftp_tree::{Cause, Refused, Tree};
 use sftp_wire::Attrs;
 
 impl<T: HandleTable> Session<T> {
@@ -25,10 +30,7 @@ impl<T: HandleTable> Session<T> {
     {
         match self.table.take(handle) {
             Some(it) => {
-                match &it {
-                    Open::File { file, .. } => self.tree.unpin(*file),
-                    Open::Listing { .. } => {}
-                }
+                unpin_closed(&mut self.tree, &it);
                 Ok(())
             }
             None => Err(Cause::BadHandle),
@@ -95,10 +97,22 @@ impl<T: HandleTable> Session<T> {
         ensures done { OnOk result (IsDone self.now (Fsync handle.now) self.now) }
         ensures refused { IfErr result (λ cause. IsTrue (causes self.now (Fsync handle.now) cause)) }
     {
-        let _ = &self.tree;
         match self.file_at(handle) {
             Ok(_) => Ok(()),
             Err(cause) => Err(cause),
         }
+    }
+}
+
+/// Takes away the pin of a file that was open. A listing has none.
+fn unpin_closed(tree: &mut Tree, it: &Open)
+    requires { (number : ℕ) (flags : OpenFlags) → it.now ≡ File number flags → IsTrue (is_pinned tree.old.pins number) }
+    ensures file { (number : ℕ) (flags : OpenFlags) → it.now ≡ File number flags →
+        tree.new ≡ after_unpin tree.old number }
+    ensures listing { (left : Left) → it.now ≡ Listing left → tree.new ≡ tree.old }
+{
+    match it {
+        Open::File { file, .. } => tree.unpin(*file),
+        Open::Listing { .. } => {}
     }
 }

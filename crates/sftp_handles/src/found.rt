@@ -1,7 +1,8 @@
 //! What requests find under their handles.
-ghost use Rattle.std.specs.Prelude.{◌≡◌, IfOk};
+ghost use Rattle.std.specs.Prelude.{◌≡◌, IfOk, OnOk};
 ghost use Rattle.sftp_tree.specs.Tree.{HasFile};
 ghost use Rattle.sftp_tree.specs.OpenFlags as flags_of;
+ghost use Rattle.sftp_handles.specs.State.{Good};
 ghost use Rattle.sftp_handles.specs.Handles.{open_at};
 ghost use Rattle.sftp_handles.specs.Found.{found_file};
 
@@ -21,6 +22,7 @@ impl<T: HandleTable> Session<T> {
     pub(crate) fn file_at(&self, handle: &[u8]) -> Result<(FileNo, OpenFlags), Cause>
         ensures found { result ≡ found_file (open_at self.now.handles handle.now) }
         ensures there { IfOk result (λ f. HasFile self.now.tree.files f.0) }
+        ensures kept { OnOk result (Good self.now) }
     {
         match self.table.find(handle) {
             Some(Open::File { file, flags }) => Ok((*file, *flags)),

@@ -5,7 +5,8 @@ ghost use Rattle.sftp_wire.specs.declared.packets.Ask.{Ask};
 ghost use Rattle.sftp_wire.specs.declared.packets.Request.{Request};
 ghost use Rattle.sftp_wire.specs.declared.packets.Reply.{Reply};
 ghost use Rattle.sftp_wire.specs.declared.packets.Packet.TheVariants.{Request as request_packet};
-ghost use Rattle.sftp_wire.specs.Spelling.{FitsAsk, HasSpelling};
+ghost use Rattle.sftp_wire.specs.Spelling.{HasSpelling};
+ghost use Rattle.sftp_tree.specs.AskValues.{IsAsk};
 ghost use Rattle.sftp_tree.specs.declared.file_contents.Content.{Content};
 ghost use Rattle.sftp_tree.specs.declared.causes.Cause.TheVariants.{NoRoom};
 ghost use Rattle.sftp_tree.specs.Tree.{Tree, IsKept, HasFile, fits, limits, content_fits, with_content};
@@ -37,9 +38,10 @@ pub fn steps_decide()
         ↔ ((reply.id ≡ request.id) × (step s request.ask reply.answer ≡ Some end)) }
 {}
 
-/// A step from a good state leads to a good state, if the fields of the request fit their places on the wire.
+/// A step from a good state leads to a good state, if the bytes of the request are bytes and the numbers of an owner
+/// have 32 bits, as in every value of the code.
 pub fn good_stays_good()
-    ensures { (s : State) (request : Request) (reply : Reply) (end : State) → Good s → FitsAsk request.ask →
+    ensures { (s : State) (request : Request) (reply : Reply) (end : State) → Good s → IsAsk request.ask →
         Allowed s request reply end → Good end }
 {
     walks_give_places();

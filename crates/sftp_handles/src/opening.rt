@@ -10,7 +10,7 @@ ghost use Rattle.sftp_handles.specs.Handles as handles;
 ghost use Rattle.sftp_handles.specs.State.{IsLeft, has_handle_left};
 ghost use Rattle.sftp_handles.specs.Allowed.{Does};
 ghost use Rattle.sftp_handles.specs.Judged.{IsJudged};
-ghost use Rattle.sftp_handles.specs.Opening.{IsNotOpened};
+ghost use Rattle.sftp_handles.specs.Opening.{IsNotOpened, not_opened};
 
 use crate::first_listings::listing_of;
 use crate::listings::Listing;
@@ -73,7 +73,8 @@ impl<T: HandleTable> Session<T> {
     ) -> Result<Vec<u8>, NotOpened>
         requires short { length want.items ≤ handle_limit }
         requires room { IsTrue (has_handle_left self.old) }
-        ensures done { IfOk result (λ name. Does self.old (asks.Opendir path.now) (replies.Handle name.items) self.new) }
+        ensures done { IfOk result
+            (λ name. Does self.old (asks.Opendir path.now) (replies.Handle name.items) self.new) }
         ensures wanted { IfOk result (λ name. IsTrue T.takes_want → name.items ≡ want.items) }
         ensures failed { IfErr result (IsNotOpened self.old (asks.Opendir path.now) want.items) }
         ensures taken { IfErr result (λ e. e ≡ failures.Taken → IsTrue T.takes_want) }
@@ -122,6 +123,7 @@ impl<T: HandleTable> Session<T> {
     /// # Errors
     ///
     /// `NoMemory` if memory runs out; the session is then as before.
+    #[tactic(auto, using(crate::proofs::HandleReplies::other_handle))]
     pub(crate) fn judge_handle(&mut self, ask: &Ask, handle: &[u8]) -> Result<bool, NoMemory>
         requires { IsTrue T.takes_want }
         ensures ok { IfOk result (λ ok. IsJudged self.old ask.now (replies.Handle handle.now) ok self.new) }
@@ -134,26 +136,26 @@ impl<T: HandleTable> Session<T> {
                 attrs,
             } => self.judge_file(path.as_slice(), *pflags, attrs, handle),
             Ask::Opendir { path } => self.judge_directory(path.as_slice(), handle),
-            Ask::Close { .. } => Ok(false),
-            Ask::Read { .. } => Ok(false),
-            Ask::Write { .. } => Ok(false),
-            Ask::Fstat { .. } => Ok(false),
-            Ask::Fsetstat { .. } => Ok(false),
-            Ask::Readdir { .. } => Ok(false),
-            Ask::Fsync { .. } => Ok(false),
-            Ask::Unknown { .. } => Ok(false),
-            Ask::Lstat { .. } => Ok(false),
-            Ask::Setstat { .. } => Ok(false),
-            Ask::Remove { .. } => Ok(false),
-            Ask::Mkdir { .. } => Ok(false),
-            Ask::Rmdir { .. } => Ok(false),
-            Ask::Realpath { .. } => Ok(false),
-            Ask::Stat { .. } => Ok(false),
-            Ask::Rename { .. } => Ok(false),
-            Ask::Readlink { .. } => Ok(false),
-            Ask::Symlink { .. } => Ok(false),
-            Ask::PosixRename { .. } => Ok(false),
-            Ask::Hardlink { .. } => Ok(false),
+            Ask::Close { .. }
+            | Ask::Read { .. }
+            | Ask::Write { .. }
+            | Ask::Lstat { .. }
+            | Ask::Fstat { .. }
+            | Ask::Setstat { .. }
+            | Ask::Fsetstat { .. }
+            | Ask::Readdir { .. }
+            | Ask::Remove { .. }
+            | Ask::Mkdir { .. }
+            | Ask::Rmdir { .. }
+            | Ask::Realpath { .. }
+            | Ask::Stat { .. }
+            | Ask::Rename { .. }
+            | Ask::Readlink { .. }
+            | Ask::Symlink { .. }
+            | Ask::PosixRename { .. }
+            | Ask::Hardlink { .. }
+            | Ask::Fsync { .. }
+            | Ask::Unknown { .. } => Ok(false),
         }
     }
 
@@ -179,10 +181,8 @@ impl<T: HandleTable> Session<T> {
         }
         let want = Vec::from_slice(self.tree.allocator(), handle)?;
         match self.open_file(path, pflags, attrs, want) {
-            Ok(_) => Ok(true),
-            Err(NotOpened::Taken) => Ok(false),
-            Err(NotOpened::Refused(Refused::Cause(_))) => Ok(false),
-            Err(NotOpened::Refused(Refused::NoMemory)) => Err(NoMemory),
+            Ok(_name) => Ok(true),
+            Err(failed) => not_opened(failed),
         }
     }
 
@@ -202,10 +202,8 @@ impl<T: HandleTable> Session<T> {
         }
         let want = Vec::from_slice(self.tree.allocator(), handle)?;
         match self.open_directory(path, want) {
-            Ok(_) => Ok(true),
-            Err(NotOpened::Taken) => Ok(false),
-            Err(NotOpened::Refused(Refused::Cause(_))) => Ok(false),
-            Err(NotOpened::Refused(Refused::NoMemory)) => Err(NoMemory),
+            Ok(_name) => Ok(true),
+            Err(failed) => not_opened(failed),
         }
     }
 
@@ -214,6 +212,21 @@ impl<T: HandleTable> Session<T> {
         ensures { result ≡ (nat_le (length handle.now) handle_limit && has_handle_left self.now) }
     {
         handle.len() <= HANDLE_LIMIT && self.has_handle_left()
+    }
+}
+
+/// Says that nothing was opened.
+///
+/// # Errors
+///
+/// `NoMemory` if that is since memory ran out.
+fn not_opened(failed: NotOpened) -> Result<bool, NoMemory>
+    ensures { result ≡ not_opened failed }
+{
+    match failed {
+        NotOpened::Taken => Ok(false),
+        NotOpened::Refused(Refused::Cause(_)) => Ok(false),
+        NotOpened::Refused(Refused::NoMemory) => Err(NoMemory),
     }
 }
 

@@ -117,7 +117,9 @@ fn first_wrong<'a>(alloc: Global, sessions: &[Session<'a>]) -> Result<Option<&'a
 fn tables_of_sessions(rt: HostRuntime) -> Result<(), Fail> {
     for table in [
         files::SESSIONS,
-        handles::SESSIONS,
+        handles::FILE_SESSIONS,
+        handles::LISTING_SESSIONS,
+        handles::HANDLE_SESSIONS,
         links::SESSIONS,
         sessions::SESSIONS,
     ] {

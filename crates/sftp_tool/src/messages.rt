@@ -34,7 +34,7 @@ pub(crate) enum Failure<'a> {
     /// The tree file is malformed.
     #[error("sftpv3: tree: {0}")]
     Tree(TreeError),
-    /// The transcript is malformed, or has a request that cannot be judged yet.
+    /// The transcript is malformed.
     #[error("sftpv3: transcript: {0}")]
     Transcript(TranscriptError),
     /// The file with this name cannot be read.

@@ -29,8 +29,8 @@ const REMOVE_A: &[u8] = b"C\0\0\0\x0b\x0f\0\0\0\x03\0\0\0\x02/a";
 /// RMDIR of `/a` with a byte too many.
 const REMOVE_A_AND_MORE: &[u8] = b"C\0\0\0\x0c\x0f\0\0\0\x03\0\0\0\x02/a\0";
 
-/// OPENDIR of `/a`, which cannot be judged yet.
-const LIST_A: &[u8] = b"C\0\0\0\x0b\x0b\0\0\0\x01\0\0\0\x02/a";
+/// A STATUS from the client.
+const DONE_BY_CLIENT: &[u8] = b"C\0\0\0\x11\x65\0\0\0\x01\0\0\0\0\0\0\0\0\0\0\0\0";
 
 /// A DATA reply to the first request.
 const DATA: &[u8] = b"S\0\0\0\x0b\x67\0\0\0\x01\0\0\0\x02hi";
@@ -187,11 +187,11 @@ fn judges_a_dot_after_a_name(rt: HostRuntime) -> Result<(), Fail> {
 #[test]
 fn names_what_is_wrong_with_a_transcript(rt: HostRuntime) -> Result<(), Fail> {
     let cut = [&OPENING[..115]];
-    let listed = [OPENING, LIST_A];
+    let turned = [OPENING, DONE_BY_CLIENT];
     let trailing = [OPENING, REMOVE_A_AND_MORE];
     for session in [
         Session::malformed(&cut, "sftpv3: transcript: record 2: Truncated\n"),
-        Session::malformed(&listed, "sftpv3: transcript: record 3: Wire Type\n"),
+        Session::malformed(&turned, "sftpv3: transcript: record 3: Wire Type\n"),
         Session::malformed(&trailing, "sftpv3: transcript: record 3: Wire Trailing\n"),
     ] {
         assert!(rt;
@@ -210,7 +210,7 @@ fn names_what_is_wrong_with_a_tree(rt: HostRuntime) -> Result<(), Fail> {
     let order = "sftpv3: tree: entry 2: Order\n";
     for (tree, errors, transcript) in [
         (&BLANK[..36], short, OPENING),
-        (&BLANK[..36], short, LIST_A),
+        (&BLANK[..36], short, DONE_BY_CLIENT),
         (REPEATED, order, OPENING),
     ] {
         let parts = [transcript];

@@ -1,4 +1,5 @@
 pub mod Tree
+pub mod AskValues
 pub mod Nesting
 pub mod NestingSizes
 pub mod NodesBelow

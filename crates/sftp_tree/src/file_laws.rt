@@ -4,7 +4,7 @@ ghost use Rattle.std.specs.Prelude.{◌≡◌, ◌≢◌, ◌<◌, ◌+◌, ◌-
 ghost use Rattle.std.specs.Ordering.{nat_cmp};
 ghost use Rattle.sftp_wire.specs.declared.attributes.Attrs.{Attrs};
 ghost use Rattle.sftp_path.specs.Table.{InOrder};
-ghost use Rattle.sftp_wire.specs.Spelling.{FitsAttrs};
+ghost use Rattle.sftp_tree.specs.AskValues.{IsAttrs};
 ghost use Rattle.sftp_treefile.specs.TreeFile.{are_bytes};
 ghost use Rattle.sftp_tree.specs.Tree.{Tree, Pins, WellFormed, IsKept, HasFile, limits};
 ghost use Rattle.sftp_tree.specs.Tree.{times_pinned, is_pinned, with_pin, without_pin};
@@ -36,7 +36,7 @@ pub fn pins_are_one()
 pub fn open_files_keep()
     ensures write { (t : Tree) (number offset : ℕ) (new : List ℕ) → IsKept t → IsTrue (are_bytes new) →
         IsTrue (write_fits (limits t) offset new) → IsKept (after_write t number offset new) }
-    ensures set { (t : Tree) (number : ℕ) (attrs : Attrs) → IsKept t → FitsAttrs attrs → HasFile t.files number →
+    ensures set { (t : Tree) (number : ℕ) (attrs : Attrs) → IsKept t → IsAttrs attrs → HasFile t.files number →
         IsTrue (size_fits (limits t) attrs.size) → IsKept (after_set t number attrs) }
     ensures pin { (t : Tree) (number : ℕ) → IsKept t → HasFile t.files number → IsKept (after_pin t number) }
     ensures unpin { (t : Tree) (number : ℕ) → IsKept t → HasFile t.files number → IsKept (after_unpin t number) }

@@ -4,6 +4,7 @@ ghost use Rattle.std.specs.Prelude.{◌≡◌, ◌↔◌, ◌⊎◌, ◌<◌, �
 ghost use Rattle.std.specs.Prelude.{List, Some, None, Result, Ok, [], ◌∷◌, ◌++◌, true, false, IsTrue};
 ghost use Rattle.sftp_wire.specs.declared.packets.Ask.{Ask};
 ghost use Rattle.sftp_wire.specs.Spelling.{FitsAsk};
+ghost use Rattle.sftp_tree.specs.AskValues.{IsAsk};
 ghost use Rattle.sftp_path.specs.Place.{Name, Place, name_cmp, parent, are_names, is_good_path};
 ghost use Rattle.sftp_path.specs.Table.{InOrder, get};
 ghost use Rattle.sftp_treefile.specs.TreeFile.{are_bytes};
@@ -24,19 +25,24 @@ pub fn limits_stay()
     ensures after { (t : Tree) (ask : Ask) → limits (after t ask) ≡ limits t }
 {}
 
-/// A request that no cause refuses, and whose fields fit their places on the wire, leaves a tree within the limits.
+/// A request that no cause refuses leaves a tree within the limits, if its bytes are bytes and the numbers of an owner
+/// have 32 bits, as in every value of the code.
 pub fn steps_keep()
-    ensures { (t : Tree) (ask : Ask) → IsKept t → FitsAsk ask → IsFree t ask → IsKept (after t ask) }
+    ensures { (t : Tree) (ask : Ask) → IsKept t → IsAsk ask → IsFree t ask → IsKept (after t ask) }
 {
     walks_give_places();
 }
 
-/// The same for a tree with files that have no name and are not pinned: the request's change makes a tree within the
-/// limits.
+/// The bytes of a request that can be encoded are bytes, and its numbers have their bits.
+pub fn encoded_requests_are_values()
+    ensures { (ask : Ask) → FitsAsk ask → IsAsk ask }
+{}
+
+/// In a tree with files that have no name and are not pinned, too: the request's change makes a tree within the limits.
 pub fn outcomes_are_trees()
-    ensures tree { (t : Tree) (ask : Ask) → WellFormed t → IsTrue (fits t) → FitsAsk ask → IsFree t ask →
+    ensures tree { (t : Tree) (ask : Ask) → WellFormed t → IsTrue (fits t) → IsAsk ask → IsFree t ask →
         WellFormed (outcome t ask) }
-    ensures limits { (t : Tree) (ask : Ask) → WellFormed t → IsTrue (fits t) → FitsAsk ask → IsFree t ask →
+    ensures limits { (t : Tree) (ask : Ask) → WellFormed t → IsTrue (fits t) → IsAsk ask → IsFree t ask →
         IsTrue (fits (outcome t ask)) }
 {
     walks_give_places();

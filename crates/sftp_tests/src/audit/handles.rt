@@ -198,7 +198,7 @@ const OPEN_BAD: &[u8] = b"C\0\0\0\x12\x03\0\0\0\x01\0\0\0\x01f\0\0\0\x10\0\0\0\0
 
 const EXTENDED_X: &[u8] = b"C\0\0\0\x0c\xc8\0\0\0\x01\0\0\0\x01xab";
 
-pub(super) const SESSIONS: &[Session] = &[
+pub(super) const FILE_SESSIONS: &[Session] = &[
     // A file lives while it is open, and is gone once it is closed.
     (
         "removed while open",
@@ -346,6 +346,9 @@ pub(super) const SESSIONS: &[Session] = &[
         &[OPEN_BOTH, HANDLE_H, SET_PAST, DONE],
         Verdict::Refused(Refusal::NotAllowed { record: 6 }),
     ),
+];
+
+pub(super) const LISTING_SESSIONS: &[Session] = &[
     // READDIR gives the names of OPENDIR's moment in any order and any parts, each once, and then EOF.
     (
         "in parts",
@@ -408,6 +411,9 @@ pub(super) const SESSIONS: &[Session] = &[
         ],
         Verdict::Refused(Refusal::NotAllowed { record: 10 }),
     ),
+];
+
+pub(super) const HANDLE_SESSIONS: &[Session] = &[
     // Handles that are closed, and of the other kind.
     (
         "closed twice",

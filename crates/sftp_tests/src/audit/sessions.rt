@@ -185,7 +185,10 @@ const REMOVE_X_AGAIN: &[u8] = b"C\0\0\0\x0b\x0f\0\0\0\x02\0\0\0\x02/x";
 fn codes_that_answer_nothing(rt: HostRuntime) -> Result<(), Fail> {
     let unknown = Verdict::Refused(Refusal::UnknownReply { record: 4 });
     for code in 0..10_u8 {
-        assert!(rt; is_answered(rt.alloc(), REMOVE_X_AGAIN, code, &unknown)?, "code {code}");
+        assert!(rt;
+            is_answered(rt.alloc(), REMOVE_X_AGAIN, code, &unknown)?,
+            "code {code}"
+        );
     }
     Ok(())
 }

@@ -7,7 +7,7 @@ use Rattle.std.proofs.lemmas.Bool.{or_left, eqb-true}
 use Rattle.std.proofs.lemmas.Option.{same_Some}
 use Rattle.std.proofs.lemmas.Cmp.{nat_cmp_total}
 use Rattle.sftp_wire.specs.declared.attributes.Attrs.{Attrs}
-use Rattle.sftp_wire.specs.Spelling.{FitsAttrs}
+use Rattle.sftp_tree.specs.AskValues.{IsAttrs}
 use Rattle.sftp_wire.specs.Examples.{no_attributes}
 use Rattle.sftp_path.specs.Place.{Place, place_cmp, parent, are_names}
 use Rattle.sftp_path.proofs.Order.{place_cmp-total}
@@ -130,8 +130,8 @@ fits-new t place content kept absent new short =
 abbrev pub no_bytes : Attrs
 no_bytes = record no_attributes { size = Some 0 }
 
-pub no-bytes-fit : FitsAttrs no_bytes
-no-bytes-fit = record { size = lit< tt; owner = tt; permissions = tt; times = tt; extended = tt }
+pub no-bytes-fit : IsAttrs no_bytes
+no-bytes-fit = tt
 
 none-left : (n : ℕ) → 0 - n ≡ 0
 none-left n = omega arith

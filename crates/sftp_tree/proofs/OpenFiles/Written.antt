@@ -7,7 +7,7 @@ use Rattle.std.proofs.lemmas.Bool.Decides.{nat_tests}
 use Rattle.std.proofs.lemmas.List.{length-append, length-drop, take_at, drop_at}
 use Rattle.std.proofs.lemmas.List.Folds.{list_all-append}
 use Rattle.sftp_wire.specs.declared.attributes.Attrs.{Attrs}
-use Rattle.sftp_wire.specs.Spelling.{FitsAttrs}
+use Rattle.sftp_tree.specs.AskValues.{IsAttrs}
 use Rattle.sftp_treefile.specs.declared.limits.TreeLimits.{TreeLimits}
 use Rattle.sftp_treefile.specs.TreeFile.{are_bytes}
 use Rattle.sftp_tree.specs.declared.file_contents.Content.{Content}
@@ -103,7 +103,7 @@ kept-write t number offset new kept fit room = by (content_at t.files number) re
         (before.0, written-bytes offset new content.bytes fit before.1) within
 
 -- after an FSETSTAT that the limits allow a tree is one of the program
-pub kept-set : (t : Tree) (number : ℕ) (attrs : Attrs) → IsKept t → FitsAttrs attrs → HasFile t.files number
+pub kept-set : (t : Tree) (number : ℕ) (attrs : Attrs) → IsKept t → IsAttrs attrs → HasFile t.files number
     → IsTrue (size_fits (limits t) attrs.size) → IsKept (after_set t number attrs)
 kept-set t number attrs kept fits there room =
     kept-changed t attrs number kept

@@ -9,7 +9,7 @@ use Rattle.sftp_wire.specs.declared.attributes.Attrs.{Attrs}
 use Rattle.sftp_wire.specs.declared.packets.Ask.{Ask}
 use Rattle.sftp_wire.specs.declared.packets.Ask.TheVariants.{Lstat, Setstat, Remove, Mkdir, Rmdir, Realpath, Stat, Rename, Readlink, Symlink, PosixRename, Hardlink}
 use Rattle.sftp_wire.specs.declared.packets.Ask.TheVariants.{Open, Opendir}
-use Rattle.sftp_wire.specs.Spelling.{FitsAttrs, FitsAsk}
+use Rattle.sftp_tree.specs.AskValues.{IsAttrs, IsAsk}
 use Rattle.sftp_path.specs.Place.{Place, place_cmp, parent, are_names}
 use Rattle.sftp_path.specs.Rekeying.{NothingFrom}
 use Rattle.sftp_path.proofs.Order.{place_cmp-same}
@@ -58,34 +58,34 @@ led-well t follow (Some path) place well bytes is =
     let one : reached t follow path ≡ Ok place = cc in
     well follow path place bytes one
 
-path-bytes : (ask : Ask) → FitsAsk ask → IfSome (path_of ask) (λ path. IsTrue (are_bytes path))
-path-bytes (Mkdir path attrs) fits = bytes-fit path fits.0.bytes_fit
-path-bytes (Rmdir path) fits = bytes-fit path fits.bytes_fit
-path-bytes (Remove path) fits = bytes-fit path fits.bytes_fit
-path-bytes (Setstat path attrs) fits = bytes-fit path fits.0.bytes_fit
-path-bytes (Stat path) fits = bytes-fit path fits.bytes_fit
-path-bytes (Lstat path) fits = bytes-fit path fits.bytes_fit
-path-bytes (Realpath path) fits = bytes-fit path fits.bytes_fit
-path-bytes (Readlink path) fits = bytes-fit path fits.bytes_fit
-path-bytes (Symlink target link) fits = bytes-fit link fits.1.bytes_fit
-path-bytes (Rename oldpath newpath) fits = bytes-fit oldpath fits.0.bytes_fit
-path-bytes (PosixRename oldpath newpath) fits = bytes-fit oldpath fits.0.bytes_fit
-path-bytes (Hardlink oldpath newpath) fits = bytes-fit oldpath fits.0.bytes_fit
-path-bytes (Open path flags attrs) fits = bytes-fit path fits.0.bytes_fit
-path-bytes (Opendir path) fits = bytes-fit path fits.bytes_fit
+path-bytes : (ask : Ask) → IsAsk ask → IfSome (path_of ask) (λ path. IsTrue (are_bytes path))
+path-bytes (Mkdir path attrs) fits = bytes-fit path fits.0
+path-bytes (Rmdir path) fits = bytes-fit path fits
+path-bytes (Remove path) fits = bytes-fit path fits
+path-bytes (Setstat path attrs) fits = bytes-fit path fits.0
+path-bytes (Stat path) fits = bytes-fit path fits
+path-bytes (Lstat path) fits = bytes-fit path fits
+path-bytes (Realpath path) fits = bytes-fit path fits
+path-bytes (Readlink path) fits = bytes-fit path fits
+path-bytes (Symlink target link) fits = bytes-fit link fits.1
+path-bytes (Rename oldpath newpath) fits = bytes-fit oldpath fits.0
+path-bytes (PosixRename oldpath newpath) fits = bytes-fit oldpath fits.0
+path-bytes (Hardlink oldpath newpath) fits = bytes-fit oldpath fits.0
+path-bytes (Open path flags attrs) fits = bytes-fit path fits.0
+path-bytes (Opendir path) fits = bytes-fit path fits
 path-bytes other fits = tt
 
-new-path-bytes : (ask : Ask) → FitsAsk ask → IfSome (new_path_of ask) (λ path. IsTrue (are_bytes path))
-new-path-bytes (Rename oldpath newpath) fits = bytes-fit newpath fits.1.bytes_fit
-new-path-bytes (PosixRename oldpath newpath) fits = bytes-fit newpath fits.1.bytes_fit
-new-path-bytes (Hardlink oldpath newpath) fits = bytes-fit newpath fits.1.bytes_fit
+new-path-bytes : (ask : Ask) → IsAsk ask → IfSome (new_path_of ask) (λ path. IsTrue (are_bytes path))
+new-path-bytes (Rename oldpath newpath) fits = bytes-fit newpath fits.1
+new-path-bytes (PosixRename oldpath newpath) fits = bytes-fit newpath fits.1
+new-path-bytes (Hardlink oldpath newpath) fits = bytes-fit newpath fits.1
 new-path-bytes other fits = tt
 
-place-led : (t : Tree) (ask : Ask) (place : Place) → LeadsWell t → FitsAsk ask → led t ask ≡ Some (Ok place) → Led t place
+place-led : (t : Tree) (ask : Ask) (place : Place) → LeadsWell t → IsAsk ask → led t ask ≡ Some (Ok place) → Led t place
 unfolding led
 place-led t ask place well fits is = led-well t (follows ask) (path_of ask) place well (path-bytes ask fits) is
 
-new-place-led : (t : Tree) (ask : Ask) (place : Place) → LeadsWell t → FitsAsk ask → new_led t ask ≡ Some (Ok place) → Led t place
+new-place-led : (t : Tree) (ask : Ask) (place : Place) → LeadsWell t → IsAsk ask → new_led t ask ≡ Some (Ok place) → Led t place
 new-place-led t ask place well fits is = led-well t false (new_path_of ask) place well (new-path-bytes ask fits) is
 
 -- ---- the node at a place
@@ -117,13 +117,13 @@ well-without : (t : Tree) (place : Place) → WellFormed t → is_root place ≡
 well-without t place well apart empty =
     well-formed-names t (without_node t.names place) well (names-without t.files t.names place (names-of t well) apart empty)
 
-well-file : (t : Tree) (attrs : Attrs) (number : ℕ) (o : Option Content) → content_at t.files number ≡ o → WellFormed t → FitsAttrs attrs → WellFormed (with_changed_file t attrs number o)
+well-file : (t : Tree) (attrs : Attrs) (number : ℕ) (o : Option Content) → content_at t.files number ≡ o → WellFormed t → IsAttrs attrs → WellFormed (with_changed_file t attrs number o)
 well-file t attrs number None is well fits = well
 well-file t attrs number (Some content) is well fits =
     let before = each-get nat_cmp nat_cmp-IsAntisymmetric (λ e. IsContent e.1) t.files number content well.contents is in
     well-formed-content t number content (changed_content attrs content) well is (changed-content-fits attrs content fits before)
 
-well-attributes : (t : Tree) (attrs : Attrs) (place : Place) (o : Option Node) → node_at t.names place ≡ o → WellFormed t → FitsAttrs attrs → WellFormed (with_attributes t attrs place o)
+well-attributes : (t : Tree) (attrs : Attrs) (place : Place) (o : Option Node) → node_at t.names place ≡ o → WellFormed t → IsAttrs attrs → WellFormed (with_attributes t attrs place o)
 well-attributes t attrs place None is well fits = well
 well-attributes t attrs place (Some (Dir owner)) is well fits =
     let before = each-get place_cmp place_cmp-same (λ e. IsNode t.files e.1) t.names place (Dir owner) well.nodes is in
@@ -140,14 +140,14 @@ well-emptied t number true well =
 well-emptied t number false well = well
 
 well-opened : (t : Tree) (flags : ℕ) (attrs : Attrs) (place : Place) (o : Option Node) → node_at t.names place ≡ o
-    → WellFormed t → FitsAttrs attrs → Led t place → WellFormed (with_opened t flags attrs place o)
+    → WellFormed t → IsAttrs attrs → Led t place → WellFormed (with_opened t flags attrs place o)
 well-opened t flags attrs place None is well fits leads =
     well-formed-new t place (new_content t attrs) well leads.named is leads.above (file-owner-fits t attrs well fits, refl)
 well-opened t flags attrs place (Some (Dir owner)) is well fits leads = well
 well-opened t flags attrs place (Some (File number)) is well fits leads = well-emptied t number (truncates flags) well
 well-opened t flags attrs place (Some (Link target)) is well fits leads = well
 
-well-at : (t : Tree) (ask : Ask) (place : Place) → WellFormed t → FitsAsk ask → Led t place → ((c : Cause) → causes_at t ask place c ≡ false) → WellFormed (outcome_at t ask place)
+well-at : (t : Tree) (ask : Ask) (place : Place) → WellFormed t → IsAsk ask → Led t place → ((c : Cause) → causes_at t ask place c ≡ false) → WellFormed (outcome_at t ask place)
 well-at t (Mkdir path attrs) place well fits leads none = well-with t place (Dir (directory_owner t attrs)) well leads (ap is_taken (free-place (node_at t.names place) none)) (owner-fits t attrs well fits.1)
 well-at t (Rmdir path) place well fits leads none =
     let may = can-remove-directory t place none in
@@ -156,9 +156,9 @@ well-at t (Remove path) place well fits leads none =
     let other = name-place (node_at t.names place) none in
     well-without t place well (not-root t place well other) (empty-there t place well other)
 well-at t (Setstat path attrs) place well fits leads none = well-attributes t attrs place (node_at t.names place) refl well fits.1
-well-at t (Symlink target link) place well fits leads none = well-with t place (Link target) well leads (ap is_taken (free-place (node_at t.names place) none)) (bytes-fit target fits.0.bytes_fit)
+well-at t (Symlink target link) place well fits leads none = well-with t place (Link target) well leads (ap is_taken (free-place (node_at t.names place) none)) (bytes-fit target fits.0)
 well-at t (Open path flags attrs) place well fits leads none =
-    well-opened t flags attrs place (node_at t.names place) refl well fits.2 leads
+    well-opened t flags attrs place (node_at t.names place) refl well fits.1 leads
 well-at t other place well fits leads none = well
 
 -- ---- requests with two paths
@@ -200,7 +200,7 @@ well-between t other old new well leads at_old at_new between = well
 
 -- ---- every request
 
-outcome-stands-by : (t : Tree) (ask : Ask) (l n : Option (Result Place Cause)) → led t ask ≡ l → new_led t ask ≡ n → LeadsWell t → Stands t → FitsAsk ask → IsFree t ask → Stands (outcome t ask)
+outcome-stands-by : (t : Tree) (ask : Ask) (l n : Option (Result Place Cause)) → led t ask ≡ l → new_led t ask ≡ n → LeadsWell t → Stands t → IsAsk ask → IsFree t ask → Stands (outcome t ask)
 outcome-stands-by t ask None n e f leads stands fit free = subst Stands (sym (outcome-is t ask None n e f)) stands
 outcome-stands-by t ask (Some (Err failed)) n e f leads stands fit free = subst Stands (sym (outcome-is t ask (Some (Err failed)) n e f)) stands
 outcome-stands-by t ask (Some (Ok place)) None e f leads stands fit free =
@@ -234,12 +234,12 @@ leads-untrimmed paths t stands follow path place bytes is =
     let leads = paths (trim t) (kept-trim t stands.well_formed stands.within_limits) follow path place bytes (same-walk t follow path ∙ is) in
     record { named = leads.named; above = leads.above }
 
-pub outcome-stands : PathsLeadWell → (t : Tree) (ask : Ask) → WellFormed t → IsTrue (fits t) → FitsAsk ask → IsFree t ask → Stands (outcome t ask)
+pub outcome-stands : PathsLeadWell → (t : Tree) (ask : Ask) → WellFormed t → IsTrue (fits t) → IsAsk ask → IsFree t ask → Stands (outcome t ask)
 outcome-stands paths t ask well within =
     let stands : Stands t = record { well_formed = well; within_limits = within } in
     outcome-stands-by t ask (led t ask) (new_led t ask) refl refl (leads-untrimmed paths t stands) stands
 
-pub after-kept : PathsLeadWell → (t : Tree) (ask : Ask) → IsKept t → FitsAsk ask → IsFree t ask → IsKept (after t ask)
+pub after-kept : PathsLeadWell → (t : Tree) (ask : Ask) → IsKept t → IsAsk ask → IsFree t ask → IsKept (after t ask)
 after-kept paths t ask kept fit free =
     let stands = outcome-stands paths t ask kept.well_formed kept.within_limits fit free in
     kept-trim (outcome t ask) stands.well_formed stands.within_limits

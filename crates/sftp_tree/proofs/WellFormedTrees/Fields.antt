@@ -4,10 +4,11 @@ use Rattle.std.specs.Option.{option_map}
 use Rattle.std.proofs.lemmas.Bool.{lt-ltb, and_parts, and_from}
 use Rattle.std.proofs.lemmas.List.Folds.{list_all-append}
 use Rattle.sftp_wire.specs.declared.attributes.Attrs.{Attrs}
-use Rattle.sftp_wire.specs.Spelling.{AreBytes, FitsAttrs}
+use Rattle.sftp_wire.specs.Spelling.{AreBytes}
 use Rattle.sftp_treefile.specs.declared.files.Owner.{Owner}
 use Rattle.sftp_treefile.specs.TreeFile.{IsOwner, are_bytes}
 use Rattle.sftp_tree.specs.declared.file_contents.Content.{Content}
+use Rattle.sftp_tree.specs.AskValues.{IsAttrs}
 use Rattle.sftp_tree.specs.Tree.{Tree, WellFormed, IsContent}
 use Rattle.sftp_tree.specs.Attributes.{directory_owner, file_owner, changed_owner, resized, changed_content}
 
@@ -18,15 +19,15 @@ bytes-fit (b ∷ bytes) fits = λ i. lt-ltb b 256 fits.0 i && bytes-fit bytes fi
 -- ---- owners
 
 -- of a new directory
-pub owner-fits : (t : Tree) (attrs : Attrs) → WellFormed t → FitsAttrs attrs → IsOwner (directory_owner t attrs)
+pub owner-fits : (t : Tree) (attrs : Attrs) → WellFormed t → IsAttrs attrs → IsOwner (directory_owner t attrs)
 owner-fits t attrs well fits = search rules
 
 -- of a new file
-pub file-owner-fits : (t : Tree) (attrs : Attrs) → WellFormed t → FitsAttrs attrs → IsOwner (file_owner t attrs)
+pub file-owner-fits : (t : Tree) (attrs : Attrs) → WellFormed t → IsAttrs attrs → IsOwner (file_owner t attrs)
 file-owner-fits t attrs well fits = search rules
 
 -- of what is there already
-pub changed-owner-fits : (attrs : Attrs) (owner : Owner) → FitsAttrs attrs → IsOwner owner → IsOwner (changed_owner attrs owner)
+pub changed-owner-fits : (attrs : Attrs) (owner : Owner) → IsAttrs attrs → IsOwner owner → IsOwner (changed_owner attrs owner)
 changed-owner-fits attrs owner fits before = search rules
 
 -- ---- contents
@@ -58,6 +59,6 @@ pub sized-bytes : (given : Option ℕ) (bytes : List ℕ) → IsTrue (are_bytes 
 sized-bytes None bytes h = h
 sized-bytes (Some size) bytes h = resized-bytes size bytes h
 
-pub changed-content-fits : (attrs : Attrs) (content : Content) → FitsAttrs attrs → IsContent content → IsContent (changed_content attrs content)
+pub changed-content-fits : (attrs : Attrs) (content : Content) → IsAttrs attrs → IsContent content → IsContent (changed_content attrs content)
 changed-content-fits attrs content fits before =
     (changed-owner-fits attrs content.owner fits before.0, sized-bytes attrs.size content.bytes before.1)

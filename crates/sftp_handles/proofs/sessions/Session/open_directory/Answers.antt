@@ -1,14 +1,9 @@
-use Rattle.std.proofs.Common.{◌≡◌, None, Ok, Err, length, ◌≤◌, sym, ap, subst, ◌∙◌, List, ℕ, Result, map, IfOk, Some}
+use Rattle.std.proofs.Common.{◌≡◌, sym, ap, subst, ◌∙◌, map, Some}
 use Rattle.sftp_wire.specs.declared.packets.Ask.TheVariants as asks
-use Rattle.sftp_wire.specs.declared.packets.Answer.TheVariants as replies
 use Rattle.sftp_tree.specs.Items.{entry_of}
 use Rattle.sftp_tree.specs.Causes.{is_none}
 use Rattle.sftp_tree.specs.Requests as paths
-use Rattle.sftp_handles.specs.declared.opens.Open.TheVariants.{Listing}
-use Rattle.sftp_handles.specs.Handles.{with_open}
-use Rattle.sftp_handles.specs.State.{State, Good, IsLeft, has_handle_left}
-use Rattle.sftp_handles.specs.Allowed.{Does}
-use Rattle.sftp_handles.proofs.NewStates.{state_of}
+use Rattle.sftp_handles.specs.State.{State, Good, IsLeft}
 use Rattle.sftp_handles.proofs.Opened as opened
 use Rattle.sftp_handles.proofs.sessions.Session.open_directory.Goals as goal
 

@@ -1,9 +1,9 @@
-use Rattle.std.proofs.Common.{◌≡◌, ◌<◌, ◌^◌, sym, ap, subst, ◌∙◌}
+use Rattle.std.proofs.Common.{◌<◌, ◌^◌, sym, ap, subst, ◌∙◌}
 use Rattle.std.proofs.lemmas.Result.{err_from_is_err_and}
 use Rattle.sftp_wire.specs.declared.packets.Ask.TheVariants as asks
 use Rattle.sftp_tree.specs.Tree.{Tree, WellFormed, HasFile, times_pinned}
 use Rattle.sftp_tree.proofs.KeptTrees.Files.{pins-stay}
-use Rattle.sftp_handles.specs.State.{State, Good, has_handle_left}
+use Rattle.sftp_handles.specs.State.{State, Good}
 use Rattle.sftp_handles.proofs.NewStates.{state_of}
 use Rattle.sftp_handles.proofs.Opened as opened
 use Rattle.sftp_handles.proofs.sessions.Session.open_file.Goals as goal
@@ -56,13 +56,14 @@ returns-in-Ok-clause-done g c =
 
 pub invariant_of-self-in-Err-1 : goal.invariant_of-self-in-Err-1
 invariant_of-self-in-Err-1 g c =
-    let good = subst Good c.self.view_is c.self.invariant in
     subst Good
     (sym (opened.given-back c.args.self.now
     (state_of c.self-2.inside.tree (g.T.HandleTable.handles c.self-2.inside.table)) c.in_ok-name.name.items
-    c.empty.result good c.in_ok-name.ensures.closed (c.self-2.view_is ∙ c.in_ok-name.ensures.opened)
+    c.empty.result (subst Good c.self.view_is c.self.invariant) c.in_ok-name.ensures.closed
+    (c.self-2.view_is ∙ c.in_ok-name.ensures.opened)
     c.open_file.new.self (g.T.HandleTable.handles c.give_back.new.table) c.as_slice-in-Err.result.now
-    c.as_slice-in-Err.ensures.value c.in-Err.ensures.kept c.give_back.ensures)) good
+    c.as_slice-in-Err.ensures.value c.in-Err.ensures.kept c.give_back.ensures))
+    (subst Good c.self.view_is c.self.invariant)
 
 pub returns-in-Err-clause-kept : goal.returns-in-Err-clause-kept
 returns-in-Err-clause-kept g c =

@@ -1,7 +1,6 @@
-use Rattle.std.proofs.Common.{refl, sym, ap, subst, ◌∙◌}
+use Rattle.std.proofs.Common.{refl, sym, ap, ◌∙◌}
 use Rattle.sftp_wire.specs.declared.packets.Ask.TheVariants.{Fsync}
 use Rattle.sftp_tree.specs.Tree.{content_at}
-use Rattle.sftp_handles.specs.State.{Good}
 use Rattle.sftp_handles.proofs.SeenCauses.{plain-lost}
 use Rattle.sftp_handles.proofs.SeenAnswers.{cause-holds}
 use Rattle.sftp_handles.proofs.OpenChanges.{synced}
@@ -10,7 +9,7 @@ use Rattle.sftp_handles.proofs.sessions.Session.sync_open.Goals as goal
 pub returns-in-Ok-clause-done : goal.returns-in-Ok-clause-done
 returns-in-Ok-clause-done g c =
     synced c.args.self.now c.args.handle.now c.in-Ok.field-0 (content_at c.args.self.now.tree.files c.in-Ok.field-0.0)
-    (subst Good c.self.view_is c.self.invariant) (sym c.in-Ok.ensures.found) refl c.in-Ok.ensures.there
+    c.in-Ok.ensures.kept (sym c.in-Ok.ensures.found) refl c.in-Ok.ensures.there
 
 pub returns-in-Err-clause-refused : goal.returns-in-Err-clause-refused
 returns-in-Err-clause-refused g c =

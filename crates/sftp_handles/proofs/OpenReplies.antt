@@ -1,0 +1,97 @@
+-- OPEN and OPENDIR: the reply that gives a new handle, and why there is none.
+use Rattle.std.proofs.Common.{◌≡◌, ◌&&◌, ◌||◌, not, ℕ, ◌+◌, ◌≤◌, Bool, true, false, List, length, refl, sym, ap}
+use Rattle.std.proofs.Common.{◌∙◌, arith, IsTrue, nat_le, Some, None, leb-true}
+use Rattle.std.proofs.lemmas.Bool.{and_parts}
+use Rattle.sftp_wire.specs.declared.attributes.Attrs.{Attrs}
+use Rattle.sftp_wire.specs.declared.packets.Ask.{Ask}
+use Rattle.sftp_wire.specs.declared.packets.Ask.TheVariants.{Open, Opendir}
+use Rattle.sftp_wire.specs.declared.packets.Answer.TheVariants as replies
+use Rattle.sftp_wire.specs.declared.packets.Packet.TheVariants.{Reply as reply_packet}
+use Rattle.sftp_wire.specs.Spelling.{spelling, asked_handle, AreBytes, handle_limit}
+use Rattle.sftp_tree.specs.Tree.{Tree}
+use Rattle.sftp_tree.specs.declared.causes.Cause.TheVariants.{NoRoom}
+use Rattle.sftp_tree.specs.declared.causes.Refused.{Refused}
+use Rattle.sftp_tree.specs.Causes.{CauseSet, is_none, when}
+use Rattle.sftp_tree.specs.Requests as paths
+use Rattle.sftp_tree.specs.Refusals as refusals_of
+use Rattle.sftp_handles.specs.State.{State, has_handle_left}
+use Rattle.sftp_handles.specs.Handles.{is_open}
+use Rattle.sftp_handles.specs.Replies.{Said, ok, shows, names, gives, ended, lists, opens, says}
+use Rattle.sftp_handles.specs.Requests.{causes, answers, said_to, with_handle_room}
+use Rattle.sftp_handles.specs.Allowed.{Does}
+use Rattle.sftp_handles.specs.Laws.{is_opening}
+use Rattle.sftp_handles.specs.Judged.{IsRefusal}
+use Rattle.sftp_handles.specs.Answered.{IsSpelledAnswer, IsAnswered}
+use Rattle.sftp_handles.proofs.Opened.{refused-file, refused-listing}
+use Rattle.sftp_handles.proofs.TotalSteps.SaidReplies.{reply_of}
+
+-- ---- no more handles
+
+no-room : (b : Bool) (set : CauseSet) → b ≡ true → when set NoRoom b NoRoom ≡ true
+unfolding when
+no-room b set is = ap (λ b. b || set NoRoom) is
+
+lacks : (none left : Bool) → none ≡ true → left ≡ false → (none && not left) ≡ true
+lacks true false is full = refl
+lacks true true is full = absurd cc
+lacks false left is full = absurd cc
+
+room-refuses : (s : State) (set : CauseSet) → is_none set ≡ true → has_handle_left s ≡ false
+    → with_handle_room s set NoRoom ≡ true
+room-refuses s set none full =
+    no-room (is_none set && not (has_handle_left s)) set (lacks (is_none set) (has_handle_left s) none full)
+
+-- a request that no other cause refuses
+pub handles-refuse : (s : State) (ask : Ask) → IsTrue (is_opening ask) → IsTrue (is_none (paths.causes s.tree ask))
+    → has_handle_left s ≡ false → IsTrue (causes s ask NoRoom)
+unfolding causes
+handles-refuse s (Open path pflags attrs) opening none full =
+    room-refuses s (paths.causes s.tree (Open path pflags attrs)) none full
+handles-refuse s (Opendir path) opening none full = room-refuses s (paths.causes s.tree (Opendir path)) none full
+handles-refuse s other opening none full = absurd cc
+
+-- one that another cause refuses
+pub path-refuses : (s : State) (ask : Ask) (refused : Refused) → IsTrue (is_opening ask)
+    → refusals_of.IsRefusal s.tree ask refused → IsRefusal s ask refused
+path-refuses s (Open path pflags attrs) refused opening holds =
+    refused-file s s.tree path pflags attrs refused refl holds
+path-refuses s (Opendir path) refused opening holds = refused-listing s s.tree path refused refl holds
+path-refuses s other refused opening holds = absurd cc
+
+-- ---- a new handle
+
+handle-length : (id : ℕ) (handle : List ℕ)
+    → length (spelling (reply_packet (reply_of id (replies.Handle handle)))) ≡ 13 + length handle
+unfolding spelling
+handle-length id handle = omega arith
+
+handle-spelled : (handle : List ℕ) → AreBytes handle → length handle ≤ handle_limit
+    → IsSpelledAnswer (replies.Handle handle)
+handle-spelled handle bytes short id small = record {
+  fields = (small, record { bytes_fit = bytes; length_fits = omega (arith, short) });
+  whole = omega (arith, handle-length id handle, short);
+  handle = short;
+  canonical = refl;
+}
+
+-- it is not too long
+said-short : (said : Said) (handle : List ℕ) → says said (replies.Handle handle) ≡ true → length handle ≤ handle_limit
+said-short ok handle is = absurd cc
+said-short (shows None) handle is = absurd cc
+said-short (shows (Some shown)) handle is = absurd cc
+said-short (names None) handle is = absurd cc
+said-short (names (Some text)) handle is = absurd cc
+said-short (gives bytes) handle is = absurd cc
+said-short ended handle is = absurd cc
+said-short (lists left) handle is = absurd cc
+said-short (opens handles) handle is =
+    leb-true (length handle) handle_limit
+    (and_parts (nat_le (length handle) handle_limit) (not (is_open handles handle)) is).0
+
+pub handle-answered : (s : State) (ask : Ask) (handle : List ℕ) (end : State) → Does s ask (replies.Handle handle) end
+    → AreBytes handle → IsAnswered s ask (replies.Handle handle) end
+unfolding answers
+handle-answered s ask handle end does bytes = record {
+  does = does;
+  spelled = handle-spelled handle bytes (said-short (said_to s ask (asked_handle ask)) handle does.answered);
+}

@@ -1,0 +1,30 @@
+use Rattle.std.proofs.Common.{sym, subst, refl, ◌∙◌, IfOk}
+use Rattle.sftp_wire.specs.declared.packets.Ask.TheVariants as asks
+use Rattle.sftp_wire.specs.declared.packets.Answer.TheVariants.{Handle}
+use Rattle.sftp_handles.specs.Judged.{IsJudged}
+use Rattle.sftp_handles.proofs.HandleReplies.{judged-file_lacking, judged-opened, judged-failed, held}
+use Rattle.sftp_handles.proofs.sessions.Session.judge_file.Goals as goal
+
+pub returns-then-not-has_place_for-clause-ok : goal.returns-then-not-has_place_for-clause-ok
+returns-then-not-has_place_for-clause-ok g c =
+    judged-file_lacking c.args.self.now c.args.path.now c.args.pflags c.args.attrs.now c.args.handle.now
+    (sym c.has_place_for.ensures ∙ c.if-not-has_place_for.true)
+
+pub returns-in-Ok-clause-ok : goal.returns-in-Ok-clause-ok
+returns-in-Ok-clause-ok g c =
+    judged-opened c.args.self.now (asks.Open c.args.path.now c.args.pflags c.args.attrs.now) _
+    c.in_ok-want.want.items c.args.handle.now c.open_file.new.self (c.in-Ok.ensures.wanted c.requires)
+    c.in_ok-want.ensures.items c.in-Ok.ensures.done
+
+pub returns-in-Err-clause-ok : goal.returns-in-Err-clause-ok
+returns-in-Err-clause-ok g c =
+    let ask = asks.Open c.args.path.now c.args.pflags c.args.attrs.now in
+    subst
+    (λ result. IfOk result
+    (λ ok. IsJudged c.args.self.now ask (Handle c.args.handle.now) ok c.open_file.new.self))
+    (sym c.not_opened.ensures)
+    (judged-failed c.args.self.now ask c.in_ok-want.want.items c.args.handle.now c.open_file.new.self
+    c.in-Err.failed refl c.in_ok-want.ensures.items c.in-Err.ensures.failed c.in-Err.ensures.kept)
+
+pub returns-in-Err-clause-err : goal.returns-in-Err-clause-err
+returns-in-Err-clause-err g c = held c.not_opened.result c.in-Err.ensures.kept
