@@ -1,6 +1,6 @@
 -- The first names of a listing: as items they are some of the names that it still has to give.
-use Rattle.std.proofs.Common.{◌≡◌, ◌&&◌, not, nat_lt, ℕ, zero, suc, ◌<◌, ◌≤◌, Bool, true, false, cond, List, [], ◌∷◌, ◌++◌, ◌==◌}
-use Rattle.std.proofs.Common.{length, take, map, Option, Some, None, refl, sym, ap, subst, ◌∙◌, arith, IsTrue, eq-eqb}
+use Rattle.std.proofs.Common.{◌≡◌, ◌==◌, ◌&&◌, not, nat_lt, ℕ, zero, suc, ◌<◌, ◌≤◌, Bool, true, false, cond, List, []}
+use Rattle.std.proofs.Common.{◌∷◌, ◌++◌, length, take, map, Option, Some, None, refl, sym, ap, subst, ◌∙◌, arith, IsTrue, eq-eqb}
 use Rattle.std.specs.Ordering.{is_eq}
 use Rattle.std.specs.declared.cmp.Ordering.TheVariants.{Less}
 use Rattle.std.specs.List.{AllByRecursion, list_all}
@@ -60,10 +60,10 @@ first-front items rest left most is few many =
 same-itself : (n : ℕ) → (n == n) ≡ true
 same-itself n = eq-eqb n n refl
 
-abbrev Extended : Type 0
+abbrev pub Extended : Type 0
 Extended = List (List ℕ × List ℕ)
 
-abbrev attributes_of : Option ℕ → Option (ℕ × ℕ) → Option ℕ → Option (ℕ × ℕ) → Option Extended → Attrs
+abbrev pub attributes_of : Option ℕ → Option (ℕ × ℕ) → Option ℕ → Option (ℕ × ℕ) → Option Extended → Attrs
 attributes_of size owner permissions times extended =
     record { size = size; owner = owner; permissions = permissions; times = times; extended = extended }
 

@@ -20,7 +20,6 @@ pub mod StillAnswers
 pub mod OtherAnswers
 pub mod Opened
 pub mod HandleReplies
-pub mod HandleAnswers
 pub mod Swaps
 pub mod Ends
 pub mod GivenNames
@@ -33,3 +32,4 @@ pub mod AnswersSpelled
 pub mod AnswersShown
 pub mod AnswersSteps
 pub mod NameReplies
+pub mod OpenReplies

@@ -1,6 +1,7 @@
 -- READDIR: the reply that gives the first names of a listing, and the reply that there are no more.
 use Rattle.std.proofs.Common.{◌≡◌, ◌==◌, nat_lt, ℕ, zero, suc, ◌+◌, ◌*◌, ◌^◌, ◌<◌, ◌≤◌, Bool, true, false, List}
-use Rattle.std.proofs.Common.{[], ◌∷◌, ◌++◌, length, take, Option, Some, None, refl, sym, ap, subst, ◌∙◌, arith, IsTrue, lit<, inl, inr}
+use Rattle.std.proofs.Common.{[], ◌∷◌, ◌++◌, length, take, Option, Some, None, refl, sym, ap, subst, ◌∙◌, arith}
+use Rattle.std.proofs.Common.{IsTrue, lit<, inl, inr}
 use Rattle.std.specs.List.{AllByRecursion, flat_map}
 use Rattle.std.proofs.lemmas.Bool.{both_ways, eqb-true, lt-ltb}
 use Rattle.std.proofs.lemmas.List.{length-append, length-map}
@@ -29,7 +30,7 @@ use Rattle.sftp_handles.specs.Judged.{IsJudged}
 use Rattle.sftp_handles.specs.Answered.{IsSpelledAnswer, IsAnswered}
 use Rattle.sftp_handles.specs.Giving.{gives_names, with_struck}
 use Rattle.sftp_handles.specs.FirstNames.{item_of, first_items, names_in_reply, AreFirst}
-use Rattle.sftp_handles.proofs.FirstNames.{first-some}
+use Rattle.sftp_handles.proofs.FirstNames.{Extended, attributes_of, first-some}
 use Rattle.sftp_handles.proofs.GivenNames.{has_none, listing-left, given-judged, readdir-ends}
 use Rattle.sftp_handles.proofs.Judgements.{allow-one}
 use Rattle.sftp_handles.proofs.SeenAnswers.{cause-holds}
@@ -39,13 +40,6 @@ use Rattle.sftp_handles.proofs.TotalSteps.PlaceTexts.{name-parts}
 use Rattle.sftp_handles.proofs.TotalSteps.SaidReplies.{reply_of, status-spelled}
 
 -- ---- how long an item is
-
-abbrev Extended : Type 0
-Extended = List (List ℕ × List ℕ)
-
-abbrev attributes_of : Option ℕ → Option (ℕ × ℕ) → Option ℕ → Option (ℕ × ℕ) → Option Extended → Attrs
-attributes_of size owner permissions times extended =
-    record { size = size; owner = owner; permissions = permissions; times = times; extended = extended }
 
 fields-length : (size : Option ℕ) (owner : Option (ℕ × ℕ)) (permissions : Option ℕ) (times : Option (ℕ × ℕ))
     → (extended : Option Extended) → is_plain (attributes_of size owner permissions times extended) ≡ true
@@ -59,10 +53,6 @@ fields-length (Some size) (Some owner) (Some permissions) None (Some extended) i
 
 plain-length : (attrs : Attrs) → is_plain attrs ≡ true → length (attributes attrs) ≡ 24
 plain-length attrs = fields-length attrs.size attrs.owner attrs.permissions attrs.times attrs.extended
-
-item-parts : (name : Name) (fields : List ℕ)
-    → length ((4 ∷ []) ++ (name ++ fields)) ≡ 1 + (length name + length fields)
-item-parts name fields = grind (arith, length-append)
 
 item-length : (e : Name × Attrs) → IsItem e → length (name_item (item_of e)) ≤ 542
 item-length e item =
@@ -168,7 +158,8 @@ module _ (s : State) (handle : List ℕ) (good : Good s) where
         subst (λ (xs : List NameItem). are_some_left left xs ≡ true) (sym first)
             (first-some names_in_reply left is_left
             (ap (λ (xs : List NameItem). nat_lt 0 (length xs)) (sym first) ∙ some)),
-        subst (λ (xs : List NameItem). IsSpelledAnswer (replies.Name xs)) (sym first) (first-spelled left is_left.items),
+        subst (λ (xs : List NameItem). IsSpelledAnswer (replies.Name xs)) (sym first)
+            (first-spelled left is_left.items),
       )
 
   -- its names are given

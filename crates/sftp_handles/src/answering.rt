@@ -1,5 +1,5 @@
 //! The answers that this program's own sessions give (draft, sections 6 and 7).
-ghost use Rattle.std.specs.Prelude.{◌≡◌, ◌^◌, ◌<◌, Some, IsTrue, IfOk, IfErr, OnErr};
+ghost use Rattle.std.specs.Prelude.{◌≡◌, ◌^◌, ◌<◌, false, Some, IsTrue, IfOk, IfErr, OnErr};
 ghost use Rattle.sftp_wire.specs.declared.packets.Packet.TheVariants.{Reply as reply_packet};
 ghost use Rattle.sftp_wire.specs.Spelling.{HasSpelling};
 ghost use Rattle.sftp_handles.specs.Allowed.{Allowed, step};
@@ -8,11 +8,12 @@ ghost use Rattle.sftp_handles.specs.Answered.{IsSpelledAnswer, IsAnswered, says_
 
 use crate::sessions::Session;
 use crate::showing::status;
+use crate::slab_table::SlabTable;
 use crate::tables::HandleTable;
 use sftp_tree::{Cause, NoMemory, Refused};
 use sftp_wire::{Answer, Ask, Reply, Request};
 
-impl<T: HandleTable> Session<T> {
+impl Session<SlabTable> {
     /// Answers a request: does it if no cause refuses it, and returns its reply. A refusal has the first code of the
     /// first cause that holds; the texts of a status are empty.
     ///
@@ -27,13 +28,16 @@ impl<T: HandleTable> Session<T> {
         let answer = self.answer_to(&request.ask)?;
         Ok(reply_with(request.id, answer))
     }
+}
 
+impl<T: HandleTable> Session<T> {
     /// Answers a request without its id.
     ///
     /// # Errors
     ///
     /// `NoMemory` if memory runs out; the session is then as before.
     fn answer_to(&mut self, ask: &Ask) -> Result<Answer, NoMemory>
+        requires { T.takes_want ≡ false }
         ensures answered { IfOk result (λ answer. step self.old ask.now answer ≡ Some self.new) }
         ensures spelled { IfOk result IsSpelledAnswer }
         ensures err { OnErr result (self.new ≡ self.old) }
@@ -52,6 +56,7 @@ impl<T: HandleTable> Session<T> {
     ///
     /// The first cause that holds. `NoMemory` if memory runs out. The session is then as before.
     fn do_free(&mut self, ask: &Ask) -> Result<Answer, Refused>
+        requires { T.takes_want ≡ false }
         ensures done { IfOk result (λ answer. IsAnswered self.old ask.now answer self.new) }
         ensures refused { IfErr result (IsRefusal self.old ask.now) }
         ensures kept { OnErr result (self.new ≡ self.old) }
@@ -61,8 +66,8 @@ impl<T: HandleTable> Session<T> {
                 path,
                 pflags,
                 attrs,
-            } => self.answer_open(path.as_slice(), *pflags, attrs),
-            Ask::Opendir { path } => self.answer_opendir(path.as_slice()),
+            } => self.answer_open(ask, path.as_slice(), *pflags, attrs),
+            Ask::Opendir { path } => self.answer_opendir(ask, path.as_slice()),
             Ask::Readdir { handle } => self.answer_readdir(handle.as_slice()),
             Ask::Stat { path } => self.answer_stat(path.as_slice(), true),
             Ask::Lstat { path } => self.answer_stat(path.as_slice(), false),

@@ -15,6 +15,7 @@ use crate::giving::strike_names;
 use crate::not_opened::NotOpened;
 use crate::opens::Open;
 use crate::sessions::Session;
+use crate::showing::status;
 use crate::tables::HandleTable;
 use sftp_path::Name;
 use sftp_tree::{Cause, Refused};
@@ -105,7 +106,7 @@ impl<T: HandleTable> Session<T> {
         let given = self.first_names(handle)?;
         let alloc = self.tree.allocator();
         if given.0.is_empty() {
-            return Ok(end_reply(alloc));
+            return Ok(status(alloc, 1));
         }
         strike_names(&mut self.table, alloc, handle, given.0.as_slice());
         Ok(Answer::Name(given.1))
@@ -139,15 +140,4 @@ fn handle_reply(name: Vec<u8>) -> Answer
 {
     let _bytes = name.as_slice();
     Answer::Handle(ByteString::new(name))
-}
-
-/// A reply that there are no more names, with empty texts. It takes no memory.
-fn end_reply(alloc: Global) -> Answer
-    ensures { result ≡ replies.Status 1 [] [] }
-{
-    Answer::Status {
-        code: 1,
-        message: ByteString::new(Vec::new(alloc)),
-        language: ByteString::new(Vec::new(alloc)),
-    }
 }

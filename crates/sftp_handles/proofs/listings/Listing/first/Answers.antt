@@ -1,4 +1,4 @@
-use Rattle.std.proofs.Common.{◌≡◌, ◌≤◌, length, subst, ◌∙◌}
+use Rattle.std.proofs.Common.{◌≤◌, subst, ◌∙◌}
 use Rattle.sftp_handles.proofs.FirstNames.{first-all, first-front}
 use Rattle.sftp_handles.proofs.listings.Listing.first.Goals as goal
 use Rattle.sftp_handles.proofs.listings.Listing.first.Goals.{in-None, in-Some+then-len-most}

@@ -4,7 +4,7 @@ use Rattle.sftp_wire.specs.declared.packets.Answer.{Answer}
 use Rattle.sftp_wire.specs.declared.packets.Answer.TheVariants.{Handle}
 use Rattle.sftp_handles.specs.Allowed.{Does}
 use Rattle.sftp_handles.specs.Answered.{IsAnswered}
-use Rattle.sftp_handles.proofs.HandleAnswers.{handle-answered}
+use Rattle.sftp_handles.proofs.OpenReplies.{handle-answered}
 use Rattle.sftp_handles.proofs.sessions.Session.answer_open.Goals as goal
 
 pub returns-in-Ok-clause-done : goal.returns-in-Ok-clause-done

@@ -1,4 +1,4 @@
-use Rattle.std.proofs.Common.{◌≡◌, ◌∙◌, nat_lt, true, sym, subst, length}
+use Rattle.std.proofs.Common.{◌∙◌, sym, subst}
 use Rattle.sftp_wire.specs.declared.packets.Ask.TheVariants.{Readdir}
 use Rattle.sftp_wire.specs.declared.packets.Answer.{Answer}
 use Rattle.sftp_wire.specs.declared.packets.Answer.TheVariants.{Name}
@@ -15,7 +15,7 @@ pub returns-then-is_empty-clause-done : goal.returns-then-is_empty-clause-done
 returns-then-is_empty-clause-done g c =
     let s = c.args.self.now in
     let given = c.in_ok-given.given in
-    subst (λ (answer : Answer). IsAnswered s (Readdir c.args.handle.now) answer s) (sym c.end_reply.ensures)
+    subst (λ (answer : Answer). IsAnswered s (Readdir c.args.handle.now) answer s) (sym c.status.ensures.status)
     (readdir-ended s c.args.handle.now (subst Good c.self.view_is c.self.invariant) given.1 c.in_ok-given.ensures.first
     (no-items given.0.len given.0.items given.1 c.is_empty.result given.0.ok.0 c.in_ok-given.ensures.names
     c.is_empty.ensures c.if-is_empty.true))

@@ -1,6 +1,6 @@
 -- OPEN and OPENDIR: the reply that gives a new handle, and why there is none.
-use Rattle.std.proofs.Common.{◌≡◌, ◌&&◌, ◌||◌, not, ℕ, ◌+◌, ◌≤◌, Bool, true, false, List, length, refl, sym, ap, ◌∙◌, arith}
-use Rattle.std.proofs.Common.{IsTrue, nat_le, Some, None, leb-true}
+use Rattle.std.proofs.Common.{◌≡◌, ◌&&◌, ◌||◌, not, ℕ, ◌+◌, ◌≤◌, Bool, true, false, List, length, refl, sym, ap}
+use Rattle.std.proofs.Common.{◌∙◌, arith, IsTrue, nat_le, Some, None, leb-true}
 use Rattle.std.proofs.lemmas.Bool.{and_parts}
 use Rattle.sftp_wire.specs.declared.attributes.Attrs.{Attrs}
 use Rattle.sftp_wire.specs.declared.packets.Ask.{Ask}

@@ -3,10 +3,10 @@ use Rattle.sftp_wire.specs.declared.packets.Packet.TheVariants.{Reply as reply_p
 use Rattle.sftp_wire.specs.Spelling.{HasSpelling}
 use Rattle.sftp_handles.specs.Allowed.{Allowed}
 use Rattle.sftp_handles.proofs.Steps.{step-is_allowed}
-use Rattle.sftp_handles.proofs.sessions.Session.answer.Goals as goal
+use Rattle.sftp_handles.proofs.answering.«Session+SlabTable».answer.Goals as goal
 
 pub returns-clause-allowed : goal.returns-clause-allowed
-returns-clause-allowed g c =
+returns-clause-allowed c =
     subst (λ reply. Allowed c.args.self.now c.args.request.now reply c.answer_to.new.self)
     (sym c.reply_with.ensures.reply)
     (step-is_allowed c.args.self.now c.args.request.now
@@ -14,6 +14,6 @@ returns-clause-allowed g c =
     c.in_ok-answer.ensures.answered)
 
 pub returns-clause-spelled : goal.returns-clause-spelled
-returns-clause-spelled g c =
+returns-clause-spelled c =
     subst (λ reply. HasSpelling (reply_packet reply)) (sym c.reply_with.ensures.reply)
     (c.in_ok-answer.ensures.spelled c.args.request.now.id c.reply_with.ensures.fits)
