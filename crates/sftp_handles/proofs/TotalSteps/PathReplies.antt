@@ -16,7 +16,7 @@ use Rattle.sftp_tree.specs.declared.causes.Cause.TheVariants.{NoEntry, NotLink}
 use Rattle.sftp_tree.specs.declared.file_contents.Content.{Content}
 use Rattle.sftp_tree.specs.declared.nodes.Node.{Node}
 use Rattle.sftp_tree.specs.declared.nodes.Node.TheVariants.{Dir, File, Link}
-use Rattle.sftp_tree.specs.Tree.{Tree, IsKept, IsNode, node_at, content_at, limits, link_fits}
+use Rattle.sftp_tree.specs.Tree.{Tree, IsKept, IsNode, node_at, content_at, link_fits}
 use Rattle.sftp_tree.specs.Walk.{reached}
 use Rattle.sftp_tree.specs.Attributes.{said, shown, shown_content}
 use Rattle.sftp_tree.specs.Causes.{no_causes, when}
