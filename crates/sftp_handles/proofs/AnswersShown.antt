@@ -1,6 +1,6 @@
 -- The answers to requests that leave a good state as it is are the requests', and can be encoded.
-use Rattle.std.proofs.Common.{◌≡◌, nat_lt, ℕ, Bool, true, false, if◌then◌else◌, List, [], length, Option, Some, min, drop}
-use Rattle.std.proofs.Common.{lit<, None, Result, Ok, Err, IsTrue, refl, sym, ap, subst, ◌∙◌, arith, inl, inr, ◌⊎◌}
+use Rattle.std.proofs.Common.{◌≡◌, nat_lt, ℕ, Bool, true, false, if◌then◌else◌, List, [], length, Option, Some}
+use Rattle.std.proofs.Common.{min, drop, lit<, None, Result, Ok, Err, IsTrue, refl, sym, ap, subst, arith, inl, inr, ◌⊎◌}
 use Rattle.std.specs.Cmp.Lexicographic.{nat_list_eq_equiv}
 use Rattle.std.specs.FinMap.{nat_cmp-IsAntisymmetric}
 use Rattle.std.specs.Ordering.{nat_cmp}
@@ -11,7 +11,6 @@ use Rattle.sftp_wire.specs.declared.packets.Ask.{Ask}
 use Rattle.sftp_wire.specs.declared.packets.Ask.TheVariants as asks
 use Rattle.sftp_wire.specs.declared.packets.Answer.{Answer}
 use Rattle.sftp_wire.specs.declared.packets.Answer.TheVariants as replies
-use Rattle.sftp_wire.specs.Spelling.{FitsString}
 use Rattle.sftp_path.specs.Place.{Place, absolute}
 use Rattle.sftp_treefile.specs.declared.limits.TreeLimits.{TreeLimits}
 use Rattle.sftp_treefile.specs.Limits.{usual_limits}
@@ -39,7 +38,7 @@ use Rattle.sftp_handles.specs.Handles.{open_at}
 use Rattle.sftp_handles.specs.State.{State, Good}
 use Rattle.sftp_handles.specs.Seen.{a_file, seen, seen_among, seen_file}
 use Rattle.sftp_handles.specs.Replies.{shows, gives, ended, same_attributes}
-use Rattle.sftp_handles.specs.HandleRequests.{row_of, said_of, read_from}
+use Rattle.sftp_handles.specs.HandleRequests.{row_of, said_of}
 use Rattle.sftp_handles.specs.Requests.{causes, said_to}
 use Rattle.sftp_handles.specs.Allowed.{Does, Refuses}
 use Rattle.sftp_handles.specs.Judged.{IsJudged, IsRefusal}
