@@ -1,6 +1,6 @@
 -- The first names of a listing: as items they are some of the names that it still has to give.
-use Rattle.std.proofs.Common.{◌≡◌, ◌==◌, ◌&&◌, not, nat_lt, ℕ, zero, suc, ◌<◌, ◌≤◌, Bool, true, false, cond, List, []}
-use Rattle.std.proofs.Common.{◌∷◌, ◌++◌, length, take, map, Option, Some, None, refl, sym, ap, subst, ◌∙◌, arith, IsTrue, eq-eqb}
+use Rattle.std.proofs.Common.{◌≡◌, ◌==◌, ◌&&◌, not, nat_lt, ℕ, zero, suc, ◌≤◌, true, false, cond, List, []}
+use Rattle.std.proofs.Common.{◌∷◌, ◌++◌, length, map, Option, Some, None, refl, sym, ap, ◌∙◌, arith, eq-eqb}
 use Rattle.std.specs.Ordering.{is_eq}
 use Rattle.std.specs.declared.cmp.Ordering.TheVariants.{Less}
 use Rattle.std.specs.List.{AllByRecursion, list_all}
@@ -15,16 +15,12 @@ use Rattle.sftp_wire.specs.declared.names.NameItem.{NameItem}
 use Rattle.sftp_path.specs.Place.{Name, name_cmp, same_bytes}
 use Rattle.sftp_path.specs.Table.{InOrder, get}
 use Rattle.sftp_path.proofs.Table.Laws.{get-cons}
-use Rattle.sftp_handles.specs.declared.opens.Open.{Open}
-use Rattle.sftp_handles.specs.declared.opens.Open.TheVariants.{File, Listing}
 use Rattle.sftp_handles.specs.Handles.{Left}
 use Rattle.sftp_handles.specs.State.{IsLeft, IsItem, is_plain}
 use Rattle.sftp_handles.specs.Replies.{same_attributes, has_attributes, is_left, is_among, are_distinct, names_in}
 use Rattle.sftp_handles.specs.Replies.{are_some_left}
-use Rattle.sftp_handles.specs.FirstNames.{item_of, first_items, names_in_reply, AreFirst}
-use Rattle.sftp_handles.specs.Giving.{gives_names}
+use Rattle.sftp_handles.specs.FirstNames.{item_of, first_items}
 use Rattle.sftp_handles.proofs.DistinctNames.{tie}
-use Rattle.sftp_handles.proofs.GivenNames.{has_none}
 
 -- ---- the items that were made
 

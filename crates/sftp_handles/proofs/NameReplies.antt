@@ -1,6 +1,6 @@
 -- READDIR: the reply that gives the first names of a listing, and the reply that there are no more.
-use Rattle.std.proofs.Common.{◌≡◌, ◌==◌, nat_lt, ℕ, zero, suc, ◌+◌, ◌*◌, ◌^◌, ◌<◌, ◌≤◌, Bool, true, false, List}
-use Rattle.std.proofs.Common.{[], ◌∷◌, ◌++◌, length, take, Option, Some, None, refl, sym, ap, subst, ◌∙◌, arith}
+use Rattle.std.proofs.Common.{◌≡◌, ◌==◌, nat_lt, ℕ, zero, suc, ◌+◌, ◌*◌, ◌≤◌, Bool, true, false, List}
+use Rattle.std.proofs.Common.{[], ◌∷◌, length, Option, Some, None, refl, sym, ap, subst, ◌∙◌, arith}
 use Rattle.std.proofs.Common.{IsTrue, lit<, inl, inr}
 use Rattle.std.specs.List.{AllByRecursion, flat_map}
 use Rattle.std.proofs.lemmas.Bool.{both_ways, eqb-true, lt-ltb}
@@ -13,7 +13,7 @@ use Rattle.sftp_wire.specs.declared.packets.Ask.TheVariants.{Readdir}
 use Rattle.sftp_wire.specs.declared.packets.Answer.{Answer}
 use Rattle.sftp_wire.specs.declared.packets.Answer.TheVariants as replies
 use Rattle.sftp_wire.specs.declared.packets.Packet.TheVariants.{Reply as reply_packet}
-use Rattle.sftp_wire.specs.Spelling.{spelling, attributes, name_item, FitsString, FitsAttrs, FitsNameItem}
+use Rattle.sftp_wire.specs.Spelling.{spelling, attributes, name_item, FitsString, FitsNameItem}
 use Rattle.sftp_path.specs.Place.{Name}
 use Rattle.sftp_tree.specs.declared.causes.Cause.TheVariants.{BadHandle, WrongKind}
 use Rattle.sftp_tree.specs.Tree.{limits}

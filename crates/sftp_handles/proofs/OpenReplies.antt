@@ -1,14 +1,12 @@
 -- OPEN and OPENDIR: the reply that gives a new handle, and why there is none.
-use Rattle.std.proofs.Common.{◌≡◌, ◌&&◌, ◌||◌, not, ℕ, ◌+◌, ◌≤◌, Bool, true, false, List, length, refl, sym, ap}
-use Rattle.std.proofs.Common.{◌∙◌, arith, IsTrue, nat_le, Some, None, leb-true}
+use Rattle.std.proofs.Common.{◌≡◌, ◌&&◌, ◌||◌, not, ℕ, ◌+◌, ◌≤◌, Bool, true, false, List, length, refl, ap}
+use Rattle.std.proofs.Common.{arith, IsTrue, nat_le, Some, None, leb-true}
 use Rattle.std.proofs.lemmas.Bool.{and_parts}
-use Rattle.sftp_wire.specs.declared.attributes.Attrs.{Attrs}
 use Rattle.sftp_wire.specs.declared.packets.Ask.{Ask}
 use Rattle.sftp_wire.specs.declared.packets.Ask.TheVariants.{Open, Opendir}
 use Rattle.sftp_wire.specs.declared.packets.Answer.TheVariants as replies
 use Rattle.sftp_wire.specs.declared.packets.Packet.TheVariants.{Reply as reply_packet}
 use Rattle.sftp_wire.specs.Spelling.{spelling, asked_handle, AreBytes, handle_limit}
-use Rattle.sftp_tree.specs.Tree.{Tree}
 use Rattle.sftp_tree.specs.declared.causes.Cause.TheVariants.{NoRoom}
 use Rattle.sftp_tree.specs.declared.causes.Refused.{Refused}
 use Rattle.sftp_tree.specs.Causes.{CauseSet, is_none, when}
