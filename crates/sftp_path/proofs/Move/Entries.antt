@@ -85,8 +85,7 @@ module _ {X : Type 0} (old new : Place) where
             ap (get place_cmp (map (renamed_entry old new) before)) (renamed-inside old new e.0 inside)
             ∙ get-moved old new before names (NothingFrom-front new before (e ∷ rest) nothing names)
             ∙ ap (get place_cmp before) (sym (begins-front old e.0 inside)) ∙ once
-        | inr outside ↦
-            ap (get place_cmp (map (renamed_entry old new) before)) (renamed-outside old new e.0 outside)
+        | inr outside ↦ ap (get place_cmp (map (renamed_entry old new) before)) (renamed-outside old new e.0 outside)
             ∙ get-elsewhere old new before e.0 outside (first-outside old new e rest (NothingFrom-behind new before (e ∷ rest) nothing))
             ∙ once
       ]
@@ -135,15 +134,11 @@ module _ {X : Type 0} (old new : Place) where
         sym (rekeyed-unique old new table moved_alone (InOrder-put place_cmp place_cmp-total (without place_cmp table old) new value (InOrder-without place_cmp table old order)) nothing at_new at_old beside)
       where
         at_new : (rest : Place) → get place_cmp moved_alone (new ++ rest) ≡ get place_cmp table (old ++ rest)
-        at_new [] = ap (get place_cmp moved_alone) (append-nil new)
-            ∙ get-put_here place_cmp place_cmp-total (without place_cmp table old) new value
-            ∙ sym stands ∙ ap (get place_cmp table) (sym (append-nil old))
-        at_new (name ∷ names) = other (new ++ name ∷ names) (longer-apart new name names)
-            ∙ away-none table (new ++ name ∷ names) order (nothing (name ∷ names)) ∙ sym (alone name names)
+        at_new [] = grind (arith, append-nil, get-put_here, place_cmp-total)
+        at_new (name ∷ names) = grind (arith, other, longer-apart, away-none)
 
         below : (rest : Place) → get place_cmp (without place_cmp table old) (old ++ rest) ≡ None
-        below [] = ap (get place_cmp (without place_cmp table old)) (append-nil old)
-            ∙ get-without_here place_cmp place_cmp-total table old order
+        below [] = grind (arith, append-nil, get-without_here, place_cmp-total)
         below (name ∷ names) = away-none table (old ++ name ∷ names) order (alone name names)
 
         not_new : (place : Place) → begins new place ≡ false → place ≡ new → ⊥

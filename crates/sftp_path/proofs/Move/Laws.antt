@@ -1,6 +1,6 @@
 -- Laws of a directory that moves in a table of places.
-use Rattle.std.proofs.Common.{◌≡◌, ◌+◌, Bool, true, false, cond, if◌then◌else◌, ◌&&◌, [], ◌∷◌, ◌++◌, length, drop, map}
-use Rattle.std.proofs.Common.{refl, sym, ap, ◌∙◌, arith, Some, None, inl, inr, true≢false}
+use Rattle.std.proofs.Common.{◌≡◌, ◌+◌, Bool, true, false, if◌then◌else◌, ◌&&◌, [], ◌∷◌, ◌++◌, length, drop, map}
+use Rattle.std.proofs.Common.{refl, sym, ap, ◌∙◌, arith, None, inl, inr, true≢false}
 use Rattle.std.specs.Ordering.{is_eq, ordering_then}
 use Rattle.std.specs.Cmp.{Equal-is}
 use Rattle.std.specs.Cmp.Lexicographic.{nat_list_cmp_total, nat_list_eq_equiv}
@@ -73,8 +73,7 @@ same-moved old new rest place free = elim (cases_Bool (begins old place)) [
       ap (λ p. is_eq (place_cmp (new ++ rest) p)) (renamed-inside old new place inside)
       ∙ ap is_eq (place_cmp-append new rest behind ∙ sym (place_cmp-append old rest behind))
       ∙ ap (λ p. is_eq (place_cmp (old ++ rest) p)) (sym (begins-front old place inside))
-  | inr outside ↦
-      ap (λ p. is_eq (place_cmp (new ++ rest) p)) (renamed-outside old new place outside) ∙ free
+  | inr outside ↦ ap (λ p. is_eq (place_cmp (new ++ rest) p)) (renamed-outside old new place outside) ∙ free
       ∙ sym (apart old (old ++ rest) place true false (begins-append old rest) outside true≢false)
 ]
 
@@ -107,9 +106,7 @@ module _ {X : Type 0} (old new : Place) where
   pub get-moved : (es : Table Place X) (rest : Place) → get place_cmp es (new ++ rest) ≡ None
       → get place_cmp (map (renamed_entry old new) es) (new ++ rest) ≡ get place_cmp es (old ++ rest)
   get-moved [] rest h = get-empty place_cmp (new ++ rest) ∙ sym (get-empty place_cmp (old ++ rest))
-  get-moved (e ∷ es) rest h =
-      let free = get-none place_cmp e es (new ++ rest) h in
-      get-step e es (new ++ rest) (old ++ rest) (same-moved old new rest e.0 free.0) (get-moved es rest free.1)
+  get-moved (e ∷ es) rest h = grind (arith, get-none, get-step, same-moved, get-moved es rest)
 
   pub get-elsewhere : (es : Table Place X) (at : Place) → begins old at ≡ false → begins new at ≡ false
       → get place_cmp (map (renamed_entry old new) es) at ≡ get place_cmp es at
@@ -120,9 +117,7 @@ module _ {X : Type 0} (old new : Place) where
   get-behind : (es : Table Place X) (at : Place) → begins old at ≡ true → begins new at ≡ false
       → get place_cmp (map (renamed_entry old new) es) at ≡ None
   get-behind [] at in_old not_new = get-empty place_cmp at
-  get-behind (e ∷ es) at in_old not_new =
-      get-cons place_cmp (renamed_entry old new e) (map (renamed_entry old new) es) at
-      ∙ (λ i. cond (never-behind old new at e.0 in_old not_new i) (Some e.1) (get-behind es at in_old not_new i))
+  get-behind (e ∷ es) at in_old not_new = grind (arith, get-cons, never-behind, get-behind es at in_old not_new)
 
   -- ---- how many entries
 
@@ -150,8 +145,7 @@ module _ {X : Type 0} (old new : Place) where
             ap (get place_cmp (map (renamed_entry old new) es)) (renamed-inside old new e.0 inside)
             ∙ get-moved es rest (nothing-behind e es nothing rest)
             ∙ ap (get place_cmp es) (sym (begins-front old e.0 inside)) ∙ once
-        | inr outside ↦
-            ap (get place_cmp (map (renamed_entry old new) es)) (renamed-outside old new e.0 outside)
+        | inr outside ↦ ap (get place_cmp (map (renamed_entry old new) es)) (renamed-outside old new e.0 outside)
             ∙ get-elsewhere es e.0 outside (first-outside e es nothing) ∙ once
       ]
 

@@ -24,10 +24,7 @@ name-nonempty n h = grind (arith, and_parts)
 parts-names : (n : List ℕ) (ns : Place) → is_name n ≡ true → are_names ns ≡ true
     → parts (n ++ flat_map (λ name. 47 ∷ name) ns) ≡ n ∷ ns
 parts-names n [] h g = ap parts (append-nil n) ∙ parts-whole n (name-inner n h)
-parts-names n (m ∷ ms) h g =
-    let a = and_parts (is_name m) (list_all is_name ms) g in
-    parts-append n (m ++ flat_map (λ name. 47 ∷ name) ms) (name-inner n h)
-    ∙ ap (λ ps. n ∷ ps) (parts-names m ms a.0 a.1)
+parts-names n (m ∷ ms) h g = grind (arith, and_parts, parts-append, name-inner, parts-names m ms)
 
 -- the parts of the absolute text of a place other than the root
 pub parts-absolute : (n : Name) (ns : Place) → are_names (n ∷ ns) ≡ true → parts (absolute (n ∷ ns)) ≡ [] ∷ n ∷ ns

@@ -24,39 +24,25 @@ and_shuffle false x y z h = refl
 
 list_all-filter : {X : Type 0} (q t : X → Bool) (xs : List X) → list_all q xs ≡ true → list_all q (filter t xs) ≡ true
 list_all-filter q t [] h = refl
-list_all-filter q t (x ∷ xs) h =
-    let p = and_parts (q x) (list_all q xs) h in
-    let rest = list_all-filter q t xs p.1 in
-    cond_both (t x) (x ∷ filter t xs) (filter t xs) (λ ys. list_all q ys ≡ true)
-    (λ _. and_from (q x) (list_all q (filter t xs)) p.0 rest) (λ _. rest)
+list_all-filter q t (x ∷ xs) h = grind (arith, and_parts, cond_both, and_from, list_all-filter q t xs)
 
 list_all-passes : {X : Type 0} (t : X → Bool) (xs : List X) → list_all t (filter t xs) ≡ true
 list_all-passes t [] = refl
-list_all-passes t (x ∷ xs) =
-    let rest = list_all-passes t xs in
-    cond_both (t x) (x ∷ filter t xs) (filter t xs) (λ ys. list_all t ys ≡ true)
-    (λ h. and_from (t x) (list_all t (filter t xs)) h rest) (λ _. rest)
+list_all-passes t (x ∷ xs) = grind (arith, cond_both, and_from, list_all-passes t xs)
 
 pub filter_all : {X : Type 0} (t : X → Bool) (xs : List X) → list_all t xs ≡ true → filter t xs ≡ xs
 filter_all t [] h = refl
-filter_all t (x ∷ xs) h =
-    let p = and_parts (t x) (list_all t xs) h in
-    cond-true (t x) (x ∷ filter t xs) (filter t xs) p.0 ∙ ap (λ ys. x ∷ ys) (filter_all t xs p.1)
+filter_all t (x ∷ xs) h = grind (arith, and_parts, cond-true, filter_all t xs)
 
 list_all-both : {X : Type 0} (p q : X → Bool) (xs : List X) → list_all p xs ≡ true → list_all q xs ≡ true
     → list_all (λ x. p x && q x) xs ≡ true
 list_all-both p q [] g h = refl
-list_all-both p q (x ∷ xs) g h =
-    let a = and_parts (p x) (list_all p xs) g in
-    let b = and_parts (q x) (list_all q xs) h in
-    and_from (p x && q x) (list_all (λ y. p y && q y) xs) (and_from (p x) (q x) a.0 b.0) (list_all-both p q xs a.1 b.1)
+list_all-both p q (x ∷ xs) g h = grind (arith, and_parts, and_from, list_all-both p q xs)
 
 pub list_all-weaker : {X : Type 0} (p q : X → Bool) → ((x : X) → p x ≡ true → q x ≡ true) → (xs : List X)
     → list_all p xs ≡ true → list_all q xs ≡ true
 list_all-weaker p q w [] h = refl
-list_all-weaker p q w (x ∷ xs) h =
-    let a = and_parts (p x) (list_all p xs) h in
-    and_from (q x) (list_all q xs) (w x a.0) (list_all-weaker p q w xs a.1)
+list_all-weaker p q w (x ∷ xs) h = grind (arith, and_parts, and_from, list_all-weaker p q w xs)
 
 -- what holds of each element holds of the one between
 pub list_all-between : {X : Type 0} (p : X → Bool) (before : List X) (x : X) (after : List X)
@@ -128,9 +114,8 @@ list_all-short ((b ∷ p) ∷ ps) = grind (arith, filter-nonempty, list_all-shor
 -- a path is good if it is short enough and good from its first byte on
 pub good_path-from : (path : List ℕ) → is_good_path path ≡ (nat_le (length path) path_limit && good_from 0 path)
 unfolding is_good_path
-good_path-from path = ap (λ v. nat_le (length path) path_limit && (list_all is_nonzero path && v))
-    (ap (list_all is_short) (components-are path) ∙ list_all-short (parts path) ∙ short_after-zero (parts path))
-    ∙ ap (λ v. nat_le (length path) path_limit && v) (good_from-short 0 path (omega arith))
+good_path-from path =
+    grind (arith, is_nonzero, is_short, components-are, list_all-short, short_after-zero, good_from-short)
 
 bad_from : (path : List ℕ) → good_from 0 path ≡ false → false ≡ is_good_path path
 bad_from path h = sym (good_path-from path ∙ and_right (nat_le (length path) path_limit) (good_from 0 path) h)
@@ -170,20 +155,13 @@ list_all-with_first p b (q ∷ ps) h g = cc
 pub list_all-parts : (p : ℕ → Bool) (bs : List ℕ) → list_all p bs ≡ true → list_all (list_all p) (parts bs) ≡ true
 list_all-parts p [] h = ap (list_all (list_all p)) parts-nil
 list_all-parts p (b ∷ bs) h =
-    let a = and_parts (p b) (list_all p bs) h in
-    let rest = list_all-parts p bs a.1 in
-    elim (cases_Bool (b == 47)) [
-      | inl slash ↦ ap (list_all (list_all p)) (parts-slash b bs slash) ∙ rest
-      | inr inner ↦ ap (list_all (list_all p)) (parts-inner b bs inner) ∙ list_all-with_first p b (parts bs) a.0 rest
-    ]
+    grind (arith, and_parts, cases_Bool, parts-slash, parts-inner, list_all-with_first, list_all-parts p bs)
 
 -- no part contains a `/`
 pub list_all-inner-parts : (bs : List ℕ) → list_all (list_all is_inner) (parts bs) ≡ true
 list_all-inner-parts [] = ap (list_all (list_all is_inner)) parts-nil
-list_all-inner-parts (b ∷ bs) = elim (cases_Bool (b == 47)) [
-  | inl slash ↦ ap (list_all (list_all is_inner)) (parts-slash b bs slash) ∙ list_all-inner-parts bs
-  | inr inner ↦ ap (list_all (list_all is_inner)) (parts-inner b bs inner) ∙ list_all-with_first is_inner b (parts bs) (not_from_false (b == 47) inner) (list_all-inner-parts bs)
-]
+list_all-inner-parts (b ∷ bs) =
+    grind (arith, cases_Bool, parts-slash, parts-inner, list_all-with_first, not_from_false, list_all-inner-parts bs)
 
 pub list_all-components : (p : ℕ → Bool) (bs : List ℕ) → list_all p bs ≡ true
     → list_all (list_all p) (components bs) ≡ true
@@ -229,10 +207,7 @@ step c good bytes = grind (arith, cases_Bool, good_component-is_name)
 steps : (cs : List (List ℕ)) → list_all is_good_component cs ≡ true → list_all (list_all is_octet) cs ≡ true
     → list_all is_step cs ≡ true
 steps [] good bytes = refl
-steps (c ∷ cs) good bytes =
-    let g = and_parts (is_good_component c) (list_all is_good_component cs) good in
-    let b = and_parts (list_all is_octet c) (list_all (list_all is_octet) cs) bytes in
-    and_from (is_step c) (list_all is_step cs) (step c g.0 b.0) (steps cs g.1 b.1)
+steps (c ∷ cs) good bytes = grind (arith, and_parts, and_from, step, steps cs)
 
 -- each component of a good path of bytes is `.`, `..` or a name
 pub components-steps : (path : List ℕ) → is_good_path path ≡ true → list_all is_octet path ≡ true

@@ -55,16 +55,12 @@ parts_behind-first (b ∷ bs) h = ap parts (take_rest (b ∷ bs) 1)
 -- what has no `/` is the first part of whatever a `/` follows
 pub parts-append : (w r : List ℕ) → list_all is_inner w ≡ true → parts (w ++ 47 ∷ r) ≡ w ∷ parts r
 parts-append [] r h = parts-from_slash r
-parts-append (b ∷ w) r h =
-    let p = and_parts (is_inner b) (list_all is_inner w) h in
-    parts-inner b (w ++ 47 ∷ r) (not-true (b == 47) p.0) ∙ ap (with_first b) (parts-append w r p.1)
+parts-append (b ∷ w) r h = grind (arith, and_parts, parts-inner, not-true, parts-append w r)
 
 -- what has no `/` is one part
 pub parts-whole : (w : List ℕ) → list_all is_inner w ≡ true → parts w ≡ w ∷ []
 parts-whole [] h = parts-nil
-parts-whole (b ∷ w) h =
-    let p = and_parts (is_inner b) (list_all is_inner w) h in
-    parts-inner b w (not-true (b == 47) p.0) ∙ ap (with_first b) (parts-whole w p.1)
+parts-whole (b ∷ w) h = grind (arith, and_parts, parts-inner, not-true, parts-whole w)
 
 -- a path has a part, if only an empty one
 pub parts-first : (bs : List ℕ) → (w : List ℕ) × (ws : List (List ℕ)) × (parts bs ≡ w ∷ ws)
@@ -114,21 +110,14 @@ skip-stop b bs inner = ap (λ v. drop (cond (not (not v)) (1 + position_or_len i
 -- the slashes in front change nothing
 pub components-skip : (bs : List ℕ) → components (drop (position_or_len is_inner bs) bs) ≡ components bs
 components-skip [] = refl
-components-skip (b ∷ bs) = elim (cases_Bool (b == 47)) [
-  | inl slash ↦
-      ap components (skip-slash b bs slash) ∙ components-skip bs
-      ∙ sym (components-slash bs) ∙ ap (λ v. components (v ∷ bs)) (sym (eqb-true b 47 slash))
-  | inr inner ↦ ap components (skip-stop b bs inner)
-]
+components-skip (b ∷ bs) =
+    grind (arith, cases_Bool, skip-slash, components-slash, eqb-true, skip-stop, components-skip bs)
 
 -- nothing follows them, or a byte that is not `/`
 skip-inner : (bs : List ℕ) → begins_at_slash (drop (position_or_len is_inner bs) bs) ≡ true
     → drop (position_or_len is_inner bs) bs ≡ []
 skip-inner [] h = refl
-skip-inner (b ∷ bs) h = elim (cases_Bool (b == 47)) [
-  | inl slash ↦ skip-slash b bs slash ∙ skip-inner bs (ap begins_at_slash (sym (skip-slash b bs slash)) ∙ h)
-  | inr inner ↦ absurd (false≢true (sym inner ∙ ap begins_at_slash (sym (skip-stop b bs inner)) ∙ h))
-]
+skip-inner (b ∷ bs) h = grind (arith, cases_Bool, skip-slash, false≢true, skip-stop, skip-inner bs)
 
 position-some : (bs : List ℕ) (n : ℕ) → position is_inner bs ≡ Some n
     → (position_or_len is_inner bs < length bs) × (position_or_len is_inner bs ≡ n)
@@ -210,11 +199,9 @@ with_slashes-parts (b ∷ bs) =
     let first = parts-first bs in
     let rest : with_slashes (first.0 ∷ first.1) ≡ bs = ap with_slashes (sym first.2) ∙ with_slashes-parts bs in
     elim (cases_Bool (b == 47)) [
-      | inl slash ↦
-          ap with_slashes (parts-slash b bs slash) ∙ ap (λ ws. with_slashes ([] ∷ ws)) first.2
+      | inl slash ↦ ap with_slashes (parts-slash b bs slash) ∙ ap (λ ws. with_slashes ([] ∷ ws)) first.2
           ∙ ap (λ cs. 47 ∷ cs) rest ∙ ap (λ v. v ∷ bs) (sym (eqb-true b 47 slash))
-      | inr inner ↦
-          ap with_slashes (parts-inner b bs inner ∙ ap (with_first b) first.2)
+      | inr inner ↦ ap with_slashes (parts-inner b bs inner ∙ ap (with_first b) first.2)
           ∙ with_slashes-with_first b first.0 first.1 ∙ ap (λ cs. b ∷ cs) rest
     ]
 
@@ -222,6 +209,4 @@ with_slashes-parts (b ∷ bs) =
 pub parts-with_slashes : (w : List ℕ) (ws : List (List ℕ)) → list_all (list_all is_inner) (w ∷ ws) ≡ true
     → parts (with_slashes (w ∷ ws)) ≡ w ∷ ws
 parts-with_slashes w [] h = parts-whole w (and_parts (list_all is_inner w) true h).0
-parts-with_slashes w (v ∷ vs) h =
-    let p = and_parts (list_all is_inner w) (list_all (list_all is_inner) (v ∷ vs)) h in
-    parts-append w (with_slashes (v ∷ vs)) p.0 ∙ ap (λ ws. w ∷ ws) (parts-with_slashes v vs p.1)
+parts-with_slashes w (v ∷ vs) h = grind (arith, and_parts, parts-append, parts-with_slashes v vs)

@@ -1,5 +1,5 @@
 -- How many values of a table pass a test, after each operation; for any keys and values.
-use Rattle.std.proofs.Common.{◌≡◌, ◌+◌, ◌<◌, ℕ, Bool, true, false, cond, if◌then◌else◌, [], ◌∷◌, length, refl, ap, ◌∙◌}
+use Rattle.std.proofs.Common.{◌≡◌, ◌+◌, ◌<◌, ℕ, Bool, true, false, cond, if◌then◌else◌, [], ◌∷◌, length, ap, ◌∙◌}
 use Rattle.std.proofs.Common.{arith, Some, None}
 use Rattle.std.specs.Bool.{IsTrue}
 use Rattle.std.specs.Ordering.{is_eq, match_ordering}
@@ -65,8 +65,7 @@ module _ {K X : Type 0} (passes : X → Bool) where
           → cond (is_eq o) (Some e.1) (lookup (is_at (cmp key)) es) ≡ Some old
           → (lookup (is_at (cmp key)) es ≡ Some old → length (filter of_value more) + one_if (passes old) ≡ length (filter of_value es) + one_if (passes value))
           → length (filter of_value (match_ordering o ((key, value) ∷ e ∷ es) ((e.0, value) ∷ es) (e ∷ more))) + one_if (passes old) ≡ length (filter of_value (e ∷ es)) + one_if (passes value)
-      again-turn key value old e es more Less is order there there_o rest =
-          grind (arith, lookup-none, none_below_head)
+      again-turn key value old e es more Less is order there there_o rest = grind (arith, lookup-none, none_below_head)
       again-turn key value old e es more Equal is order there there_o rest = grind (arith, count-cons)
       again-turn key value old e es more Greater is order there there_o rest = grind (arith, count-cons)
 
@@ -76,8 +75,7 @@ module _ {K X : Type 0} (passes : X → Bool) where
           ≡ length (filter of_value es) + one_if (passes value)
       count-insert_again [] key value old order there = cc
       count-insert_again (e ∷ es) key value old order there =
-          again-turn key value old e es (insert_entry cmp es key value) (cmp key e.0) refl order there there
-          (count-insert_again es key value old (sorted_tail cmp e.0 (keys_of es) order))
+          simp (again-turn, sorted_tail, count-insert_again es key value old (sorted_tail cmp e.0 (keys_of es) order))
 
 -- ---- the laws
 

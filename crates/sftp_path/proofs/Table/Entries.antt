@@ -1,6 +1,6 @@
 -- Laws of the entries of a table one by one: the last one, those in front, and two keys that do not tie.
 use Rattle.std.proofs.Common.{◌≡◌, ◌≢◌, Bool, true, false, cond, List, [], ◌∷◌, ◌++◌, refl, sym, ap, ◌∙◌, Option, Some}
-use Rattle.std.proofs.Common.{None}
+use Rattle.std.proofs.Common.{arith, None}
 use Rattle.std.specs.Ordering.{is_eq}
 use Rattle.std.specs.declared.cmp.Ordering.{Ordering}
 use Rattle.std.specs.declared.cmp.Ordering.TheVariants.{Less, Equal}
@@ -47,8 +47,7 @@ module _ {K : Type 0} (cmp : K → K → Ordering) (total : IsTotalOrder cmp) (s
 
   -- what rises to a key does not tie with it
   less-apart : (a b : K) → cmp a b ≡ Less → is_eq (cmp b a) ≡ false
-  less-apart a b less =
-      false_from_ne_true (is_eq (cmp b a)) (λ h. not-both (cmp a b) (cmp b b) less (tied_itself total b) (ap (λ k. cmp k b) (sym (tie b a h))))
+  less-apart a b less = grind (arith, false_from_ne_true, not-both, tied_itself, tie)
 
 module _ {K X : Type 0} (cmp : K → K → Ordering) where
   -- a key has no value: neither in the first entry, nor in the others
@@ -59,9 +58,7 @@ module _ {K X : Type 0} (cmp : K → K → Ordering) where
   -- a key has no value: neither in front, nor behind
   pub get-none_front : (es fs : Table K X) (key : K) → get cmp (es ++ fs) key ≡ None → get cmp es key ≡ None
   get-none_front [] fs key h = get-empty cmp key
-  get-none_front (x ∷ xs) fs key h =
-      let parts = get-none x (xs ++ fs) key h in
-      get-cons cmp x xs key ∙ (λ i. cond (parts.0 i) (Some x.1) (get-none_front xs fs key parts.1 i))
+  get-none_front (x ∷ xs) fs key h = grind (arith, get-none, get-cons, get-none_front xs fs key)
 
   pub get-none_behind : (es fs : Table K X) (key : K) → get cmp (es ++ fs) key ≡ None → get cmp fs key ≡ None
   get-none_behind [] fs key h = h
@@ -86,17 +83,7 @@ module _ {K X : Type 0} (cmp : K → K → Ordering) where
     pub get-last : (es : Table K X) (e : K × X) (at : K) → get cmp es e.0 ≡ None
         → get cmp (es ++ e ∷ []) at ≡ cond (is_eq (cmp at e.0)) (Some e.1) (get cmp es at)
     get-last [] e at absent = get-cons cmp e [] at
-    get-last (x ∷ xs) e at absent =
-        let parts = get-none x xs e.0 absent in
-        get-cons cmp x (xs ++ e ∷ []) at ∙ ap (cond (is_eq (cmp at x.0)) (Some x.1)) (get-last xs e at parts.1)
-        ∙ swap-choices (is_eq (cmp at x.0)) (is_eq (cmp at e.0)) (Some x.1) (Some e.1) (get cmp xs at) (never parts.0)
-        ∙ ap (cond (is_eq (cmp at e.0)) (Some e.1)) (sym (get-cons cmp x xs at))
-      where
-        never : is_eq (cmp e.0 x.0) ≡ false → is_eq (cmp at x.0) ≡ true → is_eq (cmp at e.0) ≡ true → ⊥
-        never miss g h =
-            let hit : is_eq (cmp e.0 x.0) ≡ true =
-            ap (λ k. is_eq (cmp k x.0)) (sym (tie cmp total same at e.0 h)) ∙ g in
-            cc
+    get-last (x ∷ xs) e at absent = grind (arith, get-none, get-cons, swap-choices, tie, get-last xs e at)
 
     -- the table of entries is made from the first to the last as well, where no key comes twice
     pub from_entries-last : (es : List (K × X)) (e : K × X) → get cmp es e.0 ≡ None
@@ -129,12 +116,7 @@ module _ {K X : Type 0} (cmp : K → K → Ordering) where
 
 remove-absent : {K X : Type 0} (test : K → Bool) (es : Table K X) → lookup test es ≡ None → remove_entry test es ≡ es
 remove-absent test [] absent = refl
-remove-absent test (e ∷ es) absent = by (test e.0) absent (remove-absent test es)
-  where
-    by : (b : Bool) → cond b (Some e.1) (lookup test es) ≡ None → (lookup test es ≡ None → remove_entry test es ≡ es)
-        → cond b es (e ∷ remove_entry test es) ≡ e ∷ es
-    by true none rest = cc
-    by false none rest = ap (λ fs. e ∷ fs) (rest none)
+remove-absent test (e ∷ es) absent = grind (arith, remove-absent test es)
 
 -- to take it away changes nothing
 pub without-absent : {K X : Type 0} (cmp : K → K → Ordering) (es : Table K X) (key : K) → get cmp es key ≡ None

@@ -109,8 +109,7 @@ module _ {K X : Type 0} (cmp : K → K → Ordering) where
   pub get-below : (key : K) (es : Table K X) → AllByRecursion (λ k. cmp key k ≡ Less) (keys_of es)
       → get cmp es key ≡ None
   get-below key [] h = get-empty key
-  get-below key (e ∷ es) h =
-      get-cons e es key ∙ ap (λ o. cond (is_eq o) (Some e.1) (get cmp es key)) h.0 ∙ get-below key es h.1
+  get-below key (e ∷ es) h = grind (arith, get-cons, get-below key es h.1)
 
   -- ---- how many entries
 
@@ -167,12 +166,7 @@ module _ {K X : Type 0} (cmp : K → K → Ordering) where
   all-remove : (P : K → Type 0) (test : K → Bool) (es : Table K X) → AllByRecursion P (keys_of es)
       → AllByRecursion P (keys_of (remove_entry test es))
   all-remove P test [] h = tt
-  all-remove P test (e ∷ es) h = by (test e.0) (all-remove P test es h.1)
-    where
-      by : (b : Bool) → AllByRecursion P (keys_of (remove_entry test es))
-          → AllByRecursion P (keys_of (cond b es (e ∷ remove_entry test es)))
-      by true rest = h.1
-      by false rest = (h.0, rest)
+  all-remove P test (e ∷ es) h = grind (arith, all-remove P test es h.1)
 
   sorted-remove : (test : K → Bool) (es : Table K X) → InOrder cmp es → InOrder cmp (remove_entry test es)
   unfolding IsStrictlySortedBy
@@ -271,8 +265,7 @@ module _ {K X : Type 0} (cmp : K → K → Ordering) where
                 here (keeps e) hit (rest ∙ kept-none keeps key (lookup (is_at (cmp key)) es) none)
                 ∙ ap (λ k. cond (keeps (k, e.1)) (Some e.1) None) (sym is)
                 ∙ ap (λ b. kept keeps key (cond b (Some e.1) (lookup (is_at (cmp key)) es))) (sym hit)
-            | inr miss ↦
-                there (keeps e) miss ∙ rest
+            | inr miss ↦ there (keeps e) miss ∙ rest
                 ∙ ap (λ b. kept keeps key (cond b (Some e.1) (lookup (is_at (cmp key)) es))) (sym miss)
           ]
         where

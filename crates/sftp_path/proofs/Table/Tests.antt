@@ -1,5 +1,5 @@
 -- Laws of a test that all entries of a table pass, after each operation.
-use Rattle.std.proofs.Common.{◌≡◌, Bool, true, false, cond, ◌&&◌, [], ◌∷◌, refl, ap, ◌∙◌, Some, None}
+use Rattle.std.proofs.Common.{◌≡◌, Bool, true, false, cond, ◌&&◌, [], ◌∷◌, refl, ap, Some, None, arith}
 use Rattle.std.specs.Bool.{IsTrue}
 use Rattle.std.specs.Ordering.{is_eq, match_ordering}
 use Rattle.std.specs.declared.cmp.Ordering.{Ordering}
@@ -36,8 +36,7 @@ module _ {K X : Type 0} (cmp : K → K → Ordering) where
       ≡ (keeps (key, value) && list_all keeps (e ∷ es))
   new-turn keeps key value e es more Less absent rest = refl
   new-turn keeps key value e es more Equal absent rest = cc
-  new-turn keeps key value e es more Greater absent rest =
-      ap (λ b. keeps e && b) (rest absent) ∙ swap-tests (keeps e) (keeps (key, value)) (list_all keeps es)
+  new-turn keeps key value e es more Greater absent rest = grind (arith, swap-tests)
 
   all-insert_new : (keeps : K × X → Bool) (es : Table K X) (key : K) (value : X) → lookup (is_at (cmp key)) es ≡ None
       → list_all keeps (insert_entry cmp es key value) ≡ (keeps (key, value) && list_all keeps es)
@@ -54,14 +53,7 @@ module _ {K X : Type 0} (cmp : K → K → Ordering) where
   all-remove : (keeps : K × X → Bool) (test : K → Bool) (es : Table K X) → IsTrue (list_all keeps es)
       → IsTrue (list_all keeps (remove_entry test es))
   all-remove keeps test [] h = refl
-  all-remove keeps test (e ∷ es) h =
-      let parts = and_parts (keeps e) (list_all keeps es) h in
-      by (test e.0) parts.0 parts.1 (all-remove keeps test es parts.1)
-    where
-      by : (b : Bool) → IsTrue (keeps e) → IsTrue (list_all keeps es) → IsTrue (list_all keeps (remove_entry test es))
-          → IsTrue (list_all keeps (cond b es (e ∷ remove_entry test es)))
-      by true first others left = others
-      by false first others left = and_from (keeps e) (list_all keeps (remove_entry test es)) first left
+  all-remove keeps test (e ∷ es) h = grind (arith, and_parts, and_from, all-remove keeps test es)
 
   pub all-without : (es : Table K X) (key : K) (keeps : K × X → Bool) → IsTrue (list_all keeps es)
       → IsTrue (list_all keeps (without cmp es key))
@@ -82,9 +74,7 @@ module _ {K X : Type 0} (cmp : K → K → Ordering) where
       → IsTrue (passes value) → IsTrue (list_all (λ e. passes e.1) (insert_entry cmp es key value))
   values-insert passes [] key value h passing = and_from (passes value) true passing refl
   values-insert passes (e ∷ es) key value h passing =
-      let parts = and_parts (passes e.1) (list_all (λ x. passes x.1) es) h in
-      values-turn passes key value e es (insert_entry cmp es key value) (cmp key e.0) parts.0 parts.1 passing
-      (values-insert passes es key value parts.1 passing)
+      grind (arith, and_parts, values-turn, values-insert passes es key value)
 
   pub values-put : (es : Table K X) (key : K) (value : X) (passes : X → Bool)
       → IsTrue (list_all (λ e. passes e.1) es) → IsTrue (passes value)
@@ -114,25 +104,14 @@ module _ {K X : Type 0} (cmp : K → K → Ordering) where
     key-passes : (test : K → Bool) (es : Table K X) (key : K) (old : X) → lookup (is_at (cmp key)) es ≡ Some old
         → list_all (λ x. test x.0) es ≡ true → test key ≡ true
     key-passes test [] key old there h = cc
-    key-passes test (e ∷ es) key old there h =
-        let parts = and_parts (test e.0) (list_all (λ x. test x.0) es) h in
-        by (cmp key e.0) refl parts.0 there (λ found. key-passes test es key old found parts.1)
-      where
-        by : (o : Ordering) → cmp key e.0 ≡ o → test e.0 ≡ true
-            → cond (is_eq o) (Some e.1) (lookup (is_at (cmp key)) es) ≡ Some old
-            → (lookup (is_at (cmp key)) es ≡ Some old → test key ≡ true) → test key ≡ true
-        by Less is first found rest = rest found
-        by Equal is first found rest = ap test (same key e.0 is) ∙ first
-        by Greater is first found rest = rest found
+    key-passes test (e ∷ es) key old there h = grind (arith, and_parts, key-passes test es key old)
 
     keys-insert_again : (test : K → Bool) (es : Table K X) (key : K) (value old : X)
         → lookup (is_at (cmp key)) es ≡ Some old
         → list_all (λ e. test e.0) (insert_entry cmp es key value) ≡ list_all (λ e. test e.0) es
     keys-insert_again test [] key value old there = cc
     keys-insert_again test (e ∷ es) key value old there =
-        keys-turn test key value e es (insert_entry cmp es key value) (cmp key e.0)
-        (λ miss. implied (test key) (list_all (λ x. test x.0) (e ∷ es)) (key-passes test (e ∷ es) key old there))
-        (λ miss. keys-insert_again test es key value old (lookup-rest (is_eq (cmp key e.0)) e.1 old es key there miss))
+        grind (arith, keys-turn, implied, key-passes, lookup-rest, keys-insert_again test es key value old)
 
     -- in order or not, where keys that tie are equal
     pub keys-put_again : (es : Table K X) (key : K) (value old : X) (test : K → Bool) → get cmp es key ≡ Some old
@@ -151,10 +130,7 @@ module _ {K X : Type 0} (cmp : K → K → Ordering) where
         by : (o : Ordering) → cmp key e.0 ≡ o → cond (is_eq o) (Some e.1) (lookup (is_at (cmp key)) es) ≡ Some old
             → (lookup (is_at (cmp key)) es ≡ Some old → list_all (λ x. test x.0) (insert_entry cmp es key value) ≡ list_all (λ x. test x.0) es)
             → list_all (λ x. test x.0) (match_ordering o ((key, value) ∷ e ∷ es) ((e.0, value) ∷ es) (e ∷ insert_entry cmp es key value)) ≡ list_all (λ x. test x.0) (e ∷ es)
-        by Less is found rest =
-            let none : lookup (is_at (cmp key)) (e ∷ es) ≡ None =
-            lookup-none (is_at (cmp key)) (e ∷ es) (none_below_head total key e es order is) in
-            cc
+        by Less is found rest = grind (arith, lookup-none, none_below_head)
         by Equal is found rest = refl
         by Greater is found rest = ap (λ b. test e.0 && b) (rest found)
 

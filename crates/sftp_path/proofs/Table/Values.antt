@@ -1,5 +1,5 @@
 -- Laws of a table whose keys get other values, each made of the one before.
-use Rattle.std.proofs.Common.{◌≡◌, Bool, true, false, cond, [], ◌∷◌, refl, sym, ap, subst}
+use Rattle.std.proofs.Common.{◌≡◌, Bool, [], ◌∷◌, refl, sym, ap, subst, arith}
 use Rattle.std.specs.Option.{option_map}
 use Rattle.std.specs.Ordering.{match_ordering}
 use Rattle.std.specs.declared.cmp.Ordering.{Ordering}
@@ -23,20 +23,12 @@ module _ {K X Y : Type 0} (f : X → Y) where
   with_values-insert : (cmp : K → K → Ordering) (es : Table K X) (key : K) (value : X)
       → with_values f (insert_entry cmp es key value) ≡ insert_entry cmp (with_values f es) key (f value)
   with_values-insert cmp [] key value = refl
-  with_values-insert cmp (e ∷ es) key value =
-      insert-turn key value e es (insert_entry cmp es key value) (insert_entry cmp (with_values f es) key (f value))
-      (cmp key e.0) (with_values-insert cmp es key value)
+  with_values-insert cmp (e ∷ es) key value = grind (arith, insert-turn, with_values-insert cmp es key value)
 
   with_values-remove : (test : K → Bool) (es : Table K X)
       → with_values f (remove_entry test es) ≡ remove_entry test (with_values f es)
   with_values-remove test [] = refl
-  with_values-remove test (e ∷ es) = by (test e.0) (with_values-remove test es)
-    where
-      by : (b : Bool) → with_values f (remove_entry test es) ≡ remove_entry test (with_values f es)
-          → with_values f (cond b es (e ∷ remove_entry test es))
-          ≡ cond b (with_values f es) ((e.0, f e.1) ∷ remove_entry test (with_values f es))
-      by true is = refl
-      by false is = ap (λ fs. (e.0, f e.1) ∷ fs) is
+  with_values-remove test (e ∷ es) = grind (arith, with_values-remove test es)
 
   pub size-with_values : (es : Table K X) → size (with_values f es) ≡ size es
   size-with_values es = length-map es (λ (e : K × X). (e.0, f e.1))

@@ -242,8 +242,7 @@ room-for t ask (Err cause) new keeps none =
 pub judged : (t : Tree) (ask : Ask) (end : Result Place Cause) (new : Option (Result Place Cause)) (plain : CauseSet) (lacks : Bool) → led t ask ≡ Some end → new_led t ask ≡ new → ((place : Place) → end ≡ Ok place → IsKept t) → plain ≡ plain_of t ask (Some end) new → lacks ≡ (not (list_any plain every_cause) && not (has_room_for t ask end new)) → when plain NoRoom lacks ≡ causes t ask
 judged t ask end new plain lacks one two keeps same is =
     let all = plain_of t ask (Some end) new in
-    (λ i. when (same i) NoRoom (lack (is_none all) refl i))
-    ∙ sym (causes-are t ask (Some end) new one two)
+    (λ i. when (same i) NoRoom (lack (is_none all) refl i)) ∙ sym (causes-are t ask (Some end) new one two)
   where
     both : (b : Bool) → is_none (plain_of t ask (Some end) new) ≡ b → (b && not (has_room_for t ask end new)) ≡ (b && not (fits (outcome_led t ask (Some end) new)))
     both true none = ap not (room-for t ask end new keeps (none-each (plain_of t ask (Some end) new) none))

@@ -48,8 +48,7 @@ module _ (names : Names) (new : Place) (order : InOrder place_cmp names) where
   put-freed it =
       same_table place_cmp place_cmp-total place_cmp-same (with_node (without_node names new) new it) (with_node names new it)
       (InOrder-put place_cmp place_cmp-total (without_node names new) new it (InOrder-without place_cmp names new order)) (InOrder-put place_cmp place_cmp-total names new it order)
-      (λ at.
-      get-put place_cmp place_cmp-total (without_node names new) new it at
+      (λ at. get-put place_cmp place_cmp-total (without_node names new) new it at
       ∙ ap (cond (is_eq (place_cmp at new)) (Some it)) (get-without place_cmp place_cmp-total names new at order)
       ∙ either-way (is_eq (place_cmp at new)) (Some it) (node_at names at) (is_eq (place_cmp new at)) (ap is_eq (place_cmp-total.antisymm new at) ∙ reversed (place_cmp at new)) None
       ∙ sym (get-put place_cmp place_cmp-total names new it at))

@@ -91,23 +91,18 @@ module _ (names others : Names) (files : Table ℕ Stored) where
       (same-contents files after order changed.ordered content, at-entries (λ other (s : Stored). s.names ≡ times_named others other) after changed.ordered names-of)
     where
       content : (other : ℕ) → option_map (λ (s : Stored). s.content) (get nat_cmp after other) ≡ option_map (λ (s : Stored). s.content) (get nat_cmp files other)
-      content other =
-          by-number number other
-          (λ is.
+      content other = by-number number other (λ is.
           ap (λ k. option_map (λ (s : Stored). s.content) (get nat_cmp after k)) is ∙ ap (option_map (λ (s : Stored). s.content)) changed.here ∙ more-content (get nat_cmp files number)
           ∙ ap (λ k. option_map (λ (s : Stored). s.content) (get nat_cmp files k)) (sym is))
           (λ differ. ap (option_map (λ (s : Stored). s.content)) (changed.others other differ))
 
       names-of : (other : ℕ) (s : Stored) → get nat_cmp after other ≡ Some s → s.names ≡ times_named others other
-      names-of other s there =
-          by-number number other
-          (λ is.
+      names-of other s there = by-number number other (λ is.
           let one = one-here number in
           let at_number = more number in
           let n = more-names (get nat_cmp files number) s (times_named names number) (sym changed.here ∙ ap (get nat_cmp after) (sym is) ∙ there) (count-at names files counted number) in
           let here : s.names ≡ times_named others number = omega arith in
-          here ∙ ap (times_named others) (sym is))
-          (λ differ.
+          here ∙ ap (times_named others) (sym is)) (λ differ.
           let none = one-elsewhere number other differ in
           let at_other = more other in
           let n = count-at names files counted other s (sym (changed.others other differ) ∙ there) in
@@ -204,18 +199,13 @@ module _ (names others : Names) (files : Table ℕ Stored) where
             omega arith
 
         content : (other : ℕ) → option_map (λ (s : Stored). s.content) (get nat_cmp after other) ≡ kept keeps other (option_map (λ (s : Stored). s.content) (get nat_cmp files other))
-        content other =
-            by-number number other
-            (λ is.
+        content other = by-number number other (λ is.
             ap (λ k. option_map (λ (s : Stored). s.content) (get nat_cmp after k)) is ∙ ap (option_map (λ (s : Stored). s.content)) changed.here ∙ gone-content number keeps (λ s. record s { names = s.names - 1 }) (get nat_cmp files number) (λ s. refl) still
-            ∙ ap (λ k. kept keeps k (option_map (λ (s : Stored). s.content) (get nat_cmp files k))) (sym is))
-            (λ differ.
+            ∙ ap (λ k. kept keeps k (option_map (λ (s : Stored). s.content) (get nat_cmp files k))) (sym is)) (λ differ.
             ap (option_map (λ (s : Stored). s.content)) (changed.others other differ) ∙ stayed-content other keeps (get nat_cmp files other) (held-still other (alike other differ)))
 
         names-of : (other : ℕ) (s : Stored) → get nat_cmp after other ≡ Some s → s.names ≡ times_named others other
-        names-of other s there =
-            by-number number other
-            (λ is.
+        names-of other s there = by-number number other (λ is.
             let one = one-here number in
             let l = less number in
             let n = fewer-names (get nat_cmp files number) s (times_named names number) (sym changed.here ∙ ap (get nat_cmp after) (sym is) ∙ there) (count-at names files counted number) (omega arith) in
@@ -225,8 +215,7 @@ module _ (names others : Names) (files : Table ℕ Stored) where
 
     lost-none : (after : Table ℕ Stored) → ((other : ℕ) → times_named others other ≡ times_named names other) → after ≡ files → (contents after ≡ retain (contents files) (stays (is_pinned (pins_of files)) others)) × AreCounted others after
     lost-none after alike same = (
-      ap contents same
-          ∙ left-contents (stays (is_pinned (pins_of files)) others) files order order
+      ap contents same ∙ left-contents (stays (is_pinned (pins_of files)) others) files order order
           (λ number. stayed-content number (stays (is_pinned (pins_of files)) others) (get nat_cmp files number) (held-still number (alike number))),
       subst (AreCounted others) (sym same) (counted-again names others files order alike counted),
     )
@@ -251,8 +240,7 @@ module _ (names : Names) (files : Table ℕ Stored) (change : Content → Conten
   pub counted-changed : AreCounted names files → IsChanged (with_content_made change) number files after → AreCounted names after
   counted-changed counted changed =
       at-entries (λ other (s : Stored). s.names ≡ times_named names other) after changed.ordered (λ other s there.
-      by-number number other
-      (λ is.
+      by-number number other (λ is.
       changed-names change (get nat_cmp files number) s (times_named names number) (sym changed.here ∙ ap (get nat_cmp after) (sym is) ∙ there) (count-at names files counted number)
       ∙ ap (times_named names) (sym is))
       (λ differ. count-at names files counted other s (sym (changed.others other differ) ∙ there)))
@@ -264,10 +252,7 @@ module _ (names : Names) (files : Table ℕ Stored) (change : Content → Conten
       let new : Content = change s.content in
       same_table nat_cmp nat_cmp_total nat_cmp-IsAntisymmetric (contents after) (with_content (contents files) number new) (InOrder-with_values nat_cmp content after changed.ordered)
       (InOrder-put nat_cmp nat_cmp_total (contents files) number new (InOrder-with_values nat_cmp content files order))
-      (λ other.
-      get-with_values nat_cmp content after other
-      ∙ by-number number other
-      (λ is.
+      (λ other. get-with_values nat_cmp content after other ∙ by-number number other (λ is.
       ap (λ k. option_map content (get nat_cmp after k)) is ∙ ap (option_map content) (changed.here ∙ ap (option_and_then (with_content_made change)) there)
       ∙ sym (get-put_here nat_cmp nat_cmp_total (contents files) number new) ∙ ap (get nat_cmp (with_content (contents files) number new)) (sym is))
       (λ differ.
@@ -278,9 +263,7 @@ module _ (names : Names) (files : Table ℕ Stored) (change : Content → Conten
   pub contents-unchanged : InOrder nat_cmp files → IsChanged (with_content_made change) number files after → get nat_cmp files number ≡ None → contents after ≡ contents files
   contents-unchanged order changed none =
       let content : Stored → Content = λ s. s.content in
-      same-contents files after order changed.ordered (λ other.
-      by-number number other
-      (λ is.
+      same-contents files after order changed.ordered (λ other. by-number number other (λ is.
       ap (λ k. option_map content (get nat_cmp after k)) is ∙ ap (option_map content) (changed.here ∙ ap (option_and_then (with_content_made change)) none ∙ sym none)
       ∙ ap (λ k. option_map content (get nat_cmp files k)) (sym is))
       (λ differ. ap (option_map content) (changed.others other differ)))

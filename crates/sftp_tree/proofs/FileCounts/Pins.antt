@@ -30,9 +30,7 @@ pin_entry-times often = by (nat_lt 0 often) refl
   where
     by : (b : Bool) → nat_lt 0 often ≡ b → unwrap_or (if b then Some often else None) 0 ≡ often
     by true some = refl
-    by false none =
-        let few = ltb-false 0 often none in
-        omega arith
+    by false none = let few = ltb-false 0 often none in omega arith
 
 -- ---- what is pinned
 
@@ -42,8 +40,7 @@ InOrder-pins files order =
 
 pub get-pins : (files : Table ℕ Stored) (number : ℕ) → InOrder nat_cmp files
     → get nat_cmp (pins_of files) number ≡ pin_entry (pin_count_at (get nat_cmp files number))
-get-pins files number order =
-    get-retain nat_cmp nat_cmp_total nat_cmp-IsAntisymmetric _ (λ e. nat_lt 0 e.1) number
+get-pins files number order = get-retain nat_cmp nat_cmp_total nat_cmp-IsAntisymmetric _ (λ e. nat_lt 0 e.1) number
     (InOrder-with_values nat_cmp (λ (s : Stored). s.pins) files order)
     ∙ ap (kept (λ (e : ℕ × ℕ). nat_lt 0 e.1) number) (get-with_values nat_cmp (λ (s : Stored). s.pins) files number)
     ∙ by (get nat_cmp files number)
@@ -80,8 +77,7 @@ pub get-with_pins_here : (pins : Pins) (number often : ℕ) → InOrder nat_cmp 
     → get nat_cmp (with_pins pins number often) number ≡ pin_entry often
 get-with_pins_here pins number often order = by (nat_lt 0 often)
   where
-    by : (b : Bool)
-        → get nat_cmp (if b then put nat_cmp pins number often else without nat_cmp pins number) number
+    by : (b : Bool) → get nat_cmp (if b then put nat_cmp pins number often else without nat_cmp pins number) number
         ≡ (if b then Some often else None)
     by true = get-put_here nat_cmp nat_cmp_total pins number often
     by false = get-without_here nat_cmp nat_cmp_total pins number order
@@ -90,14 +86,11 @@ pub get-with_pins_elsewhere : (pins : Pins) (number often other : ℕ) → InOrd
     → get nat_cmp (with_pins pins number often) other ≡ get nat_cmp pins other
 get-with_pins_elsewhere pins number often other order differ = by (nat_lt 0 often)
   where
-    by : (b : Bool)
-        → get nat_cmp (if b then put nat_cmp pins number often else without nat_cmp pins number) other
+    by : (b : Bool) → get nat_cmp (if b then put nat_cmp pins number often else without nat_cmp pins number) other
         ≡ get nat_cmp pins other
-    by true =
-        get-put_elsewhere nat_cmp nat_cmp_total pins number other often
+    by true = get-put_elsewhere nat_cmp nat_cmp_total pins number other often
         (λ tie. differ (nat_cmp-IsAntisymmetric other number tie))
-    by false =
-        get-without_elsewhere nat_cmp nat_cmp_total pins number other order
+    by false = get-without_elsewhere nat_cmp nat_cmp_total pins number other order
         (λ tie. differ (sym (nat_cmp-IsAntisymmetric number other tie)))
 
 pub times_pinned-here : (pins : Pins) (number often : ℕ) → InOrder nat_cmp pins
@@ -125,10 +118,7 @@ module _ (change : Stored → Option Stored) (number : ℕ) (files after : Table
   -- a change of one file that leaves it its pins leaves all pins
   pub changed-pins : ((s : Stored) → pin_count_at (change s) ≡ s.pins) → InOrder nat_cmp files
       → IsChanged change number files after → pins_of after ≡ pins_of files
-  changed-pins keeps order changed =
-      same-pins files after order changed.ordered (λ other.
-      by-number number other
-      (λ is.
+  changed-pins keeps order changed = same-pins files after order changed.ordered (λ other. by-number number other (λ is.
       ap (λ k. pin_count_at (get nat_cmp after k)) is ∙ ap pin_count_at changed.here ∙ by (get nat_cmp files number)
       ∙ ap (λ k. pin_count_at (get nat_cmp files k)) (sym is))
       (λ differ. ap pin_count_at (changed.others other differ)))
@@ -145,25 +135,18 @@ module _ (change : Stored → Option Stored) (number : ℕ) (files after : Table
       let pins = pins_of files in
       let in_order = InOrder-pins files order in
       same_table nat_cmp nat_cmp_total nat_cmp-IsAntisymmetric (pins_of after) (with_pins pins number often)
-      (InOrder-pins after changed.ordered) (InOrder-with_pins pins number often in_order)
-      (λ other.
-      get-pins after other changed.ordered
-      ∙ by-number number other
-      (λ is.
+      (InOrder-pins after changed.ordered) (InOrder-with_pins pins number often in_order) (λ other.
+      get-pins after other changed.ordered ∙ by-number number other (λ is.
       ap (λ k. pin_entry (pin_count_at (get nat_cmp after k))) is
       ∙ ap (λ o. pin_entry (pin_count_at o)) changed.here ∙ ap pin_entry is_often
-      ∙ sym (get-with_pins_here pins number often in_order)
-      ∙ ap (get nat_cmp (with_pins pins number often)) (sym is))
-      (λ differ.
-      ap (λ o. pin_entry (pin_count_at o)) (changed.others other differ) ∙ sym (get-pins files other order)
+      ∙ sym (get-with_pins_here pins number often in_order) ∙ ap (get nat_cmp (with_pins pins number often)) (sym is))
+      (λ differ. ap (λ o. pin_entry (pin_count_at o)) (changed.others other differ) ∙ sym (get-pins files other order)
       ∙ sym (get-with_pins_elsewhere pins number often other in_order differ)))
 
 -- ---- files that are removed where nothing holds them
 
 no-pins : (s : Stored) → is_held_still s ≡ false → s.pins ≡ 0
-no-pins s none =
-    let few = ltb-false 0 s.pins (or_parts (nat_lt 0 s.names) (nat_lt 0 s.pins) none).1 in
-    omega arith
+no-pins s none = let few = ltb-false 0 s.pins (or_parts (nat_lt 0 s.names) (nat_lt 0 s.pins) none).1 in omega arith
 
 -- one that is removed has no pin
 pub pins-where_held : (s : Stored) → pin_count_at (where_held s) ≡ s.pins

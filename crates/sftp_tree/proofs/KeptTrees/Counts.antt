@@ -143,8 +143,7 @@ module _ (names : Names) (files : Table ℕ Stored) (made : ℕ) (limits : TreeL
 
   -- the file that is there has an owner
   pub owner-there : IsKept the_tree → (number : ℕ) → IfSome (get nat_cmp files number) (λ s. IsOwner s.content.owner)
-  owner-there kept number =
-      each-some (λ (s : Stored). IsOwner s.content.owner) (get nat_cmp files number) (λ s there.
+  owner-there kept number = each-some (λ (s : Stored). IsOwner s.content.owner) (get nat_cmp files number) (λ s there.
       (at-number (λ number (content : Content). IsContent content) (contents files) kept.well_formed.contents number s.content (get-with_values nat_cmp (λ (s : Stored). s.content) files number ∙ ap (option_map (λ (s : Stored). s.content)) there)).0)
 
 -- and what its attributes leave is one, once they are set

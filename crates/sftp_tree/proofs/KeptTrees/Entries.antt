@@ -30,8 +30,7 @@ or_weaker false b c so h = or_right b c h
 -- a tree stays one where a new place has a directory for its parent, and there is room
 pub kept-put : (t : Tree) (place : Place) (it : Node) → IsKept t → IsTrue (are_names place) → node_at t.names place ≡ None → IsTrue (is_directory (node_at t.names (parent place))) → IsNode t.files it → IsTrue (fits (record t { names = with_node t.names place it })) → IsKept (record t { names = with_node t.names place it })
 kept-put t place it kept named absent above is_node within = record {
-  well_formed =
-      well-formed-names t (with_node t.names place it) kept.well_formed
+  well_formed = well-formed-names t (with_node t.names place it) kept.well_formed
       (names-put t.files t.names place it (names-of t kept.well_formed) named absent above is_node);
   within_limits = within;
   trimmed =
@@ -43,7 +42,6 @@ kept-put t place it kept named absent above is_node within = record {
 
 -- a tree stays one without a place that is not the root and has no entries; a file is removed with its last name
 pub kept-without : (t : Tree) (place : Place) → IsKept t → is_root place ≡ false → has_entries t.names place ≡ false → IsKept (trim (record t { names = without_node t.names place }))
-kept-without t place kept apart empty =
-    kept-trim (record t { names = without_node t.names place })
+kept-without t place kept apart empty = kept-trim (record t { names = without_node t.names place })
     (well-formed-names t (without_node t.names place) kept.well_formed (names-without t.files t.names place (names-of t kept.well_formed) apart empty))
     (fits-without t place kept.within_limits)

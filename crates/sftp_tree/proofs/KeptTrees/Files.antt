@@ -160,6 +160,5 @@ pub pins-stay : (t : Tree) (ask : Ask) → (outcome t ask).pins ≡ t.pins
 pins-stay t = by-outcome t (λ x. x.pins ≡ t.pins) refl (λ names. refl) (λ number before content there. refl) (λ place content. refl)
 
 pub limits-stay : (t : Tree) (ask : Ask) → (outcome t ask).limits ≡ t.limits
-limits-stay t =
-    by-outcome t (λ x. x.limits ≡ t.limits) refl (λ names. refl) (λ number before content there. refl)
+limits-stay t = by-outcome t (λ x. x.limits ≡ t.limits) refl (λ names. refl) (λ number before content there. refl)
     (λ place content. refl)

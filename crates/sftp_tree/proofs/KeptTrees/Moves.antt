@@ -131,5 +131,4 @@ well-formed-in-stead t old new well named old_not_root new_not_root apart above 
 pub kept-move : (t : Tree) (old new : Place) → IsKept t → IsTrue (are_names new) → is_root old ≡ false → is_root new ≡ false → begins old new ≡ false → IsTrue (is_directory (node_at t.names (parent new))) → has_entries t.names new ≡ false → IsTrue (fits (put_in_its_stead t old new)) → IsKept (trim (put_in_its_stead t old new))
 kept-move t old new kept named old_not_root new_not_root apart above empty within =
     kept-trim (put_in_its_stead t old new)
-    (well-formed-in-stead t old new kept.well_formed named old_not_root new_not_root apart above empty)
-    within
+    (well-formed-in-stead t old new kept.well_formed named old_not_root new_not_root apart above empty) within

@@ -53,8 +53,7 @@ well-formed-file : (t : Tree) (content : Content) → WellFormed t → IsContent
 well-formed-file t content well is_content = record {
   ordered = well.ordered;
   named = well.named;
-  nodes =
-      each-weaker (λ e. IsNode t.files e.1) (λ e. IsNode (with_content t.files t.made content) e.1)
+  nodes = each-weaker (λ e. IsNode t.files e.1) (λ e. IsNode (with_content t.files t.made content) e.1)
       (λ e. node-content t.files t.made content e.1) t.names well.nodes;
   root = well.root;
   parents = well.parents;
@@ -67,8 +66,7 @@ well-formed-file t content well is_content = record {
       (next t.made)
       (each-weaker (λ e. e.0 < t.made) (λ e. e.0 < t.made + 1) (λ e early. later e.0 t.made early) t.files well.given);
   pins = well.pins;
-  pinned =
-      each-weaker (λ e. IsPin t.files e) (λ e. IsPin (with_content t.files t.made content) e)
+  pinned = each-weaker (λ e. IsPin t.files e) (λ e. IsPin (with_content t.files t.made content) e)
       (λ e pin. (pin.0, still-there t.files t.made content e.0 pin.1)) t.pins well.pinned;
   limits = well.limits;
   home = well.home;
@@ -159,8 +157,7 @@ unfolding retain
 none-named [] files number nodes none = refl
 none-named (e ∷ es) files number nodes none =
     ap (λ b. length (cond b (e ∷ retain es (λ e. names_file number e.1)) (retain es (λ e. names_file number e.1))))
-    (by e.1 nodes.0)
-    ∙ none-named es files number nodes.1 none
+    (by e.1 nodes.0) ∙ none-named es files number nodes.1 none
   where
     by : (it : Node) → IsNode files it → names_file number it ≡ false
     by (Dir owner) is = refl
@@ -178,8 +175,7 @@ none-named (e ∷ es) files number nodes none =
 -- the next number is free
 pub next-free : (names : Names) (files : Table ℕ Stored) (made : ℕ) (limits : TreeLimits) (home : Place) (uid gid : ℕ)
     → IsKept (seen names files made limits home uid gid) → get nat_cmp files made ≡ None
-next-free names files made limits home uid gid kept =
-    by (get nat_cmp files made) refl
+next-free names files made limits home uid gid kept = by (get nat_cmp files made) refl
     (sym (get-with_values nat_cmp (λ (s : Stored). s.content) files made) ∙ not-given (seen names files made limits home uid gid) made kept.well_formed (omega arith))
   where
     by : (o : Option Stored) → get nat_cmp files made ≡ o → option_map (λ (s : Stored). s.content) o ≡ None → o ≡ None
@@ -193,13 +189,9 @@ unpinned-put : (files : Table ℕ Stored) (number : ℕ) (content : Content) →
 unpinned-put files number content order free =
     let new : Stored = record { content = content; names = 1; pins = 0 } in
     same-pins files (put nat_cmp files number new) order (InOrder-put nat_cmp nat_cmp_total files number new order)
-    (λ other.
-    by-number number other
-    (λ same.
-    ap (λ k. pin_count_at (get nat_cmp (put nat_cmp files number new) k)) same
+    (λ other. by-number number other (λ same. ap (λ k. pin_count_at (get nat_cmp (put nat_cmp files number new) k)) same
     ∙ ap pin_count_at (get-put_here nat_cmp nat_cmp_total files number new) ∙ ap pin_count_at (sym free)
-    ∙ ap (λ k. pin_count_at (get nat_cmp files k)) (sym same))
-    (λ differ.
+    ∙ ap (λ k. pin_count_at (get nat_cmp files k)) (sym same)) (λ differ.
     ap pin_count_at (get-put_elsewhere nat_cmp nat_cmp_total files number other new (λ tie. differ (nat_cmp-IsAntisymmetric other number tie)))))
 
 module _ (names : Names) (files : Table ℕ Stored) (made : ℕ) (limits : TreeLimits) (home : Place) (uid gid : ℕ) where
@@ -220,16 +212,13 @@ module _ (names : Names) (files : Table ℕ Stored) (made : ℕ) (limits : TreeL
       new = record { content = content; names = 1; pins = 0 }
 
       right : (number : ℕ) (s : Stored) → get nat_cmp (put nat_cmp files made new) number ≡ Some s → s.names ≡ times_named (with_node names place (File made)) number
-      right number s there =
-          by-number made number
-          (λ same.
+      right number s there = by-number made number (λ same.
           let one : s.names ≡ 1 = ap (λ (s : Stored). s.names) (same_Some s new (sym there ∙ ap (get nat_cmp (put nat_cmp files made new)) same ∙ get-put_here nat_cmp nat_cmp_total files made new)) in
           let none = none-named names (contents files) made kept.well_formed.nodes (not-given the_tree made kept.well_formed (omega arith)) in
           let here = one-here made in
           let m = named-more names place (File made) absent made in
           let all : s.names ≡ times_named (with_node names place (File made)) made = omega arith in
-          all ∙ ap (times_named (with_node names place (File made))) (sym same))
-          (λ differ.
+          all ∙ ap (times_named (with_node names place (File made))) (sym same)) (λ differ.
           let before = sym (get-put_elsewhere nat_cmp nat_cmp_total files made number new (λ tie. differ (nat_cmp-IsAntisymmetric number made tie))) ∙ there in
           let n = count-at names files counted number s before in
           let none = one-elsewhere made number differ in
@@ -247,15 +236,11 @@ pub put-back : (files middle after : Table ℕ Stored) (number : ℕ) (content :
     → IsChanged without_a_name number middle after → after ≡ files
 put-back files middle after number content order free is changed =
     let new : Stored = record { content = content; names = 1; pins = 0 } in
-    same_table nat_cmp nat_cmp_total nat_cmp-IsAntisymmetric after files changed.ordered order
-    (λ other.
-    by-number number other
-    (λ same.
-    ap (get nat_cmp after) same ∙ changed.here
+    same_table nat_cmp nat_cmp_total nat_cmp-IsAntisymmetric after files changed.ordered order (λ other.
+    by-number number other (λ same. ap (get nat_cmp after) same ∙ changed.here
     ∙ ap (λ table. option_and_then without_a_name (get nat_cmp table number)) is
     ∙ ap (option_and_then without_a_name) (get-put_here nat_cmp nat_cmp_total files number new)
-    ∙ sym free ∙ ap (get nat_cmp files) (sym same))
-    (λ differ.
+    ∙ sym free ∙ ap (get nat_cmp files) (sym same)) (λ differ.
     changed.others other differ ∙ ap (λ table. get nat_cmp table other) is
     ∙ get-put_elsewhere nat_cmp nat_cmp_total files number other new (λ tie. differ (nat_cmp-IsAntisymmetric other number tie))))
 
@@ -263,7 +248,6 @@ put-back files middle after number content order free is changed =
 pub one-to-lose : (files middle : Table ℕ Stored) (number : ℕ) (content : Content)
     → middle ≡ put nat_cmp files number (record { content = content; names = 1; pins = 0 })
     → IfSome (get nat_cmp middle number) (λ s. 0 < s.names)
-one-to-lose files middle number content is =
-    subst (λ o. IfSome o (λ (s : Stored). 0 < s.names))
+one-to-lose files middle number content is = subst (λ o. IfSome o (λ (s : Stored). 0 < s.names))
     (sym (ap (λ table. get nat_cmp table number) is ∙ get-put_here nat_cmp nat_cmp_total files number (record { content = content; names = 1; pins = 0 })))
     (lit< tt)

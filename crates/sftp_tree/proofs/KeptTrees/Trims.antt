@@ -37,14 +37,12 @@ kept-passing keeps number (Some content) passing = ap (λ b. cond b (Some conten
 
 -- the file of a number that is named stays as it was
 pub content-of_named : (is_held : ℕ → Bool) (t : Tree) (number : ℕ) → WellFormed t → IsTrue (is_named t.names number) → content_at (trimmed is_held t).files number ≡ content_at t.files number
-content-of_named is_held t number well named =
-    content-trimmed is_held t number well
+content-of_named is_held t number well named = content-trimmed is_held t number well
     ∙ kept-passing (stays is_held t.names) number (content_at t.files number) (λ content. or_left (is_named t.names number) (is_held number) named)
 
 -- and so does that of a number that something else holds
 content-of_held : (is_held : ℕ → Bool) (t : Tree) (number : ℕ) → WellFormed t → IsTrue (is_held number) → content_at (trimmed is_held t).files number ≡ content_at t.files number
-content-of_held is_held t number well held =
-    content-trimmed is_held t number well
+content-of_held is_held t number well held = content-trimmed is_held t number well
     ∙ kept-passing (stays is_held t.names) number (content_at t.files number) (λ content. or_right (is_named t.names number) (is_held number) held)
 
 node-trimmed : (is_held : ℕ → Bool) (t : Tree) (place : Place) (it : Node) → WellFormed t → node_at t.names place ≡ Some it → IsNode t.files it → IsNode (trimmed is_held t).files it
@@ -86,8 +84,7 @@ well-formed-trimmed is_held t pins_hold well = record {
 }
 
 pub files-trimmed : (is_held : ℕ → Bool) (t : Tree) → IsTrue (files_fit t) → IsTrue (files_fit (trimmed is_held t))
-files-trimmed is_held t fit =
-    all-each (λ e. content_fits (limits t) e.1) (retain t.files (stays is_held t.names))
+files-trimmed is_held t fit = all-each (λ e. content_fits (limits t) e.1) (retain t.files (stays is_held t.names))
     (each-retain (λ e. IsTrue (content_fits (limits t) e.1)) (λ e. IsTrue (content_fits (limits t) e.1)) t.files (stays is_held t.names) (λ e h passed. h) (each-all (λ e. content_fits (limits t) e.1) t.files fit))
 
 pub fits-trimmed : (is_held : ℕ → Bool) (t : Tree) → IsTrue (fits t) → IsTrue (fits (trimmed is_held t))

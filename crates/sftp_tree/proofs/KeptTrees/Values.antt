@@ -48,8 +48,7 @@ times_named-owner names place before owner number order there =
 
 pub kept-owner : (t : Tree) (place : Place) (before owner : Owner) → IsKept t → node_at t.names place ≡ Some (Dir before) → IsOwner owner → IsKept (record t { names = with_node t.names place (Dir owner) })
 kept-owner t place before owner kept there is_owner = record {
-  well_formed =
-      well-formed-names t (with_node t.names place (Dir owner)) kept.well_formed
+  well_formed = well-formed-names t (with_node t.names place (Dir owner)) kept.well_formed
       (names-owner t.files t.names place before owner (names-of t kept.well_formed) there is_owner);
   within_limits = fits-owner t place before owner kept.well_formed kept.within_limits there;
   trimmed =
@@ -96,8 +95,7 @@ well-formed-content t number before content well there is_content = record {
       each-put nat_cmp nat_cmp-IsAntisymmetric nat_cmp_total (λ e. e.0 < t.made) t.files number content well.numbered
       (each-get nat_cmp nat_cmp-IsAntisymmetric (λ e. e.0 < t.made) t.files number before well.given there) well.given;
   pins = well.pins;
-  pinned =
-      each-weaker (λ e. IsPin t.files e) (λ e. IsPin (with_content t.files number content) e)
+  pinned = each-weaker (λ e. IsPin t.files e) (λ e. IsPin (with_content t.files number content) e)
       (λ e pin. (pin.0, still-there t.files number content e.0 pin.1)) t.pins well.pinned;
   limits = well.limits;
   home = well.home;

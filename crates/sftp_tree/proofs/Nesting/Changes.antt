@@ -58,34 +58,27 @@ first-false true e = cc
 first-false false e = refl
 
 pub grafted-child : (owner : Owner) (m : Name) (o : Option Child) (cs cs' : Children) → AreChildren cs
-    → AreChildren cs' → IsChanged m o cs cs'
-    → IsGrafted (m ∷ []) (flat_of owner cs) (flat_of owner cs') (branch_of o)
+    → AreChildren cs' → IsChanged m o cs cs' → IsGrafted (m ∷ []) (flat_of owner cs) (flat_of owner cs') (branch_of o)
 grafted-child owner m o cs cs' h h' changed =
     record { there = there; elsewhere = elsewhere; ordered = sorted-flat_of owner cs' h' }
   where
     there : (rest : Place) → node_at (flat_of owner cs') (m ∷ rest) ≡ node_at (branch_of o) rest
-    there rest =
-        get-flat owner cs' m rest h'.0
-        ∙ ap (λ x. node_at (branch_of x) rest)
+    there rest = get-flat owner cs' m rest h'.0 ∙ ap (λ x. node_at (branch_of x) rest)
         (changed m ∙ ap (λ q. cond (is_eq q) o (get name_cmp cs m)) (tied_itself nat_list_cmp_total m))
 
     elsewhere : (other : Place) → begins (m ∷ []) other ≡ false
         → node_at (flat_of owner cs') other ≡ node_at (flat_of owner cs) other
     elsewhere [] apart = get-root owner cs' ∙ sym (get-root owner cs)
-    elsewhere (n ∷ ns) apart =
-        get-flat owner cs' n ns h'.0
-        ∙ ap (λ x. node_at (branch_of x) ns)
+    elsewhere (n ∷ ns) apart = get-flat owner cs' n ns h'.0 ∙ ap (λ x. node_at (branch_of x) ns)
         (changed n ∙ ap (λ q. cond q o (get name_cmp cs n)) (sym (texts_ties m n) ∙ first-false (same_bytes m n) apart))
         ∙ sym (get-flat owner cs n ns h.0)
 
 -- ---- below one child
 
 pub grafted-below : (m : Name) (place : Place) (before after names names' grafted : Names)
-    → IsGrafted (m ∷ []) before after names'
-    → ((rest : Place) → node_at before (m ∷ rest) ≡ node_at names rest)
+    → IsGrafted (m ∷ []) before after names' → ((rest : Place) → node_at before (m ∷ rest) ≡ node_at names rest)
     → IsGrafted place names names' grafted → IsGrafted (m ∷ place) before after grafted
-grafted-below m place before after names names' grafted outer found inner =
-    record {
+grafted-below m place before after names names' grafted outer found inner = record {
       there = λ rest. outer.there (place ++ rest) ∙ inner.there rest;
       elsewhere = elsewhere;
       ordered = outer.ordered;
@@ -182,8 +175,7 @@ written-children b b' m child child' h there whole through =
 
 pub entries-back : (b b' : Map) (m : Name) (child child' : Child) → get_by (name_cmp m) b ≡ Some child → child' ≡ child
     → WritesThrough name_cmp (name_cmp m) b child' b' → b'.entries ≡ b.entries
-entries-back b b' m child child' there same through =
-    through.0 ∙ ap (set_value (is_at (name_cmp m)) b.entries) same
+entries-back b b' m child child' there same through = through.0 ∙ ap (set_value (is_at (name_cmp m)) b.entries) same
     ∙ set_value_same (is_at (name_cmp m)) b.entries child there
 
 -- the old child written back
@@ -207,8 +199,7 @@ written-here self owner b b' place m child child' given view h there whole throu
 pub grafted-nothing : (self after : Names) (owner : Owner) (cs : Children) (place : Place)
     → flat_of owner cs ≡ self → AreChildren cs → after ≡ self
     → ((rest : Place) → node_at self (place ++ rest) ≡ None) → IsGrafted place self after []
-grafted-nothing self after owner cs place view h same none =
-    subst (λ (x : Names). IsGrafted place self x []) (sym same)
+grafted-nothing self after owner cs place view h same none = subst (λ (x : Names). IsGrafted place self x []) (sym same)
     (record {
       there = λ rest. none rest ∙ sym (nothing-absent rest);
       elsewhere = λ other apart. refl;
@@ -283,8 +274,7 @@ set-below m ms before after names names' node outer found inner =
         let is : m ≡ n = sym ((bytes_decides n m).0 same) in
         subst (λ (k : Name). node_at after (k ∷ ns) ≡ node_at before (k ∷ ns)) is
         (outer.there ns ∙ inner.elsewhere ns apart ∙ sym (found ns))
-    by false n ns differ apart =
-        outer.elsewhere (n ∷ ns) (ap (λ b. b && true) (nat_list_eq_equiv.symm m n ∙ differ))
+    by false n ns differ apart = outer.elsewhere (n ∷ ns) (ap (λ b. b && true) (nat_list_eq_equiv.symm m n ∙ differ))
 
     elsewhere : (other : Place) → same_place other (m ∷ ms) ≡ false → node_at after other ≡ node_at before other
     elsewhere [] apart = outer.elsewhere [] refl

@@ -35,13 +35,11 @@ pub set-with : (place : Place) (before after : Names) (node : Node) → InOrder 
     → IsSet place before after node → after ≡ with_node before place node
 set-with place before after node order set =
     same_table place_cmp place_cmp-total place_cmp-same after (with_node before place node) set.ordered
-    (InOrder-put place_cmp place_cmp-total before place node order)
-    (λ at. by at (is_eq (place_cmp at place)) refl
+    (InOrder-put place_cmp place_cmp-total before place node order) (λ at. by at (is_eq (place_cmp at place)) refl
     ∙ sym (get-put place_cmp place_cmp-total before place node at))
   where
     by : (at : Place) (b : Bool) → is_eq (place_cmp at place) ≡ b → node_at after at ≡ cond b (Some node) (node_at before at)
-    by at true same =
-        ap (node_at after) (place_cmp-same at place ((Equal-is (place_cmp at place)).0 same)) ∙ set.here
+    by at true same = ap (node_at after) (place_cmp-same at place ((Equal-is (place_cmp at place)).0 same)) ∙ set.here
     by at false apart =
         set.elsewhere at ((lists_equiv nat_list_eq_equiv).symm at place ∙ sym (places_tie at place) ∙ apart)
 
@@ -76,8 +74,7 @@ put-set place before after node gone absent g was whole =
     here = sym (ap (node_at after) (append-nil place)) ∙ g.there [] ∙ alone-here node
 
     none : (rest : Place) → node_at before (place ++ rest) ≡ None
-    none rest =
-        sym (was rest)
+    none rest = sym (was rest)
         ∙ ap (λ o. node_at (branch_of o) rest) (free gone whole (was [] ∙ ap (node_at before) (append-nil place) ∙ absent))
         ∙ nothing rest
 
@@ -158,8 +155,7 @@ gone-none was_there found is was = sym (ap (λ o. node_at (branch_of o) []) is �
 
 pub gone-some : (was_there : Option Child) (child : Child) (found : Option Node) → was_there ≡ Some child → IfSome was_there IsBranch
     → node_at (branch_of was_there) [] ≡ found → is_taken found ≡ true
-gone-some was_there child found is whole was =
-    ap is_taken (sym was ∙ ap (λ o. node_at (branch_of o) []) is)
+gone-some was_there child found is whole was = ap is_taken (sym was ∙ ap (λ o. node_at (branch_of o) []) is)
     ∙ branch-taken child (subst (λ o. IfSome o IsBranch) is whole)
 
 -- ---- what is below a place
@@ -188,8 +184,7 @@ some-below (e ∷ es) p has =
           let split = below-split p e.0 below in (
             split.0,
             split.1,
-            ap (λ (q : Place). is_taken (node_at (e ∷ es) q)) (sym split.2)
-                ∙ ap is_taken (get-cons place_cmp e es e.0
+            ap (λ (q : Place). is_taken (node_at (e ∷ es) q)) (sym split.2) ∙ ap is_taken (get-cons place_cmp e es e.0
                 ∙ ap (λ o. cond (is_eq o) (Some e.1) (node_at es e.0)) (tied_itself place_cmp-total e.0)),
           )
       | inr apart ↦
@@ -260,10 +255,8 @@ pub moved-rekeyed : (old new : Place) (before after : Names) → InOrder place_c
 moved-rekeyed old new before after order apart other_way alone m =
     rekeyed-unique old new (without_node before new) after m.ordered (nothing-from before new order alone)
     (λ rest. m.there rest ∙ sym (without-other before new (old ++ rest) order (beside new old rest other_way apart)))
-    (λ place in_old not_new.
-    ap (node_at after) (begins-front old place in_old) ∙ m.left (drop (length old) place))
-    (λ place not_old not_new.
-    m.elsewhere place not_old not_new ∙ sym (without-other before new place order not_new))
+    (λ place in_old not_new. ap (node_at after) (begins-front old place in_old) ∙ m.left (drop (length old) place))
+    (λ place not_old not_new. m.elsewhere place not_old not_new ∙ sym (without-other before new place order not_new))
 
 pub moved-length : (old new : Place) (before after : Names) → InOrder place_cmp before → begins old new ≡ false
     → begins new old ≡ false → ((n : Name) (ns : Place) → node_at before (new ++ n ∷ ns) ≡ None)
@@ -300,8 +293,7 @@ module _ (self root after : Names) (place parent : Place) (name : Name) (view : 
       → IsGrafted (parent ++ name ∷ []) root after []
       → ((rest : Place) → node_at (branch_of was_there) rest ≡ node_at root (parent ++ name ∷ rest))
       → IfSome was_there IsBranch → was_there ≡ Some child → length after + 1 ≡ length root
-  removed-one was_there child empty g was whole found =
-      ap (λ (names : Names). length names + 1) (removed-from empty g)
+  removed-one was_there child empty g was whole found = ap (λ (names : Names). length names + 1) (removed-from empty g)
       ∙ length-without_one place root
       (gone-some was_there child (node_at root place) found whole (removed-was was_there was))
 
@@ -309,21 +301,17 @@ module _ (self root after : Names) (place parent : Place) (name : Name) (view : 
       → IsGrafted (parent ++ name ∷ []) root after []
       → ((rest : Place) → node_at (branch_of was_there) rest ≡ node_at root (parent ++ name ∷ rest))
       → was_there ≡ None → length after ≡ length root
-  removed-none was_there empty g was found =
-      ap length (removed-from empty g)
-      ∙ length-without_none place root
+  removed-none was_there empty g was found = ap length (removed-from empty g) ∙ length-without_none place root
       (gone-none was_there (node_at root place) found (removed-was was_there was))
 
   pub removed-nothing : (was_there : Option Child)
       → ((rest : Place) → node_at (branch_of was_there) rest ≡ node_at root (parent ++ name ∷ rest))
       → was_there ≡ None → None ≡ node_at self place
-  removed-nothing was_there was found =
-      gone-none was_there (node_at root place) found (removed-was was_there was)
+  removed-nothing was_there was found = gone-none was_there (node_at root place) found (removed-was was_there was)
       ∙ ap (λ (names : Names). node_at names place) view
 
   pub put-in : (node : Node) (was_there : Option Child) (copy : Name) (grafted : Names) → copy ≡ name
-      → grafted ≡ ([], node) ∷ [] → node_at self place ≡ None
-      → IsGrafted (parent ++ copy ∷ []) root after grafted
+      → grafted ≡ ([], node) ∷ [] → node_at self place ≡ None → IsGrafted (parent ++ copy ∷ []) root after grafted
       → ((rest : Place) → node_at (branch_of was_there) rest ≡ node_at root (parent ++ copy ∷ rest))
       → IfSome was_there IsBranch → IsSet place root after node
   put-in node was_there copy grafted same leaf absent g was whole =
@@ -331,17 +319,14 @@ module _ (self root after : Names) (place parent : Place) (name : Name) (view : 
       (subst (λ (x : Place). IsGrafted x root after (([], node) ∷ [])) (ap (λ (n : Name). parent ++ n ∷ []) same ∙ sym is) (subst (λ (x : Names). IsGrafted (parent ++ copy ∷ []) root after x) leaf g))
       (λ rest. was rest ∙ ap (λ (n : Name). node_at root (parent ++ n ∷ rest)) same
       ∙ ap (node_at root) (sym (append_assoc parent (name ∷ []) rest))
-      ∙ ap (λ (x : Place). node_at root (x ++ rest)) (sym is))
-      whole
+      ∙ ap (λ (x : Place). node_at root (x ++ rest)) (sym is)) whole
 
   pub put-is : (node : Node) → IsSet place root after node → after ≡ with_node self place node
-  put-is node set =
-      set-with place root after node h.0 set ∙ ap (λ (names : Names). with_node names place node) view
+  put-is node set = set-with place root after node h.0 set ∙ ap (λ (names : Names). with_node names place node) view
 
   pub put-more : (node : Node) → node_at self place ≡ None → IsSet place root after node
       → length root + 1 ≡ length after
-  put-more node absent set =
-      sym (ap length (set-with place root after node h.0 set)
+  put-more node absent set = sym (ap length (set-with place root after node h.0 set)
       ∙ size-put place_cmp root place node (ap (λ (names : Names). node_at names place) view ∙ absent))
 
 module _ (self root after : Names) (old new : Place) (view : root ≡ self) (h : IsBranch (Dir root))
@@ -354,8 +339,7 @@ module _ (self root after : Names) (old new : Place) (view : root ≡ self) (h :
   moved-alone = alone-there root new (ap (λ (names : Names). has_entries names new) view ∙ alone)
 
   pub moved-is : after ≡ rekeyed old new (without_node self new)
-  moved-is =
-      moved-rekeyed old new root after h.0 apart moved-other moved-alone m
+  moved-is = moved-rekeyed old new root after h.0 apart moved-other moved-alone m
       ∙ ap (λ (names : Names). rekeyed old new (without_node names new)) view
 
   pub moved-one : (was_there : Option Child) (child : Child) → node_at (branch_of was_there) [] ≡ node_at root new
@@ -366,6 +350,5 @@ module _ (self root after : Names) (old new : Place) (view : root ≡ self) (h :
 
   pub moved-none : (was_there : Option Child) → node_at (branch_of was_there) [] ≡ node_at root new
       → was_there ≡ None → length after ≡ length root
-  moved-none was_there was found =
-      moved-length old new root after h.0 apart moved-other moved-alone m
+  moved-none was_there was found = moved-length old new root after h.0 apart moved-other moved-alone m
       ∙ length-without_none new root (gone-none was_there (node_at root new) found was)

@@ -76,15 +76,13 @@ names_less (c ∷ cs) name are less =
     let here = placed c.0 (branch c.1) in
     let P = λ (place : Place). place_cmp place (name ∷ []) ≡ Less in (
       own_less c.0 c.1 name are.0 (keys_front P here (flat cs) less),
-      names_less cs name are.1
-          (keys_back P here (flat cs) less),
+      names_less cs name are.1 (keys_back P here (flat cs) less),
     )
 
 flat_push : (cs : Children) (name : Name) (child : Child)
     → flat (cs ++ (name, child) ∷ []) ≡ flat cs ++ placed name (branch child)
 flat_push [] name child = append-nil (placed name (branch child))
-flat_push (c ∷ cs) name child =
-    ap (λ (ns : Names). placed c.0 (branch c.1) ++ ns) (flat_push cs name child)
+flat_push (c ∷ cs) name child = ap (λ (ns : Names). placed c.0 (branch c.1) ++ ns) (flat_push cs name child)
     ∙ sym (append_assoc (placed c.0 (branch c.1)) (flat cs) (placed name (branch child)))
 
 -- a child that is put at the end of its directory's map comes at the end of its table
@@ -163,8 +161,7 @@ last_in_top (o ∷ os) top place less =
     let whole = place_from os ++ place in
     let P = λ (other : Place). place_cmp other (o.name ∷ whole) ≡ Less in
     let inner = keys_back P o.dir (placed o.name (names_from os top)) less in
-    last_in_top os top place
-    (all_less P (λ (other : Place). place_cmp other whole ≡ Less) o.name (names_from os top)
+    last_in_top os top place (all_less P (λ (other : Place). place_cmp other whole ≡ Less) o.name (names_from os top)
     (λ k. one_less o.name k whole) inner)
 
 -- the last one comes after all children of the one above it

@@ -43,8 +43,7 @@ beside (m ∷ ms) (n ∷ ns) rest one other =
 step : (dir : Names) (left : Place) (n : Name) (rest : Place) (found : Option (Bor Child)) → left ≡ n ∷ rest
     → ((below : Place) → node_at dir (n ∷ below) ≡ node_at (branch_of (option_copied found)) below)
     → (more : Place) → node_at dir (left ++ more) ≡ node_at (branch_of (option_copied found)) (rest ++ more)
-step dir left n rest found is below more =
-    ap (λ (place : Place). node_at dir (place ++ more)) is ∙ below (rest ++ more)
+step dir left n rest found is below more = ap (λ (place : Place). node_at dir (place ++ more)) is ∙ below (rest ++ more)
 
 alone-more : (node : Node) (rest more : Place) → false ≡ (length rest == 0)
     → node_at (([], node) ∷ []) (rest ++ more) ≡ None
@@ -62,8 +61,7 @@ pub step-alone : (dir : Names) (left : Place) (n : Name) (rest : Place) (found :
     → ((below : Place) → node_at dir (n ∷ below) ≡ node_at (branch_of (option_copied found)) below)
     → found ≡ Some child → branch child.now ≡ ([], node) ∷ [] → false ≡ (length rest == 0)
     → (more : Place) → node_at dir (left ++ more) ≡ None
-step-alone dir left n rest found child node split below is alone full more =
-    step dir left n rest found split below more
+step-alone dir left n rest found child node split below is alone full more = step dir left n rest found split below more
     ∙ ap (λ o. node_at (branch_of (option_copied o)) (rest ++ more)) is ∙ ap (λ t. node_at t (rest ++ more)) alone
     ∙ alone-more node rest more full
 
@@ -73,16 +71,14 @@ pub step-here : (dir : Names) (left : Place) (n : Name) (rest : Place) (found : 
     → ((below : Place) → node_at dir (n ∷ below) ≡ node_at (branch_of (option_copied found)) below)
     → found ≡ Some child → branch child.now ≡ ([], node) ∷ [] → true ≡ (length rest == 0)
     → (more : Place) → node_at dir (left ++ more) ≡ node_at (([], node) ∷ []) more
-step-here dir left n [] found child node split below is alone empty more =
-    step dir left n [] found split below more
+step-here dir left n [] found child node split below is alone empty more = step dir left n [] found split below more
     ∙ ap (λ o. node_at (branch_of (option_copied o)) more) is ∙ ap (λ t. node_at t more) alone
 step-here dir left n (m ∷ ms) found child node split below is alone empty more = absurd (grind (arith, nat_tests))
 
 pub step-none : (dir : Names) (left : Place) (n : Name) (rest : Place) (found : Option (Bor Child)) → left ≡ n ∷ rest
     → ((below : Place) → node_at dir (n ∷ below) ≡ node_at (branch_of (option_copied found)) below)
     → found ≡ None → (more : Place) → node_at dir (left ++ more) ≡ None
-step-none dir left n rest found split below is more =
-    step dir left n rest found split below more
+step-none dir left n rest found split below is more = step dir left n rest found split below more
     ∙ ap (λ o. node_at (branch_of (option_copied o)) (rest ++ more)) is ∙ nothing (rest ++ more)
 
 pub step-in : (dir : Names) (left : Place) (n : Name) (rest : Place) (found : Option (Bor Child)) (child : Bor Child)
@@ -90,8 +86,7 @@ pub step-in : (dir : Names) (left : Place) (n : Name) (rest : Place) (found : Op
     → ((below : Place) → node_at dir (n ∷ below) ≡ node_at (branch_of (option_copied found)) below)
     → found ≡ Some child → child.now ≡ Dir inner
     → (more : Place) → node_at inner (rest ++ more) ≡ node_at dir (left ++ more)
-step-in dir left n rest found child inner split below is dirs more =
-    sym (step dir left n rest found split below more
+step-in dir left n rest found child inner split below is dirs more = sym (step dir left n rest found split below more
     ∙ ap (λ o. node_at (branch_of (option_copied o)) (rest ++ more)) is
     ∙ ap (λ c. node_at (branch c) (rest ++ more)) dirs)
 
@@ -116,8 +111,7 @@ child-taken (Some child) h = sym (branch-taken child.now h)
 pub filled : (place : Place) (before after new : Names) (owner : Owner) (was : Bool) → new ≡ ([], nodes.Dir owner) ∷ []
     → IsGrafted place before after new → was ≡ is_taken (node_at before place) → was ≡ false
     → IsFilled place before after false
-filled place before after new owner was is g taken free =
-    record {
+filled place before after new owner was is g taken free = record {
       taken = ap (λ x. is_taken (node_at after x)) (sym (append-nil place)) ∙ ap is_taken (g.there [])
           ∙ root-taken new owner is;
       was = sym free ∙ taken;
@@ -131,10 +125,8 @@ pub moved : (old new : Place) (before filled first second after held empty : Nam
     → begins old new ≡ false → begins new old ≡ false → IsFilled new before filled was
     → IsGrafted old filled first empty → ((rest : Place) → node_at held rest ≡ node_at filled (old ++ rest))
     → IsGrafted new first second held → IsGrafted old second after [] → IsMoved old new before after
-moved old new before filled first second after held empty was apart alone f g2 moving g3 g4 =
-    record {
-      there = λ rest.
-          g4.elsewhere (new ++ rest) (beside old new rest apart alone) ∙ g3.there rest ∙ moving rest
+moved old new before filled first second after held empty was apart alone f g2 moving g3 g4 = record {
+      there = λ rest. g4.elsewhere (new ++ rest) (beside old new rest apart alone) ∙ g3.there rest ∙ moving rest
           ∙ f.elsewhere (old ++ rest) (beside new old rest alone apart);
       left = λ rest. g4.there rest ∙ nothing rest;
       elsewhere = λ other not_old not_new.

@@ -69,25 +69,20 @@ node-named : (cs : Children) (name : Name) → AreBranches cs
     → get name_cmp (nodes_of cs) name ≡ node_at (branch_of (get name_cmp cs name)) []
 unfolding get
 node-named [] name whole = refl
-node-named (c ∷ cs) name whole =
-    by (node-named cs name whole.1) (node_at (branch c.1) []) refl (own-node c.1 whole.0)
+node-named (c ∷ cs) name whole = by (node-named cs name whole.1) (node_at (branch c.1) []) refl (own-node c.1 whole.0)
     (is_eq (name_cmp name c.0)) refl
   where
-    by : lookup (is_at (name_cmp name)) (nodes_of cs)
-        ≡ node_at (branch_of (lookup (is_at (name_cmp name)) cs)) []
+    by : lookup (is_at (name_cmp name)) (nodes_of cs) ≡ node_at (branch_of (lookup (is_at (name_cmp name)) cs)) []
         → (o : Option Node) → node_at (branch c.1) [] ≡ o → is_some o ≡ true
         → (b : Bool) → is_eq (name_cmp name c.0) ≡ b
-        → lookup (is_at (name_cmp name)) (cons_option (option_map (λ node. (c.0, node)) o) (nodes_of cs))
-        ≡ node_at
+        → lookup (is_at (name_cmp name)) (cons_option (option_map (λ node. (c.0, node)) o) (nodes_of cs)) ≡ node_at
         (branch_of (cond (is_eq (name_cmp name c.0)) (Some c.1) (lookup (is_at (name_cmp name)) cs))) []
     by rest None is there b same = cc
     by rest (Some node) is there true same =
-        ap (λ b. cond b (Some node) (lookup (is_at (name_cmp name)) (nodes_of cs))) same
-        ∙ sym is
+        ap (λ b. cond b (Some node) (lookup (is_at (name_cmp name)) (nodes_of cs))) same ∙ sym is
         ∙ ap (λ b. node_at (branch_of (cond b (Some c.1) (lookup (is_at (name_cmp name)) cs))) []) (sym same)
     by rest (Some node) is there false apart =
-        ap (λ b. cond b (Some node) (lookup (is_at (name_cmp name)) (nodes_of cs))) apart
-        ∙ rest
+        ap (λ b. cond b (Some node) (lookup (is_at (name_cmp name)) (nodes_of cs))) apart ∙ rest
         ∙ ap (λ b. node_at (branch_of (cond b (Some c.1) (lookup (is_at (name_cmp name)) cs))) []) (sym apart)
 
 pub nodes-children : (owner : Owner) (cs : Children) → AreChildren cs → nodes_of cs ≡ children (flat_of owner cs) []
@@ -123,11 +118,9 @@ pub listed-child : (t : Tree) (items after : List Item) (it : Item) (c : Name ×
     → IfSome (node_at (branch c.1) []) (λ node. shown_child t (c.0, node) ≡ Some (entry_of it))
     → map entry_of items ++ filter_map (shown_child t) (nodes_of (c ∷ cs)) ≡ whole
     → map entry_of after ++ filter_map (shown_child t) (nodes_of cs) ≡ whole
-listed-child t items after it c cs whole is_branch is =
-    by (node_at (branch c.1) []) (own-node c.1 is_branch)
+listed-child t items after it c cs whole is_branch is = by (node_at (branch c.1) []) (own-node c.1 is_branch)
   where
-    by : (o : Option Node) → is_some o ≡ true
-        → IfSome o (λ node. shown_child t (c.0, node) ≡ Some (entry_of it))
+    by : (o : Option Node) → is_some o ≡ true → IfSome o (λ node. shown_child t (c.0, node) ≡ Some (entry_of it))
         → map entry_of items
         ++ filter_map (shown_child t) (cons_option (option_map (λ node. (c.0, node)) o) (nodes_of cs)) ≡ whole
         → map entry_of after ++ filter_map (shown_child t) (nodes_of cs) ≡ whole
@@ -136,6 +129,5 @@ listed-child t items after it c cs whole is_branch is =
 
 pub listed-none : (t : Tree) (items : List Item) (cs : Children) (whole : Table Name Attrs) → cs ≡ []
     → map entry_of items ++ filter_map (shown_child t) (nodes_of cs) ≡ whole → map entry_of items ≡ whole
-listed-none t items cs whole none so_far =
-    sym (append-nil (map entry_of items))
+listed-none t items cs whole none so_far = sym (append-nil (map entry_of items))
     ∙ ap (λ (x : Children). map entry_of items ++ filter_map (shown_child t) (nodes_of x)) (sym none) ∙ so_far

@@ -33,8 +33,7 @@ all-placed : (room : ℕ) (name : Name) (names rest : Names)
     → list_all (λ e. nat_le (length e.0) (room + 1)) (placed name names ++ rest)
     ≡ (list_all (λ e. nat_le (length e.0) room) names && list_all (λ e. nat_le (length e.0) (room + 1)) rest)
 all-placed room name [] rest = refl
-all-placed room name (e ∷ es) rest =
-    (λ i. one-more (length e.0) room i && all-placed room name es rest i)
+all-placed room name (e ∷ es) rest = (λ i. one-more (length e.0) room i && all-placed room name es rest i)
     ∙ and-assoc (nat_le (length e.0) room) (list_all (λ e. nat_le (length e.0) room) es)
     (list_all (λ e. nat_le (length e.0) (room + 1)) rest)
 
@@ -86,8 +85,7 @@ pub reach-on : (self : Names) (left more : Children) (c : Name × Child) (rest r
     → have_at_most (rest + 1) (flat more) ≡ have_at_most room self
 reach-on self left more c rest room split few before =
     sym (ap (λ (x : Children). have_at_most (rest + 1) (flat x)) split ∙ reach-child rest c.0 c.1 more
-    ∙ ap (λ b. b && have_at_most (rest + 1) (flat more)) few)
-    ∙ before
+    ∙ ap (λ b. b && have_at_most (rest + 1) (flat more)) few) ∙ before
 
 -- and one with more decides
 pub reach-no : (self : Names) (left more : Children) (c : Name × Child) (rest room : ℕ) → left ≡ c ∷ more
@@ -95,14 +93,12 @@ pub reach-no : (self : Names) (left more : Children) (c : Name × Child) (rest r
     → false ≡ have_at_most room self
 reach-no self left more c rest room split many before =
     sym (ap (λ (x : Children). have_at_most (rest + 1) (flat x)) split ∙ reach-child rest c.0 c.1 more
-    ∙ ap (λ b. b && have_at_most (rest + 1) (flat more)) many)
-    ∙ before
+    ∙ ap (λ b. b && have_at_most (rest + 1) (flat more)) many) ∙ before
 
 pub reach-end : (self : Names) (left : Children) (rest room : ℕ) → left ≡ []
     → have_at_most (rest + 1) (flat left) ≡ have_at_most room self → true ≡ have_at_most room self
 unfolding have_at_most
-reach-end self left rest room none before =
-    sym (ap (λ (x : Children). have_at_most (rest + 1) (flat x)) none) ∙ before
+reach-end self left rest room none before = sym (ap (λ (x : Children). have_at_most (rest + 1) (flat x)) none) ∙ before
 
 -- ---- below a place
 
@@ -122,13 +118,11 @@ behind top rest room =
 keys-pass : (test : Place → Bool) (es : Names) → ((q : Place) → is_taken (node_at es q) ≡ true → test q ≡ true)
     → list_all (λ e. test e.0) es ≡ true
 keys-pass test [] passes = refl
-keys-pass test (e ∷ es) passes =
-    and_from (test e.0) (list_all (λ e. test e.0) es) (passes e.0 here)
+keys-pass test (e ∷ es) passes = and_from (test e.0) (list_all (λ e. test e.0) es) (passes e.0 here)
     (keys-pass test es (λ q taken. passes q (behind q taken)))
   where
     here : is_taken (node_at (e ∷ es) e.0) ≡ true
-    here =
-        ap is_taken (get-cons place_cmp e es e.0
+    here = ap is_taken (get-cons place_cmp e es e.0
         ∙ ap (λ o. cond (is_eq o) (Some e.1) (node_at es e.0)) (tied_itself place_cmp-total e.0))
 
     by : (q : Place) (b : Bool) → is_taken (node_at es q) ≡ true → is_taken (cond b (Some e.1) (node_at es q)) ≡ true
@@ -165,17 +159,14 @@ reach-alike names below top room alike =
     to all = keys-pass (few top room) names (λ q taken. inside q (begins top q) refl all taken)
 
     from : reaches_at_most names top room ≡ true → list_all (λ e. nat_le (length e.0) room) below ≡ true
-    from all =
-        keys-pass (λ place. nat_le (length place) room) below
-        (λ q taken. sym (behind top q room)
+    from all = keys-pass (λ place. nat_le (length place) room) below (λ q taken. sym (behind top q room)
         ∙ place-passes (few top room) (top ++ q) names all (ap is_taken (sym (alike q)) ∙ taken))
 
 -- where nothing is below a place, no names are behind it
 pub reach-leaf : (names : Names) (top : Place) (room : ℕ) → has_entries names top ≡ false
     → reaches_at_most names top room ≡ true
 unfolding few
-reach-leaf names top room empty =
-    keys-pass (few top room) names (λ q taken. by q (begins top q) refl taken)
+reach-leaf names top room empty = keys-pass (few top room) names (λ q taken. by q (begins top q) refl taken)
   where
     nothing : (rest : Place) → is_taken (node_at names (top ++ rest)) ≡ true → length rest ≡ 0
     nothing [] taken = refl

@@ -44,8 +44,7 @@ lookup-miss : (n m : Name) (ns : Place) (names rest : Names) → is_eq (name_cmp
 lookup-miss n m ns [] rest apart = refl
 lookup-miss n m ns (e ∷ es) rest apart =
     ap (λ b. cond b (Some e.1) (lookup (is_at (place_cmp (n ∷ ns))) (placed m es ++ rest)))
-    (then-apart (name_cmp n m) (place_cmp ns e.0) apart)
-    ∙ lookup-miss n m ns es rest apart
+    (then-apart (name_cmp n m) (place_cmp ns e.0) apart) ∙ lookup-miss n m ns es rest apart
 
 lookup-hit : (n m : Name) (ns : Place) (names rest : Names) → is_eq (name_cmp n m) ≡ true
     → lookup (is_at (place_cmp (n ∷ ns))) rest ≡ None
@@ -69,17 +68,14 @@ lookup-flat (c ∷ cs) n ns ordered =
     by (is_eq (name_cmp n c.0)) refl (lookup-flat cs n ns (sorted_tail name_cmp c.0 (keys_of cs) ordered))
   where
     none : is_eq (name_cmp n c.0) ≡ true → lookup (is_at (name_cmp n)) cs ≡ None
-    none same =
-        ap (λ m. lookup (is_at (name_cmp m)) cs) (bytes_cmp-same n c.0 ((Equal-is (name_cmp n c.0)).0 same))
+    none same = ap (λ m. lookup (is_at (name_cmp m)) cs) (bytes_cmp-same n c.0 ((Equal-is (name_cmp n c.0)).0 same))
         ∙ lookup-below cs c.0 (sorted_head name_cmp c.0 (keys_of cs) ordered)
 
-    by : (b : Bool) → is_eq (name_cmp n c.0) ≡ b
-        → lookup (is_at (place_cmp (n ∷ ns))) (flat cs)
+    by : (b : Bool) → is_eq (name_cmp n c.0) ≡ b → lookup (is_at (place_cmp (n ∷ ns))) (flat cs)
         ≡ lookup (is_at (place_cmp ns)) (branch_of (lookup (is_at (name_cmp n)) cs))
         → lookup (is_at (place_cmp (n ∷ ns))) (placed c.0 (branch c.1) ++ flat cs)
         ≡ lookup (is_at (place_cmp ns)) (branch_of (cond b (Some c.1) (lookup (is_at (name_cmp n)) cs)))
-    by true same rest =
-        lookup-hit n c.0 ns (branch c.1) (flat cs) same
+    by true same rest = lookup-hit n c.0 ns (branch c.1) (flat cs) same
         (rest ∙ ap (λ o. lookup (is_at (place_cmp ns)) (branch_of o)) (none same))
     by false apart rest = lookup-miss n c.0 ns (branch c.1) (flat cs) apart ∙ rest
 
@@ -101,8 +97,7 @@ alone-none node (n ∷ ns) full = refl
 
 -- below a child that is no directory there is nothing
 pub get-below_alone : (names : Names) (n : Name) (rest : Place) (found : Option (Bor Child)) (child : Bor Child)
-    (node : Node)
-    → ((below : Place) → node_at names (n ∷ below) ≡ node_at (branch_of (option_copied found)) below)
+    (node : Node) → ((below : Place) → node_at names (n ∷ below) ≡ node_at (branch_of (option_copied found)) below)
     → found ≡ Some child → branch child.now ≡ ([], node) ∷ [] → false ≡ (length rest == 0)
     → node_at names (n ∷ rest) ≡ None
 get-below_alone names n rest found child node below is alone full =
@@ -148,11 +143,9 @@ sorted-placed m (e ∷ es) ordered = (
 flat-above : (m : Name) (k : Place) (cs : Children) → AllByRecursion (λ n. name_cmp m n ≡ Less) (keys_of cs)
     → AllByRecursion (λ l. place_cmp (m ∷ k) l ≡ Less) (keys_of (flat cs))
 flat-above m k [] less = tt
-flat-above m k (c ∷ cs) less =
-    all-keys (λ l. place_cmp (m ∷ k) l ≡ Less) (placed c.0 (branch c.1)) (flat cs)
+flat-above m k (c ∷ cs) less = all-keys (λ l. place_cmp (m ∷ k) l ≡ Less) (placed c.0 (branch c.1)) (flat cs)
     (each-placed (λ l. place_cmp (m ∷ k) l ≡ Less) c.0 (branch c.1)
-    (λ l. ap (λ o. ordering_then o (place_cmp k l)) less.0))
-    (flat-above m k cs less.1)
+    (λ l. ap (λ o. ordering_then o (place_cmp k l)) less.0)) (flat-above m k cs less.1)
 
 sorted-branch : (child : Child) → IsBranch child → InOrder place_cmp (branch child)
 unfolding IsStrictlySortedBy
@@ -171,10 +164,8 @@ sorted-flat (c ∷ cs) ordered branches =
 
 flat-below_root : (cs : Children) → AllByRecursion (λ k. place_cmp [] k ≡ Less) (keys_of (flat cs))
 flat-below_root [] = tt
-flat-below_root (c ∷ cs) =
-    all-keys (λ k. place_cmp [] k ≡ Less) (placed c.0 (branch c.1)) (flat cs)
-    (each-placed (λ k. place_cmp [] k ≡ Less) c.0 (branch c.1) (λ k. refl))
-    (flat-below_root cs)
+flat-below_root (c ∷ cs) = all-keys (λ k. place_cmp [] k ≡ Less) (placed c.0 (branch c.1)) (flat cs)
+    (each-placed (λ k. place_cmp [] k ≡ Less) c.0 (branch c.1) (λ k. refl)) (flat-below_root cs)
 
 -- the places of a directory rise
 pub sorted-flat_of : (owner : Owner) (cs : Children) → AreChildren cs → InOrder place_cmp (flat_of owner cs)
@@ -197,8 +188,7 @@ below-branch m (Link target) rest h = refl
 
 -- a directory has entries below it exactly if it has children
 pub has_entries-children : (owner : Owner) (cs : Children) (empty : Bool) → AreChildren cs
-    → (IsTrue empty → length cs ≡ 0) → (length cs ≡ 0 → IsTrue empty)
-    → not empty ≡ has_entries (flat_of owner cs) []
+    → (IsTrue empty → length cs ≡ 0) → (length cs ≡ 0 → IsTrue empty) → not empty ≡ has_entries (flat_of owner cs) []
 unfolding has_entries
 has_entries-children owner [] true h to from = refl
 has_entries-children owner [] false h to from = let it = from refl in cc

@@ -42,15 +42,11 @@ pins-of_files : (t : Tree) (number often : ℕ) → WellFormed t → HasFile t.f
     → AllByRecursion (λ e. IsPin t.files e) (with_pins t.pins number often)
 pins-of_files t number often well there =
     get-each nat_cmp nat_cmp-IsAntisymmetric nat_cmp_total (λ e. IsPin t.files e) (with_pins t.pins number often)
-    (InOrder-with_pins t.pins number often well.pins)
-    (λ other count found.
-    by-number number other
-    (λ is.
+    (InOrder-with_pins t.pins number often well.pins) (λ other count found. by-number number other (λ is.
     let at : pin_entry often ≡ Some count =
     sym (get-with_pins_here t.pins number often well.pins) ∙ ap (get nat_cmp (with_pins t.pins number often)) (sym is)
     ∙ found in
-    (some-count often count at, ap (λ n. is_some (content_at t.files n)) is ∙ there))
-    (λ differ.
+    (some-count often count at, ap (λ n. is_some (content_at t.files n)) is ∙ there)) (λ differ.
     each-get nat_cmp nat_cmp-IsAntisymmetric (λ e. IsPin t.files e) t.pins other count well.pinned
     (sym (get-with_pins_elsewhere t.pins number often other well.pins differ) ∙ found)))
   where
@@ -94,8 +90,7 @@ fits-pins t pins within =
 
 -- with a pin less
 pub kept-unpin : (t : Tree) (number : ℕ) → IsKept t → HasFile t.files number → IsKept (after_unpin t number)
-kept-unpin t number kept there =
-    kept-trim (record t { pins = without_pin t.pins number })
+kept-unpin t number kept there = kept-trim (record t { pins = without_pin t.pins number })
     (well-formed-pins t number (times_pinned t.pins number - 1) kept.well_formed there)
     (fits-pins t (without_pin t.pins number) kept.within_limits)
 
@@ -104,12 +99,9 @@ held-pinned : (t : Tree) (number other : ℕ) → InOrder nat_cmp t.pins → IsT
     → IsTrue (is_held (after_pin t number) other)
 held-pinned t number other order held =
     let often = times_pinned t.pins number + 1 in
-    by-number number other
-    (λ is.
-    or_right (is_named t.names other) (is_pinned (with_pin t.pins number) other)
+    by-number number other (λ is. or_right (is_named t.names other) (is_pinned (with_pin t.pins number) other)
     (ap (λ n. nat_lt 0 (times_pinned (with_pin t.pins number) n)) is
-    ∙ ap (nat_lt 0) (times_pinned-here t.pins number often order) ∙ lt-ltb 0 often (omega arith)))
-    (λ differ.
+    ∙ ap (nat_lt 0) (times_pinned-here t.pins number often order) ∙ lt-ltb 0 often (omega arith))) (λ differ.
     ap (λ n. is_named t.names other || nat_lt 0 n) (times_pinned-elsewhere t.pins number often other order differ)
     ∙ held)
 
@@ -117,8 +109,7 @@ pub kept-pin : (t : Tree) (number : ℕ) → IsKept t → HasFile t.files number
 kept-pin t number kept there = record {
   well_formed = well-formed-pins t number (times_pinned t.pins number + 1) kept.well_formed there;
   within_limits = fits-pins t (with_pin t.pins number) kept.within_limits;
-  trimmed =
-      each-weaker (λ e. IsTrue (is_held t e.0)) (λ e. IsTrue (is_held (after_pin t number) e.0))
+  trimmed = each-weaker (λ e. IsTrue (is_held t e.0)) (λ e. IsTrue (is_held (after_pin t number) e.0))
       (λ e held. held-pinned t number e.0 kept.well_formed.pins held) t.files kept.trimmed;
 }
 
@@ -142,8 +133,7 @@ pins-some t well = each-weaker (λ e. IsPin t.files e) (λ e. 0 < e.1) (λ e pin
 pub one-pins : (t u : Tree) → WellFormed t → WellFormed u
     → ((number : ℕ) → times_pinned t.pins number ≡ times_pinned u.pins number) → t.pins ≡ u.pins
 one-pins t u well other alike =
-    same_table nat_cmp nat_cmp_total nat_cmp-IsAntisymmetric t.pins u.pins well.pins other.pins
-    (λ number.
+    same_table nat_cmp nat_cmp_total nat_cmp-IsAntisymmetric t.pins u.pins well.pins other.pins (λ number.
     get-counted t.pins number (pins-some t well) ∙ ap pin_entry (alike number)
     ∙ sym (get-counted u.pins number (pins-some u other)))
 
@@ -156,18 +146,14 @@ pins-counted files number order = sym (times_pinned-stored files number order)
 
 -- there is room for a pin more
 pub room-to-pin : (files : Table ℕ Stored) (number : ℕ) → InOrder nat_cmp files
-    → times_pinned (pins_of files) number < 2 ^ 32
-    → IfSome (get nat_cmp files number) (λ s. s.pins < 2 ^ 32)
-room-to-pin files number order few =
-    each-some (λ (s : Stored). s.pins < 2 ^ 32) (get nat_cmp files number) (λ s there.
+    → times_pinned (pins_of files) number < 2 ^ 32 → IfSome (get nat_cmp files number) (λ s. s.pins < 2 ^ 32)
+room-to-pin files number order few = each-some (λ (s : Stored). s.pins < 2 ^ 32) (get nat_cmp files number) (λ s there.
     subst (λ n. n < 2 ^ 32) (times_pinned-stored files number order ∙ ap pin_count_at there) few)
 
 -- there is a pin to lose
 pub pin-to-lose : (files : Table ℕ Stored) (number : ℕ) → InOrder nat_cmp files
-    → IsTrue (is_pinned (pins_of files) number)
-    → IfSome (get nat_cmp files number) (λ s. 0 < s.pins)
-pin-to-lose files number order pinned =
-    each-some (λ (s : Stored). 0 < s.pins) (get nat_cmp files number) (λ s there.
+    → IsTrue (is_pinned (pins_of files) number) → IfSome (get nat_cmp files number) (λ s. 0 < s.pins)
+pin-to-lose files number order pinned = each-some (λ (s : Stored). 0 < s.pins) (get nat_cmp files number) (λ s there.
     subst (λ n. 0 < n) (times_pinned-stored files number order ∙ ap pin_count_at there)
     (ltb-true 0 (times_pinned (pins_of files) number) pinned))
 
@@ -177,8 +163,7 @@ counted-still : (names : Names) (files after : Table ℕ Stored) (change : Store
     → IsChanged change number files after → AreCounted names after
 counted-still names files after change number counted keeps changed =
     at-entries (λ other (s : Stored). s.names ≡ times_named names other) after changed.ordered (λ other s there.
-    by-number number other
-    (λ is.
+    by-number number other (λ is.
     by (get nat_cmp files number) refl s (sym changed.here ∙ ap (get nat_cmp after) (sym is) ∙ there)
     ∙ ap (times_named names) (sym is))
     (λ differ. count-at names files counted other s (sym (changed.others other differ) ∙ there)))
@@ -218,10 +203,7 @@ module _ (names : Names) (files : Table ℕ Stored) (made : ℕ) (limits : TreeL
       content (Some s) = refl
 
       same : contents after ≡ contents files
-      same =
-          same-contents files after order changed.ordered (λ other.
-          by-number number other
-          (λ is.
+      same = same-contents files after order changed.ordered (λ other. by-number number other (λ is.
           ap (λ k. content_in (get nat_cmp after k)) is ∙ ap content_in changed.here
           ∙ content (get nat_cmp files number) ∙ ap (λ k. content_in (get nat_cmp files k)) (sym is))
           (λ differ. ap content_in (changed.others other differ)))
@@ -232,8 +214,7 @@ module _ (names : Names) (files : Table ℕ Stored) (made : ℕ) (limits : TreeL
       more (Some s) there = refl
 
       pins : pins_of after ≡ with_pin (pins_of files) number
-      pins =
-          changed-pins_to with_a_pin number files after (times_pinned (pins_of files) number + 1) order changed
+      pins = changed-pins_to with_a_pin number files after (times_pinned (pins_of files) number + 1) order changed
           (more (get nat_cmp files number)
           (ap is_some (sym (get-with_values nat_cmp (λ (s : Stored). s.content) files number)) ∙ there)
           ∙ ap (λ n. n + 1) (pins-counted files number order))
@@ -265,8 +246,7 @@ module _ (names : Names) (files : Table ℕ Stored) (made : ℕ) (limits : TreeL
       less (Some s) = pins-where_held (record s { pins = s.pins - 1 })
 
       pins : pins_of after ≡ fewer
-      pins =
-          changed-pins_to without_a_pin number files after (times_pinned (pins_of files) number - 1) order changed
+      pins = changed-pins_to without_a_pin number files after (times_pinned (pins_of files) number - 1) order changed
           (less (get nat_cmp files number) ∙ ap (λ n. n - 1) (pins-counted files number order))
 
       still : (s : Stored) → get nat_cmp files number ≡ Some s
@@ -290,17 +270,12 @@ module _ (names : Names) (files : Table ℕ Stored) (made : ℕ) (limits : TreeL
       elsewhere other differ s there =
           let left = times_pinned (pins_of files) number - 1 in
           ap (λ n. is_named names other || nat_lt 0 n)
-          (times_pinned-elsewhere (pins_of files) number left other in_order differ)
-          ∙ was-held other s there
+          (times_pinned-elsewhere (pins_of files) number left other in_order differ) ∙ was-held other s there
 
       same : contents after ≡ retain (contents files) keeps
-      same =
-          left-contents names names files keeps after order changed.ordered (λ other.
-          by-number number other
-          (λ is.
+      same = left-contents names names files keeps after order changed.ordered (λ other. by-number number other (λ is.
           ap (λ k. content_in (get nat_cmp after k)) is ∙ ap content_in changed.here
           ∙ gone-content number keeps (λ s. record s { pins = s.pins - 1 }) (get nat_cmp files number) (λ s. refl) still
-          ∙ ap (λ k. kept keeps k (content_in (get nat_cmp files k))) (sym is))
-          (λ differ.
+          ∙ ap (λ k. kept keeps k (content_in (get nat_cmp files k))) (sym is)) (λ differ.
           ap content_in (changed.others other differ)
           ∙ stayed-content other keeps (get nat_cmp files other) (elsewhere other differ)))

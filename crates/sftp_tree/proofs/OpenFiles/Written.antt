@@ -25,8 +25,7 @@ use Rattle.sftp_tree.proofs.CauseLaws.Limits.{length-resized, changed-room}
 
 length-overwritten : (offset : ℕ) (new bytes : List ℕ)
     → length (overwritten offset new bytes) ≡ offset + length new + (length bytes - (offset + length new))
-length-overwritten offset new bytes =
-    omega (
+length-overwritten offset new bytes = omega (
       arith,
       length-append (resized offset bytes ++ new) (drop (offset + length new) bytes),
       length-append (resized offset bytes) new,
@@ -42,12 +41,10 @@ size-written bounds offset new bytes fit = by (length new == 0)
     larger : (n m limit : ℕ) → nat_le n limit ≡ true → nat_le (m + (n - m)) limit ≡ nat_le m limit
     larger n m limit fit = grind (arith, nat_tests)
 
-    by : (empty : Bool)
-        → nat_le (length (if empty then bytes else overwritten offset new bytes)) bounds.file_bytes
+    by : (empty : Bool) → nat_le (length (if empty then bytes else overwritten offset new bytes)) bounds.file_bytes
         ≡ (empty || nat_le (offset + length new) bounds.file_bytes)
     by true = fit
-    by false =
-        ap (λ n. nat_le n bounds.file_bytes) (length-overwritten offset new bytes)
+    by false = ap (λ n. nat_le n bounds.file_bytes) (length-overwritten offset new bytes)
         ∙ larger (length bytes) (offset + length new) bounds.file_bytes fit
 
 -- the tree is within the limits after a WRITE just where the WRITE keeps to that of a file
@@ -58,8 +55,7 @@ write-room t number offset new within there = by (content_at t.files number) ref
     by : (o : Option Content) → content_at t.files number ≡ o → is_some o ≡ true
         → fits (with_written_file t offset new number o) ≡ write_fits (limits t) offset new
     by None is there = absurd cc
-    by (Some content) is there =
-        fits-content t number (written_content offset new content) within
+    by (Some content) is there = fits-content t number (written_content offset new content) within
         ∙ size-written (limits t) offset new content.bytes (content-fits t number content within is)
 
 -- ---- the tree
@@ -95,8 +91,7 @@ kept-write t number offset new kept fit room = by (content_at t.files number) re
     by None is = kept
     by (Some content) is =
         let before : IsContent content = content-of t number content kept is in
-        let within =
-        fits-content t number (written_content offset new content) kept.within_limits
+        let within = fits-content t number (written_content offset new content) kept.within_limits
         ∙ size-written (limits t) offset new content.bytes (content-fits t number content kept.within_limits is)
         ∙ room in
         kept-content-within t number content (written_content offset new content) kept is
@@ -105,8 +100,7 @@ kept-write t number offset new kept fit room = by (content_at t.files number) re
 -- after an FSETSTAT that the limits allow a tree is one of the program
 pub kept-set : (t : Tree) (number : ℕ) (attrs : Attrs) → IsKept t → IsAttrs attrs → HasFile t.files number
     → IsTrue (size_fits (limits t) attrs.size) → IsKept (after_set t number attrs)
-kept-set t number attrs kept fits there room =
-    kept-changed t attrs number kept
+kept-set t number attrs kept fits there room = kept-changed t attrs number kept
     (λ content is. changed-owner-fits attrs content.owner fits (content-of t number content kept is).0)
     (changed-room t attrs number kept (content_at t.files number) refl there ∙ room)
 
@@ -125,8 +119,7 @@ module _ (offset : ℕ) (new bytes : List ℕ) where
           ap (λ b. if b then bytes else overwritten offset new bytes) other
 
   pub before-written : 0 < length new → take offset (written offset new bytes) ≡ resized offset bytes
-  before-written some =
-      ap (take offset) (some-written some ∙ append_assoc (resized offset bytes) new behind)
+  before-written some = ap (take offset) (some-written some ∙ append_assoc (resized offset bytes) new behind)
       ∙ take_at (resized offset bytes) (new ++ behind) offset (length-resized offset bytes)
 
   pub there-written : 0 < length new → take (length new) (drop offset (written offset new bytes)) ≡ new
@@ -136,7 +129,6 @@ module _ (offset : ℕ) (new bytes : List ℕ) where
       ∙ take_at new behind (length new) refl
 
   pub behind-written : 0 < length new → drop (offset + length new) (written offset new bytes) ≡ behind
-  behind-written some =
-      ap (drop (offset + length new)) (some-written some)
+  behind-written some = ap (drop (offset + length new)) (some-written some)
       ∙ drop_at (resized offset bytes ++ new) behind (offset + length new)
       (length-append (resized offset bytes) new ∙ ap (λ n. n + length new) (length-resized offset bytes))

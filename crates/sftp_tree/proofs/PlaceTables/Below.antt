@@ -48,8 +48,7 @@ has-turn : (p q : Place) (e : Place × Node) (es : Names) → is_below p q ≡ t
 has-turn p q e es below rest true same taken =
     let one : q ≡ e.0 = place_cmp-same q e.0 ((Equal-is (place_cmp q e.0)).0 same) in
     ap (λ x. is_below p x || list_any (λ e. is_below p e.0) es) (sym one) ∙ ap (λ b. b || list_any (λ e. is_below p e.0) es) below
-has-turn p q e es below rest false apart taken =
-    ap (λ b. is_below p e.0 || b) (rest taken) ∙ or-true (is_below p e.0)
+has-turn p q e es below rest false apart taken = ap (λ b. is_below p e.0 || b) (rest taken) ∙ or-true (is_below p e.0)
 
 has-below : (p q : Place) (es : Names) → is_below p q ≡ true → is_taken (lookup (is_at (place_cmp q)) es) ≡ true → list_any (λ e. is_below p e.0) es ≡ true
 has-below p q [] below taken = cc

@@ -29,9 +29,7 @@ module _ {E : Type 0} where
 
   pub each-all : (test : E → Bool) (es : List E) → list_all test es ≡ true → AllByRecursion (λ e. IsTrue (test e)) es
   each-all test [] h = tt
-  each-all test (e ∷ es) h =
-      let parts = and_parts (test e) (list_all test es) h in
-      (parts.0, each-all test es parts.1)
+  each-all test (e ∷ es) h = let parts = and_parts (test e) (list_all test es) h in (parts.0, each-all test es parts.1)
 
   pub all-each : (test : E → Bool) (es : List E) → AllByRecursion (λ e. IsTrue (test e)) es → list_all test es ≡ true
   all-each test [] h = refl
@@ -104,9 +102,7 @@ module _ {K X : Type 0} where
 
 -- what holds of each value holds of one that is found
 found_by : {X : Type 0} (P : X → Type 0) (b : Bool) (y x : X) (o : Option X) → cond b (Some y) o ≡ Some x → P y → (o ≡ Some x → P x) → P x
-found_by P true y x o e here there =
-    let same : y ≡ x = cc in
-    subst P same here
+found_by P true y x o e here there = let same : y ≡ x = cc in subst P same here
 found_by P false y x o e here there = there e
 
 pub lookup_holds : {K X : Type 0} (P : X → Type 0) (test : K → Bool) (es : List (K × X)) (x : X) → AllByRecursion (λ e. P e.1) es → lookup test es ≡ Some x → P x

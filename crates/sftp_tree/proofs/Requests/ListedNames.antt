@@ -63,8 +63,7 @@ each-rises place a n [] is further = tt
 each-rises place a n (e ∷ es) is further = by (each-rises place a n es is further.1) (name_below place e.0) refl
   where
     by : AllByRecursion (λ k. name_cmp n k ≡ Less) (keys_of (filter_map (child_below place) es)) → (o : Option Name)
-        → name_below place e.0 ≡ o
-        → AllByRecursion (λ k. name_cmp n k ≡ Less)
+        → name_below place e.0 ≡ o → AllByRecursion (λ k. name_cmp n k ≡ Less)
         (keys_of (cons_option (option_map (λ name. (name, e.1)) o) (filter_map (child_below place) es)))
     by rest None there = rest
     by rest (Some m) there = (names-rise place a e.0 n m is there further.0, rest)
@@ -84,8 +83,7 @@ each-shown : (P : Name → Type 0) (t : Tree) (found : Table Name Node) → AllB
 each-shown P t [] each = tt
 each-shown P t (e ∷ es) each = by (each-shown P t es each.1) (shown t e.1)
   where
-    by : AllByRecursion P (keys_of (filter_map (shown_child t) es)) → (o : Option Attrs)
-        → AllByRecursion P
+    by : AllByRecursion P (keys_of (filter_map (shown_child t) es)) → (o : Option Attrs) → AllByRecursion P
         (keys_of (cons_option (option_map (λ attrs. (e.0, attrs)) o) (filter_map (shown_child t) es)))
     by rest None = rest
     by rest (Some attrs) = (each.0, rest)
@@ -135,8 +133,7 @@ at-child [] [] name = refl
 at-child [] (n ∷ []) name = then-equal (name_cmp name n)
 at-child [] (n ∷ m ∷ ms) name = then-shorter (name_cmp name n)
 at-child (p ∷ ps) [] name = refl
-at-child (p ∷ ps) (x ∷ xs) name =
-    then-both (name_cmp p x) (place_cmp (ps ++ name ∷ []) xs)
+at-child (p ∷ ps) (x ∷ xs) name = then-both (name_cmp p x) (place_cmp (ps ++ name ∷ []) xs)
     ∙ ap (λ b. if b then is_eq (place_cmp (ps ++ name ∷ []) xs) else false) (sym (texts_ties p x))
     ∙ by (at-child ps xs name) (same_bytes p x)
   where
@@ -150,14 +147,11 @@ pub child-at : (names : Names) (place : Place) (name : Name)
     → get name_cmp (children names place) name ≡ node_at names (place ++ name ∷ [])
 unfolding children get is_child
 child-at [] place name = refl
-child-at (e ∷ es) place name =
-    by (child-at es place name) (name_below place e.0)
+child-at (e ∷ es) place name = by (child-at es place name) (name_below place e.0)
     ∙ ap (λ b. cond b (Some e.1) (lookup (is_at (place_cmp (place ++ name ∷ []))) es)) (sym (at-child place e.0 name))
   where
     by : lookup (is_at (name_cmp name)) (filter_map (child_below place) es) ≡ lookup
-        (is_at (place_cmp (place ++ name ∷ []))) es
-        → (o : Option Name)
-        → lookup (is_at (name_cmp name))
+        (is_at (place_cmp (place ++ name ∷ []))) es → (o : Option Name) → lookup (is_at (name_cmp name))
         (cons_option (option_map (λ n. (n, e.1)) o) (filter_map (child_below place) es))
         ≡ cond (is_child name o) (Some e.1) (lookup (is_at (place_cmp (place ++ name ∷ []))) es)
     by rest None = rest
@@ -196,6 +190,5 @@ shown-get t (e ∷ es) name nodes =
 pub listed-at : (t : Tree) (place : Place) (name : Name) → WellFormed t
     → get name_cmp (listing t place) name ≡ shown_at t (node_at t.names (place ++ name ∷ []))
 unfolding listing
-listed-at t place name well =
-    shown-get t (children t.names place) name (children-kept t.files t.names place well.nodes)
+listed-at t place name well = shown-get t (children t.names place) name (children-kept t.files t.names place well.nodes)
     ∙ ap (shown_at t) (child-at t.names place name)

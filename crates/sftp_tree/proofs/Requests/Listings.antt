@@ -34,8 +34,7 @@ children-kept files (e ∷ es) place nodes = by (children-kept files es place no
 pub listing-of : (t : Tree) (place : Place) (entries : Names) (found : Table Name Node) → entries ≡ t.names
     → found ≡ children entries place → filter_map (shown_child t) found ≡ listing t place
 unfolding listing
-listing-of t place entries found names is =
-    ap (filter_map (shown_child t)) (is ∙ ap (λ ns. children ns place) names)
+listing-of t place entries found names is = ap (filter_map (shown_child t)) (is ∙ ap (λ ns. children ns place) names)
 
 -- one more item
 pub listed-on : (t : Tree) (items after : List Item) (it : Item) (e : Name × Node) (rest : Table Name Node)

@@ -89,8 +89,7 @@ done-set-file t attrs number (Make at content) room is = absurd is
 done-set : (t : Tree) (attrs : Attrs) (place : Place) (found : Option Node) (plan : Plan) → IsKept t
     → node_at t.names place ≡ found → IsTrue (fits (with_attributes t attrs place found))
     → IsSetting found place attrs plan → IsDone t (with_attributes t attrs place found) plan
-done-set t attrs place None plan kept there room is =
-    subst (IsDone t t) (sym is) (record { ready = kept; done = refl })
+done-set t attrs place None plan kept there room is = subst (IsDone t t) (sym is) (record { ready = kept; done = refl })
 done-set t attrs place (Some (nodes.Dir owner)) plan kept there room is =
     subst (IsDone t (with_attributes t attrs place (Some (nodes.Dir owner)))) (sym is.0)
     (record { ready = record { directory = ap is_directory there; is_owner = is.1 }; done = refl })
@@ -104,8 +103,7 @@ done-truncate : (t : Tree) (number : ℕ) (empties : Bool) (plan : Plan) → IsK
     → IsDone t (if empties then with_emptied_file t number (content_at t.files number) else t) plan
 done-truncate t number true plan kept room is =
     subst (IsDone t (with_emptied_file t number (content_at t.files number))) (sym is) (record { ready = room; done = refl })
-done-truncate t number false plan kept room is =
-    subst (IsDone t t) (sym is) (record { ready = kept; done = refl })
+done-truncate t number false plan kept room is = subst (IsDone t t) (sym is) (record { ready = kept; done = refl })
 
 -- neither a directory nor a link is changed when it is opened
 done-open : (t : Tree) (flags : ℕ) (attrs : Attrs) (place : Place) (found : Option Node) (plan : Plan)
@@ -113,8 +111,7 @@ done-open : (t : Tree) (flags : ℕ) (attrs : Attrs) (place : Place) (found : Op
     → IsTrue (fits (with_opened t flags attrs place found)) → plan ≡ plan_to_open t flags attrs place found
     → IsDone t (with_opened t flags attrs place found) plan
 done-open t flags attrs place None plan there well owner room is =
-    subst (IsDone t (with_new_file t place (new_content t attrs))) (sym is)
-    (record {
+    subst (IsDone t (with_new_file t place (new_content t attrs))) (sym is) (record {
       ready = record {
         absent = there;
         named = well.named;
@@ -153,8 +150,7 @@ done-move t oldpath newpath old new plan well free is =
     let leave = may-leave t old free.at_old in
     let absent = free-place (node_at t.names new) free.at_new in
     let same = moved-is t old new absent in
-    subst (IsDone t (outcome_between t (Rename oldpath newpath) old new)) (sym is)
-    (record {
+    subst (IsDone t (outcome_between t (Rename oldpath newpath) old new)) (sym is) (record {
       ready = record {
         taken = leave.taken;
         old_below_root = leave.below_root;
@@ -174,8 +170,7 @@ done-exchange t old new plan true apart well here there both room is = subst (Is
 done-exchange t old new plan false apart well here there both room is =
     let leave = may-leave t old here in
     let may = may-replace t old new well.kept.well_formed leave both apart in
-    subst (IsDone t (put_in_its_stead t old new)) (sym is)
-    (record {
+    subst (IsDone t (put_in_its_stead t old new)) (sym is) (record {
       ready = record {
         taken = leave.taken;
         old_below_root = leave.below_root;

@@ -109,8 +109,7 @@ free-from t place well absent =
 -- ---- requests with one path
 
 well-with : (t : Tree) (place : Place) (it : Node) → WellFormed t → Led t place → is_taken (node_at t.names place) ≡ false → IsNode t.files it → WellFormed (record t { names = with_node t.names place it })
-well-with t place it well leads free is_node =
-    well-formed-names t (with_node t.names place it) well
+well-with t place it well leads free is_node = well-formed-names t (with_node t.names place it) well
     (names-put t.files t.names place it (names-of t well) leads.named (absent-of (node_at t.names place) free) leads.above is_node)
 
 well-without : (t : Tree) (place : Place) → WellFormed t → is_root place ≡ false → has_entries t.names place ≡ false → WellFormed (record t { names = without_node t.names place })
@@ -134,8 +133,7 @@ well-attributes t attrs place (Some (Link target)) is well fits = well
 
 well-emptied : (t : Tree) (number : ℕ) (empties : Bool) → WellFormed t
     → WellFormed (if empties then with_emptied_file t number (content_at t.files number) else t)
-well-emptied t number true well =
-    subst WellFormed (sym (emptied-is t number (content_at t.files number)))
+well-emptied t number true well = subst WellFormed (sym (emptied-is t number (content_at t.files number)))
     (well-file t no_bytes number (content_at t.files number) refl well no-bytes-fit)
 well-emptied t number false well = well
 
@@ -168,8 +166,7 @@ same_place-is p q same = (pointwise_decides bytes_decides p q).0 same
 
 -- what is taken is at no place that is free
 taken-differs : (names : Names) (old new : Place) → not (is_taken (node_at names old)) ≡ false → is_taken (node_at names new) ≡ false → same_place old new ≡ false
-taken-differs names old new there free =
-    false_from_ne_true (same_place old new) (λ same.
+taken-differs names old new there free = false_from_ne_true (same_place old new) (λ same.
     both_ways (is_taken (node_at names new)) free (ap (λ q. is_taken (node_at names q)) (sym (same_place-is old new same)) ∙ not-false (is_taken (node_at names old)) there))
 
 well-renamed : (t : Tree) (old new : Place) → WellFormed t → Led t new → not (is_taken (node_at t.names old)) ≡ false → is_root old ≡ false → is_taken (node_at t.names new) ≡ false → goes_inside t.names old new ≡ false → WellFormed (moved t old new)
@@ -214,8 +211,7 @@ outcome-stands-by t ask (Some (Ok place)) (Some (Err failed)) e f leads stands f
 outcome-stands-by t ask (Some (Ok old)) (Some (Ok new)) e f leads stands fit free =
     let none = free-between t ask old new free e f in
     record {
-      well_formed =
-          subst WellFormed (sym (outcome-is t ask (Some (Ok old)) (Some (Ok new)) e f))
+      well_formed = subst WellFormed (sym (outcome-is t ask (Some (Ok old)) (Some (Ok new)) e f))
           (well-between t ask old new stands.well_formed (new-place-led t ask new leads fit f) none.at_old none.at_new none.between);
       within_limits = subst (λ x. IsTrue (fits x)) (sym (outcome-is t ask (Some (Ok old)) (Some (Ok new)) e f)) none.room;
     }

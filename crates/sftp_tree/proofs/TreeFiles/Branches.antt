@@ -115,8 +115,7 @@ pub record IsLeft (files : Files) (whole : Names) (start at : At) (rest : Names)
 
 -- one name further down the same is written
 written_placed : (files : Files) (es : Names) (name : Name) (at inside after : At)
-    → inside ≡ record at { text = at.text ++ 47 ∷ name }
-    → IsWritten files es inside after
+    → inside ≡ record at { text = at.text ++ 47 ∷ name } → IsWritten files es inside after
     → IsWritten files (placed name es) at (record after { text = take (length at.text) after.text })
 written_placed files es name at inside after entered written =
     let w = subst (λ (s : At). IsWritten files es s after) entered written in
@@ -130,8 +129,7 @@ written_placed files es name at inside after entered written =
 
 -- and of what is left the first entries
 left_both : (files : Files) (whole : Names) (start at after : At) (es rest : Names)
-    → IsLeft files whole start at (es ++ rest)
-    → IsWritten files es at after → IsLeft files whole start after rest
+    → IsLeft files whole start at (es ++ rest) → IsWritten files es at after → IsLeft files whole start after rest
 left_both files whole start at after es rest left w =
     let firsts = firsts_from at.firsts at.next es in
     let next = at.next + length es in
@@ -225,8 +223,7 @@ tree_written t kept firsts none =
     let are : AreFirsts firsts (only_root s.root) =
     λ number. ap (λ (f : Firsts). get nat_cmp f number) none ∙ get-empty nat_cmp number in
     ap (rows_from t.files firsts 1 []) (ap (drop 1) s.names_are)
-    ∙ rows_are t.files firsts (only_root s.root) s.entries are s.below
-    ∙ ap (rows_behind t.files []) (sym s.names_are)
+    ∙ rows_are t.files firsts (only_root s.root) s.entries are s.below ∙ ap (rows_behind t.files []) (sym s.names_are)
 
 -- ---- a directory, and then what is below it
 
@@ -292,8 +289,7 @@ branch_nonempty (children.Link target) is = omega arith
 
 child_smaller : (names : Names) (name : Name) (child : Child) (rest : Names) → IsBranch child
     → length (placed name (branch child) ++ rest) ≤ length (drop 1 names) → length (branch child) < length names
-child_smaller [] name child rest is few =
-    absurd (omega (
+child_smaller [] name child rest is few = absurd (omega (
       arith,
       few,
       branch_nonempty child is,

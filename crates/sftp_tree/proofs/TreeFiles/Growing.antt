@@ -34,14 +34,12 @@ entries_order root rows names fits fit names-are =
     subst (InOrder place_cmp) (sym names-are) (table_of_file root rows fits fit).ordered
 
 pub entry_later : (root : Owner) (rows : List Row) (row : Row) (names : Names) (place : Place)
-    → IsNext usual_limits rows row
-    → names ≡ names_of root rows → place ≡ place_of row.path
+    → IsNext usual_limits rows row → names ≡ names_of root rows → place ≡ place_of row.path
     → AllByRecursion (λ other. place_cmp other place ≡ Less) (keys_of names)
 entry_later root rows row names place next names-are place-is =
     subst (λ (p : Place). AllByRecursion (λ other. place_cmp other p ≡ Less) (keys_of names)) (sym place-is)
     (subst (λ (ns : Names). AllByRecursion (λ other. place_cmp other (place_of row.path) ≡ Less) (keys_of ns))
-    (sym names-are)
-    (keys_before root rows row next))
+    (sym names-are) (keys_before root rows row next))
 
 -- which is what putting them is
 pub put_last : (names new : Names) (place : Place) (node : Node)
@@ -75,8 +73,7 @@ behind_known numbers next (kinds.Link target) place = refl
 
 pub open_more : (rows : List Row) (row : Row) (numbers : List ℕ) (next : ℕ) (place old new : Place) (node : Node)
     → IsOpen rows old → IsNext usual_limits rows row → place ≡ place_of row.path
-    → node ≡ known_node numbers next row.kind
-    → new ≡ open_behind place node → IsOpen (rows ++ row ∷ []) new
+    → node ≡ known_node numbers next row.kind → new ≡ open_behind place node → IsOpen (rows ++ row ∷ []) new
 open_more rows row numbers next place old new node was is-next place-is node-is new-is = record {
   last = place_of row.path;
   last_is = is_dir row.kind;

@@ -77,8 +77,7 @@ kind_bare files front (Link target) = refl
 
 pub rows_bare : (files : Files) (front es : Names) → AllByRecursion IsBelowRoot es → map bare_entry (rows_behind files front es) ≡ bared es
 rows_bare files front [] below = refl
-rows_bare files front (e ∷ es) below =
-    ap (map bare_entry) (rows_cons files front e es below.0.1)
+rows_bare files front (e ∷ es) below = ap (map bare_entry) (rows_cons files front e es below.0.1)
     ∙ (λ i. (components-absolute e.0 below.0.0.0 i, kind_bare files front e.1 i) ∷ rows_bare files (front ++ e ∷ []) es below.1 i)
 
 -- ---- a further name is of an entry that is a first one

@@ -128,9 +128,7 @@ none_of number (e ∷ es) below = by e.1 below.0 (none_of number es below.1)
   where
     by : (standing : Node) → IsBelow number standing → length (filter (λ q. names_file number q.1) es) ≡ 0 → length (cond (names_file number standing) (e ∷ filter (λ q. names_file number q.1) es) (filter (λ q. names_file number q.1) es)) ≡ 0
     by (Dir owner) below is = is
-    by (File n) below is =
-        let other : n ≢ number = omega arith in
-        rw (ne_eqb n number other) is
+    by (File n) below is = let other : n ≢ number = omega arith in rw (ne_eqb n number other) is
     by (Link target) below is = is
 
 -- the entry is no name of a file of these
@@ -171,14 +169,11 @@ last_number cs c =
     let below = each_number (λ n. n < length cs) 0 cs (λ n above below. omega arith) in
     let zero_more : length cs ≡ 0 + length cs = omega arith in
     insert_last nat_cmp_total (numbered_from 0 cs) (length cs) c (below_less (length cs) (numbered_from 0 cs) below)
-    ∙ ap (λ n. numbered_from 0 cs ++ (n, c) ∷ []) zero_more
-    ∙ sym (numbered_push 0 cs c)
+    ∙ ap (λ n. numbered_from 0 cs ++ (n, c) ∷ []) zero_more ∙ sym (numbered_push 0 cs c)
 
 first_contents : (stores : Stores) (cs : List Content) (s : Stored) → contents stores ≡ numbered_from 0 cs → contents (put nat_cmp stores (length cs) s) ≡ numbered_from 0 (cs ++ s.content ∷ [])
-first_contents stores cs s same =
-    with_values-put nat_cmp (λ (x : Stored). x.content) stores (length cs) s
-    ∙ ap (λ (fs : Files). put nat_cmp fs (length cs) s.content) same
-    ∙ last_number cs s.content
+first_contents stores cs s same = with_values-put nat_cmp (λ (x : Stored). x.content) stores (length cs) s
+    ∙ ap (λ (fs : Files). put nat_cmp fs (length cs) s.content) same ∙ last_number cs s.content
 
 not_last : (n : ℕ) (stores : Stores) → AllByRecursion (λ s. s.0 < n) stores → AllByRecursion (λ s. names_file s.0 (File n) ≡ false) stores
 not_last n [] below = tt
@@ -239,8 +234,7 @@ pushed root rows place (kinds.Link target) stores after fit fits same counted is
 named_unpinned : (number : ℕ) (stores after : Stores) → AllByRecursion (λ (e : ℕ × Stored). e.1.pins ≡ 0) stores
     → IsChanged with_a_name number stores after → AllByRecursion (λ (e : ℕ × Stored). e.1.pins ≡ 0) after
 named_unpinned number stores after none changed =
-    at-entries (λ other (s : Stored). s.pins ≡ 0) after changed.ordered (λ other s there.
-    by-number number other
+    at-entries (λ other (s : Stored). s.pins ≡ 0) after changed.ordered (λ other s there. by-number number other
     (λ is. by (get nat_cmp stores number) refl (sym changed.here ∙ ap (get nat_cmp after) (sym is) ∙ there))
     (λ differ. at-number (λ other (s : Stored). s.pins ≡ 0) stores none other s (sym (changed.others other differ) ∙ there)))
   where

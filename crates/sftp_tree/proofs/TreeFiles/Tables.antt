@@ -93,9 +93,7 @@ directory_is_some (Some (File number)) h = absurd cc
 directory_is_some (Some (Link target)) h = absurd cc
 
 directory_left : (xs ys : Names) (p : Place) → IsTrue (is_directory (node_at xs p)) → IsTrue (is_directory (node_at (xs ++ ys) p))
-directory_left xs ys p h =
-    let d = directory_is_some (node_at xs p) h in
-    rw (at_left xs ys p (Dir d.0) d.1) refl
+directory_left xs ys p h = let d = directory_is_some (node_at xs p) h in rw (at_left xs ys p (Dir d.0) d.1) refl
 
 -- what is not behind is in front
 directory_in_front : (xs ys : Names) (p : Place) (o : Option Node) → node_at xs p ≡ o → node_at ys p ≡ None → IsTrue (is_directory (node_at (xs ++ ys) p)) → IsTrue (is_directory (node_at xs p))
@@ -200,8 +198,7 @@ pub names_push : (root : Owner) (earlier : List Row) (row : Row) → bare_names 
 names_push root earlier row = names_split root earlier (row ∷ [])
 
 row_push : (root : Owner) (earlier : List Row) (row : Row) → IsTable root (bare_names root earlier) → IsNext usual_limits earlier row → IsTable root (bare_names root (earlier ++ row ∷ []))
-row_push root earlier row t next =
-    subst (IsTable root) (sym (names_push root earlier row))
+row_push root earlier row t next = subst (IsTable root) (sym (names_push root earlier row))
     (table_push root (bare_names root earlier) (bare_entry row) t (text_place row.path next.path) (kind_fits earlier row.kind next.kind) (later_than_all root earlier row next) (sym (has_dir_is root earlier (parent (place_of row.path)) t.ordered) ∙ next.parent))
 
 rows_table : (root : Owner) (earlier rows : List Row) → IsTable root (bare_names root earlier) → AreRows usual_limits earlier rows → IsTable root (bare_names root (earlier ++ rows))

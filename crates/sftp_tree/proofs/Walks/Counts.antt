@@ -87,9 +87,7 @@ within-parts t follow left more behind at (name ∷ rest) =
 
 within : (t : Tree) (follow : Bool) (left : ℕ) → IsKept t → (at : Place) (path : List Name) → Within t follow left (left * 2048) at path
 within t follow zero kept = within-parts t follow zero (zero * 2048) (λ at name rest target there. omega arith)
-within t follow (suc left) kept =
-    within-parts t follow (suc left) (suc left * 2048)
-    (λ at name rest target there.
+within t follow (suc left) kept = within-parts t follow (suc left) (suc left * 2048) (λ at name rest target there.
     let further = within t follow left kept (start_of at target) (components target ++ rest) in
     let short = good_path-count target (target-good t kept (at ++ name ∷ []) target there) in
     omega (arith, further, short, length-append (components target) rest))

@@ -65,9 +65,7 @@ start-at t kept at false stands = stands
 unlinked : (t : Tree) (left : ℕ) → IsKept t → (at : Place) (path : List Name) → IsAt t at
     → IsUnlinked t (walk t.names true left at path)
 unlinked t zero kept = unlinked-parts t zero kept (λ at target rest stands. tt)
-unlinked t (suc left) kept =
-    unlinked-parts t (suc left) kept
-    (λ at target rest stands.
+unlinked t (suc left) kept = unlinked-parts t (suc left) kept (λ at target rest stands.
     unlinked t left kept (start_of at target) (components target ++ rest)
     (start-at t kept at (is_absolute target) stands))
 
@@ -75,8 +73,7 @@ unlinked t (suc left) kept =
 
 reached-by : (t : Tree) (path : List ℕ) (place : Place) (good : Bool) → is_good_path path ≡ good → IsKept t
     → reached t true path ≡ Ok place → is_link (node_at t.names place) ≡ false
-reached-by t path place true good kept is =
-    subst (IsUnlinked t) (sym (reached-good t true path good) ∙ is)
+reached-by t path place true good kept is = subst (IsUnlinked t) (sym (reached-good t true path good) ∙ is)
     (unlinked t link_limit kept [] (steps_of t path) kept.well_formed.root)
 reached-by t path place false bad kept is =
     let none : Ok place ≡ Err BadPath = sym is ∙ reached-bad t true path bad in

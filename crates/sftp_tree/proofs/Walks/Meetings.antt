@@ -106,8 +106,7 @@ plain-is_name name step plain = cc
 
 -- what is left behind a link are steps
 pub steps-behind : (t : Tree) → IsKept t → (place : Place) (target : List ℕ) (rest : List Name) → node_at t.names place ≡ Some (Link target) → list_all is_step rest ≡ true → list_all is_step (components target ++ rest) ≡ true
-steps-behind t kept place target rest there steps =
-    list_all-append is_step (components target) rest
+steps-behind t kept place target rest there steps = list_all-append is_step (components target) rest
     ∙ and_from (list_all is_step (components target)) (list_all is_step rest) (target-steps t kept place target there) steps
 
 -- of a meeting with a link, the node there

@@ -87,8 +87,7 @@ found-parts t follow left kept behind at (name ∷ rest) stands steps =
     subst (FoundBy t) (sym (walk-cons t.names follow left at name rest))
     (found-met t follow left at name rest (meets t.names follow at name (is_last rest)) kept stands a.0
     (λ place s. found-parts t follow left kept behind place rest s a.1)
-    (λ target there. behind at name target rest stands there a.1)
-    (met_by t.names follow at name rest))
+    (λ target there. behind at name target rest stands there a.1) (met_by t.names follow at name rest))
 
 start-stands : (t : Tree) → IsKept t → (at : Place) (absolute : Bool) → Stands t at → Stands t (if absolute then [] else at)
 start-stands t kept at true stands = root-stands t kept
@@ -97,9 +96,7 @@ start-stands t kept at false stands = stands
 -- a walk at a directory, over steps
 pub found : (t : Tree) (follow : Bool) (left : ℕ) → IsKept t → (at : Place) (path : List Name) → Stands t at → list_all is_step path ≡ true → FoundBy t (walk t.names follow left at path)
 found t follow zero kept = found-parts t follow zero kept (λ at name target rest stands there steps. tt)
-found t follow (suc left) kept =
-    found-parts t follow (suc left) kept
-    (λ at name target rest stands there steps.
+found t follow (suc left) kept = found-parts t follow (suc left) kept (λ at name target rest stands there steps.
     found t follow left kept (start_of at target) (components target ++ rest) (start-stands t kept at (is_absolute target) stands) (steps-behind t kept (at ++ name ∷ []) target rest there steps))
 
 -- ---- a whole path
@@ -113,8 +110,7 @@ name-step name is = or-right (is_dot name) (is_dot_dot name || is_name name) (or
 
 -- a walk from a home goes over steps
 pub steps-from : (home : List Name) (path : List ℕ) → are_names home ≡ true → is_good_path path ≡ true → are_bytes path ≡ true → list_all is_step (home ++ components path) ≡ true
-steps-from home path names good bytes =
-    list_all-append is_step home (components path)
+steps-from home path names good bytes = list_all-append is_step home (components path)
     ∙ and_from (list_all is_step home) (list_all is_step (components path)) (list_all-weaker is_name is_step name-step home names) (components-steps path good bytes)
 
 -- and the place that is its answer

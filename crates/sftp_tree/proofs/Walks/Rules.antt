@@ -35,9 +35,7 @@ leads-parts names follow left behind at (name ∷ rest) =
 
 pub walk-leads : (names : Names) (follow : Bool) (left : ℕ) (at : Place) (path : List Name) → Leads names follow left at path (walk names follow left at path)
 walk-leads names follow zero = leads-parts names follow zero (λ at name rest target plain goes there. loops at name rest target plain goes there)
-walk-leads names follow (suc left) =
-    leads-parts names follow (suc left)
-    (λ at name rest target plain goes there.
+walk-leads names follow (suc left) = leads-parts names follow (suc left) (λ at name rest target plain goes there.
     goes_through left at name rest (walk names follow left (start_of at target) (components target ++ rest)) target plain goes there (walk-leads names follow left (start_of at target) (components target ++ rest)))
 
 -- ---- no rule leads elsewhere

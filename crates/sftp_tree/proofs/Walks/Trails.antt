@@ -38,8 +38,7 @@ along-here (dir ∷ above) (name ∷ names) here along rest =
 pub along-child : (above : List (Bor Names)) (at : Place) (here : Bor Names) (name : Name) (rest : Place)
     → AreAlong above at here
     → node_at (root_of above here).now ((at ++ name ∷ []) ++ rest) ≡ node_at here.now (name ∷ rest)
-along-child above at here name rest along =
-    ap (node_at (root_of above here).now) (append_assoc at (name ∷ []) rest)
+along-child above at here name rest along = ap (node_at (root_of above here).now) (append_assoc at (name ∷ []) rest)
     ∙ sym (along-here above at here along (name ∷ rest))
 
 -- one name down
@@ -82,8 +81,7 @@ along-pop (dir ∷ above) (first ∷ second ∷ names) last here along =
 
 pub along-up : (above before : List (Bor Names)) (at after : Place) (last here : Bor Names)
     → AreAlong before at here → before ≡ above ++ last ∷ [] → after ≡ parent at → AreAlong above after last
-along-up above before at after last here along popped leaves =
-    subst (λ place. AreAlong above place last) (sym leaves)
+along-up above before at after last here along popped leaves = subst (λ place. AreAlong above place last) (sym leaves)
     (along-pop above at last here (subst (λ dirs. AreAlong dirs at here) popped along))
 
 -- the table of a child is the one at its place
@@ -104,10 +102,7 @@ at-top names place inner is = is [] ∙ ap (node_at names) (append-nil place)
 
 pub lent-directory : (names : Names) (place : Place) (owner : Owner) (dir : Bor Names) → IsAt names place dir.now
     → node_at dir.now [] ≡ Some (nodes.Dir owner) → IsLentAt names place (Some (Dir owner dir))
-lent-directory names place owner dir is root = record {
-  node = sym root ∙ at-top names place dir.now is;
-  below = is;
-}
+lent-directory names place owner dir is root = record { node = sym root ∙ at-top names place dir.now is; below = is }
 
 -- the table of a child that was found
 found-branch : (found : Option (Bor Child)) (child : Bor Child) (is_child : Child) → found ≡ Some child
@@ -117,8 +112,7 @@ found-branch found child is_child some is = ap (λ o. branch_of (option_copied o
 pub lent-dir : (names : Names) (place : Place) (found : Option (Bor Child)) (child : Bor Child) (owner : Owner)
     (dir : Bor Names) → IsAt names place (branch_of (option_copied found)) → found ≡ Some child
     → child.now ≡ children.Dir dir.now → node_at dir.now [] ≡ Some (nodes.Dir owner) → IsLentAt names place (Some (Dir owner dir))
-lent-dir names place found child owner dir is some is_dir root =
-    lent-directory names place owner dir
+lent-dir names place found child owner dir is some is_dir root = lent-directory names place owner dir
     (subst (IsAt names place) (found-branch found child (children.Dir dir.now) some is_dir) is) root
 
 pub lent-file : (names : Names) (place : Place) (found : Option (Bor Child)) (child : Bor Child) (number : ℕ)
@@ -126,8 +120,7 @@ pub lent-file : (names : Names) (place : Place) (found : Option (Bor Child)) (ch
     → IsLentAt names place (Some (File number))
 unfolding get
 lent-file names place found child number is some is_file = record {
-  node =
-      ap (λ table. node_at table []) (sym (found-branch found child (children.File number) some is_file))
+  node = ap (λ table. node_at table []) (sym (found-branch found child (children.File number) some is_file))
       ∙ at-top names place (branch_of (option_copied found)) is;
   below = tt;
 }
@@ -137,8 +130,7 @@ pub lent-link : (names : Names) (place : Place) (found : Option (Bor Child)) (ch
     → IsLentAt names place (Some (Link target))
 unfolding get
 lent-link names place found child target is some is_link = record {
-  node =
-      ap (λ table. node_at table []) (sym (found-branch found child (children.Link target.now) some is_link))
+  node = ap (λ table. node_at table []) (sym (found-branch found child (children.Link target.now) some is_link))
       ∙ at-top names place (branch_of (option_copied found)) is;
   below = tt;
 }
@@ -147,8 +139,7 @@ pub lent-nothing : (names : Names) (place : Place) (found : Option (Bor Child))
     → IsAt names place (branch_of (option_copied found)) → found ≡ None → IsLentAt names place None
 unfolding get
 lent-nothing names place found is none = record {
-  node =
-      ap (λ o. node_at (branch_of (option_copied o)) []) (sym none)
+  node = ap (λ o. node_at (branch_of (option_copied o)) []) (sym none)
       ∙ at-top names place (branch_of (option_copied found)) is;
   below = tt;
 }

@@ -50,8 +50,7 @@ zeros zero = refl
 zeros (suc n) = zeros n
 
 pub resized-bytes : (size : ℕ) (bytes : List ℕ) → IsTrue (are_bytes bytes) → IsTrue (are_bytes (resized size bytes))
-resized-bytes size bytes h =
-    list_all-append (λ b. nat_lt b 256) (take size bytes) (replicate (size - length bytes) 0)
+resized-bytes size bytes h = list_all-append (λ b. nat_lt b 256) (take size bytes) (replicate (size - length bytes) 0)
     ∙ and_from (are_bytes (take size bytes)) (are_bytes (replicate (size - length bytes) 0)) (bytes-taken size bytes h) (zeros (size - length bytes))
 
 -- of a file that gets a size, or keeps its own

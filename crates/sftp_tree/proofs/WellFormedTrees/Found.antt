@@ -24,8 +24,7 @@ taken-of found it e = ap is_taken e
 
 -- the root is a directory
 pub below-root : (t : Tree) (place : Place) → IsKept t → is_directory (node_at t.names place) ≡ false → is_root place ≡ false
-below-root t [] kept none =
-    let above : is_directory (node_at t.names []) ≡ true = kept.well_formed.root in cc
+below-root t [] kept none = let above : is_directory (node_at t.names []) ≡ true = kept.well_formed.root in cc
 below-root t (n ∷ ns) kept none = refl
 
 same-names : (p q : Place) → pointwise (pointwise nat_eq) p q ≡ true → p ≡ q
@@ -48,8 +47,7 @@ apart-of names old new there free = by (same_place old new) refl
 
 -- what goes to a place where nothing is replaces nothing
 pub moved-is : (t : Tree) (old new : Place) → node_at t.names new ≡ None → moved t old new ≡ put_in_its_stead t old new
-moved-is t old new free =
-    λ i. record t { names = rekeyed old new (sym (without-absent place_cmp t.names new free) i) }
+moved-is t old new free = λ i. record t { names = rekeyed old new (sym (without-absent place_cmp t.names new free) i) }
 
 -- ---- what is found in a table keeps what each entry keeps
 
@@ -62,5 +60,4 @@ found-passes cmp passes key value es all there = found-keeps cmp (λ x. IsTrue (
 
 -- the node at a place of a tree is a node of one
 pub node-kept : (t : Tree) (place : Place) (it : Node) → IsKept t → node_at t.names place ≡ Some it → IsNode t.files it
-node-kept t place it kept there =
-    found-keeps place_cmp (IsNode t.files) place it t.names kept.well_formed.nodes there
+node-kept t place it kept there = found-keeps place_cmp (IsNode t.files) place it t.names kept.well_formed.nodes there

@@ -100,8 +100,7 @@ names-owner files names place before owner fit there is_owner = record {
       (each-get place_cmp place_cmp-same (λ e. IsTrue (are_names e.0)) names place (Dir before) fit.named there) fit.named;
   nodes = each-put place_cmp place_cmp-same place_cmp-total (λ e. IsNode files e.1) names place (Dir owner) fit.ordered is_owner fit.nodes;
   root = same-put is_directory names place before owner [] there refl ∙ fit.root;
-  parents = λ q taken.
-      same-put is_directory names place before owner (parent q) there refl
+  parents = λ q taken. same-put is_directory names place before owner (parent q) there refl
       ∙ fit.parents q (sym (same-put is_taken names place before owner q there refl) ∙ taken);
 }
 

@@ -109,12 +109,10 @@ apart-from names old new parents outside differ above = false_from_ne_true (begi
         ]
 
 pub nothing-below : (names : Names) (place : Place) → InOrder place_cmp names → HaveParents names → is_directory (node_at names place) ≡ false → has_entries names place ≡ false
-nothing-below names place order parents none =
-    has_entries-none place names
+nothing-below names place order parents none = has_entries-none place names
     (get-each place_cmp place_cmp-same place_cmp-total (λ e. is_below place e.0 ≡ false) names order
     (λ q it there. false_from_ne_true (is_below place q) (λ below. both_ways (is_directory (node_at names place)) none (above-directory names place q parents below (taken-of (node_at names q) it there)))))
 
 pub alone-there : (names : Names) (place : Place) → has_entries names place ≡ false → (n : Name) (ns : Place) → node_at names (place ++ n ∷ ns) ≡ None
-alone-there names place empty n ns =
-    absent-of (node_at names (place ++ n ∷ ns))
+alone-there names place empty n ns = absent-of (node_at names (place ++ n ∷ ns))
     (false_from_ne_true (is_taken (node_at names (place ++ n ∷ ns))) (λ taken. both_ways (has_entries names place) empty (has_entries-below place (place ++ n ∷ ns) names (below-further place n ns) taken)))

@@ -116,9 +116,8 @@ module _ (rows : List Row) (last : Place) (last_is : Bool) (fits : IsLast rows l
   front_of_last : (top : Place) → begins top last ≡ true → (top ≡ take (length top) last) × (length top ≤ length last)
   front_of_last top h =
       let whole : last ≡ top ++ drop (length top) last = begins-front top last h in
-      let part : take (length top) (top ++ drop (length top) last) ≡ top =
-      take-append-le (length top) top (drop (length top) last) (omega arith)
-      ∙ take_all (length top) top (omega arith) in
+      let part : take (length top) (top ++ drop (length top) last) ≡ top = take-append-le (length top) top
+      (drop (length top) last) (omega arith) ∙ take_all (length top) top (omega arith) in
       (sym (ap (take (length top)) whole ∙ part), omega (arith, ap length whole, length-append top (drop (length top) last)))
 
   pub not_begun : begins (parent place) last ≡ false → has_dir rows (parent place) ≡ false

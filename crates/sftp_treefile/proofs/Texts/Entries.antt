@@ -63,9 +63,8 @@ entries_parts : (row : Row) (rows : List Row) (r : List ℕ)
     → flat_map row_text (row ∷ rows) ++ r ≡ row_text row ++ (flat_map row_text rows ++ r)
 entries_parts row rows r = append_assoc (row_text row) (flat_map row_text rows) r
 
-pub goes_on : (limits : TreeLimits) → limits.file_bytes < 2 ^ 32
-    → (earlier front whole : List Row) (rest tail : List ℕ) → AreRows limits earlier front
-    → AreRows limits earlier whole → length front ≤ length whole
+pub goes_on : (limits : TreeLimits) → limits.file_bytes < 2 ^ 32 → (earlier front whole : List Row) (rest tail : List ℕ)
+    → AreRows limits earlier front → AreRows limits earlier whole → length front ≤ length whole
     → flat_map row_text front ++ rest ≡ flat_map row_text whole ++ tail → GoesOn limits earlier front whole rest tail
 goes_on limits bound earlier [] whole rest tail front-fits whole-fits short e = grind (arith, append-nil)
 goes_on limits bound earlier (x ∷ front) [] rest tail front-fits whole-fits short e = absurd (omega arith)
@@ -73,8 +72,7 @@ goes_on limits bound earlier (x ∷ front) (y ∷ whole) rest tail front-fits wh
     let a = row_front limits bound earlier x y (flat_map row_text front ++ rest) (flat_map row_text whole ++ tail)
     front-fits.0.path whole-fits.0.path front-fits.0.kind whole-fits.0.kind
     (sym (entries_parts x front rest) ∙ e ∙ entries_parts y whole tail) in
-    let same_fits : AreRows limits (earlier ++ x ∷ []) whole =
-    subst (λ (z : Row). AreRows limits (earlier ++ z ∷ []) whole) (sym a.0) whole-fits.1 in
+    let same_fits = subst (λ (z : Row). AreRows limits (earlier ++ z ∷ []) whole) (sym a.0) whole-fits.1 in
     let next =
     goes_on limits bound (earlier ++ x ∷ []) front whole rest tail front-fits.1 same_fits (omega arith) a.1 in
     record {
@@ -94,8 +92,7 @@ entries_are_one limits bound earlier (x ∷ xs) [] r s x-fits y-fits len e = abs
 entries_are_one limits bound earlier (x ∷ xs) (y ∷ ys) r s x-fits y-fits len e =
     let a = row_front limits bound earlier x y (flat_map row_text xs ++ r) (flat_map row_text ys ++ s) x-fits.0.path
     y-fits.0.path x-fits.0.kind y-fits.0.kind (sym (entries_parts x xs r) ∙ e ∙ entries_parts y ys s) in
-    let same_fits : AreRows limits (earlier ++ x ∷ []) ys =
-    subst (λ (z : Row). AreRows limits (earlier ++ z ∷ []) ys) (sym a.0) y-fits.1 in
+    let same_fits = subst (λ (z : Row). AreRows limits (earlier ++ z ∷ []) ys) (sym a.0) y-fits.1 in
     let next = entries_are_one limits bound (earlier ++ x ∷ []) xs ys r s x-fits.1 same_fits (omega arith) a.1 in
     ((λ i. a.0 i ∷ next.0 i), next.1)
 
@@ -114,9 +111,8 @@ pub read_none : (limits : TreeLimits) (bytes : List ℕ) → AreRead limits byte
 read_none limits bytes = record { rows_fit = tt; count_is = refl; bytes_are = refl }
 
 pub read_more : (limits : TreeLimits) (bytes : List ℕ) (rows new : List Row) (n m : ℕ) (rest after : List ℕ) (row : Row)
-    → AreRead limits bytes rows n rest
-    → Reads (IsNext limits rows) row_text rest row after → new ≡ rows ++ row ∷ [] → m ≡ n + 1
-    → AreRead limits bytes new m after
+    → AreRead limits bytes rows n rest → Reads (IsNext limits rows) row_text rest row after → new ≡ rows ++ row ∷ []
+    → m ≡ n + 1 → AreRead limits bytes new m after
 read_more limits bytes rows new n m rest after row so_far read put more =
     grind (arith, rows_push, length-append, append_assoc, append-nil, flat_map-append)
 

@@ -1,14 +1,13 @@
 -- A field's text says what the field is and what follows it.
-use Rattle.std.proofs.Common.{◌≡◌, ℕ, get_or, ◌*◌, ◌<◌, ◌≤◌, ◌^◌, ◌&&◌, true, false, List, [], ◌∷◌, ◌++◌, length, take}
+use Rattle.std.proofs.Common.{◌≡◌, ℕ, get_or, ◌*◌, ◌<◌, ◌≤◌, ◌^◌, true, false, List, [], ◌∷◌, ◌++◌, length, take}
 use Rattle.std.proofs.Common.{drop, refl, sym, ap, ◌∙◌, append_assoc, arith}
-use Rattle.std.specs.Prelude.{IsTrue, nat_eq, nat_le, nat_lt, not}
-use Rattle.std.specs.List.{flat_map, list_all}
+use Rattle.std.specs.Prelude.{IsTrue, nat_eq}
+use Rattle.std.specs.List.{flat_map}
 use Rattle.std.proofs.lemmas.Bool.{leb-true, and_parts, eqb-true, ltb-true, false≢true}
 use Rattle.std.proofs.lemmas.List.{take_at, drop_at, length-append}
 use Rattle.std.proofs.lemmas.Nat.{from_be_bytes-to_be_bytes_4}
 use Rattle.sftp_wire.specs.Spelling.{uint32, string}
-use Rattle.sftp_path.specs.Place.{Place, is_name, is_name_byte, is_dot, is_dot_dot, are_names, absolute, components}
-use Rattle.sftp_path.specs.Place.{depth_limit, name_limit, is_good_path}
+use Rattle.sftp_path.specs.Place.{Place, are_names, absolute, components, depth_limit, is_good_path}
 use Rattle.sftp_path.specs.Text.{IsTextOf}
 use Rattle.sftp_path.proofs.PathTexts.AbsoluteTexts.{components-absolute}
 use Rattle.sftp_treefile.specs.declared.files.Owner.{Owner}
@@ -33,10 +32,8 @@ pub string_front : (t u r s : List ℕ) → length t < 2 ^ 32 → length u < 2 ^
 string_front t u r s t-fits u-fits e =
     let n = number_front (length t) (length u) (t ++ r) (u ++ s) t-fits u-fits
     (sym (append_assoc (uint32 (length t)) t r) ∙ e ∙ append_assoc (uint32 (length u)) u s) in
-    let texts : t ≡ u =
-    sym (take_at t r (length t) refl) ∙ ap (take (length t)) n.1 ∙ take_at u s (length t) (sym n.0) in
-    let rests : r ≡ s =
-    sym (drop_at t r (length t) refl) ∙ ap (drop (length t)) n.1 ∙ drop_at u s (length t) (sym n.0) in
+    let texts = sym (take_at t r (length t) refl) ∙ ap (take (length t)) n.1 ∙ take_at u s (length t) (sym n.0) in
+    let rests = sym (drop_at t r (length t) refl) ∙ ap (drop (length t)) n.1 ∙ drop_at u s (length t) (sym n.0) in
     (texts, rests)
 
 -- of strings that are short enough: no string, and one that does not fit
@@ -55,13 +52,7 @@ string_none Fits short bytes text rest text-fits is none other r fits e = grind 
 names_length : (place : Place) → IsTrue (are_names place)
     → length (flat_map (λ name. 47 ∷ name) place) ≤ 256 * length place
 names_length [] named = omega arith
-names_length (n ∷ ns) named =
-    let parts = and_parts (is_name n) (are_names ns) named in
-    let lengths = and_parts (nat_lt 0 (length n) && nat_le (length n) name_limit)
-    (list_all is_name_byte n && (not (is_dot n) && not (is_dot_dot n))) parts.0 in
-    let bound : length n ≤ 255 =
-    leb-true (length n) 255 (and_parts (nat_lt 0 (length n)) (nat_le (length n) 255) lengths.0).1 in
-    omega (arith, bound, names_length ns parts.1, length-append (47 ∷ n) (flat_map (λ name. 47 ∷ name) ns))
+names_length (n ∷ ns) named = grind (arith, and_parts, leb-true, length-append, names_length ns)
 
 absolute_length : (place : Place) → IsTrue (are_names place) → length place ≤ depth_limit
     → length (absolute place) < 2 ^ 32

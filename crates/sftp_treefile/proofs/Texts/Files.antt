@@ -58,12 +58,10 @@ pub one_file : (f g : TreeFile) (bytes : List ℕ) → IsSpelled f bytes → IsS
 one_file f g bytes f-is g-is =
     let heads = head_front (head_of f) (head_of g) (flat_map row_text f.rows) (flat_map row_text g.rows)
     (head_fits f f-is.may_be) (head_fits g g-is.may_be) (sym (bytes_parts f bytes f-is) ∙ bytes_parts g bytes g-is) in
-    let texts : flat_map row_text f.rows ++ [] ≡ flat_map row_text g.rows ++ [] =
-    ap (λ (x : List ℕ). x ++ []) heads.1 in
+    let texts = ap (λ (x : List ℕ). x ++ []) heads.1 in
     let g-rows = subst (λ (l : TreeLimits). AreRows l [] g.rows) (sym (same_limits f g heads.0)) g-is.may_be.rows in
-    let rows =
-    entries_are_one f.limits (usual_file_bytes f.limits f-is.may_be.limits) [] f.rows g.rows [] [] f-is.may_be.rows
-    g-rows (same_count f g heads.0) texts in
+    let rows = entries_are_one f.limits (usual_file_bytes f.limits f-is.may_be.limits) [] f.rows g.rows [] []
+    f-is.may_be.rows g-rows (same_count f g heads.0) texts in
     same_file f g heads.0 rows.0
 
 -- ---- where no tree file is

@@ -88,9 +88,8 @@ same_gid : (bytes r0 r1 r2 rest home : List ℕ) (uid gid : ℕ) (head : Head) �
     → Reads IsNumber uint32 r0 uid r1 → Reads IsNumber uint32 r1 gid r2 → IsHead head
     → bytes ≡ head_bytes head ++ rest → (gid ≡ head.gid) × (r2 ≡ behind_gid head rest)
 unfolding behind_uid
-same_gid bytes r0 r1 r2 rest home uid gid head h u g fits e =
-    number_front gid head.gid r2 (behind_gid head rest) g.0 fits.gid
-    (sym g.1 ∙ (same_uid bytes r0 r1 rest home uid head h u fits e).1)
+same_gid bytes r0 r1 r2 rest home uid gid head h u g fits e = number_front gid head.gid r2 (behind_gid head rest) g.0
+    fits.gid (sym g.1 ∙ (same_uid bytes r0 r1 rest home uid head h u fits e).1)
 
 pub count_none : (limits : TreeLimits) (bytes r0 r1 r2 home : List ℕ) (uid gid : ℕ) → limits ≡ usual_limits
     → HomeRead bytes home r0 → Reads IsNumber uint32 r0 uid r1 → Reads IsNumber uint32 r1 gid r2
@@ -114,9 +113,8 @@ same_numbers limits bytes r rest home uid gid count head n fits e =
     let u =
     number_front uid head.uid (uint32 gid ++ (uint32 count ++ r)) (behind_uid head rest) n.uid_fits fits.uid h.1 in
     let g = number_front gid head.gid (uint32 count ++ r) (behind_gid head rest) n.gid_fits fits.gid u.1 in
-    let c =
-    number_front count head.count r (owner_text head.root ++ rest) (count_number limits count n.usual n.count_fits)
-    (count_number head.limits head.count fits.limits fits.count) g.1 in
+    let c = number_front count head.count r (owner_text head.root ++ rest)
+    (count_number limits count n.usual n.count_fits) (count_number head.limits head.count fits.limits fits.count) g.1 in
     (h.0, u.0, g.0, c.0, c.1)
 
 pub root_none : (limits : TreeLimits) (bytes r home : List ℕ) (uid gid count : ℕ)

@@ -22,7 +22,6 @@ returns-in-Some c =
     (sym c.in-Some.ensures.value) refl (c.get_mut.follows.holds w)
 
 pub returns-in_default : goal.returns-in_default
-returns-in_default c =
-    changed-nowhere with_a_pin c.args.number c.args.files.now c.get_mut.follows.lender-at-none
+returns-in_default c = changed-nowhere with_a_pin c.args.number c.args.files.now c.get_mut.follows.lender-at-none
     c.get_mut.ensures.ordered (sym c.get_mut.ensures.value ∙ ap option_copied_mut c.in_default.is)
     c.get_mut.follows.holds-at-none

@@ -1,5 +1,4 @@
-use Rattle.std.proofs.Common.{rules}
-use Rattle.std.proofs.Common.{sym, refl, ap, ◌∙◌, ◌+◌}
+use Rattle.std.proofs.Common.{rules, sym, refl, ap, ◌∙◌, ◌+◌}
 use Rattle.std.specs.Option.{option_copied_mut}
 use Rattle.sftp_path.specs.Table.{get}
 use Rattle.sftp_tree.specs.declared.file_contents.Stored.{Stored}

@@ -8,8 +8,7 @@ use Rattle.sftp_tree.proofs.FileCounts.Changes.{changed-nowhere, changed-written
 use Rattle.sftp_tree.proofs.files.unpin.Goals as goal
 
 pub returns-in_default : goal.returns-in_default
-returns-in_default c =
-    changed-nowhere without_a_pin c.args.number c.args.files.now c.get_mut.follows.lender-at-none
+returns-in_default c = changed-nowhere without_a_pin c.args.number c.args.files.now c.get_mut.follows.lender-at-none
     c.get_mut.ensures.ordered (sym c.get_mut.ensures.value ∙ ap option_copied_mut c.in_default.is)
     c.get_mut.follows.holds-at-none
 

@@ -6,9 +6,7 @@ use Rattle.sftp_treefile.proofs.Texts.Entries.{or_fault, path_unfit, path_absent
 use Rattle.sftp_treefile.proofs.entries.path_at.Goals as goal
 
 pub returns-in_err-text-clause-none : goal.returns-in_err-text-clause-none
-returns-in_err-text-clause-none c =
-    let p = err_from_is_err_and c.from_residual.result c.from_residual.ensures.1 in
-    rw (p.1, p.2) (or_fault _ _ _ c.in_err-text.ensures.none (path_absent c.args.entries.now.rows.items c.args.bytes.now))
+returns-in_err-text-clause-none c = grind (arith, err_from_is_err_and, or_fault, path_absent)
 
 pub returns-then-depth-eq0-clause-none : goal.returns-then-depth-eq0-clause-none
 returns-then-depth-eq0-clause-none c =

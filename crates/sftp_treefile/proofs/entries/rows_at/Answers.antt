@@ -15,9 +15,7 @@ returns-in_err-row-clause-none c =
     rw (p.1, p.2) (or_fault _ _ _ c.in_err-row.ensures.none (row_none c.args.limits (omega arith) c.args.bytes.now c.loop-entry.entries.rows.items (c.loop-entry.entry - 1) c.args.count c.loop-entry.rest.now c.loop-entry.invariant.read (omega (arith, c.loop-entry-test.true, c.loop-entry.invariant.within))))
 
 pub returns-in_err-row-clause-number : goal.returns-in_err-row-clause-number
-returns-in_err-row-clause-number c =
-    let p = err_from_is_err_and c.from_residual.result c.from_residual.ensures.1 in
-    rw (p.1, p.2) (c.loop-entry.entry, c.loop-entry.invariant.within.0, c.loop-entry-test.true, c.in_err-row.ensures.number)
+returns-in_err-row-clause-number c = grind (arith, err_from_is_err_and)
 
 pub returns-in_err-put_row-clause-number : goal.returns-in_err-put_row-clause-number
 returns-in_err-put_row-clause-number c = grind (arith, common_steps, err_from_is_err_and)

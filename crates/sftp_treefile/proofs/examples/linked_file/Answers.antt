@@ -10,15 +10,4 @@ returns-clause-length c = refl
 
 pub returns-clause-spelled : goal.returns-clause-spelled
 unfolding spelled has_dir components parts is_good_path hex
-returns-clause-spelled c = record {
-  may_be = record {
-    limits = refl;
-    home = record { names = refl; depth = omega arith; one = refl };
-    uid = omega arith;
-    gid = omega arith;
-    count = omega arith;
-    root = (omega arith, omega arith, omega arith);
-    rows = (record { path = record { names = refl; depth = omega arith; one = refl }; below_root = omega arith; later = tt; parent = refl; kind = (omega arith, omega arith, omega arith) }, (record { path = record { names = refl; depth = omega arith; one = refl }; below_root = omega arith; later = (refl, tt); parent = refl; kind = (omega arith, omega arith, omega arith) }, (record { path = record { names = refl; depth = omega arith; one = refl }; below_root = omega arith; later = (refl, (refl, tt)); parent = refl; kind = (refl, refl) }, tt)));
-  };
-  bytes_are = refl;
-}
+returns-clause-spelled c = grind arith

@@ -8,8 +8,7 @@ use Rattle.sftp_treefile.proofs.fields.place_at.Goals as goal
 use Rattle.std.proofs.lemmas.Grind.{common_steps}
 
 pub returns-in_default-clause-none : goal.returns-in_default-clause-none
-returns-in_default-clause-none c =
-    inr (string_none_short IsPlaceText path_length c.args.bytes.now c.in_default.ensures.none)
+returns-in_default-clause-none c = grind (arith, string_none_short, path_length)
 
 pub returns-in_default-2-clause-none : goal.returns-in_default-2-clause-none
 returns-in_default-2-clause-none c =

@@ -1,5 +1,5 @@
 -- A string that is empty or no good path leaves nothing to read.
-use Rattle.std.proofs.Common.{inr, sym}
+use Rattle.std.proofs.Common.{inr, sym, arith}
 use Rattle.sftp_treefile.specs.TreeFileParts.{IsTarget}
 use Rattle.sftp_treefile.proofs.Texts.Fields.{target_length, string_none_short, string_none, empty_target, bad_target}
 use Rattle.sftp_treefile.proofs.fields.target_at.Goals as goal
@@ -7,8 +7,7 @@ use Rattle.sftp_treefile.proofs.fields.target_at.Goals.{then-is_empty-via-then-i
 use Rattle.sftp_treefile.proofs.fields.target_at.Goals.{then-is_empty-via-else-is_empty+then-not-good_path}
 
 pub returns-in_default-clause-none : goal.returns-in_default-clause-none
-returns-in_default-clause-none c =
-    inr (string_none_short IsTarget target_length c.args.bytes.now c.in_default.ensures.none)
+returns-in_default-clause-none c = grind (arith, string_none_short, target_length)
 
 pub returns-then-is_empty-clause-none : goal.returns-then-is_empty-clause-none
 returns-then-is_empty-clause-none c =

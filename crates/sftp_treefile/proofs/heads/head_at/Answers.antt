@@ -1,5 +1,5 @@
 -- The head, field by field.
-use Rattle.std.proofs.Common.{inr}
+use Rattle.std.proofs.Common.{inr, arith}
 use Rattle.std.proofs.lemmas.Result.{err_from_is_err_and}
 use Rattle.sftp_treefile.proofs.Texts.Entries.{or_fault}
 use Rattle.sftp_treefile.proofs.Texts.Heads.{opening_none, home_none, home_read, numbers_read, uid_none, gid_none}
@@ -7,9 +7,7 @@ use Rattle.sftp_treefile.proofs.Texts.Heads.{count_none, root_none, head_read}
 use Rattle.sftp_treefile.proofs.heads.head_at.Goals as goal
 
 pub returns-in_err-rest-clause-none : goal.returns-in_err-rest-clause-none
-returns-in_err-rest-clause-none c =
-    let p = err_from_is_err_and c.from_residual.result c.from_residual.ensures.1 in
-    rw p.1 (inr (opening_none c.args.bytes.now c.in_err-rest.ensures.none))
+returns-in_err-rest-clause-none c = grind (arith, err_from_is_err_and, opening_none)
 
 pub returns-in_err-home-clause-none : goal.returns-in_err-home-clause-none
 returns-in_err-home-clause-none c =

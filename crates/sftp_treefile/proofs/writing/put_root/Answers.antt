@@ -5,6 +5,5 @@ use Rattle.sftp_treefile.proofs.Texts.Pieces.{two_pieces}
 use Rattle.sftp_treefile.proofs.writing.put_root.Goals as goal
 
 pub returns : goal.returns
-returns c =
-    two_pieces (uint32 c.args.count) (owner_text c.args.root.now) c.args.out.now.items c.put_number.new.out.items
-    c.put_owner.new.out.items c.in_ok-put_number.ensures c.in_ok-put_owner.ensures
+returns c = two_pieces (uint32 c.args.count) (owner_text c.args.root.now) c.args.out.now.items
+    c.put_number.new.out.items c.put_owner.new.out.items c.in_ok-put_number.ensures c.in_ok-put_owner.ensures

@@ -1,10 +1,7 @@
 -- Each entry can be written, and all are.
-use Rattle.std.proofs.Common.{[], ◌++◌, ap, sym, subst, ◌∙◌, length, List, arith}
-use Rattle.std.specs.List.{flat_map}
+use Rattle.std.proofs.Common.{[], sym, subst, arith}
 use Rattle.std.proofs.lemmas.List.{take_all}
-use Rattle.sftp_treefile.specs.declared.files.Row.{Row}
-use Rattle.sftp_treefile.specs.TreeFile.{row_text, AreRows}
-use Rattle.sftp_treefile.specs.TreeFileParts.{head_text}
+use Rattle.sftp_treefile.specs.TreeFile.{AreRows}
 use Rattle.sftp_treefile.proofs.Texts.Fields.{usual_file_bytes}
 use Rattle.sftp_treefile.proofs.Texts.Files.{head_written}
 use Rattle.sftp_treefile.proofs.Texts.Pieces.{row_at_place}
@@ -17,8 +14,4 @@ put_row-requires c = row_at_place c.args.file.now.limits (usual_file_bytes c.arg
     c.loop-row-test.true c.row-item.is
 
 pub returns : goal.returns
-returns c =
-    let all = take_all c.loop-row.row-index c.args.file.now.rows
-    (omega (arith, c.loop-row-test.false, ap length c.as_slice-row-items.ensures)) in
-    c.loop-row.invariant ∙ ap (λ (rows : List Row). head_text c.args.file.now ++ flat_map row_text rows) all
-    ∙ sym (head_written c.args.file.now)
+returns c = grind (arith, take_all, head_written)

@@ -9,6 +9,5 @@ returns-then-not-holds c =
     when-not c.args.self c.args.cause ∙ ap (when (in_set c.args.self) c.args.cause) (sym c.if-not-holds.true)
 
 pub returns : goal.returns
-returns c =
-    ap (λ n. in_set (record { bits = bit_or c.args.self.bits (1 * 2 ^ n % 2 ^ 32) })) c.row.ensures.row
+returns c = ap (λ n. in_set (record { bits = bit_or c.args.self.bits (1 * 2 ^ n % 2 ^ 32) })) c.row.ensures.row
     ∙ when-set c.args.self c.args.cause ∙ ap (when (in_set c.args.self) c.args.cause) (sym c.if-not-holds.false)

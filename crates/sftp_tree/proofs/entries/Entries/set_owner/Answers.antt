@@ -11,14 +11,11 @@ invariant_of-self c = (
       c.set_owner.ensures,
   c.self.invariant.1
       ∙ sym (set-length c.names.result.now c.self.inside.root c.set_owner.new.self (nodes.Dir c.args.owner)
-      c.self.invariant.0.0
-      (subst (λ found. IsTrue (is_directory found))
-      (λ i. node_at (sym c.self.view_is i) (sym c.names.ensures.names i)) c.requires)
-      c.set_owner.ensures),
+      c.self.invariant.0.0 (subst (λ found. IsTrue (is_directory found))
+      (λ i. node_at (sym c.self.view_is i) (sym c.names.ensures.names i)) c.requires) c.set_owner.ensures),
 )
 
 pub returns : goal.returns
 returns c =
     set-with c.names.result.now c.self.inside.root c.set_owner.new.self (nodes.Dir c.args.owner) c.self.invariant.0.0
-    c.set_owner.ensures
-    ∙ (λ i. with_node (c.self.view_is i) (c.names.ensures.names i) (nodes.Dir c.args.owner))
+    c.set_owner.ensures ∙ (λ i. with_node (c.self.view_is i) (c.names.ensures.names i) (nodes.Dir c.args.owner))

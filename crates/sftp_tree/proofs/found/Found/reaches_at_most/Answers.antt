@@ -28,6 +28,5 @@ returns-in-Some-Link c t found =
     (ap (λ seen. is_directory (option_map node_seen seen)) is))
 
 pub returns-in-None : goal.returns-in-None
-returns-in-None c t found =
-    sym (reach-no-directory t c.args.self.now c.args.room found
+returns-in-None c t found = sym (reach-no-directory t c.args.self.now c.args.room found
     (ap (λ seen. is_directory (option_map node_seen seen)) c.in-None.is))

@@ -18,8 +18,7 @@ put_child-put_directory-requires t c =
     omega (
       arith,
       ap length c.deref.ensures.value,
-      own_path files path c.in-Dir.dir c.owner.result owner.ordered
-          owner.owner fit,
+      own_path files path c.in-Dir.dir c.owner.result owner.ordered owner.owner fit,
     )
 
 pub put_child-overflow_add-at : goal.put_child-overflow_add-at
@@ -59,8 +58,7 @@ written t c =
     let done = c.in_ok-put_below-in-Dir.ensures in
     subst (λ names. IsWritten files names before after) (sym (ap branch c.in-Dir.is))
     (dir_written files c.in-Dir.dir c.owner.result before after c.put_directory.new.out.items owner.ordered
-    owner.owner own
-    (record { out = done.out; path = done.path; next = done.next; firsts = done.firsts }))
+    owner.owner own (record { out = done.out; path = done.path; next = done.next; firsts = done.firsts }))
 
 pub put_child-returns-in_ok-put_below-in-Dir-clause-out : goal.put_child-returns-in_ok-put_below-in-Dir-clause-out
 put_child-returns-in_ok-put_below-in-Dir-clause-out t c = (written t c).out
@@ -68,8 +66,7 @@ put_child-returns-in_ok-put_below-in-Dir-clause-out t c = (written t c).out
 pub put_child-returns-in_ok-put_below-in-Dir-clause-next : goal.put_child-returns-in_ok-put_below-in-Dir-clause-next
 put_child-returns-in_ok-put_below-in-Dir-clause-next t c = (written t c).next
 
-pub put_child-returns-in_ok-put_below-in-Dir-clause-firsts :
-    goal.put_child-returns-in_ok-put_below-in-Dir-clause-firsts
+pub put_child-returns-in_ok-put_below-in-Dir-clause-firsts : goal.put_child-returns-in_ok-put_below-in-Dir-clause-firsts
 put_child-returns-in_ok-put_below-in-Dir-clause-firsts t c = (written t c).firsts
 
 -- ---- the children

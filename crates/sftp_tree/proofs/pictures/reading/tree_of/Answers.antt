@@ -24,13 +24,11 @@ names-are : (c : After-len-made) → c.in_ok-root.field-0.root ≡ names_of c.ar
 names-are c = c.in_ok-root.ensures.names_are ∙ ap (names_of c.args.file.root) c.into_vec-rows.ensures
 
 pub of-requires-clause-ordered : goal.of-requires-clause-ordered
-of-requires-clause-ordered c =
-    subst (λ (ns : Names). InOrder place_cmp ns) (sym (names-are c))
+of-requires-clause-ordered c = subst (λ (ns : Names). InOrder place_cmp ns) (sym (names-are c))
     (kept_of_file c.args.file c.requires).well_formed.ordered
 
 pub of-requires-clause-directory : goal.of-requires-clause-directory
-of-requires-clause-directory c =
-    ap (λ (ns : Names). is_directory (node_at ns [])) (names-are c)
+of-requires-clause-directory c = ap (λ (ns : Names). is_directory (node_at ns [])) (names-are c)
     ∙ (kept_of_file c.args.file c.requires).well_formed.root
 
 pub of-requires-clause-count : goal.of-requires-clause-count
@@ -49,12 +47,10 @@ same file rows names root files made home are rows-are grown made-is home-is =
 pub from_parts-requires-clause-kept : goal.from_parts-requires-clause-kept
 from_parts-requires-clause-kept c =
     let g = c.in_ok-root.field-0 in
-    subst IsKept
-    (sym
+    subst IsKept (sym
     (same c.args.file c.into_vec-rows.result.items c.of.result g.root g.files c.len-made.result c.in_ok-home.home
     c.of.ensures c.into_vec-rows.ensures c.in_ok-root.ensures c.len-made.ensures
-    (c.in_ok-home.ensures ∙ ap place_of c.as_slice.ensures)))
-    (kept_of_file c.args.file c.requires)
+    (c.in_ok-home.ensures ∙ ap place_of c.as_slice.ensures))) (kept_of_file c.args.file c.requires)
 
 pub from_parts-requires-clause-counted : goal.from_parts-requires-clause-counted
 from_parts-requires-clause-counted c =

@@ -79,8 +79,7 @@ put-requires-clause-last c =
     let left = subst (AreRows usual_limits at.yielded) c.in-Some.ensures.steps.0 at.invariant.rows in
     let room = room_for c.args.root at.yielded c.in-Some.row (place_in at.growth) c.last_name-depth.result.0
     c.last_name-depth.result.1.now c.as_slice.result.now at.invariant.above left.0 c.as_slice.ensures
-    c.last_name-depth.ensures.whole
-    c.last_name-depth.ensures.depth in
+    c.last_name-depth.ensures.whole c.last_name-depth.ensures.depth in
     let place =
     ap (λ n. take c.last_name-depth.result.0 (place_in at.growth) ++ n ∷ []) c.in_ok-name.ensures ∙ room.place_is in
     entry_later c.args.root at.yielded c.in-Some.row (names_in at.growth)
@@ -125,8 +124,7 @@ loop-row-preserved c =
       rows = left.1;
       grown = grown_push c.args.root at.yielded row (names_in at.growth) (names_in c.put.new.self) at.files
           c.node_of.new.files c.deref.result.now c.new-next.result entered c.in_ok-node.node
-          at.invariant.before left.0 at.invariant.grown numbers next
-          place c.in_ok-node.ensures.node put
+          at.invariant.before left.0 at.invariant.grown numbers next place c.in_ok-node.ensures.node put
           c.in_ok-node.ensures.files;
       above = open_more at.yielded row _ _ entered (place_in at.growth) (place_in c.put.new.self)
           c.in_ok-node.node at.invariant.above left.0 place c.in_ok-node.ensures.node c.in_ok-put.ensures.place;
@@ -139,8 +137,7 @@ returns c =
     let at = c.loop-row in
     let none : into_iter_items at.row-iterator ≡ [] =
     nil_from_length (into_iter_items at.row-iterator) (sym at.invariant.count ∙ c.in-None.ensures.steps.0) in
-    let all =
-    sym (append-nil at.yielded) ∙ rw none at at.invariant.items
+    let all = sym (append-nil at.yielded) ∙ rw none at at.invariant.items
     ∙ c.into_iter-row-iterator.ensures.into_iter_gives.0 in
     subst (λ names. IsGrown c.args.root c.args.rows.items names at.files) (sym c.in_ok-root.ensures)
     (subst (λ rs. IsGrown c.args.root rs (names_in at.growth) at.files) all at.invariant.grown)

@@ -9,8 +9,7 @@ returns-else-is_empty c =
     let home = c.self.inside.home.now in
     let path = c.self.inside.path.left in
     let parts = is_last-route c.self.inside.targets home path in
-    c.if-is_empty.false
-    ∙ elim c.if-is_done.branch [
+    c.if-is_empty.false ∙ elim c.if-is_done.branch [
       | then-is_done w ↦
           let targets : is_last c.self.inside.targets ≡ true = sym c.is_done.ensures ∙ w.if-is_done.true in
           let none : (length home == 0) ≡ false = sym w.is_empty.ensures ∙ sym w.value-is ∙ c.if-is_empty.false in

@@ -18,8 +18,7 @@ parts c =
     (both.0 ∙ ap (λ (t : Tree). with_changed_file t c.args.attrs.now c.args.number (content_at t.files c.args.number)) c.self.view_is, both.1)
 
 kept : (c : goal.In_ok-change_at) → IsKept (with_changed_file c.args.self.now c.args.attrs.now c.args.number (content_at c.args.self.now.files c.args.number))
-kept c =
-    kept-changed c.args.self.now c.args.attrs.now c.args.number (subst IsKept c.self.view_is c.self.invariant.0)
+kept c = kept-changed c.args.self.now c.args.attrs.now c.args.number (subst IsKept c.self.view_is c.self.invariant.0)
     (λ content there. owner-changed c.self.inside.files c.args.attrs.now c.args.number c.in_ok-change_at.ensures.owned content (ap (λ (t : Tree). content_at t.files c.args.number) c.self.view_is ∙ there))
     c.requires
 

@@ -32,8 +32,7 @@ returns-in-Fails-clause-reached c =
     sym (walk-turn c.args.self.now.names c.loop-component.trail.names c.args.follow c.loop-component.links_left c.loop-component.trail.at c.meet.new.trail.at c.loop-component.route c.in-Some.component.now c.next_component.new.self c.is_done.result c.in_ok-meet.field-0 _ _ c.loop-component.invariant.names c.loop-component.invariant.same c.in-Some.ensures c.is_done.ensures c.in_ok-meet.ensures.meets c.in-Fails.is)
 
 pub returns-clause-reached : goal.returns-clause-reached
-returns-clause-reached c =
-    ap Ok c.here.ensures.place
+returns-clause-reached c = ap Ok c.here.ensures.place
     ∙ sym (c.loop-component.invariant.same ∙ ap (walk c.args.self.now.names c.args.follow c.loop-component.links_left c.loop-component.trail.at) c.in_default.ensures.0 ∙ walk-nil c.args.self.now.names c.args.follow c.loop-component.links_left c.loop-component.trail.at)
 
 pub returns-in-Ends-clause-found : goal.returns-in-Ends-clause-found
@@ -43,8 +42,7 @@ returns-in-Ends-clause-found c =
     let at = c.in_ok-enter-in-Ends.ensures.ok ∙ ap (λ at. at ++ c.in-Ends.name ∷ []) c.into_place-place.ensures in
     record {
       place = place-of c.args.self.now c.args.follow c.args.route c.enter.new.self c.names-names.ensures.kept c.requires (ap Ok at ∙ answer);
-      lent =
-          subst (λ place. IsLentAt c.args.self.now.names place c.in-Ends.node) (sym at)
+      lent = subst (λ place. IsLentAt c.args.self.now.names place c.in-Ends.node) (sym at)
           (subst (λ names. IsLentAt names (c.meet.new.trail.at ++ c.in-Ends.name ∷ []) c.in-Ends.node) c.loop-component.invariant.names there);
     }
 

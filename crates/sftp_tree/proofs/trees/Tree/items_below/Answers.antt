@@ -22,16 +22,14 @@ loop-name-init c =
     let dir = c.directory_of-dir.result.now in
     let left = c.into_iter-name-iterator.result in
     let given : left ≡ c.children-name-items.result = c.into_iter-name-iterator.ensures.into_iter_gives in
-    let is : nodes_of left ≡ children t.names place =
-    ap nodes_of given ∙ c.children-name-items.ensures.nodes
+    let is : nodes_of left ≡ children t.names place = ap nodes_of given ∙ c.children-name-items.ensures.nodes
     ∙ children-alike t.names dir place c.requires.kept.well_formed.ordered c.children-name-items.ensures.ordered
     (c.directory_of-dir.ensures t.names c.requires.there) in
     record {
       listed =
           ap (λ (xs : List Item). map entry_of xs ++ filter_map (shown_child t) (nodes_of left)) c.new-items.ensures.items
           ∙ listing-of t place t.names (nodes_of left) refl is;
-      nodes =
-          subst (AllByRecursion (λ e. IsNode t.files e.1)) (sym is)
+      nodes = subst (AllByRecursion (λ e. IsNode t.files e.1)) (sym is)
           (children-kept t.files t.names place c.requires.kept.well_formed.nodes);
       branches = subst AreBranches (sym given) c.children-name-items.ensures.children.1;
     }
@@ -51,19 +49,16 @@ loop-name-preserved c =
     let x : Name × Child = (c.in-Some.name.now, c.in-Some.child.now) in
     let branches : AreBranches (x ∷ c.next.new.self) = subst AreBranches c.in-Some.ensures.steps at.invariant.branches in
     record {
-      listed =
-          listed-child t at.items.items c.push.new.self.items c.in_ok-item.field-0 x c.next.new.self
+      listed = listed-child t at.items.items c.push.new.self.items c.in_ok-item.field-0 x c.next.new.self
           (listing t c.args.found.now.place) branches.0 c.in_ok-push.ensures.items c.in_ok-item.ensures
           (ap (λ (cs : Children). map entry_of at.items.items ++ filter_map (shown_child t) (nodes_of cs))
           (sym c.in-Some.ensures.steps) ∙ at.invariant.listed);
-      nodes =
-          (own-kept t.files x c.next.new.self
+      nodes = (own-kept t.files x c.next.new.self
           (subst (λ (cs : Children). AllByRecursion (λ e. IsNode t.files e.1) (nodes_of cs))
           c.in-Some.ensures.steps at.invariant.nodes)).1;
       branches = branches.1;
     }
 
 pub returns : goal.returns
-returns c =
-    listed-none c.args.self.now c.loop-name.items.items c.loop-name.name-iterator
+returns c = listed-none c.args.self.now c.loop-name.items.items c.loop-name.name-iterator
     (listing c.args.self.now c.args.found.now.place) c.in-None.ensures.steps.0 c.loop-name.invariant.listed

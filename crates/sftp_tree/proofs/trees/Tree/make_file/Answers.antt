@@ -21,8 +21,7 @@ forget_name-requires c =
 files-back : (c : goal.After-drop-place-inside-in-Err) → c.forget_name.new.self ≡ c.self.inside.files
 files-back c =
     let inside = c.self.inside in
-    let free =
-    next-free inside.names inside.files inside.made inside.limits inside.home inside.uid inside.gid
+    let free = next-free inside.names inside.files inside.made inside.limits inside.home inside.uid inside.gid
     c.self.invariant.0 in
     put-back inside.files c.put.new.self c.forget_name.new.self c.new-number.result c.args.content
     (files-in_order inside.files c.self.invariant.0.well_formed.numbered)
@@ -31,10 +30,8 @@ files-back c =
 pub invariant_of-self-in-Err : goal.invariant_of-self-in-Err
 invariant_of-self-in-Err c =
     let inside = c.self.inside in
-    subst
-    (λ ns. IsKept (seen ns c.forget_name.new.self inside.made inside.limits inside.home inside.uid inside.gid) ×
-    AreCounted ns c.forget_name.new.self) (sym c.in-Err.ensures.err)
-    (subst
+    subst (λ ns. IsKept (seen ns c.forget_name.new.self inside.made inside.limits inside.home inside.uid inside.gid) ×
+    AreCounted ns c.forget_name.new.self) (sym c.in-Err.ensures.err) (subst
     (λ fs. IsKept (seen inside.names fs inside.made inside.limits inside.home inside.uid inside.gid) ×
     AreCounted inside.names fs) (sym (files-back c)) c.self.invariant)
 
@@ -49,13 +46,11 @@ returns-in-Err-clause-err c =
 pub overflow_add-self : goal.overflow_add-self
 overflow_add-self c =
     let last = (fits-parts (with_new_file c.args.self.now c.args.place c.args.content) c.requires.room).numbers in
-    let small =
-    ltb-true (c.self.inside.made + 1) (2 ^ 32)
+    let small = ltb-true (c.self.inside.made + 1) (2 ^ 32)
     (ap (λ (t : Tree). nat_lt (t.made + 1) (2 ^ 32)) c.self.view_is ∙ last) in
     omega (arith, small)
 
-parts : (c : goal.After-drop-place-inside-2)
-    →
+parts : (c : goal.After-drop-place-inside-2) →
     (seen c.put-2.new.self c.put.new.self (c.self.inside.made + 1) c.self.inside.limits c.self.inside.home
     c.self.inside.uid c.self.inside.gid ≡ with_new_file c.args.self.now c.args.place c.args.content) ×
     AreCounted c.put-2.new.self c.put.new.self

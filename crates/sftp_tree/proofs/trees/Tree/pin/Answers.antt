@@ -10,8 +10,7 @@ use Rattle.sftp_tree.proofs.OpenFiles.Pinned.{kept-pin, room-to-pin, pin-parts}
 use Rattle.sftp_tree.proofs.trees.Tree.pin.Goals as goal
 
 pub pin-requires : goal.pin-requires
-pin-requires c =
-    room-to-pin c.self.inside.files c.args.number
+pin-requires c = room-to-pin c.self.inside.files c.args.number
     (files-in_order c.self.inside.files c.self.invariant.0.well_formed.numbered)
     (subst (λ n. n < 2 ^ 32) (sym (ap (λ (t : Tree). times_pinned t.pins c.args.number) c.self.view_is)) c.requires.few)
 
@@ -22,8 +21,7 @@ with_files c files =
     c.self.inside.gid
 
 -- the tree afterwards, and its counts
-parts : (c : goal.After-pin)
-    → (with_files c c.pin.new.self ≡ after_pin c.args.self.now c.args.number)
+parts : (c : goal.After-pin) → (with_files c c.pin.new.self ≡ after_pin c.args.self.now c.args.number)
     × AreCounted c.self.inside.names c.pin.new.self
 parts c =
     let there : HasFile (contents c.self.inside.files) c.args.number =

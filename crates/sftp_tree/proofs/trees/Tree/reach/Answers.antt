@@ -25,8 +25,7 @@ follow_route-requires c =
     ap (list_all is_step) c.new-route.ensures ∙ ap (λ l. list_all is_step (c.if-parts.names.now ++ l)) left
     ∙ elim c.if-parts.branch [
       | then-parts w ↦ ap (λ h. list_all is_step (h.now ++ components path)) w.names-is ∙ steps-from [] path refl c.in-Ok.ensures.good bytes
-      | else-parts w ↦
-          ap (λ h. list_all is_step (h.now ++ components path)) w.names-is
+      | else-parts w ↦ ap (λ h. list_all is_step (h.now ++ components path)) w.names-is
           ∙ steps-from w.names-names.result.now path (ap are_names w.names-names.ensures.names ∙ w.names-names.ensures.named) c.in-Ok.ensures.good bytes
     ]
 

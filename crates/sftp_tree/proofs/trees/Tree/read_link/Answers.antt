@@ -5,8 +5,7 @@ use Rattle.sftp_tree.proofs.Requests.Plans.{read-link, link-told}
 use Rattle.sftp_tree.proofs.trees.Tree.read_link.Goals as goal
 
 pub target_of-target-requires : goal.target_of-target-requires
-target_of-target-requires c =
-    ap is_link c.in_ok-places.ensures.well.0.lent.node
+target_of-target-requires c = ap is_link c.in_ok-places.ensures.well.0.lent.node
     ∙ read-link c.args.self.now c.args.path.now c.in_ok-places.places.old.place c.in_ok-places.ensures.free c.in_ok-places.ensures.led.first
 
 pub returns-clause-target : goal.returns-clause-target

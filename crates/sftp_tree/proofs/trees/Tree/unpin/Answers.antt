@@ -9,8 +9,7 @@ use Rattle.sftp_tree.proofs.OpenFiles.Pinned.{pinned-there, kept-unpin, pin-to-l
 use Rattle.sftp_tree.proofs.trees.Tree.unpin.Goals as goal
 
 pub unpin-requires : goal.unpin-requires
-unpin-requires c =
-    pin-to-lose c.self.inside.files c.args.number
+unpin-requires c = pin-to-lose c.self.inside.files c.args.number
     (files-in_order c.self.inside.files c.self.invariant.0.well_formed.numbered)
     (ap (λ (t : Tree). is_pinned t.pins c.args.number) c.self.view_is ∙ c.requires)
 
@@ -21,8 +20,7 @@ with_files c files =
     c.self.inside.gid
 
 -- the tree afterwards, and its counts
-parts : (c : goal.After-unpin)
-    → (with_files c c.unpin.new.self ≡ after_unpin c.args.self.now c.args.number)
+parts : (c : goal.After-unpin) → (with_files c c.unpin.new.self ≡ after_unpin c.args.self.now c.args.number)
     × AreCounted c.self.inside.names c.unpin.new.self
 parts c =
     let both = unpin-parts c.self.inside.names c.self.inside.files c.self.inside.made c.self.inside.limits c.self.inside.home

@@ -36,30 +36,24 @@ returns-in_default-clause-whole t c =
 -- ---- below a child
 
 pub unreachable-requires : goal.unreachable-requires
-unreachable-requires t c =
-    changes.directory-absent c.in-Some.rest.now (node_at c.args.self.now c.args.parent.now)
+unreachable-requires t c = changes.directory-absent c.in-Some.rest.now (node_at c.args.self.now c.args.parent.now)
     (changes.found-below c.args.self.now c.self.inside.owner c.self.inside.children.entries c.args.parent.now
     c.in-Some.first.now c.in-Some.rest.now None c.self.view_is c.self.invariant c.in-Some.ensures.cases.0
-    c.in_default-get_mut.ensures.value)
-    c.requires.parent
+    c.in_default-get_mut.ensures.value) c.requires.parent
 
 pub unreachable-requires-in-File : goal.unreachable-requires-in-File
-unreachable-requires-in-File t c =
-    changes.directory-below c.in-Some.rest.now (nodes.File c.in-File.field-0)
+unreachable-requires-in-File t c = changes.directory-below c.in-Some.rest.now (nodes.File c.in-File.field-0)
     (node_at c.args.self.now c.args.parent.now) refl
     (changes.found-below c.args.self.now c.self.inside.owner c.self.inside.children.entries c.args.parent.now
     c.in-Some.first.now c.in-Some.rest.now (Some (File c.in-File.field-0)) c.self.view_is c.self.invariant
-    c.in-Some.ensures.cases.0 (ap Some (sym c.in-File.is) ∙ c.in-Some-get_mut.ensures.value))
-    c.requires.parent
+    c.in-Some.ensures.cases.0 (ap Some (sym c.in-File.is) ∙ c.in-Some-get_mut.ensures.value)) c.requires.parent
 
 pub unreachable-requires-in-Link : goal.unreachable-requires-in-Link
-unreachable-requires-in-Link t c =
-    changes.directory-below c.in-Some.rest.now (nodes.Link c.in-Link.field-0)
+unreachable-requires-in-Link t c = changes.directory-below c.in-Some.rest.now (nodes.Link c.in-Link.field-0)
     (node_at c.args.self.now c.args.parent.now) refl
     (changes.found-below c.args.self.now c.self.inside.owner c.self.inside.children.entries c.args.parent.now
     c.in-Some.first.now c.in-Some.rest.now (Some (Link c.in-Link.field-0)) c.self.view_is c.self.invariant
-    c.in-Some.ensures.cases.0 (ap Some (sym c.in-Link.is) ∙ c.in-Some-get_mut.ensures.value))
-    c.requires.parent
+    c.in-Some.ensures.cases.0 (ap Some (sym c.in-Link.is) ∙ c.in-Some-get_mut.ensures.value)) c.requires.parent
 
 pub put-requires : goal.put-requires
 put-requires t c =
@@ -79,8 +73,7 @@ invariant_of-self-in_err-gone-in-Dir t c =
     (Dir c.in-Dir.dir) (Dir c.put.new.self) c.self.invariant there
     (subst (λ (names : Names). IsBranch (Dir names)) (sym c.in_err-gone-in-Dir.ensures.err)
     (changes.found-child c.self.inside.children.entries (is_at (name_cmp c.in-Some.first.now)) (Dir c.in-Dir.dir)
-    c.self.invariant.1 there))
-    (c.get_mut.follows.holds (Dir c.put.new.self))
+    c.self.invariant.1 there)) (c.get_mut.follows.holds (Dir c.put.new.self))
 
 pub returns-in_err-gone-in-Dir-clause-err : goal.returns-in_err-gone-in-Dir-clause-err
 returns-in_err-gone-in-Dir-clause-err t c =
@@ -100,8 +93,7 @@ invariant_of-self-2 t c =
     changes.written-children c.self.inside.children (c.get_mut.follows.lender (Dir c.put.new.self)) c.in-Some.first.now
     (Dir c.in-Dir.dir) (Dir c.put.new.self) c.self.invariant there
     (changes.still-branch c.in-Dir.dir c.put.new.self (branch c.args.child) c.in-Some.rest.now c.args.name whole
-    c.in_ok-gone-in-Dir.ensures.ok)
-    (c.get_mut.follows.holds (Dir c.put.new.self))
+    c.in_ok-gone-in-Dir.ensures.ok) (c.get_mut.follows.holds (Dir c.put.new.self))
 
 pub returns-clause-ok : goal.returns-clause-ok
 returns-clause-ok t c =
@@ -114,13 +106,11 @@ returns-clause-ok t c =
     (c.in-Some.rest.now ++ c.args.name ∷ []) c.in-Dir.dir c.put.new.self (branch c.args.child) c.self.view_is
     c.self.invariant there
     (changes.still-branch c.in-Dir.dir c.put.new.self (branch c.args.child) c.in-Some.rest.now c.args.name whole
-    c.in_ok-gone-in-Dir.ensures.ok)
-    (c.get_mut.follows.holds (Dir c.put.new.self))
+    c.in_ok-gone-in-Dir.ensures.ok) (c.get_mut.follows.holds (Dir c.put.new.self))
     (ap (λ (place : Place). place ++ c.args.name ∷ []) c.in-Some.ensures.cases.0) c.in_ok-gone-in-Dir.ensures.ok
 
 pub returns-clause-gone : goal.returns-clause-gone
-returns-clause-gone t c rest =
-    c.in_ok-gone-in-Dir.ensures.gone rest
+returns-clause-gone t c rest = c.in_ok-gone-in-Dir.ensures.gone rest
     ∙ sym (changes.found-below c.args.self.now c.self.inside.owner c.self.inside.children.entries
     (c.args.parent.now ++ c.args.name ∷ rest) c.in-Some.first.now (c.in-Some.rest.now ++ c.args.name ∷ rest)
     (Some (Dir c.in-Dir.dir)) c.self.view_is c.self.invariant

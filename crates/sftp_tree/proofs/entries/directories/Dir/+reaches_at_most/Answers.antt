@@ -23,8 +23,7 @@ returns-then-not-reaches_at_most t c =
     reach-no c.args.self.now c.loop-child.child-iterator c.next.new.self (c.in-Some-2.field-0-0.now, c.in-Some-2.child.now)
     c.in-Some.rest c.args.room c.in-Some-2.ensures.steps
     (ap (λ child. have_at_most c.in-Some.rest (branch child)) c.in-Dir.is
-    ∙ sym c.reaches_at_most.ensures ∙ c.if-not-reaches_at_most.true)
-    c.loop-child.invariant.1
+    ∙ sym c.reaches_at_most.ensures ∙ c.if-not-reaches_at_most.true) c.loop-child.invariant.1
 
 pub loop-child-preserved-else-not-reaches_at_most : goal.loop-child-preserved-else-not-reaches_at_most
 loop-child-preserved-else-not-reaches_at_most t c = (
@@ -32,8 +31,7 @@ loop-child-preserved-else-not-reaches_at_most t c = (
   reach-on c.args.self.now c.loop-child.child-iterator c.next.new.self (c.in-Some-2.field-0-0.now, c.in-Some-2.child.now)
       c.in-Some.rest c.args.room c.in-Some-2.ensures.steps
       (ap (λ child. have_at_most c.in-Some.rest (branch child)) c.in-Dir.is
-      ∙ sym c.reaches_at_most.ensures ∙ c.if-not-reaches_at_most.false)
-      c.loop-child.invariant.1,
+      ∙ sym c.reaches_at_most.ensures ∙ c.if-not-reaches_at_most.false) c.loop-child.invariant.1,
 )
 
 pub loop-child-preserved-in-File : goal.loop-child-preserved-in-File
@@ -42,8 +40,7 @@ loop-child-preserved-in-File t c = (
   reach-on c.args.self.now c.loop-child.child-iterator c.next.new.self (c.in-Some-2.field-0-0.now, c.in-Some-2.child.now)
       c.in-Some.rest c.args.room c.in-Some-2.ensures.steps
       (ap (λ child. have_at_most c.in-Some.rest (branch child)) c.in-File.is
-      ∙ reach-alone c.in-Some.rest (nodes.File c.in-File.field-0))
-      c.loop-child.invariant.1,
+      ∙ reach-alone c.in-Some.rest (nodes.File c.in-File.field-0)) c.loop-child.invariant.1,
 )
 
 pub loop-child-preserved : goal.loop-child-preserved
@@ -52,11 +49,9 @@ loop-child-preserved t c = (
   reach-on c.args.self.now c.loop-child.child-iterator c.next.new.self (c.in-Some-2.field-0-0.now, c.in-Some-2.child.now)
       c.in-Some.rest c.args.room c.in-Some-2.ensures.steps
       (ap (λ child. have_at_most c.in-Some.rest (branch child)) c.in-Link.is
-      ∙ reach-alone c.in-Some.rest (nodes.Link c.in-Link.field-0))
-      c.loop-child.invariant.1,
+      ∙ reach-alone c.in-Some.rest (nodes.Link c.in-Link.field-0)) c.loop-child.invariant.1,
 )
 
 pub returns : goal.returns
-returns t c =
-    reach-end c.args.self.now c.loop-child.child-iterator c.in-Some.rest c.args.room c.in-None.ensures.steps.0
+returns t c = reach-end c.args.self.now c.loop-child.child-iterator c.in-Some.rest c.args.room c.in-None.ensures.steps.0
     c.loop-child.invariant.1

@@ -11,15 +11,11 @@ use Rattle.sftp_tree.proofs.entries.directories.Dir.+replace.Goals as goal
 -- ---- in the directory itself
 
 pub unreachable-requires : goal.unreachable-requires
-unreachable-requires t c =
-    changes.not-taken (node_at c.args.self.now (c.args.parent.now ++ c.args.name.now ∷ []))
+unreachable-requires t c = changes.not-taken (node_at c.args.self.now (c.args.parent.now ++ c.args.name.now ∷ []))
     (changes.found-below c.args.self.now c.self.inside.owner c.self.inside.children.entries
-    (c.args.parent.now ++ c.args.name.now ∷ []) c.args.name.now []
-    None c.self.view_is c.self.invariant
+    (c.args.parent.now ++ c.args.name.now ∷ []) c.args.name.now [] None c.self.view_is c.self.invariant
     (ap (λ (place : Place). place ++ c.args.name.now ∷ []) (changes.no-names c.args.parent.now c.in_default.ensures.cases))
-    c.in_default-get_mut.ensures.value
-    ∙ changes.nothing-absent [])
-    c.requires.taken
+    c.in_default-get_mut.ensures.value ∙ changes.nothing-absent []) c.requires.taken
 
 pub whole-in_default : (t : ℕ) (c : goal.After-self-in_default-1 t) → IsBranch c.replace.new.dest
 whole-in_default t c = subst IsBranch (sym c.replace.ensures.after) c.requires.branch
@@ -31,8 +27,7 @@ invariant_of-self t c =
     (whole-in_default t c) (c.get_mut.follows.holds c.replace.new.dest)
 
 pub returns-in_default-clause-here : goal.returns-in_default-clause-here
-returns-in_default-clause-here t c =
-    changes.written-here c.args.self.now c.self.inside.owner c.self.inside.children
+returns-in_default-clause-here t c = changes.written-here c.args.self.now c.self.inside.owner c.self.inside.children
     (c.get_mut.follows.lender c.replace.new.dest) (c.args.parent.now ++ c.args.name.now ∷ []) c.args.name.now
     c.in-Some-get_mut.inner.now c.replace.new.dest c.args.child c.self.view_is c.self.invariant
     (sym c.in-Some-get_mut.ensures.value) (whole-in_default t c) (c.get_mut.follows.holds c.replace.new.dest)
@@ -60,8 +55,7 @@ unreachable-requires-in_default-get_mut-2 t c =
     (c.args.parent.now ++ c.args.name.now ∷ []) c.in-Some.first.now (c.in-Some.rest.now ++ c.args.name.now ∷ [])
     None c.self.view_is c.self.invariant
     (ap (λ (place : Place). place ++ c.args.name.now ∷ []) c.in-Some.ensures.cases.0)
-    c.in_default-get_mut-2.ensures.value
-    ∙ changes.nothing-absent (c.in-Some.rest.now ++ c.args.name.now ∷ []))
+    c.in_default-get_mut-2.ensures.value ∙ changes.nothing-absent (c.in-Some.rest.now ++ c.args.name.now ∷ []))
     c.requires.taken
 
 pub replace-requires-in-Dir : goal.replace-requires-in-Dir
@@ -85,8 +79,7 @@ unreachable-requires-in-File t c =
     (Some (File c.in-File.field-0)) c.self.view_is c.self.invariant
     (ap (λ (place : Place). place ++ c.args.name.now ∷ []) c.in-Some.ensures.cases.0)
     (ap Some (sym c.in-File.is) ∙ c.in-Some-get_mut-2.ensures.value)
-    ∙ changes.nothing-below (nodes.File c.in-File.field-0) c.in-Some.rest.now c.args.name.now [])
-    c.requires.taken
+    ∙ changes.nothing-below (nodes.File c.in-File.field-0) c.in-Some.rest.now c.args.name.now []) c.requires.taken
 
 pub unreachable-requires-in-Link : goal.unreachable-requires-in-Link
 unreachable-requires-in-Link t c =
@@ -96,8 +89,7 @@ unreachable-requires-in-Link t c =
     (Some (Link c.in-Link.field-0)) c.self.view_is c.self.invariant
     (ap (λ (place : Place). place ++ c.args.name.now ∷ []) c.in-Some.ensures.cases.0)
     (ap Some (sym c.in-Link.is) ∙ c.in-Some-get_mut-2.ensures.value)
-    ∙ changes.nothing-below (nodes.Link c.in-Link.field-0) c.in-Some.rest.now c.args.name.now [])
-    c.requires.taken
+    ∙ changes.nothing-below (nodes.Link c.in-Link.field-0) c.in-Some.rest.now c.args.name.now []) c.requires.taken
 
 pub whole : (t : ℕ) (c : goal.After-self-in-Dir-1 t) → IsBranch (Dir c.replace-in-Dir.new.self)
 whole t c =
@@ -105,8 +97,7 @@ whole t c =
     sym c.in-Some-get_mut-2.ensures.value ∙ ap Some c.in-Dir.is in
     changes.still-branch c.in-Dir.dir c.replace-in-Dir.new.self (branch c.args.child) c.in-Some.rest.now c.args.name.now
     (changes.found-child c.self.inside.children.entries (is_at (name_cmp c.in-Some.first.now)) (Dir c.in-Dir.dir)
-    c.self.invariant.1 there)
-    c.replace-in-Dir.ensures.here
+    c.self.invariant.1 there) c.replace-in-Dir.ensures.here
 
 pub invariant_of-self-2 : goal.invariant_of-self-2
 invariant_of-self-2 t c =
@@ -128,8 +119,7 @@ returns-clause-here t c =
     (ap (λ (place : Place). place ++ c.args.name.now ∷ []) c.in-Some.ensures.cases.0) c.replace-in-Dir.ensures.here
 
 pub returns-clause-gone : goal.returns-clause-gone
-returns-clause-gone t c rest =
-    c.replace-in-Dir.ensures.gone rest
+returns-clause-gone t c rest = c.replace-in-Dir.ensures.gone rest
     ∙ sym (changes.found-below c.args.self.now c.self.inside.owner c.self.inside.children.entries
     (c.args.parent.now ++ c.args.name.now ∷ rest) c.in-Some.first.now (c.in-Some.rest.now ++ c.args.name.now ∷ rest)
     (Some (Dir c.in-Dir.dir)) c.self.view_is c.self.invariant

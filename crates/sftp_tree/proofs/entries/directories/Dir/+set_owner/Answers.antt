@@ -14,46 +14,34 @@ returns-in_default t c =
     c.self.view_is c.self.invariant (changes.no-names c.args.names.now c.in_default.ensures.cases)
 
 pub unreachable-requires : goal.unreachable-requires
-unreachable-requires t c =
-    changes.directory-absent c.in-Some.rest.now (node_at c.args.self.now c.args.names.now)
+unreachable-requires t c = changes.directory-absent c.in-Some.rest.now (node_at c.args.self.now c.args.names.now)
     (changes.found-below c.args.self.now c.self.inside.owner c.self.inside.children.entries
-    c.args.names.now c.in-Some.first.now c.in-Some.rest.now
-    None c.self.view_is c.self.invariant
-    c.in-Some.ensures.cases.0
-    c.in_default-get_mut.ensures.value)
-    c.requires
+    c.args.names.now c.in-Some.first.now c.in-Some.rest.now None c.self.view_is c.self.invariant
+    c.in-Some.ensures.cases.0 c.in_default-get_mut.ensures.value) c.requires
 
 pub set_owner-requires : goal.set_owner-requires
 set_owner-requires t c =
     let below : node_at c.args.self.now c.args.names.now ≡ node_at c.in-Dir.dir c.in-Some.rest.now =
     changes.found-below c.args.self.now c.self.inside.owner c.self.inside.children.entries
-    c.args.names.now c.in-Some.first.now c.in-Some.rest.now
-    (Some (Dir c.in-Dir.dir)) c.self.view_is c.self.invariant
-    c.in-Some.ensures.cases.0
-    (ap Some (sym c.in-Dir.is) ∙ c.in-Some-get_mut.ensures.value) in
+    c.args.names.now c.in-Some.first.now c.in-Some.rest.now (Some (Dir c.in-Dir.dir)) c.self.view_is c.self.invariant
+    c.in-Some.ensures.cases.0 (ap Some (sym c.in-Dir.is) ∙ c.in-Some-get_mut.ensures.value) in
     (omega (arith, c.in-Some.ensures.cases.1), subst (λ found. IsTrue (is_directory found)) below c.requires)
 
 pub unreachable-requires-in-File : goal.unreachable-requires-in-File
-unreachable-requires-in-File t c =
-    changes.directory-below c.in-Some.rest.now (nodes.File c.in-File.field-0)
+unreachable-requires-in-File t c = changes.directory-below c.in-Some.rest.now (nodes.File c.in-File.field-0)
     (node_at c.args.self.now c.args.names.now) refl
     (changes.found-below c.args.self.now c.self.inside.owner c.self.inside.children.entries
     c.args.names.now c.in-Some.first.now c.in-Some.rest.now
-    (Some (File c.in-File.field-0)) c.self.view_is c.self.invariant
-    c.in-Some.ensures.cases.0
-    (ap Some (sym c.in-File.is) ∙ c.in-Some-get_mut.ensures.value))
-    c.requires
+    (Some (File c.in-File.field-0)) c.self.view_is c.self.invariant c.in-Some.ensures.cases.0
+    (ap Some (sym c.in-File.is) ∙ c.in-Some-get_mut.ensures.value)) c.requires
 
 pub unreachable-requires-in-Link : goal.unreachable-requires-in-Link
-unreachable-requires-in-Link t c =
-    changes.directory-below c.in-Some.rest.now (nodes.Link c.in-Link.field-0)
+unreachable-requires-in-Link t c = changes.directory-below c.in-Some.rest.now (nodes.Link c.in-Link.field-0)
     (node_at c.args.self.now c.args.names.now) refl
     (changes.found-below c.args.self.now c.self.inside.owner c.self.inside.children.entries
     c.args.names.now c.in-Some.first.now c.in-Some.rest.now
-    (Some (Link c.in-Link.field-0)) c.self.view_is c.self.invariant
-    c.in-Some.ensures.cases.0
-    (ap Some (sym c.in-Link.is) ∙ c.in-Some-get_mut.ensures.value))
-    c.requires
+    (Some (Link c.in-Link.field-0)) c.self.view_is c.self.invariant c.in-Some.ensures.cases.0
+    (ap Some (sym c.in-Link.is) ∙ c.in-Some-get_mut.ensures.value)) c.requires
 
 pub whole : (t : ℕ) (c : goal.After-self-in-Dir-1 t) → IsBranch (Dir c.set_owner.new.self)
 whole t c =
@@ -61,8 +49,7 @@ whole t c =
     sym c.in-Some-get_mut.ensures.value ∙ ap Some c.in-Dir.is in
     changes.set-branch c.in-Dir.dir c.set_owner.new.self c.in-Some.rest.now c.args.owner
     (changes.found-child c.self.inside.children.entries (is_at (name_cmp c.in-Some.first.now)) (Dir c.in-Dir.dir)
-    c.self.invariant.1 there)
-    c.set_owner.ensures
+    c.self.invariant.1 there) c.set_owner.ensures
 
 pub invariant_of-self-2 : goal.invariant_of-self-2
 invariant_of-self-2 t c =

@@ -29,8 +29,7 @@ returns-in_default-clause-left t c =
 pub returns-in_default-clause-gone : goal.returns-in_default-clause-gone
 returns-in_default-clause-gone t c rest =
     sym (changes.found-below c.args.self.now c.self.inside.owner c.self.inside.children.entries
-    (c.args.parent.now ++ c.args.name.now ∷ rest) c.args.name.now rest
-    c.remove.result c.self.view_is c.self.invariant
+    (c.args.parent.now ++ c.args.name.now ∷ rest) c.args.name.now rest c.remove.result c.self.view_is c.self.invariant
     (ap (λ (place : Place). place ++ c.args.name.now ∷ rest) (changes.no-names c.args.parent.now c.in_default.ensures.cases))
     c.remove.ensures.value)
 
@@ -42,8 +41,7 @@ returns-in_default-clause-whole t c =
 -- ---- below a child
 
 pub returns-in_default-get_mut-clause-gone : goal.returns-in_default-get_mut-clause-gone
-returns-in_default-get_mut-clause-gone t c rest =
-    changes.nothing-absent rest
+returns-in_default-get_mut-clause-gone t c rest = changes.nothing-absent rest
     ∙ sym (changes.nothing-absent (c.in-Some.rest.now ++ c.args.name.now ∷ rest))
     ∙ sym (changes.found-below c.args.self.now c.self.inside.owner c.self.inside.children.entries
     (c.args.parent.now ++ c.args.name.now ∷ rest) c.in-Some.first.now (c.in-Some.rest.now ++ c.args.name.now ∷ rest)
@@ -61,8 +59,7 @@ returns-in_default-get_mut-clause-left t c =
 found : (t : ℕ) (c : goal.Joined-inner t) (rest : Place)
     → node_at c.args.self.now (c.args.parent.now ++ c.args.name.now ∷ rest)
     ≡ node_at (branch c.in-Some-get_mut.inner.now) (c.in-Some.rest.now ++ c.args.name.now ∷ rest)
-found t c rest =
-    changes.found-below c.args.self.now c.self.inside.owner c.self.inside.children.entries
+found t c rest = changes.found-below c.args.self.now c.self.inside.owner c.self.inside.children.entries
     (c.args.parent.now ++ c.args.name.now ∷ rest) c.in-Some.first.now (c.in-Some.rest.now ++ c.args.name.now ∷ rest)
     (Some c.in-Some-get_mut.inner.now) c.self.view_is c.self.invariant
     (ap (λ (place : Place). place ++ c.args.name.now ∷ rest) c.in-Some.ensures.cases.0) c.in-Some-get_mut.ensures.value
@@ -89,20 +86,16 @@ through t c child' branch =
 nothing : (t : ℕ) (c : goal.Joined-inner t) (node : Node) → branch c.in-Some-get_mut.inner.now ≡ ([], node) ∷ []
     → (rest : Place)
     → node_at c.args.self.now (c.args.parent.now ++ c.args.name.now ∷ rest) ≡ node_at (branch_of None) rest
-nothing t c node leaf rest =
-    found t c rest
+nothing t c node leaf rest = found t c rest
     ∙ ap (λ (names : Names). node_at names (c.in-Some.rest.now ++ c.args.name.now ∷ rest)) leaf
-    ∙ changes.nothing-below node c.in-Some.rest.now c.args.name.now rest
-    ∙ sym (changes.nothing-absent rest)
+    ∙ changes.nothing-below node c.in-Some.rest.now c.args.name.now rest ∙ sym (changes.nothing-absent rest)
 
 unchanged : (t : ℕ) (c : goal.Joined-inner t) (node : Node) → branch c.in-Some-get_mut.inner.now ≡ ([], node) ∷ []
     → IsGrafted (c.args.parent.now ++ c.args.name.now ∷ []) c.args.self.now
     (flat_of c.self.inside.owner (c.get_mut.follows.lender c.in-Some-get_mut.inner.now).entries) []
-unchanged t c node leaf =
-    changes.taken-nothing c.args.self.now c.self.inside.owner c.self.inside.children
+unchanged t c node leaf = changes.taken-nothing c.args.self.now c.self.inside.owner c.self.inside.children
     (c.get_mut.follows.lender c.in-Some-get_mut.inner.now) c.args.parent.now c.args.name.now c.self.view_is
-    c.self.invariant
-    (changes.entries-back c.self.inside.children (c.get_mut.follows.lender c.in-Some-get_mut.inner.now)
+    c.self.invariant (changes.entries-back c.self.inside.children (c.get_mut.follows.lender c.in-Some-get_mut.inner.now)
     c.in-Some.first.now c.in-Some-get_mut.inner.now c.in-Some-get_mut.inner.now
     (sym c.in-Some-get_mut.ensures.value) refl (c.get_mut.follows.holds c.in-Some-get_mut.inner.now))
     (nothing t c node leaf)
@@ -110,14 +103,11 @@ unchanged t c node leaf =
 pub invariant_of-self-2 : goal.invariant_of-self-2
 invariant_of-self-2 t c =
     elim c.match-inner.branch [
-      | in-Dir w ↦
-          subst (λ (inside : Inside). AreChildren inside.children.entries) (sym w.self-inside-is)
+      | in-Dir w ↦ subst (λ (inside : Inside). AreChildren inside.children.entries) (sym w.self-inside-is)
           (through t c (Dir w.take.new.self) (still t c w.in-Dir.dir w.take.new.self w.in-Dir.is w.take.ensures.left))
-      | in-File w ↦
-          subst (λ (inside : Inside). AreChildren inside.children.entries) (sym w.self-inside-is)
+      | in-File w ↦ subst (λ (inside : Inside). AreChildren inside.children.entries) (sym w.self-inside-is)
           (through t c c.in-Some-get_mut.inner.now (whole t c))
-      | in-Link w ↦
-          subst (λ (inside : Inside). AreChildren inside.children.entries) (sym w.self-inside-is)
+      | in-Link w ↦ subst (λ (inside : Inside). AreChildren inside.children.entries) (sym w.self-inside-is)
           (through t c c.in-Some-get_mut.inner.now (whole t c))
     ]
 
@@ -125,8 +115,7 @@ grafted : (t : ℕ) (c : goal.Joined-inner t) (names after : Names) → c.in-Som
     → IsGrafted (c.in-Some.rest.now ++ c.args.name.now ∷ []) names after []
     → IsGrafted (c.args.parent.now ++ c.args.name.now ∷ []) c.args.self.now
     (flat_of c.self.inside.owner (c.get_mut.follows.lender (Dir after)).entries) []
-grafted t c names after is inner =
-    changes.written-grafted c.args.self.now c.self.inside.owner c.self.inside.children
+grafted t c names after is inner = changes.written-grafted c.args.self.now c.self.inside.owner c.self.inside.children
     (c.get_mut.follows.lender (Dir after)) (c.args.parent.now ++ c.args.name.now ∷ []) c.in-Some.first.now
     (c.in-Some.rest.now ++ c.args.name.now ∷ []) names after [] c.self.view_is c.self.invariant
     (sym c.in-Some-get_mut.ensures.value ∙ ap Some is) (still t c names after is inner)
@@ -150,15 +139,11 @@ returns-clause-left t c =
 pub returns-clause-gone : goal.returns-clause-gone
 returns-clause-gone t c rest =
     elim c.match-inner.branch [
-      | in-Dir w ↦
-          ap (λ gone. node_at (branch_of gone) rest) w.result-is
-          ∙ w.take.ensures.gone rest
+      | in-Dir w ↦ ap (λ gone. node_at (branch_of gone) rest) w.result-is ∙ w.take.ensures.gone rest
           ∙ sym (ap (λ child. node_at (branch child) (c.in-Some.rest.now ++ c.args.name.now ∷ rest)) w.in-Dir.is)
           ∙ sym (found t c rest)
-      | in-File w ↦
-          ap (λ gone. node_at (branch_of gone) rest) w.result-is
+      | in-File w ↦ ap (λ gone. node_at (branch_of gone) rest) w.result-is
           ∙ sym (nothing t c (nodes.File w.in-File.field-0) (ap branch w.in-File.is) rest)
-      | in-Link w ↦
-          ap (λ gone. node_at (branch_of gone) rest) w.result-is
+      | in-Link w ↦ ap (λ gone. node_at (branch_of gone) rest) w.result-is
           ∙ sym (nothing t c (nodes.Link w.in-Link.field-0) (ap branch w.in-Link.is) rest)
     ]

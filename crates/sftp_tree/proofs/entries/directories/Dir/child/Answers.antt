@@ -9,8 +9,7 @@ use Rattle.sftp_tree.proofs.entries.directories.Dir.child.Goals as goal
 
 pub returns-clause-below : goal.returns-clause-below
 unfolding get
-returns-clause-below c rest =
-    sym (ap (λ (names : Names). node_at names (c.args.name.now ∷ rest)) c.self.view_is)
+returns-clause-below c rest = sym (ap (λ (names : Names). node_at names (c.args.name.now ∷ rest)) c.self.view_is)
     ∙ get-flat c.self.inside.owner c.self.inside.children.entries c.args.name.now rest c.self.invariant.0
     ∙ sym (ap (λ o. node_at (branch_of o) rest) c.get.ensures.value)
 

@@ -10,6 +10,5 @@ unfolding get
 returns-clause-owner c = sym (ap (λ (names : Names). node_at names []) c.self.view_is)
 
 pub returns-clause-ordered : goal.returns-clause-ordered
-returns-clause-ordered c =
-    subst (λ (names : Names). InOrder place_cmp names) c.self.view_is
+returns-clause-ordered c = subst (λ (names : Names). InOrder place_cmp names) c.self.view_is
     (sorted-flat_of c.self.inside.owner c.self.inside.children.entries c.self.invariant)

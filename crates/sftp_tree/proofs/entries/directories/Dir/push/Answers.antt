@@ -22,5 +22,4 @@ returns c =
     (sym c.self.view_is) c.requires.last in
     ap (flat_of c.self.inside.owner) c.in_ok-insert.ensures.entries
     ∙ (pushed c.self.inside.owner c.self.inside.children.entries c.args.name c.args.child c.self.invariant
-    c.requires.branch last).flat_is
-    ∙ ap (λ names. names ++ placed c.args.name (branch c.args.child)) c.self.view_is
+    c.requires.branch last).flat_is ∙ ap (λ names. names ++ placed c.args.name (branch c.args.child)) c.self.view_is

@@ -18,8 +18,7 @@ push-requires-clause-last c =
     let branch = subst IsBranch (c.into_child-child.ensures.child ∙ ap children.Dir c.replace.ensures.value)
     c.into_child-child.ensures.branch in
     subst (λ names. AllByRecursion (λ place. place_cmp place (c.in-Some.opened.name ∷ []) ≡ Less) (keys_of names))
-    (sym c.replace.ensures.after)
-    (last_child c.pop.new.self.items c.in-Some.opened top ordered branch)
+    (sym c.replace.ensures.after) (last_child c.pop.new.self.items c.in-Some.opened top ordered branch)
 
 pub returns-clause-names : goal.returns-clause-names
 returns-clause-names c =

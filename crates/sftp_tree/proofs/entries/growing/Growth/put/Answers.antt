@@ -13,8 +13,7 @@ add-requires c =
     let closed = c.in_ok-close_below.ensures in
     let name = c.args.name in
     let at_top = subst (λ (top : Place). AllByRecursion (λ other. place_cmp other (top ++ name ∷ []) ≡ Less)
-    (keys_of (names_in c.args.self.now)))
-    (sym closed.place) c.requires.last in
+    (keys_of (names_in c.args.self.now))) (sym closed.place) c.requires.last in
     record {
       last = subst (λ (names : Names). AllByRecursion
           (λ other. place_cmp other (place_in c.close_below.new.self ++ name ∷ []) ≡ Less) (keys_of names))
@@ -27,6 +26,5 @@ returns-clause-names c =
     c.in_ok-add.ensures.names ∙ (λ i. closed.names i ++ (closed.place i ++ c.args.name ∷ [], c.args.node) ∷ [])
 
 pub returns-clause-place : goal.returns-clause-place
-returns-clause-place c =
-    c.in_ok-add.ensures.place
+returns-clause-place c = c.in_ok-add.ensures.place
     ∙ ap (λ (top : Place). open_behind (top ++ c.args.name ∷ []) c.args.node) c.in_ok-close_below.ensures.place
