@@ -79,10 +79,10 @@ pub grafted-below : (m : Name) (place : Place) (before after names names' grafte
     → IsGrafted (m ∷ []) before after names' → ((rest : Place) → node_at before (m ∷ rest) ≡ node_at names rest)
     → IsGrafted place names names' grafted → IsGrafted (m ∷ place) before after grafted
 grafted-below m place before after names names' grafted outer found inner = record {
-      there = λ rest. outer.there (place ++ rest) ∙ inner.there rest;
-      elsewhere = elsewhere;
-      ordered = outer.ordered;
-    }
+  there = λ rest. outer.there (place ++ rest) ∙ inner.there rest;
+  elsewhere = elsewhere;
+  ordered = outer.ordered;
+}
   where
     by : (b : Bool) (n : Name) (ns : Place) → same_bytes m n ≡ b → (b && begins place ns) ≡ false
         → node_at after (n ∷ ns) ≡ node_at before (n ∷ ns)

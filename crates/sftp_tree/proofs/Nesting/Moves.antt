@@ -112,12 +112,12 @@ pub filled : (place : Place) (before after new : Names) (owner : Owner) (was : B
     → IsGrafted place before after new → was ≡ is_taken (node_at before place) → was ≡ false
     → IsFilled place before after false
 filled place before after new owner was is g taken free = record {
-      taken = ap (λ x. is_taken (node_at after x)) (sym (append-nil place)) ∙ ap is_taken (g.there [])
-          ∙ root-taken new owner is;
-      was = sym free ∙ taken;
-      same = λ never. cc;
-      elsewhere = g.elsewhere;
-    }
+  taken = ap (λ x. is_taken (node_at after x)) (sym (append-nil place)) ∙ ap is_taken (g.there [])
+      ∙ root-taken new owner is;
+  was = sym free ∙ taken;
+  same = λ never. cc;
+  elsewhere = g.elsewhere;
+}
 
 -- ---- a child that moved
 
@@ -126,14 +126,14 @@ pub moved : (old new : Place) (before filled first second after held empty : Nam
     → IsGrafted old filled first empty → ((rest : Place) → node_at held rest ≡ node_at filled (old ++ rest))
     → IsGrafted new first second held → IsGrafted old second after [] → IsMoved old new before after
 moved old new before filled first second after held empty was apart alone f g2 moving g3 g4 = record {
-      there = λ rest. g4.elsewhere (new ++ rest) (beside old new rest apart alone) ∙ g3.there rest ∙ moving rest
-          ∙ f.elsewhere (old ++ rest) (beside new old rest alone apart);
-      left = λ rest. g4.there rest ∙ nothing rest;
-      elsewhere = λ other not_old not_new.
-          g4.elsewhere other not_old ∙ g3.elsewhere other not_new ∙ g2.elsewhere other not_old
-          ∙ f.elsewhere other not_new;
-      ordered = g4.ordered;
-    }
+  there = λ rest. g4.elsewhere (new ++ rest) (beside old new rest apart alone) ∙ g3.there rest ∙ moving rest
+      ∙ f.elsewhere (old ++ rest) (beside new old rest alone apart);
+  left = λ rest. g4.there rest ∙ nothing rest;
+  elsewhere = λ other not_old not_new.
+      g4.elsewhere other not_old ∙ g3.elsewhere other not_new ∙ g2.elsewhere other not_old
+      ∙ f.elsewhere other not_new;
+  ordered = g4.ordered;
+}
 
 -- what was at the new place
 pub gone-free : (new : Place) (before filled : Names) → IsFilled new before filled false → None ≡ node_at before new

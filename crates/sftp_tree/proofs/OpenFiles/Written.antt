@@ -26,12 +26,12 @@ use Rattle.sftp_tree.proofs.CauseLaws.Limits.{length-resized, changed-room}
 length-overwritten : (offset : ℕ) (new bytes : List ℕ)
     → length (overwritten offset new bytes) ≡ offset + length new + (length bytes - (offset + length new))
 length-overwritten offset new bytes = omega (
-      arith,
-      length-append (resized offset bytes ++ new) (drop (offset + length new) bytes),
-      length-append (resized offset bytes) new,
-      length-resized offset bytes,
-      length-drop (offset + length new) bytes,
-    )
+  arith,
+  length-append (resized offset bytes ++ new) (drop (offset + length new) bytes),
+  length-append (resized offset bytes) new,
+  length-resized offset bytes,
+  length-drop (offset + length new) bytes,
+)
 
 -- a file keeps to the limit after a WRITE just where the WRITE does
 pub size-written : (bounds : TreeLimits) (offset : ℕ) (new bytes : List ℕ) → nat_le (length bytes) bounds.file_bytes ≡ true

@@ -290,12 +290,12 @@ branch_nonempty (children.Link target) is = omega arith
 child_smaller : (names : Names) (name : Name) (child : Child) (rest : Names) → IsBranch child
     → length (placed name (branch child) ++ rest) ≤ length (drop 1 names) → length (branch child) < length names
 child_smaller [] name child rest is few = absurd (omega (
-      arith,
-      few,
-      branch_nonempty child is,
-      length-append (placed name (branch child)) rest,
-      length-placed name (branch child),
-    ))
+  arith,
+  few,
+  branch_nonempty child is,
+  length-append (placed name (branch child)) rest,
+  length-placed name (branch child),
+))
 child_smaller (e ∷ es) name child rest is few =
     omega (arith, few, length-append (placed name (branch child)) rest, length-placed name (branch child))
 

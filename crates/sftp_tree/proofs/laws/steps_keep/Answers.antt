@@ -4,6 +4,6 @@ use Rattle.sftp_tree.proofs.laws.steps_keep.Goals as goal
 
 pub returns : goal.returns
 returns c = after-kept (λ t kept follow path place bytes is. record {
-      named = c.walks_give_places.ensures.names t follow path place kept bytes is;
-      above = c.walks_give_places.ensures.parent t follow path place kept bytes is;
-    })
+  named = c.walks_give_places.ensures.names t follow path place kept bytes is;
+  above = c.walks_give_places.ensures.parent t follow path place kept bytes is;
+})
