@@ -50,8 +50,7 @@ error_of_session refusal = audit_errors.Refused refusal
 abbrev pub HasStart : List ℕ → Type 0
 HasStart tree = (start : Tree) × IsStart start tree
 
--- the reason for an error of an audit: no tree, or a tree but no events, or a tree, and then a session that it does not
--- explain
+-- the reason for an error of an audit: no tree; a tree but no events; or, where the session was refused, a tree
 abbrev pub IsReason : List ℕ → List ℕ → AuditError → Type 0
 IsReason tree transcript (audit_errors.Tree error) = HasStart tree → ⊥
 IsReason tree transcript (audit_errors.Transcript error) =

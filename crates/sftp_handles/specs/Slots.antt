@@ -1,4 +1,4 @@
--- The table of the handles that a server gives (draft-ietf-secsh-filexfer-02, section 6.2): slots, each in use or free.
+-- The table of the handles that a server gives (draft-ietf-secsh-filexfer-02, section 7): slots, each in use or free.
 -- A name has 12 bytes: the number of a slot, and the serial of the opening.
 use Rattle.std.specs.Prelude.{◌≡◌, ◌++◌, ◌<◌, ◌+◌, ◌-◌, ◌%◌, ◌^◌, ℕ, List, map, take, drop, Option, IsSomeAnd}
 use Rattle.slab.specs.Slab.{Slab, ContainsKey, get, entries_from}
