@@ -193,7 +193,8 @@ impl Tree {
         requires taken { IsTrue (tree.is_taken (tree.node_at self.old.names place.now)) }
         requires below_root { is_root place.now ≡ false }
         requires empty { tree.has_entries self.old.names place.now ≡ false }
-        ensures removed { self.new ≡ tree.trim (record self.old { names = tree.without_node self.old.names place.now }) }
+        ensures removed { self.new
+            ≡ tree.trim (record self.old { names = tree.without_node self.old.names place.now }) }
         ensures valid { tree.IsKept self.new }
     {
         let gone = self.names.remove(place);
