@@ -9,10 +9,10 @@ use Rattle.sftp_wire.specs.declared.packets.Packet.TheVariants.{Reply as reply_p
 use Rattle.sftp_wire.specs.declared.packets.Side.{Side}
 use Rattle.sftp_wire.specs.declared.packets.Side.TheVariants.{Client, Server}
 use Rattle.sftp_wire.specs.Spelling.{spelling, HasSpelling, side_of}
-use Rattle.sftp_audit.specs.declared.errors.TranscriptError.{TranscriptError}
-use Rattle.sftp_audit.specs.declared.errors.TranscriptError.TheVariants.{NoMemory}
-use Rattle.sftp_audit.specs.declared.events.Event.{Event}
-use Rattle.sftp_audit.specs.declared.events.Event.TheVariants.{Asked, Replied}
+use Rattle.sftp_transcript.specs.declared.errors.TranscriptError.{TranscriptError}
+use Rattle.sftp_transcript.specs.declared.errors.TranscriptError.TheVariants.{NoMemory}
+use Rattle.sftp_transcript.specs.declared.events.Event.{Event}
+use Rattle.sftp_transcript.specs.declared.events.Event.TheVariants.{Asked, Replied}
 
 -- `SFTPTR01`
 abbrev pub transcript_opening : List ℕ

@@ -3,11 +3,11 @@
 ghost use Rattle.std.specs.Prelude.{◌≡◌, ℕ, List, ◌++◌, ◌<◌, length, IfOk, IfErr, IsTrue, false};
 ghost use Rattle.sftp_wire.specs.declared.packets.Packet.{Packet};
 ghost use Rattle.sftp_wire.specs.Spelling.{spelling, HasSpelling, side_of};
-ghost use Rattle.sftp_audit.specs.declared.events.Event.{Event};
-ghost use Rattle.sftp_audit.specs.Transcript.{transcript_opening, packet_of, event_record, IsEvent, AreRecords};
-ghost use Rattle.sftp_audit.specs.Transcript.{IsRecord, GivesRecorded};
-ghost use Rattle.sftp_audit.specs.Records.{side_of_direction, read_fault, Begins, GivesOnly};
-ghost use Rattle.sftp_audit.specs.Records.{IsInit, BeginsInit, IsVersion, BeginsVersion};
+ghost use Rattle.sftp_transcript.specs.declared.events.Event.{Event};
+ghost use Rattle.sftp_transcript.specs.Transcript.{transcript_opening, packet_of, event_record, IsEvent, AreRecords};
+ghost use Rattle.sftp_transcript.specs.Transcript.{IsRecord, GivesRecorded};
+ghost use Rattle.sftp_transcript.specs.Records.{side_of_direction, read_fault, Begins, GivesOnly};
+ghost use Rattle.sftp_transcript.specs.Records.{IsInit, BeginsInit, IsVersion, BeginsVersion};
 
 use crate::errors::TranscriptError;
 use crate::events::Event;
