@@ -1,12 +1,14 @@
 -- When a tree explains a session: replies pair off with earlier requests, none later than the window permits, and the
 -- requests, carried out singly and in sequence, allow these replies (draft-ietf-secsh-filexfer-02, section 6.1). The
 -- window is this profile's own.
-use Rattle.std.specs.Prelude.{◌≡◌, ◌==◌, ◌&&◌, nat_lt, ℕ, suc, Bool, true, if◌then◌else◌, List, [], ◌∷◌, Option, Some}
-use Rattle.std.specs.Prelude.{None, IsTrue}
+use Rattle.std.specs.Prelude.{◌≡◌, ◌==◌, ◌&&◌, nat_lt, ℕ, suc, Bool, true, if◌then◌else◌, List, [], ◌∷◌, ◌++◌}
+use Rattle.std.specs.Prelude.{Option, Some, None, IsTrue}
+use Rattle.std.specs.List.{AllByRecursion}
 use Rattle.sftp_wire.specs.declared.packets.Request.{Request}
 use Rattle.sftp_wire.specs.declared.packets.Reply.{Reply}
 use Rattle.sftp_transcript.specs.declared.events.Event.{Event}
 use Rattle.sftp_transcript.specs.declared.events.Event.TheVariants.{Asked, Replied}
+use Rattle.sftp_transcript.specs.Transcript.{IsEvent}
 
 -- ---- turns: with each id, a request is followed by its reply before the next request comes
 
@@ -89,3 +91,10 @@ pub record Explained {S : Type 0} (step : StepOf S) (start : S) (events : List E
   pub matching : Matching events
   pub within_window : IsTrue (in_window events)
   pub run : Run step start (leading_pairs (exchanges_of events)) end
+
+-- some continuation of the events, all of which can be recorded, is explained
+pub record BeginsFrom {S : Type 0} (step : StepOf S) (start : S) (events : List Event) : Type 0 where
+  pub more : List Event
+  pub end : S
+  pub recordable : AllByRecursion IsEvent more
+  pub explained : Explained step start (events ++ more) end

@@ -1,0 +1,3 @@
+pub mod Machine
+pub mod Core
+pub mod Served

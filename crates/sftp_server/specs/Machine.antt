@@ -1,0 +1,146 @@
+-- The core of a server: a state, and a queue of the requests from the oldest unsent one on. Requests are taken in the
+-- order asked, done when nothing that was asked earlier and is not done yet clashes with them, and answered in any order
+-- (draft-ietf-secsh-filexfer-02, section 6.1). The states, which replies they allow, and which requests clash are
+-- parameters. That the queue is bounded is this profile's own.
+use Rattle.std.specs.Prelude.{◌≡◌, ◌⊎◌, ◌==◌, ◌&&◌, ◌||◌, not, nat_lt, ℕ, ◌<◌, Bool, true, false, List, [], ◌∷◌, ◌++◌}
+use Rattle.std.specs.Prelude.{length, take, slice_get, Option, Some, None, IsTrue, if◌then◌else◌}
+use Rattle.sftp_wire.specs.declared.packets.Packet.TheVariants.{Reply as reply_packet}
+use Rattle.sftp_wire.specs.declared.packets.Request.{Request}
+use Rattle.sftp_wire.specs.declared.packets.Reply.{Reply}
+use Rattle.sftp_wire.specs.Spelling.{HasSpelling}
+use Rattle.sftp_transcript.specs.declared.events.Event.{Event}
+use Rattle.sftp_transcript.specs.declared.events.Event.TheVariants.{Asked, Replied}
+use Rattle.sftp_transcript.specs.Explained.{StepOf}
+use Rattle.sftp_server.specs.declared.queue.Entry.{Entry}
+use Rattle.sftp_server.specs.declared.queue.Progress.{Progress}
+use Rattle.sftp_server.specs.declared.queue.Progress.TheVariants.{Pending, Done, Sent}
+use Rattle.sftp_server.specs.declared.acts.Act.{Act}
+use Rattle.sftp_server.specs.declared.acts.Act.TheVariants.{Deliver, Work, Send}
+
+pub record Machine (S : Type 0) : Type 0 where
+  pub state : S
+  pub window : ℕ
+  pub queue : List Entry
+
+-- nothing was asked yet
+abbrev pub at_start : {S : Type 0} → S → ℕ → Machine S
+at_start start window = record { state = start; window = window; queue = [] }
+
+-- whether two requests, the first asked before the second, may not change places in a state
+abbrev pub ClashOf : Type 0 → Type 0
+ClashOf S = S → Request → Request → Bool
+
+-- ---- what a queue says
+
+abbrev pub is_pending : Progress → Bool
+is_pending Pending = true
+is_pending (Done reply) = false
+is_pending Sent = false
+
+abbrev pub is_sent : Progress → Bool
+is_sent Pending = false
+is_sent (Done reply) = false
+is_sent Sent = true
+
+-- a request of this id is not answered yet
+unfoldable pub is_unsent : ℕ → List Entry → Bool
+is_unsent id [] = false
+is_unsent id (entry ∷ queue) = (not (is_sent entry.progress) && entry.request.id == id) || is_unsent id queue
+
+-- no request in the queue is pending and clashes with this one, which was asked later
+unfoldable pub is_free_of : {S : Type 0} → ClashOf S → S → List Entry → Request → Bool
+is_free_of clash s [] request = true
+is_free_of clash s (entry ∷ queue) request =
+    not (is_pending entry.progress && clash s entry.request request) && is_free_of clash s queue request
+
+abbrev pub ready_in : {S : Type 0} → ClashOf S → S → List Entry → Option Entry → Bool
+ready_in clash s earlier None = false
+ready_in clash s earlier (Some entry) = is_pending entry.progress && is_free_of clash s earlier entry.request
+
+-- the request at this position is pending, and clashes with no earlier one that is
+abbrev pub is_ready : {S : Type 0} → ClashOf S → Machine S → ℕ → Bool
+is_ready clash machine k = ready_in clash machine.state (take k machine.queue) (slice_get machine.queue k)
+
+abbrev pub pending_in : Option Entry → Bool
+pending_in None = false
+pending_in (Some entry) = is_pending entry.progress
+
+-- the request at this position is pending
+abbrev pub is_pending_at : List Entry → ℕ → Bool
+is_pending_at queue k = pending_in (slice_get queue k)
+
+abbrev pub reply_in : Option Entry → Option Reply
+reply_in None = None
+reply_in (Some entry) = reply_of entry.progress
+  where
+    abbrev reply_of : Progress → Option Reply
+    reply_of Pending = None
+    reply_of (Done reply) = Some reply
+    reply_of Sent = None
+
+-- the reply of the request at this position, if it is done and not sent
+abbrev pub reply_at : List Entry → ℕ → Option Reply
+reply_at queue k = reply_in (slice_get queue k)
+
+-- the queue without the requests at its front that were sent
+unfoldable pub from_unsent : List Entry → List Entry
+from_unsent [] = []
+from_unsent (entry ∷ queue) = if is_sent entry.progress then from_unsent queue else entry ∷ queue
+
+-- ---- acts
+
+-- the queue has room, and no unsent request has the id
+abbrev pub can_take : {S : Type 0} → Machine S → Request → Bool
+can_take machine request = nat_lt (length machine.queue) machine.window && not (is_unsent request.id machine.queue)
+
+-- the request is last in the queue, and pending
+abbrev pub taken : {S : Type 0} → Machine S → Request → Machine S
+taken machine request = record machine { queue = machine.queue ++ record { request = request; progress = Pending } ∷ [] }
+
+-- the request at the position was done: its reply is allowed in the state, and can be encoded
+pub record IsWorked {S : Type 0} (step : StepOf S) (before : Machine S) (k : ℕ) (after : Machine S) : Type 0 where
+  pub front : List Entry
+  pub request : Request
+  pub back : List Entry
+  pub reply : Reply
+  pub queue_is : before.queue ≡ front ++ record { request = request; progress = Pending } ∷ back
+  pub position : length front ≡ k
+  pub allowed : step before.state request reply after.state
+  pub spelled : HasSpelling (reply_packet reply)
+  pub same_window : after.window ≡ before.window
+  pub marked : after.queue ≡ front ++ record { request = request; progress = Done reply } ∷ back
+
+-- the reply of the request at the position was sent
+pub record IsSent {S : Type 0} (before : Machine S) (k : ℕ) (reply : Reply) (after : Machine S) : Type 0 where
+  pub front : List Entry
+  pub request : Request
+  pub back : List Entry
+  pub queue_is : before.queue ≡ front ++ record { request = request; progress = Done reply } ∷ back
+  pub position : length front ≡ k
+  pub marked : after ≡ record before { queue = from_unsent (front ++ record { request = request; progress = Sent } ∷ back) }
+
+-- nothing changed, and there is no event
+pub record IsIdle {S : Type 0} (before : Machine S) (events : List Event) (after : Machine S) : Type 0 where
+  pub unchanged : after ≡ before
+  pub silent : events ≡ []
+
+abbrev pub IsSend : {S : Type 0} → Machine S → ℕ → Option Reply → List Event → Machine S → Type 0
+IsSend before k None events after = IsIdle before events after
+IsSend before k (Some reply) events after = IsSent before k reply after × (events ≡ Replied reply ∷ [])
+
+-- an act, the events that it makes, and the machine after it
+abbrev pub IsAct : {S : Type 0} → StepOf S → ClashOf S → Machine S → Act → List Event → Machine S → Type 0
+IsAct step clash before (Deliver request) events after =
+    if can_take before request then ((after ≡ taken before request) × (events ≡ Asked request ∷ []))
+    else IsIdle before events after
+IsAct step clash before (Work k) events after =
+    if is_ready clash before k then (IsWorked step before k after × (events ≡ []))
+    else IsIdle before events after
+IsAct step clash before (Send k) events after = IsSend before k (reply_at before.queue k) events after
+
+-- acts one after the other, with all their events
+abbrev pub AreActs : {S : Type 0} → StepOf S → ClashOf S → Machine S → List Act → List Event → Machine S → Type 0
+AreActs step clash before [] events after = IsIdle before events after
+AreActs {S} step clash before (act ∷ acts) events after =
+    (mid : Machine S) × (first : List Event) × (rest : List Event) × IsAct step clash before act first mid
+    × AreActs step clash mid acts rest after × (events ≡ first ++ rest)

@@ -1,0 +1,207 @@
+-- What a session of the server reads, writes and logs, and how it ends (draft-ietf-secsh-filexfer-02, sections 3 to 7).
+-- That a packet which cannot be read ends the session, the window, and how a session ends are this profile's own.
+use Rattle.std.specs.Prelude.{◌≡◌, ◌⊎◌, ◌==◌, ◌||◌, ℕ, ◌≤◌, Bool, true, false, List, [], ◌∷◌, ◌++◌, length, map, codes}
+use Rattle.std.specs.Prelude.{Option, Some, None, Result, Ok, Err, IsTrue}
+use Rattle.std.specs.List.{flat_map}
+use Rattle.sftp_wire.specs.declared.errors.Fault.{Fault}
+use Rattle.sftp_wire.specs.declared.errors.WireError.{WireError}
+use Rattle.sftp_wire.specs.declared.errors.WireError.TheVariants.{Unreadable}
+use Rattle.sftp_wire.specs.declared.packets.Packet.{Packet}
+use Rattle.sftp_wire.specs.declared.packets.Packet.TheVariants.{Init, Version, Request as request_packet}
+use Rattle.sftp_wire.specs.declared.packets.Request.{Request}
+use Rattle.sftp_wire.specs.declared.packets.Side.{Side}
+use Rattle.sftp_wire.specs.declared.packets.Side.TheVariants.{Client, Server}
+use Rattle.sftp_wire.specs.Spelling.{spelling, side_of, HasSpelling, posix_rename_name, hardlink_name, fsync_name}
+use Rattle.sftp_wire.specs.Reading.{front_of}
+use Rattle.sftp_wire.specs.Framing.{place_after}
+use Rattle.sftp_transcript.specs.declared.events.Event.{Event}
+use Rattle.sftp_transcript.specs.declared.events.Event.TheVariants.{Asked, Replied}
+use Rattle.sftp_transcript.specs.Transcript.{packet_of, record_text, transcript_opening}
+use Rattle.sftp_transcript.specs.Explained.{Explained, BeginsFrom}
+use Rattle.sftp_tree.specs.Tree.{Tree, trim}
+use Rattle.sftp_handles.specs.State.{State, settled}
+use Rattle.sftp_handles.specs.Allowed.{Allowed}
+use Rattle.sftp_server.specs.declared.ends.Ended.{Ended}
+use Rattle.sftp_server.specs.declared.ends.Ended.TheVariants as ends
+use Rattle.sftp_server.specs.declared.ends.SessionFault.{SessionFault}
+use Rattle.sftp_server.specs.declared.ends.SessionFault.TheVariants as faults
+use Rattle.sftp_server.specs.declared.ends.Stream.{Stream}
+use Rattle.sftp_server.specs.declared.ends.Stream.TheVariants as streams
+
+-- ---- the packets of a session
+
+-- the server's VERSION: version 3, and the extensions that it has, each of version 1 (OpenSSH's PROTOCOL, section 4)
+abbrev pub our_version : Packet
+our_version =
+    Version 3 ((posix_rename_name, codes "1") ∷ (hardlink_name, codes "1") ∷ (fsync_name, codes "1") ∷ [])
+
+-- those of a session with this INIT, once it is open
+abbrev pub session_packets : Packet → List Event → List Packet
+session_packets init events = init ∷ our_version ∷ map packet_of events
+
+abbrev pub spelled_if : Side → Side → List ℕ → List ℕ
+spelled_if Client Client bytes = bytes
+spelled_if Server Server bytes = bytes
+spelled_if Client Server bytes = []
+spelled_if Server Client bytes = []
+
+-- the bytes of the packets of one side
+unfoldable pub sent_by : Side → List Packet → List ℕ
+sent_by side [] = []
+sent_by side (packet ∷ packets) = spelled_if side (side_of packet) (spelling packet) ++ sent_by side packets
+
+-- the bytes of the records of packets; the first record has the opening before it
+abbrev pub recorded : List Packet → List ℕ
+recorded [] = []
+recorded (packet ∷ packets) = transcript_opening ++ flat_map record_text (packet ∷ packets)
+
+-- an INIT of version 3 or more that can be encoded (draft, section 4)
+abbrev pub IsGreeting : Packet → Type 0
+IsGreeting (Init version extensions) = (3 ≤ version) × HasSpelling (Init version extensions)
+IsGreeting (Version version extensions) = ⊥
+IsGreeting (request_packet request) = ⊥
+IsGreeting (Reply reply) = ⊥
+
+-- The session that was opened: what was read is the client's packets and then the rest; what was written is the server's
+-- packets; and the log is the record of both in the order of the session.
+pub record IsOpened (input output log : List ℕ) (init : Packet) (events : List Event) (rest : List ℕ) : Type 0 where
+  pub greeting : IsGreeting init
+  pub read : input ≡ sent_by Client (session_packets init events) ++ rest
+  pub written : output ≡ sent_by Server (session_packets init events)
+  pub logged : log ≡ recorded (session_packets init events)
+
+-- ---- the end of a session that was opened
+
+-- with the events, some reply to a request of this id comes after the last request; `since` says whether one came before
+unfoldable pub answered_last : ℕ → Bool → List Event → Bool
+answered_last id since [] = since
+answered_last id since (Asked request ∷ events) = answered_last id false events
+answered_last id since (Replied reply ∷ events) = answered_last id (since || reply.id == id) events
+
+-- the bytes begin with a request of this id
+pub record BeginsWithId (bytes : List ℕ) (id : ℕ) : Type 0 where
+  pub request : Request
+  pub rest : List ℕ
+  pub spelled : HasSpelling (request_packet request)
+  pub bytes_are : bytes ≡ spelling (request_packet request) ++ rest
+  pub same_id : request.id ≡ id
+
+-- the bytes begin with an INIT
+pub record BeginsWithInit (bytes : List ℕ) : Type 0 where
+  pub version : ℕ
+  pub extensions : List (List ℕ × List ℕ)
+  pub rest : List ℕ
+  pub spelled : HasSpelling (Init version extensions)
+  pub bytes_are : bytes ≡ spelling (Init version extensions) ++ rest
+
+-- Why the rest of the input, at this place of the stream, ends the session. `over` says that no more input comes.
+abbrev pub IsBroken : List Event → List ℕ → ℕ → Type 0 → SessionFault → Type 0
+IsBroken events rest place over (faults.Wire (Unreadable fault at)) =
+    (front_of Client rest ≡ Err fault) × (at ≡ place)
+IsBroken events rest place over (faults.Wire other) = ⊥
+IsBroken events rest place over (faults.IdInUse id) =
+    BeginsWithId rest id × IsTrue (answered_last id false events)
+IsBroken events rest place over faults.BadInit = BeginsWithInit rest
+IsBroken events rest place over (faults.Cut at) =
+    over × (rest ≢ []) × (front_of Client rest ≡ Ok None) × (at ≡ place)
+
+-- the tree of a session's last state, once nothing is open
+abbrev pub closed_tree : State → Tree
+closed_tree last = trim (record last.tree { pins = [] })
+
+-- the events are explained, and the tree is that of the last state
+pub record IsServed (start : Tree) (events : List Event) (end : Tree) : Type 0 where
+  pub last : State
+  pub explained : Explained Allowed (settled start []) events last
+  pub end_is : end ≡ closed_tree last
+
+pub record IsFinished (start : Tree) (input : List ℕ) (over : Type 0) (output log : List ℕ) (end : Tree) : Type 0 where
+  pub init : Packet
+  pub events : List Event
+  pub opened : IsOpened input output log init events []
+  pub served : IsServed start events end
+  pub over : over
+
+pub record IsFaulty (start : Tree) (input : List ℕ) (over : Type 0) (output log : List ℕ) (end : Tree)
+    (fault : SessionFault) : Type 0 where
+  pub init : Packet
+  pub events : List Event
+  pub rest : List ℕ
+  pub opened : IsOpened input output log init events rest
+  pub served : IsServed start events end
+  pub broken : IsBroken events rest (place_after 0 (length (sent_by Client (session_packets init events)))) over fault
+
+-- ---- a session that was not opened
+
+-- the first packet is not an INIT of version 3 or more, or it cannot be read, or the input ended before it was complete
+abbrev pub IsUnopenedBy : List ℕ → Type 0 → SessionFault → Type 0
+IsUnopenedBy input over (faults.Wire (Unreadable fault at)) = (front_of Client input ≡ Err fault) × (at ≡ 0)
+IsUnopenedBy input over (faults.Wire other) = ⊥
+IsUnopenedBy input over (faults.IdInUse id) = ⊥
+IsUnopenedBy input over faults.BadInit =
+    (over × (front_of Client input ≡ Ok None)) ⊎ IsNoGreeting (front_of Client input)
+  where
+    abbrev IsNoGreeting : Result (Option (Packet × ℕ)) Fault → Type 0
+    IsNoGreeting (Ok (Some front)) = IsGreeting front.0 → ⊥
+    IsNoGreeting (Ok None) = ⊥
+    IsNoGreeting (Err fault) = ⊥
+IsUnopenedBy input over (faults.Cut at) = ⊥
+
+pub record IsUnopened (start : Tree) (input : List ℕ) (over : Type 0) (output log : List ℕ) (end : Tree)
+    (fault : SessionFault) : Type 0 where
+  pub by : IsUnopenedBy input over fault
+  pub nothing_written : output ≡ []
+  pub nothing_logged : log ≡ []
+  pub end_is : end ≡ start
+
+-- ---- a session that a failing stream or the want of memory ended
+
+-- what a session may have logged so far: nothing, its INIT, or its packets up to some event
+abbrev pub IsListed : Tree → List Packet → Type 0
+IsListed start [] = Unit {0}
+IsListed start (init ∷ []) = IsGreeting init
+IsListed start (init ∷ version ∷ packets) =
+    IsGreeting init × (version ≡ our_version) × (events : List Event) × (packets ≡ map packet_of events)
+    × BeginsFrom Allowed (settled start []) events
+
+-- the first is a beginning of the second
+abbrev pub IsBeginning : List ℕ → List ℕ → Type 0
+IsBeginning cut whole = (rest : List ℕ) × (whole ≡ cut ++ rest)
+
+-- the record of the packets, cut anywhere in that of the last one; the opening is part of the first
+abbrev pub IsCutInLast : List Packet → List ℕ → Type 0
+IsCutInLast packets log =
+    ((packets ≡ []) × (log ≡ []))
+    ⊎ ((front : List Packet) × (last : Packet) × (cut : List ℕ) × (packets ≡ front ++ last ∷ [])
+        × (log ≡ recorded front ++ cut) × IsBeginning log (recorded packets))
+
+-- what was written and logged of the packets
+abbrev pub IsLeft : Tree → List Packet → List ℕ → List ℕ → Ended → Type 0
+IsLeft start packets output log (ends.Io streams.Reader) =
+    (output ≡ sent_by Server packets) × (log ≡ recorded packets)
+IsLeft start packets output log (ends.Io streams.Writer) =
+    (log ≡ recorded packets)
+    × ((output ≡ sent_by Server packets)
+        ⊎ ((packet : Packet) × (cut : List ℕ) × (side_of packet ≡ Server) × IsListed start (packets ++ packet ∷ [])
+            × IsBeginning cut (spelling packet) × (output ≡ sent_by Server packets ++ cut)))
+IsLeft start packets output log (ends.Io streams.Log) = (output ≡ sent_by Server packets) × IsCutInLast packets log
+IsLeft start packets output log ends.NoMemory = (output ≡ sent_by Server packets) × IsCutInLast packets log
+IsLeft start packets output log other = ⊥
+
+pub record IsStopped (start : Tree) (input output log : List ℕ) (ended : Ended) : Type 0 where
+  pub packets : List Packet
+  pub rest : List ℕ
+  pub listed : IsListed start packets
+  pub read : input ≡ sent_by Client packets ++ rest
+  pub left : IsLeft start packets output log ended
+
+-- ---- the whole
+
+-- What was read of the input, what was written and what was logged, and how the session ended. `over` says that the
+-- input had ended.
+abbrev pub Served : Tree → List ℕ → Type 0 → List ℕ → List ℕ → Ended → Type 0
+Served start input over output log (ends.Finished end) = IsFinished start input over output log end
+Served start input over output log (ends.Fault end fault) =
+    IsUnopened start input over output log end fault ⊎ IsFaulty start input over output log end fault
+Served start input over output log (ends.Io stream) = IsStopped start input output log (ends.Io stream)
+Served start input over output log ends.NoMemory = IsStopped start input output log ends.NoMemory

@@ -1,0 +1,135 @@
+//! The core of a server: takes requests, does them, and gives their replies
+//! (draft-ietf-secsh-filexfer-02, section 6.1).
+ghost use Rattle.std.specs.Prelude.{◌≡◌, ◌≢◌, ◌≤◌, [], true, false, length, IsTrue, IfOk, IfErr, OnOk, OnErr, IfSome, IfNone};
+ghost use Rattle.sftp_handles.specs.State as states;
+ghost use Rattle.sftp_handles.specs.Allowed.{Allowed};
+ghost use Rattle.sftp_server.specs.declared.refusals.Did.TheVariants as did;
+ghost use Rattle.sftp_server.specs.Machine.{at_start, taken, can_take, is_ready, is_pending_at, reply_at, IsWorked, IsSent};
+ghost use Rattle.sftp_server.specs.Core.{server_clash, started, IsRefusedFor};
+ghost use Rattle.sftp_server.specs.Served.{closed_tree};
+
+use crate::queue::{Entry, Progress};
+use crate::refusals::{Did, Refuse};
+use indexmap::IndexMap;
+use sftp_handles::{Session, SlabTable};
+use sftp_tree::{NoMemory, Tree};
+use sftp_wire::{Reply, Request};
+use std::collections::VecDeque;
+use std::marker::Model;
+
+/// A session, and the requests from the oldest unsent one on, each pending, done or sent. Requests are done in the order
+/// asked; their replies may be sent in any order.
+#[derive(Drop)]
+pub struct Core {
+    session: Session<SlabTable>,
+    queue: VecDeque<Entry>,
+    /// The ids of the unsent requests.
+    ids: IndexMap<u32, ()>,
+    /// The position of the first pending request, or the length of the queue.
+    first_pending: usize,
+    window: usize,
+}
+
+impl Model for Core {
+    ghost use Rattle.sftp_handles.specs.State.{State};
+    ghost use Rattle.sftp_server.specs.Machine.{Machine};
+    ghost use Rattle.sftp_server.specs.Core.{IsQueue};
+
+    ghost Value = { Machine State };
+
+    ghost view = { λ c. record { state = c.session; window = c.window; queue = c.queue.items } };
+
+    ghost invariant = { λ c. IsQueue c.queue.items c.ids.entries c.first_pending c.window };
+}
+
+impl Core {
+    /// A core on a tree, with nothing open and nothing asked. The pins that the tree came with are taken away. The queue
+    /// has at most `window` requests, 1 to 1,024.
+    ///
+    /// # Errors
+    ///
+    /// `NoMemory` if memory runs out.
+    pub fn new(tree: Tree, window: usize) -> Result<Core, NoMemory>
+        requires { (1 ≤ window) × (window ≤ 1024) }
+        ensures { IfOk result (λ core. core ≡ at_start (started tree) window) }
+    {
+        let alloc = tree.allocator();
+        Ok(Core {
+            session: Session::new(tree)?,
+            queue: VecDeque::new(alloc),
+            ids: IndexMap::new(alloc),
+            first_pending: 0,
+            window,
+        })
+    }
+
+    /// Takes a request: it is then last in the queue, and pending.
+    ///
+    /// # Errors
+    ///
+    /// The request comes back, and nothing changes. `Full` if the queue has `window` requests; otherwise `IdInUse` if an
+    /// unsent request has its id; `NoMemory` if memory runs out.
+    pub fn deliver(&mut self, request: Request) -> Result<(), (Request, Refuse)>
+        ensures could { OnOk result (IsTrue (can_take self.old request)) }
+        ensures taken { OnOk result (self.new ≡ taken self.old request) }
+        ensures returned { IfErr result (λ e. e.0 ≡ request) }
+        ensures refused { IfErr result (λ e. IsRefusedFor self.old request e.1) }
+        ensures err { OnErr result (self.new ≡ self.old) }
+    {
+        Err((request, Refuse::NoMemory))
+    }
+
+    /// Whether the request at this position is pending, and no request before it is.
+    pub fn ready(&self, k: usize) -> bool
+        ensures { result ≡ is_ready server_clash self.now k }
+    {
+        k == self.first_pending && k < self.queue.len()
+    }
+
+    /// Does the request at this position if it is ready. Only `Done` changes anything.
+    ///
+    /// # Errors
+    ///
+    /// `NoMemory` if memory runs out; nothing changes.
+    pub fn work(&mut self, k: usize) -> Result<Did, NoMemory>
+        // It is done exactly if it was ready.
+        ensures was_ready { IfOk result (λ d. d ≡ did.Done → IsTrue (is_ready server_clash self.old k)) }
+        ensures done { IfOk result (λ d. d ≡ did.Done → IsWorked Allowed self.old k self.new) }
+        // It is not ready if it is pending, and something else has to be done first.
+        ensures not_ready { IfOk result (λ d. d ≡ did.NotReady →
+            IsTrue (is_pending_at self.old.queue k) × (is_ready server_clash self.old k ≡ false)) }
+        ensures no_such { IfOk result (λ d. d ≡ did.NoSuch → is_pending_at self.old.queue k ≡ false) }
+        ensures unchanged { IfOk result (λ d. d ≢ did.Done → self.new ≡ self.old) }
+        ensures err { OnErr result (self.new ≡ self.old) }
+    {
+        Err(NoMemory)
+    }
+
+    /// The reply of the request at this position, which is then sent, if it is done and not sent. Requests at the front
+    /// that were sent leave the queue. It takes no memory.
+    pub fn send(&mut self, k: usize) -> Option<Reply>
+        ensures reply { result ≡ reply_at self.old.queue k }
+        ensures sent { IfSome result (λ reply. IsSent self.old k reply self.new) }
+        ensures unchanged { IfNone result (self.new ≡ self.old) }
+    {
+        None
+    }
+
+    /// The tree of the session with nothing open, once each request was answered. It takes no memory.
+    ///
+    /// # Errors
+    ///
+    /// The core as it was if the queue is not empty.
+    pub fn finish(self) -> Result<Tree, Core>
+        ensures tree { IfOk result (λ tree. tree ≡ closed_tree self.state) }
+        ensures was_empty { OnOk result (self.queue ≡ []) }
+        ensures not_empty { OnErr result (self.queue ≢ []) }
+        ensures same { IfErr result (λ core. core ≡ self) }
+    {
+        if self.queue.is_empty() {
+            Ok(self.session.into_tree())
+        } else {
+            Err(self)
+        }
+    }
+}

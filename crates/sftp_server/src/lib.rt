@@ -1,0 +1,19 @@
+//! A server of SFTP sessions: takes requests, does them, answers them, and records what it did
+//! (draft-ietf-secsh-filexfer-02, sections 3 to 7).
+#![tactic(auto)]
+
+mod acts;
+mod cores;
+mod ends;
+pub mod laws;
+mod queue;
+mod refusals;
+mod schedules;
+mod scripts;
+
+pub use acts::Act;
+pub use cores::Core;
+pub use ends::{Ended, SessionFault, Stream};
+pub use refusals::{Did, Refuse};
+pub use schedules::{InOrder, Schedule, Shuffle};
+pub use scripts::{WINDOW, run_script};

@@ -1,0 +1,43 @@
+//! In which order a server does what it may do.
+ghost use Rattle.std.specs.Prelude.{◌≡◌, ℕ, ◌*◌, ◌+◌, ◌^◌};
+ghost use Rattle.std.specs.Int.RustNames.{};
+
+/// Chooses among what a server may do next.
+pub trait Schedule {
+    /// A choice among `count` possible acts, which are numbered from 0 in the order of the queue; the act that is done is
+    /// the result modulo `count`. Nothing is promised of the choice.
+    fn pick(&mut self, count: usize) -> usize;
+}
+
+/// The schedule that always chooses the first act, so that requests are answered in the order asked.
+#[derive(Clone, Copy, Debug, Drop)]
+pub struct InOrder;
+
+impl Schedule for InOrder {
+    fn pick(&mut self, _count: usize) -> usize {
+        0
+    }
+}
+
+/// A schedule of pseudorandom choices, by a linear congruential generator.
+#[derive(Clone, Copy, Debug, Drop)]
+pub struct Shuffle {
+    state: u64,
+}
+
+impl Shuffle {
+    /// The schedule of this seed.
+    pub fn new(seed: u64) -> Shuffle {
+        Shuffle { state: seed }
+    }
+}
+
+impl Schedule for Shuffle {
+    fn pick(&mut self, _count: usize) -> usize {
+        self.state = self
+            .state
+            .wrapping_mul(6_364_136_223_846_793_005)
+            .wrapping_add(1_442_695_040_888_963_407);
+        (self.state >> 33) as usize
+    }
+}
