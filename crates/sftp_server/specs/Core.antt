@@ -1,26 +1,19 @@
 -- The core of this server: the general machine over the states of sessions.
-use Rattle.std.specs.Prelude.{◌≡◌, ◌==◌, nat_lt, nat_eq, ℕ, ◌≤◌, Bool, true, false, List, [], ◌++◌, length, take, drop}
-use Rattle.std.specs.Prelude.{is_some, not, Option, Some, None, IsTrue, if◌then◌else◌}
+use Rattle.std.specs.Prelude.{◌≡◌, nat_lt, ℕ, ◌≤◌, true, List, [], length, IsTrue}
 use Rattle.std.specs.List.{AllByRecursion}
-use Rattle.std.specs.Map.{lookup}
-use Rattle.sftp_wire.specs.declared.packets.Packet.TheVariants.{Reply as reply_packet}
 use Rattle.sftp_wire.specs.declared.packets.Request.{Request}
-use Rattle.sftp_wire.specs.Spelling.{HasSpelling}
 use Rattle.sftp_transcript.specs.declared.events.Event.{Event}
-use Rattle.sftp_tree.specs.Tree.{Tree, trim}
+use Rattle.sftp_tree.specs.Tree.{Tree}
 use Rattle.sftp_handles.specs.State.{State, settled}
 use Rattle.sftp_handles.specs.Allowed.{Allowed}
 use Rattle.sftp_server.specs.declared.queue.Entry.{Entry}
-use Rattle.sftp_server.specs.declared.queue.Progress.{Progress}
-use Rattle.sftp_server.specs.declared.queue.Progress.TheVariants.{Pending, Done, Sent}
 use Rattle.sftp_server.specs.declared.acts.Act.{Act}
 use Rattle.sftp_server.specs.declared.acts.Act.TheVariants.{Deliver, Work, Send}
 use Rattle.sftp_handles.specs.Laws.{IsAskable}
 use Rattle.sftp_tree.specs.AskValues.{IsAsk}
 use Rattle.sftp_server.specs.declared.refusals.Refuse.{Refuse}
 use Rattle.sftp_server.specs.declared.refusals.Refuse.TheVariants.{Full, IdInUse, NoMemory}
-use Rattle.sftp_server.specs.Machine.{Machine, at_start, ClashOf, AreActs, is_pending, is_sent, is_unsent, from_unsent}
-use Rattle.sftp_server.specs.Machine.{can_take}
+use Rattle.sftp_server.specs.Machine.{Machine, at_start, ClashOf, AreActs, is_unsent, can_take}
 
 -- The server works in the order asked: any two requests clash.
 abbrev pub server_clash : ClashOf State
@@ -44,40 +37,11 @@ IsRefusedFor machine request NoMemory = IsTrue (can_take machine request)
 
 -- ---- what the core keeps
 
-abbrev pub IsWorkedEntry : Entry → Type 0
-IsWorkedEntry entry = is_pending entry.progress ≡ false
-
-abbrev pub IsPendingEntry : Entry → Type 0
-IsPendingEntry entry = IsTrue (is_pending entry.progress)
-
-abbrev pub IsReplied : Progress → Type 0
-IsReplied Pending = Unit {0}
-IsReplied (Done reply) = HasSpelling (reply_packet reply)
-IsReplied Sent = Unit {0}
-
--- the reply of a request that is done can be encoded
-abbrev pub HasGoodReply : Entry → Type 0
-HasGoodReply entry = IsReplied entry.progress
-
--- no two unsent requests have one id
-unfoldable pub AreUnsentApart : List Entry → Type 0
-AreUnsentApart [] = Unit {0}
-AreUnsentApart (entry ∷ queue) =
-    (is_sent entry.progress ≡ false → is_unsent entry.request.id queue ≡ false) × AreUnsentApart queue
-
--- The queue of a core, the ids of its unsent requests, and the position of its first pending one: the requests before it
--- are done or sent, those from it on are pending.
-pub record IsQueue (queue : List Entry) (ids : List (ℕ × Unit {0})) (first_pending window : ℕ) : Type 0 where
+-- the window is at most 1,024, and the queue has no more requests
+pub record IsBounded (window : ℕ) (queue : List Entry) : Type 0 where
   pub some : 1 ≤ window
   pub bounded : window ≤ 1024
   pub few : length queue ≤ window
-  pub front : from_unsent queue ≡ queue
-  pub indexed : (id : ℕ) → is_some (lookup (nat_eq id) ids) ≡ is_unsent id queue
-  pub apart : AreUnsentApart queue
-  pub within : first_pending ≤ length queue
-  pub worked : AllByRecursion IsWorkedEntry (take first_pending queue)
-  pub pending : AllByRecursion IsPendingEntry (drop first_pending queue)
-  pub replies : AllByRecursion HasGoodReply queue
 
 -- ---- requests that can be delivered
 

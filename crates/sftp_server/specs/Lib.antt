@@ -1,3 +1,4 @@
 pub mod Machine
+pub mod Queue
 pub mod Core
 pub mod Served

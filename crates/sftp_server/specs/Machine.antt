@@ -2,7 +2,7 @@
 -- order asked, done when nothing that was asked earlier and is not done yet clashes with them, and answered in any order
 -- (draft-ietf-secsh-filexfer-02, section 6.1). The states, which replies they allow, and which requests clash are
 -- parameters. That the queue is bounded is this profile's own.
-use Rattle.std.specs.Prelude.{◌≡◌, ◌⊎◌, ◌==◌, ◌&&◌, ◌||◌, not, nat_lt, ℕ, ◌<◌, Bool, true, false, List, [], ◌∷◌, ◌++◌}
+use Rattle.std.specs.Prelude.{◌≡◌, ◌==◌, ◌&&◌, ◌||◌, not, nat_lt, ℕ, Bool, true, false, List, [], ◌∷◌, ◌++◌}
 use Rattle.std.specs.Prelude.{length, take, slice_get, Option, Some, None, IsTrue, if◌then◌else◌}
 use Rattle.sftp_wire.specs.declared.packets.Packet.TheVariants.{Reply as reply_packet}
 use Rattle.sftp_wire.specs.declared.packets.Request.{Request}
@@ -69,14 +69,14 @@ pending_in (Some entry) = is_pending entry.progress
 abbrev pub is_pending_at : List Entry → ℕ → Bool
 is_pending_at queue k = pending_in (slice_get queue k)
 
+abbrev pub reply_of : Progress → Option Reply
+reply_of Pending = None
+reply_of (Done reply) = Some reply
+reply_of Sent = None
+
 abbrev pub reply_in : Option Entry → Option Reply
 reply_in None = None
 reply_in (Some entry) = reply_of entry.progress
-  where
-    abbrev reply_of : Progress → Option Reply
-    reply_of Pending = None
-    reply_of (Done reply) = Some reply
-    reply_of Sent = None
 
 -- the reply of the request at this position, if it is done and not sent
 abbrev pub reply_at : List Entry → ℕ → Option Reply
@@ -124,19 +124,27 @@ pub record IsIdle {S : Type 0} (before : Machine S) (events : List Event) (after
   pub unchanged : after ≡ before
   pub silent : events ≡ []
 
-abbrev pub IsSend : {S : Type 0} → Machine S → ℕ → Option Reply → List Event → Machine S → Type 0
-IsSend before k None events after = IsIdle before events after
-IsSend before k (Some reply) events after = IsSent before k reply after × (events ≡ Replied reply ∷ [])
+-- what comes of a delivery, by whether the request can be taken
+abbrev pub IsDelivery : {S : Type 0} → Bool → Machine S → Request → List Event → Machine S → Type 0
+IsDelivery true before request events after = (after ≡ taken before request) × (events ≡ Asked request ∷ [])
+IsDelivery false before request events after = IsIdle before events after
+
+-- what comes of work, by whether the request is ready
+abbrev pub IsWork : {S : Type 0} → StepOf S → Bool → Machine S → ℕ → List Event → Machine S → Type 0
+IsWork step true before k events after = IsWorked step before k after × (events ≡ [])
+IsWork step false before k events after = IsIdle before events after
+
+-- what comes of sending, by the reply, if there is one
+abbrev pub IsSend : {S : Type 0} → Option Reply → Machine S → ℕ → List Event → Machine S → Type 0
+IsSend (Some reply) before k events after = IsSent before k reply after × (events ≡ Replied reply ∷ [])
+IsSend None before k events after = IsIdle before events after
 
 -- an act, the events that it makes, and the machine after it
 abbrev pub IsAct : {S : Type 0} → StepOf S → ClashOf S → Machine S → Act → List Event → Machine S → Type 0
 IsAct step clash before (Deliver request) events after =
-    if can_take before request then ((after ≡ taken before request) × (events ≡ Asked request ∷ []))
-    else IsIdle before events after
-IsAct step clash before (Work k) events after =
-    if is_ready clash before k then (IsWorked step before k after × (events ≡ []))
-    else IsIdle before events after
-IsAct step clash before (Send k) events after = IsSend before k (reply_at before.queue k) events after
+    IsDelivery (can_take before request) before request events after
+IsAct step clash before (Work k) events after = IsWork step (is_ready clash before k) before k events after
+IsAct step clash before (Send k) events after = IsSend (reply_at before.queue k) before k events after
 
 -- acts one after the other, with all their events
 abbrev pub AreActs : {S : Type 0} → StepOf S → ClashOf S → Machine S → List Act → List Event → Machine S → Type 0

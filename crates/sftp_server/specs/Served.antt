@@ -1,13 +1,13 @@
 -- What a session of the server reads, writes and logs, and how it ends (draft-ietf-secsh-filexfer-02, sections 3 to 7).
 -- That a packet which cannot be read ends the session, the window, and how a session ends are this profile's own.
-use Rattle.std.specs.Prelude.{◌≡◌, ◌⊎◌, ◌==◌, ◌||◌, ℕ, ◌≤◌, Bool, true, false, List, [], ◌∷◌, ◌++◌, length, map, codes}
-use Rattle.std.specs.Prelude.{Option, Some, None, Result, Ok, Err, IsTrue}
+use Rattle.std.specs.Prelude.{◌≡◌, ◌≢◌, ◌⊎◌, ◌==◌, ◌||◌, ℕ, ◌≤◌, Bool, true, false, List, [], ◌∷◌, ◌++◌, length}
+use Rattle.std.specs.Prelude.{map, codes, Option, Some, None, Result, Ok, Err, IsTrue}
 use Rattle.std.specs.List.{flat_map}
 use Rattle.sftp_wire.specs.declared.errors.Fault.{Fault}
 use Rattle.sftp_wire.specs.declared.errors.WireError.{WireError}
 use Rattle.sftp_wire.specs.declared.errors.WireError.TheVariants.{Unreadable}
 use Rattle.sftp_wire.specs.declared.packets.Packet.{Packet}
-use Rattle.sftp_wire.specs.declared.packets.Packet.TheVariants.{Init, Version, Request as request_packet}
+use Rattle.sftp_wire.specs.declared.packets.Packet.TheVariants.{Init, Version, Request as request_packet, Reply as reply_packet}
 use Rattle.sftp_wire.specs.declared.packets.Request.{Request}
 use Rattle.sftp_wire.specs.declared.packets.Side.{Side}
 use Rattle.sftp_wire.specs.declared.packets.Side.TheVariants.{Client, Server}
@@ -60,7 +60,7 @@ abbrev pub IsGreeting : Packet → Type 0
 IsGreeting (Init version extensions) = (3 ≤ version) × HasSpelling (Init version extensions)
 IsGreeting (Version version extensions) = ⊥
 IsGreeting (request_packet request) = ⊥
-IsGreeting (Reply reply) = ⊥
+IsGreeting (reply_packet reply) = ⊥
 
 -- The session that was opened: what was read is the client's packets and then the rest; what was written is the server's
 -- packets; and the log is the record of both in the order of the session.
@@ -120,7 +120,7 @@ pub record IsFinished (start : Tree) (input : List ℕ) (over : Type 0) (output 
   pub events : List Event
   pub opened : IsOpened input output log init events []
   pub served : IsServed start events end
-  pub over : over
+  pub ended : over
 
 pub record IsFaulty (start : Tree) (input : List ℕ) (over : Type 0) (output log : List ℕ) (end : Tree)
     (fault : SessionFault) : Type 0 where
@@ -133,6 +133,12 @@ pub record IsFaulty (start : Tree) (input : List ℕ) (over : Type 0) (output lo
 
 -- ---- a session that was not opened
 
+-- a packet in front that is not an INIT of version 3 or more
+abbrev pub IsNoGreeting : Result (Option (Packet × ℕ)) Fault → Type 0
+IsNoGreeting (Ok (Some front)) = IsGreeting front.0 → ⊥
+IsNoGreeting (Ok None) = ⊥
+IsNoGreeting (Err fault) = ⊥
+
 -- the first packet is not an INIT of version 3 or more, or it cannot be read, or the input ended before it was complete
 abbrev pub IsUnopenedBy : List ℕ → Type 0 → SessionFault → Type 0
 IsUnopenedBy input over (faults.Wire (Unreadable fault at)) = (front_of Client input ≡ Err fault) × (at ≡ 0)
@@ -140,11 +146,6 @@ IsUnopenedBy input over (faults.Wire other) = ⊥
 IsUnopenedBy input over (faults.IdInUse id) = ⊥
 IsUnopenedBy input over faults.BadInit =
     (over × (front_of Client input ≡ Ok None)) ⊎ IsNoGreeting (front_of Client input)
-  where
-    abbrev IsNoGreeting : Result (Option (Packet × ℕ)) Fault → Type 0
-    IsNoGreeting (Ok (Some front)) = IsGreeting front.0 → ⊥
-    IsNoGreeting (Ok None) = ⊥
-    IsNoGreeting (Err fault) = ⊥
 IsUnopenedBy input over (faults.Cut at) = ⊥
 
 pub record IsUnopened (start : Tree) (input : List ℕ) (over : Type 0) (output log : List ℕ) (end : Tree)

@@ -1,20 +1,21 @@
 //! The core of a server: takes requests, does them, and gives their replies
 //! (draft-ietf-secsh-filexfer-02, section 6.1).
 ghost use Rattle.std.specs.Prelude.{◌≡◌, ◌≢◌, ◌≤◌, [], true, false, length, IsTrue, IfOk, IfErr, OnOk, OnErr, IfSome, IfNone};
+ghost use Rattle.std.specs.Prelude.{◌↔◌, nat_lt, Some, if◌then◌else◌};
 ghost use Rattle.sftp_handles.specs.State as states;
 ghost use Rattle.sftp_handles.specs.Allowed.{Allowed};
 ghost use Rattle.sftp_server.specs.declared.refusals.Did.TheVariants as did;
+ghost use Rattle.sftp_server.specs.declared.refusals.Refuse.TheVariants.{Full as full, IdInUse as in_use, NoMemory as no_memory};
+ghost use Rattle.sftp_server.specs.Machine.{is_unsent};
 ghost use Rattle.sftp_server.specs.Machine.{at_start, taken, can_take, is_ready, is_pending_at, reply_at, IsWorked, IsSent};
 ghost use Rattle.sftp_server.specs.Core.{server_clash, started, IsRefusedFor};
 ghost use Rattle.sftp_server.specs.Served.{closed_tree};
 
-use crate::queue::{Entry, Progress};
+use crate::queue::Queue;
 use crate::refusals::{Did, Refuse};
-use indexmap::IndexMap;
 use sftp_handles::{Session, SlabTable};
 use sftp_tree::{NoMemory, Tree};
 use sftp_wire::{Reply, Request};
-use std::collections::VecDeque;
 use std::marker::Model;
 
 /// A session, and the requests from the oldest unsent one on, each pending, done or sent. Requests are done in the order
@@ -22,24 +23,20 @@ use std::marker::Model;
 #[derive(Drop)]
 pub struct Core {
     session: Session<SlabTable>,
-    queue: VecDeque<Entry>,
-    /// The ids of the unsent requests.
-    ids: IndexMap<u32, ()>,
-    /// The position of the first pending request, or the length of the queue.
-    first_pending: usize,
+    queue: Queue,
     window: usize,
 }
 
 impl Model for Core {
     ghost use Rattle.sftp_handles.specs.State.{State};
     ghost use Rattle.sftp_server.specs.Machine.{Machine};
-    ghost use Rattle.sftp_server.specs.Core.{IsQueue};
+    ghost use Rattle.sftp_server.specs.Core.{IsBounded};
 
     ghost Value = { Machine State };
 
-    ghost view = { λ c. record { state = c.session; window = c.window; queue = c.queue.items } };
+    ghost view = { λ c. record { state = c.session; window = c.window; queue = c.queue } };
 
-    ghost invariant = { λ c. IsQueue c.queue.items c.ids.entries c.first_pending c.window };
+    ghost invariant = { λ c. IsBounded c.window c.queue };
 }
 
 impl Core {
@@ -56,9 +53,7 @@ impl Core {
         let alloc = tree.allocator();
         Ok(Core {
             session: Session::new(tree)?,
-            queue: VecDeque::new(alloc),
-            ids: IndexMap::new(alloc),
-            first_pending: 0,
+            queue: Queue::new(alloc),
             window,
         })
     }
@@ -76,14 +71,36 @@ impl Core {
         ensures refused { IfErr result (λ e. IsRefusedFor self.old request e.1) }
         ensures err { OnErr result (self.new ≡ self.old) }
     {
-        Err((request, Refuse::NoMemory))
+        match self.refusal(request.id) {
+            Some(refuse) => Err((request, refuse)),
+            None => match self.queue.push(request) {
+                Ok(()) => Ok(()),
+                Err(request) => Err((request, Refuse::NoMemory)),
+            },
+        }
+    }
+
+    /// Why no request of this id can be taken, memory aside.
+    fn refusal(&self, id: u32) -> Option<Refuse>
+        ensures full { (result ≡ Some full) ↔ (self.now.window ≤ length self.now.queue) }
+        ensures in_use { (result ≡ Some in_use)
+            ↔ (IsTrue (nat_lt (length self.now.queue) self.now.window) × IsTrue (is_unsent id self.now.queue)) }
+        ensures other { result ≢ Some no_memory }
+    {
+        if self.queue.len() >= self.window {
+            Some(Refuse::Full)
+        } else if self.queue.has_unsent(id) {
+            Some(Refuse::IdInUse)
+        } else {
+            None
+        }
     }
 
     /// Whether the request at this position is pending, and no request before it is.
     pub fn ready(&self, k: usize) -> bool
         ensures { result ≡ is_ready server_clash self.now k }
     {
-        k == self.first_pending && k < self.queue.len()
+        self.queue.first_pending() == Some(k)
     }
 
     /// Does the request at this position if it is ready. Only `Done` changes anything.
@@ -102,7 +119,26 @@ impl Core {
         ensures unchanged { IfOk result (λ d. d ≢ did.Done → self.new ≡ self.old) }
         ensures err { OnErr result (self.new ≡ self.old) }
     {
-        Err(NoMemory)
+        if !self.ready(k) {
+            return Ok(self.not_done(k));
+        }
+        let Some(request) = self.queue.next_request() else {
+            return Ok(Did::NoSuch);
+        };
+        let reply = self.session.answer(request)?;
+        self.queue.complete(reply);
+        Ok(Did::Done)
+    }
+
+    /// What comes of work on the request at this position, which is not ready.
+    fn not_done(&self, k: usize) -> Did
+        ensures { result ≡ (if is_pending_at self.now.queue k then did.NotReady else did.NoSuch) }
+    {
+        if self.queue.is_pending(k) {
+            Did::NotReady
+        } else {
+            Did::NoSuch
+        }
     }
 
     /// The reply of the request at this position, which is then sent, if it is done and not sent. Requests at the front
@@ -112,7 +148,7 @@ impl Core {
         ensures sent { IfSome result (λ reply. IsSent self.old k reply self.new) }
         ensures unchanged { IfNone result (self.new ≡ self.old) }
     {
-        None
+        self.queue.send(k)
     }
 
     /// The tree of the session with nothing open, once each request was answered. It takes no memory.
@@ -126,7 +162,7 @@ impl Core {
         ensures not_empty { OnErr result (self.queue ≢ []) }
         ensures same { IfErr result (λ core. core ≡ self) }
     {
-        if self.queue.is_empty() {
+        if self.queue.len() == 0 {
             Ok(self.session.into_tree())
         } else {
             Err(self)

@@ -1,6 +1,18 @@
-//! The queue of a server: the requests from the oldest unsent one on.
+//! The queue of a server: the requests from the oldest unsent one on, each pending, done or sent.
+ghost use Rattle.std.specs.Prelude.{◌≡◌, ◌≢◌, ◌==◌, ◌<◌, ◌+◌, ◌++◌, [], ◌∷◌, Some, None, true, false, length, nat_lt, drop, IsTrue};
+ghost use Rattle.std.specs.Prelude.{slice_get, IfOk, IfErr, OnOk, OnErr, IfSome, IfNone, option_copied, MatchOption};
+ghost use Rattle.sftp_server.specs.declared.queue.Progress.TheVariants as progress;
+ghost use Rattle.sftp_server.specs.Machine.{is_unsent, is_pending, is_pending_at, reply_at, from_unsent};
+ghost use Rattle.sftp_server.specs.Queue.{done_count, first_pending_of, next_request_of, with_progress, sent_in};
+ghost use Rattle.std.specs.Option.{option_map};
 
+use crate::refusals::Refuse;
+use indexmap::IndexMap;
 use sftp_wire::{Reply, Request};
+use std::alloc::Global;
+use std::collections::VecDeque;
+use std::marker::Model;
+use std::mem::replace;
 
 /// How far a request has come.
 #[derive(Drop)]
@@ -18,4 +30,187 @@ pub enum Progress {
 pub struct Entry {
     pub request: Request,
     pub progress: Progress,
+}
+
+/// The requests from the oldest unsent one on, in the order asked. Those that are done or sent come before those that are
+/// pending.
+#[derive(Drop)]
+pub(crate) struct Queue {
+    entries: VecDeque<Entry>,
+    /// The ids of the unsent requests.
+    ids: IndexMap<u32, ()>,
+    /// The position of the first pending request, or the length of the queue.
+    first_pending: usize,
+    /// How many requests are done and not sent.
+    done: usize,
+}
+
+impl Model for Queue {
+    ghost use Rattle.std.specs.Prelude.{List};
+    ghost use Rattle.sftp_server.specs.declared.queue.Entry.{Entry};
+    ghost use Rattle.sftp_server.specs.Queue.{IsQueue};
+
+    ghost Value = { List Entry };
+
+    ghost view = { λ q. q.entries.items };
+
+    ghost invariant = { λ q. IsQueue q.entries.items q.ids.entries q.first_pending q.done };
+}
+
+impl Queue {
+    /// The queue of no requests.
+    pub(crate) fn new(alloc: Global) -> Queue
+        ensures { result ≡ [] }
+    {
+        Queue {
+            entries: VecDeque::new(alloc),
+            ids: IndexMap::new(alloc),
+            first_pending: 0,
+            done: 0,
+        }
+    }
+
+    /// How many requests there are.
+    pub(crate) fn len(&self) -> usize
+        ensures { result ≡ length self.now }
+    {
+        self.entries.len()
+    }
+
+    /// Whether an unsent request has this id.
+    pub(crate) fn has_unsent(&self, id: u32) -> bool
+        ensures { result ≡ is_unsent id self.now }
+    {
+        self.ids.contains_key(&id)
+    }
+
+    /// Puts a request at the end, pending.
+    ///
+    /// # Errors
+    ///
+    /// The request comes back if memory runs out; nothing changes.
+    pub(crate) fn push(&mut self, request: Request) -> Result<(), Request>
+        requires { is_unsent request.id self.old ≡ false }
+        ensures pushed { OnOk result
+            (self.new ≡ self.old ++ record { request = request; progress = progress.Pending } ∷ []) }
+        ensures returned { IfErr result (λ r. r ≡ request) }
+        ensures err { OnErr result (self.new ≡ self.old) }
+    {
+        if self.entries.reserve(1).is_err() || self.ids.insert(request.id, ()).is_err() {
+            return Err(request);
+        }
+        self.entries.push_back_reserved(Entry {
+            request,
+            progress: Progress::Pending,
+        });
+        Ok(())
+    }
+
+    /// The position of the first pending request. All before it are done or sent.
+    pub(crate) fn first_pending(&self) -> Option<usize>
+        ensures first { result ≡ first_pending_of self.now }
+    {
+        if self.first_pending < self.entries.len() {
+            Some(self.first_pending)
+        } else {
+            None
+        }
+    }
+
+    /// Whether the request at this position is pending.
+    pub(crate) fn is_pending(&self, k: usize) -> bool
+        ensures { result ≡ is_pending_at self.now k }
+    {
+        self.first_pending <= k && k < self.entries.len()
+    }
+
+    /// The first pending request.
+    pub(crate) fn next_request(&self) -> Option<&Request>
+        ensures { option_copied result ≡ next_request_of self.now }
+    {
+        match self.entries.get(self.first_pending) {
+            Some(entry) => Some(&entry.request),
+            None => None,
+        }
+    }
+
+    /// Marks the first pending request as done with this reply.
+    pub(crate) fn complete(&mut self, reply: Reply)
+        requires { first_pending_of self.old ≢ None }
+        ensures { IfSome (first_pending_of self.old) (λ k. self.new ≡ with_progress self.old k (progress.Done reply)) }
+    {
+        if let Some(entry) = self.entries.get_mut(self.first_pending) {
+            entry.progress = Progress::Done(reply);
+            self.first_pending += 1;
+            self.done += 1;
+        }
+    }
+
+    /// How many requests are done and not sent.
+    pub(crate) fn done(&self) -> usize
+        ensures { result ≡ done_count self.now }
+    {
+        self.done
+    }
+
+    /// The reply of the request at this position, which is then sent, if it is done and not sent. Requests at the front
+    /// that were sent leave the queue.
+    pub(crate) fn send(&mut self, k: usize) -> Option<Reply>
+        ensures reply { result ≡ reply_at self.old k }
+        ensures sent { IfSome result (λ reply. self.new ≡ from_unsent (with_progress self.old k progress.Sent)) }
+        ensures unchanged { IfNone result (self.new ≡ self.old) }
+    {
+        let (id, reply) = take_reply(&mut self.entries, k)?;
+        self.ids.swap_remove(&id);
+        self.done -= 1;
+        self.first_pending -= drop_sent(&mut self.entries);
+        Some(reply)
+    }
+}
+
+/// The id and the reply of the request at this position, which is then marked as sent, if it is done and not sent.
+fn take_reply(entries: &mut VecDeque<Entry>, k: usize) -> Option<(u32, Reply)>
+    ensures reply { option_map (λ r. r.1) result ≡ reply_at entries.old.items k }
+    ensures id { IfSome result (λ r. IfSome (slice_get entries.old.items k) (λ e. r.0 ≡ e.request.id)) }
+    ensures marked { IfSome result (λ r. entries.new.items ≡ with_progress entries.old.items k progress.Sent) }
+    ensures unchanged { IfNone result (entries.new.items ≡ entries.old.items) }
+{
+    let entry = entries.get_mut(k)?;
+    match entry.progress {
+        Progress::Done(_) => {}
+        Progress::Pending => return None,
+        Progress::Sent => return None,
+    }
+    match replace(&mut entry.progress, Progress::Sent) {
+        Progress::Done(reply) => Some((entry.request.id, reply)),
+        Progress::Pending => unreachable!(),
+        Progress::Sent => unreachable!(),
+    }
+}
+
+/// Takes the requests off the front that were sent, and returns how many these are.
+fn drop_sent(entries: &mut VecDeque<Entry>) -> usize
+    ensures left { entries.new.items ≡ from_unsent entries.old.items }
+    ensures count { result + length entries.new.items ≡ length entries.old.items }
+{
+    let mut count = 0;
+    'sent: while is_sent_first(entries) {
+        entries.pop_front();
+        count += 1;
+    }
+    count
+}
+
+/// Whether the first request was sent.
+fn is_sent_first(entries: &VecDeque<Entry>) -> bool
+    ensures { result ≡ sent_in (slice_get entries.now.items 0) }
+{
+    match entries.front() {
+        Some(entry) => match entry.progress {
+            Progress::Sent => true,
+            Progress::Pending => false,
+            Progress::Done(_) => false,
+        },
+        None => false,
+    }
 }
