@@ -101,6 +101,10 @@ unfolding from_unsent
 unsent-first [] sent = refl
 unsent-first (entry ∷ queue) sent = rw sent refl
 
+pub queue-new : IsQueue [] [] 0 0
+unfolding from_unsent is_unsent AreUnsentApart IsSplit done_count
+queue-new = record { front = refl; indexed = λ id. refl; apart = tt; split = tt; counted = refl }
+
 -- ---- one request more
 
 from_unsent-pushed : (queue : List Entry) (request : Request) → from_unsent queue ≡ queue
@@ -166,6 +170,10 @@ done_count-pushed (entry ∷ queue) request = rw (done_count-pushed queue reques
 pub some_or : (b : Bool) (found : Option (Unit {0})) → is_some (cond b (Some tt) found) ≡ (b || is_some found)
 some_or true found = refl
 some_or false found = refl
+
+pub struck_or : (b : Bool) (found : Option (Unit {0})) → is_some (cond b None found) ≡ (not b && is_some found)
+struck_or true found = refl
+struck_or false found = refl
 
 -- a request that has a new id is pushed, and its id is noted
 pub queue-pushed : (queue : List Entry) (ids after : List (ℕ × Unit {0})) (n done : ℕ) (request : Request)
