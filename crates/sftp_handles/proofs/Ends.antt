@@ -18,7 +18,7 @@ use Rattle.sftp_handles.specs.Seen.{anything, a_file, seen, seen_among, seen_fil
 use Rattle.sftp_handles.specs.Handles.{Handles, open_at}
 use Rattle.sftp_handles.specs.Replies.{Said, gives, ended, is_shown, is_named, says}
 use Rattle.sftp_handles.specs.HandleRequests.{row_of, said_of, change_of}
-use Rattle.sftp_handles.specs.Requests.{causes, answers, target, told_to, said_by, said_to, changed}
+use Rattle.sftp_handles.specs.Requests.{causes, answers, after, told_to, said_by, said_to, changed}
 use Rattle.sftp_handles.specs.Judged.{IsJudgedCode}
 use Rattle.sftp_handles.proofs.GoodStates.{good-settled}
 use Rattle.sftp_handles.proofs.Judgements.{allow-one, not-answered, judged-none, judged-done, judged-refused}
@@ -111,8 +111,8 @@ module _ (s : State) (handle : List ℕ) (offset len : ℕ) (answer : Answer) wh
   read-open (Some (File number flags)) = read-content number flags (content_at s.tree.files number)
   read-open (Some (Listing left)) = refl
 
-  read-keeps : target s (asks.Read handle offset len) answer ≡ settled s.tree s.handles
-  unfolding target seen
+  read-keeps : after s (asks.Read handle offset len) answer ≡ settled s.tree s.handles
+  unfolding after seen
   read-keeps = read-open (open_at s.handles handle)
 
 read-answers : (s : State) (handle : List ℕ) (offset len : ℕ) (said : Said) (answer : Answer)

@@ -21,7 +21,7 @@ use Rattle.sftp_handles.specs.State.{State, Good, IsHandle, IsLeft, settled}
 use Rattle.sftp_handles.specs.Seen.{a_listing, seen, seen_among}
 use Rattle.sftp_handles.specs.Replies.{names_in, names_given, are_some_left, says, struck}
 use Rattle.sftp_handles.specs.HandleRequests.{row_of, causes_of, said_of, change_of}
-use Rattle.sftp_handles.specs.Requests.{causes, answers, target, changed}
+use Rattle.sftp_handles.specs.Requests.{causes, answers, after, changed}
 use Rattle.sftp_handles.specs.Judged.{IsJudged, IsJudgedCode}
 use Rattle.sftp_handles.specs.Giving.{IsListing, gives_names, with_struck}
 use Rattle.sftp_handles.proofs.Pins.{pins-listing_again}
@@ -66,12 +66,12 @@ readdir-given : (s : State) (handle : List ℕ) (items : List NameItem)
 unfolding causes answers seen
 readdir-given s handle items = free-given s handle items (open_at s.handles handle)
 
-readdir-target : (s : State) (handle : List ℕ) (left : Left) (answer : Answer)
+readdir-after : (s : State) (handle : List ℕ) (left : Left) (answer : Answer)
     → open_at s.handles handle ≡ Some (Listing left)
-    → target s (Readdir handle) answer
+    → after s (Readdir handle) answer
     ≡ settled s.tree (with_open s.handles handle (Listing (struck left (names_given answer))))
-unfolding target seen
-readdir-target s handle left answer there =
+unfolding after seen
+readdir-after s handle left answer there =
     ap
     (λ found. changed s handle (change_of (row_of (Readdir handle)) (seen_among s.tree.files a_listing found) answer))
     there
@@ -99,12 +99,12 @@ struck_state s handle items =
 
 module _ (s : State) (handle : List ℕ) (items : List NameItem) (good : Good s) where
   -- it is the state after the reply
-  target-struck : (found : Option Open) → open_at s.handles handle ≡ found → gives_names found items ≡ true
-      → target s (Readdir handle) (Name items) ≡ state_of s.tree (with_struck s.handles handle (names_in items) found)
-  target-struck None there gives = absurd cc
-  target-struck (Some (File number flags)) there gives = absurd cc
-  target-struck (Some (Listing left)) there gives =
-      readdir-target s handle left (Name items) there
+  after-struck : (found : Option Open) → open_at s.handles handle ≡ found → gives_names found items ≡ true
+      → after s (Readdir handle) (Name items) ≡ state_of s.tree (with_struck s.handles handle (names_in items) found)
+  after-struck None there gives = absurd cc
+  after-struck (Some (File number flags)) there gives = absurd cc
+  after-struck (Some (Listing left)) there gives =
+      readdir-after s handle left (Name items) there
       ∙ settled-listing s handle left (struck left (names_in items)) good there
 
   -- and it is good
@@ -130,7 +130,7 @@ module _ (s : State) (handle : List ℕ) (items : List NameItem) (good : Good s)
       (record {
         free = parts.0;
         answered = parts.1;
-        changed = sym (target-struck (open_at s.handles handle) refl gives);
+        changed = sym (after-struck (open_at s.handles handle) refl gives);
       })
 
 -- the code struck the names that the reply gives
@@ -201,14 +201,14 @@ readdir-end : (s : State) (handle message language : List ℕ)
 unfolding causes answers seen
 readdir-end s handle message language = free-end s handle message language (open_at s.handles handle)
 
-target-end : (s : State) (handle message language : List ℕ) (found : Option Open) → Good s
+after-end : (s : State) (handle message language : List ℕ) (found : Option Open) → Good s
     → open_at s.handles handle ≡ found → has_none found ≡ true
-    → target s (Readdir handle) (Status 1 message language) ≡ s
-target-end s handle message language None good there none = absurd cc
-target-end s handle message language (Some (File number flags)) good there none = absurd cc
-target-end s handle message language (Some (Listing (e ∷ es))) good there none = absurd cc
-target-end s handle message language (Some (Listing [])) good there none =
-    readdir-target s handle [] (Status 1 message language) there
+    → after s (Readdir handle) (Status 1 message language) ≡ s
+after-end s handle message language None good there none = absurd cc
+after-end s handle message language (Some (File number flags)) good there none = absurd cc
+after-end s handle message language (Some (Listing (e ∷ es))) good there none = absurd cc
+after-end s handle message language (Some (Listing [])) good there none =
+    readdir-after s handle [] (Status 1 message language) there
     ∙ (settled-listing s handle [] (struck [] []) good there
     ∙ ap (state_of s.tree)
     (ap (λ left. with_open s.handles handle (Listing left)) (struck-none [])
@@ -224,7 +224,7 @@ readdir-ends s handle true good is message language =
     (record {
       free = parts.0;
       answered = parts.1;
-      changed = sym (target-end s handle message language (open_at s.handles handle) good refl (sym is));
+      changed = sym (after-end s handle message language (open_at s.handles handle) good refl (sym is));
     })
 readdir-ends s handle false good is message language =
     let end = Status 1 message language in

@@ -6,7 +6,7 @@ use Rattle.sftp_tree.specs.AskValues.{IsAsk}
 use Rattle.sftp_tree.proofs.Requests.Trees.{PathsLeadWell}
 use Rattle.sftp_handles.specs.State.{State, Good}
 use Rattle.sftp_handles.specs.Allowed.{Allowed}
-use Rattle.sftp_handles.proofs.GoodPaths.{ListingsFit, good-target}
+use Rattle.sftp_handles.proofs.GoodPaths.{ListingsFit, good-after}
 
 pub allowed-good : PathsLeadWell → (s : State) (request : Request) (reply : Reply) (end : State)
     → ListingsFit s.tree → Good s → IsAsk request.ask
@@ -14,5 +14,5 @@ pub allowed-good : PathsLeadWell → (s : State) (request : Request) (reply : Re
 allowed-good paths-lead s request reply end lists good fit a = elim a.step [
   | inl r ↦ subst Good (sym r.unchanged) good
   | inr d ↦ subst Good (sym d.changed)
-      (good-target paths-lead s request.ask reply.answer lists good fit d.free d.answered)
+      (good-after paths-lead s request.ask reply.answer lists good fit d.free d.answered)
 ]

@@ -45,7 +45,7 @@ use Rattle.sftp_handles.specs.declared.opens.Open.TheVariants.{File, Listing}
 use Rattle.sftp_handles.specs.Handles.{Left, open_at, with_open, is_open, pins_of, kept_flags}
 use Rattle.sftp_handles.specs.State.{State, Good, settled, IsOpen, IsHandle, IsLeft, has_handle_left}
 use Rattle.sftp_handles.specs.Replies.{is_new_handle, says}
-use Rattle.sftp_handles.specs.Requests.{causes, answers, target}
+use Rattle.sftp_handles.specs.Requests.{causes, answers, after}
 use Rattle.sftp_handles.specs.Requests.{with_handle_room, told_to, said_by, flags_of, opened_by, with_new}
 use Rattle.sftp_handles.proofs.Pins.{pin-times, pins-open_file, pins-open_listing}
 use Rattle.sftp_handles.proofs.GoodSteps.{room-of, good-through}
@@ -252,29 +252,29 @@ good-other paths-lead s ask answer good fit free none =
     (opens-none (flags_of ask) (told_at s.tree ask) none (led s.tree ask))))
     (good-plain paths-lead s ask good fit free)
 
-pub good-target : PathsLeadWell → (s : State) (ask : Ask) (answer : Answer)
+pub good-after : PathsLeadWell → (s : State) (ask : Ask) (answer : Answer)
     → ListingsFit s.tree → Good s → IsAsk ask
-    → is_none (causes s ask) ≡ true → answers s ask answer ≡ true → Good (target s ask answer)
-unfolding causes answers target
-good-target paths-lead s (Open path pflags attrs) answer lists good fit free answered =
+    → is_none (causes s ask) ≡ true → answers s ask answer ≡ true → Good (after s ask answer)
+unfolding causes answers after
+good-after paths-lead s (Open path pflags attrs) answer lists good fit free answered =
     good-open paths-lead s path pflags attrs good fit free answer answered
-good-target paths-lead s (Opendir path) answer lists good fit free answered =
+good-after paths-lead s (Opendir path) answer lists good fit free answered =
     good-list paths-lead s lists path good fit free answer answered
-good-target paths-lead s (asks.Unknown extension rest) answer lists good fit free answered =
+good-after paths-lead s (asks.Unknown extension rest) answer lists good fit free answered =
     absurd (let one = none-each (when no_causes Unknown true) free Unknown in unknown one)
-good-target paths-lead s (asks.Close handle) answer lists good fit free answered =
+good-after paths-lead s (asks.Close handle) answer lists good fit free answered =
     good-through s (asks.Close handle) handle answer good fit free
-good-target paths-lead s (asks.Read handle offset len) answer lists good fit free answered =
+good-after paths-lead s (asks.Read handle offset len) answer lists good fit free answered =
     good-through s (asks.Read handle offset len) handle answer good fit free
-good-target paths-lead s (asks.Write handle offset bytes) answer lists good fit free answered =
+good-after paths-lead s (asks.Write handle offset bytes) answer lists good fit free answered =
     good-through s (asks.Write handle offset bytes) handle answer good fit free
-good-target paths-lead s (asks.Fstat handle) answer lists good fit free answered =
+good-after paths-lead s (asks.Fstat handle) answer lists good fit free answered =
     good-through s (asks.Fstat handle) handle answer good fit free
-good-target paths-lead s (asks.Fsetstat handle attrs) answer lists good fit free answered =
+good-after paths-lead s (asks.Fsetstat handle attrs) answer lists good fit free answered =
     good-through s (asks.Fsetstat handle attrs) handle answer good fit free
-good-target paths-lead s (asks.Readdir handle) answer lists good fit free answered =
+good-after paths-lead s (asks.Readdir handle) answer lists good fit free answered =
     good-through s (asks.Readdir handle) handle answer good fit free
-good-target paths-lead s (asks.Fsync handle) answer lists good fit free answered =
+good-after paths-lead s (asks.Fsync handle) answer lists good fit free answered =
     good-through s (asks.Fsync handle) handle answer good fit free
-good-target paths-lead s other answer lists good fit free answered =
+good-after paths-lead s other answer lists good fit free answered =
     good-other paths-lead s other answer good fit free (λ place. refl)

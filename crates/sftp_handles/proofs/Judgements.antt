@@ -15,7 +15,7 @@ use Rattle.sftp_tree.specs.Causes.{CauseSet, every_cause, allows, allow, is_none
 use Rattle.sftp_tree.proofs.CauseLaws.Sets.{none-each}
 use Rattle.sftp_handles.specs.State.{State}
 use Rattle.sftp_handles.specs.Replies.{Said, ok, shows, names, gives, ended, lists, opens, says, refuses}
-use Rattle.sftp_handles.specs.Requests.{causes, said_to, answers, target}
+use Rattle.sftp_handles.specs.Requests.{causes, said_to, answers, after}
 use Rattle.sftp_handles.specs.Allowed.{Does, Allowed, stepped, step}
 use Rattle.sftp_handles.specs.Judged.{IsJudged, IsJudgedCode, IsDone}
 use Rattle.sftp_handles.proofs.Steps.{done-step, allowed-step, step-is_allowed}
@@ -112,7 +112,7 @@ judged-refused s ask answer cause holds unlike =
 -- an answer that no cause allows, to a request that then changes nothing: it is allowed if no cause holds and it is the
 -- request's
 pub judged-still : (s : State) (ask : Ask) (answer : Answer) (allowed : Bool)
-    → refuses (causes s ask) answer ≡ false → (answers s ask answer ≡ true → target s ask answer ≡ s)
+    → refuses (causes s ask) answer ≡ false → (answers s ask answer ≡ true → after s ask answer ≡ s)
     → allowed ≡ (is_none (causes s ask) && answers s ask answer) → IsJudged s ask answer allowed s
 judged-still s ask answer true unlike still is =
     let parts = and_parts (is_none (causes s ask)) (answers s ask answer) (sym is) in

@@ -26,7 +26,7 @@ use Rattle.sftp_handles.specs.declared.opens.Open.{Open as Opened}
 use Rattle.sftp_handles.specs.declared.opens.Open.TheVariants.{File, Listing}
 use Rattle.sftp_handles.specs.Handles.{kept_flags}
 use Rattle.sftp_handles.specs.State.{State, Good, settled, has_handle_left}
-use Rattle.sftp_handles.specs.Requests.{causes, target, told_to, flags_of, opened_by, with_new}
+use Rattle.sftp_handles.specs.Requests.{causes, after, told_to, flags_of, opened_by, with_new}
 use Rattle.sftp_handles.specs.Laws.{is_opening, IsOpenedBy}
 use Rattle.sftp_handles.proofs.GoodSteps.{room-of}
 
@@ -106,7 +106,7 @@ something-opened no-link s other good opening free = absurd cc
 opened-after : (s : State) (ask : Ask) (handle : List ℕ) (it : Opened) → IsTrue (is_opening ask)
     → opened_by (flags_of ask) (told_to s.tree ask) ≡ Some it
     → IsOpenedBy s ask handle it
-unfolding target
+unfolding after
 opened-after s (Open path pflags attrs) handle it opening is =
     ap (λ o. settled (outcome s.tree (Open path pflags attrs)) (with_new s.handles o (replies.Handle handle))) is
 opened-after s (Opendir path) handle it opening is =

@@ -21,7 +21,7 @@ use Rattle.sftp_tree.specs.Tree.{Tree, Files, Pins, IsKept, content_at, limits, 
 use Rattle.sftp_tree.specs.Walk.{reached}
 use Rattle.sftp_tree.specs.Causes.{no_causes, is_none, when}
 use Rattle.sftp_tree.specs.FileChanges.{bytes_at}
-use Rattle.sftp_tree.specs.Requests.{Told, done, led, led_to, new_led, told_at, has_step, follows, outcome, after}
+use Rattle.sftp_tree.specs.Requests.{Told, done, led, led_to, new_led, told_at, has_step, follows, outcome}
 use Rattle.sftp_tree.specs.Requests as paths
 use Rattle.sftp_tree.specs.Refusals.{IsFree}
 use Rattle.sftp_tree.specs.Refusals as of_tree
@@ -34,7 +34,7 @@ use Rattle.sftp_handles.specs.State.{State, Good, settled, has_handle_left}
 use Rattle.sftp_handles.specs.Seen.{a_file, a_listing, seen, seen_among, seen_file}
 use Rattle.sftp_handles.specs.Replies.{Said, ok, shows, names, gives, ended, lists, opens, says}
 use Rattle.sftp_handles.specs.HandleRequests.{Row, row_of, causes_of, said_of, listed}
-use Rattle.sftp_handles.specs.Requests.{causes, path_causes, causes_by, answers, target, target_by, told_to, said_to}
+use Rattle.sftp_handles.specs.Requests.{causes, path_causes, causes_by, answers, after, after_by, told_to, said_to}
 use Rattle.sftp_handles.specs.Requests.{said_by, with_new, flags_of, opened_by}
 use Rattle.sftp_handles.specs.Judged.{IsJudgedCode, IsDone, IsRefusal, is_done, changes_tree}
 use Rattle.sftp_handles.specs.Answered.{says_ok}
@@ -111,11 +111,11 @@ change-answered s ask message language is =
     ap (λ handle. says (said_to s ask handle) (Status 0 message language)) (is-change s ask is).no_handle
     ∙ ap (λ told. says (said_by s.handles told) (Status 0 message language)) (told-done s ask is)
 
-change-target : (s : State) (ask : Ask) (answer : Answer) → IsTrue (changes_tree ask)
-    → target s ask answer ≡ settled (outcome s.tree ask) s.handles
-unfolding target
-change-target s ask answer is =
-    ap (target_by s ask answer) (is-change s ask is).no_handle
+change-after : (s : State) (ask : Ask) (answer : Answer) → IsTrue (changes_tree ask)
+    → after s ask answer ≡ settled (outcome s.tree ask) s.handles
+unfolding after
+change-after s ask answer is =
+    ap (after_by s ask answer) (is-change s ask is).no_handle
     ∙ ap (λ told. settled (outcome s.tree ask) (with_new s.handles (opened_by (flags_of ask) told) answer))
     (told-done s ask is)
 
@@ -129,7 +129,7 @@ unfolding with_pins_of
 settled-pinned t handles same = ap (λ pins. state_of (trim (with_pins_of t pins)) handles) (sym same)
 
 module _ (s : State) (ask : Ask) (t : Tree) (good : Good s) (changes : IsTrue (changes_tree ask))
-    (is : t ≡ after s.tree ask) where
+    (is : t ≡ paths.after s.tree ask) where
   pub change-done : IsFree s.tree ask → IsDone s ask (state_of t s.handles)
   change-done free message language = record {
     free = ap is_none (change-causes s ask changes) ∙ free;
@@ -137,7 +137,7 @@ module _ (s : State) (ask : Ask) (t : Tree) (good : Good s) (changes : IsTrue (c
     changed =
         ap (λ t. state_of t s.handles) is
         ∙ sym
-        (change-target s ask (Status 0 message language) changes
+        (change-after s ask (Status 0 message language) changes
         ∙ settled-pinned (outcome s.tree ask) s.handles (pins-stay s.tree ask ∙ good.pinned));
   }
 

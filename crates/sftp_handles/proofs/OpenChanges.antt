@@ -37,7 +37,7 @@ use Rattle.sftp_handles.specs.Seen.{anything, a_file, file, seen, seen_among, se
 use Rattle.sftp_handles.specs.Replies.{ok, says}
 use Rattle.sftp_handles.specs.HandleRequests.{row_of, causes_of, said_of, change_of, change_file, with_file_room}
 use Rattle.sftp_handles.specs.HandleRequests.{start_of, may_write, unless_open_for}
-use Rattle.sftp_handles.specs.Requests.{causes, causes_by, said_to, answers, changed, target, target_by}
+use Rattle.sftp_handles.specs.Requests.{causes, causes_by, said_to, answers, changed, after, after_by}
 use Rattle.sftp_handles.specs.Found.{found_file, with_room}
 use Rattle.sftp_handles.specs.Judged.{IsDone, IsRefusal}
 use Rattle.sftp_handles.proofs.Pins.{pins-times, pins-close_file, pins-close_listing}
@@ -89,12 +89,12 @@ kept-cause bounds set (Some next) cause holds =
     or_right (only NoRoom cause && (is_none set && not (content_fits bounds next))) (set cause) holds
 
 -- where the tree's call is done, so is the request
-room-done : (s : State) (ask : Ask) (fits : Bool) (t after : Tree) (end : State) (result : Result Unit Refused)
-    → (fits ≡ true → IsKept t → t ≡ after → IsDone s ask (state_of t s.handles)) → OnOk result (IsTrue fits)
-    → OnOk result (IsKept t) → OnOk result (t ≡ after) → end ≡ state_of t s.handles → OnOk result (IsDone s ask end)
-room-done s ask fits t after end (Ok done) rest fit kept same is_end =
+room-done : (s : State) (ask : Ask) (fits : Bool) (t next : Tree) (end : State) (result : Result Unit Refused)
+    → (fits ≡ true → IsKept t → t ≡ next → IsDone s ask (state_of t s.handles)) → OnOk result (IsTrue fits)
+    → OnOk result (IsKept t) → OnOk result (t ≡ next) → end ≡ state_of t s.handles → OnOk result (IsDone s ask end)
+room-done s ask fits t next end (Ok done) rest fit kept same is_end =
     subst (IsDone s ask) (sym is_end) (rest fit kept same)
-room-done s ask fits t after end (Err refused) rest fit kept same is_end = tt
+room-done s ask fits t next end (Err refused) rest fit kept same is_end = tt
 
 -- the tree's refusal is one of the request
 room-refused : (s : State) (ask : Ask) (fits : Bool) (result : Result Unit Refused)
@@ -128,11 +128,11 @@ module _ (s : State) (ask : Ask) (handle : List ℕ) (asked : asked_handle ask �
       ap (λ h. says (said_to s ask h) answer) asked
       ∙ ap (λ x. says (said_of (limits s.tree) (row_of ask) x) answer) seen-is
 
-  target-is : (answer : Answer)
-      → target s ask answer ≡ changed s handle (change_file f.0 ((row_of ask).content f.1 before))
-  unfolding target
-  target-is answer =
-      ap (target_by s ask answer) asked
+  after-is : (answer : Answer)
+      → after s ask answer ≡ changed s handle (change_file f.0 ((row_of ask).content f.1 before))
+  unfolding after
+  after-is answer =
+      ap (after_by s ask answer) asked
       ∙ ap (λ x. changed s handle (change_of (row_of ask) x answer)) seen-is
 
   -- where no cause holds, it is done with OK
@@ -143,7 +143,7 @@ module _ (s : State) (ask : Ask) (handle : List ℕ) (asked : asked_handle ask �
     free = ap is_none causes-are ∙ free;
     answered =
         says-is (Status 0 message language) ∙ ap (λ said. says said (Status 0 message language)) told;
-    changed = is_end ∙ sym (target-is (Status 0 message language));
+    changed = is_end ∙ sym (after-is (Status 0 message language));
   }
 
   -- the file gets a content that fits, and all else in the tree stays
@@ -330,7 +330,7 @@ module _ (s : State) (handle : List ℕ) where
 
   pub close-done : (it : Open) (end : State) → open_at s.handles handle ≡ Some it
       → end ≡ settled s.tree (without_open s.handles handle) → IsDone s (Close handle) end
-  unfolding causes answers target
+  unfolding causes answers after
   close-done it end there is_end message language = record {
     free =
         ap (λ x. is_none (causes_of (limits s.tree) (row_of (Close handle)) x)) (seen-closing (Some it) there)

@@ -34,7 +34,7 @@ use Rattle.sftp_tree.specs.FileChanges.{after_pin}
 use Rattle.sftp_tree.specs.Listings.{listing}
 use Rattle.sftp_tree.specs.Causes.{CauseSet, is_none, when, only}
 use Rattle.sftp_tree.specs.Requests as paths
-use Rattle.sftp_tree.specs.Requests.{done, file, listed, led, led_to, told_at, outcome, after, number_of, names_of}
+use Rattle.sftp_tree.specs.Requests.{done, file, listed, led, led_to, told_at, outcome, number_of, names_of}
 use Rattle.sftp_tree.specs.Requests.{file_to, listing_to, outcome_led, new_led}
 use Rattle.sftp_tree.proofs.CauseLaws.Places.{outcome-is}
 use Rattle.sftp_tree.proofs.CauseLaws.Sets.{none-each, each-none}
@@ -47,7 +47,7 @@ use Rattle.sftp_handles.specs.Handles.{Left, Handles, open_at, with_open, withou
 use Rattle.sftp_handles.specs.Handles.{opens_file, kept_flags}
 use Rattle.sftp_handles.specs.State.{State, Good, settled, IsOpen, IsHandle, IsLeft, has_handle_left}
 use Rattle.sftp_handles.specs.Replies.{is_new_handle, says}
-use Rattle.sftp_handles.specs.Requests.{causes, answers, target, said_by, told_to, opened_by, with_new}
+use Rattle.sftp_handles.specs.Requests.{causes, answers, after, said_by, told_to, opened_by, with_new}
 use Rattle.sftp_handles.specs.Allowed.{Does}
 use Rattle.sftp_handles.specs.Judged.{IsRefusal}
 use Rattle.sftp_handles.proofs.Pins.{pin-times, pins-times, pins-open_file, pins-open_listing}
@@ -189,14 +189,16 @@ module _ (t : Tree) (path : List ℕ) (pflags : ℕ) (attrs : Attrs) (n : ℕ) w
       )
 
   -- and exists
-  pub file-opened : file_to t open_ask ≡ Some n → WellFormed (after t open_ask) → HasFile (after t open_ask).files n
+  pub file-opened : file_to t open_ask ≡ Some n → WellFormed (paths.after t open_ask)
+      → HasFile (paths.after t open_ask).files n
   file-opened is well =
       let there = named-opened is in
-      each-get place_cmp place_cmp-same (λ e. IsNode (after t open_ask).files e.1) (after t open_ask).names there.0
-      (nodes.File n) well.nodes there.1
+      let end = paths.after t open_ask in
+      each-get place_cmp place_cmp-same (λ e. IsNode end.files e.1) end.names there.0 (nodes.File n) well.nodes
+      there.1
 
   pub pinned-opened : file_to t open_ask ≡ Some n
-      → after_pin (after t open_ask) n
+      → after_pin (paths.after t open_ask) n
       ≡ trim (record (outcome t open_ask) { pins = with_pin (outcome t open_ask).pins n })
   pinned-opened is =
       let there = named-opened is in
@@ -262,15 +264,15 @@ module _ (s : State) (path : List ℕ) (pflags : ℕ) (attrs : Attrs) (n : ℕ) 
       ap (λ pins. with_pin pins n) (pins-stay s.tree file_ask ∙ good.pinned)
       ∙ sym (pins-open_file s.handles handle n (kept_flags pflags) absent)
 
-  pub good-file : IsKept (after_pin (after s.tree file_ask) n)
-      → Good (state_of (after_pin (after s.tree file_ask) n) with_file)
+  pub good-file : IsKept (after_pin (paths.after s.tree file_ask) n)
+      → Good (state_of (after_pin (paths.after s.tree file_ask) n) with_file)
   good-file kept =
       good-new s handle (File n (kept_flags pflags)) good short absent room tt
-      (after_pin (after s.tree file_ask) n) kept (limits-stay s.tree file_ask) pins-file
+      (after_pin (paths.after s.tree file_ask) n) kept (limits-stay s.tree file_ask) pins-file
 
-  target-file : state_of (after_pin (after s.tree file_ask) n) with_file ≡ target s file_ask (replies.Handle handle)
-  unfolding target
-  target-file =
+  after-file : state_of (after_pin (paths.after s.tree file_ask) n) with_file ≡ after s file_ask (replies.Handle handle)
+  unfolding after
+  after-file =
       ap (λ t. state_of t with_file)
       (pinned-opened s.tree path pflags attrs n opened
       ∙ ap (λ pins. trim (record (outcome s.tree file_ask) { pins = pins })) pins-file)
@@ -279,14 +281,14 @@ module _ (s : State) (path : List ℕ) (pflags : ℕ) (attrs : Attrs) (n : ℕ) 
       (sym (told-file s.tree path pflags attrs n opened))
 
   pub does-file : is_none (paths.causes s.tree file_ask) ≡ true
-      → Does s file_ask (replies.Handle handle) (state_of (after_pin (after s.tree file_ask) n) with_file)
+      → Does s file_ask (replies.Handle handle) (state_of (after_pin (paths.after s.tree file_ask) n) with_file)
   unfolding causes answers
   does-file free = record {
     free = free-with_room (paths.causes s.tree file_ask) (has_handle_left s) free room;
     answered =
         ap (λ told. says (said_by s.handles told) (replies.Handle handle)) (told-file s.tree path pflags attrs n opened)
         ∙ new-handle s.handles handle short absent;
-    changed = target-file;
+    changed = after-file;
   }
 
 -- the state after OPENDIR
@@ -344,9 +346,9 @@ module _ (s : State) (path : List ℕ) (left : Left) (handle : List ℕ) (good :
       (sym (trimmed-already s.tree good.tree.trimmed)
       ∙ ap (λ pins. trim (record s.tree { pins = pins })) pins)
 
-  target-listing : state_of s.tree with_listing ≡ target s directory_ask (replies.Handle handle)
-  unfolding target
-  target-listing =
+  after-listing : state_of s.tree with_listing ≡ after s directory_ask (replies.Handle handle)
+  unfolding after
+  after-listing =
       settled-listing
       ∙ (λ i. settled (sym (outcome-listed s.tree path) i)
       (with_new s.handles (opened_by 0 (sym (told-listing s.tree path left opened) i)) (replies.Handle handle)))
@@ -359,7 +361,7 @@ module _ (s : State) (path : List ℕ) (left : Left) (handle : List ℕ) (good :
     answered =
         ap (λ told. says (said_by s.handles told) (replies.Handle handle)) (told-listing s.tree path left opened)
         ∙ new-handle s.handles handle short absent;
-    changed = target-listing;
+    changed = after-listing;
   }
 
 -- ---- refusals
@@ -417,19 +419,19 @@ module _ (s listed : State) (handle : List ℕ) (left : Left) (good : Good s)
   module _ (path : List ℕ) (pflags : ℕ) (attrs : Attrs) (n : ℕ) (opened pinned : Tree) (handles : Handles)
       (slice : List ℕ) (flags : OpenFlags) (short : length handle ≤ handle_limit) (room : has_handle_left s ≡ true)
       (number : file_to listed.tree (asks.Open path pflags attrs) ≡ Some n)
-      (after_it : opened ≡ after listed.tree (asks.Open path pflags attrs)) (pin : pinned ≡ after_pin opened n)
+      (after_it : opened ≡ paths.after listed.tree (asks.Open path pflags attrs)) (pin : pinned ≡ after_pin opened n)
       (same : slice ≡ handle) (kept : flags ≡ kept_flags pflags)
       (swapped : handles ≡ with_open listed.handles slice (File n flags)) where
     end-is : state_of pinned handles
-        ≡ state_of (after_pin (after s.tree (asks.Open path pflags attrs)) n)
+        ≡ state_of (after_pin (paths.after s.tree (asks.Open path pflags attrs)) n)
         (with_open s.handles handle (File n (kept_flags pflags)))
     end-is =
         let whole : handles ≡ with_open s.handles handle (File n (kept_flags pflags)) =
         swapped
         ∙ ((λ i. with_open (handles_are i) (same i) (File n (kept i)))
         ∙ opened-again s.handles handle (Listing left) (File n (kept_flags pflags)) good.ordered) in
-        let tree : pinned ≡ after_pin (after s.tree (asks.Open path pflags attrs)) n =
-        pin ∙ ap (λ t. after_pin t n) (after_it ∙ ap (λ t. after t (asks.Open path pflags attrs)) tree_is) in
+        let tree : pinned ≡ after_pin (paths.after s.tree (asks.Open path pflags attrs)) n =
+        pin ∙ ap (λ t. after_pin t n) (after_it ∙ ap (λ t. paths.after t (asks.Open path pflags attrs)) tree_is) in
         λ i. record { tree = tree i; handles = whole i }
 
     opens : file_to s.tree (asks.Open path pflags attrs) ≡ Some n

@@ -12,7 +12,7 @@ use Rattle.sftp_tree.specs.declared.causes.Cause.{Cause}
 use Rattle.sftp_tree.specs.Causes.{CauseSet, every_cause, allows, is_none}
 use Rattle.sftp_handles.specs.State.{State}
 use Rattle.sftp_handles.specs.Replies.{refuses}
-use Rattle.sftp_handles.specs.Requests.{causes, answers, target}
+use Rattle.sftp_handles.specs.Requests.{causes, answers, after}
 use Rattle.sftp_handles.specs.Allowed.{Refuses, Does, Allowed, stepped, step}
 
 any_both : (p q : Cause → Bool) (xs : List Cause) → list_any (λ x. p x && q x) xs ≡ true → list_any p xs ≡ true
@@ -38,7 +38,7 @@ step-by : (s : State) (ask : Ask) (answer : Answer) (end : State) (refused none 
 step-by s ask answer end true none answered refuses_is none_is answers_is e =
     let same : s ≡ end = cc in inl (record { cause = refuses_is; unchanged = sym same })
 step-by s ask answer end false true true refuses_is none_is answers_is e =
-    let same : target s ask answer ≡ end = cc in
+    let same : after s ask answer ≡ end = cc in
     inr (record { free = none_is; answered = answers_is; changed = sym same })
 step-by s ask answer end false true false refuses_is none_is answers_is e = absurd cc
 step-by s ask answer end false false answered refuses_is none_is answers_is e = absurd cc

@@ -25,7 +25,7 @@ use Rattle.sftp_handles.specs.Seen.{a_file, seen, seen_among}
 use Rattle.sftp_handles.specs.Replies as say
 use Rattle.sftp_handles.specs.Replies.{Said, says, refuses, same_attributes, is_one_name}
 use Rattle.sftp_handles.specs.HandleRequests.{Row, row_of, change_of, change_file, nothing}
-use Rattle.sftp_handles.specs.Requests.{causes, answers, target, target_by, told_to, said_by, said_to, opened_by}
+use Rattle.sftp_handles.specs.Requests.{causes, answers, after, after_by, told_to, said_by, said_to, opened_by}
 use Rattle.sftp_handles.specs.Requests.{flags_of, with_new, changed}
 use Rattle.sftp_handles.specs.Judged.{IsJudged}
 use Rattle.sftp_handles.proofs.GoodStates.{good-settled}
@@ -33,7 +33,7 @@ use Rattle.sftp_handles.proofs.Judgements.{judged-refused, judged-still}
 
 -- no cause holds, and the request leaves the state
 judged-free : (s : State) (ask : Ask) (answer : Answer) (fits : Bool) → refuses (causes s ask) answer ≡ false
-    → IsTrue (is_none (causes s ask)) → answers s ask answer ≡ fits → target s ask answer ≡ s
+    → IsTrue (is_none (causes s ask)) → answers s ask answer ≡ fits → after s ask answer ≡ s
     → IsJudged s ask answer fits s
 judged-free s ask answer fits unlike free is still =
     judged-still s ask answer fits unlike (λ e. still)
@@ -50,10 +50,10 @@ with_new-same handles (Some it) other unlike = refl
 -- of a request that leaves the tree, and has none but its causes
 module _ (s : State) (ask : Ask) (asked : asked_handle ask ≡ None) (left : outcome s.tree ask ≡ s.tree)
     (same : causes s ask ≡ paths.causes s.tree ask) where
-  path-still : (answer : Answer) → answered_handle answer ≡ None → Good s → target s ask answer ≡ s
-  unfolding target
+  path-still : (answer : Answer) → answered_handle answer ≡ None → Good s → after s ask answer ≡ s
+  unfolding after
   path-still answer unlike good =
-      ap (target_by s ask answer) asked
+      ap (after_by s ask answer) asked
       ∙ (λ i. settled (left i)
       (with_new-same s.handles (opened_by (flags_of ask) (told_to s.tree ask)) answer unlike i))
       ∙ good-settled s good
@@ -211,10 +211,10 @@ module _ (row : Row) (files : Files)
 module _ (s : State) (ask : Ask) (handle : List ℕ) (asked : asked_handle ask ≡ Some handle)
     (needs : (row_of ask).needed ≡ a_file)
     (same : (flags : OpenFlags) (before : Content) → (row_of ask).content flags before ≡ None) where
-  open-still : (answer : Answer) → Good s → target s ask answer ≡ s
-  unfolding target seen
+  open-still : (answer : Answer) → Good s → after s ask answer ≡ s
+  unfolding after seen
   open-still answer good =
-      ap (target_by s ask answer) asked
+      ap (after_by s ask answer) asked
       ∙ (ap (λ n. changed s handle
       (change_of (row_of ask) (seen_among s.tree.files n (open_at s.handles handle)) answer)) needs
       ∙ (ap (changed s handle) (no-change (row_of ask) s.tree.files same (open_at s.handles handle) answer)

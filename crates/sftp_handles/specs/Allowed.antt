@@ -7,7 +7,7 @@ use Rattle.sftp_wire.specs.declared.packets.Reply.{Reply}
 use Rattle.sftp_tree.specs.Causes.{is_none}
 use Rattle.sftp_handles.specs.State.{State}
 use Rattle.sftp_handles.specs.Replies.{refuses}
-use Rattle.sftp_handles.specs.Requests.{causes, answers, target}
+use Rattle.sftp_handles.specs.Requests.{causes, answers, after}
 
 -- one of the causes that hold allows the answer, and nothing changes
 pub record Refuses (s : State) (ask : Ask) (answer : Answer) (end : State) : Type 0 where
@@ -18,7 +18,7 @@ pub record Refuses (s : State) (ask : Ask) (answer : Answer) (end : State) : Typ
 pub record Does (s : State) (ask : Ask) (answer : Answer) (end : State) : Type 0 where
   pub free : IsTrue (is_none (causes s ask))
   pub answered : IsTrue (answers s ask answer)
-  pub changed : end ≡ target s ask answer
+  pub changed : end ≡ after s ask answer
 
 -- the reply has the id of the request, and is a refusal or the answer
 pub record Allowed (s : State) (request : Request) (reply : Reply) (end : State) : Type 0 where
@@ -29,7 +29,7 @@ pub record Allowed (s : State) (request : Request) (reply : Reply) (end : State)
 
 abbrev pub stepped : State → Ask → Answer → Bool → Bool → Option State
 stepped s ask answer true answered = Some s
-stepped s ask answer false true = Some (target s ask answer)
+stepped s ask answer false true = Some (after s ask answer)
 stepped s ask answer false false = None
 
 -- the state after an answer, if it is allowed

@@ -12,7 +12,7 @@ use Rattle.sftp_tree.specs.Requests.{path_of, outcome}
 use Rattle.sftp_handles.specs.declared.opens.Open.{Open}
 use Rattle.sftp_handles.specs.Handles.{with_open}
 use Rattle.sftp_handles.specs.State.{State, settled}
-use Rattle.sftp_handles.specs.Requests.{target}
+use Rattle.sftp_handles.specs.Requests.{after}
 use Rattle.sftp_handles.specs.Allowed.{Allowed}
 
 -- ---- requests that can be answered
@@ -46,5 +46,5 @@ asked_state s ask handle it = record { tree = outcome s.tree ask; handles = with
 -- that nothing holds any more are removed.
 abbrev pub IsOpenedBy : State → Ask → List ℕ → Open → Type 0
 IsOpenedBy s ask handle it =
-    target s ask (Handle handle)
+    after s ask (Handle handle)
     ≡ settled (asked_state s ask handle it).tree (asked_state s ask handle it).handles

@@ -94,11 +94,11 @@ changed s handle (rewrites number next) =
 changed s handle (leaves left) = settled s.tree (with_open s.handles handle (Listing left))
 changed s handle closes = settled s.tree (without_open s.handles handle)
 
-abbrev pub target_by : State → Ask → Answer → Option (List ℕ) → State
-target_by s ask answer (Some handle) = changed s handle (change_of (row_of ask) (seen_by s ask handle) answer)
-target_by s ask answer None =
+abbrev pub after_by : State → Ask → Answer → Option (List ℕ) → State
+after_by s ask answer (Some handle) = changed s handle (change_of (row_of ask) (seen_by s ask handle) answer)
+after_by s ask answer None =
     settled (paths.outcome s.tree ask) (with_new s.handles (opened_by (flags_of ask) (told_to s.tree ask)) answer)
 
 -- the state after it; the reply says which handle is new, and which names a listing gave
-unfoldable pub target : State → Ask → Answer → State
-target s ask answer = target_by s ask answer (asked_handle ask)
+unfoldable pub after : State → Ask → Answer → State
+after s ask answer = after_by s ask answer (asked_handle ask)

@@ -20,7 +20,7 @@ impl Session<GivenTable> {
     pub fn accept(&mut self, request: &Request, reply: &Reply) -> Result<bool, NoMemory>
         ensures allowed { IfOk result (λ ok. IsTrue ok → Allowed self.old request.now reply.now self.new) }
         ensures refused { IfOk result
-            (λ ok. ok ≡ false → (after : state.State) → Allowed self.old request.now reply.now after → ⊥) }
+            (λ ok. ok ≡ false → (end : state.State) → Allowed self.old request.now reply.now end → ⊥) }
         ensures kept { IfOk result (λ ok. ok ≡ false → self.new ≡ self.old) }
         ensures err { OnErr result (self.new ≡ self.old) }
     {

@@ -8,7 +8,7 @@ use Rattle.sftp_tree.specs.Causes.{no_causes, when, joined}
 use Rattle.sftp_tree.specs.Requests.{led, plain_causes, causes as path_causes, outcome}
 use Rattle.sftp_handles.specs.Handles.{pins_of}
 use Rattle.sftp_handles.specs.Seen.{seen}
-use Rattle.sftp_handles.specs.Requests.{causes, told_to, answers, target}
+use Rattle.sftp_handles.specs.Requests.{causes, told_to, answers, after}
 use Rattle.sftp_handles.specs.Allowed.{Allowed, step}
 use Rattle.sftp_transcript.specs.Explained.{turn_after, next_reply, exchanges_of, leading_pairs, requests_before_reply}
 use Rattle.sftp_transcript.specs.Explained.{in_window, Explained}
@@ -18,7 +18,7 @@ use Rattle.sftp_audit.proofs.worked.Runs.{explained_by, unexplained_by}
 
 pub in_parts : Explained Allowed (started with_five_letters) (read_in_parts (codes "abc")) (started with_five_letters)
 unfolding
-    turn_after in_window requests_before_reply leading_pairs exchanges_of next_reply step causes answers target told_to
+    turn_after in_window requests_before_reply leading_pairs exchanges_of next_reply step causes answers after told_to
     seen pins_of path_causes plain_causes no_causes when joined led outcome reached walk walk_parts meets is_good_path
     components parts get put without fits retain
 in_parts =
@@ -27,7 +27,7 @@ in_parts =
 
 pub other_byte : Unexplained with_five_letters (read_in_parts (codes "abd"))
 unfolding
-    leading_pairs exchanges_of next_reply step causes answers target told_to seen pins_of path_causes plain_causes
+    leading_pairs exchanges_of next_reply step causes answers after told_to seen pins_of path_causes plain_causes
     no_causes when joined led outcome reached walk walk_parts meets is_good_path components parts get put without fits
     retain
 other_byte = unexplained_by with_five_letters (read_in_parts (codes "abd")) refl

@@ -10,7 +10,7 @@ use Rattle.sftp_tree.specs.Causes.{no_causes, when, joined}
 use Rattle.sftp_tree.specs.Requests.{led, plain_causes, causes as path_causes, outcome}
 use Rattle.sftp_tree.specs.Picture.{picture, blank}
 use Rattle.sftp_handles.specs.Handles.{pins_of}
-use Rattle.sftp_handles.specs.Requests.{causes, told_to, answers, target}
+use Rattle.sftp_handles.specs.Requests.{causes, told_to, answers, after}
 use Rattle.sftp_handles.specs.Allowed.{Allowed, step}
 use Rattle.sftp_transcript.specs.Explained.{closed, waiting, broken, turn_after, next_reply, exchanges_of, leading_pairs}
 use Rattle.sftp_transcript.specs.Explained.{requests_before_reply, in_window, Explained}
@@ -30,7 +30,7 @@ nothing_asked = record { matching = λ id. refl; within_window = refl; run = ref
 
 pub backwards : Explained Allowed (started blank) (backward_replies 4) (started with_a_and_b)
 unfolding
-    turn_after in_window requests_before_reply leading_pairs exchanges_of next_reply step causes answers target told_to
+    turn_after in_window requests_before_reply leading_pairs exchanges_of next_reply step causes answers after told_to
     pins_of path_causes plain_causes no_causes when joined led outcome reached walk walk_parts meets is_good_path
     components parts get put without has_entries fits retain
 backwards =
@@ -43,7 +43,7 @@ backwards_picture = refl
 -- the removal would have to succeed after what came before it in the order asked
 pub removed : Unexplained blank (backward_replies 0)
 unfolding
-    leading_pairs exchanges_of next_reply step causes answers target told_to pins_of path_causes plain_causes no_causes
+    leading_pairs exchanges_of next_reply step causes answers after told_to pins_of path_causes plain_causes no_causes
     when joined led outcome reached walk walk_parts meets is_good_path components parts get put without has_entries fits
     retain
 removed = unexplained_by blank (backward_replies 0) refl
@@ -51,7 +51,7 @@ removed = unexplained_by blank (backward_replies 0) refl
 -- in the order in which the replies came the removal would be of what is absent
 pub in_order_of_arrival : Unexplained blank (backward_replies 2)
 unfolding
-    leading_pairs exchanges_of next_reply step causes answers target told_to pins_of path_causes plain_causes no_causes
+    leading_pairs exchanges_of next_reply step causes answers after told_to pins_of path_causes plain_causes no_causes
     when joined led outcome reached walk walk_parts meets is_good_path components parts get put without has_entries fits
     retain
 in_order_of_arrival = unexplained_by blank (backward_replies 2) refl
@@ -82,14 +82,14 @@ answered_twice end e = broken_open (sym first_breaks ∙ e.matching 1)
 
 pub taken : Explained Allowed (started blank) (same_directory_twice 4) (started with_a)
 unfolding
-    turn_after in_window requests_before_reply leading_pairs exchanges_of next_reply step causes answers target told_to
+    turn_after in_window requests_before_reply leading_pairs exchanges_of next_reply step causes answers after told_to
     pins_of path_causes plain_causes no_causes when joined led outcome reached walk walk_parts meets is_good_path
     components parts get put without has_entries fits retain
 taken = explained_by blank (same_directory_twice 4) with_a (refl, (refl, (refl, (refl, tt)))) refl refl
 
 pub not_absent : Unexplained blank (same_directory_twice 2)
 unfolding
-    leading_pairs exchanges_of next_reply step causes answers target told_to pins_of path_causes plain_causes no_causes
+    leading_pairs exchanges_of next_reply step causes answers after told_to pins_of path_causes plain_causes no_causes
     when joined led outcome reached walk walk_parts meets is_good_path components parts get put without has_entries fits
     retain
 not_absent = unexplained_by blank (same_directory_twice 2) refl
@@ -98,14 +98,14 @@ not_absent = unexplained_by blank (same_directory_twice 2) refl
 
 pub other_reply : Unexplained blank data_for_mkdir
 unfolding
-    leading_pairs exchanges_of next_reply step causes answers target told_to pins_of path_causes plain_causes no_causes
+    leading_pairs exchanges_of next_reply step causes answers after told_to pins_of path_causes plain_causes no_causes
     when joined led outcome reached walk walk_parts meets is_good_path components parts get put without has_entries fits
     retain
 other_reply = unexplained_by blank data_for_mkdir refl
 
 pub not_there : Explained Allowed (started blank) opendir_of_nothing (started blank)
 unfolding
-    turn_after in_window requests_before_reply leading_pairs exchanges_of next_reply step causes answers target told_to
+    turn_after in_window requests_before_reply leading_pairs exchanges_of next_reply step causes answers after told_to
     pins_of path_causes plain_causes no_causes when joined led outcome reached walk walk_parts meets is_good_path
     components parts get put without has_entries fits retain
 not_there = explained_by blank opendir_of_nothing blank (refl, (refl, tt)) refl refl

@@ -14,7 +14,7 @@ use Rattle.sftp_tree.specs.Requests.{path_of}
 use Rattle.sftp_tree.specs.Requests as paths
 use Rattle.sftp_tree.proofs.Requests.Trees.{PathsLeadWell}
 use Rattle.sftp_handles.specs.State.{State, Good, has_handle_left}
-use Rattle.sftp_handles.specs.Requests.{causes, answers, target, said_to}
+use Rattle.sftp_handles.specs.Requests.{causes, answers, after, said_to}
 use Rattle.sftp_handles.specs.Laws.{IsAskable, IsAnswerable}
 use Rattle.sftp_handles.proofs.GoodSteps.{room-of}
 use Rattle.sftp_handles.proofs.TotalSteps.SaidReplies.{IsSayable, reply_of, status_of, status-spelled, ok-sayable}
@@ -84,7 +84,7 @@ answered : (s : State) (id : ℕ) (ask : Ask) → is_none (causes s ask) ≡ tru
 unfolding answers
 answered s id ask free said = record {
   reply = reply_of id said.answer;
-  end = target s ask said.answer;
+  end = after s ask said.answer;
   allowed =
       record {
         same_id = refl;

@@ -22,5 +22,5 @@ returns-clause-refused c =
     let request = c.args.request.now in
     let reply = c.args.reply.now in
     IfOk-weaker c.judge.result (λ ok. IsJudged s request.ask reply.answer ok c.judge.new.self)
-    (λ ok. ok ≡ false → (after : State) → Allowed s request reply after → ⊥)
+    (λ ok. ok ≡ false → (end : State) → Allowed s request reply end → ⊥)
     (λ ok judged. refused-reply s request reply c.judge.new.self ok judged) c.judge.ensures.ok
