@@ -10,6 +10,17 @@ use sftp_path::{Name, NoMemory};
 use sftp_treefile::Owner;
 use std::mem;
 
+impl Child {
+    /// Puts another child here, and returns the one that was here. Each goes whole: a directory with its owner and all
+    /// that is below it.
+    fn exchange(&mut self, other: Child) -> Child
+        ensures here { self.new ≡ other }
+        ensures gone { result ≡ self.old }
+    {
+        mem::replace(self, other)
+    }
+}
+
 impl Dir {
     /// Puts a child at a name in the directory to which the parent's names lead, and returns the child that was there.
     ///
@@ -81,7 +92,7 @@ impl Dir {
             let Some(inner) = self.children.get_mut(name) else {
                 unreachable!();
             };
-            return mem::replace(inner, child);
+            return inner.exchange(child);
         };
         let Some(inner) = self.children.get_mut(first) else {
             unreachable!();
