@@ -1,0 +1,4 @@
+pub mod Transcript
+pub mod Streams
+pub mod Memories
+pub mod Tallies
