@@ -1,4 +1,6 @@
 pub mod Transcript
+pub mod Faults
 pub mod Streams
 pub mod Memories
 pub mod Tallies
+pub mod Log

@@ -4,12 +4,15 @@
 
 mod errors;
 mod events;
+mod faults;
 mod memory;
 mod streams;
 mod tally;
+mod writer;
 
 pub use errors::TranscriptError;
 pub use events::Event;
 pub use memory::Memory;
 pub use streams::{Failed, Sink, Source};
 pub use tally::Tally;
+pub use writer::Writer;
