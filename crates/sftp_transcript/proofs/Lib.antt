@@ -1,1 +1,3 @@
 pub mod Putting
+pub mod Buffers
+pub mod Inputs

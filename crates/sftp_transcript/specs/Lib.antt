@@ -4,3 +4,4 @@ pub mod Streams
 pub mod Memories
 pub mod Tallies
 pub mod Log
+pub mod Ahead

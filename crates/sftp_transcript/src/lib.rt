@@ -2,9 +2,11 @@
 //! file.
 #![tactic(auto)]
 
+mod buffer;
 mod errors;
 mod events;
 mod faults;
+mod input;
 mod memory;
 mod streams;
 mod tally;
