@@ -2,11 +2,11 @@
 use Rattle.std.proofs.Common.{◌≡◌, ◌≢◌, ℕ, List, [], Result, IsTrue, sym, ap, subst, ◌∙◌}
 use Rattle.std.specs.Result.{IfErr, IsErrAnd}
 use Rattle.std.proofs.lemmas.Result.{err_from_is_err_and}
-use Rattle.sftp_audit.specs.declared.events.Event.{Event}
+use Rattle.sftp_transcript.specs.declared.events.Event.{Event}
 use Rattle.sftp_treefile.specs.declared.errors.TreeError.{TreeError}
 use Rattle.sftp_treefile.specs.declared.errors.TreeError.TheVariants as tree_errors
-use Rattle.sftp_audit.specs.declared.errors.TranscriptError.{TranscriptError}
-use Rattle.sftp_audit.specs.declared.errors.TranscriptError.TheVariants as transcript_errors
+use Rattle.sftp_transcript.specs.declared.errors.TranscriptError.{TranscriptError}
+use Rattle.sftp_transcript.specs.declared.errors.TranscriptError.TheVariants as transcript_errors
 use Rattle.sftp_audit.specs.declared.errors.Refusal.{Refusal}
 use Rattle.sftp_audit.specs.declared.errors.Refusal.TheVariants as refusals
 use Rattle.sftp_audit.specs.declared.errors.AuditError.{AuditError}
@@ -16,9 +16,9 @@ use Rattle.sftp_tree.specs.Tree.{Tree, trim}
 use Rattle.sftp_tree.specs.Picture.{IsStart}
 use Rattle.sftp_handles.specs.State.{State}
 use Rattle.sftp_handles.specs.Allowed.{Allowed}
-use Rattle.sftp_audit.specs.Transcript.{IsRecord}
-use Rattle.sftp_audit.specs.Explained.{Matching, in_window, exchanges_of, leading_pairs, Run}
-use Rattle.sftp_audit.specs.Ledger.{IsComplete}
+use Rattle.sftp_transcript.specs.Transcript.{IsRecord}
+use Rattle.sftp_transcript.specs.Explained.{Matching, in_window, exchanges_of, leading_pairs, Run}
+use Rattle.sftp_transcript.specs.Ledger.{IsComplete}
 use Rattle.sftp_audit.specs.Exchanges.{ledger_of}
 use Rattle.sftp_audit.specs.Audit.{started, Accounts, HasStart, IsReason, error_of_tree, error_of_transcript}
 use Rattle.sftp_audit.specs.Audit.{error_of_session}

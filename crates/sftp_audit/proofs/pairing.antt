@@ -1,5 +1,2 @@
-pub mod Turns
-pub mod Standing
 pub mod Notes
-pub mod Index
 pub mod Places

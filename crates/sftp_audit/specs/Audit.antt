@@ -1,10 +1,10 @@
 -- Which files an auditor accepts: those of a starting tree and of a recorded session that account for a run.
 use Rattle.std.specs.Prelude.{◌≡◌, ℕ, ◌^◌, ◌-◌, min, List, [], length}
-use Rattle.sftp_audit.specs.declared.events.Event.{Event}
+use Rattle.sftp_transcript.specs.declared.events.Event.{Event}
 use Rattle.sftp_treefile.specs.declared.errors.TreeError.{TreeError}
 use Rattle.sftp_treefile.specs.declared.errors.TreeError.TheVariants as tree_errors
-use Rattle.sftp_audit.specs.declared.errors.TranscriptError.{TranscriptError}
-use Rattle.sftp_audit.specs.declared.errors.TranscriptError.TheVariants as transcript_errors
+use Rattle.sftp_transcript.specs.declared.errors.TranscriptError.{TranscriptError}
+use Rattle.sftp_transcript.specs.declared.errors.TranscriptError.TheVariants as transcript_errors
 use Rattle.sftp_audit.specs.declared.errors.Refusal.{Refusal}
 use Rattle.sftp_audit.specs.declared.errors.Refusal.TheVariants as refusals
 use Rattle.sftp_audit.specs.declared.errors.AuditError.{AuditError}
@@ -13,8 +13,8 @@ use Rattle.sftp_tree.specs.Tree.{Tree, trim}
 use Rattle.sftp_tree.specs.Picture.{IsStart}
 use Rattle.sftp_handles.specs.State.{State, settled}
 use Rattle.sftp_handles.specs.Allowed.{Allowed}
-use Rattle.sftp_audit.specs.Transcript.{IsRecord}
-use Rattle.sftp_audit.specs.Explained.{Explained, exchanges_of}
+use Rattle.sftp_transcript.specs.Transcript.{IsRecord}
+use Rattle.sftp_transcript.specs.Explained.{Explained, exchanges_of}
 
 -- the state in which a session begins on a tree: nothing is open
 abbrev pub started : Tree → State

@@ -4,7 +4,7 @@ use Rattle.std.specs.Option.{option_map}
 use Rattle.sftp_wire.specs.declared.packets.Reply.{Reply}
 use Rattle.sftp_audit.specs.declared.exchanges.RecordedReply.{RecordedReply}
 use Rattle.sftp_audit.specs.declared.exchanges.Exchange.{Exchange as RecordedExchange}
-use Rattle.sftp_audit.specs.Ledger.{Exchange}
+use Rattle.sftp_transcript.specs.Ledger.{Exchange}
 
 abbrev pub reply_of : RecordedReply → Reply
 reply_of recorded = recorded.reply.now

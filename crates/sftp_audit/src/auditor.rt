@@ -7,8 +7,8 @@ ghost use Rattle.sftp_audit.specs.Audit.{Accounts, IsReason, IsPlain, request_co
 
 use crate::errors::AuditError;
 use crate::ledger::pair;
-use crate::records::read_events;
 use crate::runs::end_of;
+use sftp_transcript::read_events;
 use sftp_tree::Tree;
 use std::alloc::Global;
 

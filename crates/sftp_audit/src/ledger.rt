@@ -3,14 +3,14 @@ ghost use Rattle.std.specs.Prelude.{◌≡◌, ◌≢◌, ◌⊎◌, ◌++◌, �
 ghost use Rattle.std.specs.Prelude.{slice_get, IsTrue, IfOk, IfErr, OnOk, true, false, List};
 ghost use Rattle.std.specs.List.{AllByRecursion};
 ghost use Rattle.sftp_audit.specs.declared.errors.Refusal.TheVariants.{NoMemory};
-ghost use Rattle.sftp_audit.specs.Explained.{Matching, in_window};
-ghost use Rattle.sftp_audit.specs.Ledger.{is_open, keeps_window, StandsFor, IsAnswered, IsComplete, HasAnswer};
+ghost use Rattle.sftp_transcript.specs.Explained.{Matching, in_window};
+ghost use Rattle.sftp_transcript.specs.Ledger.{is_open, keeps_window, StandsFor, IsAnswered, IsComplete, HasAnswer};
 ghost use Rattle.sftp_audit.specs.Exchanges.{ledger_of};
 
 use crate::errors::Refusal;
-use crate::events::Event;
 use crate::exchanges::{Exchange, RecordedReply};
 use indexmap::IndexMap;
+use sftp_transcript::Event;
 use sftp_wire::{Reply, Request};
 use std::alloc::Global;
 use std::marker::Model;
@@ -33,7 +33,7 @@ struct Ledger<'a> {
 
 impl<'a> Model for Ledger<'a> {
     ghost use Rattle.std.specs.Prelude.{List};
-    ghost use Rattle.sftp_audit.specs.Ledger.{Exchange, IsIndexed};
+    ghost use Rattle.sftp_transcript.specs.Ledger.{Exchange, IsIndexed};
     ghost use Rattle.sftp_audit.specs.Exchanges.{ledger_of};
 
     ghost Value = { List Exchange };

@@ -5,17 +5,14 @@
 mod auditor;
 mod blank;
 mod errors;
-mod events;
 pub mod examples;
 mod exchanges;
 pub mod laws;
 mod ledger;
-mod records;
 mod runs;
 
 pub use auditor::{Accepted, audit};
 pub use blank::{blank_tree, blank_tree_is_a_start};
-pub use errors::{AuditError, Refusal, TranscriptError};
-pub use events::Event;
-pub use records::records_are_one;
+pub use errors::{AuditError, Refusal};
+pub use sftp_transcript::{Event, TranscriptError};
 pub use sftp_tree::{NoMemory, TreeError};

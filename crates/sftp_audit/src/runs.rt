@@ -4,7 +4,7 @@ ghost use Rattle.sftp_audit.specs.declared.errors.Refusal.TheVariants.{NoMemory 
 ghost use Rattle.sftp_tree.specs.Tree.{trim};
 ghost use Rattle.sftp_handles.specs.State.{State};
 ghost use Rattle.sftp_handles.specs.Allowed.{Allowed};
-ghost use Rattle.sftp_audit.specs.Explained.{Run, leading_pairs};
+ghost use Rattle.sftp_transcript.specs.Explained.{Run, leading_pairs};
 ghost use Rattle.sftp_audit.specs.Exchanges.{ledger_of};
 ghost use Rattle.sftp_audit.specs.Audit.{started};
 

@@ -2,8 +2,8 @@
 use Rattle.std.specs.Prelude.{◌≡◌, ℕ, List, Result, Ok, Err}
 use Rattle.sftp_treefile.specs.declared.errors.TreeError.{TreeError}
 use Rattle.sftp_treefile.specs.declared.errors.TreeError.TheVariants as tree_errors
-use Rattle.sftp_audit.specs.declared.errors.TranscriptError.{TranscriptError}
-use Rattle.sftp_audit.specs.declared.errors.TranscriptError.TheVariants as transcript_errors
+use Rattle.sftp_transcript.specs.declared.errors.TranscriptError.{TranscriptError}
+use Rattle.sftp_transcript.specs.declared.errors.TranscriptError.TheVariants as transcript_errors
 use Rattle.sftp_audit.specs.declared.errors.Refusal.{Refusal}
 use Rattle.sftp_audit.specs.declared.errors.Refusal.TheVariants as refusals
 use Rattle.sftp_audit.specs.declared.errors.AuditError.{AuditError}

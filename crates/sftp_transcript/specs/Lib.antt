@@ -1,5 +1,8 @@
 pub mod Transcript
-pub mod Faults
+pub mod Records
+pub mod Explained
+pub mod Ledger
+pub mod Examples
 pub mod Streams
 pub mod Memories
 pub mod Tallies

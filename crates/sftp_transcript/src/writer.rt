@@ -11,7 +11,7 @@ ghost use Rattle.sftp_transcript.specs.Log.{FailsToRecord, FailsToFlush, FailedB
 ghost use Rattle.sftp_transcript.specs.Log.{IsBadPacket};
 
 use crate::errors::TranscriptError;
-use crate::faults::wire_fault;
+use crate::records::read_fault;
 use crate::streams::{Failed, Sink};
 use sftp_wire::{Fault, PACKET_LIMIT, Packet, Side, encode};
 use std::alloc::Global;
@@ -105,7 +105,7 @@ fn spell(out: &mut Vec<u8>, side: Side, packet: &Packet, number: u64) -> Result<
     out.clear();
     match encode(packet, out) {
         Ok(()) => Ok(()),
-        Err(error) => Err(wire_fault(error, number)),
+        Err(error) => Err(read_fault(error, number)),
     }
 }
 

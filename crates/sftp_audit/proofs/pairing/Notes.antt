@@ -10,14 +10,14 @@ use Rattle.sftp_wire.specs.declared.packets.Request.{Request}
 use Rattle.sftp_wire.specs.declared.packets.Reply.{Reply}
 use Rattle.sftp_audit.specs.declared.errors.Refusal.{Refusal}
 use Rattle.sftp_audit.specs.declared.errors.Refusal.TheVariants.{NoMemory}
-use Rattle.sftp_audit.specs.declared.events.Event.{Event}
-use Rattle.sftp_audit.specs.declared.events.Event.TheVariants.{Asked, Replied}
-use Rattle.sftp_audit.specs.Explained.{Matching, in_window}
+use Rattle.sftp_transcript.specs.declared.events.Event.{Event}
+use Rattle.sftp_transcript.specs.declared.events.Event.TheVariants.{Asked, Replied}
+use Rattle.sftp_transcript.specs.Explained.{Matching, in_window}
 use Rattle.sftp_audit.specs.declared.exchanges.Exchange.{Exchange as RecordedExchange}
-use Rattle.sftp_audit.specs.Ledger.{Exchange, is_open, keeps_window, StandsFor, IsAnswered, IsComplete, HasAnswer}
+use Rattle.sftp_transcript.specs.Ledger.{Exchange, is_open, keeps_window, StandsFor, IsAnswered, IsComplete, HasAnswer}
 use Rattle.sftp_audit.specs.Exchanges.{ledger_of}
-use Rattle.sftp_audit.proofs.pairing.Standing.{stands_asked, stands_replied, no_second_request, no_late_request}
-use Rattle.sftp_audit.proofs.pairing.Standing.{no_reply_unasked, complete, no_end_unanswered}
+use Rattle.sftp_transcript.proofs.pairing.Standing.{stands_asked, stands_replied, no_second_request, no_late_request}
+use Rattle.sftp_transcript.proofs.pairing.Standing.{no_reply_unasked, complete, no_end_unanswered}
 
 -- whatever comes later, the session is not explained
 abbrev pub IsLost : List Exchange → Event → Type 0

@@ -9,7 +9,7 @@ use Rattle.sftp_wire.specs.declared.packets.Request.{Request}
 use Rattle.sftp_wire.specs.declared.packets.Reply.{Reply}
 use Rattle.sftp_audit.specs.declared.exchanges.RecordedReply.{RecordedReply}
 use Rattle.sftp_audit.specs.declared.exchanges.Exchange.{Exchange as RecordedExchange}
-use Rattle.sftp_audit.specs.Ledger.{Exchange, IsAnswered}
+use Rattle.sftp_transcript.specs.Ledger.{Exchange, IsAnswered}
 use Rattle.sftp_audit.specs.Exchanges.{exchange_of, ledger_of}
 
 -- the entry of the exchange that was read

@@ -9,7 +9,7 @@ use Rattle.sftp_audit.specs.declared.exchanges.Exchange.{Exchange as RecordedExc
 use Rattle.sftp_audit.specs.declared.exchanges.RecordedReply.{RecordedReply}
 use Rattle.sftp_handles.specs.State.{State}
 use Rattle.sftp_handles.specs.Allowed.{Allowed, and_then}
-use Rattle.sftp_audit.specs.Explained.{leading_pairs}
+use Rattle.sftp_transcript.specs.Explained.{leading_pairs}
 use Rattle.sftp_audit.specs.Exchanges.{reply_of, ledger_of}
 use Rattle.sftp_audit.proofs.steps.RunEnds.{step_end, run_end, step_end-of_allowed, allowed-of_step_end}
 

@@ -6,7 +6,7 @@ use Rattle.sftp_wire.specs.declared.packets.Reply.{Reply}
 use Rattle.sftp_handles.specs.State.{State}
 use Rattle.sftp_handles.specs.Allowed.{Allowed, step, and_then}
 use Rattle.sftp_handles.proofs.Steps.{step-is_allowed, allowed-step}
-use Rattle.sftp_audit.specs.Explained.{Run}
+use Rattle.sftp_transcript.specs.Explained.{Run}
 
 -- where a request and a reply lead, if the reply is allowed
 abbrev pub step_end : State → Request → Reply → Option State

@@ -10,8 +10,8 @@ use Rattle.sftp_handles.specs.Handles.{pins_of}
 use Rattle.sftp_handles.specs.Seen.{seen}
 use Rattle.sftp_handles.specs.Requests.{causes, told_to, answers, target}
 use Rattle.sftp_handles.specs.Allowed.{Allowed, step}
-use Rattle.sftp_audit.specs.Explained.{turn_after, next_reply, exchanges_of, leading_pairs, requests_before_reply}
-use Rattle.sftp_audit.specs.Explained.{in_window, Explained}
+use Rattle.sftp_transcript.specs.Explained.{turn_after, next_reply, exchanges_of, leading_pairs, requests_before_reply}
+use Rattle.sftp_transcript.specs.Explained.{in_window, Explained}
 use Rattle.sftp_audit.specs.Audit.{started}
 use Rattle.sftp_audit.specs.Examples.{with_five_letters, read_in_parts, Unexplained}
 use Rattle.sftp_audit.proofs.worked.Runs.{explained_by, unexplained_by}

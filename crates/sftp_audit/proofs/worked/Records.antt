@@ -6,9 +6,10 @@ use Rattle.std.proofs.lemmas.Bool.{and_parts}
 use Rattle.sftp_wire.specs.declared.packets.Packet.TheVariants.{Init, Version}
 use Rattle.sftp_wire.specs.Spelling.{spelling, AreBytes, FitsString, FitsPair, FitsAttrs, HasSpelling}
 use Rattle.sftp_wire.specs.Examples.{hex, no_attributes, server_extensions}
-use Rattle.sftp_audit.specs.declared.events.Event.{Event}
-use Rattle.sftp_audit.specs.Transcript.{IsEvent, IsRecord, event_record, transcript_opening, packet_of}
-use Rattle.sftp_audit.specs.Examples.{mkdir, rmdir, status, handshake_bytes, backward_replies, backward_replies_bytes}
+use Rattle.sftp_transcript.specs.declared.events.Event.{Event}
+use Rattle.sftp_transcript.specs.Transcript.{IsEvent, IsRecord, event_record, transcript_opening, packet_of}
+use Rattle.sftp_transcript.specs.Examples.{mkdir, rmdir, status, handshake_bytes}
+use Rattle.sftp_audit.specs.Examples.{backward_replies, backward_replies_bytes}
 
 bytes_by : (bytes : List ℕ) → IsTrue (list_all (λ b. nat_lt b 256) bytes) → AreBytes bytes
 bytes_by [] is = tt

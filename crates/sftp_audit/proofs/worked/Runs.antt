@@ -3,11 +3,11 @@ use Rattle.std.proofs.Common.{◌≡◌, List, Some, None, IsTrue}
 use Rattle.std.specs.List.{AllByRecursion}
 use Rattle.sftp_tree.specs.Tree.{Tree}
 use Rattle.sftp_handles.specs.Allowed.{Allowed}
-use Rattle.sftp_audit.specs.declared.events.Event.{Event}
-use Rattle.sftp_audit.specs.Explained.{closed, turn_after, exchanges_of, leading_pairs, in_window, Explained}
+use Rattle.sftp_transcript.specs.declared.events.Event.{Event}
+use Rattle.sftp_transcript.specs.Explained.{closed, turn_after, exchanges_of, leading_pairs, in_window, Explained}
 use Rattle.sftp_audit.specs.Audit.{started}
 use Rattle.sftp_audit.specs.Examples.{Unexplained}
-use Rattle.sftp_audit.proofs.pairing.Turns.{ids_of, Matching-from_ids}
+use Rattle.sftp_transcript.proofs.pairing.Turns.{ids_of, Matching-from_ids}
 use Rattle.sftp_audit.proofs.steps.RunEnds.{run_end, run-of_run_end, no_run-of_run_end}
 
 pub explained_by : (start : Tree) (events : List Event) (end : Tree)

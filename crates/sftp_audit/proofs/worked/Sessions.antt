@@ -12,8 +12,8 @@ use Rattle.sftp_tree.specs.Picture.{picture, blank}
 use Rattle.sftp_handles.specs.Handles.{pins_of}
 use Rattle.sftp_handles.specs.Requests.{causes, told_to, answers, target}
 use Rattle.sftp_handles.specs.Allowed.{Allowed, step}
-use Rattle.sftp_audit.specs.Explained.{closed, waiting, broken, turn_after, next_reply, exchanges_of, leading_pairs}
-use Rattle.sftp_audit.specs.Explained.{requests_before_reply, in_window, Explained}
+use Rattle.sftp_transcript.specs.Explained.{closed, waiting, broken, turn_after, next_reply, exchanges_of, leading_pairs}
+use Rattle.sftp_transcript.specs.Explained.{requests_before_reply, in_window, Explained}
 use Rattle.sftp_audit.specs.Audit.{started}
 use Rattle.sftp_audit.specs.Examples.{with_a, with_a_and_b, with_a_and_b_bytes, backward_replies, one_unanswered}
 use Rattle.sftp_audit.specs.Examples.{one_answered_twice, same_directory_twice, data_for_mkdir, opendir_of_nothing}

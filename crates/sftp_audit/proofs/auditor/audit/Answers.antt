@@ -1,9 +1,9 @@
 use Rattle.std.proofs.Common.{length, refl, sym, ap, subst, arith}
 use Rattle.std.proofs.lemmas.List.{length-map}
-use Rattle.sftp_audit.specs.declared.errors.TranscriptError.TheVariants as transcript_errors
+use Rattle.sftp_transcript.specs.declared.errors.TranscriptError.TheVariants as transcript_errors
 use Rattle.sftp_audit.specs.declared.errors.Refusal.TheVariants as refusals
-use Rattle.sftp_audit.specs.Explained.{Matching}
-use Rattle.sftp_audit.specs.Ledger.{IsComplete}
+use Rattle.sftp_transcript.specs.Explained.{Matching}
+use Rattle.sftp_transcript.specs.Ledger.{IsComplete}
 use Rattle.sftp_audit.specs.Exchanges.{exchange_of, ledger_of}
 use Rattle.sftp_audit.specs.Audit.{HasStart, error_of_tree, error_of_transcript, error_of_session}
 use Rattle.sftp_audit.proofs.Accounts.{refused_by, reason_by, tree_reason, transcript_reason, session_reason}

@@ -1,6 +1,6 @@
 use Rattle.std.proofs.Common.{◌≤◌, ◌-◌, length, take}
 use Rattle.std.specs.List.{AllByRecursion}
-use Rattle.sftp_audit.specs.Ledger.{IsAnswered}
+use Rattle.sftp_transcript.specs.Ledger.{IsAnswered}
 use Rattle.sftp_audit.specs.Exchanges.{ledger_of}
 use Rattle.sftp_audit.proofs.ledger.first_waiting.Given as goal
 

@@ -1,10 +1,10 @@
 use Rattle.std.proofs.Common.{◌≡◌, ◌∷◌, ◌++◌, ◌+◌, [], List, take, sym, ap, subst, ◌∙◌}
 use Rattle.std.specs.Result.{IfOk}
 use Rattle.std.proofs.lemmas.List.{take_more, take_all}
-use Rattle.sftp_audit.specs.declared.events.Event.{Event}
-use Rattle.sftp_audit.specs.Ledger.{IsComplete}
+use Rattle.sftp_transcript.specs.declared.events.Event.{Event}
+use Rattle.sftp_transcript.specs.Ledger.{IsComplete}
 use Rattle.sftp_audit.specs.Exchanges.{ledger_of}
-use Rattle.sftp_audit.proofs.pairing.Standing.{stands_from_start}
+use Rattle.sftp_transcript.proofs.pairing.Standing.{stands_from_start}
 use Rattle.sftp_audit.proofs.pairing.Notes.{all_answered, one_unanswered, lost_at}
 use Rattle.sftp_audit.proofs.ledger.pair.Goals as goal
 

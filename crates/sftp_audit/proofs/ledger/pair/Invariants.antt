@@ -1,5 +1,5 @@
 use Rattle.std.proofs.Common.{take}
-use Rattle.sftp_audit.specs.Ledger.{StandsFor}
+use Rattle.sftp_transcript.specs.Ledger.{StandsFor}
 use Rattle.sftp_audit.proofs.ledger.pair.Given as goal
 
 -- the ledger stands for the events so far

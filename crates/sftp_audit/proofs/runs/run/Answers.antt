@@ -1,4 +1,4 @@
-use Rattle.sftp_audit.specs.Explained.{leading_pairs}
+use Rattle.sftp_transcript.specs.Explained.{leading_pairs}
 use Rattle.sftp_audit.specs.Exchanges.{ledger_of}
 use Rattle.sftp_audit.proofs.steps.RunEnds.{run-of_run_end, no_run-of_run_end}
 use Rattle.sftp_audit.proofs.steps.ExchangeRuns.{run_on, run_fails, run_stops, run_ends}

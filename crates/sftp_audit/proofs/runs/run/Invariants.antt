@@ -1,5 +1,5 @@
 use Rattle.std.proofs.Common.{◌≡◌, drop}
-use Rattle.sftp_audit.specs.Explained.{leading_pairs}
+use Rattle.sftp_transcript.specs.Explained.{leading_pairs}
 use Rattle.sftp_audit.specs.Exchanges.{ledger_of}
 use Rattle.sftp_audit.proofs.steps.RunEnds.{run_end}
 use Rattle.sftp_audit.proofs.runs.run.Given as goal

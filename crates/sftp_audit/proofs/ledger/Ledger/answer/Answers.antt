@@ -6,7 +6,7 @@ use Rattle.sftp_wire.specs.declared.packets.Request.{Request}
 use Rattle.sftp_audit.specs.declared.exchanges.Exchange.{Exchange}
 use Rattle.sftp_audit.specs.Exchanges.{exchange_of, ledger_of}
 use Rattle.sftp_audit.proofs.pairing.Places.{within_exchanges, ledger_of-set}
-use Rattle.sftp_audit.proofs.pairing.Index.{parts_before, parts_after, still_answered, indexed_replied}
+use Rattle.sftp_transcript.proofs.pairing.Index.{parts_before, parts_after, still_answered, indexed_replied}
 use Rattle.sftp_audit.proofs.ledger.Ledger.answer.Goals as goal
 use Rattle.sftp_audit.proofs.ledger.Ledger.answer.Goals.{After-index_mut-exchange}
 

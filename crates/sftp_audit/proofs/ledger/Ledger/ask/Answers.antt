@@ -2,8 +2,8 @@ use Rattle.std.proofs.Common.{◌≡◌, ℕ, Some, length, false, cond, nat_eq,
 use Rattle.std.specs.Map.{lookup}
 use Rattle.std.proofs.lemmas.List.{length-map, map_push}
 use Rattle.sftp_audit.specs.Exchanges.{exchange_of, ledger_of}
-use Rattle.sftp_audit.specs.Ledger.{is_open}
-use Rattle.sftp_audit.proofs.pairing.Index.{in_use, not_in_use, too_late, soon_enough, indexed_asked}
+use Rattle.sftp_transcript.specs.Ledger.{is_open}
+use Rattle.sftp_transcript.proofs.pairing.Index.{in_use, not_in_use, too_late, soon_enough, indexed_asked}
 use Rattle.sftp_audit.proofs.ledger.Ledger.ask.Goals as goal
 
 pub returns-then-contains_key-clause-refused : goal.returns-then-contains_key-clause-refused

@@ -2,7 +2,7 @@ use Rattle.std.proofs.Common.{◌<◌, length, arith}
 use Rattle.std.proofs.lemmas.Grind.{common_steps}
 use Rattle.std.proofs.lemmas.List.{length-map}
 use Rattle.sftp_audit.specs.Exchanges.{exchange_of, ledger_of}
-use Rattle.sftp_audit.proofs.pairing.Index.{open_from_place}
+use Rattle.sftp_transcript.proofs.pairing.Index.{open_from_place}
 use Rattle.sftp_audit.proofs.ledger.Ledger.finish.Goals as goal
 
 pub returns-in-Some-clause-refused : goal.returns-in-Some-clause-refused

@@ -1,4 +1,4 @@
-use Rattle.sftp_audit.proofs.pairing.Index.{indexed_from_start}
+use Rattle.sftp_transcript.proofs.pairing.Index.{indexed_from_start}
 use Rattle.sftp_audit.proofs.ledger.Ledger.new.Goals as goal
 
 pub invariant_of-result : goal.invariant_of-result

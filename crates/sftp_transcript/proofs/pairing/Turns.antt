@@ -2,9 +2,9 @@
 use Rattle.std.proofs.Common.{◌≡◌, ◌==◌, ◌||◌, ℕ, Bool, true, false, List, [], ◌∷◌, refl, subst, eqb-true}
 use Rattle.std.proofs.lemmas.Bool.{or_parts}
 use Rattle.std.specs.List.{list_any, AllByRecursion}
-use Rattle.sftp_audit.specs.declared.events.Event.{Event}
-use Rattle.sftp_audit.specs.declared.events.Event.TheVariants.{Asked, Replied}
-use Rattle.sftp_audit.specs.Explained.{Turn, closed, turn_after, after_event, Matching}
+use Rattle.sftp_transcript.specs.declared.events.Event.{Event}
+use Rattle.sftp_transcript.specs.declared.events.Event.TheVariants.{Asked, Replied}
+use Rattle.sftp_transcript.specs.Explained.{Turn, closed, turn_after, after_event, Matching}
 
 abbrev pub id_of : Event → ℕ
 id_of (Asked request) = request.id

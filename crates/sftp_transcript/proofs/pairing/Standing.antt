@@ -8,12 +8,12 @@ use Rattle.std.proofs.lemmas.Bool.{le-ltb, ltb-true, cases_Bool, both_ways}
 use Rattle.std.proofs.lemmas.List.{length-append, append-nil}
 use Rattle.sftp_wire.specs.declared.packets.Request.{Request}
 use Rattle.sftp_wire.specs.declared.packets.Reply.{Reply}
-use Rattle.sftp_audit.specs.declared.events.Event.{Event}
-use Rattle.sftp_audit.specs.declared.events.Event.TheVariants.{Asked, Replied}
-use Rattle.sftp_audit.specs.Explained.{closed, waiting, broken, after_event, turn_after, Matching, next_reply}
-use Rattle.sftp_audit.specs.Explained.{exchanges_of, requests_before_reply, in_window, window}
-use Rattle.sftp_audit.specs.Ledger.{Exchange, with_replies, is_open, turn_of, AreApart, keeps_window, StandsFor}
-use Rattle.sftp_audit.specs.Ledger.{IsAnswered, IsComplete}
+use Rattle.sftp_transcript.specs.declared.events.Event.{Event}
+use Rattle.sftp_transcript.specs.declared.events.Event.TheVariants.{Asked, Replied}
+use Rattle.sftp_transcript.specs.Explained.{closed, waiting, broken, after_event, turn_after, Matching, next_reply}
+use Rattle.sftp_transcript.specs.Explained.{exchanges_of, requests_before_reply, in_window, window}
+use Rattle.sftp_transcript.specs.Ledger.{Exchange, with_replies, is_open, turn_of, AreApart, keeps_window, StandsFor}
+use Rattle.sftp_transcript.specs.Ledger.{IsAnswered, IsComplete}
 
 -- ---- tests
 

@@ -6,11 +6,11 @@ use Rattle.sftp_wire.specs.declared.packets.Packet.{Packet}
 use Rattle.sftp_wire.specs.declared.packets.Side.{Side}
 use Rattle.sftp_wire.specs.declared.packets.Side.TheVariants.{Client, Server}
 use Rattle.sftp_wire.specs.Spelling.{spelling, HasSpelling, side_of}
-use Rattle.sftp_audit.specs.declared.events.Event.{Event}
-use Rattle.sftp_audit.specs.declared.events.Event.TheVariants.{Asked, Replied}
-use Rattle.sftp_audit.specs.Transcript.{direction_of, packet_of, event_record, AreRecords, IsRecord}
-use Rattle.sftp_audit.specs.Records.{Begins}
-use Rattle.sftp_audit.proofs.transcripts.Reading.{record_parts, no_events}
+use Rattle.sftp_transcript.specs.declared.events.Event.{Event}
+use Rattle.sftp_transcript.specs.declared.events.Event.TheVariants.{Asked, Replied}
+use Rattle.sftp_transcript.specs.Transcript.{direction_of, packet_of, event_record, AreRecords, IsRecord}
+use Rattle.sftp_transcript.specs.Records.{Begins}
+use Rattle.sftp_transcript.proofs.transcripts.Reading.{record_parts, no_events}
 
 side_from_direction : (s t : Side) → direction_of s ≡ direction_of t → s ≡ t
 side_from_direction Client Client e = refl

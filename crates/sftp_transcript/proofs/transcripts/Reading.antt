@@ -5,12 +5,12 @@ use Rattle.std.specs.List.{flat_map, AllByRecursion}
 use Rattle.std.proofs.lemmas.Grind.{flat_map-append}
 use Rattle.std.proofs.lemmas.List.{append-nil, append_cancel_left}
 use Rattle.std.proofs.lemmas.List.Concat.{flat_map-cons}
-use Rattle.sftp_audit.specs.declared.events.Event.{Event}
+use Rattle.sftp_transcript.specs.declared.events.Event.{Event}
 use Rattle.sftp_wire.specs.declared.packets.Packet.{Packet}
 use Rattle.sftp_wire.specs.declared.packets.Packet.TheVariants.{Init, Version}
-use Rattle.sftp_audit.specs.Transcript.{transcript_opening, event_record, IsEvent, AreRecords, IsHandshake}
-use Rattle.sftp_audit.specs.Transcript.{IsRecord}
-use Rattle.sftp_audit.specs.Records.{Begins, IsInit, BeginsInit, IsVersion, BeginsVersion}
+use Rattle.sftp_transcript.specs.Transcript.{transcript_opening, event_record, IsEvent, AreRecords, IsHandshake}
+use Rattle.sftp_transcript.specs.Transcript.{IsRecord}
+use Rattle.sftp_transcript.specs.Records.{Begins, IsInit, BeginsInit, IsVersion, BeginsVersion}
 
 -- the events that are still to be read
 pub record Continues (events seen : List Event) (rest : List ℕ) : Type 0 where

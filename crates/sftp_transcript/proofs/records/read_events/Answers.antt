@@ -1,8 +1,8 @@
 -- What the bytes record begins with the opening, an INIT and a VERSION.
 use Rattle.std.proofs.lemmas.Result.{err_from_is_err_and, IfOk-weaker}
-use Rattle.sftp_audit.specs.Transcript.{AreRecords, IsRecord}
-use Rattle.sftp_audit.proofs.transcripts.Reading.{record_parts, record_by}
-use Rattle.sftp_audit.proofs.records.read_events.Goals as goal
+use Rattle.sftp_transcript.specs.Transcript.{AreRecords, IsRecord}
+use Rattle.sftp_transcript.proofs.transcripts.Reading.{record_parts, record_by}
+use Rattle.sftp_transcript.proofs.records.read_events.Goals as goal
 
 pub returns-in_err-records-2-clause-only : goal.returns-in_err-records-2-clause-only
 returns-in_err-records-2-clause-only c =

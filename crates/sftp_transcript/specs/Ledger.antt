@@ -6,9 +6,9 @@ use Rattle.std.specs.List.{AllByRecursion}
 use Rattle.std.specs.Map.{lookup}
 use Rattle.sftp_wire.specs.declared.packets.Request.{Request}
 use Rattle.sftp_wire.specs.declared.packets.Reply.{Reply}
-use Rattle.sftp_audit.specs.declared.events.Event.{Event}
-use Rattle.sftp_audit.specs.Explained.{Turn, closed, waiting, turn_after, Matching, next_reply, exchanges_of}
-use Rattle.sftp_audit.specs.Explained.{requests_before_reply, in_window, window}
+use Rattle.sftp_transcript.specs.declared.events.Event.{Event}
+use Rattle.sftp_transcript.specs.Explained.{Turn, closed, waiting, turn_after, Matching, next_reply, exchanges_of}
+use Rattle.sftp_transcript.specs.Explained.{requests_before_reply, in_window, window}
 
 -- a request, and its reply if there is one
 abbrev pub Exchange : Type 0

@@ -3,11 +3,11 @@
 ghost use Rattle.std.specs.Prelude.{◌≡◌, ℕ, List, ◌++◌, ◌<◌, length, IfOk, IfErr, IsTrue, false};
 ghost use Rattle.sftp_wire.specs.declared.packets.Packet.{Packet};
 ghost use Rattle.sftp_wire.specs.Spelling.{spelling, HasSpelling, side_of};
-ghost use Rattle.sftp_audit.specs.declared.events.Event.{Event};
-ghost use Rattle.sftp_audit.specs.Transcript.{transcript_opening, packet_of, event_record, IsEvent, AreRecords};
-ghost use Rattle.sftp_audit.specs.Transcript.{IsRecord, GivesRecorded};
-ghost use Rattle.sftp_audit.specs.Records.{side_of_direction, read_fault, Begins, GivesOnly};
-ghost use Rattle.sftp_audit.specs.Records.{IsInit, BeginsInit, IsVersion, BeginsVersion};
+ghost use Rattle.sftp_transcript.specs.declared.events.Event.{Event};
+ghost use Rattle.sftp_transcript.specs.Transcript.{transcript_opening, packet_of, event_record, IsEvent, AreRecords};
+ghost use Rattle.sftp_transcript.specs.Transcript.{IsRecord, GivesRecorded};
+ghost use Rattle.sftp_transcript.specs.Records.{side_of_direction, read_fault, Begins, GivesOnly};
+ghost use Rattle.sftp_transcript.specs.Records.{IsInit, BeginsInit, IsVersion, BeginsVersion};
 
 use crate::errors::TranscriptError;
 use crate::events::Event;
@@ -195,9 +195,9 @@ fn take_packet(
     }
 }
 
-/// The fault of a record whose packet cannot be read. `front` never returns `TooLong` or `NotCanonical`, which would be
-/// faults of the packet's length and of its type.
-fn read_fault(error: WireError, number: u64) -> TranscriptError
+/// The fault of a record whose packet cannot be read or written. A packet that is too long, or has a handle that is, is
+/// a fault of its length, and one that hides an extension a fault of its type: `front` returns neither.
+pub(crate) fn read_fault(error: WireError, number: u64) -> TranscriptError
     ensures { result ≡ read_fault number error }
 {
     match error {

@@ -2,8 +2,8 @@
 use Rattle.std.proofs.Common.{◌≡◌, arith}
 use Rattle.std.proofs.lemmas.Grind.{common_steps}
 use Rattle.std.proofs.lemmas.Result.{err_from_is_err_and}
-use Rattle.sftp_audit.proofs.transcripts.Reading.{IsRead-next, IsRead-refused, IsRead-only}
-use Rattle.sftp_audit.proofs.records.take_events.Goals as goal
+use Rattle.sftp_transcript.proofs.transcripts.Reading.{IsRead-next, IsRead-refused, IsRead-only}
+use Rattle.sftp_transcript.proofs.records.take_events.Goals as goal
 
 pub returns-in_err-event-clause-only : goal.returns-in_err-event-clause-only
 returns-in_err-event-clause-only c =

@@ -10,10 +10,10 @@ use Rattle.std.proofs.lemmas.List.{length-append, length-drop, take-append-drop,
 use Rattle.std.proofs.lemmas.Option.{slice_get_within, none-some, same_Some}
 use Rattle.sftp_wire.specs.declared.packets.Request.{Request}
 use Rattle.sftp_wire.specs.declared.packets.Reply.{Reply}
-use Rattle.sftp_audit.specs.Explained.{window}
-use Rattle.sftp_audit.specs.Ledger.{Exchange, is_open, AreApart, keeps_window, IsAnswered, IsIndexed}
-use Rattle.sftp_audit.proofs.pairing.Standing.{is_open-append, AreApart-asked, AreApart-answered, still_shut, alone}
-use Rattle.sftp_audit.proofs.pairing.Standing.{keeps_window-answered, keeps_window-few, keeps_window-many}
+use Rattle.sftp_transcript.specs.Explained.{window}
+use Rattle.sftp_transcript.specs.Ledger.{Exchange, is_open, AreApart, keeps_window, IsAnswered, IsIndexed}
+use Rattle.sftp_transcript.proofs.pairing.Standing.{is_open-append, AreApart-asked, AreApart-answered, still_shut, alone}
+use Rattle.sftp_transcript.proofs.pairing.Standing.{keeps_window-answered, keeps_window-few, keeps_window-many}
 
 -- ---- places of a list
 

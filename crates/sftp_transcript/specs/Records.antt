@@ -10,9 +10,9 @@ use Rattle.sftp_wire.specs.declared.packets.Packet.TheVariants.{Init, Version}
 use Rattle.sftp_wire.specs.declared.packets.Side.{Side}
 use Rattle.sftp_wire.specs.declared.packets.Side.TheVariants.{Client, Server}
 use Rattle.sftp_wire.specs.Spelling.{HasSpelling}
-use Rattle.sftp_audit.specs.declared.errors.TranscriptError.{TranscriptError}
-use Rattle.sftp_audit.specs.declared.errors.TranscriptError.TheVariants.{Wire, NoMemory}
-use Rattle.sftp_audit.specs.Transcript.{record_text}
+use Rattle.sftp_transcript.specs.declared.errors.TranscriptError.{TranscriptError}
+use Rattle.sftp_transcript.specs.declared.errors.TranscriptError.TheVariants.{Wire, NoMemory}
+use Rattle.sftp_transcript.specs.Transcript.{record_text}
 
 -- the side that a byte before a packet names
 abbrev pub side_of_direction : ℕ → Option Side
