@@ -1,2 +1,5 @@
 pub mod pairing
 pub mod transcripts
+pub mod Putting
+pub mod Buffers
+pub mod Inputs

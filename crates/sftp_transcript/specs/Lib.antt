@@ -3,3 +3,8 @@ pub mod Records
 pub mod Explained
 pub mod Ledger
 pub mod Examples
+pub mod Streams
+pub mod Memories
+pub mod Tallies
+pub mod Log
+pub mod Ahead

@@ -35,6 +35,11 @@ pub enum TranscriptError {
     Truncated {
         record: u64,
     },
+    /// The stream failed at this record.
+    #[error("record {record}: Io")]
+    Io {
+        record: u64,
+    },
     /// Memory ran out.
     #[error("out of memory")]
     NoMemory,

@@ -1,12 +1,23 @@
-//! Recorded sessions of SFTP: events, transcript files, and what it means that a session is explained. The crate knows no
-//! tree: a step of a session is a parameter of its definitions.
+//! Recorded sessions of SFTP: events, transcript files and the streams of bytes that they are read from and written to,
+//! and what it means that a session is explained. The crate knows no tree: a step of a session is a parameter of its
+//! definitions.
 #![tactic(auto)]
 
+mod buffer;
 mod errors;
 mod events;
+mod input;
 pub mod laws;
+mod memory;
 mod records;
+mod streams;
+mod tally;
+mod writer;
 
 pub use errors::TranscriptError;
 pub use events::Event;
+pub use memory::Memory;
 pub use records::{read_events, records_are_one};
+pub use streams::{Failed, Sink, Source};
+pub use tally::Tally;
+pub use writer::Writer;

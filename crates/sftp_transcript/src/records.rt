@@ -195,9 +195,9 @@ fn take_packet(
     }
 }
 
-/// The fault of a record whose packet cannot be read. `front` never returns `TooLong` or `NotCanonical`, which would be
-/// faults of the packet's length and of its type.
-fn read_fault(error: WireError, number: u64) -> TranscriptError
+/// The fault of a record whose packet cannot be read or written. A packet that is too long, or has a handle that is, is
+/// a fault of its length, and one that hides an extension a fault of its type: `front` returns neither.
+pub(crate) fn read_fault(error: WireError, number: u64) -> TranscriptError
     ensures { result ≡ read_fault number error }
 {
     match error {

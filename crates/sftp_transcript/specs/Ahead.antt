@@ -1,0 +1,48 @@
+-- What a reader of a transcript file has ahead of it: bytes that it holds, and bytes that its source has left.
+use Rattle.std.specs.Prelude.{◌≡◌, ℕ, ◌+◌, ◌*◌, ◌≤◌, List, ◌++◌, length, drop, Option, Some}
+use Rattle.std.specs.Io.KnownBytes.{Appends, Keeps, IsAtEnd, prepend_known}
+use Rattle.sftp_wire.specs.declared.packets.Packet.{Packet}
+use Rattle.sftp_wire.specs.Spelling.{HasSpelling, packet_limit}
+use Rattle.sftp_transcript.specs.Transcript.{transcript_opening, record_text}
+
+-- the bytes held; those left, where they are known; how many calls of the source failed; a number that falls with each
+-- read that gives bytes
+pub record Ahead : Type 0 where
+  pub held : List ℕ
+  pub left : Option (List ℕ)
+  pub failures : ℕ
+  pub reads_left : ℕ
+
+-- all bytes ahead, where they are known
+abbrev pub bytes_ahead : Ahead → Option (List ℕ)
+bytes_ahead a = prepend_known a.held a.left
+
+-- how many bytes are held at most
+abbrev pub capacity : ℕ
+capacity = 131072
+
+-- the most bytes of a record: the direction, and then the packet
+abbrev pub record_limit : ℕ
+record_limit = packet_limit + 1
+
+-- the same bytes are ahead
+pub record IsSameAhead (old new : Ahead) : Type 0 where
+  pub bytes : Keeps (bytes_ahead old) (bytes_ahead new)
+  pub never_rises : new.reads_left ≤ old.reads_left
+
+-- the record that the bytes ahead begin with, if any, is held whole
+abbrev pub HoldsRecord : Ahead → Type 0
+HoldsRecord a =
+    (packet : Packet) (bytes rest : List ℕ) → HasSpelling packet → bytes_ahead a ≡ Some bytes
+    → bytes ≡ record_text packet ++ rest → length (record_text packet) ≤ length a.held
+
+-- the opening, if the bytes ahead begin with it, is held whole
+abbrev pub HoldsOpening : Ahead → Type 0
+HoldsOpening a =
+    (bytes rest : List ℕ) → bytes_ahead a ≡ Some bytes → bytes ≡ transcript_opening ++ rest
+    → length transcript_opening ≤ length a.held
+
+-- the same without the first bytes held
+abbrev pub ahead_without : ℕ → Ahead → Ahead
+ahead_without count a =
+    record { held = drop count a.held; left = a.left; failures = a.failures; reads_left = a.reads_left }
