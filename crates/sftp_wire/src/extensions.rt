@@ -4,11 +4,14 @@ ghost use Rattle.sftp_wire.specs.Spelling.{is_known_extension, asks_known, hides
 
 use crate::packets::{Ask, Packet};
 
-pub(crate) const POSIX_RENAME: &[u8] = b"posix-rename@openssh.com";
+/// Rename as POSIX does (OpenSSH's PROTOCOL, section 4.3).
+pub const POSIX_RENAME: &[u8] = b"posix-rename@openssh.com";
 
-pub(crate) const HARDLINK: &[u8] = b"hardlink@openssh.com";
+/// Make another name for a file (OpenSSH's PROTOCOL, section 4.5).
+pub const HARDLINK: &[u8] = b"hardlink@openssh.com";
 
-pub(crate) const FSYNC: &[u8] = b"fsync@openssh.com";
+/// Flush an open file to storage (OpenSSH's PROTOCOL, section 4.6).
+pub const FSYNC: &[u8] = b"fsync@openssh.com";
 
 /// Whether a name is that of such an extension.
 fn is_known(name: &[u8]) -> bool

@@ -3,6 +3,7 @@
 #![tactic(auto)]
 
 mod attributes;
+mod copying;
 mod errors;
 pub mod examples;
 mod extensions;
@@ -21,6 +22,7 @@ mod writing;
 
 pub use attributes::{AttrFlags, Attrs};
 pub use errors::{Fault, WireError};
+pub use extensions::{FSYNC, HARDLINK, POSIX_RENAME};
 pub use framing::{FrameBuf, streams};
 pub use laws::spellings_are_apart;
 pub use names::{NameItem, Names};

@@ -59,6 +59,14 @@ impl ByteString {
     }
 }
 
+impl Clone for ByteString {
+    ghost is_clone = { λ string copy. copy ≡ string };
+
+    fn clone(&self) -> Result<ByteString, AllocError> {
+        ByteString::from_slice(*self.bytes.allocator(), self.bytes.as_slice())
+    }
+}
+
 /// Pairs of byte strings: the names and data of extensions (draft, section 4), or the types and data of
 /// extended attributes (section 5).
 #[derive(Debug, Drop)]
@@ -94,5 +102,15 @@ impl Pairs {
         ensures { result.items ≡ self }
     {
         self.pairs
+    }
+}
+
+impl Clone for Pairs {
+    ghost is_clone = { λ pairs copy. copy ≡ pairs };
+
+    fn clone(&self) -> Result<Pairs, AllocError> {
+        Ok(Pairs {
+            pairs: self.pairs.clone()?,
+        })
     }
 }
