@@ -1,4 +1,5 @@
-//! Laws of the server's core, as theorems on the definitions. The functions do nothing; each promise is in the contract.
+//! Laws of the server's core, as theorems on the definitions. The functions do nothing; each promise is in the
+//! contract.
 ghost use Rattle.std.specs.Prelude.{◌≡◌, ◌≤◌, ℕ, List, [], IsTrue};
 ghost use Rattle.sftp_transcript.specs.declared.events.Event.{Event};
 ghost use Rattle.sftp_transcript.specs.Explained.{Explained, BeginsFrom, in_window};

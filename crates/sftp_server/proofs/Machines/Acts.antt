@@ -1,7 +1,7 @@
 -- Each act keeps what a machine keeps.
-use Rattle.std.proofs.Common.{◌≡◌, ◌&&◌, ◌||◌, not, nat_lt, ℕ, ◌<◌, ◌≤◌, Bool, true, false, List, [], ◌∷◌, ◌++◌, map, length}
-use Rattle.std.proofs.Common.{zero, suc, get_or, drop, ap₂, subst₂}
-use Rattle.std.proofs.Common.{Option, Some, None, slice_get, take, refl, sym, ap, subst, ◌∙◌, append_assoc, append-nil, arith}
+use Rattle.std.proofs.Common.{◌≡◌, not, nat_lt, ℕ, zero, suc, ◌<◌, ◌≤◌, Bool, true, false, List, [], ◌∷◌, ◌++◌}
+use Rattle.std.proofs.Common.{length, get_or, take, drop, slice_get, Option, Some, None, refl, sym, ap, ap₂, subst}
+use Rattle.std.proofs.Common.{subst₂, ◌∙◌, append_assoc, append-nil, arith}
 use Rattle.std.specs.List.{AllByRecursion}
 use Rattle.std.proofs.lemmas.Bool.{and_parts, ltb-true, not-true}
 use Rattle.std.proofs.lemmas.List.{map-append, take_at}
@@ -17,14 +17,16 @@ use Rattle.sftp_server.specs.declared.queue.Progress.{Progress}
 use Rattle.sftp_server.specs.declared.queue.Progress.TheVariants.{Pending, Done, Sent}
 use Rattle.sftp_server.specs.declared.acts.Act.{Act}
 use Rattle.sftp_server.specs.declared.acts.Act.TheVariants.{Deliver, Work, Send}
-use Rattle.sftp_server.specs.Machine.{Machine, ClashOf, at_start, taken, can_take, is_unsent, is_free_of, ready_in, is_ready}
-use Rattle.sftp_server.specs.Machine.{reply_at, from_unsent, IsWorked, IsSent, IsIdle, IsDelivery, IsWork, IsSend, IsAct, AreActs}
-use Rattle.sftp_server.specs.Machine.{Delivers}
+use Rattle.sftp_server.specs.Machine.{Machine, ClashOf, at_start, taken, can_take, is_unsent, is_free_of, ready_in}
+use Rattle.sftp_server.specs.Machine.{is_ready, reply_at, from_unsent, IsWorked, IsSent, IsIdle, IsDelivery, IsWork}
+use Rattle.sftp_server.specs.Machine.{IsSend, IsAct, AreActs, Delivers}
 use Rattle.sftp_server.proofs.Machines.Premises.{Premises}
-use Rattle.sftp_server.proofs.Machines.Histories.{Fate, Item, Pair, pending, done, sent, progress_of, entry_of, entries_of}
-use Rattle.sftp_server.proofs.Machines.Histories.{ledger_of, answered, sent_first, unsent_on, IsItem, IsReplyFor, RunsOn, Follows}
+use Rattle.sftp_server.proofs.Machines.Histories.{Fate, Item, Pair, pending, done, sent, progress_of, entry_of}
+use Rattle.sftp_server.proofs.Machines.Histories.{entries_of, ledger_of, answered, sent_first, unsent_on, IsItem}
+use Rattle.sftp_server.proofs.Machines.Histories.{RunsOn, Follows}
 use Rattle.sftp_server.proofs.Machines.Runs.{runs-asked, runs-worked, runs-sent, runs-left}
-use Rattle.sftp_server.proofs.Machines.Ledgers.{stands-taken, ledger-worked, stands-sent, queue-left, ledger-left, all-left}
+use Rattle.sftp_server.proofs.Machines.Ledgers.{stands-taken, ledger-worked, stands-sent, queue-left}
+use Rattle.sftp_server.proofs.Machines.Ledgers.{ledger-left, all-left}
 
 -- ---- lists
 
@@ -131,18 +133,15 @@ ready-free : {S : Type 0} (clash : ClashOf S) (s : S) (queue front : List Entry)
     → ready_in clash s (take k queue) (slice_get queue k) ≡ true → is_free_of clash s front request ≡ true
 ready-free clash s queue front request back k queue_is position ready =
     let entry : Entry = entry_of (request, pending) in
-    let here : ready_in clash s (take (length front) (front ++ entry ∷ back)) (slice_get (front ++ entry ∷ back) (length front)) ≡ true =
-    subst (λ (q : List Entry). ready_in clash s (take (length front) q) (slice_get q (length front)) ≡ true) queue_is
-    (subst (λ (n : ℕ). ready_in clash s (take n queue) (slice_get queue n) ≡ true) (sym position) ready) in
-    let there : ready_in clash s (take (length front) (front ++ entry ∷ back)) (Some entry) ≡ true =
-    subst (λ (o : Option Entry). ready_in clash s (take (length front) (front ++ entry ∷ back)) o ≡ true)
-    (slice_get-middle front entry back) here in
-    subst (λ (q : List Entry). ready_in clash s q (Some entry) ≡ true)
-    (take_at front (entry ∷ back) (length front) refl) there
+    let before : take k queue ≡ front = ap (take k) queue_is ∙ take_at front (entry ∷ back) k position in
+    let here : slice_get queue k ≡ Some entry =
+    ap₂ slice_get queue_is (sym position) ∙ slice_get-middle front entry back in
+    subst₂ (λ (q : List Entry) (o : Option Entry). ready_in clash s q o ≡ true) before here ready
 
 -- ---- acts
 
-module _ {S : Type 0} (step : StepOf S) (clash : ClashOf S) (good : S → Type 0) (value : Request → Type 0) (laws : Premises step clash good value) (start : S) where
+module _ {S : Type 0} (step : StepOf S) (clash : ClashOf S) (good : S → Type 0) (value : Request → Type 0)
+    (laws : Premises step clash good value) (start : S) where
   abbrev FollowsTo : Machine S → List Event → Type 0
   FollowsTo machine seen = Follows step good value start machine seen
 
@@ -162,9 +161,10 @@ module _ {S : Type 0} (step : StepOf S) (clash : ClashOf S) (good : S → Type 0
   follows-taken : (before : Machine S) (seen : List Event) (request : Request) → FollowsTo before seen → value request
       → can_take before request ≡ true → FollowsTo (taken before request) (seen ++ Asked request ∷ [])
   follows-taken before seen request f is can =
-      let parts = and_parts (nat_lt (length before.queue) before.window) (not (is_unsent request.id before.queue)) can in
+      let shut = is_unsent request.id before.queue in
+      let parts = and_parts (nat_lt (length before.queue) before.window) (not shut) can in
       let free : is_unsent request.id (entries_of f.items) ≡ false =
-      ap (is_unsent request.id) (sym f.queue_is) ∙ not-true (is_unsent request.id before.queue) parts.1 in
+      ap (is_unsent request.id) (sym f.queue_is) ∙ not-true shut parts.1 in
       let room : length before.queue < window = omega (arith, ltb-true _ _ parts.0, f.bounded) in
       let few : length (entries_of f.items) < window =
       subst (λ (q : List Entry). length q < window) f.queue_is room in
@@ -191,19 +191,21 @@ module _ {S : Type 0} (step : StepOf S) (clash : ClashOf S) (good : S → Type 0
       let free : is_free_of clash before.state (entries_of place.front_items) w.request ≡ true =
       subst (λ (q : List Entry). is_free_of clash before.state q w.request ≡ true) (sym place.front_is)
       (ready-free clash before.state before.queue w.front w.request w.back k w.queue_is w.position ready) in
-      let same_ledger : ledger_of f.items ≡ ledger_of (place.front_items ++ (w.request, done w.reply) ∷ place.back_items) =
+      let item : Item = (w.request, done w.reply) in
+      let items : List Item = place.front_items ++ item ∷ place.back_items in
+      let same_ledger : ledger_of f.items ≡ ledger_of items =
       ap ledger_of place.items_are ∙ sym (ledger-worked place.front_items w.request w.reply place.back_items) in
       record {
         past = f.past;
-        items = place.front_items ++ (w.request, done w.reply) ∷ place.back_items;
+        items = items;
         queue_is = w.marked
-            ∙ sym (entries-split place.front_items (w.request, done w.reply) place.back_items w.front w.back place.front_is place.back_is);
+            ∙ sym (entries-split place.front_items item place.back_items w.front w.back place.front_is place.back_is);
         bounded = subst (λ (n : ℕ). n ≤ window) (sym w.same_window) f.bounded;
         good_state = laws.stays_good before.state after.state w.request w.reply f.good_state parts.here.0 w.allowed;
-        all = all-append (IsItem value) place.front_items ((w.request, done w.reply) ∷ place.back_items) parts.before
+        all = all-append (IsItem value) place.front_items (item ∷ place.back_items) parts.before
             ((parts.here.0, (same, w.spelled)), parts.after);
-        runs = runs-worked step clash good value laws start before.state after.state f.past place.front_items w.request w.reply
-            place.back_items f.good_state parts.here.0 parts.before free w.allowed
+        runs = runs-worked step clash good value laws start before.state after.state f.past place.front_items w.request
+            w.reply place.back_items f.good_state parts.here.0 parts.before free w.allowed
             (subst (RunsOn step start f.past before.state) place.items_are f.runs);
         stands = subst (λ (l : List Exchange). StandsFor (answered f.past ++ l) seen) same_ledger f.stands;
       }
@@ -215,18 +217,20 @@ module _ {S : Type 0} (step : StepOf S) (clash : ClashOf S) (good : S → Type 0
       (sym f.queue_is ∙ w.queue_is) in
       let parts = all-parts (IsItem value) place.front_items (w.request, done reply) place.back_items
       (subst (AllByRecursion (IsItem value)) place.items_are f.all) in
-      let items : List Item = place.front_items ++ (w.request, sent reply) ∷ place.back_items in
+      let item : Item = (w.request, sent reply) in
+      let items : List Item = place.front_items ++ item ∷ place.back_items in
       let all : AllByRecursion (IsItem value) items =
-      all-append (IsItem value) place.front_items ((w.request, sent reply) ∷ place.back_items) parts.before
+      all-append (IsItem value) place.front_items (item ∷ place.back_items) parts.before
       ((parts.here.0, tt), parts.after) in
       let runs : RunsOn step start f.past before.state items =
       runs-sent step start before.state f.past place.front_items w.request reply place.back_items
       (subst (RunsOn step start f.past before.state) place.items_are f.runs) in
       let stands : StandsFor (answered f.past ++ ledger_of items) (seen ++ Replied reply ∷ []) =
       stands-sent f.past place.front_items w.request reply place.back_items seen
-      (subst (λ (is : List Item). StandsFor (answered f.past ++ ledger_of is) seen) place.items_are f.stands) parts.here.1.0 in
+      (subst (λ (is : List Item). StandsFor (answered f.past ++ ledger_of is) seen) place.items_are f.stands)
+      parts.here.1.0 in
       let queue : w.front ++ record { request = w.request; progress = Sent } ∷ w.back ≡ entries_of items =
-      sym (entries-split place.front_items (w.request, sent reply) place.back_items w.front w.back place.front_is place.back_is) in
+      sym (entries-split place.front_items item place.back_items w.front w.back place.front_is place.back_is) in
       subst (λ (m : Machine S). FollowsTo m (seen ++ Replied reply ∷ [])) (sym w.marked)
       (record {
         past = f.past ++ sent_first items;
@@ -236,7 +240,8 @@ module _ {S : Type 0} (step : StepOf S) (clash : ClashOf S) (good : S → Type 0
         good_state = f.good_state;
         all = all-left (IsItem value) items all;
         runs = runs-left step start before.state f.past items runs;
-        stands = subst (λ (l : List Exchange). StandsFor l (seen ++ Replied reply ∷ [])) (sym (ledger-left f.past items)) stands;
+        stands = subst (λ (l : List Exchange). StandsFor l (seen ++ Replied reply ∷ []))
+            (sym (ledger-left f.past items)) stands;
       })
 
   follows-idle : (before : Machine S) (seen events : List Event) (after : Machine S) → FollowsTo before seen
@@ -245,8 +250,8 @@ module _ {S : Type 0} (step : StepOf S) (clash : ClashOf S) (good : S → Type 0
       let none : seen ++ events ≡ seen = ap (λ (es : List Event). seen ++ es) idle.silent ∙ append-nil seen in
       subst₂ FollowsTo (sym idle.unchanged) (sym none) f
 
-  follows-delivery : (before : Machine S) (seen : List Event) (request : Request) (events : List Event) (after : Machine S)
-      → FollowsTo before seen → value request → (can : Bool) → can_take before request ≡ can
+  follows-delivery : (before : Machine S) (seen : List Event) (request : Request) (events : List Event)
+      (after : Machine S) → FollowsTo before seen → value request → (can : Bool) → can_take before request ≡ can
       → IsDelivery can before request events after → FollowsTo after (seen ++ events)
   follows-delivery before seen request events after f is true can d =
       subst₂ (λ (m : Machine S) (es : List Event). FollowsTo m (seen ++ es)) (sym d.0) (sym d.1)
@@ -278,9 +283,9 @@ module _ {S : Type 0} (step : StepOf S) (clash : ClashOf S) (good : S → Type 0
   follows-act before seen (Send k) events after f is a =
       follows-send before seen k events after f (reply_at before.queue k) a
 
-  pub follows-acts : (before : Machine S) (seen : List Event) (acts : List Act) (events : List Event) (after : Machine S)
-      → FollowsTo before seen → AllByRecursion (Delivers value) acts → AreActs step clash before acts events after
-      → FollowsTo after (seen ++ events)
+  pub follows-acts : (before : Machine S) (seen : List Event) (acts : List Act) (events : List Event)
+      (after : Machine S) → FollowsTo before seen → AllByRecursion (Delivers value) acts
+      → AreActs step clash before acts events after → FollowsTo after (seen ++ events)
   follows-acts before seen [] events after f all idle = follows-idle before seen events after f idle
   follows-acts before seen (act ∷ acts) events after f all run =
       let first = follows-act before seen act run.1 run.0 f all.0 run.3 in
@@ -293,6 +298,13 @@ pub acts-more : {S : Type 0} (step : StepOf S) (clash : ClashOf S) (before mid a
     (events : List Event) (act : Act) (more : List Event) → AreActs step clash before acts events mid
     → IsAct step clash mid act more after → AreActs step clash before (acts ++ act ∷ []) (events ++ more) after
 acts-more {S} step clash before mid after [] events act more idle last =
-    (after, more, [], subst (λ (m : Machine S). IsAct step clash m act more after) idle.unchanged last, record { unchanged = refl; silent = refl }, ap (λ (es : List Event). es ++ more) idle.silent ∙ sym (append-nil more))
+    let acted : IsAct step clash before act more after =
+    subst (λ (m : Machine S). IsAct step clash m act more after) idle.unchanged last in
+    let all : events ++ more ≡ more ++ [] =
+    ap (λ (es : List Event). es ++ more) idle.silent ∙ sym (append-nil more) in
+    (after, more, [], acted, record { unchanged = refl; silent = refl }, all)
 acts-more step clash before mid after (first ∷ acts) events act more run last =
-    (run.0, run.1, run.2 ++ more, run.3, acts-more step clash run.0 mid after acts run.2 act more run.4 last, ap (λ (es : List Event). es ++ more) run.5 ∙ append_assoc run.1 run.2 more)
+    let rest = acts-more step clash run.0 mid after acts run.2 act more run.4 last in
+    let all : events ++ more ≡ run.1 ++ (run.2 ++ more) =
+    ap (λ (es : List Event). es ++ more) run.5 ∙ append_assoc run.1 run.2 more in
+    (run.0, run.1, run.2 ++ more, run.3, rest, all)

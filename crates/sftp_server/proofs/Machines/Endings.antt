@@ -1,5 +1,6 @@
 -- A machine can go on until each request is answered, and its session is then explained.
-use Rattle.std.proofs.Common.{◌≡◌, true, List, [], ◌∷◌, ◌++◌, Some, None, refl, sym, ap, subst, ◌∙◌, append_assoc, append-nil}
+use Rattle.std.proofs.Common.{◌≡◌, true, List, [], ◌∷◌, ◌++◌, Some, None, refl, sym, ap, subst, ◌∙◌}
+use Rattle.std.proofs.Common.{append_assoc, append-nil}
 use Rattle.std.specs.List.{AllByRecursion}
 use Rattle.std.proofs.lemmas.Bool.{and_from}
 use Rattle.sftp_wire.specs.declared.packets.Request.{Request}
@@ -54,9 +55,11 @@ answers-next request reply items pairs more same rest front seen stands =
     stands_replied front request reply (ledger_of items) seen stands (sym same) in
     let all : StandsFor (front ++ (request, Some reply) ∷ answered pairs) ((seen ++ Replied reply ∷ []) ++ more) =
     answers-sent request reply items pairs more rest front (seen ++ Replied reply ∷ []) next in
-    subst (StandsFor (front ++ (request, Some reply) ∷ answered pairs)) (append_assoc seen (Replied reply ∷ []) more) all
+    subst (StandsFor (front ++ (request, Some reply) ∷ answered pairs)) (append_assoc seen (Replied reply ∷ []) more)
+    all
 
-module _ {S : Type 0} (step : StepOf S) (clash : ClashOf S) (good : S → Type 0) (value : Request → Type 0) (laws : Premises step clash good value) where
+module _ {S : Type 0} (step : StepOf S) (clash : ClashOf S) (good : S → Type 0) (value : Request → Type 0)
+    (laws : Premises step clash good value) where
   -- the pending requests are done in the order asked, and then all unsent replies are sent in this order
   ending-of : (items : List Item) (s : S) → good s → AllByRecursion (IsItem value) items → Ending step s items
   ending-of [] s fine all = record {
@@ -148,8 +151,8 @@ module _ {S : Type 0} (step : StepOf S) (clash : ClashOf S) (good : S → Type 0
       explained-by start machine.state f.past seen stands run
 
 -- the window holds of the events so far
-pub in-window : {S : Type 0} (step : StepOf S) (good : S → Type 0) (value : Request → Type 0) (start : S) (machine : Machine S) (seen : List Event)
-    → Follows step good value start machine seen → in_window seen ≡ true
+pub in-window : {S : Type 0} (step : StepOf S) (good : S → Type 0) (value : Request → Type 0) (start : S)
+    (machine : Machine S) (seen : List Event) → Follows step good value start machine seen → in_window seen ≡ true
 unfolding in_window
 in-window step good value start machine seen f =
     ap in_window (sym (append-nil seen)) ∙ f.stands.window_is []

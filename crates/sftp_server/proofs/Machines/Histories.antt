@@ -1,5 +1,5 @@
 -- The requests of a machine with all that is known of their replies, and what a machine keeps of them.
-use Rattle.std.proofs.Common.{◌≡◌, ℕ, ◌≤◌, List, [], ◌∷◌, ◌++◌, map, Option, Some, None}
+use Rattle.std.proofs.Common.{◌≡◌, ◌≤◌, List, [], ◌∷◌, ◌++◌, map, Option, Some, None}
 use Rattle.std.specs.List.{AllByRecursion}
 use Rattle.sftp_wire.specs.declared.packets.Packet.TheVariants.{Reply as reply_packet}
 use Rattle.sftp_wire.specs.declared.packets.Request.{Request}
@@ -97,7 +97,8 @@ RunsOn {S} step start past s items =
     (pairs : List Pair) (end : S) → Finishes step s items pairs end → Run step start (past ++ pairs) end
 
 -- The requests that left the queue have replies, and those in the queue have items; both in the order asked.
-pub record Follows {S : Type 0} (step : StepOf S) (good : S → Type 0) (value : Request → Type 0) (start : S) (machine : Machine S) (seen : List Event) : Type 0 where
+pub record Follows {S : Type 0} (step : StepOf S) (good : S → Type 0) (value : Request → Type 0) (start : S)
+    (machine : Machine S) (seen : List Event) : Type 0 where
   pub past : List Pair
   pub items : List Item
   pub queue_is : machine.queue ≡ entries_of items

@@ -15,7 +15,17 @@ use Rattle.sftp_server.proofs.Machines.Histories.{Follows}
 use Rattle.sftp_server.proofs.Machines.Acts.{follows-start, follows-acts}
 use Rattle.sftp_server.proofs.Machines.Endings as endings
 
-module _ (stays : (s : State) (request : Request) (reply : Reply) (end : State) → Good s → IsAsk request.ask → Allowed s request reply end → Good end) (total : (s : State) (request : Request) → Good s → IsAskable request → IsAnswerable s request) where
+-- a good state stays good
+abbrev pub StaysGood : Type 0
+StaysGood =
+    (s : State) (request : Request) (reply : Reply) (end : State) → Good s → IsAsk request.ask
+    → Allowed s request reply end → Good end
+
+-- each request has a reply
+abbrev pub IsTotal : Type 0
+IsTotal = (s : State) (request : Request) → Good s → IsAskable request → IsAnswerable s request
+
+module _ (stays : StaysGood) (total : IsTotal) where
   some-reply : (s : State) (request : Request) → Good s → IsValue request → HasReply Allowed s request
   some-reply s request good is =
       let some = total s request good is.askable in
@@ -30,35 +40,31 @@ module _ (stays : (s : State) (request : Request) (reply : Reply) (end : State) 
     same_id = λ s end p a does. does.same_id;
   }
 
-  follows : (start : State) (window : ℕ) (events : List Event) (core : Machine State) → Good start → window ≤ 1024
-      → IsReached start window events core
-      → Follows Allowed Good IsValue start core events
+  follows : (start : State) (window : ℕ) (events : List Event) (core : Machine State) → Good start
+      → window ≤ 1024 → IsReached start window events core → Follows Allowed Good IsValue start core events
   follows start window events core good bound reached =
+      let first = follows-start Allowed server_clash Good IsValue in-order start window good bound in
       follows-acts Allowed server_clash Good IsValue in-order start (at_start start window) [] reached.acts events core
-      (follows-start Allowed server_clash Good IsValue in-order start window good bound) reached.deliverable reached.steps
+      first reached.deliverable reached.steps
 
-  pub begun : (start : State) (window : ℕ) (events : List Event) (core : Machine State) → Good start → window ≤ 1024
-      → IsReached start window events core
-      → BeginsFrom Allowed start events
+  pub begun : (start : State) (window : ℕ) (events : List Event) (core : Machine State) → Good start
+      → window ≤ 1024 → IsReached start window events core → BeginsFrom Allowed start events
   begun start window events core good bound reached =
       endings.begins Allowed server_clash Good IsValue in-order start core events
       (follows start window events core good bound reached)
 
-  pub explained : (start : State) (window : ℕ) (events : List Event) (core : Machine State) → Good start → window ≤ 1024
-      → IsReached start window events core
-      → core.queue ≡ [] → Explained Allowed start events core.state
+  pub explained : (start : State) (window : ℕ) (events : List Event) (core : Machine State) → Good start
+      → window ≤ 1024 → IsReached start window events core → core.queue ≡ [] → Explained Allowed start events core.state
   explained start window events core good bound reached empty =
       endings.explained Allowed server_clash Good IsValue in-order start core events
       (follows start window events core good bound reached) empty
 
-  pub windowed : (start : State) (window : ℕ) (events : List Event) (core : Machine State) → Good start → window ≤ 1024
-      → IsReached start window events core
-      → in_window events ≡ true
+  pub windowed : (start : State) (window : ℕ) (events : List Event) (core : Machine State) → Good start
+      → window ≤ 1024 → IsReached start window events core → in_window events ≡ true
   windowed start window events core good bound reached =
       endings.in-window Allowed Good IsValue start core events (follows start window events core good bound reached)
 
-  pub still-good : (start : State) (window : ℕ) (events : List Event) (core : Machine State) → Good start → window ≤ 1024
-      → IsReached start window events core
-      → Good core.state
+  pub still-good : (start : State) (window : ℕ) (events : List Event) (core : Machine State) → Good start
+      → window ≤ 1024 → IsReached start window events core → Good core.state
   still-good start window events core good bound reached =
       (follows start window events core good bound reached).good_state

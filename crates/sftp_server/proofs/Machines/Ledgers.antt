@@ -1,6 +1,6 @@
 -- How the ledger of a machine goes on with each act.
-use Rattle.std.proofs.Common.{◌≡◌, ◌==◌, ◌||◌, ℕ, ◌+◌, ◌<◌, ◌≤◌, true, false, List, [], ◌∷◌, ◌++◌, Some, None, length, refl}
-use Rattle.std.proofs.Common.{sym, ap, subst, ◌∙◌, append_assoc, arith, map}
+use Rattle.std.proofs.Common.{◌≡◌, ◌==◌, ◌||◌, ℕ, ◌<◌, ◌≤◌, true, false, List, [], ◌∷◌, ◌++◌, Some, None, length}
+use Rattle.std.proofs.Common.{refl, sym, ap, subst, ◌∙◌, append_assoc, arith}
 use Rattle.std.specs.List.{AllByRecursion}
 use Rattle.std.proofs.lemmas.List.{length-append, length-map, map-append}
 use Rattle.sftp_wire.specs.declared.packets.Request.{Request}
@@ -12,8 +12,8 @@ use Rattle.sftp_transcript.specs.Ledger.{Exchange, is_open, keeps_window, Stands
 use Rattle.sftp_transcript.proofs.pairing.Standing.{stands_asked, stands_replied, is_open-append, none_open}
 use Rattle.sftp_transcript.proofs.pairing.Standing.{keeps_window-answered, keeps_window-few}
 use Rattle.sftp_server.specs.Machine.{is_unsent, from_unsent}
-use Rattle.sftp_server.proofs.Machines.Histories.{Item, Pair, pending, done, sent, entries_of, ledger_of, entry_of, exchange_of, answered}
-use Rattle.sftp_server.proofs.Machines.Histories.{sent_first, unsent_on, IsItem}
+use Rattle.sftp_server.proofs.Machines.Histories.{Item, Pair, pending, done, sent, entry_of, entries_of, ledger_of}
+use Rattle.sftp_server.proofs.Machines.Histories.{exchange_of, answered, sent_first, unsent_on}
 
 -- ---- what was answered
 
@@ -50,20 +50,25 @@ open-queue id past items =
 
 -- ---- a request more
 
+same_length : (items : List Item) → length (ledger_of items) ≡ length (entries_of items)
+same_length items = length-map items exchange_of ∙ sym (length-map items entry_of)
+
 pub stands-taken : (past : List Pair) (items : List Item) (seen : List Event) (request : Request)
     → StandsFor (answered past ++ ledger_of items) seen → is_unsent request.id (entries_of items) ≡ false
     → length (entries_of items) < window
     → StandsFor (answered past ++ ledger_of (items ++ (request, pending) ∷ [])) (seen ++ Asked request ∷ [])
 stands-taken past items seen request stands free few =
     let few_exchanges : length (ledger_of items ++ (request, None) ∷ []) ≤ window =
-    omega (arith, length-append (ledger_of items) ((request, None) ∷ []), length-map items exchange_of, length-map items entry_of) in
+    omega (arith, length-append (ledger_of items) ((request, None) ∷ []), same_length items) in
     let more : answered past ++ ledger_of (items ++ (request, pending) ∷ [])
     ≡ (answered past ++ ledger_of items) ++ (request, None) ∷ [] =
     ap (λ (l : List Exchange). answered past ++ l) (map-append exchange_of items ((request, pending) ∷ []))
     ∙ sym (append_assoc (answered past) (ledger_of items) ((request, None) ∷ [])) in
+    let waiting : List Exchange = ledger_of items ++ (request, None) ∷ [] in
     let kept : keeps_window ((answered past ++ ledger_of items) ++ (request, None) ∷ []) [] ≡ true =
-    rw (append_assoc (answered past) (ledger_of items) ((request, None) ∷ []), keeps_window-answered (answered past) (ledger_of items ++ (request, None) ∷ []) [] (all-answered past))
-    (keeps_window-few (ledger_of items ++ (request, None) ∷ []) few_exchanges) in
+    ap (λ (l : List Exchange). keeps_window l [])
+    (append_assoc (answered past) (ledger_of items) ((request, None) ∷ []))
+    ∙ keeps_window-answered (answered past) waiting [] (all-answered past) ∙ keeps_window-few waiting few_exchanges in
     subst (λ (l : List Exchange). StandsFor l (seen ++ Asked request ∷ [])) (sym more)
     (stands_asked (answered past ++ ledger_of items) seen request stands (open-queue request.id past items ∙ free) kept)
 
@@ -91,8 +96,10 @@ stands-sent past front request reply back seen stands same =
     ≡ (answered past ++ ledger_of front) ++ (request, Some reply) ∷ ledger_of back =
     ap (λ (l : List Exchange). answered past ++ l) (map-append exchange_of front ((request, sent reply) ∷ back))
     ∙ sym (append_assoc (answered past) (ledger_of front) ((request, Some reply) ∷ ledger_of back)) in
+    let waits : StandsFor ((answered past ++ ledger_of front) ++ (request, None) ∷ ledger_of back) seen =
+    subst (λ (l : List Exchange). StandsFor l seen) before stands in
     subst (λ (l : List Exchange). StandsFor l (seen ++ Replied reply ∷ [])) (sym after)
-    (stands_replied (answered past ++ ledger_of front) request reply (ledger_of back) seen (subst (λ (l : List Exchange). StandsFor l seen) before stands) (sym same))
+    (stands_replied (answered past ++ ledger_of front) request reply (ledger_of back) seen waits (sym same))
 
 -- ---- what leaves the queue
 

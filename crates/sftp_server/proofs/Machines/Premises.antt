@@ -15,7 +15,8 @@ pub record HasReply {S : Type 0} (step : StepOf S) (s : S) (request : Request) :
   pub spelled : HasSpelling (reply_packet reply)
 
 -- the laws of a step and a clash, in good states and for requests that are values
-pub record Premises {S : Type 0} (step : StepOf S) (clash : ClashOf S) (good : S → Type 0) (value : Request → Type 0) : Type 0 where
+pub record Premises {S : Type 0} (step : StepOf S) (clash : ClashOf S) (good : S → Type 0)
+    (value : Request → Type 0) : Type 0 where
   -- two requests that do not clash may change places: the replies and the end are the same
   pub exchange : (s mid end : S) (p q : Request) (a b : Reply) → good s → value p → value q → clash s p q ≡ false
       → step s q b mid → step mid p a end → (other : S) × step s p a other × step other q b end

@@ -1,6 +1,6 @@
 -- What is reached from what was reached, by one act more.
-use Rattle.std.proofs.Common.{◌≡◌, ℕ, Bool, true, false, List, [], ◌∷◌, ◌++◌, Option, Some, refl, sym, subst, append-nil}
-use Rattle.std.specs.List.{AllByRecursion}
+use Rattle.std.proofs.Common.{◌≡◌, ℕ, Bool, true, List, [], ◌∷◌, ◌++◌, Option, Some, refl, sym, subst}
+use Rattle.std.proofs.Common.{append-nil}
 use Rattle.sftp_wire.specs.declared.packets.Request.{Request}
 use Rattle.sftp_wire.specs.declared.packets.Reply.{Reply}
 use Rattle.sftp_handles.specs.State.{State}
@@ -24,11 +24,13 @@ reached-start start window = record {
 pub reached-act : (start : State) (window : ℕ) (events : List Event) (before after : Machine State) (act : Act)
     (more : List Event) → IsReached start window events before → Delivers IsValue act
     → IsAct Allowed server_clash before act more after → IsReached start window (events ++ more) after
-reached-act start window events before after act more reached is acted = record {
-  acts = reached.acts ++ act ∷ [];
-  deliverable = all-append (Delivers IsValue) reached.acts (act ∷ []) reached.deliverable (is, tt);
-  steps = acts-more Allowed server_clash (at_start start window) before after reached.acts events act more reached.steps acted;
-}
+reached-act start window events before after act more reached is acted =
+    let first = at_start start window in
+    record {
+      acts = reached.acts ++ act ∷ [];
+      deliverable = all-append (Delivers IsValue) reached.acts (act ∷ []) reached.deliverable (is, tt);
+      steps = acts-more Allowed server_clash first before after reached.acts events act more reached.steps acted;
+    }
 
 -- a request was taken
 pub reached-taken : (start : State) (window : ℕ) (events : List Event) (before : Machine State) (request : Request)
@@ -37,7 +39,8 @@ pub reached-taken : (start : State) (window : ℕ) (events : List Event) (before
 reached-taken start window events before request reached is can =
     let acted : IsDelivery (can_take before request) before request (Asked request ∷ []) (taken before request) =
     rw can (refl, refl) in
-    reached-act start window events before (taken before request) (Deliver request) (Asked request ∷ []) reached is acted
+    reached-act start window events before (taken before request) (Deliver request) (Asked request ∷ []) reached is
+    acted
 
 -- a request was done
 pub reached-worked : (start : State) (window : ℕ) (events : List Event) (before after : Machine State) (k : ℕ)
@@ -50,9 +53,9 @@ reached-worked start window events before after k reached ready worked =
     (reached-act start window events before after (Work k) [] reached tt acted)
 
 -- a reply was sent
-pub reached-sent : (start : State) (window : ℕ) (events : List Event) (before after : Machine State) (k : ℕ) (reply : Reply)
-    → IsReached start window events before → reply_at before.queue k ≡ Some reply → IsSent before k reply after
-    → IsReached start window (events ++ Replied reply ∷ []) after
+pub reached-sent : (start : State) (window : ℕ) (events : List Event) (before after : Machine State) (k : ℕ)
+    (reply : Reply) → IsReached start window events before → reply_at before.queue k ≡ Some reply
+    → IsSent before k reply after → IsReached start window (events ++ Replied reply ∷ []) after
 reached-sent start window events before after k reply reached is acted =
     reached-act start window events before after (Send k) (Replied reply ∷ []) reached tt
     (subst (λ (o : Option Reply). IsSend o before k (Replied reply ∷ []) after) (sym is) (acted, refl))

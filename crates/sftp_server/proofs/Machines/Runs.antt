@@ -1,5 +1,5 @@
 -- How the run of all requests goes on with each act.
-use Rattle.std.proofs.Common.{◌≡◌, ◌&&◌, not, Bool, true, false, List, [], ◌∷◌, ◌++◌, refl, sym, ap, subst, ◌∙◌}
+use Rattle.std.proofs.Common.{◌≡◌, not, true, false, List, [], ◌∷◌, ◌++◌, refl, sym, ap, subst, ◌∙◌}
 use Rattle.std.proofs.Common.{append_assoc}
 use Rattle.std.specs.List.{AllByRecursion}
 use Rattle.std.proofs.lemmas.Bool.{and_parts, and_from, not-true, not_from_false}
@@ -8,13 +8,14 @@ use Rattle.sftp_wire.specs.declared.packets.Reply.{Reply}
 use Rattle.sftp_transcript.specs.Explained.{StepOf, Run}
 use Rattle.sftp_server.specs.Machine.{ClashOf, is_free_of}
 use Rattle.sftp_server.proofs.Machines.Premises.{Premises}
-use Rattle.sftp_server.proofs.Machines.Histories.{Fate, Item, Pair, pending, done, sent, entries_of, Finishes, RunsOn, IsItem}
-use Rattle.sftp_server.proofs.Machines.Histories.{sent_first, unsent_on}
+use Rattle.sftp_server.proofs.Machines.Histories.{Item, Pair, pending, done, sent, entries_of, IsItem}
+use Rattle.sftp_server.proofs.Machines.Histories.{Finishes, RunsOn, sent_first, unsent_on}
 
 -- ---- runs
 
-pub run-append : {S : Type 0} (step : StepOf S) (start mid end : S) (pairs : List Pair) (request : Request) (reply : Reply)
-    → Run step start pairs mid → step mid request reply end → Run step start (pairs ++ (request, reply) ∷ []) end
+pub run-append : {S : Type 0} (step : StepOf S) (start mid end : S) (pairs : List Pair) (request : Request)
+    (reply : Reply) → Run step start pairs mid → step mid request reply end
+    → Run step start (pairs ++ (request, reply) ∷ []) end
 run-append step start mid end [] request reply run last =
     (end, subst (λ s. step s request reply end) run last, refl)
 run-append step start mid end (pair ∷ pairs) request reply run last =
@@ -23,7 +24,8 @@ run-append step start mid end (pair ∷ pairs) request reply run last =
 -- ---- a request more
 
 -- it is done last
-pub record DoneLast {S : Type 0} (step : StepOf S) (s : S) (items : List Item) (request : Request) (pairs : List Pair) (end : S) : Type 0 where
+pub record DoneLast {S : Type 0} (step : StepOf S) (s : S) (items : List Item) (request : Request)
+    (pairs : List Pair) (end : S) : Type 0 where
   pub others : List Pair
   pub mid : S
   pub reply : Reply
@@ -81,7 +83,8 @@ runs-asked step start s past items request runs pairs end f =
 
 -- ---- a request done
 
-module _ {S : Type 0} (step : StepOf S) (clash : ClashOf S) (good : S → Type 0) (value : Request → Type 0) (laws : Premises step clash good value) where
+module _ {S : Type 0} (step : StepOf S) (clash : ClashOf S) (good : S → Type 0) (value : Request → Type 0)
+    (laws : Premises step clash good value) where
   -- what is free of the pending requests stays so when one of them is done
   free-kept : (items : List Item) (s end : S) (p q : Request) (a : Reply) → good s → value p → value q
       → AllByRecursion (IsItem value) items → clash s p q ≡ false → step s p a end
@@ -114,7 +117,8 @@ module _ {S : Type 0} (step : StepOf S) (clash : ClashOf S) (good : S → Type 0
       let swapped = laws.exchange s next f.1 p request f.0 reply fine all.0.0 is apart does f.3 in
       let still = laws.stays_good s swapped.0 p f.0 fine all.0.0 swapped.1 in
       let later = free-kept front s swapped.0 p request f.0 fine all.0.0 is all.1 apart swapped.1 parts.1 in
-      (f.0, swapped.0, f.2, swapped.1, finishes-worked front swapped.0 f.1 end request reply back f.2 still is all.1 later swapped.2 f.4, f.5)
+      let rest = finishes-worked front swapped.0 f.1 end request reply back f.2 still is all.1 later swapped.2 f.4 in
+      (f.0, swapped.0, f.2, swapped.1, rest, f.5)
   finishes-worked ((p, done given) ∷ front) s next end request reply back pairs fine is all free does f =
       (f.0, finishes-worked front s next end request reply back f.0 fine is all.1 free does f.1, f.2)
   finishes-worked ((p, sent given) ∷ front) s next end request reply back pairs fine is all free does f =

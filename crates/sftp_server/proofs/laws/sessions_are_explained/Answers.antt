@@ -1,4 +1,3 @@
-use Rattle.sftp_server.proofs.Machines.Reached.{reached-taken}
 use Rattle.sftp_server.proofs.Machines.InOrder.{begun, explained, windowed, still-good}
 use Rattle.sftp_server.proofs.laws.sessions_are_explained.Goals as goal
 
