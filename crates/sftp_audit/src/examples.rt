@@ -7,10 +7,10 @@ ghost use Rattle.sftp_handles.specs.Allowed.{Allowed};
 ghost use Rattle.sftp_transcript.specs.Explained.{Explained};
 ghost use Rattle.sftp_audit.specs.Audit.{started};
 ghost use Rattle.sftp_audit.specs.Examples.{with_a, with_a_and_b, with_a_and_b_bytes, with_link};
-ghost use Rattle.sftp_transcript.specs.Examples.{handshake_bytes};
+ghost use Rattle.sftp_transcript.specs.Examples.{handshake_bytes, of_link, with_no_permissions};
 ghost use Rattle.sftp_audit.specs.Examples.{backward_replies, backward_replies_bytes, one_unanswered};
 ghost use Rattle.sftp_audit.specs.Examples.{same_directory_twice, data_for_mkdir, opendir_of_nothing, link_session};
-ghost use Rattle.sftp_audit.specs.Examples.{one_answered_twice, of_link, with_no_permissions};
+ghost use Rattle.sftp_audit.specs.Examples.{one_answered_twice};
 ghost use Rattle.sftp_audit.specs.Examples.{above_the_root, with_five_letters, read_in_parts, Unexplained};
 
 /// A session without a request ends where it starts.

@@ -1,1 +1,3 @@
+pub mod Queues
+pub mod CoreSteps
 pub mod Machines

@@ -1,14 +1,15 @@
 -- What a queue keeps beside its requests.
-use Rattle.std.specs.Prelude.{◌≡◌, nat_eq, ℕ, zero, suc, ◌≤◌, Bool, true, false, List, [], ◌∷◌, length, take, drop}
-use Rattle.std.specs.Prelude.{is_some, IsTrue, if◌then◌else◌, Option, Some, None}
+use Rattle.std.specs.Prelude.{◌≡◌, nat_eq, ℕ, zero, suc, Bool, true, false, List, [], ◌∷◌}
+use Rattle.std.specs.Prelude.{is_some, IsTrue, if◌then◌else◌, Option, Some, None, slice_get}
 use Rattle.std.specs.Option.{option_map}
 use Rattle.std.specs.List.{AllByRecursion}
 use Rattle.std.specs.Map.{lookup}
 use Rattle.sftp_wire.specs.declared.packets.Request.{Request}
+use Rattle.sftp_wire.specs.declared.packets.Reply.{Reply}
 use Rattle.sftp_server.specs.declared.queue.Entry.{Entry}
 use Rattle.sftp_server.specs.declared.queue.Progress.{Progress}
 use Rattle.sftp_server.specs.declared.queue.Progress.TheVariants.{Pending, Done, Sent}
-use Rattle.sftp_server.specs.Machine.{is_pending, is_sent, is_unsent, from_unsent}
+use Rattle.sftp_server.specs.Machine.{is_pending, is_sent, is_unsent, from_unsent, reply_of}
 
 abbrev pub is_done : Progress → Bool
 is_done Pending = false
@@ -40,6 +41,11 @@ with_progress [] k progress = []
 with_progress (entry ∷ queue) zero progress = record entry { progress = progress } ∷ queue
 with_progress (entry ∷ queue) (suc k) progress = entry ∷ with_progress queue k progress
 
+-- the request at the position is done, with this id and this reply
+abbrev pub HasReply : List Entry → ℕ → ℕ → Reply → Type 0
+HasReply queue k id reply =
+    (entry : Entry) × (slice_get queue k ≡ Some entry) × (entry.request.id ≡ id) × (reply_of entry.progress ≡ Some reply)
+
 abbrev pub IsWorkedEntry : Entry → Type 0
 IsWorkedEntry entry = is_pending entry.progress ≡ false
 
@@ -52,13 +58,17 @@ AreUnsentApart [] = Unit {0}
 AreUnsentApart (entry ∷ queue) =
     (is_sent entry.progress ≡ false → is_unsent entry.request.id queue ≡ false) × AreUnsentApart queue
 
+-- so many requests are done or sent, and those behind them are pending
+unfoldable pub IsSplit : ℕ → List Entry → Type 0
+IsSplit zero queue = AllByRecursion IsPendingEntry queue
+IsSplit (suc n) [] = ⊥
+IsSplit (suc n) (entry ∷ queue) = IsWorkedEntry entry × IsSplit n queue
+
 -- The ids of the unsent requests of a queue; the position of its first pending one, before which all are done or sent,
 -- and from which on all are pending; and how many are done and not sent.
 pub record IsQueue (queue : List Entry) (ids : List (ℕ × Unit {0})) (first_pending done : ℕ) : Type 0 where
   pub front : from_unsent queue ≡ queue
   pub indexed : (id : ℕ) → is_some (lookup (nat_eq id) ids) ≡ is_unsent id queue
   pub apart : AreUnsentApart queue
-  pub within : first_pending ≤ length queue
-  pub worked : AllByRecursion IsWorkedEntry (take first_pending queue)
-  pub pending : AllByRecursion IsPendingEntry (drop first_pending queue)
+  pub split : IsSplit first_pending queue
   pub counted : done ≡ done_count queue

@@ -100,7 +100,10 @@ impl Core {
     pub fn ready(&self, k: usize) -> bool
         ensures { result ≡ is_ready server_clash self.now k }
     {
-        self.queue.first_pending() == Some(k)
+        match self.queue.first_pending() {
+            Some(first) => first == k,
+            None => false,
+        }
     }
 
     /// Does the request at this position if it is ready. Only `Done` changes anything.

@@ -1,9 +1,9 @@
 //! The queue of a server: the requests from the oldest unsent one on, each pending, done or sent.
-ghost use Rattle.std.specs.Prelude.{◌≡◌, ◌≢◌, ◌==◌, ◌<◌, ◌+◌, ◌++◌, [], ◌∷◌, Some, None, true, false, length, nat_lt, drop, IsTrue};
-ghost use Rattle.std.specs.Prelude.{slice_get, IfOk, IfErr, OnOk, OnErr, IfSome, IfNone, option_copied, MatchOption};
+ghost use Rattle.std.specs.Prelude.{◌≡◌, ◌≢◌, ◌+◌, ℕ, ◌++◌, [], ◌∷◌, Some, None, false, length};
+ghost use Rattle.std.specs.Prelude.{IfErr, OnOk, OnErr, IfSome, IfNone, option_copied, slice_get};
 ghost use Rattle.sftp_server.specs.declared.queue.Progress.TheVariants as progress;
 ghost use Rattle.sftp_server.specs.Machine.{is_unsent, is_pending, is_pending_at, reply_at, from_unsent};
-ghost use Rattle.sftp_server.specs.Queue.{done_count, first_pending_of, next_request_of, with_progress, sent_in};
+ghost use Rattle.sftp_server.specs.Queue.{done_count, first_pending_of, next_request_of, with_progress, sent_in, HasReply};
 ghost use Rattle.std.specs.Option.{option_map};
 
 use crate::refusals::Refuse;
@@ -96,14 +96,19 @@ impl Queue {
         ensures returned { IfErr result (λ r. r ≡ request) }
         ensures err { OnErr result (self.new ≡ self.old) }
     {
-        if self.entries.reserve(1).is_err() || self.ids.insert(request.id, ()).is_err() {
+        if self.entries.reserve(1).is_err() {
             return Err(request);
         }
-        self.entries.push_back_reserved(Entry {
-            request,
-            progress: Progress::Pending,
-        });
-        Ok(())
+        match self.ids.insert(request.id, ()) {
+            Ok(_) => {
+                self.entries.push_back_reserved(Entry {
+                    request,
+                    progress: Progress::Pending,
+                });
+                Ok(())
+            }
+            Err(_) => Err(request),
+        }
     }
 
     /// The position of the first pending request. All before it are done or sent.
@@ -137,7 +142,8 @@ impl Queue {
     /// Marks the first pending request as done with this reply.
     pub(crate) fn complete(&mut self, reply: Reply)
         requires { first_pending_of self.old ≢ None }
-        ensures { IfSome (first_pending_of self.old) (λ k. self.new ≡ with_progress self.old k (progress.Done reply)) }
+        ensures { (k : ℕ) → first_pending_of self.old ≡ Some k →
+            self.new ≡ with_progress self.old k (progress.Done reply) }
     {
         if let Some(entry) = self.entries.get_mut(self.first_pending) {
             entry.progress = Progress::Done(reply);
@@ -171,7 +177,7 @@ impl Queue {
 /// The id and the reply of the request at this position, which is then marked as sent, if it is done and not sent.
 fn take_reply(entries: &mut VecDeque<Entry>, k: usize) -> Option<(u32, Reply)>
     ensures reply { option_map (λ r. r.1) result ≡ reply_at entries.old.items k }
-    ensures id { IfSome result (λ r. IfSome (slice_get entries.old.items k) (λ e. r.0 ≡ e.request.id)) }
+    ensures id { IfSome result (λ r. HasReply entries.old.items k r.0 r.1) }
     ensures marked { IfSome result (λ r. entries.new.items ≡ with_progress entries.old.items k progress.Sent) }
     ensures unchanged { IfNone result (entries.new.items ≡ entries.old.items) }
 {

@@ -13,7 +13,8 @@ use Rattle.sftp_handles.specs.Allowed.{Allowed, step}
 use Rattle.sftp_transcript.specs.Explained.{turn_after, next_reply, exchanges_of, leading_pairs, requests_before_reply}
 use Rattle.sftp_transcript.specs.Explained.{in_window, Explained}
 use Rattle.sftp_audit.specs.Audit.{started}
-use Rattle.sftp_audit.specs.Examples.{with_link, link_session, of_link, with_no_permissions, above_the_root}
+use Rattle.sftp_transcript.specs.Examples.{of_link, with_no_permissions}
+use Rattle.sftp_audit.specs.Examples.{with_link, link_session, above_the_root}
 use Rattle.sftp_audit.specs.Examples.{Unexplained}
 use Rattle.sftp_audit.proofs.worked.Runs.{explained_by, unexplained_by}
 
