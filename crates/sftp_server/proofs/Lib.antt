@@ -1,2 +1,3 @@
 pub mod Queues
 pub mod CoreSteps
+pub mod Machines

@@ -8,12 +8,11 @@ use Rattle.sftp_handles.specs.State.{State, settled}
 use Rattle.sftp_handles.specs.Allowed.{Allowed}
 use Rattle.sftp_server.specs.declared.queue.Entry.{Entry}
 use Rattle.sftp_server.specs.declared.acts.Act.{Act}
-use Rattle.sftp_server.specs.declared.acts.Act.TheVariants.{Deliver, Work, Send}
 use Rattle.sftp_handles.specs.Laws.{IsAskable}
 use Rattle.sftp_tree.specs.AskValues.{IsAsk}
 use Rattle.sftp_server.specs.declared.refusals.Refuse.{Refuse}
 use Rattle.sftp_server.specs.declared.refusals.Refuse.TheVariants.{Full, IdInUse, NoMemory}
-use Rattle.sftp_server.specs.Machine.{Machine, at_start, ClashOf, AreActs, is_unsent, can_take}
+use Rattle.sftp_server.specs.Machine.{Machine, at_start, ClashOf, AreActs, Delivers, is_unsent, can_take}
 
 -- The server works in the order asked: any two requests clash.
 abbrev pub server_clash : ClashOf State
@@ -22,11 +21,6 @@ server_clash s earlier later = true
 -- the state in which a session begins on a tree: nothing is open
 abbrev pub started : Tree → State
 started t = settled t []
-
--- some acts lead there
-abbrev pub IsReached : State → ℕ → List Event → Machine State → Type 0
-IsReached start window events machine =
-    (acts : List Act) × AreActs Allowed server_clash (at_start start window) acts events machine
 
 -- why a request is not taken: the queue is full, or an unsent request has the id, or, if neither, memory ran out
 abbrev pub IsRefusedFor : Machine State → Request → Refuse → Type 0
@@ -50,10 +44,13 @@ pub record IsValue (request : Request) : Type 0 where
   pub askable : IsAskable request
   pub ask : IsAsk request.ask
 
-abbrev pub IsDeliverable : Act → Type 0
-IsDeliverable (Deliver request) = IsValue request
-IsDeliverable (Work k) = Unit {0}
-IsDeliverable (Send k) = Unit {0}
-
 abbrev pub AreDeliverable : List Act → Type 0
-AreDeliverable acts = AllByRecursion IsDeliverable acts
+AreDeliverable acts = AllByRecursion (Delivers IsValue) acts
+
+-- ---- what a core comes to
+
+-- from this state with nothing asked, some acts make these events and lead to this machine
+pub record IsReached (start : State) (window : ℕ) (events : List Event) (machine : Machine State) : Type 0 where
+  pub acts : List Act
+  pub deliverable : AreDeliverable acts
+  pub steps : AreActs Allowed server_clash (at_start start window) acts events machine

@@ -152,3 +152,9 @@ AreActs step clash before [] events after = IsIdle before events after
 AreActs {S} step clash before (act ∷ acts) events after =
     (mid : Machine S) × (first : List Event) × (rest : List Event) × IsAct step clash before act first mid
     × AreActs step clash mid acts rest after × (events ≡ first ++ rest)
+
+-- the request of a delivery has the property
+abbrev pub Delivers : (Request → Type 0) → Act → Type 0
+Delivers P (Deliver request) = P request
+Delivers P (Work k) = Unit {0}
+Delivers P (Send k) = Unit {0}

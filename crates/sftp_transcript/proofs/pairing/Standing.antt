@@ -343,7 +343,7 @@ no_late_request ledger seen request more stands late inside = grind (arith, and_
 
 -- ---- the end
 
-none_open : (ledger : List Exchange) (id : ℕ) → AllByRecursion IsAnswered ledger → is_open id ledger ≡ false
+pub none_open : (ledger : List Exchange) (id : ℕ) → AllByRecursion IsAnswered ledger → is_open id ledger ≡ false
 unfolding is_open
 none_open [] id answered = refl
 none_open ((first, None) ∷ ledger) id answered = absurd answered.0

@@ -1,0 +1,8 @@
+pub mod Premises
+pub mod Histories
+pub mod Runs
+pub mod Ledgers
+pub mod Endings
+pub mod Acts
+pub mod InOrder
+pub mod Reached

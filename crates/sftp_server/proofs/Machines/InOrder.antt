@@ -1,0 +1,70 @@
+-- The laws of a machine in which any two requests clash.
+use Rattle.std.proofs.Common.{◌≡◌, ◌≤◌, ℕ, true, true≢false, List, []}
+use Rattle.sftp_wire.specs.declared.packets.Request.{Request}
+use Rattle.sftp_wire.specs.declared.packets.Reply.{Reply}
+use Rattle.sftp_tree.specs.AskValues.{IsAsk}
+use Rattle.sftp_handles.specs.State.{State, Good}
+use Rattle.sftp_handles.specs.Allowed.{Allowed}
+use Rattle.sftp_handles.specs.Laws.{IsAskable, IsAnswerable}
+use Rattle.sftp_transcript.specs.declared.events.Event.{Event}
+use Rattle.sftp_transcript.specs.Explained.{Explained, BeginsFrom, in_window}
+use Rattle.sftp_server.specs.Machine.{Machine, at_start}
+use Rattle.sftp_server.specs.Core.{server_clash, IsValue, IsReached}
+use Rattle.sftp_server.proofs.Machines.Premises.{Premises, HasReply}
+use Rattle.sftp_server.proofs.Machines.Histories.{Follows}
+use Rattle.sftp_server.proofs.Machines.Acts.{follows-start, follows-acts}
+use Rattle.sftp_server.proofs.Machines.Endings as endings
+
+-- a good state stays good
+abbrev pub StaysGood : Type 0
+StaysGood =
+    (s : State) (request : Request) (reply : Reply) (end : State) → Good s → IsAsk request.ask
+    → Allowed s request reply end → Good end
+
+-- each request has a reply
+abbrev pub IsTotal : Type 0
+IsTotal = (s : State) (request : Request) → Good s → IsAskable request → IsAnswerable s request
+
+module _ (stays : StaysGood) (total : IsTotal) where
+  some-reply : (s : State) (request : Request) → Good s → IsValue request → HasReply Allowed s request
+  some-reply s request good is =
+      let some = total s request good is.askable in
+      record { reply = some.reply; end = some.end; allowed = some.allowed; spelled = some.spelled }
+
+  in-order : Premises Allowed server_clash Good IsValue
+  in-order = record {
+    exchange = λ s mid end p q a b good is_p is_q apart first second. absurd (true≢false apart);
+    steady = λ s end p o q a good is_p is_o is_q apart. absurd (true≢false apart);
+    stays_good = λ s end p a good is does. stays s p a end good is.ask does;
+    total = some-reply;
+    same_id = λ s end p a does. does.same_id;
+  }
+
+  follows : (start : State) (window : ℕ) (events : List Event) (core : Machine State) → Good start
+      → window ≤ 1024 → IsReached start window events core → Follows Allowed Good IsValue start core events
+  follows start window events core good bound reached =
+      let first = follows-start Allowed server_clash Good IsValue in-order start window good bound in
+      follows-acts Allowed server_clash Good IsValue in-order start (at_start start window) [] reached.acts events core
+      first reached.deliverable reached.steps
+
+  pub begun : (start : State) (window : ℕ) (events : List Event) (core : Machine State) → Good start
+      → window ≤ 1024 → IsReached start window events core → BeginsFrom Allowed start events
+  begun start window events core good bound reached =
+      endings.begins Allowed server_clash Good IsValue in-order start core events
+      (follows start window events core good bound reached)
+
+  pub explained : (start : State) (window : ℕ) (events : List Event) (core : Machine State) → Good start
+      → window ≤ 1024 → IsReached start window events core → core.queue ≡ [] → Explained Allowed start events core.state
+  explained start window events core good bound reached empty =
+      endings.explained Allowed server_clash Good IsValue in-order start core events
+      (follows start window events core good bound reached) empty
+
+  pub windowed : (start : State) (window : ℕ) (events : List Event) (core : Machine State) → Good start
+      → window ≤ 1024 → IsReached start window events core → in_window events ≡ true
+  windowed start window events core good bound reached =
+      endings.in-window Allowed Good IsValue start core events (follows start window events core good bound reached)
+
+  pub still-good : (start : State) (window : ℕ) (events : List Event) (core : Machine State) → Good start
+      → window ≤ 1024 → IsReached start window events core → Good core.state
+  still-good start window events core good bound reached =
+      (follows start window events core good bound reached).good_state

@@ -1,0 +1,10 @@
+use Rattle.sftp_server.proofs.Machines.InOrder.{begun, explained, windowed, still-good}
+use Rattle.sftp_server.proofs.laws.sessions_are_explained.Goals as goal
+
+pub returns : goal.returns
+returns c = record {
+  begun = begun c.good_stays_good.ensures c.some_reply.ensures;
+  explained = explained c.good_stays_good.ensures c.some_reply.ensures;
+  in_window = windowed c.good_stays_good.ensures c.some_reply.ensures;
+  good = still-good c.good_stays_good.ensures c.some_reply.ensures;
+}
