@@ -9,11 +9,9 @@ pub mod laws;
 mod queue;
 mod refusals;
 mod schedules;
-mod scripts;
 
 pub use acts::Act;
 pub use cores::Core;
 pub use ends::{Ended, SessionFault, Stream};
 pub use refusals::{Did, Refuse};
 pub use schedules::{InOrder, Schedule, Shuffle};
-pub use scripts::{WINDOW, run_script};
