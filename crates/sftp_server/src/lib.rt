@@ -1,4 +1,4 @@
-//! A server of SFTP sessions: takes requests, does them, answers them, and records what it did
+//! The core of a server of SFTP sessions: takes requests, does them, and gives their replies
 //! (draft-ietf-secsh-filexfer-02, sections 3 to 7).
 #![tactic(auto)]
 

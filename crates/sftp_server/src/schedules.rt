@@ -1,6 +1,4 @@
 //! In which order a server does what it may do.
-ghost use Rattle.std.specs.Prelude.{◌≡◌, ℕ, ◌*◌, ◌+◌, ◌^◌};
-ghost use Rattle.std.specs.Int.RustNames.{};
 
 /// Chooses among what a server may do next.
 pub trait Schedule {
