@@ -174,7 +174,7 @@ abbrev pub IsCutInLast : List Packet → List ℕ → Type 0
 IsCutInLast packets log =
     ((packets ≡ []) × (log ≡ []))
     ⊎ ((front : List Packet) × (last : Packet) × (cut : List ℕ) × (packets ≡ front ++ last ∷ [])
-        × (log ≡ recorded front ++ cut) × IsBeginning log (recorded packets))
+    × (log ≡ recorded front ++ cut) × IsBeginning log (recorded packets))
 
 -- what was written and logged of the packets
 abbrev pub IsLeft : Tree → List Packet → List ℕ → List ℕ → Ended → Type 0
@@ -183,8 +183,8 @@ IsLeft start packets output log (ends.Io streams.Reader) =
 IsLeft start packets output log (ends.Io streams.Writer) =
     (log ≡ recorded packets)
     × ((output ≡ sent_by Server packets)
-        ⊎ ((packet : Packet) × (cut : List ℕ) × (side_of packet ≡ Server) × IsListed start (packets ++ packet ∷ [])
-            × IsBeginning cut (spelling packet) × (output ≡ sent_by Server packets ++ cut)))
+    ⊎ ((packet : Packet) × (cut : List ℕ) × (side_of packet ≡ Server) × IsListed start (packets ++ packet ∷ [])
+    × IsBeginning cut (spelling packet) × (output ≡ sent_by Server packets ++ cut)))
 IsLeft start packets output log (ends.Io streams.Log) = (output ≡ sent_by Server packets) × IsCutInLast packets log
 IsLeft start packets output log ends.NoMemory = (output ≡ sent_by Server packets) × IsCutInLast packets log
 IsLeft start packets output log other = ⊥
