@@ -1,5 +1,5 @@
 -- What the worked examples name: states, requests through handles, and their answers.
-use Rattle.std.specs.Prelude.{ℕ, List, [], ◌∷◌, map, codes}
+use Rattle.std.specs.Prelude.{ℕ, List, [], ◌∷◌, map, codes, Some}
 use Rattle.sftp_wire.specs.declared.attributes.Attrs.{Attrs}
 use Rattle.sftp_wire.specs.declared.names.NameItem.{NameItem}
 use Rattle.sftp_wire.specs.declared.packets.Ask.{Ask}
@@ -28,6 +28,12 @@ emptied made = record blank { made = made }
 abbrev pub with_text : List ℕ → Tree
 with_text bytes = holding ((codes "f" ∷ [], File 0) ∷ []) (record empty_file { bytes = bytes })
 
+-- the file `/f` with this text, of this user and group, with the permissions 0o600
+abbrev pub with_owned : ℕ → ℕ → List ℕ → Tree
+with_owned user group bytes =
+    holding ((codes "f" ∷ [], File 0) ∷ [])
+    (record { owner = record { uid = user; gid = group; permissions = 0o600 }; bytes = bytes })
+
 -- the directory `/d` with the directories `/d/a`, `/d/b` and `/d/c`
 abbrev pub with_three : Tree
 with_three =
@@ -53,6 +59,13 @@ opened path flags handle = (Open path flags no_attributes, Handle handle)
 -- a directory is opened, and gets this handle
 abbrev pub opened_directory : List ℕ → List ℕ → Ask × Answer
 opened_directory path handle = (Opendir path, Handle handle)
+
+-- a size, and an owner with the permissions 0o600, as FSETSTAT sets them
+abbrev pub sized : ℕ → Attrs
+sized size = record no_attributes { size = Some size }
+
+abbrev pub owned : ℕ → ℕ → Attrs
+owned user group = record no_attributes { owner = Some (user, group); permissions = Some 0o600 }
 
 -- a status with this code
 abbrev pub code : ℕ → Answer

@@ -5,7 +5,7 @@ use Rattle.std.specs.Prelude.{◌&&◌, not, nat_lt, ℕ, Bool, true, if◌then�
 use Rattle.std.specs.Prelude.{None, is_some}
 use Rattle.sftp_wire.specs.declared.open_flags.OpenFlags.{OpenFlags}
 use Rattle.sftp_wire.specs.declared.packets.Ask.{Ask}
-use Rattle.sftp_wire.specs.declared.packets.Ask.TheVariants.{Read, Write, Fstat, Fsetstat, Readdir, Fsync}
+use Rattle.sftp_wire.specs.declared.packets.Ask.TheVariants as asks
 use Rattle.sftp_wire.specs.declared.packets.Answer.{Answer}
 use Rattle.sftp_treefile.specs.declared.limits.TreeLimits.{TreeLimits}
 use Rattle.sftp_tree.specs.declared.causes.Cause.TheVariants.{BadHandle, WrongKind, NotOpenFor, NoRoom}
@@ -72,22 +72,38 @@ read_from bounds offset len before =
     if nat_lt offset (length before.bytes) then gives (bytes_at bounds offset len before.bytes) else ended
 
 abbrev pub row_of : Ask → Row
-row_of (Read handle offset len) = record file_row {
+row_of (asks.Read handle offset len) = record file_row {
   refused = λ flags. unless_open_for (may_read flags);
   told = λ bounds before. read_from bounds offset len before;
 }
-row_of (Write handle offset bytes) = record file_row {
+row_of (asks.Write handle offset bytes) = record file_row {
   refused = λ flags. unless_open_for (may_write flags);
   content = λ flags before. Some (written_content (start_of flags offset before) bytes before);
 }
-row_of (Fstat handle) = record file_row { told = λ bounds before. shows (Some (shown_content before)) }
-row_of (Fsetstat handle attrs) = record file_row {
+row_of (asks.Fstat handle) = record file_row { told = λ bounds before. shows (Some (shown_content before)) }
+row_of (asks.Fsetstat handle attrs) = record file_row {
   refused = λ flags. when no_causes NotOpenFor (is_some attrs.size && not (may_write flags));
   content = λ flags before. Some (changed_content attrs before);
 }
-row_of (Fsync handle) = file_row
-row_of (Readdir handle) = record plain_row { needed = a_listing }
-row_of other = plain_row
+row_of (asks.Fsync handle) = file_row
+row_of (asks.Readdir handle) = record plain_row { needed = a_listing }
+row_of (asks.Close handle) = plain_row
+-- the others name no handle, and their rows are not asked for; they are named so that a new request needs a row
+row_of (asks.Open path pflags attrs) = plain_row
+row_of (asks.Opendir path) = plain_row
+row_of (asks.Stat path) = plain_row
+row_of (asks.Lstat path) = plain_row
+row_of (asks.Setstat path attrs) = plain_row
+row_of (asks.Realpath path) = plain_row
+row_of (asks.Readlink path) = plain_row
+row_of (asks.Symlink targetpath linkpath) = plain_row
+row_of (asks.Mkdir path attrs) = plain_row
+row_of (asks.Rmdir path) = plain_row
+row_of (asks.Remove path) = plain_row
+row_of (asks.Rename oldpath newpath) = plain_row
+row_of (asks.PosixRename oldpath newpath) = plain_row
+row_of (asks.Hardlink oldpath newpath) = plain_row
+row_of (asks.Unknown extension rest) = plain_row
 
 -- ---- the causes
 

@@ -8,9 +8,11 @@ ghost use Rattle.sftp_wire.specs.declared.packets.Ask.TheVariants.{Readdir, Remo
 ghost use Rattle.sftp_wire.specs.declared.packets.Answer.TheVariants.{Data, Handle, Name, Attrs};
 ghost use Rattle.sftp_wire.specs.Examples.{no_attributes};
 ghost use Rattle.sftp_tree.specs.Picture.{blank};
+ghost use Rattle.sftp_tree.specs.WalkExamples.{letters};
 ghost use Rattle.sftp_handles.specs.Allowed.{steps};
 ghost use Rattle.sftp_handles.specs.Examples.{closed, emptied, with_text, with_three, with_none, with_file_below};
 ghost use Rattle.sftp_handles.specs.Examples.{opened, opened_directory, code, done, item, of_file, more, no_more};
+ghost use Rattle.sftp_handles.specs.Examples.{with_owned, sized, owned};
 
 /// A file lives while it is open: it is made, written, removed and still read. It is gone once it is closed.
 pub fn removed_while_open()
@@ -145,6 +147,36 @@ pub fn new_handles()
         ∷ opened (codes "/f") 0x1 (codes "h") ∷ done (Close (codes "h")) ∷ []) ≡ Some (closed (with_text [])) }
     ensures no_bytes { steps (closed (with_text [])) (opened (codes "/f") 0x1 [] ∷ done (Close []) ∷ [])
         ≡ Some (closed (with_text [])) }
+{}
+
+/// The name of a handle has at most 256 bytes.
+pub fn longest_handles()
+    ensures longest { steps (closed (with_text [])) (opened (codes "/f") 0x1 (letters 256)
+        ∷ (Fstat (letters 256), Attrs (of_file 0)) ∷ done (Close (letters 256)) ∷ []) ≡ Some (closed (with_text [])) }
+    ensures too_long { steps (closed (with_text [])) (opened (codes "/f") 0x1 (letters 257) ∷ []) ≡ None }
+    ensures listing { steps (closed with_none) (opened_directory (codes "/d") (letters 256)
+        ∷ done (Close (letters 256)) ∷ []) ≡ Some (closed with_none) }
+    ensures too_long_listing { steps (closed with_none) (opened_directory (codes "/d") (letters 257) ∷ []) ≡ None }
+{}
+
+/// FSETSTAT sets what is given, and nothing else: a size, which cuts the bytes or fills them with zeros, for a file that
+/// was opened to be written; an owner and permissions for any open file. Without leave to write a size has the code 3
+/// or 4.
+pub fn set_through_handles()
+    ensures cut { steps (closed (with_text (codes "abc"))) (opened (codes "/f") 0x2 (codes "h")
+        ∷ done (Fsetstat (codes "h") (sized 1)) ∷ done (Close (codes "h")) ∷ [])
+        ≡ Some (closed (with_text (codes "a"))) }
+    ensures filled { steps (closed (with_text (codes "abc"))) (opened (codes "/f") 0x2 (codes "h")
+        ∷ done (Fsetstat (codes "h") (sized 5)) ∷ done (Close (codes "h")) ∷ [])
+        ≡ Some (closed (with_text (97 ∷ 98 ∷ 99 ∷ 0 ∷ 0 ∷ []))) }
+    ensures owned { steps (closed (with_text (codes "abc"))) (opened (codes "/f") 0x1 (codes "h")
+        ∷ done (Fsetstat (codes "h") (owned 7 8)) ∷ done (Close (codes "h")) ∷ [])
+        ≡ Some (closed (with_owned 7 8 (codes "abc"))) }
+    ensures refused { steps (closed (with_text (codes "abc"))) (opened (codes "/f") 0x1 (codes "h")
+        ∷ (Fsetstat (codes "h") (sized 1), code 3) ∷ (Fsetstat (codes "h") (sized 1), code 4)
+        ∷ done (Close (codes "h")) ∷ []) ≡ Some (closed (with_text (codes "abc"))) }
+    ensures not_done { steps (closed (with_text (codes "abc"))) (opened (codes "/f") 0x1 (codes "h")
+        ∷ done (Fsetstat (codes "h") (sized 1)) ∷ []) ≡ None }
 {}
 
 /// An extension that is not known has the code 8 alone.

@@ -1,6 +1,7 @@
 //! A table of the handles whose names another server gave.
 ghost use Rattle.std.specs.Prelude.{◌≡◌, true, None, Some, IsTrue, IfOk, IfErr, OnOk, OnErr, option_copied};
 ghost use Rattle.std.specs.Cmp.Lexicographic.{nat_list_cmp_total};
+ghost use Rattle.sftp_wire.specs.Spelling.{AreBytes};
 ghost use Rattle.sftp_path.specs.Place.{bytes_cmp};
 ghost use Rattle.sftp_path.specs.Table.{from_entries, size};
 ghost use Rattle.sftp_path.proofs.Table.Laws.{InOrder-from_entries};
@@ -102,6 +103,7 @@ fn put_open(
     ensures opened { OnOk result (handles_in (λ k. k.items) opens.new.entries
         ≡ with_open (handles_in (λ k. k.items) opens.old.entries) want.items it) }
     ensures wanted { IfOk result (λ name. name.items ≡ want.items) }
+    ensures bytes { IfOk result (λ name. AreBytes name.items) }
     ensures taken { IfErr result (λ e. e.1 ≡ Taken →
         IsTrue (is_open (handles_in (λ k. k.items) opens.old.entries) want.items)) }
     ensures refused { IfErr result (λ e. e.1 ≡ NoMemory →

@@ -2,7 +2,6 @@
 ghost use Rattle.std.specs.Prelude.{◌≡◌, false, [], IfOk, IfErr, OnOk, OnErr, IsTrue};
 ghost use Rattle.sftp_wire.specs.declared.packets.Ask.TheVariants as asks;
 ghost use Rattle.sftp_wire.specs.declared.packets.Answer.TheVariants as replies;
-ghost use Rattle.sftp_wire.specs.Spelling.{AreBytes};
 ghost use Rattle.sftp_handles.specs.Handles.{open_at};
 ghost use Rattle.sftp_handles.specs.State as state;
 ghost use Rattle.sftp_handles.specs.Replies.{names_in};
@@ -135,9 +134,7 @@ impl<T: HandleTable> Session<T> {
 
 /// A reply with a new handle. It takes no memory.
 fn handle_reply(name: Vec<u8>) -> Answer
-    ensures reply { result ≡ replies.Handle name.items }
-    ensures bytes { AreBytes name.items }
+    ensures { result ≡ replies.Handle name.items }
 {
-    let _bytes = name.as_slice();
     Answer::Handle(ByteString::new(name))
 }

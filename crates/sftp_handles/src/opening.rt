@@ -1,6 +1,6 @@
 //! OPEN and OPENDIR (draft, sections 6.3 and 6.7).
 ghost use Rattle.std.specs.Prelude.{◌≡◌, ◌≤◌, ◌&&◌, None, length, nat_le, IsTrue, IfOk, IfErr, OnErr};
-ghost use Rattle.sftp_wire.specs.Spelling.{handle_limit};
+ghost use Rattle.sftp_wire.specs.Spelling.{AreBytes, handle_limit};
 ghost use Rattle.sftp_wire.specs.declared.packets.Ask.{Ask as ask};
 ghost use Rattle.sftp_wire.specs.declared.packets.Ask.TheVariants as asks;
 ghost use Rattle.sftp_wire.specs.declared.packets.Answer.TheVariants as replies;
@@ -40,6 +40,7 @@ impl<T: HandleTable> Session<T> {
         requires room { IsTrue (has_handle_left self.old) }
         ensures done { IfOk result
             (λ name. Does self.old (asks.Open path.now pflags attrs.now) (replies.Handle name.items) self.new) }
+        ensures bytes { IfOk result (λ name. AreBytes name.items) }
         ensures wanted { IfOk result (λ name. IsTrue T.takes_want → name.items ≡ want.items) }
         ensures failed { IfErr result (IsNotOpened self.old (asks.Open path.now pflags attrs.now) want.items) }
         ensures taken { IfErr result (λ e. e ≡ failures.Taken → IsTrue T.takes_want) }
@@ -75,6 +76,7 @@ impl<T: HandleTable> Session<T> {
         requires room { IsTrue (has_handle_left self.old) }
         ensures done { IfOk result
             (λ name. Does self.old (asks.Opendir path.now) (replies.Handle name.items) self.new) }
+        ensures bytes { IfOk result (λ name. AreBytes name.items) }
         ensures wanted { IfOk result (λ name. IsTrue T.takes_want → name.items ≡ want.items) }
         ensures failed { IfErr result (IsNotOpened self.old (asks.Opendir path.now) want.items) }
         ensures taken { IfErr result (λ e. e ≡ failures.Taken → IsTrue T.takes_want) }
@@ -104,6 +106,7 @@ impl<T: HandleTable> Session<T> {
           handles = handles.with_open self.old.handles name.items (opens.Listing left);
         }) }
         ensures short { IfOk result (λ name. length name.items ≤ handle_limit) }
+        ensures bytes { IfOk result (λ name. AreBytes name.items) }
         ensures wanted { IfOk result (λ name. IsTrue T.takes_want → name.items ≡ want.items) }
         ensures failed { IfErr result (λ e. (asked : ask) → IsNotOpened self.old asked want.items e) }
         ensures taken { IfErr result (λ e. e ≡ failures.Taken → IsTrue T.takes_want) }

@@ -3,7 +3,7 @@ ghost use Rattle.std.specs.Prelude.{◌≡◌, ◌<◌, ◌≤◌, ◌^◌, ◌=
 ghost use Rattle.std.specs.Prelude.{IfOk, IfErr, IfSome, OnSome, OnOk, OnErr, IfNone, length, option_copied};
 ghost use Rattle.std.specs.Cmp.Lexicographic.{nat_list_cmp_total};
 ghost use Rattle.slab.specs.Slab.{entries};
-ghost use Rattle.sftp_wire.specs.Spelling.{handle_limit};
+ghost use Rattle.sftp_wire.specs.Spelling.{AreBytes, handle_limit};
 ghost use Rattle.sftp_path.specs.Place.{bytes_cmp};
 ghost use Rattle.sftp_path.specs.Table.{size};
 ghost use Rattle.sftp_path.proofs.Table.Laws.{InOrder-from_entries};
@@ -74,6 +74,7 @@ impl HandleTable for SlabTable {
         ensures opened { IfOk result (λ name.
             slab_handles self.new.opens ≡ with_open (slab_handles self.old.opens) name.items it) }
         ensures short { IfOk result (λ name. length name.items ≤ handle_limit) }
+        ensures bytes { IfOk result (λ name. AreBytes name.items) }
         ensures refused { IfErr result (λ e. e.1 ≡ NoMemory) }
         ensures back { IfErr result (λ e. e.0 ≡ it) }
         ensures err { OnErr result (slab_handles self.new.opens ≡ slab_handles self.old.opens) }
@@ -207,6 +208,7 @@ fn put_open(
     ensures opened { IfOk result (λ name. slab_handles opens.new ≡ with_open (slab_handles opens.old) name.items it) }
     ensures named { IfOk result (λ name. name.items ≡ slot_name opens.old.vacant_key serial) }
     ensures short { IfOk result (λ name. length name.items ≤ handle_limit) }
+    ensures bytes { IfOk result (λ name. AreBytes name.items) }
     ensures refused { IfErr result (λ e. e.1 ≡ NoMemory) }
     ensures back { IfErr result (λ e. e.0 ≡ it) }
     ensures err { OnErr result (opens.new.slots ≡ opens.old.slots) }

@@ -1,7 +1,7 @@
 //! Tables of handles: finite maps from names to what is open under them.
 ghost use Rattle.std.specs.Prelude.{◌≡◌, ◌≤◌, [], ℕ, Bool, None, Some, IsTrue, IfOk, IfErr, OnOk, OnErr};
 ghost use Rattle.std.specs.Prelude.{length, option_copied};
-ghost use Rattle.sftp_wire.specs.Spelling.{handle_limit};
+ghost use Rattle.sftp_wire.specs.Spelling.{AreBytes, handle_limit};
 ghost use Rattle.sftp_path.specs.Place.{bytes_cmp};
 ghost use Rattle.sftp_path.specs.Table.{InOrder, size};
 ghost use Rattle.sftp_handles.specs.declared.tables.PutError.TheVariants.{Taken, NoMemory};
@@ -67,6 +67,7 @@ pub trait HandleTable: Sized + Drop {
         ensures closed { IfOk result (λ name. open_at (handles self.old) name.items ≡ None) }
         ensures opened { IfOk result (λ name. handles self.new ≡ with_open (handles self.old) name.items it) }
         ensures short { IfOk result (λ name. length name.items ≤ handle_limit) }
+        ensures bytes { IfOk result (λ name. AreBytes name.items) }
         ensures wanted { IfOk result (λ name. IsTrue takes_want → name.items ≡ want.items) }
         ensures taken { IfErr result (λ e. e.1 ≡ Taken →
             IsTrue takes_want × IsTrue (is_open (handles self.old) want.items)) }

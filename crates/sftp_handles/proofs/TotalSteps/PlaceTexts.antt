@@ -22,7 +22,7 @@ bytes-by (b ∷ bytes) is =
     let parts = and_parts (nat_lt b 256) (are_bytes bytes) is in
     (ltb-true b 256 parts.0, bytes-by bytes parts.1)
 
-bytes-joined : (xs ys : List ℕ) → AreBytes xs → AreBytes ys → AreBytes (xs ++ ys)
+pub bytes-joined : (xs ys : List ℕ) → AreBytes xs → AreBytes ys → AreBytes (xs ++ ys)
 bytes-joined [] ys all rest = rest
 bytes-joined (x ∷ xs) ys all rest = (all.0, bytes-joined xs ys all.1 rest)
 

@@ -1,6 +1,7 @@
-use Rattle.std.proofs.Common.{◌∙◌, sym, ap}
+use Rattle.std.proofs.Common.{◌∙◌, sym, ap, subst}
+use Rattle.sftp_wire.specs.Spelling.{AreBytes}
 use Rattle.sftp_handles.specs.Slots.{slot_name}
-use Rattle.sftp_handles.proofs.SlotTables.{opened-put, closed-put}
+use Rattle.sftp_handles.proofs.SlotTables.{opened-put, closed-put, slot_name-bytes}
 use Rattle.sftp_handles.proofs.slab_table.put_open.Goals as goal
 
 pub returns-clause-closed : goal.returns-clause-closed
@@ -24,3 +25,8 @@ returns-clause-named c =
     c.in-Ok.ensures.items ∙ (c.as_slice.ensures ∙ (c.name_of-spelled.ensures
     ∙ ap (λ n. slot_name n c.args.serial)
     (c.vacant_key.ensures.value ∙ ap (λ s. s.vacant_key) c.reserve.ensures.rest_kept)))
+
+pub returns-clause-bytes : goal.returns-clause-bytes
+returns-clause-bytes c =
+    subst AreBytes (sym (c.in-Ok.ensures.items ∙ (c.as_slice.ensures ∙ c.name_of-spelled.ensures)))
+    (slot_name-bytes c.vacant_key.result c.args.serial)

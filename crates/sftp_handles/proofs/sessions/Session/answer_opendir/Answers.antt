@@ -12,7 +12,7 @@ returns-in-Ok-clause-done g c =
     let s = c.args.self.now in
     let name = c.in-Ok.name.items in
     let end = c.open_directory.new.self in
-    subst (λ (answer : Answer). IsAnswered s c.args.ask.now answer end) (sym c.handle_reply.ensures.reply)
+    subst (λ (answer : Answer). IsAnswered s c.args.ask.now answer end) (sym c.handle_reply.ensures)
     (handle-answered s c.args.ask.now name end
     (subst (λ (ask : Ask). Does s ask (Handle name) end) (sym c.requires.asked) c.in-Ok.ensures.done)
-    c.handle_reply.ensures.bytes)
+    c.in-Ok.ensures.bytes)
