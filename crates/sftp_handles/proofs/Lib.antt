@@ -24,6 +24,7 @@ pub mod Swaps
 pub mod Ends
 pub mod GivenNames
 pub mod FirstNames
+pub mod FirstStruck
 pub mod Starts
 pub mod HandleRoom
 pub mod NewHandles

@@ -109,19 +109,13 @@ end-spelled id small = status-spelled id 1 small (lit< tt)
 
 -- ---- whether there are names, as the code finds out
 
-pub some-items : (len : ℕ) (names : List Name) (items : List NameItem) (empty : Bool) → len ≡ length names
-    → names ≡ names_in items → empty ≡ (len == 0) → empty ≡ false → nat_lt 0 (length items) ≡ true
-some-items len names [] empty is same test some =
-    let none : len ≡ 0 = is ∙ ap (λ (xs : List Name). length xs) same in
-    absurd (both_ways empty some (test ∙ ap (λ n. n == 0) none))
-some-items len names (item ∷ items) empty is same test some = lt-ltb 0 (length (item ∷ items)) (omega arith)
+pub some-items : (items : List NameItem) (empty : Bool) → empty ≡ (length items == 0) → empty ≡ false
+    → nat_lt 0 (length items) ≡ true
+some-items [] empty test some = absurd (both_ways empty some test)
+some-items (item ∷ items) empty test some = lt-ltb 0 (length (item ∷ items)) (omega arith)
 
-pub no-items : (len : ℕ) (names : List Name) (items : List NameItem) (empty : Bool) → len ≡ length names
-    → names ≡ names_in items → empty ≡ (len == 0) → empty ≡ true → length items ≡ 0
-no-items len names items empty is same test none =
-    let zero_is : len ≡ 0 = eqb-true len 0 (sym test ∙ none) in
-    sym (length-map items (λ (item : NameItem). item.filename))
-    ∙ (ap (λ (xs : List Name). length xs) (sym same) ∙ (sym is ∙ zero_is))
+pub no-items : (items : List NameItem) (empty : Bool) → empty ≡ (length items == 0) → empty ≡ true → length items ≡ 0
+no-items items empty test none = eqb-true (length items) 0 (sym test ∙ none)
 
 -- ---- what was judged to be allowed
 

@@ -1,5 +1,5 @@
 -- What is open under a handle, exchanged twice and put back.
-use Rattle.std.proofs.Common.{◌≡◌, Bool, true, false, cond, List, ℕ, Some, None, refl, sym, subst, ap, ◌∙◌}
+use Rattle.std.proofs.Common.{◌≡◌, Bool, true, false, cond, List, ℕ, Some, None, is_some, refl, sym, ap, ◌∙◌}
 use Rattle.std.specs.Ordering.{is_eq}
 use Rattle.std.specs.Cmp.{Equal-is}
 use Rattle.std.specs.Cmp.Lexicographic.{nat_list_cmp_total}
@@ -9,7 +9,7 @@ use Rattle.sftp_path.proofs.Order.{bytes_cmp-same}
 use Rattle.sftp_path.proofs.Table.Laws.{get-put, get-put_here, InOrder-put, same_table}
 use Rattle.sftp_handles.specs.declared.opens.Open.{Open}
 use Rattle.sftp_handles.specs.declared.opens.Open.TheVariants.{Listing}
-use Rattle.sftp_handles.specs.Handles.{Left, Handles, open_at, with_open}
+use Rattle.sftp_handles.specs.Handles.{Left, Handles, open_at, is_open, with_open}
 use Rattle.sftp_handles.specs.Replies.{struck}
 use Rattle.sftp_handles.specs.Giving.{with_struck}
 use Rattle.sftp_handles.proofs.Opened.{opened-again}
@@ -31,13 +31,11 @@ opened-back handles handle it order there =
     ∙ same-there handles handle at it (is_eq (bytes_cmp at handle)) there refl)
 
 -- what was opened last is open
-pub opened-there : (before after : Handles) (handle : List ℕ) (it : Open) → after ≡ with_open before handle it
-    → open_at after handle ≡ None → ⊥
-opened-there before after handle it is none =
-    let here : open_at (with_open before handle it) handle ≡ Some it =
-    get-put_here bytes_cmp nat_list_cmp_total before handle it in
-    let there : open_at (with_open before handle it) handle ≡ None = subst (λ h. open_at h handle ≡ None) is none in
-    cc
+pub opened-open : (before after : Handles) (handle : List ℕ) (it : Open) → after ≡ with_open before handle it
+    → is_open after handle ≡ true
+opened-open before after handle it is =
+    ap (λ handles. is_open handles handle) is
+    ∙ ap is_some (get-put_here bytes_cmp nat_list_cmp_total before handle it)
 
 -- a listing was out of its table while names were struck
 pub struck-apart : (before between after : Handles) (handle : List ℕ) (names : List Name) (first : Open)

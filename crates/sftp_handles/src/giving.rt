@@ -1,8 +1,10 @@
 //! READDIR: the names that a listing gives, and its end (draft, section 6.7).
-ghost use Rattle.std.specs.Prelude.{◌≡◌, is_some, IfOk, IfSome, OnErr};
+ghost use Rattle.std.specs.Prelude.{◌≡◌, [], Some, is_some, IsTrue, IfOk, IfSome, OnErr};
 ghost use Rattle.sftp_wire.specs.declared.packets.Ask.TheVariants.{Read, Readdir};
 ghost use Rattle.sftp_wire.specs.declared.packets.Answer.TheVariants as replies;
-ghost use Rattle.sftp_handles.specs.Handles.{open_at};
+ghost use Rattle.sftp_handles.specs.declared.opens.Open.TheVariants as opens;
+ghost use Rattle.sftp_handles.specs.FirstNames.{AreFirst};
+ghost use Rattle.sftp_handles.specs.Handles.{open_at, is_open, with_open};
 ghost use Rattle.sftp_handles.specs.Replies.{names_in};
 ghost use Rattle.sftp_handles.specs.Giving.{IsListing, gives_names, with_struck};
 ghost use Rattle.sftp_handles.specs.Judged.{IsJudged, IsJudgedCode};
@@ -113,8 +115,7 @@ impl<T: HandleTable> Session<T> {
     }
 }
 
-/// Strikes names from the listing that is open under a handle. It takes no memory: the listing is taken out for as long
-/// as it changes, and an empty one is in its place.
+/// Strikes names from the listing that is open under a handle. It takes no memory.
 pub(crate) fn strike_names<T: HandleTable>(
     table: &mut T,
     alloc: Global,
@@ -125,19 +126,48 @@ pub(crate) fn strike_names<T: HandleTable>(
     ensures { T.handles table.new
         ≡ with_struck (T.handles table.old) handle.now given.now (open_at (T.handles table.old) handle.now) }
 {
+    let mut left = take_listing(table, alloc, handle);
+    left.strike_all(given);
+    put_listing(table, handle, left);
+}
+
+/// Strikes the first names, those of a reply, from the listing that is open under a handle. It takes no memory.
+pub(crate) fn strike_first<T: HandleTable>(
+    table: &mut T,
+    alloc: Global,
+    handle: &[u8],
+    names: &Names,
+)
+    requires listing { IsListing (open_at (T.handles table.old) handle.now) }
+    requires first { AreFirst (open_at (T.handles table.old) handle.now) names.now }
+    ensures { T.handles table.new
+        ≡ with_struck (T.handles table.old) handle.now (names_in names.now) (open_at (T.handles table.old) handle.now) }
+{
+    let mut left = take_listing(table, alloc, handle);
+    left.drop_first(names.as_slice().len());
+    put_listing(table, handle, left);
+}
+
+/// Takes the listing that is open under a handle out of its table. An empty one is then open in its place.
+fn take_listing<T: HandleTable>(table: &mut T, alloc: Global, handle: &[u8]) -> Listing
+    requires { IsListing (open_at (T.handles table.old) handle.now) }
+    ensures taken { open_at (T.handles table.old) handle.now ≡ Some (opens.Listing result) }
+    ensures empty { T.handles table.new ≡ with_open (T.handles table.old) handle.now (opens.Listing []) }
+{
     let empty = Open::Listing {
         left: Listing::empty(alloc),
     };
     match table.swap(handle, empty) {
-        Ok(Open::Listing { left }) => {
-            let mut left = left;
-            left.strike_all(given);
-            match table.swap(handle, Open::Listing { left }) {
-                Ok(_) => {}
-                Err(_) => unreachable!(),
-            }
-        }
+        Ok(Open::Listing { left }) => left,
         Ok(Open::File { .. }) => unreachable!(),
         Err(_) => unreachable!(),
     }
+}
+
+/// Opens a listing under a handle in place of what is open under it.
+fn put_listing<T: HandleTable>(table: &mut T, handle: &[u8], left: Listing)
+    requires { IsTrue (is_open (T.handles table.old) handle.now) }
+    ensures { T.handles table.new ≡ with_open (T.handles table.old) handle.now (opens.Listing left) }
+{
+    let _empty = table.swap(handle, Open::Listing { left });
 }

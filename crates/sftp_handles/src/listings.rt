@@ -1,5 +1,5 @@
 //! What a listing of a directory still has to give.
-ghost use Rattle.std.specs.Prelude.{◌≡◌, [], IsTrue, ◌↔◌, OnOk, OnErr, option_copied};
+ghost use Rattle.std.specs.Prelude.{◌≡◌, [], drop, IsTrue, ◌↔◌, OnOk, OnErr, option_copied};
 ghost use Rattle.sftp_path.specs.Place.{name_cmp};
 ghost use Rattle.sftp_path.specs.Table.{InOrder, get, put, without};
 
@@ -79,5 +79,14 @@ impl Listing {
         ensures ordered { InOrder name_cmp self.new }
     {
         let _struck = self.names.remove(name);
+    }
+
+    /// Drops the first names: so many, or all if these are fewer. It takes no memory.
+    pub(crate) fn drop_first(&mut self, count: usize)
+        ensures { self.new ≡ drop count self.old }
+    {
+        for _ in 0..count {
+            let _dropped = self.names.pop_first();
+        }
     }
 }

@@ -4,19 +4,17 @@ ghost use Rattle.sftp_wire.specs.declared.packets.Ask.TheVariants as asks;
 ghost use Rattle.sftp_wire.specs.declared.packets.Answer.TheVariants as replies;
 ghost use Rattle.sftp_handles.specs.Handles.{open_at};
 ghost use Rattle.sftp_handles.specs.State as state;
-ghost use Rattle.sftp_handles.specs.Replies.{names_in};
 ghost use Rattle.sftp_handles.specs.Laws.{is_opening};
 ghost use Rattle.sftp_handles.specs.FirstNames.{AreFirst};
 ghost use Rattle.sftp_handles.specs.Judged.{IsRefusal};
 ghost use Rattle.sftp_handles.specs.Answered.{IsAnswered};
 
-use crate::giving::strike_names;
+use crate::giving::strike_first;
 use crate::not_opened::NotOpened;
 use crate::opens::Open;
 use crate::sessions::Session;
 use crate::showing::status;
 use crate::tables::HandleTable;
-use sftp_path::Name;
 use sftp_tree::{Cause, Refused};
 use sftp_wire::{Answer, Ask, Attrs, ByteString, Names};
 use std::alloc::Global;
@@ -102,29 +100,28 @@ impl<T: HandleTable> Session<T> {
         ensures refused { IfErr result (IsRefusal self.old (asks.Readdir handle.now)) }
         ensures kept { OnErr result (self.new ≡ self.old) }
     {
-        let given = self.first_names(handle)?;
+        let names = self.first_names(handle)?;
         let alloc = self.tree.allocator();
-        if given.0.is_empty() {
+        if names.as_slice().is_empty() {
             return Ok(status(alloc, 1));
         }
-        strike_names(&mut self.table, alloc, handle, given.0.as_slice());
-        Ok(Answer::Name(given.1))
+        strike_first(&mut self.table, alloc, handle, &names);
+        Ok(Answer::Name(names))
     }
 
-    /// The first names that a listing still has to give, and the items of the reply that gives them.
+    /// The items of the reply that gives the first names of a listing.
     ///
     /// # Errors
     ///
     /// `BadHandle` if the handle is not open, `WrongKind` if it is a file's. `NoMemory` if memory runs out.
-    fn first_names(&self, handle: &[u8]) -> Result<(Vec<Name>, Names), Refused>
-        ensures first { IfOk result (λ given. AreFirst (open_at self.now.handles handle.now) given.1) }
-        ensures names { IfOk result (λ given. given.0.items ≡ names_in given.1) }
+    fn first_names(&self, handle: &[u8]) -> Result<Names, Refused>
+        ensures first { IfOk result (AreFirst (open_at self.now.handles handle.now)) }
         ensures refused { IfErr result (IsRefusal self.now (asks.Readdir handle.now)) }
     {
         match self.table.find(handle) {
             Some(Open::Listing { left }) => {
-                let given = left.first(self.tree.allocator(), NAMES_IN_REPLY)?;
-                Ok(given)
+                let names = left.first(self.tree.allocator(), NAMES_IN_REPLY)?;
+                Ok(names)
             }
             Some(Open::File { .. }) => Err(Refused::Cause(Cause::WrongKind)),
             None => Err(Refused::Cause(Cause::BadHandle)),

@@ -1,7 +1,6 @@
 //! The first names of a listing, as a reply gives them (draft, section 6.7).
 ghost use Rattle.std.specs.Prelude.{◌≡◌, IfOk, IsTrue};
 ghost use Rattle.sftp_handles.specs.FirstNames as first;
-ghost use Rattle.sftp_handles.specs.Replies.{names_in};
 ghost use Rattle.sftp_handles.specs.State.{IsLeft, is_plain};
 
 use crate::listings::Listing;
@@ -10,26 +9,23 @@ use sftp_wire::{Attrs, ByteString, NameItem, Names};
 use std::alloc::Global;
 
 impl Listing {
-    /// The first names that are left, and the items of the reply that gives them: so many, or all if these are fewer.
+    /// The items of the reply that gives the first names that are left: so many, or all if these are fewer.
     ///
     /// # Errors
     ///
     /// `NoMemory` if memory runs out.
-    pub(crate) fn first(&self, alloc: Global, most: usize) -> Result<(Vec<Name>, Names), NoMemory>
+    pub(crate) fn first(&self, alloc: Global, most: usize) -> Result<Names, NoMemory>
         requires { IsLeft self.now }
-        ensures items { IfOk result (λ given. given.1 ≡ first.first_items most self.now) }
-        ensures names { IfOk result (λ given. given.0.items ≡ names_in given.1) }
+        ensures { IfOk result (λ names. names ≡ first.first_items most self.now) }
     {
-        let mut names = Vec::new(alloc);
         let mut items = Vec::new(alloc);
         for (name, attrs) in self.entries() {
             if items.len() >= most {
                 break;
             }
-            names.push(name.try_clone(alloc)?)?;
             items.push(item_of(alloc, name, attrs)?)?;
         }
-        Ok((names, Names::new(items)))
+        Ok(Names::new(items))
     }
 }
 

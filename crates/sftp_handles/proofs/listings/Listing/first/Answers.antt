@@ -3,8 +3,8 @@ use Rattle.sftp_handles.proofs.FirstNames.{first-all, first-front}
 use Rattle.sftp_handles.proofs.listings.Listing.first.Goals as goal
 use Rattle.sftp_handles.proofs.listings.Listing.first.Goals.{in-None, in-Some+then-len-most}
 
-pub returns-clause-items : goal.returns-clause-items
-returns-clause-items c =
+pub returns : goal.returns
+returns c =
     let at = c.loop-name in
     c.new.ensures
     ∙ elim c.match-next.branch [

@@ -1,0 +1,57 @@
+-- The first names of a listing are struck: as many entries are dropped.
+use Rattle.std.proofs.Common.{◌≡◌, ℕ, zero, suc, ◌+◌, ◌<◌, ◌↔◌, true, false, cond, List, [], ◌∷◌, drop, length, Option, Some, None}
+use Rattle.std.proofs.Common.{IsSome, IfSome, IfNone, sym, ap, subst, ◌∙◌, arith}
+use Rattle.std.specs.BTreeMap.{is_at}
+use Rattle.std.specs.Map.{keys_of, remove_entry}
+use Rattle.std.specs.Ordering.{is_eq}
+use Rattle.std.specs.Cmp.Lexicographic.{nat_list_cmp_total}
+use Rattle.std.proofs.lemmas.Cmp.{tied_itself}
+use Rattle.std.proofs.lemmas.List.{drop-drop}
+use Rattle.std.proofs.lemmas.Map.Keys.{sorted_tail}
+use Rattle.sftp_wire.specs.declared.attributes.Attrs.{Attrs}
+use Rattle.sftp_wire.specs.declared.names.NameItem.{NameItem}
+use Rattle.sftp_path.specs.Place.{Name, name_cmp}
+use Rattle.sftp_path.specs.Table.{InOrder, without}
+use Rattle.sftp_handles.specs.declared.opens.Open.{Open}
+use Rattle.sftp_handles.specs.declared.opens.Open.TheVariants.{Listing}
+use Rattle.sftp_handles.specs.Handles.{Left}
+use Rattle.sftp_handles.specs.Replies.{names_in, struck}
+use Rattle.sftp_handles.specs.Giving.{IsListing}
+use Rattle.sftp_handles.specs.FirstNames.{first_items, names_in_reply, AreFirst}
+use Rattle.sftp_handles.proofs.Strikes.{struck-first, struck-none}
+
+without-first : (e : Name × Attrs) (es : Left) → without name_cmp (e ∷ es) e.0 ≡ es
+unfolding without
+without-first e es =
+    ap (λ o. cond (is_eq o) es (e ∷ remove_entry (is_at (name_cmp e.0)) es)) (tied_itself nat_list_cmp_total e.0)
+
+struck-first_items : (n : ℕ) (left : Left) → InOrder name_cmp left
+    → struck left (names_in (first_items n left)) ≡ drop (length (first_items n left)) left
+struck-first_items zero [] order = struck-none []
+struck-first_items zero (e ∷ es) order = struck-none (e ∷ es)
+struck-first_items (suc n) [] order = struck-none []
+struck-first_items (suc n) (e ∷ es) order =
+    struck-first (e ∷ es) e.0 (names_in (first_items n es)) order
+    ∙ (ap (λ left. struck left (names_in (first_items n es))) (without-first e es)
+    ∙ struck-first_items n es (sorted_tail name_cmp e.0 (keys_of es) order))
+
+-- so it is with those of a reply
+pub dropped-struck : (items : List NameItem) (left : Left) (found : Option Open) → found ≡ Some (Listing left)
+    → IsListing found → AreFirst found items → drop (length items) left ≡ struck left (names_in items)
+dropped-struck items left found there order first =
+    let ordered : InOrder name_cmp left = subst IsListing there order in
+    let same : items ≡ first_items names_in_reply left = subst (λ o. AreFirst o items) there first in
+    ap (λ xs. drop (length xs) left) same
+    ∙ (sym (struck-first_items names_in_reply left ordered) ∙ ap (λ xs. struck left (names_in xs)) (sym same))
+
+-- one more entry is dropped, if there is one
+pub next-dropped : (n : ℕ) (whole before next : Left) (popped : Option (Name × Attrs)) → before ≡ drop n whole
+    → IfSome popped (λ e. before ≡ e ∷ next) → IfNone popped (next ≡ before)
+    → (IsSome popped ↔ (0 < length before)) → next ≡ drop (n + 1) whole
+next-dropped n whole before next (Some e) is removed kept some =
+    ap (λ es. drop 1 es) (sym removed ∙ is) ∙ drop-drop 1 n whole
+next-dropped n whole [] next None is removed kept some =
+    kept ∙ (ap (λ es. drop 1 es) is ∙ drop-drop 1 n whole)
+next-dropped n whole (e ∷ es) next None is removed kept some =
+    let there : false ≡ true = some.1 (omega arith) in
+    absurd cc
