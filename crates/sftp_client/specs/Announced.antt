@@ -1,0 +1,36 @@
+-- What the server's VERSION announces, and which requests may be sent then (draft-ietf-secsh-filexfer-02, section 4;
+-- OpenSSH's PROTOCOL, section 4).
+use Rattle.std.specs.Prelude.{ℕ, Bool, true, List, Option, Some, None, if◌then◌else◌, nat_eq, bytes_eq}
+use Rattle.std.specs.List.{list_any}
+use Rattle.sftp_wire.specs.declared.packets.Ask.{Ask}
+use Rattle.sftp_wire.specs.declared.packets.Ask.TheVariants.{PosixRename, Hardlink, Fsync}
+use Rattle.sftp_wire.specs.declared.packets.Packet.{Packet}
+use Rattle.sftp_wire.specs.declared.packets.Packet.TheVariants.{Init, Version, Request, Reply}
+use Rattle.sftp_wire.specs.Spelling.{posix_rename_name, hardlink_name, fsync_name}
+use Rattle.sftp_client.specs.declared.announced.Announced.{Announced}
+
+-- one of the extensions has this name, with any data
+abbrev pub is_named : List ℕ → List (List ℕ × List ℕ) → Bool
+is_named name extensions = list_any (λ extension. bytes_eq name extension.0) extensions
+
+-- which of the extensions that have requests of their own these are
+abbrev pub named_in : List (List ℕ × List ℕ) → Announced
+named_in extensions = record {
+  posix_rename = is_named posix_rename_name extensions;
+  hardlink = is_named hardlink_name extensions;
+  fsync = is_named fsync_name extensions;
+}
+
+-- what a packet announces, if it is a VERSION 3
+abbrev pub announced_by : Packet → Option Announced
+announced_by (Init version extensions) = None
+announced_by (Version version extensions) = if nat_eq version 3 then Some (named_in extensions) else None
+announced_by (Request request) = None
+announced_by (Reply reply) = None
+
+-- a request may be sent: an extension with a request of its own only if it was announced
+abbrev pub may_be_sent : Announced → Ask → Bool
+may_be_sent announced (PosixRename oldpath newpath) = announced.posix_rename
+may_be_sent announced (Hardlink oldpath newpath) = announced.hardlink
+may_be_sent announced (Fsync handle) = announced.fsync
+may_be_sent announced other = true

@@ -1,0 +1,5 @@
+pub mod Announced
+pub mod Kinds
+pub mod Client
+pub mod Runs
+pub mod Examples
