@@ -31,7 +31,7 @@ IsRefusedFor machine request NoMemory = IsTrue (can_take machine request)
 
 -- ---- what the core keeps
 
--- the window is at most 1,024, and the queue has no more requests
+-- the window is 1 to 1,024, and the queue has at most that many requests
 pub record IsBounded (window : ℕ) (queue : List Entry) : Type 0 where
   pub some : 1 ≤ window
   pub bounded : window ≤ 1024
@@ -47,7 +47,7 @@ pub record IsValue (request : Request) : Type 0 where
 abbrev pub AreDeliverable : List Act → Type 0
 AreDeliverable acts = AllByRecursion (Delivers IsValue) acts
 
--- ---- what a core comes to
+-- ---- what acts lead to
 
 -- from this state with nothing asked, some acts make these events and lead to this machine
 pub record IsReached (start : State) (window : ℕ) (events : List Event) (machine : Machine State) : Type 0 where

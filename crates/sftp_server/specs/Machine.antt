@@ -1,7 +1,7 @@
--- The core of a server: a state, and a queue of the requests from the oldest unsent one on. Requests are taken in the
--- order asked, done when nothing that was asked earlier and is not done yet clashes with them, and answered in any order
--- (draft-ietf-secsh-filexfer-02, section 6.1). The states, which replies they allow, and which requests clash are
--- parameters. That the queue is bounded is this profile's own.
+-- The core of a server: a state, and a queue of requests in the order asked, the first of which is unanswered. A request
+-- is done once no earlier pending request clashes with it. Replies are sent in any order (draft-ietf-secsh-filexfer-02,
+-- section 6.1). The states, which replies they allow, and which requests clash are parameters. That the queue is bounded
+-- is this profile's own.
 use Rattle.std.specs.Prelude.{◌≡◌, ◌==◌, ◌&&◌, ◌||◌, not, nat_lt, ℕ, Bool, true, false, List, [], ◌∷◌, ◌++◌}
 use Rattle.std.specs.Prelude.{length, take, slice_get, Option, Some, None, IsTrue, if◌then◌else◌}
 use Rattle.sftp_wire.specs.declared.packets.Packet.TheVariants.{Reply as reply_packet}
@@ -119,7 +119,7 @@ pub record IsSent {S : Type 0} (before : Machine S) (k : ℕ) (reply : Reply) (a
   pub position : length front ≡ k
   pub marked : after ≡ record before { queue = from_unsent (front ++ record { request = request; progress = Sent } ∷ back) }
 
--- nothing changed, and there is no event
+-- the machine is as before, and no event is made
 pub record IsIdle {S : Type 0} (before : Machine S) (events : List Event) (after : Machine S) : Type 0 where
   pub unchanged : after ≡ before
   pub silent : events ≡ []

@@ -1,8 +1,8 @@
 -- What a session of the server reads, writes and logs, and how it ends (draft-ietf-secsh-filexfer-02, sections 3 to 7).
--- That a packet which cannot be read ends the session, the window, and how a session ends are this profile's own.
+-- Own to this profile: the window, that an unreadable packet ends the session, and how sessions end.
 use Rattle.std.specs.Prelude.{◌≡◌, ◌≢◌, ◌⊎◌, ◌==◌, ◌||◌, ℕ, ◌≤◌, Bool, true, false, List, [], ◌∷◌, ◌++◌, length}
 use Rattle.std.specs.Prelude.{map, codes, Option, Some, None, Result, Ok, Err, IsTrue}
-use Rattle.std.specs.List.{flat_map}
+use Rattle.std.specs.List.{flat_map, AllByRecursion}
 use Rattle.sftp_wire.specs.declared.errors.Fault.{Fault}
 use Rattle.sftp_wire.specs.declared.errors.WireError.{WireError}
 use Rattle.sftp_wire.specs.declared.errors.WireError.TheVariants.{Unreadable}
@@ -16,7 +16,8 @@ use Rattle.sftp_wire.specs.Reading.{front_of}
 use Rattle.sftp_wire.specs.Framing.{place_after}
 use Rattle.sftp_transcript.specs.declared.events.Event.{Event}
 use Rattle.sftp_transcript.specs.declared.events.Event.TheVariants.{Asked, Replied}
-use Rattle.sftp_transcript.specs.Transcript.{packet_of, record_text, transcript_opening}
+use Rattle.sftp_transcript.specs.Transcript.{packet_of, record_text, transcript_opening, IsEvent}
+use Rattle.sftp_transcript.specs.Records.{IsInit}
 use Rattle.sftp_transcript.specs.Explained.{Explained, BeginsFrom}
 use Rattle.sftp_tree.specs.Tree.{Tree, trim}
 use Rattle.sftp_handles.specs.State.{State, settled}
@@ -39,6 +40,7 @@ our_version =
 abbrev pub session_packets : Packet → List Event → List Packet
 session_packets init events = init ∷ our_version ∷ map packet_of events
 
+-- the bytes, if the packet is of the side that is asked for
 abbrev pub spelled_if : Side → Side → List ℕ → List ℕ
 spelled_if Client Client bytes = bytes
 spelled_if Server Server bytes = bytes
@@ -55,24 +57,28 @@ abbrev pub recorded : List Packet → List ℕ
 recorded [] = []
 recorded (packet ∷ packets) = transcript_opening ++ flat_map record_text (packet ∷ packets)
 
+-- the record of a packet behind others, with the opening if there are none
+abbrev pub opened_record : List Packet → Packet → List ℕ
+opened_record [] packet = transcript_opening ++ record_text packet
+opened_record (first ∷ others) packet = record_text packet
+
 -- an INIT of version 3 or more that can be encoded (draft, section 4)
 abbrev pub IsGreeting : Packet → Type 0
-IsGreeting (Init version extensions) = (3 ≤ version) × HasSpelling (Init version extensions)
-IsGreeting (Version version extensions) = ⊥
-IsGreeting (request_packet request) = ⊥
-IsGreeting (reply_packet reply) = ⊥
+IsGreeting packet = IsInit packet × HasSpelling packet
 
 -- The session that was opened: what was read is the client's packets and then the rest; what was written is the server's
--- packets; and the log is the record of both in the order of the session.
+-- packets; and the log is the record of both in the order of the session. Each event can be encoded.
 pub record IsOpened (input output log : List ℕ) (init : Packet) (events : List Event) (rest : List ℕ) : Type 0 where
   pub greeting : IsGreeting init
+  pub spelled : AllByRecursion IsEvent events
   pub read : input ≡ sent_by Client (session_packets init events) ++ rest
   pub written : output ≡ sent_by Server (session_packets init events)
   pub logged : log ≡ recorded (session_packets init events)
 
 -- ---- the end of a session that was opened
 
--- with the events, some reply to a request of this id comes after the last request; `since` says whether one came before
+-- some reply of this id comes after the last request of the events; `since`: one has come since the last request before
+-- them
 unfoldable pub answered_last : ℕ → Bool → List Event → Bool
 answered_last id since [] = since
 answered_last id since (Asked request ∷ events) = answered_last id false events
@@ -94,15 +100,15 @@ pub record BeginsWithInit (bytes : List ℕ) : Type 0 where
   pub spelled : HasSpelling (Init version extensions)
   pub bytes_are : bytes ≡ spelling (Init version extensions) ++ rest
 
--- Why the rest of the input, at this place of the stream, ends the session. `over` says that no more input comes.
-abbrev pub IsBroken : List Event → List ℕ → ℕ → Type 0 → SessionFault → Type 0
-IsBroken events rest place over (faults.Wire (Unreadable fault at)) =
+-- Why the rest of the input, at this place of the stream, ends the session. `over`: the input has ended.
+abbrev pub EndsSession : List Event → List ℕ → ℕ → Type 0 → SessionFault → Type 0
+EndsSession events rest place over (faults.Wire (Unreadable fault at)) =
     (front_of Client rest ≡ Err fault) × (at ≡ place)
-IsBroken events rest place over (faults.Wire other) = ⊥
-IsBroken events rest place over (faults.IdInUse id) =
+EndsSession events rest place over (faults.Wire other) = ⊥
+EndsSession events rest place over (faults.IdInUse id) =
     BeginsWithId rest id × IsTrue (answered_last id false events)
-IsBroken events rest place over faults.BadInit = BeginsWithInit rest
-IsBroken events rest place over (faults.Cut at) =
+EndsSession events rest place over faults.BadInit = BeginsWithInit rest
+EndsSession events rest place over (faults.Cut at) =
     over × (rest ≢ []) × (front_of Client rest ≡ Ok None) × (at ≡ place)
 
 -- the tree of a session's last state, once nothing is open
@@ -129,13 +135,13 @@ pub record IsFaulty (start : Tree) (input : List ℕ) (over : Type 0) (output lo
   pub rest : List ℕ
   pub opened : IsOpened input output log init events rest
   pub served : IsServed start events end
-  pub broken : IsBroken events rest (place_after 0 (length (sent_by Client (session_packets init events)))) over fault
+  pub broken : EndsSession events rest (place_after 0 (length (sent_by Client (session_packets init events)))) over fault
 
 -- ---- a session that was not opened
 
 -- a packet in front that is not an INIT of version 3 or more
 abbrev pub IsNoGreeting : Result (Option (Packet × ℕ)) Fault → Type 0
-IsNoGreeting (Ok (Some front)) = IsGreeting front.0 → ⊥
+IsNoGreeting (Ok (Some front)) = IsInit front.0 → ⊥
 IsNoGreeting (Ok None) = ⊥
 IsNoGreeting (Err fault) = ⊥
 
@@ -155,7 +161,7 @@ pub record IsUnopened (start : Tree) (input : List ℕ) (over : Type 0) (output 
   pub nothing_logged : log ≡ []
   pub end_is : end ≡ start
 
--- ---- a session that a failing stream or the want of memory ended
+-- ---- a session that ended because a stream failed or memory ran out
 
 -- what a session may have logged so far: nothing, its INIT, or its packets up to some event
 abbrev pub IsListed : Tree → List Packet → Type 0
@@ -163,7 +169,7 @@ IsListed start [] = Unit {0}
 IsListed start (init ∷ []) = IsGreeting init
 IsListed start (init ∷ version ∷ packets) =
     IsGreeting init × (version ≡ our_version) × (events : List Event) × (packets ≡ map packet_of events)
-    × BeginsFrom Allowed (settled start []) events
+    × AllByRecursion IsEvent events × BeginsFrom Allowed (settled start []) events
 
 -- the first is a beginning of the second
 abbrev pub IsBeginning : List ℕ → List ℕ → Type 0
@@ -174,32 +180,32 @@ abbrev pub IsCutInLast : List Packet → List ℕ → Type 0
 IsCutInLast packets log =
     ((packets ≡ []) × (log ≡ []))
     ⊎ ((front : List Packet) × (last : Packet) × (cut : List ℕ) × (packets ≡ front ++ last ∷ [])
-    × (log ≡ recorded front ++ cut) × IsBeginning log (recorded packets))
+    × IsBeginning cut (opened_record front last) × (log ≡ recorded front ++ cut))
 
 -- what was written and logged of the packets
-abbrev pub IsLeft : Tree → List Packet → List ℕ → List ℕ → Ended → Type 0
-IsLeft start packets output log (ends.Io streams.Reader) =
+abbrev pub IsWrittenSoFar : Tree → List Packet → List ℕ → List ℕ → Ended → Type 0
+IsWrittenSoFar start packets output log (ends.Io streams.Reader) =
     (output ≡ sent_by Server packets) × (log ≡ recorded packets)
-IsLeft start packets output log (ends.Io streams.Writer) =
+IsWrittenSoFar start packets output log (ends.Io streams.Writer) =
     (log ≡ recorded packets)
     × ((output ≡ sent_by Server packets)
     ⊎ ((packet : Packet) × (cut : List ℕ) × (side_of packet ≡ Server) × IsListed start (packets ++ packet ∷ [])
     × IsBeginning cut (spelling packet) × (output ≡ sent_by Server packets ++ cut)))
-IsLeft start packets output log (ends.Io streams.Log) = (output ≡ sent_by Server packets) × IsCutInLast packets log
-IsLeft start packets output log ends.NoMemory = (output ≡ sent_by Server packets) × IsCutInLast packets log
-IsLeft start packets output log other = ⊥
+IsWrittenSoFar start packets output log (ends.Io streams.Log) = (output ≡ sent_by Server packets) × IsCutInLast packets log
+IsWrittenSoFar start packets output log ends.NoMemory = (output ≡ sent_by Server packets) × IsCutInLast packets log
+IsWrittenSoFar start packets output log other = ⊥
 
 pub record IsStopped (start : Tree) (input output log : List ℕ) (ended : Ended) : Type 0 where
   pub packets : List Packet
   pub rest : List ℕ
   pub listed : IsListed start packets
   pub read : input ≡ sent_by Client packets ++ rest
-  pub left : IsLeft start packets output log ended
+  pub left : IsWrittenSoFar start packets output log ended
 
 -- ---- the whole
 
--- What was read of the input, what was written and what was logged, and how the session ended. `over` says that the
--- input had ended.
+-- What was read of the input, what was written and what was logged, and how the session ended. `over`: the input has
+-- ended. That a stream failed only where its name is returned is not said here.
 abbrev pub Served : Tree → List ℕ → Type 0 → List ℕ → List ℕ → Ended → Type 0
 Served start input over output log (ends.Finished end) = IsFinished start input over output log end
 Served start input over output log (ends.Fault end fault) =

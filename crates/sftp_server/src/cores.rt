@@ -18,8 +18,8 @@ use sftp_tree::{NoMemory, Tree};
 use sftp_wire::{Reply, Request};
 use std::marker::Model;
 
-/// A session, and the requests from the oldest unsent one on, each pending, done or sent. Requests are done in the order
-/// asked; their replies may be sent in any order.
+/// A session, and the queue of the requests that are not all answered yet. Requests are done in the order asked; replies
+/// are sent in any order. A request that was answered stays in the queue while an earlier one is unanswered.
 #[derive(Drop)]
 pub struct Core {
     session: Session<SlabTable>,
@@ -40,8 +40,8 @@ impl Model for Core {
 }
 
 impl Core {
-    /// A core on a tree, with nothing open and nothing asked. The pins that the tree came with are taken away. The queue
-    /// has at most `window` requests, 1 to 1,024.
+    /// A core on a tree, with nothing open and nothing asked; pins that the tree has are removed. Its queue takes up to
+    /// `window` requests, which is 1 to 1,024.
     ///
     /// # Errors
     ///
@@ -62,8 +62,8 @@ impl Core {
     ///
     /// # Errors
     ///
-    /// The request comes back, and nothing changes. `Full` if the queue has `window` requests; otherwise `IdInUse` if an
-    /// unsent request has its id; `NoMemory` if memory runs out.
+    /// They carry the request; the core is as before. `Full` if there is no room in the queue; otherwise `IdInUse` if a
+    /// request with this id is unanswered; `NoMemory` if memory runs out.
     pub fn deliver(&mut self, request: Request) -> Result<(), (Request, Refuse)>
         ensures could { OnOk result (IsTrue (can_take self.old request)) }
         ensures taken { OnOk result (self.new ≡ taken self.old request) }
@@ -106,20 +106,21 @@ impl Core {
         }
     }
 
-    /// Does the request at this position if it is ready. Only `Done` changes anything.
+    /// Does the request at this position if it is ready. Unless the result is `Done`, the core is as before.
     ///
     /// # Errors
     ///
-    /// `NoMemory` if memory runs out; nothing changes.
+    /// `NoMemory` if the request is ready and memory runs out; the core is as before.
     pub fn work(&mut self, k: usize) -> Result<Did, NoMemory>
-        // It is done exactly if it was ready.
+        // Only what was ready is done.
         ensures was_ready { IfOk result (λ d. d ≡ did.Done → IsTrue (is_ready server_clash self.old k)) }
         ensures done { IfOk result (λ d. d ≡ did.Done → IsWorked Allowed self.old k self.new) }
-        // It is not ready if it is pending, and something else has to be done first.
+        // It is pending, and an earlier request has to be done first.
         ensures not_ready { IfOk result (λ d. d ≡ did.NotReady →
             IsTrue (is_pending_at self.old.queue k) × (is_ready server_clash self.old k ≡ false)) }
         ensures no_such { IfOk result (λ d. d ≡ did.NoSuch → is_pending_at self.old.queue k ≡ false) }
         ensures unchanged { IfOk result (λ d. d ≢ did.Done → self.new ≡ self.old) }
+        ensures tried { OnErr result (IsTrue (is_ready server_clash self.old k)) }
         ensures err { OnErr result (self.new ≡ self.old) }
     {
         if !self.ready(k) {
@@ -144,8 +145,8 @@ impl Core {
         }
     }
 
-    /// The reply of the request at this position, which is then sent, if it is done and not sent. Requests at the front
-    /// that were sent leave the queue. It takes no memory.
+    /// Returns the reply of the request at this position to be sent, if the request is done and unanswered. Answered
+    /// requests at the front then leave the queue. It takes no memory.
     pub fn send(&mut self, k: usize) -> Option<Reply>
         ensures reply { result ≡ reply_at self.old.queue k }
         ensures sent { IfSome result (λ reply. IsSent self.old k reply self.new) }

@@ -10,7 +10,7 @@ pub enum Ended {
     /// nothing open.
     Finished(Tree),
     /// The client broke the protocol. Each request before the fault was answered; the tree is that of the session's end,
-    /// with nothing open.
+    /// with nothing open. If no session was opened, it is the tree as it came.
     Fault(Tree, SessionFault),
     /// This stream failed.
     Io(Stream),
@@ -25,9 +25,10 @@ pub enum SessionFault {
     Wire(WireError),
     /// A request has the id of one that is not answered.
     IdInUse(u32),
-    /// The first packet is not an INIT of version 3 or more, or a later one is an INIT.
+    /// The input has no complete first packet, the first packet is not an INIT of version 3 or more, or a later one is
+    /// an INIT.
     BadInit,
-    /// The input ended inside the packet that begins at this place, in bytes from 0, at most 2^64 - 1.
+    /// The input ended inside a packet. `place` is that of its first byte, from 0, capped at 2^64 - 1.
     Cut { place: u64 },
 }
 

@@ -1,4 +1,4 @@
-//! The queue of a server: the requests from the oldest unsent one on, each pending, done or sent.
+//! The queue of a server: its requests from the first unanswered one on.
 ghost use Rattle.std.specs.Prelude.{◌≡◌, ◌≢◌, ◌+◌, ℕ, ◌++◌, [], ◌∷◌, Some, None, false, length};
 ghost use Rattle.std.specs.Prelude.{IfErr, OnOk, OnErr, IfSome, IfNone, option_copied, slice_get};
 ghost use Rattle.sftp_server.specs.declared.queue.Progress.TheVariants as progress;
@@ -32,8 +32,8 @@ pub struct Entry {
     pub progress: Progress,
 }
 
-/// The requests from the oldest unsent one on, in the order asked. Those that are done or sent come before those that are
-/// pending.
+/// The requests of a core, in the order asked. All that are pending are behind all that are done or sent, and the first
+/// is not sent.
 #[derive(Drop)]
 pub(crate) struct Queue {
     entries: VecDeque<Entry>,

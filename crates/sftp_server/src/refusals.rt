@@ -1,11 +1,11 @@
-//! What a core returns of deliveries and of work.
+//! What a core returns for a delivery and for work.
 
 use thiserror::Error;
 
 /// Why a core does not take a request.
 #[derive(Clone, Copy, Debug, PartialEq, Eq, Error)]
 pub enum Refuse {
-    /// The queue has as many requests as the window allows.
+    /// There is no room in the queue.
     #[error("the window is full")]
     Full,
     /// A request with this id is not answered yet.
@@ -23,6 +23,6 @@ pub enum Did {
     Done,
     /// It is pending, and an earlier request has to be done first.
     NotReady,
-    /// There is no such request, or it is done.
+    /// No request at this position is pending.
     NoSuch,
 }

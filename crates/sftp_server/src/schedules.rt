@@ -2,8 +2,8 @@
 
 /// Chooses among what a server may do next.
 pub trait Schedule {
-    /// A choice among `count` possible acts, which are numbered from 0 in the order of the queue; the act that is done is
-    /// the result modulo `count`. Nothing is promised of the choice.
+    /// A choice among `count` possible acts, numbered from 0 in the order of the queue: the act of the result's number
+    /// modulo `count` is done. Nothing is promised of the choice.
     fn pick(&mut self, count: usize) -> usize;
 }
 
@@ -17,25 +17,16 @@ impl Schedule for InOrder {
     }
 }
 
-/// A schedule of pseudorandom choices, by a linear congruential generator.
+/// A schedule of pseudorandom choices, by a linear congruential generator of this state.
 #[derive(Clone, Copy, Debug, Drop)]
-pub struct Shuffle {
-    state: u64,
-}
-
-impl Shuffle {
-    /// The schedule of this seed.
-    pub fn new(seed: u64) -> Shuffle {
-        Shuffle { state: seed }
-    }
-}
+pub struct Shuffle(pub u64);
 
 impl Schedule for Shuffle {
     fn pick(&mut self, _count: usize) -> usize {
-        self.state = self
-            .state
+        self.0 = self
+            .0
             .wrapping_mul(6_364_136_223_846_793_005)
             .wrapping_add(1_442_695_040_888_963_407);
-        (self.state >> 33) as usize
+        (self.0 >> 33) as usize
     }
 }

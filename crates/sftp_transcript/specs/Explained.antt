@@ -92,7 +92,7 @@ pub record Explained {S : Type 0} (step : StepOf S) (start : S) (events : List E
   pub within_window : IsTrue (in_window events)
   pub run : Run step start (leading_pairs (exchanges_of events)) end
 
--- some continuation of the events, all of which can be recorded, is explained
+-- some continuation of the events is explained; each event that it adds can be encoded
 pub record BeginsFrom {S : Type 0} (step : StepOf S) (start : S) (events : List Event) : Type 0 where
   pub more : List Event
   pub end : S
