@@ -14,8 +14,8 @@ use sftp_tree::{Cause, NoMemory, Refused};
 use sftp_wire::{Answer, Ask, Reply, Request};
 
 impl Session<SlabTable> {
-    /// Answers a request: does it if no cause refuses it, and returns its reply. A refusal has the first code of the
-    /// first cause that holds; the texts of a status are empty.
+    /// Answers a request: does it, or refuses it, and returns its reply. A refusal is a status with the `Cause::code`
+    /// of a cause of the request, of several the earliest (`docs/DECISIONS.md` has their order). Its strings are empty.
     ///
     /// # Errors
     ///
@@ -54,7 +54,7 @@ impl<T: HandleTable> Session<T> {
     ///
     /// # Errors
     ///
-    /// The first cause that holds. `NoMemory` if memory runs out. The session is then as before.
+    /// A cause that refuses the request, or `NoMemory` if memory runs out. The session is then as before.
     fn do_free(&mut self, ask: &Ask) -> Result<Answer, Refused>
         requires { T.takes_want ≡ false }
         ensures done { IfOk result (λ answer. IsAnswered self.old ask.now answer self.new) }
@@ -99,7 +99,7 @@ impl<T: HandleTable> Session<T> {
     ///
     /// # Errors
     ///
-    /// The first cause that holds. `NoMemory` if memory runs out. The session is then as before.
+    /// A cause that refuses the request, or `NoMemory` if memory runs out. The session is then as before.
     fn answer_ok(&mut self, ask: &Ask) -> Result<Answer, Refused>
         requires { IsTrue (says_ok ask.now) }
         ensures done { IfOk result (λ answer. IsAnswered self.old ask.now answer self.new) }

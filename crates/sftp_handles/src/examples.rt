@@ -61,8 +61,8 @@ pub fn attributes_of_the_opening()
         ∷ (Readdir (codes "l"), Name (item (of_file 3) (codes "f") ∷ [])) ∷ []) ≡ None }
 {}
 
-/// No data changes nothing, at any offset. Data past the end comes behind zeros. A file that is appended to gets all
-/// data at its end, whatever the offset.
+/// A WRITE without data leaves the file as it is. One that starts behind the end fills the gap with zeros. Through a
+/// handle opened with SSH_FXF_APPEND, data is added to the file; the offset is ignored.
 pub fn written_bytes()
     ensures no_data { steps (closed (with_text [])) (opened (codes "/f") 0x2 (codes "h")
         ∷ done (Write (codes "h") 18446744073709551615 []) ∷ done (Close (codes "h")) ∷ [])
@@ -81,8 +81,9 @@ pub fn written_bytes()
         ∷ done (Close (codes "h")) ∷ []) ≡ Some (closed (with_text [])) }
 {}
 
-/// READ gives the bytes from the offset, as many as are asked for and are there. At the end and past it, it says that
-/// the end was reached, whatever length is asked for; below the end no length gives no bytes.
+/// A READ of `len` bytes at `offset` returns that part of the file, which is shorter only if the file ends before. If
+/// the file has no byte at `offset`, the reply is SSH_FX_EOF, even for a `len` of 0. Elsewhere such a READ returns an
+/// SSH_FXP_DATA without bytes (draft, section 6.4).
 pub fn read_bytes()
     ensures given { steps (closed (with_text (codes "abc"))) (opened (codes "/f") 0x1 (codes "h")
         ∷ (Read (codes "h") 1 1, Data (codes "b")) ∷ (Read (codes "h") 1 4294967295, Data (codes "bc"))

@@ -21,8 +21,9 @@ use std::alloc::Global;
 use std::marker::Model;
 use std::mem;
 
-/// The handles that are open in a session with this program's server. A name has 12 bytes: the number of a slot, and
-/// then a serial that counts the openings from 0; after 2^32 - 1 comes 0. The slot freed last is used before others.
+/// The open handles of a server that chooses their names itself (draft, section 6.3). A name is a slot's number
+/// in 8 bytes and a serial in 4, which keeps the openings of one slot apart: it grows by one with each opening, modulo
+/// 2^32. The table grows only if no slot is free; of several free slots, the one freed last is taken.
 #[derive(Drop)]
 pub struct SlabTable {
     opens: Slab<Slot>,

@@ -1,5 +1,5 @@
--- What holds of the values of requests: their bytes are bytes, and the numbers of an owner have 32 bits. Nothing is said
--- of lengths, so it holds of more requests than can be encoded.
+-- What holds of the values of requests: their bytes are bytes, and the numbers of an owner have 32 bits. Nothing is
+-- said of lengths, so it holds of more requests than can be encoded.
 use Rattle.std.specs.Prelude.{IfSome}
 use Rattle.sftp_wire.specs.declared.attributes.Attrs.{Attrs}
 use Rattle.sftp_wire.specs.declared.packets.Ask.{Ask}

@@ -2,7 +2,8 @@
 use Rattle.sftp_wire.specs.declared.packets.Ask as wire
 use Rattle.sftp_wire.specs.declared.packets.Ask.TheVariants as asks
 use Rattle.sftp_tree.specs.declared.asks.PathAsk.{PathAsk}
-use Rattle.sftp_tree.specs.declared.asks.PathAsk.TheVariants.{Mkdir, Rmdir, Remove, Setstat, Stat, Lstat, Realpath, Readlink, Symlink, Rename, PosixRename, Hardlink}
+use Rattle.sftp_tree.specs.declared.asks.PathAsk.TheVariants.{Mkdir, Rmdir, Remove, Setstat, Stat, Lstat, Realpath}
+use Rattle.sftp_tree.specs.declared.asks.PathAsk.TheVariants.{Readlink, Symlink, Rename, PosixRename, Hardlink}
 use Rattle.sftp_tree.specs.declared.asks.PathAsk.TheVariants.{Open, Opendir}
 
 -- the request

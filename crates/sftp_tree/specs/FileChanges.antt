@@ -1,6 +1,7 @@
 -- What is read of a file by its number, and what is changed in it (draft-ietf-secsh-filexfer-02, sections 6.4, 6.8 and
 -- 6.9). An open file has a number, and the calls on handles are made on it.
-use Rattle.std.specs.Prelude.{◌≡◌, ◌==◌, ◌||◌, nat_le, ℕ, ◌+◌, min, Bool, true, false, if◌then◌else◌, List, ◌++◌, length, take, drop, Option, Some, None}
+use Rattle.std.specs.Prelude.{◌≡◌, ◌==◌, ◌||◌, nat_le, ℕ, ◌+◌, min, Bool, true, false, if◌then◌else◌, List, ◌++◌}
+use Rattle.std.specs.Prelude.{length, take, drop, Option, Some, None}
 use Rattle.sftp_wire.specs.declared.attributes.Attrs.{Attrs}
 use Rattle.sftp_treefile.specs.declared.limits.TreeLimits.{TreeLimits}
 use Rattle.sftp_tree.specs.declared.file_contents.Content.{Content}

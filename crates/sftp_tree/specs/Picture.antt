@@ -1,5 +1,6 @@
 -- Trees as tree files. This profile's own.
-use Rattle.std.specs.Prelude.{◌≡◌, ◌&&◌, ◌==◌, nat_le, ℕ, suc, Bool, true, if◌then◌else◌, List, [], ◌∷◌, ◌++◌, Option, Some, None, Result, MatchResult, IsTrue}
+use Rattle.std.specs.Prelude.{◌≡◌, ◌&&◌, ◌==◌, nat_le, ℕ, suc, Bool, true, if◌then◌else◌, List, [], ◌∷◌, ◌++◌}
+use Rattle.std.specs.Prelude.{Option, Some, None, Result, MatchResult, IsTrue}
 use Rattle.std.specs.Option.{option_map}
 use Rattle.sftp_path.specs.Place.{Place, absolute}
 use Rattle.sftp_treefile.specs.declared.errors.TreeError.{TreeError}

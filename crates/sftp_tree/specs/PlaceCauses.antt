@@ -6,7 +6,8 @@ use Rattle.sftp_path.specs.Place.{Place, is_below}
 use Rattle.sftp_treefile.specs.TreeFile.{is_root, is_target, same_place}
 use Rattle.sftp_tree.specs.declared.nodes.Node.{Node}
 use Rattle.sftp_tree.specs.declared.nodes.Node.TheVariants.{File}
-use Rattle.sftp_tree.specs.declared.causes.Cause.TheVariants.{BadFlags, BadPath, NoEntry, NotDir, Exists, IsDir, NotLink, NotFile, NotEmpty, Root, Inside}
+use Rattle.sftp_tree.specs.declared.causes.Cause.TheVariants.{BadFlags, BadPath, NoEntry, NotDir, Exists, IsDir}
+use Rattle.sftp_tree.specs.declared.causes.Cause.TheVariants.{NotLink, NotFile, NotEmpty, Root, Inside}
 use Rattle.sftp_tree.specs.Tree.{Names, node_at, is_directory, is_file, is_link, is_taken, has_entries}
 use Rattle.sftp_tree.specs.Causes.{CauseSet, no_causes, when}
 use Rattle.sftp_tree.specs.OpenFlags.{creates, excludes, are_good}

@@ -11,12 +11,15 @@ use Rattle.sftp_tree.specs.declared.file_contents.Content.{Content}
 use Rattle.sftp_tree.specs.declared.nodes.Node.{Node}
 use Rattle.sftp_tree.specs.declared.nodes.Node.TheVariants as nodes
 use Rattle.sftp_tree.specs.declared.plans.Plan.{Plan}
-use Rattle.sftp_tree.specs.declared.plans.Plan.TheVariants.{Nothing, Put, Remove as Take, Move, SetOwner, SetFile, Make, Truncate}
-use Rattle.sftp_tree.specs.Tree.{Tree, IsKept, IsNode, IsContent, fits, node_at, content_at, is_taken, is_directory, is_file, has_entries, trim}
+use Rattle.sftp_tree.specs.declared.plans.Plan.TheVariants.{Nothing, Put, Remove as Take, Move}
+use Rattle.sftp_tree.specs.declared.plans.Plan.TheVariants.{SetOwner, SetFile, Make, Truncate}
+use Rattle.sftp_tree.specs.Tree.{Tree, IsKept, IsNode, IsContent, fits, node_at, content_at}
+use Rattle.sftp_tree.specs.Tree.{is_taken, is_directory, is_file, has_entries, trim}
 use Rattle.sftp_tree.specs.Attributes.{directory_owner, file_owner, changed_owner}
 use Rattle.sftp_tree.specs.OpenFlags.{truncates}
 use Rattle.sftp_tree.specs.PlaceCauses.{are_one, goes_inside}
-use Rattle.sftp_tree.specs.Changes.{with_entry, without_entry, put_in_its_stead, with_new_file, new_content, with_emptied_file, with_changed_file}
+use Rattle.sftp_tree.specs.Changes.{with_entry, without_entry, put_in_its_stead, with_new_file, new_content}
+use Rattle.sftp_tree.specs.Changes.{with_emptied_file, with_changed_file}
 use Rattle.sftp_tree.specs.Requests.{after}
 
 -- the tree with the plan carried out; files that lost their last name still exist

@@ -6,7 +6,8 @@ use Rattle.std.specs.Prelude.{◌&&◌, not, ℕ, Bool, true, false, List, Optio
 use Rattle.std.specs.Option.{option_map}
 use Rattle.sftp_wire.specs.declared.attributes.Attrs.{Attrs}
 use Rattle.sftp_wire.specs.declared.packets.Ask.{Ask}
-use Rattle.sftp_wire.specs.declared.packets.Ask.TheVariants.{Lstat, Setstat, Remove, Mkdir, Rmdir, Realpath, Stat, Rename, Readlink, Symlink, PosixRename, Hardlink}
+use Rattle.sftp_wire.specs.declared.packets.Ask.TheVariants.{Lstat, Setstat, Remove, Mkdir, Rmdir, Realpath, Stat}
+use Rattle.sftp_wire.specs.declared.packets.Ask.TheVariants.{Rename, Readlink, Symlink, PosixRename, Hardlink}
 use Rattle.sftp_wire.specs.declared.packets.Ask.TheVariants.{Open, Opendir}
 use Rattle.sftp_path.specs.Place.{Name, Place, absolute}
 use Rattle.sftp_path.specs.Table.{Table}
@@ -18,7 +19,9 @@ use Rattle.sftp_tree.specs.Tree.{Tree, node_at, trim, fits}
 use Rattle.sftp_tree.specs.Walk.{reached}
 use Rattle.sftp_tree.specs.Attributes.{directory_owner, shown}
 use Rattle.sftp_tree.specs.Causes.{CauseSet, no_causes, when, joined, is_none}
-use Rattle.sftp_tree.specs.PlaceCauses.{making_causes, needing_causes, link_causes, file_causes, setting_causes, removing_causes, unlinking_causes, leaving_causes, giving_causes, target_bytes_causes, moving_causes, exchanging_causes}
+use Rattle.sftp_tree.specs.PlaceCauses.{making_causes, needing_causes, link_causes, file_causes, setting_causes}
+use Rattle.sftp_tree.specs.PlaceCauses.{removing_causes, unlinking_causes, leaving_causes, giving_causes}
+use Rattle.sftp_tree.specs.PlaceCauses.{target_bytes_causes, moving_causes, exchanging_causes}
 use Rattle.sftp_tree.specs.PlaceCauses.{opening_causes, directory_causes, flags_causes}
 use Rattle.sftp_tree.specs.Changes.{with_attributes, with_entry, without_entry, moved, exchanged, with_further_name}
 use Rattle.sftp_tree.specs.Changes.{with_opened}

@@ -1,7 +1,9 @@
 -- Where a path leads (draft-ietf-secsh-filexfer-02, section 6.2). How links are followed, and how many of them, is
 -- this profile's own.
-use Rattle.std.specs.Prelude.{ℕ, zero, suc, ◌+◌, ◌*◌, Bool, true, false, if◌then◌else◌, List, [], ◌∷◌, ◌++◌, Option, Some, None, Result, Ok, Err}
-use Rattle.sftp_path.specs.Place.{Name, Place, parent, is_dot, is_dot_dot, components, is_absolute, is_good_path, depth_limit}
+use Rattle.std.specs.Prelude.{ℕ, zero, suc, ◌+◌, ◌*◌, Bool, true, false, if◌then◌else◌, List, [], ◌∷◌, ◌++◌}
+use Rattle.std.specs.Prelude.{Option, Some, None, Result, Ok, Err}
+use Rattle.sftp_path.specs.Place.{Name, Place, parent, is_dot, is_dot_dot}
+use Rattle.sftp_path.specs.Place.{components, is_absolute, is_good_path, depth_limit}
 use Rattle.sftp_tree.specs.declared.nodes.Node.{Node}
 use Rattle.sftp_tree.specs.declared.nodes.Node.TheVariants.{Dir, File, Link}
 use Rattle.sftp_tree.specs.declared.causes.Cause.{Cause}
@@ -29,24 +31,24 @@ met_link target place true false = ends place
 met_link target place true true = through target
 met_link target place false follow = through target
 
--- a file is the answer if it is last, and no walk leads through it
+-- a walk can end at a file, and cannot go on from one
 abbrev pub met_file : Place → Bool → Meeting
 met_file place true = ends place
 met_file place false = fails NotDir
 
--- a free place is the answer if its name is the last, since a node can be made there
+-- it can also end where nothing exists, since a request may make something there
 abbrev pub met_nothing : Place → Bool → Meeting
 met_nothing place true = ends place
 met_nothing place false = fails NoEntry
 
--- at a name: a directory is entered
+-- what the node at a name makes of the walk
 abbrev pub met : Option Node → Place → Bool → Bool → Meeting
 met (Some (Dir owner)) place last follow = enters place
 met (Some (File number)) place last follow = met_file place last
 met (Some (Link target)) place last follow = met_link target place last follow
 met None place last follow = met_nothing place last
 
--- `.` stays, and `..` goes to the parent, which for the root is the root
+-- `.` names the directory itself, and `..` the one above it; nothing is above the root, where `..` is the root
 unfoldable pub meets : Names → Bool → Place → Name → Bool → Meeting
 meets names follow at component last =
     if is_dot component then enters at else
@@ -55,7 +57,7 @@ meets names follow at component last =
 
 -- ---- the walk
 
--- where a target starts: at the root if it is absolute, else in the directory that holds the link
+-- an absolute target starts at the root, and a relative one in the directory that has the link
 abbrev pub start_of : Place → List ℕ → Place
 start_of at target = if is_absolute target then [] else at
 

@@ -51,25 +51,22 @@ taken-place found none = not-false (is_taken found) (or_parts (not (is_taken fou
 pub file-place : (found : Option Node) → ((c : Cause) → file_causes found c ≡ false) → (number : ℕ) × (found ≡ Some (File number))
 unfolding when no_causes
 file-place None none = let there = none NoEntry in absurd cc
-file-place (Some (Dir owner)) none = let file = none NotFile in absurd cc
 file-place (Some (File number)) none = (number, refl)
-file-place (Some (Link goal)) none = let file = none NotFile in absurd cc
+file-place (Some other) none = let file = none NotFile in absurd cc
 
 -- a link is where one is needed
 pub link-place : (found : Option Node) → ((c : Cause) → link_causes found c ≡ false) → is_link found ≡ true
 unfolding when no_causes
 link-place None none = let there = none NoEntry in absurd cc
-link-place (Some (Dir owner)) none = let link = none NotLink in absurd cc
-link-place (Some (File number)) none = let link = none NotLink in absurd cc
 link-place (Some (Link goal)) none = refl
+link-place (Some other) none = let link = none NotLink in absurd cc
 
 -- a directory is where one is to be listed
 pub directory-place : (found : Option Node) → ((c : Cause) → directory_causes found c ≡ false) → is_directory found ≡ true
 unfolding when no_causes
 directory-place None none = let there = none NoEntry in absurd cc
 directory-place (Some (Dir owner)) none = refl
-directory-place (Some (File number)) none = let directory = none NotDir in absurd cc
-directory-place (Some (Link goal)) none = let directory = none NotDir in absurd cc
+directory-place (Some other) none = let directory = none NotDir in absurd cc
 
 -- no directory is where a name is to be removed
 pub name-place : (found : Option Node) → ((c : Cause) → unlinking_causes found c ≡ false) → is_directory found ≡ false
@@ -100,18 +97,9 @@ given-below new none = (or_parts (is_root new) false (none Root)).0
 replaced-empty : (goes stays : Option Node) (entries : Bool) → is_taken goes ≡ true → ((c : Cause) → clashing_causes goes stays entries c ≡ false) → (is_directory stays ≡ false → entries ≡ false) → entries ≡ false
 unfolding when no_causes
 replaced-empty None stays entries there none below = absurd cc
-replaced-empty (Some (Dir owner)) None entries there none below = below refl
 replaced-empty (Some (Dir owner)) (Some (Dir other)) entries there none below = (or_parts entries false (none NotEmpty)).0
-replaced-empty (Some (Dir owner)) (Some (File number)) entries there none below = below refl
-replaced-empty (Some (Dir owner)) (Some (Link goal)) entries there none below = below refl
-replaced-empty (Some (File number)) None entries there none below = below refl
-replaced-empty (Some (File number)) (Some (Dir other)) entries there none below = let clash = none IsDir in absurd cc
-replaced-empty (Some (File number)) (Some (File other)) entries there none below = below refl
-replaced-empty (Some (File number)) (Some (Link goal)) entries there none below = below refl
-replaced-empty (Some (Link goal)) None entries there none below = below refl
-replaced-empty (Some (Link goal)) (Some (Dir other)) entries there none below = let clash = none IsDir in absurd cc
-replaced-empty (Some (Link goal)) (Some (File other)) entries there none below = below refl
-replaced-empty (Some (Link goal)) (Some (Link other)) entries there none below = below refl
+replaced-empty (Some it) (Some (Dir other)) entries there none below = let clash = none IsDir in absurd cc
+replaced-empty (Some it) stays entries there none below = below refl
 
 -- a node that replaces another, if the places are not one
 pub record MayReplace (t : Tree) (old new : Place) : Type 0 where

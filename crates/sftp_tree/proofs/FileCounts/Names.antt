@@ -16,7 +16,7 @@ use Rattle.sftp_path.proofs.Table.Values.{get-with_values, InOrder-with_values}
 use Rattle.sftp_tree.specs.declared.file_contents.Content.{Content}
 use Rattle.sftp_tree.specs.declared.file_contents.Stored.{Stored}
 use Rattle.sftp_tree.specs.declared.nodes.Node.{Node}
-use Rattle.sftp_tree.specs.declared.nodes.Node.TheVariants.{Dir, File, Link}
+use Rattle.sftp_tree.specs.declared.nodes.Node.TheVariants.{File}
 use Rattle.sftp_tree.specs.Tree.{Names, node_at, with_node, without_node, with_content, names_file, times_named, times_pinned, is_pinned}
 use Rattle.sftp_tree.specs.StoredFiles.{contents, pin_count_at, pins_of, AreCounted, file_named, is_held_still, where_held, IsChanged, IsChangedWhereNamed, with_a_name, without_a_name, with_content_made}
 use Rattle.sftp_tree.proofs.PlaceTables.Each.{each-get, get-each}
@@ -114,9 +114,9 @@ module _ (names others : Names) (files : Table ℕ Stored) where
 
   -- with a name more of the file that it names, the counts are right again; the contents stay
   pub raised : (it : Node) → ((other : ℕ) → times_named others other ≡ times_named names other + one_name (Some it) other) → (after : Table ℕ Stored) → InOrder nat_cmp files → AreCounted names files → IsChangedWhereNamed with_a_name (file_named (Some it)) files after → (contents after ≡ contents files) × AreCounted others after
-  raised (Dir owner) more after order counted same = unnamed after order (λ other. let m = more other in omega arith) counted same
   raised (File number) more after order counted changed = raised-file number more after order counted changed
-  raised (Link target) more after order counted same = unnamed after order (λ other. let m = more other in omega arith) counted same
+  raised it more after order counted same =
+      unnamed after order (λ other. let m = more other in omega arith) counted same
 
 -- ---- a name less
 
@@ -223,10 +223,8 @@ module _ (names others : Names) (files : Table ℕ Stored) where
     -- with a name less of the file that it named, or without that file, the counts are right again and each file left
     -- is held
     pub lowered : (gone : Option Node) → ((other : ℕ) → times_named others other + one_name gone other ≡ times_named names other) → (after : Table ℕ Stored) → IsChangedWhereNamed without_a_name (file_named gone) files after → (contents after ≡ retain (contents files) (stays (is_pinned (pins_of files)) others)) × AreCounted others after
-    lowered None less after same = lost-none after (λ other. let l = less other in omega arith) same
-    lowered (Some (Dir owner)) less after same = lost-none after (λ other. let l = less other in omega arith) same
     lowered (Some (File number)) less after changed = lowered-file number less after changed
-    lowered (Some (Link target)) less after same = lost-none after (λ other. let l = less other in omega arith) same
+    lowered other less after same = lost-none after (λ other. let l = less other in omega arith) same
 
 -- ---- another content of a file
 

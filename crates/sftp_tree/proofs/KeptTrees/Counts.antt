@@ -14,7 +14,7 @@ use Rattle.sftp_tree.specs.declared.file_contents.Content.{Content}
 use Rattle.sftp_tree.specs.declared.file_contents.Stored.{Stored}
 use Rattle.sftp_tree.specs.declared.nodes.Node.{Node}
 use Rattle.sftp_tree.specs.Tree.{Names, Tree, IsKept, IsContent, is_directory, content_at, fits, node_at, with_node, names_file, times_named, trim, with_content}
-use Rattle.sftp_tree.specs.declared.nodes.Node.TheVariants.{Dir, File, Link}
+use Rattle.sftp_tree.specs.declared.nodes.Node.TheVariants.{Dir, File}
 use Rattle.sftp_wire.specs.declared.attributes.Attrs.{Attrs}
 use Rattle.sftp_treefile.specs.declared.files.Owner.{Owner}
 use Rattle.sftp_treefile.specs.declared.limits.TreeLimits.{TreeLimits}
@@ -59,14 +59,12 @@ room-to-count t files kept counted named =
 
 -- the file that an entry names has a name to lose
 pub name-to-lose : (names : Names) (files : Table ℕ Stored) → AreCounted names files → (place : Place) (gone : Option Node) → node_at names place ≡ gone → IfSome (file_named gone) (λ number. IfSome (get nat_cmp files number) (λ s. 0 < s.names))
-name-to-lose names files counted place None there = tt
-name-to-lose names files counted place (Some (Dir owner)) there = tt
 name-to-lose names files counted place (Some (File number)) there =
     each-some (λ (s : Stored). 0 < s.names) (get nat_cmp files number) (λ s is.
     let n : s.names ≡ times_named names number = count-at names files counted number s is in
     let some = count-found place_cmp names place (File number) (names_file number) there (eq-eqb number number refl) in
     omega arith)
-name-to-lose names files counted place (Some (Link target)) there = tt
+name-to-lose names files counted place other there = tt
 
 -- ---- a change of a tree's parts
 
@@ -103,10 +101,8 @@ module _ (names : Names) (files : Table ℕ Stored) (made : ℕ) (limits : TreeL
       counted-again names others files (files-in_order files kept.well_formed.numbered) (λ number. ap (λ ns. times_named ns number) is ∙ by (node_at names place) refl directory number) counted
     where
       by : (standing : Option Node) → node_at names place ≡ standing → is_directory standing ≡ true → (number : ℕ) → times_named (with_node names place (Dir owner)) number ≡ times_named names number
-      by None there directory number = cc
       by (Some (Dir before)) there directory number = times_named-owner names place before owner number kept.well_formed.ordered there
-      by (Some (File other)) there directory number = cc
-      by (Some (Link target)) there directory number = cc
+      by other there directory number = cc
 
   -- another content of a file, made of its own
   pub content-parts : IsKept the_tree → AreCounted names files → (change : Content → Content) (number : ℕ)

@@ -1,5 +1,5 @@
 -- Files and their numbers, in the trees that requests ask for: each is removed with its last name.
-use Rattle.std.proofs.Common.{rules, ◌≡◌, ◌≢◌, ◌<◌, ◌≤◌, ℕ, ◌||◌, Bool, true, false, cond, refl, sym, ap, subst, ◌∙◌, arith, Option, Some, None, is_some, nat_lt, Result, Ok, Err, IsTrue, if◌then◌else◌, inl, inr, []}
+use Rattle.std.proofs.Common.{rules, ◌≡◌, ◌≢◌, ◌<◌, ◌≤◌, ℕ, ◌||◌, Bool, true, false, cond, refl, sym, ap, subst, ◌∙◌, arith, Option, Some, None, is_some, nat_lt, Result, Ok, IsTrue, if◌then◌else◌, inl, inr, []}
 use Rattle.std.specs.Prelude.{◌⊎◌, ◌↔◌}
 use Rattle.std.specs.Ordering.{nat_cmp}
 use Rattle.std.specs.FinMap.{nat_cmp-IsAntisymmetric}
@@ -35,10 +35,9 @@ module _ (t : Tree) (P : Tree → Type 0) (same : P t) (renamed : (names : Names
   by-file attrs number (Some content) is = changed number content (changed_content attrs content) is
 
   by-attributes : (attrs : Attrs) (place : Place) (o : Option Node) → P (with_attributes t attrs place o)
-  by-attributes attrs place None = same
   by-attributes attrs place (Some (Dir owner)) = renamed (with_node t.names place (Dir (changed_owner attrs owner)))
   by-attributes attrs place (Some (File number)) = by-file attrs number (content_at t.files number) refl
-  by-attributes attrs place (Some (Link goal)) = same
+  by-attributes attrs place other = same
 
   by-emptied : (number : ℕ) (o : Option Content) → content_at t.files number ≡ o → P (with_emptied_file t number o)
   by-emptied number None is = same
@@ -50,9 +49,8 @@ module _ (t : Tree) (P : Tree → Type 0) (same : P t) (renamed : (names : Names
 
   by-opened : (flags : ℕ) (attrs : Attrs) (place : Place) (o : Option Node) → P (with_opened t flags attrs place o)
   by-opened flags attrs place None = made place (new_content t attrs)
-  by-opened flags attrs place (Some (Dir owner)) = same
   by-opened flags attrs place (Some (File number)) = by-flag (truncates flags) number
-  by-opened flags attrs place (Some (Link goal)) = same
+  by-opened flags attrs place (Some other) = same
 
   by-place : (ask : Ask) (place : Place) → P (outcome_at t ask place)
   by-place (Mkdir path attrs) place = renamed (with_node t.names place (Dir (directory_owner t attrs)))
@@ -78,11 +76,9 @@ module _ (t : Tree) (P : Tree → Type 0) (same : P t) (renamed : (names : Names
   by-places other old new = same
 
   by-led : (ask : Ask) (l n : Option (Result Place Cause)) → P (led_to t l (λ place. outcome_on t ask place n))
-  by-led ask None n = same
-  by-led ask (Some (Err failed)) n = same
   by-led ask (Some (Ok place)) None = by-place ask place
-  by-led ask (Some (Ok place)) (Some (Err failed)) = same
   by-led ask (Some (Ok place)) (Some (Ok new)) = by-places ask place new
+  by-led ask l n = same
 
   pub by-outcome : (ask : Ask) → P (outcome t ask)
   unfolding outcome

@@ -13,7 +13,7 @@ use Rattle.sftp_path.proofs.Table.Laws.{InOrder-retain, get-retain}
 use Rattle.sftp_path.proofs.Table.Counts.{count-found}
 use Rattle.sftp_tree.specs.declared.file_contents.Content.{Content}
 use Rattle.sftp_tree.specs.declared.nodes.Node.{Node}
-use Rattle.sftp_tree.specs.declared.nodes.Node.TheVariants.{Dir, File, Link}
+use Rattle.sftp_tree.specs.declared.nodes.Node.TheVariants.{File}
 use Rattle.sftp_tree.specs.Tree.{Names, Files, Tree, WellFormed, IsKept, IsTrimmed, IsNode, IsPin, IsContent, limits, fits, files_fit, content_fits, node_at, content_at, names_file, times_named, is_named, is_pinned, trimmed, trim}
 use Rattle.sftp_tree.proofs.PlaceTables.Each.{each-retain, each-get, get-each, each-all, all-each}
 use Rattle.sftp_tree.proofs.FileCounts.Pins.{stays}
@@ -46,10 +46,9 @@ content-of_held is_held t number well held = content-trimmed is_held t number we
     ∙ kept-passing (stays is_held t.names) number (content_at t.files number) (λ content. or_right (is_named t.names number) (is_held number) held)
 
 node-trimmed : (is_held : ℕ → Bool) (t : Tree) (place : Place) (it : Node) → WellFormed t → node_at t.names place ≡ Some it → IsNode t.files it → IsNode (trimmed is_held t).files it
-node-trimmed is_held t place (Dir owner) well there is_node = is_node
 node-trimmed is_held t place (File number) well there is_node =
     ap is_some (content-of_named is_held t number well (named-there t.names place number there)) ∙ is_node
-node-trimmed is_held t place (Link target) well there is_node = is_node
+node-trimmed is_held t place other well there is_node = is_node
 
 -- ---- the tree
 

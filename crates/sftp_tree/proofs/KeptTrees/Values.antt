@@ -13,7 +13,7 @@ use Rattle.sftp_treefile.specs.declared.files.Owner.{Owner}
 use Rattle.sftp_treefile.specs.TreeFile.{IsOwner}
 use Rattle.sftp_tree.specs.declared.file_contents.Content.{Content}
 use Rattle.sftp_tree.specs.declared.nodes.Node.{Node}
-use Rattle.sftp_tree.specs.declared.nodes.Node.TheVariants.{Dir, File, Link}
+use Rattle.sftp_tree.specs.declared.nodes.Node.TheVariants.{Dir, File}
 use Rattle.sftp_tree.specs.Tree.{Names, Files, Tree, WellFormed, IsKept, IsNode, IsContent, fits, is_directory, node_at, with_node, content_at, with_content, names_file, times_named, is_named, is_pinned, is_held, IsPin}
 use Rattle.sftp_tree.specs.Attributes.{changed_owner, changed_content}
 use Rattle.sftp_tree.specs.Changes.{with_changed_file}
@@ -61,10 +61,8 @@ pub kept-owner-there : (t : Tree) (place : Place) (owner : Owner) → IsKept t �
 kept-owner-there t place owner kept directory is_owner = by (node_at t.names place) refl directory
   where
     by : (found : Option Node) → node_at t.names place ≡ found → is_directory found ≡ true → IsKept (record t { names = with_node t.names place (Dir owner) })
-    by None there directory = absurd cc
     by (Some (Dir before)) there directory = kept-owner t place before owner kept there is_owner
-    by (Some (File number)) there directory = absurd cc
-    by (Some (Link target)) there directory = absurd cc
+    by other there directory = absurd cc
 
 -- ---- another content of a file
 
@@ -78,9 +76,8 @@ still-there files number content other there =
     by false = there
 
 pub node-content : (files : Files) (number : ℕ) (content : Content) (it : Node) → IsNode files it → IsNode (with_content files number content) it
-node-content files number content (Dir owner) is_node = is_node
 node-content files number content (File other) is_node = still-there files number content other is_node
-node-content files number content (Link target) is_node = is_node
+node-content files number content other is_node = is_node
 
 pub well-formed-content : (t : Tree) (number : ℕ) (before content : Content) → WellFormed t → content_at t.files number ≡ Some before → IsContent content → WellFormed (record t { files = with_content t.files number content })
 well-formed-content t number before content well there is_content = record {

@@ -3,7 +3,7 @@ use Rattle.std.proofs.Common.{◌≡◌, ℕ, ◌-◌, Bool, true, ◌&&◌, ◌
 use Rattle.std.specs.Cmp.Lexicographic.{bytes_decides, texts_ties, nat_list_cmp_total}
 use Rattle.std.specs.Ordering.{ordering_then, is_eq, is_le}
 use Rattle.std.specs.declared.cmp.Ordering.{Ordering}
-use Rattle.std.specs.declared.cmp.Ordering.TheVariants.{Less, Equal, Greater}
+use Rattle.std.specs.declared.cmp.Ordering.TheVariants.{Less, Equal}
 use Rattle.std.proofs.lemmas.Bool.{and_parts}
 use Rattle.std.specs.Cmp.{Equal-is}
 use Rattle.sftp_path.specs.Place.{Place, name_cmp, place_cmp, same_bytes, begins}
@@ -43,9 +43,8 @@ begins-equal (m ∷ ms) (n ∷ ns) e =
     ap (λ b. b && begins ms ns) (texts_ties m n ∙ ap is_eq parts.0) ∙ begins-equal ms ns parts.1
   where
     both-equal : (o x : Ordering) → ordering_then o x ≡ Equal → (o ≡ Equal) × (x ≡ Equal)
-    both-equal Less x h = cc
     both-equal Equal x h = (refl, h)
-    both-equal Greater x h = cc
+    both-equal other x h = cc
 
 -- ---- the row
 

@@ -4,7 +4,7 @@ use Rattle.std.specs.Cmp.Lexicographic.{texts_ties, nat_list_eq_equiv}
 use Rattle.std.specs.Cmp.{Equal-is}
 use Rattle.std.specs.Ordering.{ordering_then, ordering_reverse, is_eq}
 use Rattle.std.specs.declared.cmp.Ordering.{Ordering}
-use Rattle.std.specs.declared.cmp.Ordering.TheVariants.{Less, Equal, Greater}
+use Rattle.std.specs.declared.cmp.Ordering.TheVariants.{Less, Equal}
 use Rattle.std.specs.List.{list_any, AllByRecursion}
 use Rattle.std.specs.Map.{lookup}
 use Rattle.std.specs.BTreeMap.{is_at}
@@ -23,12 +23,8 @@ same_bytes-cmp m n same = (Equal-is (name_cmp m n)).0 (sym (texts_ties m n) ∙ 
 -- a name that is neither below nor above another is that name
 pub between-names : (o q : Ordering) (x y : Ordering) → o ≡ ordering_reverse q → ordering_then o x ≡ Less → ordering_then q y ≡ Less → (o ≡ Equal) × (x ≡ Less) × (y ≡ Less)
 between-names Less Less x y turned first second = cc
-between-names Less Equal x y turned first second = cc
-between-names Less Greater x y turned first second = cc
-between-names Equal Less x y turned first second = cc
 between-names Equal Equal x y turned first second = (refl, first, second)
-between-names Equal Greater x y turned first second = cc
-between-names Greater q x y turned first second = cc
+between-names o q x y turned first second = cc
 
 -- ---- the parent
 

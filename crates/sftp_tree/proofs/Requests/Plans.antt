@@ -12,7 +12,7 @@ use Rattle.sftp_tree.specs.declared.nodes.Node.TheVariants as nodes
 use Rattle.sftp_tree.specs.declared.causes.Cause.{Cause}
 use Rattle.sftp_tree.specs.declared.causes.Cause.TheVariants.{NoEntry, NotDir, NotEmpty, Root, Exists, IsDir}
 use Rattle.sftp_tree.specs.declared.plans.Plan.{Plan}
-use Rattle.sftp_tree.specs.declared.plans.Plan.TheVariants.{Nothing, Put, Remove as Take, Move, SetOwner, SetFile, Make, Truncate}
+use Rattle.sftp_tree.specs.declared.plans.Plan.TheVariants.{Nothing, Put, Move, SetFile, Truncate}
 use Rattle.sftp_tree.specs.Tree.{Tree, IsKept, IsNode, fits, node_at, content_at, is_taken, is_directory, is_file, is_link, has_entries, trim}
 use Rattle.sftp_tree.specs.Attributes.{directory_owner, file_owner}
 use Rattle.sftp_tree.specs.OpenFlags.{truncates, excludes}
@@ -38,10 +38,8 @@ pub record IsDone (t : Tree) (asked : Tree) (plan : Plan) : Type 0 where
 -- ---- what is to be removed
 
 directory-of : (found : Option Node) (entries : Bool) → not (is_taken found) ≡ false → (is_taken found && not (is_directory found)) ≡ false → (is_directory found && entries) ≡ false → entries ≡ false
-directory-of None entries there directory empty = absurd cc
 directory-of (Some (nodes.Dir owner)) entries there directory empty = empty
-directory-of (Some (nodes.File number)) entries there directory empty = absurd cc
-directory-of (Some (nodes.Link goal)) entries there directory empty = absurd cc
+directory-of other entries there directory empty = absurd cc
 
 pub can-remove-directory : (t : Tree) (place : Place) → ((c : Cause) → removing_causes t.names place c ≡ false) → CanTake t place
 unfolding when no_causes
@@ -78,23 +76,16 @@ done-set-file t attrs number (SetFile n given) room is =
     let same : changed t (SetFile n given) ≡ with_changed_file t attrs number (content_at t.files number) =
     λ i. with_changed_file t (is.1 i) (is.0 i) (content_at t.files (is.0 i)) in
     record { ready = ap fits same ∙ room; done = same }
-done-set-file t attrs number Nothing room is = absurd is
-done-set-file t attrs number (Put at node) room is = absurd is
-done-set-file t attrs number (Take at) room is = absurd is
-done-set-file t attrs number (Move old new) room is = absurd is
-done-set-file t attrs number (SetOwner at owner) room is = absurd is
-done-set-file t attrs number (Truncate n) room is = absurd is
-done-set-file t attrs number (Make at content) room is = absurd is
+done-set-file t attrs number other room is = absurd is
 
 done-set : (t : Tree) (attrs : Attrs) (place : Place) (found : Option Node) (plan : Plan) → IsKept t
     → node_at t.names place ≡ found → IsTrue (fits (with_attributes t attrs place found))
     → IsSetting found place attrs plan → IsDone t (with_attributes t attrs place found) plan
-done-set t attrs place None plan kept there room is = subst (IsDone t t) (sym is) (record { ready = kept; done = refl })
 done-set t attrs place (Some (nodes.Dir owner)) plan kept there room is =
     subst (IsDone t (with_attributes t attrs place (Some (nodes.Dir owner)))) (sym is.0)
     (record { ready = record { directory = ap is_directory there; is_owner = is.1 }; done = refl })
 done-set t attrs place (Some (nodes.File number)) plan kept there room is = done-set-file t attrs number plan room is
-done-set t attrs place (Some (nodes.Link target)) plan kept there room is =
+done-set t attrs place other plan kept there room is =
     subst (IsDone t t) (sym is) (record { ready = kept; done = refl })
 
 done-truncate : (t : Tree) (number : ℕ) (empties : Bool) (plan : Plan) → IsKept t
@@ -123,9 +114,7 @@ done-open t flags attrs place None plan there well owner room is =
     })
 done-open t flags attrs place (Some (nodes.File number)) plan there well owner room is =
     done-truncate t number (truncates flags) plan well.kept room is
-done-open t flags attrs place (Some (nodes.Dir other)) plan there well owner room is =
-    subst (IsDone t t) (sym is) (record { ready = well.kept; done = refl })
-done-open t flags attrs place (Some (nodes.Link goal)) plan there well owner room is =
+done-open t flags attrs place (Some other) plan there well owner room is =
     subst (IsDone t t) (sym is) (record { ready = well.kept; done = refl })
 
 pub done-at : (t : Tree) (ask : Ask) (place : Place) (plan : Plan) → IsPlaceOf t place → FreeAt t ask place → HasNode t ask → IsPlanAt t ask place plan → IsDone t (outcome_at t ask place) plan
@@ -264,10 +253,9 @@ led-there t path flags attrs place leads = cc
 -- neither a directory nor a link is there
 file-or-none : (t : Tree) (found : Option Node) → is_directory found ≡ false → is_link found ≡ false
     → is_some (number_at t found) ≡ true
-file-or-none t None directory link = refl
 file-or-none t (Some (nodes.Dir owner)) directory link = absurd cc
-file-or-none t (Some (nodes.File number)) directory link = refl
 file-or-none t (Some (nodes.Link goal)) directory link = absurd cc
+file-or-none t other directory link = refl
 
 opened-by : (t : Tree) (flags : ℕ) (found : Option Node) (new : Bool) → excludes flags ≡ new
     → ((c : Cause) → opening_causes flags found c ≡ false) → (new ≡ false → is_link found ≡ false)

@@ -123,13 +123,12 @@ well-file t attrs number (Some content) is well fits =
     well-formed-content t number content (changed_content attrs content) well is (changed-content-fits attrs content fits before)
 
 well-attributes : (t : Tree) (attrs : Attrs) (place : Place) (o : Option Node) → node_at t.names place ≡ o → WellFormed t → IsAttrs attrs → WellFormed (with_attributes t attrs place o)
-well-attributes t attrs place None is well fits = well
 well-attributes t attrs place (Some (Dir owner)) is well fits =
     let before = each-get place_cmp place_cmp-same (λ e. IsNode t.files e.1) t.names place (Dir owner) well.nodes is in
     well-formed-names t (with_node t.names place (Dir (changed_owner attrs owner))) well
     (names-owner t.files t.names place owner (changed_owner attrs owner) (names-of t well) is (changed-owner-fits attrs owner fits before))
 well-attributes t attrs place (Some (File number)) is well fits = well-file t attrs number (content_at t.files number) refl well fits
-well-attributes t attrs place (Some (Link target)) is well fits = well
+well-attributes t attrs place other is well fits = well
 
 well-emptied : (t : Tree) (number : ℕ) (empties : Bool) → WellFormed t
     → WellFormed (if empties then with_emptied_file t number (content_at t.files number) else t)
@@ -141,9 +140,8 @@ well-opened : (t : Tree) (flags : ℕ) (attrs : Attrs) (place : Place) (o : Opti
     → WellFormed t → IsAttrs attrs → Led t place → WellFormed (with_opened t flags attrs place o)
 well-opened t flags attrs place None is well fits leads =
     well-formed-new t place (new_content t attrs) well leads.named is leads.above (file-owner-fits t attrs well fits, refl)
-well-opened t flags attrs place (Some (Dir owner)) is well fits leads = well
 well-opened t flags attrs place (Some (File number)) is well fits leads = well-emptied t number (truncates flags) well
-well-opened t flags attrs place (Some (Link target)) is well fits leads = well
+well-opened t flags attrs place (Some other) is well fits leads = well
 
 well-at : (t : Tree) (ask : Ask) (place : Place) → WellFormed t → IsAsk ask → Led t place → ((c : Cause) → causes_at t ask place c ≡ false) → WellFormed (outcome_at t ask place)
 well-at t (Mkdir path attrs) place well fits leads none = well-with t place (Dir (directory_owner t attrs)) well leads (ap is_taken (free-place (node_at t.names place) none)) (owner-fits t attrs well fits.1)

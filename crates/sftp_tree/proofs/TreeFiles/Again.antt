@@ -14,7 +14,7 @@ use Rattle.sftp_treefile.specs.Limits.{usual_limits}
 use Rattle.sftp_treefile.specs.TreeFile.{IsKind, AreRows}
 use Rattle.sftp_tree.specs.declared.file_contents.Content.{Content}
 use Rattle.sftp_tree.specs.declared.nodes.Node.{Node}
-use Rattle.sftp_tree.specs.declared.nodes.Node.TheVariants.{Dir, File, Link}
+use Rattle.sftp_tree.specs.declared.nodes.Node.TheVariants.{File}
 use Rattle.sftp_tree.specs.Tree.{Names, Files, IsNode, content_at}
 use Rattle.sftp_tree.specs.Picture.{entry_naming, naming, kind_of, rows_behind, is_given_or_next, given_with, is_numbered}
 use Rattle.sftp_tree.specs.PictureParts.{content_of, contents_of, node_of, entry_of, entries_behind, names_of}
@@ -26,7 +26,6 @@ use Rattle.sftp_tree.proofs.TreeFiles.Named.{row_of, rows_cons, IsBelowRoot}
 
 kind_again : (root : Owner) (files : Files) (earlier : List Row) (kind : Kind) (more : List Content) → AreRows usual_limits [] earlier → IsKind usual_limits earlier kind → AreContents files (made_by earlier) (content_of kind ++ more)
     → kind_of files (names_of root earlier) (node_of earlier kind) ≡ kind
-kind_again root files earlier (kinds.Dir owner) more front fits there = refl
 kind_again root files earlier (kinds.First owner bytes) more front fits there =
     let none = none_named (made_by earlier) (names_of root earlier) (all_below root earlier front) in
     λ i. naming (none i) (there.0 i)
@@ -34,7 +33,7 @@ kind_again root files earlier (kinds.Further entry) more front fits there =
     let f = first_at earlier entry fits.1 in
     let found = ap (λ (rs : List Row). entry_naming (made_by rs) (names_of root earlier)) (front_taken earlier entry f) ∙ first_is_named root earlier entry f front in
     ap (λ (n : Option ℕ). naming n (content_at files (made_by (take (entry - 1) earlier)))) found
-kind_again root files earlier (kinds.Link target) more front fits there = refl
+kind_again root files earlier other more front fits there = refl
 
 pub rows_again : (root : Owner) (files : Files) (earlier rows : List Row) → AreRows usual_limits [] earlier → AreRows usual_limits earlier rows → AreContents files (made_by earlier) (contents_of rows)
     → rows_behind files (names_of root earlier) (entries_behind earlier rows) ≡ rows
@@ -53,15 +52,13 @@ rows_again root files earlier (row ∷ rows) front fit there =
 -- ---- rows number their files in the order of their first names
 
 next_given : (earlier : List Row) (kind : Kind) → IsKind usual_limits earlier kind → IsTrue (is_given_or_next (node_of earlier kind) (made_by earlier))
-next_given earlier (kinds.Dir owner) fits = refl
 next_given earlier (kinds.First owner bytes) fits = le-leb (made_by earlier) (made_by earlier) (omega arith)
 next_given earlier (kinds.Further entry) fits =
     let f = first_at earlier entry fits.1 in
     le-leb (made_by (take (entry - 1) earlier)) (made_by earlier) (omega (arith, made_front earlier entry f, ap made_by (front_taken earlier entry f)))
-next_given earlier (kinds.Link target) fits = refl
+next_given earlier other fits = refl
 
 given_is : (earlier : List Row) (kind : Kind) → IsKind usual_limits earlier kind → given_with (node_of earlier kind) (made_by earlier) ≡ made_by earlier + length (content_of kind)
-given_is earlier (kinds.Dir owner) fits = omega arith
 given_is earlier (kinds.First owner bytes) fits =
     cond-true (made_by earlier == made_by earlier) (suc (made_by earlier)) (made_by earlier) (eq-eqb (made_by earlier) (made_by earlier) refl) ∙ omega arith
 given_is earlier (kinds.Further entry) fits =
@@ -69,7 +66,7 @@ given_is earlier (kinds.Further entry) fits =
     let number = made_by (take (entry - 1) earlier) in
     let other : number ≡ made_by earlier → ⊥ = (λ same. omega (arith, made_front earlier entry f, ap made_by (front_taken earlier entry f))) in
     cond-false (number == made_by earlier) (suc (made_by earlier)) (made_by earlier) (ne_eqb number (made_by earlier) other) ∙ omega arith
-given_is earlier (kinds.Link target) fits = omega arith
+given_is earlier other fits = omega arith
 
 pub rows_numbered : (earlier rows : List Row) → AreRows usual_limits earlier rows → IsTrue (is_numbered (made_by earlier) (entries_behind earlier rows) (made_by (earlier ++ rows)))
 rows_numbered earlier [] fit = eq-eqb (made_by earlier) (made_by (earlier ++ [])) (ap made_by (sym (append-nil earlier)))
@@ -120,9 +117,8 @@ comes_file root files rows number fit upto there (inl below) = comes_further roo
 comes_file root files rows number fit upto there (inr above) = comes_first root files rows number (content_at files number) fit (omega arith) refl there
 
 comes : (root : Owner) (files : Files) (rows : List Row) (standing : Node) → AreRows usual_limits [] rows → IsNode files standing → IsTrue (is_given_or_next standing (made_by rows)) → Comes root files rows standing (kind_of files (names_of root rows) standing)
-comes root files rows (Dir owner) fit there next = record { again = refl; given = omega arith; contents = tt }
 comes root files rows (File number) fit there next = comes_file root files rows number fit (leb-true number (made_by rows) next) there (cases_lt number (made_by rows))
-comes root files rows (Link target) fit there next = record { again = refl; given = omega arith; contents = tt }
+comes root files rows other fit there next = record { again = refl; given = omega arith; contents = tt }
 
 contents_join : (files : Files) (number : ℕ) (xs ys : List Content) → AreContents files number xs → AreContents files (number + length xs) ys → AreContents files number (xs ++ ys)
 contents_join files number [] ys a b = let same : number + 0 ≡ number = omega arith in subst (λ n. AreContents files n ys) same b

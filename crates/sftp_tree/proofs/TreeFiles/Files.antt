@@ -60,10 +60,8 @@ usual-entries t kept = ap (λ (bounds : TreeLimits). bounds.entries) kept.well_f
 -- ---- what the files of rows keep
 
 fit_contents : (earlier : List Row) (kind : Kind) → IsKind usual_limits earlier kind → AllByRecursion IsFitContent (content_of kind)
-fit_contents earlier (kinds.Dir owner) fits = tt
 fit_contents earlier (kinds.First owner bytes) fits = (fits, tt)
-fit_contents earlier (kinds.Further entry) fits = tt
-fit_contents earlier (kinds.Link target) fits = tt
+fit_contents earlier other fits = tt
 
 rows_contents : (earlier rows : List Row) → AreRows usual_limits earlier rows → AllByRecursion IsFitContent (contents_of rows)
 rows_contents earlier [] fit = tt
@@ -80,9 +78,8 @@ nodes_kept files made there [] fits below = tt
 nodes_kept files made there (e ∷ es) fits below = (node_kept files made there e.1 fits.0 below.0, nodes_kept files made there es fits.1 below.1)
 
 fit_link : (standing : Node) → IsFitNode standing → IsTrue (link_fits standing)
-fit_link (Dir owner) fits = refl
-fit_link (File number) fits = refl
 fit_link (Link target) fits = fits.1
+fit_link other fits = refl
 
 -- each file that rows come with has a name
 

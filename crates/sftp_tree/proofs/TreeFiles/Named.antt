@@ -66,14 +66,12 @@ entry_texts files front (e ∷ es) below =
     subst (λ (rs : List Row). AllByRecursion (λ (r : Row). IsPlaceText r.path) rs) (sym (rows_cons files front e es below.0.1)) (place_text e.0 below.0.0, entry_texts files (front ++ e ∷ []) es below.1)
 
 naming_bare : (entry : Option ℕ) (content : Option Content) → bare_kind (naming entry content) ≡ File 0
-naming_bare (Some entry) content = refl
-naming_bare None (Some content) = refl
 naming_bare None None = refl
+naming_bare entry content = refl
 
 kind_bare : (files : Files) (front : Names) (standing : Node) → bare_kind (kind_of files front standing) ≡ bare standing
-kind_bare files front (Dir owner) = refl
 kind_bare files front (File number) = naming_bare (entry_naming number front) (content_at files number)
-kind_bare files front (Link target) = refl
+kind_bare files front other = refl
 
 pub rows_bare : (files : Files) (front es : Names) → AllByRecursion IsBelowRoot es → map bare_entry (rows_behind files front es) ≡ bared es
 rows_bare files front [] below = refl
@@ -87,8 +85,6 @@ naming_false true behind is = absurd cc
 naming_false false behind is = refl
 
 first_kind : (files : Files) (front : Names) (standing : Node) (number : ℕ) → names_file number standing ≡ true → entry_naming number front ≡ None → IsTrue (is_first (kind_of files front standing))
-first_kind files front (Dir owner) number names none = absurd cc
-first_kind files front (Link target) number names none = absurd cc
 first_kind files front (File n) number names none =
     let same : n ≡ number = eqb-true n number names in
     by (entry_naming n front) (content_at files n) (ap (λ m. entry_naming m front) same ∙ none)
@@ -97,27 +93,26 @@ first_kind files front (File n) number names none =
     by (Some entry) content none = absurd cc
     by None (Some content) none = refl
     by None None none = refl
+first_kind files front other number names none = absurd cc
 
 none_push : (number : ℕ) (front : Names) (e : Place × Node) → entry_naming number front ≡ None → names_file number e.1 ≡ false → entry_naming number (front ++ e ∷ []) ≡ None
 none_push number [] e none other = naming_false (names_file number e.1) None other
 none_push number (x ∷ front) e none other = by (names_file number x.1) (entry_naming number front) (entry_naming number (front ++ e ∷ [])) none (λ rest. none_push number front e rest other)
   where
     by : (names : Bool) (behind more : Option ℕ) → (if names then Some 0 else option_map suc behind) ≡ None → (behind ≡ None → more ≡ None) → (if names then Some 0 else option_map suc more) ≡ None
-    by true behind more none rest = absurd cc
     by false None more none rest = ap (option_map suc) (rest refl)
-    by false (Some m) more none rest = absurd cc
+    by names behind more none rest = absurd cc
 
 first_there : (files : Files) (front : Names) (e : Place × Node) (es : Names) (number m : ℕ) (names : Bool) (behind : Option ℕ) → names_file number e.1 ≡ names → entry_naming number es ≡ behind
     → entry_naming number front ≡ None → (if names then Some 0 else option_map suc behind) ≡ Some m
     → ((k : ℕ) → entry_naming number (front ++ e ∷ []) ≡ None → entry_naming number es ≡ Some k → IsTrue (is_first_row (slice_get (rows_behind files (front ++ e ∷ []) es) k)))
     → IsTrue (is_first_row (slice_get (row_of files front e ∷ rows_behind files (front ++ e ∷ []) es) m))
 first_there files front e es number zero true behind names-is behind-is none is more = first_kind files front e.1 number names-is none
-first_there files front e es number (suc m) true behind names-is behind-is none is more = absurd cc
-first_there files front e es number m false None names-is behind-is none is more = absurd cc
 first_there files front e es number zero false (Some k) names-is behind-is none is more = absurd (let e : suc k ≡ 0 = cc in omega arith)
 first_there files front e es number (suc m) false (Some k) names-is behind-is none is more =
     let same : k ≡ m = (let s : suc k ≡ suc m = cc in omega arith) in
     more m (none_push number front e none names-is) (behind-is ∙ ap (λ n. Some n) same)
+first_there files front e es number m names behind names-is behind-is none is more = absurd cc
 
 pub named_is_first : (files : Files) (front es : Names) (number m : ℕ) → AllByRecursion IsBelowRoot es → entry_naming number front ≡ None → entry_naming number es ≡ Some m → IsTrue (is_first_row (slice_get (rows_behind files front es) m))
 named_is_first files front [] number m below none is = absurd cc

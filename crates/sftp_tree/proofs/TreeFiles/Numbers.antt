@@ -41,19 +41,15 @@ made_push earlier row = omega (arith, made_split earlier (row ∷ []), made_behi
 
 few_contents : (kind : Kind) → length (content_of kind) ≤ 1
 few_contents (kinds.Dir owner) = omega arith
-few_contents (kinds.First owner bytes) = omega arith
-few_contents (kinds.Further entry) = omega arith
-few_contents (kinds.Link target) = omega arith
+few_contents other = omega arith
 
 pub made_few : (rows : List Row) → made_by rows ≤ length rows
 made_few [] = omega arith
 made_few (row ∷ rows) = omega (arith, length-append (content_of row.kind) (contents_of rows), few_contents row.kind, made_few rows)
 
 first_made : (kind : Kind) → IsTrue (is_first kind) → length (content_of kind) ≡ 1
-first_made (kinds.Dir owner) h = absurd cc
 first_made (kinds.First owner bytes) h = refl
-first_made (kinds.Further number) h = absurd cc
-first_made (kinds.Link target) h = absurd cc
+first_made other h = absurd cc
 
 -- ---- first names
 
@@ -101,11 +97,10 @@ first_here row rows first = record { entry = 1; at = record { front = []; row = 
 
 first_by : (row : Row) (rows : List Row) (kind : Kind) (number : ℕ) → row.kind ≡ kind → number < length (content_of kind) + made_by rows
     → ((behind : ℕ) → behind < made_by rows → FirstOf rows behind) → FirstOf (row ∷ rows) number
-first_by row rows (kinds.Dir owner) number is below more = first_behind row rows number number (rw is (omega arith)) (more number (omega arith))
 first_by row rows (kinds.First owner bytes) zero is below more = first_here row rows (rw is refl)
 first_by row rows (kinds.First owner bytes) (suc behind) is below more = first_behind row rows (suc behind) behind (rw is (omega arith)) (more behind (omega arith))
-first_by row rows (kinds.Further entry) number is below more = first_behind row rows number number (rw is (omega arith)) (more number (omega arith))
-first_by row rows (kinds.Link target) number is below more = first_behind row rows number number (rw is (omega arith)) (more number (omega arith))
+first_by row rows other number is below more =
+    first_behind row rows number number (rw is (omega arith)) (more number (omega arith))
 
 pub first_of_number : (rows : List Row) (number : ℕ) → number < made_by rows → FirstOf rows number
 first_of_number [] number below = absurd (omega arith)
@@ -150,17 +145,15 @@ abbrev pub AreBelow : ℕ → Names → Type 0
 AreBelow made names = AllByRecursion (λ e. IsBelow made e.1) names
 
 below_more : (m n : ℕ) → m ≤ n → (standing : Node) → IsBelow m standing → IsBelow n standing
-below_more m n le (Dir owner) below = tt
 below_more m n le (File number) below = omega (arith, below, le)
-below_more m n le (Link target) below = tt
+below_more m n le other below = tt
 
 entry_below : (earlier : List Row) (kind : Kind) → IsKind usual_limits earlier kind → IsBelow (made_by earlier + length (content_of kind)) (node_of earlier kind)
-entry_below earlier (kinds.Dir owner) fits = tt
 entry_below earlier (kinds.First owner bytes) fits = omega arith
 entry_below earlier (kinds.Further entry) fits =
     let f = first_at earlier entry fits.1 in
     omega (arith, made_front earlier entry f, ap made_by (front_taken earlier entry f))
-entry_below earlier (kinds.Link target) fits = tt
+entry_below earlier other fits = tt
 
 below_push : (root : Owner) (earlier : List Row) (row : Row) → AreBelow (made_by earlier) (names_of root earlier) → IsKind usual_limits earlier row.kind → AreBelow (made_by (earlier ++ row ∷ [])) (names_of root (earlier ++ row ∷ []))
 below_push root earlier row below fits =
@@ -187,18 +180,16 @@ naming_skips true behind other none = absurd cc
 naming_skips false behind other none = ap (option_map suc) none
 
 not_of_file : (number : ℕ) (standing : Node) → IsBelow number standing → names_file number standing ≡ false
-not_of_file number (Dir owner) below = refl
 not_of_file number (File n) below = ne_eqb n number (omega arith)
-not_of_file number (Link target) below = refl
+not_of_file number other below = refl
 
 pub none_named : (number : ℕ) (names : Names) → AreBelow number names → entry_naming number names ≡ None
 none_named number [] below = refl
 none_named number (e ∷ es) below = naming_skips (names_file number e.1) (entry_naming number es) (not_of_file number e.1 below.0) (none_named number es below.1)
 
 named_behind : (names : Bool) (front behind : Option ℕ) (n : ℕ) → (if names then Some 0 else option_map suc front) ≡ None → (front ≡ None → behind ≡ Some n) → (if names then Some 0 else option_map suc behind) ≡ Some (suc n)
-named_behind true front behind n none more = absurd cc
 named_behind false None behind n none more = ap (option_map suc) (more refl)
-named_behind false (Some m) behind n none more = absurd cc
+named_behind names front behind n none more = absurd cc
 
 named_here : (names : Bool) (behind : Option ℕ) → names ≡ true → (if names then Some 0 else option_map suc behind) ≡ Some 0
 named_here true behind is = refl
@@ -211,10 +202,8 @@ named_at number (x ∷ xs) e ys none is =
     named_behind (names_file number x.1) (entry_naming number xs) (entry_naming number (xs ++ e ∷ ys)) (length xs) none (λ rest. named_at number xs e ys rest is)
 
 pub first_names : (earlier : List Row) (kind : Kind) → IsTrue (is_first kind) → names_file (made_by earlier) (node_of earlier kind) ≡ true
-first_names earlier (kinds.Dir owner) first = absurd cc
 first_names earlier (kinds.First owner bytes) first = eq-eqb (made_by earlier) (made_by earlier) refl
-first_names earlier (kinds.Further entry) first = absurd cc
-first_names earlier (kinds.Link target) first = absurd cc
+first_names earlier other first = absurd cc
 
 names_at : (root : Owner) (rows : List Row) (entry : ℕ) (f : FirstAt rows entry) → names_of root rows ≡ names_of root f.front ++ entry_of f.front f.row ∷ entries_behind (f.front ++ f.row ∷ []) f.rest
 names_at root rows entry f = ap (names_of root) f.rows_are ∙ names_split root f.front (f.row ∷ f.rest)

@@ -34,24 +34,19 @@ bare_taken (Some standing) = refl
 bare_directory : (o : Option Node) → is_directory (option_map bare o) ≡ is_directory o
 bare_directory None = refl
 bare_directory (Some (Dir owner)) = refl
-bare_directory (Some (File number)) = refl
-bare_directory (Some (Link target)) = refl
+bare_directory (Some other) = refl
 
 bare_fits : (standing : Node) → IsFitNode standing → IsFitNode (bare standing)
-bare_fits (Dir owner) fits = fits
 bare_fits (File number) fits = tt
-bare_fits (Link target) fits = fits
+bare_fits other fits = fits
 
 fits_bare : (standing : Node) → IsFitNode (bare standing) → IsFitNode standing
-fits_bare (Dir owner) fits = fits
 fits_bare (File number) fits = tt
-fits_bare (Link target) fits = fits
+fits_bare other fits = fits
 
 bare_dir : (o : Option Node) (root : Owner) → option_map bare o ≡ Some (Dir root) → o ≡ Some (Dir root)
-bare_dir None root is = absurd cc
 bare_dir (Some (Dir owner)) root is = is
-bare_dir (Some (File number)) root is = absurd cc
-bare_dir (Some (Link target)) root is = absurd cc
+bare_dir other root is = absurd cc
 
 bare_at : (names : Names) (place : Place) → node_at (bared names) place ≡ option_map bare (node_at names place)
 bare_at names place = get-with_values place_cmp bare names place
@@ -100,9 +95,7 @@ table_from_bare root names t = record {
 
 node_bare : (earlier : List Row) (kind : Kind) → bare (node_of earlier kind) ≡ bare_kind kind
 node_bare earlier (kinds.Dir owner) = refl
-node_bare earlier (kinds.First owner bytes) = refl
-node_bare earlier (kinds.Further number) = refl
-node_bare earlier (kinds.Link target) = refl
+node_bare earlier other = refl
 
 entries_bare : (earlier rows : List Row) → bared (entries_behind earlier rows) ≡ map bare_entry rows
 entries_bare earlier [] = refl

@@ -79,12 +79,10 @@ within : (rows : List Row) (entry : ℕ) → FirstAt rows entry → (1 ≤ entry
 within rows entry f = (omega (arith, f.entry_is), omega (arith, f.entry_is, ap length f.rows_are, length-append f.front (f.row ∷ f.rest)))
 
 pub kind_known : (rows : List Row) (kind : Kind) → IsKind usual_limits rows kind → IsKnown (numbers_from 0 rows) kind
-kind_known rows (kinds.Dir owner) fits = tt
-kind_known rows (kinds.First owner bytes) fits = tt
 kind_known rows (kinds.Further entry) fits =
     let w = within rows entry (first_at rows entry fits.1) in
     (w.0, omega (arith, w.1, length-numbers 0 rows))
-kind_known rows (kinds.Link target) fits = tt
+kind_known rows other fits = tt
 
 number_known : (rows : List Row) (entry : ℕ) → FirstAt rows entry → known_number (numbers_from 0 rows) entry ≡ made_by (take (entry - 1) rows)
 number_known rows entry f =
@@ -92,10 +90,8 @@ number_known rows entry f =
     number_at 0 rows (entry - 1) (omega (arith, w.0, w.1)) ∙ omega arith
 
 pub node_known : (rows : List Row) (kind : Kind) → IsKind usual_limits rows kind → known_node (numbers_from 0 rows) (made_by rows) kind ≡ node_of rows kind
-node_known rows (kinds.Dir owner) fits = refl
-node_known rows (kinds.First owner bytes) fits = refl
 node_known rows (kinds.Further entry) fits = ap (λ n. File n) (number_known rows entry (first_at rows entry fits.1))
-node_known rows (kinds.Link target) fits = refl
+node_known rows other fits = refl
 
 -- ---- counts
 
@@ -127,9 +123,8 @@ none_of number [] below = refl
 none_of number (e ∷ es) below = by e.1 below.0 (none_of number es below.1)
   where
     by : (standing : Node) → IsBelow number standing → length (filter (λ q. names_file number q.1) es) ≡ 0 → length (cond (names_file number standing) (e ∷ filter (λ q. names_file number q.1) es) (filter (λ q. names_file number q.1) es)) ≡ 0
-    by (Dir owner) below is = is
     by (File n) below is = let other : n ≢ number = omega arith in rw (ne_eqb n number other) is
-    by (Link target) below is = is
+    by other below is = is
 
 -- the entry is no name of a file of these
 counted_same : (names : Names) (e : Place × Node) (stores : Stores) → AllByRecursion (λ s. names_file s.0 e.1 ≡ false) stores → AreCounted names stores → AreCounted (names ++ e ∷ []) stores
@@ -246,15 +241,13 @@ named_unpinned number stores after none changed =
 pushed_unpinned : (numbers : List ℕ) (next : ℕ) (kind : Kind) (stores after : Stores) → InOrder nat_cmp stores
     → AllByRecursion (λ (e : ℕ × Stored). e.1.pins ≡ 0) stores → AreWithEntry numbers next kind stores after
     → AllByRecursion (λ (e : ℕ × Stored). e.1.pins ≡ 0) after
-pushed_unpinned numbers next (kinds.Dir owner) stores after order none is =
-    subst (AllByRecursion (λ (e : ℕ × Stored). e.1.pins ≡ 0)) (sym is) none
 pushed_unpinned numbers next (kinds.First owner bytes) stores after order none is =
     let s : Stored = record { content = record { owner = owner; bytes = bytes }; names = 1; pins = 0 } in
     subst (AllByRecursion (λ (e : ℕ × Stored). e.1.pins ≡ 0)) (sym is)
     (each-put nat_cmp nat_cmp-IsAntisymmetric nat_cmp_total (λ e. e.1.pins ≡ 0) stores next s order refl none)
 pushed_unpinned numbers next (kinds.Further entry) stores after order none changed =
     named_unpinned (known_number numbers entry) stores after none changed
-pushed_unpinned numbers next (kinds.Link target) stores after order none is =
+pushed_unpinned numbers next other stores after order none is =
     subst (AllByRecursion (λ (e : ℕ × Stored). e.1.pins ≡ 0)) (sym is) none
 
 pub keys_before : (root : Owner) (rows : List Row) (row : Row) → IsNext usual_limits rows row → AllByRecursion (λ q. place_cmp q (place_of row.path) ≡ Less) (keys_of (names_of root rows))

@@ -9,7 +9,7 @@ use Rattle.std.specs.List.{AllByRecursion, list_any}
 use Rattle.std.specs.List.Sorted.{IsStrictlySortedBy}
 use Rattle.std.specs.Ordering.{is_eq}
 use Rattle.std.specs.declared.cmp.Ordering.{Ordering}
-use Rattle.std.specs.declared.cmp.Ordering.TheVariants.{Less, Equal, Greater}
+use Rattle.std.specs.declared.cmp.Ordering.TheVariants.{Less, Equal}
 use Rattle.std.proofs.lemmas.Bool.{le-leb}
 use Rattle.std.proofs.lemmas.Cmp.{tied_itself}
 use Rattle.std.proofs.lemmas.List.{append-nil, map-append}
@@ -87,10 +87,8 @@ unfolding get
 at_found xs e ys = lookup_found (is_at (place_cmp e.0)) xs e ys (ap is_eq (tied_itself place_cmp-total e.0))
 
 directory_is_some : (o : Option Node) → IsTrue (is_directory o) → (owner : Owner) × (o ≡ Some (Dir owner))
-directory_is_some None h = absurd cc
 directory_is_some (Some (Dir owner)) h = (owner, refl)
-directory_is_some (Some (File number)) h = absurd cc
-directory_is_some (Some (Link target)) h = absurd cc
+directory_is_some other h = absurd cc
 
 directory_left : (xs ys : Names) (p : Place) → IsTrue (is_directory (node_at xs p)) → IsTrue (is_directory (node_at (xs ++ ys) p))
 directory_left xs ys p h = let d = directory_is_some (node_at xs p) h in rw (at_left xs ys p (Dir d.0) d.1) refl
@@ -105,23 +103,19 @@ unfolding get
 only_equal p e h = by (place_cmp p e.0) h
   where
     by : (o : Ordering) → IsTrue (is_taken (cond (is_eq o) (Some e.1) None)) → o ≡ Equal
-    by Less h = absurd cc
     by Equal h = refl
-    by Greater h = absurd cc
+    by other h = absurd cc
 
 -- ---- a row at a place is the node there
 
 kind_is : (kind : Kind) → is_dir kind ≡ is_directory (Some (bare_kind kind))
 kind_is (kinds.Dir owner) = refl
-kind_is (kinds.First owner bytes) = refl
-kind_is (kinds.Further number) = refl
-kind_is (kinds.Link target) = refl
+kind_is other = refl
 
 kind_fits : (earlier : List Row) (kind : Kind) → IsKind usual_limits earlier kind → IsFitNode (bare_kind kind)
 kind_fits earlier (kinds.Dir owner) fits = fits
-kind_fits earlier (kinds.First owner bytes) fits = tt
-kind_fits earlier (kinds.Further number) fits = tt
 kind_fits earlier (kinds.Link target) fits = (fits.1, fits.0)
+kind_fits earlier other fits = tt
 
 here_or_behind : (dir same : Bool) (node : Node) (more : Bool) (o : Option Node) → dir ≡ is_directory (Some node) → more ≡ is_directory o → (same ≡ true → o ≡ None) → ((dir && same) || more) ≡ is_directory (cond same (Some node) o)
 here_or_behind true true node more o dir-is more-is none = dir-is
@@ -256,8 +250,7 @@ pub root_first : (names : Names) → InOrder place_cmp names → IsTrue (is_dire
 unfolding get
 root_first [] sorted there = absurd cc
 root_first (([], Dir root) ∷ entries) sorted there = (root, entries, refl)
-root_first (([], File number) ∷ entries) sorted there = absurd cc
-root_first (([], Link target) ∷ entries) sorted there = absurd cc
+root_first (([], other) ∷ entries) sorted there = absurd cc
 root_first ((n ∷ ns, node) ∷ entries) sorted there =
     let none = none_behind (n ∷ ns, node) entries [] sorted refl in
     absurd (let b : is_directory None ≡ true = subst (λ (o : Option Node). is_directory o ≡ true) none there in cc)

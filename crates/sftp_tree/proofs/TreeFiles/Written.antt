@@ -71,14 +71,12 @@ naming_push number (x ∷ front) e =
   where
     by : (b : Bool) (o : Option ℕ) (names : Bool) → (if b then Some 0 else option_map suc (then_naming o names (length front))) ≡ then_naming (if b then Some 0 else option_map suc o) names (suc (length front))
     by true o names = refl
-    by false (Some m) names = refl
     by false None true = refl
-    by false None false = refl
+    by false o names = refl
 
 then_same : (o : Option ℕ) (b : Bool) (entry : ℕ) → b ≡ false → o ≡ then_naming o b entry
-then_same (Some m) b entry is = refl
 then_same None true entry is = absurd cc
-then_same None false entry is = refl
+then_same o b entry is = refl
 
 first_met : (firsts : Firsts) (entry number k : ℕ) (o : Option ℕ) → get nat_cmp firsts number ≡ o → get nat_cmp (with_first firsts entry number o) k ≡ then_naming (get nat_cmp firsts k) (number == k) entry
 first_met firsts entry number k (Some first) is = by (number == k) refl
@@ -99,17 +97,15 @@ first_met firsts entry number k None is = get-put nat_cmp nat_cmp_total firsts n
     by false true at same again = absurd (let t : true ≡ false = sym (eq-eqb k number (sym (eqb-true number k again))) ∙ same in cc)
 
 node_met : (firsts : Firsts) (entry : ℕ) (standing : Node) (k : ℕ) → get nat_cmp (firsts_with firsts entry standing) k ≡ then_naming (get nat_cmp firsts k) (names_file k standing) entry
-node_met firsts entry (Dir owner) k = then_same (get nat_cmp firsts k) false entry refl
 node_met firsts entry (File number) k = first_met firsts entry number k (get nat_cmp firsts number) refl
-node_met firsts entry (Link target) k = then_same (get nat_cmp firsts k) false entry refl
+node_met firsts entry other k = then_same (get nat_cmp firsts k) false entry refl
 
 pub firsts_push : (firsts : Firsts) (front : Names) (e : Place × Node) → AreFirsts firsts front → AreFirsts (firsts_with firsts (length front) e.1) (front ++ e ∷ [])
 firsts_push firsts front e are = λ k. node_met firsts (length front) e.1 k ∙ ap (λ (o : Option ℕ). then_naming o (names_file k e.1) (length front)) (are k) ∙ sym (naming_push k front e)
 
 pub known : (files : Files) (firsts : Firsts) (front : Names) (standing : Node) → AreFirsts firsts front → known_kind files firsts standing ≡ kind_of files front standing
-known files firsts front (Dir owner) are = refl
 known files firsts front (File number) are = ap (λ (o : Option ℕ). naming o (content_at files number)) (are number)
-known files firsts front (Link target) are = refl
+known files firsts front other are = refl
 
 -- ---- the loop
 

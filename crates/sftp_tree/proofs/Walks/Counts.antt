@@ -9,7 +9,7 @@ use Rattle.sftp_tree.specs.declared.nodes.Node.TheVariants.{Link}
 use Rattle.sftp_tree.specs.Tree.{node_at, Tree, IsKept}
 use Rattle.sftp_tree.specs.Walk.{Meeting, is_last, start_of, meets, looked, steps_of, looked_limit}
 use Rattle.sftp_tree.proofs.Walks.Steps.{looked_behind, looked_on, looked-nil, looked-cons}
-use Rattle.sftp_tree.proofs.Walks.Meetings.{MetBy, by_dot, by_dot_dot, by_directory, by_last_file, by_file, by_link, by_last_link, by_last_absent, by_absent, met_by, target-good, home-fits}
+use Rattle.sftp_tree.proofs.Walks.Meetings.{MetBy, by_dot, by_dot_dot, by_directory, by_link, met_by, target-good, home-fits}
 
 -- ---- components of a good path
 
@@ -72,12 +72,8 @@ within-met : (t : Tree) (follow : Bool) (left more : ℕ) (at : Place) (name : N
 within-met t follow left more at name rest m behind further (by_dot r d) = further at
 within-met t follow left more at name rest m behind further (by_dot_dot r d dd) = further (parent at)
 within-met t follow left more at name rest m behind further (by_directory r owner plain there) = further (at ++ name ∷ [])
-within-met t follow left more at name rest m behind further (by_last_file number plain there) = omega arith
-within-met t follow left more at name rest m behind further (by_file next r number plain there) = omega arith
 within-met t follow left more at name rest m behind further (by_link r target plain goes there) = behind at name r target there
-within-met t follow left more at name rest m behind further (by_last_link target plain not_followed there) = omega arith
-within-met t follow left more at name rest m behind further (by_last_absent plain there) = omega arith
-within-met t follow left more at name rest m behind further (by_absent next r plain there) = omega arith
+within-met t follow left more at name rest m behind further other = omega arith
 
 within-parts : (t : Tree) (follow : Bool) (left more : ℕ) → Behind t follow left more → (at : Place) (path : List Name) → Within t follow left more at path
 within-parts t follow left more behind at [] = omega (arith, looked-nil t.names follow left at)

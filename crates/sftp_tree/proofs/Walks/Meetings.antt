@@ -111,17 +111,10 @@ steps-behind t kept place target rest there steps = list_all-append is_step (com
 
 -- of a meeting with a link, the node there
 linked : (names : Names) (follow : Bool) (at : Place) (name : Name) (rest : List Name) (m : Meeting) (target : List ℕ) → MetBy names follow at name rest m → m ≡ through target → node_at names (at ++ name ∷ []) ≡ Some (Link target)
-linked names follow at name rest m target (by_dot r d) e = cc
-linked names follow at name rest m target (by_dot_dot r d dd) e = cc
-linked names follow at name rest m target (by_directory r owner plain there) e = cc
-linked names follow at name rest m target (by_last_file number plain there) e = cc
-linked names follow at name rest m target (by_file next r number plain there) e = cc
 linked names follow at name rest m target (by_link r other plain goes there) e =
     let same : other ≡ target = cc in
     there ∙ ap (λ v. Some (Link v)) same
-linked names follow at name rest m target (by_last_link other plain not_followed there) e = cc
-linked names follow at name rest m target (by_last_absent plain there) e = cc
-linked names follow at name rest m target (by_absent next r plain there) e = cc
+linked names follow at name rest m target other e = cc
 
 pub through-link : (names : Names) (follow : Bool) (at : Place) (name : Name) (rest : List Name) (target : List ℕ) → meets names follow at name (is_last rest) ≡ through target → node_at names (at ++ name ∷ []) ≡ Some (Link target)
 through-link names follow at name rest target = linked names follow at name rest (meets names follow at name (is_last rest)) target (met_by names follow at name rest)

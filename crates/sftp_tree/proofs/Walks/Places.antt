@@ -14,7 +14,7 @@ use Rattle.sftp_tree.specs.Tree.{node_at, is_directory, Tree, IsKept}
 use Rattle.sftp_tree.specs.Walk.{Meeting, is_last, start_of, meets, walk, steps_of, reached, link_limit}
 use Rattle.sftp_tree.specs.Walking.{IsPlaceOf}
 use Rattle.sftp_tree.proofs.Walks.Steps.{behind_link, walk_on, walk-nil, walk-cons, reached-good, reached-bad}
-use Rattle.sftp_tree.proofs.Walks.Meetings.{MetBy, by_dot, by_dot_dot, by_directory, by_last_file, by_file, by_link, by_last_link, by_last_absent, by_absent, met_by, plain-is_name, steps-behind}
+use Rattle.sftp_tree.proofs.Walks.Meetings.{MetBy, by_dot, by_dot_dot, by_directory, by_last_file, by_link, by_last_link, by_last_absent, met_by, plain-is_name, steps-behind}
 use Rattle.sftp_tree.proofs.WellFormedTrees.Places.{directory-taken}
 
 -- a walk is at a directory
@@ -32,12 +32,10 @@ FoundBy t (Ok place) = Found t place
 FoundBy t (Err cause) = Unit {0}
 
 list_all-take : {X : Type 0} (p : X → Bool) (n : ℕ) (xs : List X) → list_all p xs ≡ true → list_all p (take n xs) ≡ true
-list_all-take p zero [] h = refl
-list_all-take p zero (x ∷ xs) h = refl
-list_all-take p (suc n) [] h = refl
 list_all-take p (suc n) (x ∷ xs) h =
     let a = and_parts (p x) (list_all p xs) h in
     and_from (p x) (list_all p (take n xs)) a.0 (list_all-take p n xs a.1)
+list_all-take p n xs h = refl
 
 pub root-stands : (t : Tree) → IsKept t → Stands t []
 root-stands t kept = record { names = refl; directory = kept.well_formed.root }
@@ -70,11 +68,10 @@ found-met t follow left at name rest m kept stands step further behind (by_dot_d
 found-met t follow left at name rest m kept stands step further behind (by_directory r owner plain there) =
     further (at ++ name ∷ []) (record { names = entered-names at name stands.names (plain-is_name name step plain); directory = ap is_directory there })
 found-met t follow left at name rest m kept stands step further behind (by_last_file number plain there) = entered-found t at name stands (plain-is_name name step plain)
-found-met t follow left at name rest m kept stands step further behind (by_file next r number plain there) = tt
 found-met t follow left at name rest m kept stands step further behind (by_link r target plain goes there) = behind target there
 found-met t follow left at name rest m kept stands step further behind (by_last_link target plain not_followed there) = entered-found t at name stands (plain-is_name name step plain)
 found-met t follow left at name rest m kept stands step further behind (by_last_absent plain there) = entered-found t at name stands (plain-is_name name step plain)
-found-met t follow left at name rest m kept stands step further behind (by_absent next r plain there) = tt
+found-met t follow left at name rest m kept stands step further behind other = tt
 
 -- over components, where it leads as said from behind each link
 abbrev Behind : Tree → Bool → ℕ → Type 0

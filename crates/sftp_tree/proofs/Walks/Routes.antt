@@ -23,9 +23,8 @@ is_last-append (x ∷ xs) ys = refl
 
 and-swap : (a b : Bool) → (a && b) ≡ (b && a)
 and-swap true true = refl
-and-swap true false = refl
 and-swap false true = refl
-and-swap false false = refl
+and-swap a b = refl
 
 -- nothing is left of targets where nothing is left of each
 pub is_last-left_of : (targets : List Split) → is_last (left_of targets) ≡ list_all is_done targets

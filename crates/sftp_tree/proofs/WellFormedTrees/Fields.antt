@@ -33,12 +33,10 @@ changed-owner-fits attrs owner fits before = search rules
 -- ---- contents
 
 bytes-taken : (n : ℕ) (bytes : List ℕ) → IsTrue (are_bytes bytes) → IsTrue (are_bytes (take n bytes))
-bytes-taken zero [] h = refl
-bytes-taken zero (b ∷ bytes) h = refl
-bytes-taken (suc n) [] h = refl
 bytes-taken (suc n) (b ∷ bytes) h =
     let parts = and_parts (nat_lt b 256) (are_bytes bytes) h in
     and_from (nat_lt b 256) (are_bytes (take n bytes)) parts.0 (bytes-taken n bytes parts.1)
+bytes-taken n bytes h = refl
 
 pub bytes-dropped : (n : ℕ) (bytes : List ℕ) → IsTrue (are_bytes bytes) → IsTrue (are_bytes (drop n bytes))
 bytes-dropped zero bytes h = h

@@ -38,12 +38,11 @@ take-below p q below =
 -- what begins a parent begins the place
 begins-parent : (p q : Place) (k : ℕ) → begins p (take k q) ≡ true → begins p q ≡ true
 begins-parent [] q k h = refl
-begins-parent (m ∷ ms) [] zero h = absurd cc
 begins-parent (m ∷ ms) [] (suc k) h = absurd cc
-begins-parent (m ∷ ms) (n ∷ ns) zero h = absurd cc
 begins-parent (m ∷ ms) (n ∷ ns) (suc k) h =
     let parts = and_parts (same_bytes m n) (begins ms (take k ns)) h in
     and_from (same_bytes m n) (begins ms ns) parts.0 (begins-parent ms ns k parts.1)
+begins-parent (m ∷ ms) q k h = absurd cc
 
 -- what does not begin a place does not begin its parent
 pub apart-parent : (p q : Place) → begins p q ≡ false → begins p (parent q) ≡ false

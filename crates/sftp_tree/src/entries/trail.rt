@@ -89,7 +89,7 @@ impl<'a> Trail<'a> {
         }
     }
 
-    /// Goes up to the parent, which for the root is the root.
+    /// Goes to the directory above; at the root it changes nothing.
     pub(crate) fn leave(&mut self)
         ensures { self.new ≡ record self.old { at = parent self.old.at } }
     {

@@ -27,9 +27,8 @@ no_self p less = let e : Equal ≡ Less = sym (tied_itself place_cmp-total p) �
 -- a place begins what comes between it and a place that it begins
 then_both : (o p q : Ordering) → ordering_then o p ≡ Greater → ordering_then o q ≡ Less
     → (o ≡ Equal) × (p ≡ Greater) × (q ≡ Less)
-then_both Less p q g l = absurd cc
 then_both Equal p q g l = (refl, g, l)
-then_both Greater p q g l = absurd cc
+then_both other p q g l = absurd cc
 
 pub between : (top last rest : Place) → place_cmp last top ≡ Greater → place_cmp last (top ++ rest) ≡ Less
     → begins top last ≡ true
@@ -56,13 +55,11 @@ same_place_is (m ∷ ms) (n ∷ ns) h =
 
 and_none : (b c : Bool) → (c ≡ true → ⊥) → (b && c) ≡ false
 and_none true true none = absurd (none refl)
-and_none true false none = refl
-and_none false c none = refl
+and_none b c none = refl
 
 or_left : (b c d : Bool) → (b || c) ≡ true → (b || (c || d)) ≡ true
-or_left true c d h = refl
-or_left false true d h = refl
 or_left false false d h = absurd (false≢true h)
+or_left b c d h = refl
 
 -- no entry before a place is at it
 none_there : (rows : List Row) (place : Place)

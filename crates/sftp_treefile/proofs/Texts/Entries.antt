@@ -87,14 +87,13 @@ pub entries_are_one : (limits : TreeLimits) → limits.file_bytes < 2 ^ 32 → (
     → AreRows limits earlier xs → AreRows limits earlier ys → length xs ≡ length ys
     → flat_map row_text xs ++ r ≡ flat_map row_text ys ++ s → (xs ≡ ys) × (r ≡ s)
 entries_are_one limits bound earlier [] [] r s x-fits y-fits len e = (refl, e)
-entries_are_one limits bound earlier [] (y ∷ ys) r s x-fits y-fits len e = absurd (omega arith)
-entries_are_one limits bound earlier (x ∷ xs) [] r s x-fits y-fits len e = absurd (omega arith)
 entries_are_one limits bound earlier (x ∷ xs) (y ∷ ys) r s x-fits y-fits len e =
     let a = row_front limits bound earlier x y (flat_map row_text xs ++ r) (flat_map row_text ys ++ s) x-fits.0.path
     y-fits.0.path x-fits.0.kind y-fits.0.kind (sym (entries_parts x xs r) ∙ e ∙ entries_parts y ys s) in
     let same_fits = subst (λ (z : Row). AreRows limits (earlier ++ z ∷ []) ys) (sym a.0) y-fits.1 in
     let next = entries_are_one limits bound (earlier ++ x ∷ []) xs ys r s x-fits.1 same_fits (omega arith) a.1 in
     ((λ i. a.0 i ∷ next.0 i), next.1)
+entries_are_one limits bound earlier xs ys r s x-fits y-fits len e = absurd (omega arith)
 
 pub rows_push : (limits : TreeLimits) (earlier rows : List Row) (row : Row) → AreRows limits earlier rows
     → IsNext limits (earlier ++ rows) row → AreRows limits earlier (rows ++ row ∷ [])

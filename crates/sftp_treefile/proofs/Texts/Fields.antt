@@ -141,9 +141,7 @@ letter (Link target) = 76
 letter_is : (x : Kind) (r : List ℕ) → get_or (kind_text x ++ r) 0 0 ≡ letter x
 unfolding letter
 letter_is (Dir owner) r = refl
-letter_is (First owner bytes) r = refl
-letter_is (Further number) r = refl
-letter_is (Link target) r = refl
+letter_is other r = refl
 
 same_letter : (x y : Kind) (r s : List ℕ) → kind_text x ++ r ≡ kind_text y ++ s → letter x ≡ letter y
 same_letter x y r s e = sym (letter_is x r) ∙ ap (λ (t : List ℕ). get_or t 0 0) e ∙ letter_is y s
@@ -158,18 +156,7 @@ kind_front limits bound rows (First x b) (First y c) r s x-fits y-fits e =
     ((λ i. First (a.0 i).0 (a.0 i).1), a.1)
 kind_front limits bound rows (Further x) (Further y) r s x-fits y-fits e = grind (arith, number_front)
 kind_front limits bound rows (Link x) (Link y) r s x-fits y-fits e = grind (arith, string_front, target_length)
-kind_front limits bound rows (Dir x) (First y c) r s x-fits y-fits e = grind (arith, same_letter)
-kind_front limits bound rows (Dir x) (Further y) r s x-fits y-fits e = grind (arith, same_letter)
-kind_front limits bound rows (Dir x) (Link y) r s x-fits y-fits e = grind (arith, same_letter)
-kind_front limits bound rows (First x b) (Dir y) r s x-fits y-fits e = grind (arith, same_letter)
-kind_front limits bound rows (First x b) (Further y) r s x-fits y-fits e = grind (arith, same_letter)
-kind_front limits bound rows (First x b) (Link y) r s x-fits y-fits e = grind (arith, same_letter)
-kind_front limits bound rows (Further x) (Dir y) r s x-fits y-fits e = grind (arith, same_letter)
-kind_front limits bound rows (Further x) (First y c) r s x-fits y-fits e = grind (arith, same_letter)
-kind_front limits bound rows (Further x) (Link y) r s x-fits y-fits e = grind (arith, same_letter)
-kind_front limits bound rows (Link x) (Dir y) r s x-fits y-fits e = grind (arith, same_letter)
-kind_front limits bound rows (Link x) (First y c) r s x-fits y-fits e = grind (arith, same_letter)
-kind_front limits bound rows (Link x) (Further y) r s x-fits y-fits e = grind (arith, same_letter)
+kind_front limits bound rows x y r s x-fits y-fits e = grind (arith, same_letter)
 
 -- of bytes that begin with this letter a kind of another letter cannot be read
 module _ (bytes rest : List ℕ) (first : ℕ) (is : bytes ≡ first ∷ rest) where
@@ -183,15 +170,11 @@ module _ (bytes rest : List ℕ) (first : ℕ) (is : bytes ≡ first ∷ rest) w
       → ReadsNone (IsKind limits rows) kind_text bytes
   unfolding letter
   dir_none limits rows here none (Dir x) r fits e = none x r fits (behind (Dir x) r e)
-  dir_none limits rows here none (First x b) r fits e = omega (arith, letter_here (First x b) r e)
-  dir_none limits rows here none (Further x) r fits e = omega (arith, letter_here (Further x) r e)
-  dir_none limits rows here none (Link x) r fits e = omega (arith, letter_here (Link x) r e)
+  dir_none limits rows here none other r fits e = omega (arith, letter_here other r e)
 
   pub first_none : (limits : TreeLimits) (rows : List Row) → first ≡ 70 → ReadsNone (IsFile limits) file_text rest
       → ReadsNone (IsKind limits rows) kind_text bytes
   unfolding letter
-  first_none limits rows here none (Dir x) r fits e = omega (arith, letter_here (Dir x) r e)
   first_none limits rows here none (First x b) r fits e =
       none (x, b) r (fits.0, (fits.1, fits.2)) (behind (First x b) r e)
-  first_none limits rows here none (Further x) r fits e = omega (arith, letter_here (Further x) r e)
-  first_none limits rows here none (Link x) r fits e = omega (arith, letter_here (Link x) r e)
+  first_none limits rows here none other r fits e = omega (arith, letter_here other r e)

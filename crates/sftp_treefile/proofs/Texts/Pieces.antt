@@ -1,7 +1,7 @@
 -- What is written, piece by piece.
 use Rattle.std.proofs.Common.{◌≡◌, ℕ, suc, zero, ◌<◌, ◌^◌, List, [], ◌∷◌, ◌++◌, length, get_or, append_assoc, arith}
 use Rattle.sftp_treefile.specs.declared.files.Kind.{Kind}
-use Rattle.sftp_treefile.specs.declared.files.Kind.TheVariants.{Dir, First, Further, Link}
+use Rattle.sftp_treefile.specs.declared.files.Kind.TheVariants.{First, Link}
 use Rattle.sftp_treefile.specs.declared.files.Row.{Row}
 use Rattle.sftp_treefile.specs.declared.heads.Head.{Head}
 use Rattle.sftp_treefile.specs.declared.limits.TreeLimits.{TreeLimits}
@@ -27,10 +27,9 @@ head_pieces head o0 o1 o2 p q = grind (arith, append_assoc)
 -- the lengths of the strings of an entry that fits can be written
 kind_lengths : (limits : TreeLimits) → limits.file_bytes < 2 ^ 32 → (earlier : List Row) (kind : Kind)
     → IsKind limits earlier kind → KindHasLengths kind
-kind_lengths limits bound earlier (Dir owner) fits = tt
 kind_lengths limits bound earlier (First owner bytes) fits = file_bytes_length limits bound bytes (fits.1, fits.2)
-kind_lengths limits bound earlier (Further number) fits = tt
 kind_lengths limits bound earlier (Link target) fits = target_length target fits
+kind_lengths limits bound earlier other fits = tt
 
 pub row_at_place : (limits : TreeLimits) → limits.file_bytes < 2 ^ 32 → (earlier rows : List Row) (i : ℕ) (row : Row)
     → AreRows limits earlier rows → i < length rows → row ≡ get_or rows i row → HasLengths row

@@ -17,29 +17,25 @@ returns-in_err-home-clause-none c =
 pub returns-in_err-uid-clause-none : goal.returns-in_err-uid-clause-none
 returns-in_err-uid-clause-none c =
     let p = err_from_is_err_and c.from_residual-in_err-uid.result c.from_residual-in_err-uid.ensures.1 in
-    let home = home_read c.args.bytes.now c.in_ok-rest.rest.now c.in_ok-home.rest.now c.in_ok-home.home
-    c.in_ok-rest.ensures.found c.in_ok-home.ensures.found in
+    let home = home_read c.args.bytes.now _ _ c.in_ok-home.home c.in_ok-rest.ensures.found c.in_ok-home.ensures.found in
     rw p.1 (inr (uid_none c.args.bytes.now c.in_ok-home.rest.now c.in_ok-home.home home c.in_err-uid.ensures.none))
 
 pub returns-in_err-gid-clause-none : goal.returns-in_err-gid-clause-none
 returns-in_err-gid-clause-none c =
     let p = err_from_is_err_and c.from_residual-in_err-gid.result c.from_residual-in_err-gid.ensures.1 in
-    let home = home_read c.args.bytes.now c.in_ok-rest.rest.now c.in_ok-home.rest.now c.in_ok-home.home
-    c.in_ok-rest.ensures.found c.in_ok-home.ensures.found in
+    let home = home_read c.args.bytes.now _ _ c.in_ok-home.home c.in_ok-rest.ensures.found c.in_ok-home.ensures.found in
     rw p.1 (inr (gid_none c.args.bytes.now c.in_ok-home.rest.now c.in_ok-uid.rest.now c.in_ok-home.home c.in_ok-uid.uid home c.in_ok-uid.ensures.found c.in_err-gid.ensures.none))
 
 pub returns-in_err-count-clause-none : goal.returns-in_err-count-clause-none
 returns-in_err-count-clause-none c =
     let p = err_from_is_err_and c.from_residual-in_err-count.result c.from_residual-in_err-count.ensures.1 in
-    let home = home_read c.args.bytes.now c.in_ok-rest.rest.now c.in_ok-home.rest.now c.in_ok-home.home
-    c.in_ok-rest.ensures.found c.in_ok-home.ensures.found in
+    let home = home_read c.args.bytes.now _ _ c.in_ok-home.home c.in_ok-rest.ensures.found c.in_ok-home.ensures.found in
     rw p.1 (inr (count_none c.usual_limits-limits.result c.args.bytes.now c.in_ok-home.rest.now c.in_ok-uid.rest.now c.in_ok-gid.rest.now c.in_ok-home.home c.in_ok-uid.uid c.in_ok-gid.gid c.usual_limits-limits.ensures home c.in_ok-uid.ensures.found c.in_ok-gid.ensures.found c.in_err-count.ensures.none))
 
 pub returns-in_err-root-clause-none : goal.returns-in_err-root-clause-none
 returns-in_err-root-clause-none c =
     let p = err_from_is_err_and c.from_residual-in_err-root.result c.from_residual-in_err-root.ensures.1 in
-    let home = home_read c.args.bytes.now c.in_ok-rest.rest.now c.in_ok-home.rest.now c.in_ok-home.home
-    c.in_ok-rest.ensures.found c.in_ok-home.ensures.found in
+    let home = home_read c.args.bytes.now _ _ c.in_ok-home.home c.in_ok-rest.ensures.found c.in_ok-home.ensures.found in
     let numbers = numbers_read c.usual_limits-limits.result c.args.bytes.now c.in_ok-home.rest.now c.in_ok-uid.rest.now
     c.in_ok-gid.rest.now c.in_ok-count.rest.now c.in_ok-home.home c.in_ok-uid.uid c.in_ok-gid.gid c.in_ok-count.count
     c.usual_limits-limits.ensures home c.in_ok-uid.ensures.found c.in_ok-gid.ensures.found
@@ -48,8 +44,7 @@ returns-in_err-root-clause-none c =
 
 pub returns-clause-found : goal.returns-clause-found
 returns-clause-found c =
-    let home = home_read c.args.bytes.now c.in_ok-rest.rest.now c.in_ok-home.rest.now c.in_ok-home.home
-    c.in_ok-rest.ensures.found c.in_ok-home.ensures.found in
+    let home = home_read c.args.bytes.now _ _ c.in_ok-home.home c.in_ok-rest.ensures.found c.in_ok-home.ensures.found in
     let numbers = numbers_read c.usual_limits-limits.result c.args.bytes.now c.in_ok-home.rest.now c.in_ok-uid.rest.now
     c.in_ok-gid.rest.now c.in_ok-count.rest.now c.in_ok-home.home c.in_ok-uid.uid c.in_ok-gid.gid c.in_ok-count.count
     c.usual_limits-limits.ensures home c.in_ok-uid.ensures.found c.in_ok-gid.ensures.found
