@@ -10,6 +10,8 @@ mod answers;
 #[cfg(test)]
 mod audit;
 #[cfg(test)]
+mod client;
+#[cfg(test)]
 mod handles;
 #[cfg(test)]
 mod path;
