@@ -3,3 +3,4 @@ pub mod transcripts
 pub mod Putting
 pub mod Buffers
 pub mod Inputs
+pub mod Taking

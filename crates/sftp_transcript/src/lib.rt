@@ -10,6 +10,8 @@ mod input;
 pub mod laws;
 mod memory;
 mod records;
+mod stage;
+mod steps;
 mod streams;
 mod tally;
 mod writer;
