@@ -3,6 +3,7 @@ use std::alloc::Global;
 use std::io;
 use std::io::{ErrorKind, Read, Write};
 
+mod reading;
 mod streams;
 mod writing;
 

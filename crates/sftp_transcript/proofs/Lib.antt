@@ -4,3 +4,4 @@ pub mod Putting
 pub mod Buffers
 pub mod Inputs
 pub mod Taking
+pub mod Recorded

@@ -10,3 +10,4 @@ pub mod Tallies
 pub mod Log
 pub mod Ahead
 pub mod Steps
+pub mod Recorded
