@@ -23,7 +23,7 @@ returns-clause-found g c =
     record { ahead = c.self.inside.input; stage = c.self.inside.stage; number = c.self.inside.number; fault = c.self.inside.fault } in
     let from : old.stage ≡ stages.Events = ap (λ (s : Reading). s.stage) c.self.view_is ∙ c.requires in
     let new : Reading =
-    record { ahead = c.pass_event.new.input; stage = c.self.inside.stage; number = c.number_after-self-inside.number; fault = c.self.inside.fault } in
+    record { ahead = c.pass_event.new.input; stage = c.self.inside.stage; number = c.number_after-self-inside.result; fault = c.self.inside.fault } in
     subst (λ (s : Reading). IsKnown s → Gave s c.in_ok-given.given new) c.self.view_is
     (gave old new c.in_ok-given.given from from c.in_ok-given.ensures.found)
 
@@ -33,7 +33,7 @@ returns-clause-known g c =
     record { ahead = c.self.inside.input; stage = c.self.inside.stage; number = c.self.inside.number; fault = c.self.inside.fault } in
     let from : old.stage ≡ stages.Events = ap (λ (s : Reading). s.stage) c.self.view_is ∙ c.requires in
     let new : Reading =
-    record { ahead = c.pass_event.new.input; stage = c.self.inside.stage; number = c.number_after-self-inside.number; fault = c.self.inside.fault } in
+    record { ahead = c.pass_event.new.input; stage = c.self.inside.stage; number = c.number_after-self-inside.result; fault = c.self.inside.fault } in
     subst (λ (s : Reading). IsKnown s → IsKnown new) c.self.view_is
     (known_after old new c.in_ok-given.given c.in_ok-given.ensures.found)
 
@@ -43,6 +43,6 @@ returns-clause-only g c =
     record { ahead = c.self.inside.input; stage = c.self.inside.stage; number = c.self.inside.number; fault = c.self.inside.fault } in
     let from : old.stage ≡ stages.Events = ap (λ (s : Reading). s.stage) c.self.view_is ∙ c.requires in
     let new : Reading =
-    record { ahead = c.pass_event.new.input; stage = c.self.inside.stage; number = c.number_after-self-inside.number; fault = c.self.inside.fault } in
+    record { ahead = c.pass_event.new.input; stage = c.self.inside.stage; number = c.number_after-self-inside.result; fault = c.self.inside.fault } in
     subst (λ (s : Reading). (events : List Event) → Records s events → Gives c.in_ok-given.given events new) c.self.view_is
     (gives old new c.in_ok-given.given from from c.in_ok-given.ensures.only c.in_ok-given.ensures.ends)
