@@ -16,6 +16,8 @@ mod handles;
 #[cfg(test)]
 mod path;
 #[cfg(test)]
+mod transcript;
+#[cfg(test)]
 mod tree;
 #[cfg(test)]
 mod treefile;

@@ -3,3 +3,5 @@ pub mod transcripts
 pub mod Putting
 pub mod Buffers
 pub mod Inputs
+pub mod Taking
+pub mod Recorded

@@ -25,10 +25,14 @@ capacity = 131072
 abbrev pub record_limit : ℕ
 record_limit = packet_limit + 1
 
+-- a number that falls with each byte taken, and does not rise where bytes are read
+abbrev pub size_of : Ahead → ℕ
+size_of a = a.reads_left * (capacity + 1) + length a.held
+
 -- the same bytes are ahead
 pub record IsSameAhead (old new : Ahead) : Type 0 where
   pub bytes : Keeps (bytes_ahead old) (bytes_ahead new)
-  pub never_rises : new.reads_left ≤ old.reads_left
+  pub never_rises : size_of new ≤ size_of old
 
 -- the record that the bytes ahead begin with, if any, is held whole
 abbrev pub HoldsRecord : Ahead → Type 0

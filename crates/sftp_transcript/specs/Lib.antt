@@ -1,5 +1,6 @@
 pub mod Transcript
 pub mod Records
+pub mod Refused
 pub mod Explained
 pub mod Ledger
 pub mod Examples
@@ -8,3 +9,5 @@ pub mod Memories
 pub mod Tallies
 pub mod Log
 pub mod Ahead
+pub mod Steps
+pub mod Recorded

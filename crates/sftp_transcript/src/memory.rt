@@ -1,5 +1,5 @@
 //! A stream of the bytes of a slice.
-ghost use Rattle.std.specs.Prelude.{◌≡◌, Some, length};
+ghost use Rattle.std.specs.Prelude.{◌≡◌, Some, false, length};
 ghost use Rattle.sftp_transcript.specs.Memories.{bytes_of};
 
 use crate::streams::{Failed, Source};
@@ -23,6 +23,8 @@ impl Source for Memory<'_> {
     ghost left = { λ memory. Some (bytes_of memory) };
 
     ghost failures = { λ memory. 0 };
+
+    ghost may_fail = { false };
 
     ghost reads_left = { λ memory. length (bytes_of memory) };
 

@@ -8,6 +8,7 @@ ghost use Rattle.sftp_transcript.specs.Transcript.{transcript_opening, packet_of
 ghost use Rattle.sftp_transcript.specs.Transcript.{IsRecord, GivesRecorded};
 ghost use Rattle.sftp_transcript.specs.Records.{side_of_direction, read_fault, Begins, GivesOnly};
 ghost use Rattle.sftp_transcript.specs.Records.{IsInit, BeginsInit, IsVersion, BeginsVersion};
+ghost use Rattle.sftp_transcript.specs.Refused.{PacketFault, RecordFault, InitFault, VersionFault, EventFault};
 
 use crate::errors::TranscriptError;
 use crate::events::Event;
@@ -51,9 +52,10 @@ pub fn read_events(alloc: Global, bytes: &[u8]) -> Result<Vec<Event>, Transcript
 }
 
 /// The bytes behind the opening.
-fn take_opening(bytes: &[u8]) -> Result<&[u8], TranscriptError>
+pub(crate) fn take_opening(bytes: &[u8]) -> Result<&[u8], TranscriptError>
     ensures found { IfOk result (λ rest. bytes.now ≡ transcript_opening ++ rest.now) }
     ensures only { (rest : List ℕ) → bytes.now ≡ transcript_opening ++ rest → GivesOnly (λ r. r.now ≡ rest) result }
+    ensures refused { IfErr result (λ error. error ≡ TranscriptError.Magic 0) }
 {
     bytes
         .strip_prefix(&OPENING)
@@ -61,9 +63,10 @@ fn take_opening(bytes: &[u8]) -> Result<&[u8], TranscriptError>
 }
 
 /// The bytes behind the client's INIT, which is the first record.
-fn take_init(alloc: Global, bytes: &[u8]) -> Result<&[u8], TranscriptError>
+pub(crate) fn take_init(alloc: Global, bytes: &[u8]) -> Result<&[u8], TranscriptError>
     ensures found { IfOk result (λ rest. BeginsInit bytes.now rest.now) }
     ensures only { (rest : List ℕ) → BeginsInit bytes.now rest → GivesOnly (λ r. r.now ≡ rest) result }
+    ensures refused { IfErr result (InitFault bytes.now) }
 {
     let (packet, rest) = take_record(alloc, bytes, 1)?;
     if is_init(packet) {
@@ -85,9 +88,10 @@ fn is_init(packet: Packet) -> bool
 }
 
 /// The bytes behind the server's VERSION, which is the second record.
-fn take_version(alloc: Global, bytes: &[u8]) -> Result<&[u8], TranscriptError>
+pub(crate) fn take_version(alloc: Global, bytes: &[u8]) -> Result<&[u8], TranscriptError>
     ensures found { IfOk result (λ rest. BeginsVersion bytes.now rest.now) }
     ensures only { (rest : List ℕ) → BeginsVersion bytes.now rest → GivesOnly (λ r. r.now ≡ rest) result }
+    ensures refused { IfErr result (VersionFault bytes.now) }
 {
     let (packet, rest) = take_record(alloc, bytes, 2)?;
     if is_version(packet) {
@@ -126,11 +130,16 @@ fn take_events(alloc: Global, bytes: &[u8]) -> Result<Vec<Event>, TranscriptErro
 }
 
 /// The event of the record in front, and the bytes behind it.
-fn take_event(alloc: Global, bytes: &[u8], number: u64) -> Result<(Event, &[u8]), TranscriptError>
+pub(crate) fn take_event(
+    alloc: Global,
+    bytes: &[u8],
+    number: u64,
+) -> Result<(Event, &[u8]), TranscriptError>
     ensures found { IfOk result (λ taken. IsEvent taken.0 × (bytes.now ≡ event_record taken.0 ++ taken.1.now)) }
     ensures only { (event : Event) (rest : List ℕ) → IsEvent event → bytes.now ≡ event_record event ++ rest →
         GivesOnly (λ taken. (taken.0 ≡ event) × (taken.1.now ≡ rest)) result }
     ensures shorter { IfOk result (λ taken. length taken.1.now < length bytes.now) }
+    ensures refused { IfErr result (EventFault number bytes.now) }
 {
     let (packet, rest) = take_record(alloc, bytes, number)?;
     let event = event_of(packet, number)?;
@@ -141,6 +150,7 @@ fn take_event(alloc: Global, bytes: &[u8], number: u64) -> Result<(Event, &[u8])
 fn event_of(packet: Packet, number: u64) -> Result<Event, TranscriptError>
     ensures found { IfOk result (λ event. packet ≡ packet_of event) }
     ensures none { IfErr result (λ _. (event : Event) → packet ≡ packet_of event → ⊥) }
+    ensures start { IfErr result (λ error. error ≡ TranscriptError.Start number) }
 {
     match packet {
         Packet::Request(request) => Ok(Event::Asked(request)),
@@ -155,6 +165,7 @@ fn take_record(alloc: Global, bytes: &[u8], number: u64) -> Result<(Packet, &[u8
     ensures found { IfOk result (λ taken. Begins bytes.now taken.0 taken.1.now) }
     ensures only { (packet : Packet) (rest : List ℕ) → Begins bytes.now packet rest →
         GivesOnly (λ taken. (taken.0 ≡ packet) × (taken.1.now ≡ rest)) result }
+    ensures refused { IfErr result (RecordFault number bytes.now) }
 {
     match bytes {
         [] => Err(TranscriptError::Start { record: number }),
@@ -187,6 +198,7 @@ fn take_packet(
         × (bytes.now ≡ spelling taken.0 ++ taken.1.now)) }
     ensures only { (packet : Packet) (rest : List ℕ) → HasSpelling packet → side_of packet ≡ side →
         bytes.now ≡ spelling packet ++ rest → GivesOnly (λ taken. (taken.0 ≡ packet) × (taken.1.now ≡ rest)) result }
+    ensures refused { IfErr result (PacketFault number side bytes.now) }
 {
     match front(alloc, bytes, side) {
         Ok(Some((packet, length))) => Ok((packet, &bytes[length..])),

@@ -1,5 +1,5 @@
 //! Streams of bytes that may fail: where a session's packets come from and go to, and where a transcript is written.
-ghost use Rattle.std.specs.Prelude.{◌≡◌, ℕ, List, Option, ◌<◌, ◌≤◌, length, IfOk};
+ghost use Rattle.std.specs.Prelude.{◌≡◌, ℕ, List, Option, Bool, ◌<◌, ◌≤◌, length, IfOk, OnErr, IsTrue};
 ghost use Rattle.std.specs.Io.KnownBytes.{ReadConsumes, WriteAppends, Keeps};
 ghost use Rattle.sftp_transcript.specs.Streams.{Counts};
 
@@ -18,6 +18,9 @@ pub trait Source {
     /// How many calls failed.
     ghost failures: { Self → ℕ };
 
+    /// Whether a read may fail.
+    ghost may_fail: { Bool };
+
     /// A number that falls with each read that gives bytes, so that a loop over the stream ends.
     ghost reads_left: { Self → ℕ };
 
@@ -32,6 +35,7 @@ pub trait Source {
         // What it reads is the front of what is left, and the rest is left then.
         ensures bytes { ReadConsumes (left self.old) (left self.new) result buffer.new }
         ensures counts { Counts result (failures self.old) (failures self.new) }
+        ensures can_fail { OnErr result (IsTrue may_fail) }
         ensures never_rises { reads_left self.new ≤ reads_left self.old }
         ensures falls { IfOk result (λ count. 0 < count → reads_left self.new < reads_left self.old) };
 

@@ -1,5 +1,5 @@
 //! The readers and writers of the standard library as streams whose failures are counted.
-ghost use Rattle.std.specs.Prelude.{◌≡◌, ◌-◌, ◌^◌};
+ghost use Rattle.std.specs.Prelude.{◌≡◌, ◌-◌, ◌^◌, true};
 ghost use Rattle.sftp_transcript.specs.Tallies.{inner_of, failures_of, reads_left_of};
 ghost use Rattle.sftp_transcript.specs.Streams.{one_more};
 
@@ -57,6 +57,8 @@ impl<R: Read> Source for Tally<R> {
     ghost left = { λ tally. R.remaining (inner_of tally) };
 
     ghost failures = { failures_of };
+
+    ghost may_fail = { true };
 
     ghost reads_left = { reads_left_of };
 

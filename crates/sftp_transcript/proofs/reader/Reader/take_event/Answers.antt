@@ -1,0 +1,48 @@
+-- The event in front is the first of those to come.
+use Rattle.std.proofs.Common.{◌≡◌, List, ap, sym, ◌∙◌, subst}
+use Rattle.std.proofs.lemmas.Result.{err_from_is_err_and}
+use Rattle.sftp_transcript.specs.declared.events.Event.{Event}
+use Rattle.sftp_transcript.specs.declared.stage.Stage.TheVariants as stages
+use Rattle.sftp_transcript.specs.Recorded.{Reading, IsKnown, Records, Gave, Gives}
+use Rattle.sftp_transcript.proofs.Recorded.{gave, gives, known_after, excused_events}
+use Rattle.sftp_transcript.proofs.reader.Reader.take_event.Goals as goal
+
+pub returns-in_err-given-clause-only : goal.returns-in_err-given-clause-only
+returns-in_err-given-clause-only g c = λ events r.
+    let old : Reading =
+    record { ahead = c.self.inside.input; stage = c.self.inside.stage; number = c.self.inside.number; fault = c.self.inside.fault } in
+    let from : old.stage ≡ stages.Events = ap (λ (s : Reading). s.stage) c.self.view_is ∙ c.requires in
+    let p = err_from_is_err_and c.from_residual.result c.from_residual.ensures.1 in
+    let at : Records old events = subst (λ (s : Reading). Records s events) (sym c.self.view_is) r in
+    rw (p.1, p.2)
+    (excused_events old c.in_err-given.field-0.0 from c.in_err-given.ensures.only c.in_err-given.ensures.ends events at)
+
+pub returns-clause-found : goal.returns-clause-found
+returns-clause-found g c =
+    let old : Reading =
+    record { ahead = c.self.inside.input; stage = c.self.inside.stage; number = c.self.inside.number; fault = c.self.inside.fault } in
+    let from : old.stage ≡ stages.Events = ap (λ (s : Reading). s.stage) c.self.view_is ∙ c.requires in
+    let new : Reading =
+    record { ahead = c.pass_event.new.input; stage = c.self.inside.stage; number = c.number_after-self-inside.result; fault = c.self.inside.fault } in
+    subst (λ (s : Reading). IsKnown s → Gave s c.in_ok-given.given new) c.self.view_is
+    (gave old new c.in_ok-given.given from from c.in_ok-given.ensures.found)
+
+pub returns-clause-known : goal.returns-clause-known
+returns-clause-known g c =
+    let old : Reading =
+    record { ahead = c.self.inside.input; stage = c.self.inside.stage; number = c.self.inside.number; fault = c.self.inside.fault } in
+    let from : old.stage ≡ stages.Events = ap (λ (s : Reading). s.stage) c.self.view_is ∙ c.requires in
+    let new : Reading =
+    record { ahead = c.pass_event.new.input; stage = c.self.inside.stage; number = c.number_after-self-inside.result; fault = c.self.inside.fault } in
+    subst (λ (s : Reading). IsKnown s → IsKnown new) c.self.view_is
+    (known_after old new c.in_ok-given.given c.in_ok-given.ensures.found)
+
+pub returns-clause-only : goal.returns-clause-only
+returns-clause-only g c =
+    let old : Reading =
+    record { ahead = c.self.inside.input; stage = c.self.inside.stage; number = c.self.inside.number; fault = c.self.inside.fault } in
+    let from : old.stage ≡ stages.Events = ap (λ (s : Reading). s.stage) c.self.view_is ∙ c.requires in
+    let new : Reading =
+    record { ahead = c.pass_event.new.input; stage = c.self.inside.stage; number = c.number_after-self-inside.result; fault = c.self.inside.fault } in
+    subst (λ (s : Reading). (events : List Event) → Records s events → Gives c.in_ok-given.given events new) c.self.view_is
+    (gives old new c.in_ok-given.given from from c.in_ok-given.ensures.only c.in_ok-given.ensures.ends)

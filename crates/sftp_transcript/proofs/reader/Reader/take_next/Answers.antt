@@ -1,0 +1,24 @@
+-- The start keeps the events to come.
+use Rattle.std.proofs.lemmas.Result.{err_from_is_err_and, IfOk-weaker}
+use Rattle.sftp_transcript.specs.Recorded.{IsKnown, Gave}
+use Rattle.sftp_transcript.proofs.Recorded.{RecordsSame-then, gave_same, on_err_then}
+use Rattle.sftp_transcript.proofs.reader.Reader.take_next.Goals as goal
+
+pub returns-in_err-take_start-clause-only : goal.returns-in_err-take_start-clause-only
+returns-in_err-take_start-clause-only g c = λ events r.
+    let p = err_from_is_err_and c.from_residual.result c.from_residual.ensures.1 in
+    rw (p.1, p.2) (c.in_err-take_start.ensures.only events r)
+
+pub returns-clause-found : goal.returns-clause-found
+returns-clause-found g c =
+    let old = c.args.self.now in
+    let mid = c.take_start.new.self in
+    let new = c.take_event.new.self in
+    IfOk-weaker c.take_event.result (λ given. IsKnown mid → Gave mid given new) (λ given. IsKnown old → Gave old given new)
+    (λ given found. gave_same old mid new given c.take_start.ensures.same found) c.take_event.ensures.found
+
+pub returns-clause-same : goal.returns-clause-same
+returns-clause-same g c =
+    on_err_then c.take_event.result
+    (RecordsSame-then c.args.self.now c.take_start.new.self c.take_event.new.self c.take_start.ensures.same)
+    c.take_event.ensures.same

@@ -1,0 +1,15 @@
+-- Where the bytes ahead begin with the opening, so do the bytes held.
+use Rattle.std.proofs.lemmas.Result.{err_from_is_err_and}
+use Rattle.sftp_transcript.specs.Ahead.{bytes_ahead}
+use Rattle.sftp_transcript.specs.Steps.{HasAhead}
+use Rattle.sftp_transcript.proofs.Taking.{known_kept, excused, opening_front}
+use Rattle.sftp_transcript.proofs.steps.pass_opening.Goals as goal
+
+pub returns-in_err-left-clause-only : goal.returns-in_err-left-clause-only
+returns-in_err-left-clause-only g c = λ before after known is.
+    let m = c.fill_opening.new.self in
+    let now : HasAhead m before =
+    known_kept (bytes_ahead c.args.input.now) (bytes_ahead m) before c.fill_opening.ensures.same.bytes known in
+    let front = opening_front m before after c.in_ok-fill_opening.ensures.whole now is in
+    let p = err_from_is_err_and c.from_residual-in_err-left.result c.from_residual-in_err-left.ensures.1 in
+    rw (p.1, p.2) (excused (c.in_err-left.ensures.only front.rest (rw c.held.ensures front.held)))

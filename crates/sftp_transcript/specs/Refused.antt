@@ -1,0 +1,61 @@
+-- Why a record is refused. This profile's own.
+use Rattle.std.specs.Prelude.{◌≡◌, ◌⊎◌, ℕ, ⊤, List, [], ◌∷◌, Option, Some, None, Result, Ok, Err}
+use Rattle.sftp_wire.specs.declared.errors.Fault.{Fault}
+use Rattle.sftp_wire.specs.declared.packets.Packet.{Packet}
+use Rattle.sftp_wire.specs.declared.packets.Side.{Side}
+use Rattle.sftp_wire.specs.Reading.{front_of}
+use Rattle.sftp_transcript.specs.declared.errors.TranscriptError.{TranscriptError}
+use Rattle.sftp_transcript.specs.declared.errors.TranscriptError.TheVariants.{Magic, Direction, Start, Wire, Truncated, Io, NoMemory}
+use Rattle.sftp_transcript.specs.declared.events.Event.{Event}
+use Rattle.sftp_transcript.specs.declared.stage.Stage.{Stage}
+use Rattle.sftp_transcript.specs.declared.stage.Stage.TheVariants as stages
+use Rattle.sftp_transcript.specs.Transcript.{packet_of}
+use Rattle.sftp_transcript.specs.Records.{side_of_direction, Begins, IsInit, IsVersion}
+
+-- why the bytes behind a direction begin with no packet of that side: they hold no whole one, or one with a fault
+abbrev pub PacketFault : ℕ → Side → List ℕ → TranscriptError → Type 0
+PacketFault number side bytes (Truncated place) = (place ≡ number) × (front_of side bytes ≡ Ok None)
+PacketFault number side bytes (Wire fault place) = (place ≡ number) × (front_of side bytes ≡ Err fault)
+PacketFault number side bytes NoMemory = ⊤
+PacketFault number side bytes other = ⊥
+
+-- why the bytes begin with no record
+abbrev pub RecordFault : ℕ → List ℕ → TranscriptError → Type 0
+RecordFault number [] error = error ≡ Start number
+RecordFault number (direction ∷ bytes) error = directed_fault number (side_of_direction direction) bytes error
+  where
+    directed_fault : ℕ → Option Side → List ℕ → TranscriptError → Type 0
+    directed_fault number None bytes error = error ≡ Direction number
+    directed_fault number (Some side) bytes error = PacketFault number side bytes error
+
+-- the bytes begin with the record of a packet that is none of these
+pub record BeginsOther (P : Packet → Type 0) (bytes : List ℕ) : Type 0 where
+  pub packet : Packet
+  pub rest : List ℕ
+  pub begins : Begins bytes packet rest
+  pub is_other : P packet → ⊥
+
+-- the packet of an event
+abbrev pub IsEventPacket : Packet → Type 0
+IsEventPacket packet = (event : Event) × (packet ≡ packet_of event)
+
+-- why the bytes do not begin with an INIT, the first record
+abbrev pub InitFault : List ℕ → TranscriptError → Type 0
+InitFault bytes error = RecordFault 1 bytes error ⊎ ((error ≡ Start 1) × BeginsOther IsInit bytes)
+
+-- why the bytes do not begin with a VERSION, the second record
+abbrev pub VersionFault : List ℕ → TranscriptError → Type 0
+VersionFault bytes error = RecordFault 2 bytes error ⊎ ((error ≡ Start 2) × BeginsOther IsVersion bytes)
+
+-- why the bytes do not begin with an event, the record of this number
+abbrev pub EventFault : ℕ → List ℕ → TranscriptError → Type 0
+EventFault number bytes error =
+    RecordFault number bytes error ⊎ ((error ≡ Start number) × BeginsOther IsEventPacket bytes)
+
+-- Why what comes next is refused where these bytes are held, or what the source's failure is called there. The number
+-- is that of the next event's record.
+abbrev pub FaultIn : Stage → ℕ → List ℕ → TranscriptError → Type 0
+FaultIn stages.Opening number held error = (error ≡ Io 0) ⊎ (error ≡ Magic 0)
+FaultIn stages.Init number held error = (error ≡ Io 1) ⊎ InitFault held error
+FaultIn stages.Version number held error = (error ≡ Io 2) ⊎ VersionFault held error
+FaultIn stages.Events number held error = (error ≡ Io number) ⊎ EventFault number held error

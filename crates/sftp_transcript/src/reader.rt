@@ -1,0 +1,256 @@
+//! A transcript file that is read record by record from a source. This profile's own; the packets in it are those of
+//! the draft, section 4 on.
+ghost use Rattle.std.specs.Prelude.{◌≡◌, ◌<◌, ◌≤◌, List, ℕ, ⊤, [], Some, None, Ok, Err, OnOk, OnErr, IfOk, IfErr, IfSome};
+ghost use Rattle.std.specs.Prelude.{MatchResult};
+ghost use Rattle.sftp_transcript.specs.declared.errors.TranscriptError.{TranscriptError};
+ghost use Rattle.sftp_transcript.specs.declared.events.Event.{Event};
+ghost use Rattle.sftp_transcript.specs.Ahead.{size_of};
+ghost use Rattle.sftp_transcript.specs.Steps.{CountsError, IsExcuse};
+ghost use Rattle.sftp_transcript.specs.Refused.{FaultIn};
+ghost use Rattle.sftp_transcript.specs.Recorded.{Reading, IsKnown, Records, RecordsSame, Gave, Gives, rank, reported, number_after};
+
+use crate::buffer::Buffer;
+use crate::errors::TranscriptError;
+use crate::events::Event;
+use crate::input::Input;
+use crate::stage::Stage;
+use crate::steps::{pass_event, pass_init, pass_opening, pass_version};
+use crate::streams::Source;
+use std::alloc::Global;
+use std::marker::Model;
+
+/// The number of the record behind an event, or where there is none.
+fn number_after(number: u64, given: &Option<Event>) -> u64
+    ensures { result ≡ number_after number given.now }
+{
+    match given {
+        Some(_) => number.saturating_add(1),
+        None => number,
+    }
+}
+
+/// The events of a transcript file, one after the other: `SFTPTR01`, an INIT of version 3 or more from the client, a
+/// VERSION 3 from the server, with any extensions, and then requests and replies. Before each packet is a byte `C` or
+/// `S` that names its side.
+///
+/// It holds at most 128 KiB of the file.
+#[derive(Debug, Drop)]
+pub struct Reader<R: Source> {
+    alloc: Global,
+    input: Input<R>,
+    stage: Stage,
+    number: u64,
+    fault: Option<TranscriptError>,
+}
+
+impl<R: Source> Model for Reader<R> {
+    ghost use Rattle.sftp_transcript.specs.Recorded.{Reading};
+
+    ghost Value = { Reading };
+
+    ghost view = { λ r. record { ahead = r.input; stage = r.stage; number = r.number; fault = r.fault } };
+}
+
+impl<R: Source> Reader<R> {
+    /// A reader that has read nothing yet. It takes the memory for the bytes that it holds.
+    ///
+    /// # Errors
+    ///
+    /// `NoMemory` if memory runs out.
+    pub fn new(alloc: Global, source: R) -> Result<Reader<R>, TranscriptError>
+    where
+        R: Drop,
+        ensures ok { IfOk result (λ reader. reader ≡ record {
+          ahead = record {
+            held = [];
+            left = R.left source;
+            failures = R.failures source;
+            reads_left = R.reads_left source;
+          };
+          stage = Stage.Opening;
+          number = 3;
+          fault = None;
+        }) }
+        ensures err { IfErr result (λ error. error ≡ TranscriptError.NoMemory) }
+    {
+        let buffer = Buffer::new(alloc)?;
+        Ok(Reader {
+            alloc,
+            input: Input::new(buffer, source),
+            stage: Stage::Opening,
+            number: 3,
+            fault: None,
+        })
+    }
+
+    /// Takes the opening if it is next.
+    fn take_opening(&mut self) -> Result<(), TranscriptError>
+        ensures same { RecordsSame self.old self.new }
+        ensures only { (events : List Event) → Records self.old events → MatchResult result (λ _. ⊤) IsExcuse }
+        ensures next { OnOk result (1 ≤ rank self.new.stage) }
+        ensures refused { IfErr result (FaultIn self.new.stage self.new.number self.new.ahead.held) }
+        ensures counts { CountsError R.may_fail result self.old.ahead.failures self.new.ahead.failures }
+    {
+        match self.stage {
+            Stage::Opening => {
+                pass_opening(&mut self.input)?;
+                self.stage = Stage::Init;
+                Ok(())
+            }
+            Stage::Init => Ok(()),
+            Stage::Version => Ok(()),
+            Stage::Events => Ok(()),
+        }
+    }
+
+    /// Takes the client's INIT if it is next.
+    fn take_init(&mut self) -> Result<(), TranscriptError>
+        requires { 1 ≤ rank self.old.stage }
+        ensures same { RecordsSame self.old self.new }
+        ensures only { (events : List Event) → Records self.old events → MatchResult result (λ _. ⊤) IsExcuse }
+        ensures next { OnOk result (2 ≤ rank self.new.stage) }
+        ensures refused { IfErr result (FaultIn self.new.stage self.new.number self.new.ahead.held) }
+        ensures counts { CountsError R.may_fail result self.old.ahead.failures self.new.ahead.failures }
+    {
+        match self.stage {
+            Stage::Opening => unreachable!(),
+            Stage::Init => {
+                pass_init(self.alloc, &mut self.input)?;
+                self.stage = Stage::Version;
+                Ok(())
+            }
+            Stage::Version => Ok(()),
+            Stage::Events => Ok(()),
+        }
+    }
+
+    /// Takes the server's VERSION if it is next.
+    fn take_version(&mut self) -> Result<(), TranscriptError>
+        requires { 2 ≤ rank self.old.stage }
+        ensures same { RecordsSame self.old self.new }
+        ensures only { (events : List Event) → Records self.old events → MatchResult result (λ _. ⊤) IsExcuse }
+        ensures next { OnOk result (self.new.stage ≡ Stage.Events) }
+        ensures refused { IfErr result (FaultIn self.new.stage self.new.number self.new.ahead.held) }
+        ensures counts { CountsError R.may_fail result self.old.ahead.failures self.new.ahead.failures }
+    {
+        match self.stage {
+            Stage::Opening => unreachable!(),
+            Stage::Init => unreachable!(),
+            Stage::Version => {
+                pass_version(self.alloc, &mut self.input)?;
+                self.stage = Stage::Events;
+                Ok(())
+            }
+            Stage::Events => Ok(()),
+        }
+    }
+
+    /// Takes what comes before the events.
+    fn take_start(&mut self) -> Result<(), TranscriptError>
+        ensures same { RecordsSame self.old self.new }
+        ensures only { (events : List Event) → Records self.old events → MatchResult result (λ _. ⊤) IsExcuse }
+        ensures next { OnOk result (self.new.stage ≡ Stage.Events) }
+        ensures refused { IfErr result (FaultIn self.new.stage self.new.number self.new.ahead.held) }
+        ensures counts { CountsError R.may_fail result self.old.ahead.failures self.new.ahead.failures }
+    {
+        self.take_opening()?;
+        self.take_init()?;
+        self.take_version()?;
+        Ok(())
+    }
+
+    /// Takes the event in front.
+    fn take_event(&mut self) -> Result<Option<Event>, TranscriptError>
+        requires { self.old.stage ≡ Stage.Events }
+        ensures found { IfOk result (λ given. IsKnown self.old → Gave self.old given self.new) }
+        ensures known { IsKnown self.old → IsKnown self.new }
+        ensures only { (events : List Event) → Records self.old events
+            → MatchResult result (λ given. Gives given events self.new) IsExcuse }
+        ensures same { OnErr result (RecordsSame self.old self.new) }
+        ensures fault { self.new.fault ≡ self.old.fault }
+        ensures number { IfOk result (λ given. self.new.number ≡ number_after self.old.number given) }
+        ensures falls { IfOk result (λ given. IfSome given (λ _. size_of self.new.ahead < size_of self.old.ahead)) }
+        ensures never_rises { size_of self.new.ahead ≤ size_of self.old.ahead }
+        ensures refused { IfErr result (FaultIn self.new.stage self.new.number self.new.ahead.held) }
+        ensures counts { CountsError R.may_fail result self.old.ahead.failures self.new.ahead.failures }
+    {
+        let given = pass_event(self.alloc, &mut self.input, self.number)?;
+        self.number = number_after(self.number, &given);
+        Ok(given)
+    }
+
+    /// Takes the next event.
+    fn take_next(&mut self) -> Result<Option<Event>, TranscriptError>
+        ensures found { IfOk result (λ given. IsKnown self.old → Gave self.old given self.new) }
+        ensures known { IsKnown self.old → IsKnown self.new }
+        ensures only { (events : List Event) → Records self.old events
+            → MatchResult result (λ given. Gives given events self.new) IsExcuse }
+        ensures same { OnErr result (RecordsSame self.old self.new) }
+        ensures fault { self.new.fault ≡ self.old.fault }
+        ensures number { IfOk result (λ given. self.new.number ≡ number_after self.old.number given) }
+        ensures falls { IfOk result (λ given. IfSome given (λ _. size_of self.new.ahead < size_of self.old.ahead)) }
+        ensures refused { IfErr result (FaultIn self.new.stage self.new.number self.new.ahead.held) }
+        ensures counts { CountsError R.may_fail result self.old.ahead.failures self.new.ahead.failures }
+    {
+        self.take_start()?;
+        self.take_event()
+    }
+
+    /// Reports an error: for good, unless memory ran out.
+    fn report(&mut self, error: TranscriptError)
+        ensures { self.new ≡ reported error self.old }
+    {
+        match error {
+            TranscriptError::NoMemory => {}
+            fault => self.fault = Some(fault),
+        }
+    }
+
+    /// The next event; `None` at the end.
+    ///
+    /// # Errors
+    ///
+    /// The first fault from left to right, with the number of its record; then each later call returns it again.
+    /// Records count from 1, the opening has the number 0, and a number is capped at 2^64 - 1.
+    ///
+    /// - `Magic` if the file does not begin with `SFTPTR01`.
+    /// - `Start` if the first record is no INIT of version 3 or more from the client, or the second is no VERSION 3
+    ///   from the server, or the file ends before one of them begins, or a later record is an INIT or a VERSION.
+    /// - `Direction` if the byte before a packet is neither `C` nor `S`.
+    /// - `Wire` if a packet cannot be read.
+    /// - `Truncated` if the file ends inside a record.
+    /// - `Io` if the source fails.
+    /// - `NoMemory` if memory runs out. This one is not for good: the same events are to come.
+    pub fn next(&mut self) -> Result<Option<Event>, TranscriptError>
+        // An error that was returned comes again.
+        ensures again { (error : TranscriptError) → self.old.fault ≡ Some error
+            → (result ≡ Err error) × (self.new ≡ self.old) }
+        // An event that it returns is the next one; `None` is the end.
+        ensures found { IfOk result (λ given. IsKnown self.old → Gave self.old given self.new) }
+        // Unless memory runs out or the source fails, it returns the next event that is recorded.
+        ensures only { (events : List Event) → self.old.fault ≡ None → Records self.old events
+            → MatchResult result (λ given. Gives given events self.new) IsExcuse }
+        ensures known { IsKnown self.old → IsKnown self.new }
+        // Where memory ran out, the same events are to come.
+        ensures no_memory { result ≡ Err TranscriptError.NoMemory → RecordsSame self.old self.new }
+        ensures fault { OnOk result (self.new.fault ≡ None) }
+        ensures number { IfOk result (λ given. self.new.number ≡ number_after self.old.number given) }
+        // An error is of the record in hand.
+        ensures refused { self.old.fault ≡ None
+            → IfErr result (FaultIn self.new.stage self.new.number self.new.ahead.held) }
+        ensures counts { self.old.fault ≡ None
+            → CountsError R.may_fail result self.old.ahead.failures self.new.ahead.failures }
+        ensures falls { IfOk result (λ given. IfSome given (λ _. size_of self.new.ahead < size_of self.old.ahead)) }
+    {
+        if let Some(fault) = self.fault {
+            return Err(fault);
+        }
+        match self.take_next() {
+            Ok(given) => Ok(given),
+            Err(error) => {
+                self.report(error);
+                Err(error)
+            }
+        }
+    }
+}

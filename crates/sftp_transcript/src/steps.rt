@@ -1,0 +1,96 @@
+//! What a reader of a transcript file takes from its input: the opening, the first two records, and each later one.
+ghost use Rattle.std.specs.Prelude.{◌≡◌, ◌≤◌, List, ℕ, [], OnOk, OnErr, IfOk, IfErr, MatchResult, Some, None, ◌<◌, IfSome};
+ghost use Rattle.sftp_transcript.specs.declared.events.Event.{Event};
+ghost use Rattle.sftp_transcript.specs.Ahead.{IsSameAhead, size_of};
+ghost use Rattle.sftp_transcript.specs.Records.{BeginsInit, BeginsVersion};
+ghost use Rattle.sftp_transcript.specs.Refused.{FaultIn};
+ghost use Rattle.sftp_transcript.specs.Steps.{HasAhead, IsExcuse, CountsError, IsOpened, Took, BeginsEvent, TookEvent};
+
+use crate::errors::TranscriptError;
+use crate::events::Event;
+use crate::input::Input;
+use crate::records::{take_event, take_init, take_opening, take_version};
+use crate::stage::Stage;
+use crate::streams::Source;
+use std::alloc::Global;
+
+/// Takes the opening.
+pub(crate) fn pass_opening<R: Source>(input: &mut Input<R>) -> Result<(), TranscriptError>
+    ensures found { OnOk result ((before : List ℕ) → HasAhead input.old before → Took IsOpened before input.new) }
+    ensures only { (before after : List ℕ) → HasAhead input.old before → IsOpened before after
+        → MatchResult result (λ _. HasAhead input.new after) IsExcuse }
+    ensures same { OnErr result (IsSameAhead input.old input.new) }
+    ensures never_rises { size_of input.new ≤ size_of input.old }
+    ensures refused { IfErr result (FaultIn Stage.Opening 0 input.new.held) }
+    ensures counts { CountsError R.may_fail result input.old.failures input.new.failures }
+{
+    input.fill_opening()?;
+    let left = take_opening(input.held())?.len();
+    input.take(input.held().len() - left);
+    Ok(())
+}
+
+/// Takes the client's INIT.
+pub(crate) fn pass_init<R: Source>(
+    alloc: Global,
+    input: &mut Input<R>,
+) -> Result<(), TranscriptError>
+    ensures found { OnOk result ((before : List ℕ) → HasAhead input.old before → Took BeginsInit before input.new) }
+    ensures only { (before after : List ℕ) → HasAhead input.old before → BeginsInit before after
+        → MatchResult result (λ _. HasAhead input.new after) IsExcuse }
+    ensures same { OnErr result (IsSameAhead input.old input.new) }
+    ensures never_rises { size_of input.new ≤ size_of input.old }
+    ensures refused { IfErr result (FaultIn Stage.Init 0 input.new.held) }
+    ensures counts { CountsError R.may_fail result input.old.failures input.new.failures }
+{
+    input.fill_record(1)?;
+    let left = take_init(alloc, input.held())?.len();
+    input.take(input.held().len() - left);
+    Ok(())
+}
+
+/// Takes the server's VERSION.
+pub(crate) fn pass_version<R: Source>(
+    alloc: Global,
+    input: &mut Input<R>,
+) -> Result<(), TranscriptError>
+    ensures found { OnOk result ((before : List ℕ) → HasAhead input.old before → Took BeginsVersion before input.new) }
+    ensures only { (before after : List ℕ) → HasAhead input.old before → BeginsVersion before after
+        → MatchResult result (λ _. HasAhead input.new after) IsExcuse }
+    ensures same { OnErr result (IsSameAhead input.old input.new) }
+    ensures never_rises { size_of input.new ≤ size_of input.old }
+    ensures refused { IfErr result (FaultIn Stage.Version 0 input.new.held) }
+    ensures counts { CountsError R.may_fail result input.old.failures input.new.failures }
+{
+    input.fill_record(2)?;
+    let left = take_version(alloc, input.held())?.len();
+    input.take(input.held().len() - left);
+    Ok(())
+}
+
+/// Takes the event in front; `None` at the end.
+pub(crate) fn pass_event<R: Source>(
+    alloc: Global,
+    input: &mut Input<R>,
+    number: u64,
+) -> Result<Option<Event>, TranscriptError>
+    ensures found { IfOk result (λ given. (before : List ℕ) → HasAhead input.old before
+        → TookEvent before given input.new) }
+    ensures only { (event : Event) (before after : List ℕ) → HasAhead input.old before → BeginsEvent event before after
+        → MatchResult result (λ given. (given ≡ Some event) × HasAhead input.new after) IsExcuse }
+    ensures ends { HasAhead input.old [] → MatchResult result (λ given. given ≡ None) IsExcuse }
+    ensures same { OnErr result (IsSameAhead input.old input.new) }
+    ensures never_rises { size_of input.new ≤ size_of input.old }
+    ensures falls { IfOk result (λ given. IfSome given (λ _. size_of input.new < size_of input.old)) }
+    ensures refused { IfErr result (FaultIn Stage.Events number input.new.held) }
+    ensures counts { CountsError R.may_fail result input.old.failures input.new.failures }
+{
+    input.fill_record(number)?;
+    if input.held().is_empty() {
+        return Ok(None);
+    }
+    let (event, rest) = take_event(alloc, input.held(), number)?;
+    let left = rest.len();
+    input.take(input.held().len() - left);
+    Ok(Some(event))
+}
