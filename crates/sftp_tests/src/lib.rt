@@ -12,6 +12,10 @@ mod audit;
 #[cfg(test)]
 mod handles;
 #[cfg(test)]
+mod long_files;
+#[cfg(test)]
+mod open_flags;
+#[cfg(test)]
 mod path;
 #[cfg(test)]
 mod tree;
