@@ -1,98 +1,52 @@
 //! What a session answers: the choices of this program's own sessions, as bytes.
+use first::FIRST;
+use full::FULL;
+use opened::OPENED;
+use refused::REFUSED;
 use sftp_handles::{Session, SlabTable};
 use sftp_path::NoMemory;
 use sftp_tree::Tree;
 use sftp_wire::{Packet, Reply, Request, Side, encode, front};
-use std::alloc::Global;
+use shown::SHOWN;
+use std::alloc::{AllocError, Global};
 use std::test::Fail;
 
-/// What is asked, the request's packet, and the packet of the reply.
-type Row<'a> = (&'a str, &'a [u8], &'a [u8]);
+mod first;
+mod flags;
+mod full;
+mod listings;
+mod opened;
+mod refused;
+mod shown;
 
-/// A session on the blank tree, each request with its own id. A handle is a slot and how many were opened before.
-const ANSWERS: &[Row] = &[
-    (
-        "a new file",
-        b"\0\0\0\x12\x03\0\0\0\x01\0\0\0\x01f\0\0\0\x0b\0\0\0\0",
-        b"\0\0\0\x15f\0\0\0\x01\0\0\0\x0c\0\0\0\0\0\0\0\0\0\0\0\0",
-    ),
-    (
-        "opened again",
-        b"\0\0\0\x12\x03\0\0\0\x02\0\0\0\x01f\0\0\0\x01\0\0\0\0",
-        b"\0\0\0\x15f\0\0\0\x02\0\0\0\x0c\0\0\0\0\0\0\0\x01\0\0\0\x01",
-    ),
-    (
-        "closed",
-        b"\0\0\0\x15\x04\0\0\0\x03\0\0\0\x0c\0\0\0\0\0\0\0\0\0\0\0\0",
-        b"\0\0\0\x11e\0\0\0\x03\0\0\0\0\0\0\0\0\0\0\0\0",
-    ),
-    (
-        "closed twice",
-        b"\0\0\0\x15\x04\0\0\0\x04\0\0\0\x0c\0\0\0\0\0\0\0\0\0\0\0\0",
-        b"\0\0\0\x11e\0\0\0\x04\0\0\0\x04\0\0\0\0\0\0\0\0",
-    ),
-    (
-        "a freed slot",
-        b"\0\0\0\x12\x03\0\0\0\x05\0\0\0\x01f\0\0\0\x01\0\0\0\0",
-        b"\0\0\0\x15f\0\0\0\x05\0\0\0\x0c\0\0\0\0\0\0\0\0\0\0\0\x02",
-    ),
-    (
-        "written without WRITE",
-        b"\0\0\0\x22\x06\0\0\0\x06\0\0\0\x0c\0\0\0\0\0\0\0\0\0\0\0\x02\0\0\0\0\0\0\0\0\0\0\0\x01x",
-        b"\0\0\0\x11e\0\0\0\x06\0\0\0\x03\0\0\0\0\0\0\0\0",
-    ),
-    (
-        "read at the end",
-        b"\0\0\0!\x05\0\0\0\x07\0\0\0\x0c\0\0\0\0\0\0\0\0\0\0\0\x02\0\0\0\0\0\0\0\0\0\0\0\x0a",
-        b"\0\0\0\x11e\0\0\0\x07\0\0\0\x01\0\0\0\0\0\0\0\0",
-    ),
-    (
-        "the root",
-        b"\0\0\0\x0a\x11\0\0\0\x08\0\0\0\x01/",
-        b"\0\0\0\x1di\0\0\0\x08\0\0\0\x07\0\0\0\0\0\0\0\0\0\0\0\0\0\0\0\0\0\0A\xed",
-    ),
-    (
-        "a place",
-        b"\0\0\0\x0c\x10\0\0\0\x09\0\0\0\x03./f",
-        b"\0\0\0\x19h\0\0\0\x09\0\0\0\x01\0\0\0\x02/f\0\0\0\x02/f\0\0\0\0",
-    ),
-    (
-        "a listing",
-        b"\0\0\0\x0a\x0b\0\0\0\x0a\0\0\0\x01/",
-        b"\0\0\0\x15f\0\0\0\x0a\0\0\0\x0c\0\0\0\0\0\0\0\x02\0\0\0\x03",
-    ),
-    (
-        "its names",
-        b"\0\0\0\x15\x0c\0\0\0\x0b\0\0\0\x0c\0\0\0\0\0\0\0\x02\0\0\0\x03",
-        b"\0\0\0+h\0\0\0\x0b\0\0\0\x01\0\0\0\x01f\0\0\0\x01f\0\0\0\x07\0\0\0\0\0\0\0\0\0\0\0\0\0\0\0\0\0\0\
-\x81\xa4",
-    ),
-    (
-        "its end",
-        b"\0\0\0\x15\x0c\0\0\0\x0c\0\0\0\x0c\0\0\0\0\0\0\0\x02\0\0\0\x03",
-        b"\0\0\0\x11e\0\0\0\x0c\0\0\0\x01\0\0\0\0\0\0\0\0",
-    ),
-    (
-        "bad flags",
-        b"\0\0\0\x12\x03\0\0\0\x0d\0\0\0\x01f\0\0\0\x10\0\0\0\0",
-        b"\0\0\0\x11e\0\0\0\x0d\0\0\0\x04\0\0\0\0\0\0\0\0",
-    ),
-    (
-        "nothing there",
-        b"\0\0\0\x0a\x11\0\0\0\x0e\0\0\0\x01x",
-        b"\0\0\0\x11e\0\0\0\x0e\0\0\0\x02\0\0\0\0\0\0\0\0",
-    ),
-    (
-        "not known",
-        b"\0\0\0\x0a\xc8\0\0\0\x0f\0\0\0\x01x",
-        b"\0\0\0\x11e\0\0\0\x0f\0\0\0\x08\0\0\0\0\0\0\0\0",
-    ),
-    (
-        "a directory",
-        b"\0\0\0\x0f\x0e\0\0\0\x10\0\0\0\x02/a\0\0\0\0",
-        b"\0\0\0\x11e\0\0\0\x10\0\0\0\0\0\0\0\0\0\0\0\0",
-    ),
-];
+/// The tree with nothing but a root.
+const BLANK: &[u8] = b"SFTREE01\0\0\0\x01/\0\0\0\0\0\0\0\0\0\0\0\0\0\0\0\0\0\0\0\0\0\0\x01\xed";
+
+/// The tree with the directories `/d` and `/d/e`, the file `/f` of `abc`, the link `/l` to `d/e`, and the link `/o` to
+/// itself.
+pub(crate) const MIXED: &[u8] = b"\
+SFTREE01\0\0\0\x01/\0\0\0\0\0\0\0\0\0\0\0\x05\0\0\0\0\0\0\0\0\0\0\x01\xed\0\0\0\x02/dD\0\0\0\
+\0\0\0\0\0\0\0\x01\xed\0\0\0\x04/d/eD\0\0\0\0\0\0\0\0\0\0\x01\xed\0\0\0\x02/fF\0\0\0\0\0\0\0\
+\0\0\0\x01\xa4\0\0\0\x03abc\0\0\0\x02/lL\0\0\0\x03d/e\0\0\0\x02/oL\0\0\0\x01o";
+
+/// STATUS 0, 1, 2, 3, 4 and 8, without texts.
+const DONE: &[u8] = b"e\0\0\0\0\0\0\0\0\0\0\0\0";
+
+const ENDED: &[u8] = b"e\0\0\0\x01\0\0\0\0\0\0\0\0";
+
+const ABSENT: &[u8] = b"e\0\0\0\x02\0\0\0\0\0\0\0\0";
+
+const DENIED: &[u8] = b"e\0\0\0\x03\0\0\0\0\0\0\0\0";
+
+const FAILED: &[u8] = b"e\0\0\0\x04\0\0\0\0\0\0\0\0";
+
+const UNKNOWN: &[u8] = b"e\0\0\0\x08\0\0\0\0\0\0\0\0";
+
+/// The handle of the first opening.
+const HANDLE_FIRST: &[u8] = b"f\0\0\0\x0c\0\0\0\0\0\0\0\0\0\0\0\0";
+
+/// What is asked, the request, and the reply: of both the byte of the type, and what follows the id.
+type Row<'a> = (&'a str, &'a [u8], &'a [u8]);
 
 /// Whether a reply has these bytes.
 fn has_bytes(alloc: Global, reply: Reply, bytes: &[u8]) -> bool {
@@ -116,20 +70,98 @@ fn answers(alloc: Global, session: &mut Session<SlabTable>, asked: &[u8], reply:
     }
 }
 
-/// The name of the first row that is not answered as it has to be.
-fn first_wrong<'a>(alloc: Global, rows: &[Row<'a>]) -> Result<Option<&'a str>, NoMemory> {
-    let mut session: Session<SlabTable> = Session::new(Tree::blank(alloc)?)?;
-    for (name, asked, reply) in rows {
-        if !answers(alloc, &mut session, asked, reply) {
-            return Ok(Some(*name));
+/// The packet of a type and of what follows its id.
+pub(crate) fn packet(alloc: Global, id: u32, part: &[u8]) -> Result<Vec<u8>, AllocError> {
+    let length = (part.len() % 65_536) as u32 + 4;
+    let mut packet = Vec::from_slice(alloc, &length.to_be_bytes())?;
+    packet.extend_from_slice(part.get(..1).unwrap_or(&[]))?;
+    packet.extend_from_slice(&id.to_be_bytes())?;
+    packet.extend_from_slice(part.get(1..).unwrap_or(&[]))?;
+    Ok(packet)
+}
+
+/// Who asks a session, with an id of its own for each request.
+#[derive(Drop)]
+struct Client {
+    session: Session<SlabTable>,
+    id: u32,
+}
+
+impl Client {
+    /// Asks a new session on the tree of a tree file.
+    fn on(alloc: Global, tree: &[u8]) -> Result<Client, NoMemory> {
+        match Tree::read(alloc, tree) {
+            Ok(tree) => Ok(Client {
+                session: Session::new(tree)?,
+                id: 0,
+            }),
+            Err(_) => Err(NoMemory),
         }
     }
-    Ok(None)
+
+    /// Whether a request is answered so.
+    fn is_given(&mut self, alloc: Global, asked: &[u8], reply: &[u8]) -> Result<bool, AllocError> {
+        self.id = self.id.wrapping_add(1);
+        let asked = packet(alloc, self.id, asked)?;
+        let reply = packet(alloc, self.id, reply)?;
+        Ok(answers(alloc, &mut self.session, asked.as_slice(), reply.as_slice()))
+    }
+
+    /// The name of the first row that is not answered as it has to be.
+    fn first_wrong<'a>(
+        &mut self,
+        alloc: Global,
+        rows: &[Row<'a>],
+    ) -> Result<Option<&'a str>, AllocError> {
+        for (name, asked, reply) in rows {
+            if !self.is_given(alloc, asked, reply)? {
+                return Ok(Some(*name));
+            }
+        }
+        Ok(None)
+    }
+
+    /// Whether so many OPENDIRs of the root are given the slots and the serials from 0 on.
+    fn fills(&mut self, alloc: Global, handles: u32) -> Result<bool, AllocError> {
+        for number in 0..handles {
+            if !self.is_given(alloc, OPENDIR_ROOT, &handle(number))? {
+                return Ok(false);
+            }
+        }
+        Ok(true)
+    }
+}
+
+/// OPENDIR of `/`.
+const OPENDIR_ROOT: &[u8] = b"\x0b\0\0\0\x01/";
+
+/// HANDLE of the slot of this number with the serial of this number.
+fn handle(number: u32) -> [u8; 17] {
+    let [a, b, c, d] = number.to_be_bytes();
+    [b'f', 0, 0, 0, 12, 0, 0, 0, 0, a, b, c, d, a, b, c, d]
 }
 
 #[test]
-fn choices_of_a_session(rt: HostRuntime) -> Result<(), Fail> {
-    let wrong = first_wrong(rt.alloc(), ANSWERS)?;
+fn choices_of_sessions(rt: HostRuntime) -> Result<(), Fail> {
+    for (tree, rows) in [
+        (BLANK, FIRST),
+        (MIXED, REFUSED),
+        (MIXED, OPENED),
+        (MIXED, SHOWN),
+    ] {
+        let mut client = Client::on(rt.alloc(), tree)?;
+        let wrong = client.first_wrong(rt.alloc(), rows)?;
+        assert!(rt; wrong.is_none(), "{wrong:?}");
+    }
+    Ok(())
+}
+
+/// With 256 handles open none is opened, and other causes come first.
+#[test]
+fn choices_with_all_handles_open(rt: HostRuntime) -> Result<(), Fail> {
+    let mut client = Client::on(rt.alloc(), MIXED)?;
+    assert!(rt; client.fills(rt.alloc(), 256)?);
+    let wrong = client.first_wrong(rt.alloc(), FULL)?;
     assert!(rt; wrong.is_none(), "{wrong:?}");
     Ok(())
 }

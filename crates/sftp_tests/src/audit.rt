@@ -3,7 +3,9 @@ use sftp_audit::{Accepted, AuditError, Refusal, TranscriptError, audit, blank_tr
 use std::alloc::{AllocError, Global};
 use std::test::Fail;
 
+mod contents;
 mod files;
+mod handle_codes;
 mod handles;
 mod links;
 mod records;

@@ -6,7 +6,7 @@ use std::alloc::{AllocError, Global};
 use std::test::Fail;
 
 /// The tree with the file `/f`, which has the bytes `abc`.
-const WITH_FILE: &[u8] = b"\
+pub(super) const WITH_FILE: &[u8] = b"\
 SFTREE01\0\0\0\x01/\0\0\0\0\0\0\0\0\0\0\0\x01\0\0\0\0\0\0\0\0\0\0\x01\xed\0\0\0\x02/fF\0\0\0\0\0\0\0\0\0\
 \0\x01\xa4\0\0\0\x03abc";
 
@@ -21,13 +21,13 @@ SFTREE01\0\0\0\x01/\0\0\0\0\0\0\0\0\0\0\0\x01\0\0\0\0\0\0\0\0\0\0\x01\xed\0\0\0\
 \0\x01\xa4\0\0\0\x02xy";
 
 /// The tree with the directory `/d`, which has the directories `a`, `b` and `c`.
-const WITH_THREE: &[u8] = b"\
+pub(super) const WITH_THREE: &[u8] = b"\
 SFTREE01\0\0\0\x01/\0\0\0\0\0\0\0\0\0\0\0\x04\0\0\0\0\0\0\0\0\0\0\x01\xed\0\0\0\x02/dD\0\0\0\0\0\0\0\0\0\
 \0\x01\xed\0\0\0\x04/d/aD\0\0\0\0\0\0\0\0\0\0\x01\xed\0\0\0\x04/d/bD\0\0\0\0\0\0\0\0\0\0\x01\xed\0\0\0\
 \x04/d/cD\0\0\0\0\0\0\0\0\0\0\x01\xed";
 
 /// The tree with the directory `/d`, which is empty.
-const WITH_NONE: &[u8] = b"\
+pub(super) const WITH_NONE: &[u8] = b"\
 SFTREE01\0\0\0\x01/\0\0\0\0\0\0\0\0\0\0\0\x01\0\0\0\0\0\0\0\0\0\0\x01\xed\0\0\0\x02/dD\0\0\0\0\0\0\0\0\0\
 \0\x01\xed";
 
@@ -45,11 +45,11 @@ SFTREE01\0\0\0\x01/\0\0\0\0\0\0\0\0\0\0\0\x02\0\0\0\0\0\0\0\0\0\0\x01\xed\0\0\0\
 const OPEN_NEW: &[u8] = b"C\0\0\0\x12\x03\0\0\0\x01\0\0\0\x01f\0\0\0\x0b\0\0\0\0";
 
 /// OPEN of `f` with READ; with WRITE; with both.
-const OPEN_READ: &[u8] = b"C\0\0\0\x12\x03\0\0\0\x01\0\0\0\x01f\0\0\0\x01\0\0\0\0";
+pub(super) const OPEN_READ: &[u8] = b"C\0\0\0\x12\x03\0\0\0\x01\0\0\0\x01f\0\0\0\x01\0\0\0\0";
 
-const OPEN_WRITE: &[u8] = b"C\0\0\0\x12\x03\0\0\0\x01\0\0\0\x01f\0\0\0\x02\0\0\0\0";
+pub(super) const OPEN_WRITE: &[u8] = b"C\0\0\0\x12\x03\0\0\0\x01\0\0\0\x01f\0\0\0\x02\0\0\0\0";
 
-const OPEN_BOTH: &[u8] = b"C\0\0\0\x12\x03\0\0\0\x01\0\0\0\x01f\0\0\0\x03\0\0\0\0";
+pub(super) const OPEN_BOTH: &[u8] = b"C\0\0\0\x12\x03\0\0\0\x01\0\0\0\x01f\0\0\0\x03\0\0\0\0";
 
 /// OPEN of `f` with WRITE, APPEND and CREAT.
 const OPEN_APPEND: &[u8] = b"C\0\0\0\x12\x03\0\0\0\x01\0\0\0\x01f\0\0\0\x0e\0\0\0\0";
@@ -61,23 +61,24 @@ const OPEN_EMPTIED: &[u8] = b"C\0\0\0\x12\x03\0\0\0\x01\0\0\0\x01f\0\0\0\x1a\0\0
 const OPEN_BELOW: &[u8] = b"C\0\0\0\x15\x03\0\0\0\x01\0\0\0\x04/d/f\0\0\0\x02\0\0\0\0";
 
 /// HANDLE `h`, `i`, and with no bytes.
-const HANDLE_H: &[u8] = b"S\0\0\0\x0af\0\0\0\x01\0\0\0\x01h";
+pub(super) const HANDLE_H: &[u8] = b"S\0\0\0\x0af\0\0\0\x01\0\0\0\x01h";
 
 const HANDLE_I: &[u8] = b"S\0\0\0\x0af\0\0\0\x01\0\0\0\x01i";
 
 const HANDLE_EMPTY: &[u8] = b"S\0\0\0\x09f\0\0\0\x01\0\0\0\0";
 
 /// CLOSE of `h`, of `i`, and of the handle with no bytes.
-const CLOSE_H: &[u8] = b"C\0\0\0\x0a\x04\0\0\0\x01\0\0\0\x01h";
+pub(super) const CLOSE_H: &[u8] = b"C\0\0\0\x0a\x04\0\0\0\x01\0\0\0\x01h";
 
 const CLOSE_I: &[u8] = b"C\0\0\0\x0a\x04\0\0\0\x01\0\0\0\x01i";
 
 const CLOSE_EMPTY: &[u8] = b"C\0\0\0\x09\x04\0\0\0\x01\0\0\0\0";
 
 /// READ by `h` of 10 bytes at 0, of 10 at 3, of none at 0, and of 2^32 - 1 at 1.
-const READ_10: &[u8] = b"C\0\0\0\x16\x05\0\0\0\x01\0\0\0\x01h\0\0\0\0\0\0\0\0\0\0\0\x0a";
+pub(super) const READ_10: &[u8] = b"C\0\0\0\x16\x05\0\0\0\x01\0\0\0\x01h\0\0\0\0\0\0\0\0\0\0\0\x0a";
 
-const READ_END: &[u8] = b"C\0\0\0\x16\x05\0\0\0\x01\0\0\0\x01h\0\0\0\0\0\0\0\x03\0\0\0\x0a";
+pub(super) const READ_END: &[u8] =
+    b"C\0\0\0\x16\x05\0\0\0\x01\0\0\0\x01h\0\0\0\0\0\0\0\x03\0\0\0\x0a";
 
 const READ_NONE: &[u8] = b"C\0\0\0\x16\x05\0\0\0\x01\0\0\0\x01h\0\0\0\0\0\0\0\0\0\0\0\0";
 
@@ -94,19 +95,20 @@ const DATA_NONE: &[u8] = b"S\0\0\0\x09g\0\0\0\x01\0\0\0\0";
 
 /// WRITE by `h` of `abc` at 0, of nothing at 5, of `xy` at 100, of two bytes at 2^64 - 1, of `x` at the last place
 /// of the longest file.
-const WRITE_ABC: &[u8] = b"C\0\0\0\x19\x06\0\0\0\x01\0\0\0\x01h\0\0\0\0\0\0\0\0\0\0\0\x03abc";
+pub(super) const WRITE_ABC: &[u8] =
+    b"C\0\0\0\x19\x06\0\0\0\x01\0\0\0\x01h\0\0\0\0\0\0\0\0\0\0\0\x03abc";
 
 const WRITE_NONE: &[u8] = b"C\0\0\0\x16\x06\0\0\0\x01\0\0\0\x01h\0\0\0\0\0\0\0\x05\0\0\0\0";
 
 const WRITE_XY: &[u8] = b"C\0\0\0\x18\x06\0\0\0\x01\0\0\0\x01h\0\0\0\0\0\0\0d\0\0\0\x02xy";
 
-const WRITE_PAST: &[u8] =
+pub(super) const WRITE_PAST: &[u8] =
     b"C\0\0\0\x18\x06\0\0\0\x01\0\0\0\x01h\xff\xff\xff\xff\xff\xff\xff\xff\0\0\0\x02xy";
 
 const WRITE_LAST: &[u8] = b"C\0\0\0\x17\x06\0\0\0\x01\0\0\0\x01h\0\0\0\0\0\xff\xff\xff\0\0\0\x01x";
 
 /// FSTAT of `h`, and ATTRS of files with 0, 2, 3 and 16,777,216 bytes.
-const FSTAT_H: &[u8] = b"C\0\0\0\x0a\x08\0\0\0\x01\0\0\0\x01h";
+pub(super) const FSTAT_H: &[u8] = b"C\0\0\0\x0a\x08\0\0\0\x01\0\0\0\x01h";
 
 const SHOWN_0: &[u8] =
     b"S\0\0\0\x1di\0\0\0\x01\0\0\0\x07\0\0\0\0\0\0\0\0\0\0\0\0\0\0\0\0\0\0\x81\xa4";
@@ -121,20 +123,22 @@ const SHOWN_16777216: &[u8] =
     b"S\0\0\0\x1di\0\0\0\x01\0\0\0\x07\0\0\0\0\x01\0\0\0\0\0\0\0\0\0\0\0\0\0\x81\xa4";
 
 /// FSETSTAT of `h` with the size 1, and with one more than the limit.
-const SET_1: &[u8] = b"C\0\0\0\x16\x0a\0\0\0\x01\0\0\0\x01h\0\0\0\x01\0\0\0\0\0\0\0\x01";
+pub(super) const SET_1: &[u8] = b"C\0\0\0\x16\x0a\0\0\0\x01\0\0\0\x01h\0\0\0\x01\0\0\0\0\0\0\0\x01";
 
-const SET_PAST: &[u8] = b"C\0\0\0\x16\x0a\0\0\0\x01\0\0\0\x01h\0\0\0\x01\0\0\0\0\x01\0\0\x01";
+pub(super) const SET_PAST: &[u8] =
+    b"C\0\0\0\x16\x0a\0\0\0\x01\0\0\0\x01h\0\0\0\x01\0\0\0\0\x01\0\0\x01";
 
 /// fsync of `h`.
-const FSYNC_H: &[u8] = b"C\0\0\0\x1f\xc8\0\0\0\x01\0\0\0\x11fsync@openssh.com\0\0\0\x01h";
+pub(super) const FSYNC_H: &[u8] =
+    b"C\0\0\0\x1f\xc8\0\0\0\x01\0\0\0\x11fsync@openssh.com\0\0\0\x01h";
 
 /// REMOVE of `f`.
 const REMOVE_F: &[u8] = b"C\0\0\0\x0a\x0d\0\0\0\x01\0\0\0\x01f";
 
 /// OPENDIR of `/d`, and READDIR by `h`.
-const OPENDIR_D: &[u8] = b"C\0\0\0\x0b\x0b\0\0\0\x01\0\0\0\x02/d";
+pub(super) const OPENDIR_D: &[u8] = b"C\0\0\0\x0b\x0b\0\0\0\x01\0\0\0\x02/d";
 
-const READDIR_H: &[u8] = b"C\0\0\0\x0a\x0c\0\0\0\x01\0\0\0\x01h";
+pub(super) const READDIR_H: &[u8] = b"C\0\0\0\x0a\x0c\0\0\0\x01\0\0\0\x01h";
 
 /// NAME of the directory `b`; of `c` and `a`; of `b` twice; of `x`; of no name; of the file `f` with 0 and with 3
 /// bytes.
@@ -173,8 +177,8 @@ const BAD: &[u8] = b"S\0\0\0\x11e\0\0\0\x01\0\0\0\x05\0\0\0\0\0\0\0\0";
 
 const UNKNOWN: &[u8] = b"S\0\0\0\x11e\0\0\0\x01\0\0\0\x08\0\0\0\0\0\0\0\0";
 
-/// OPEN of `f` with READ, then READs of one byte at 0, 1 and 2, with the ids 1 to 4, and their replies, the last
-/// first: in the order that the draft allows.
+/// OPEN of `f` with READ and its reply, then READs of one byte at 0, 1 and 2 and their replies, the last first, as the
+/// draft allows, and CLOSE and its reply. The ids are 1 to 5.
 const BACKWARDS: &[u8] = b"\
 C\0\0\0\x12\x03\0\0\0\x01\0\0\0\x01f\0\0\0\x01\0\0\0\0S\0\0\0\x0af\0\0\0\x01\0\0\0\x01hC\0\0\0\x16\x05\0\
 \0\0\x02\0\0\0\x01h\0\0\0\0\0\0\0\0\0\0\0\x01C\0\0\0\x16\x05\0\0\0\x03\0\0\0\x01h\0\0\0\0\0\0\0\x01\0\0\
@@ -440,6 +444,30 @@ pub(super) const HANDLE_SESSIONS: &[Session] = &[
         Verdict::Accepted(2, WITH_FILE),
     ),
     (
+        "listed through a file, with a name",
+        WITH_FILE,
+        &[OPEN_READ, HANDLE_H, READDIR_H, NAME_F_3],
+        Verdict::Refused(Refusal::NotAllowed { record: 6 }),
+    ),
+    (
+        "read when closed, with bytes",
+        WITH_FILE,
+        &[OPEN_READ, HANDLE_H, CLOSE_H, DONE, READ_10, DATA_ABC],
+        Verdict::Refused(Refusal::NotAllowed { record: 8 }),
+    ),
+    (
+        "shown when closed, with attributes",
+        WITH_FILE,
+        &[OPEN_READ, HANDLE_H, CLOSE_H, DONE, FSTAT_H, SHOWN_3],
+        Verdict::Refused(Refusal::NotAllowed { record: 8 }),
+    ),
+    (
+        "listed when closed, with a name",
+        WITH_THREE,
+        &[OPENDIR_D, HANDLE_H, CLOSE_H, DONE, READDIR_H, NAME_B],
+        Verdict::Refused(Refusal::NotAllowed { record: 8 }),
+    ),
+    (
         "read through a listing",
         WITH_THREE,
         &[OPENDIR_D, HANDLE_H, READ_10, FAILED],
@@ -469,6 +497,24 @@ pub(super) const HANDLE_SESSIONS: &[Session] = &[
         WITH_FILE,
         &[OPEN_READ, HANDLE_H, OPEN_WRITE, HANDLE_H],
         Verdict::Refused(Refusal::NotAllowed { record: 6 }),
+    ),
+    (
+        "open already, of a listing",
+        WITH_THREE,
+        &[OPENDIR_D, HANDLE_H, OPENDIR_D, HANDLE_H],
+        Verdict::Refused(Refusal::NotAllowed { record: 6 }),
+    ),
+    (
+        "open already, of a file",
+        WITH_FILE_BELOW,
+        &[OPEN_BELOW, HANDLE_H, OPENDIR_D, HANDLE_H],
+        Verdict::Refused(Refusal::NotAllowed { record: 6 }),
+    ),
+    (
+        "open already, and another handle",
+        WITH_FILE_BELOW,
+        &[OPEN_BELOW, HANDLE_H, OPENDIR_D, HANDLE_I, CLOSE_H, DONE],
+        Verdict::Accepted(3, WITH_FILE_BELOW),
     ),
     (
         "another handle",

@@ -7,7 +7,8 @@ use super::files::{
 use super::links::{
     LINK_BELOW_NOTHING, LINK_L_TO_EMPTY, LINK_TO_ITSELF, REAL_PATH_L, STAT_A, STAT_L,
 };
-use super::{BLANK, MAKE_A, NOT_ALLOWED, OPENING, Verdict, WITH_A, is_judged, status};
+use super::{BLANK, MAKE_A, Verdict, WITH_A, is_judged, recorded, status};
+use sftp_audit::Refusal;
 use std::alloc::{AllocError, Global};
 use std::test::Fail;
 
@@ -102,34 +103,40 @@ const ROWS: &[Row] = &[
     ),
 ];
 
-/// Whether a status of this code is a reply that is allowed, which leaves the tree, or else is not.
+/// Whether a status of this code is a reply that is allowed, which leaves the tree, or else is not. It comes after
+/// these records, which are requests, each with its reply, and leave the tree too.
 fn is_allowed(
     alloc: Global,
     tree: &[u8],
+    before: &[&[u8]],
     request: &[u8],
     code: u8,
     allowed: bool,
 ) -> Result<bool, AllocError> {
-    let mut transcript = Vec::from_slice(alloc, OPENING)?;
+    let mut transcript = recorded(alloc, before)?;
     transcript.extend_from_slice(request)?;
     transcript.extend_from_slice(&status(code))?;
+    let records = before.len() as u64;
     let verdict = if allowed {
-        Verdict::Accepted(1, tree)
+        Verdict::Accepted((records / 2).saturating_add(1), tree)
     } else {
-        NOT_ALLOWED
+        Verdict::Refused(Refusal::NotAllowed {
+            record: records.saturating_add(4),
+        })
     };
     Ok(is_judged(alloc, tree, transcript.as_slice(), &verdict))
 }
 
-/// Whether just these codes of 0 to 9 are allowed.
-fn allows_just(
+/// Whether just these codes of 0 to 9 are allowed, after these records.
+pub(super) fn allows_just(
     alloc: Global,
     tree: &[u8],
+    before: &[&[u8]],
     request: &[u8],
     codes: &[u8],
 ) -> Result<bool, AllocError> {
     for code in 0..10_u8 {
-        if !is_allowed(alloc, tree, request, code, codes.contains(&code))? {
+        if !is_allowed(alloc, tree, before, request, code, codes.contains(&code))? {
             return Ok(false);
         }
     }
@@ -164,13 +171,13 @@ pub(super) fn chain(alloc: Global, end: u8) -> Result<Vec<u8>, AllocError> {
 /// Whether the last of 41 links is too many.
 fn ends_at_forty(alloc: Global) -> Result<bool, AllocError> {
     let tree = chain(alloc, b'j')?;
-    allows_just(alloc, tree.as_slice(), STAT_A, &[2, 4])
+    allows_just(alloc, tree.as_slice(), &[], STAT_A, &[2, 4])
 }
 
 #[test]
 fn codes(rt: HostRuntime) -> Result<(), Fail> {
     for (name, tree, request, codes) in ROWS {
-        let holds = allows_just(rt.alloc(), tree, request, codes)?;
+        let holds = allows_just(rt.alloc(), tree, &[], request, codes)?;
         assert!(rt; holds, "{name}");
     }
     assert!(rt; ends_at_forty(rt.alloc())?);

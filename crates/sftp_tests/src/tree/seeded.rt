@@ -1,6 +1,7 @@
 //! Seeded lists of a thousand requests, each done by the tree and by the reference.
 use super::reference::{Content, EXCL, OWNER, Reference};
 use super::{Call, Given, perform, shows, writes};
+use crate::generator::Generator;
 use sftp_tree::{Refused, Tree};
 use std::alloc::{AllocError, Global};
 use std::test::Fail;
@@ -17,20 +18,7 @@ const TRUNC: u32 = 0x10;
 /// How many requests a list has.
 const REQUESTS: u32 = 1000;
 
-/// A linear congruential generator; the high half of its state counts.
-#[derive(Clone, Copy)]
-struct Generator {
-    state: u32,
-}
-
 impl Generator {
-    /// A number below this one, or 0 if there is none.
-    fn below(&mut self, bound: u32) -> u32 {
-        let state = self.state.wrapping_mul(1_664_525);
-        self.state = state.wrapping_add(1_013_904_223);
-        (self.state >> 16) % bound.max(1)
-    }
-
     /// One of four names.
     fn name(&mut self) -> u8 {
         match self.below(4) {
@@ -187,7 +175,7 @@ fn first_wrong(
     top: &[u8],
     seed: u32,
 ) -> Result<Option<u32>, AllocError> {
-    let mut generator = Generator { state: seed };
+    let mut generator = Generator::new(seed);
     for number in 0..REQUESTS {
         let old = generator.path(alloc, top)?;
         let new = generator.path(alloc, top)?;
