@@ -17,7 +17,7 @@ enum Given {
     Refused(TranscriptError),
 }
 
-fn given<R: Source>(reader: &mut Reader<R>) -> Given {
+fn next_of<R: Source>(reader: &mut Reader<R>) -> Given {
     match reader.next() {
         Ok(Some(Event::Asked(_))) => Given::Asked,
         Ok(Some(Event::Replied(_))) => Given::Replied,
@@ -29,10 +29,10 @@ fn given<R: Source>(reader: &mut Reader<R>) -> Given {
 /// What four calls give.
 fn four<R: Source + Drop>(alloc: Global, source: R) -> Result<[Given; 4], TranscriptError> {
     let mut reader = Reader::new(alloc, source)?;
-    let first = given(&mut reader);
-    let second = given(&mut reader);
-    let third = given(&mut reader);
-    Ok([first, second, third, given(&mut reader)])
+    let first = next_of(&mut reader);
+    let second = next_of(&mut reader);
+    let third = next_of(&mut reader);
+    Ok([first, second, third, next_of(&mut reader)])
 }
 
 /// The number of the record that the byte at this place is in, if the place is no end of a record.
