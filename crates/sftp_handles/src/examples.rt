@@ -160,9 +160,9 @@ pub fn longest_handles()
     ensures too_long_listing { steps (closed with_none) (opened_directory (codes "/d") (letters 257) ∷ []) ≡ None }
 {}
 
-/// FSETSTAT sets what is given, and nothing else: a size, which cuts the bytes or fills them with zeros, for a file that
-/// was opened to be written; an owner and permissions for any open file. Without leave to write a size has the code 3
-/// or 4.
+/// FSETSTAT sets what is given, and nothing else: a size, which cuts the bytes or fills them with zeros, for a file
+/// that was opened to be written; an owner and permissions for any open file. Without leave to write a size has the
+/// code 3 or 4.
 pub fn set_through_handles()
     ensures cut { steps (closed (with_text (codes "abc"))) (opened (codes "/f") 0x2 (codes "h")
         ∷ done (Fsetstat (codes "h") (sized 1)) ∷ done (Close (codes "h")) ∷ [])

@@ -7,7 +7,8 @@ use Rattle.sftp_wire.specs.declared.errors.Fault.{Fault}
 use Rattle.sftp_wire.specs.declared.errors.WireError.{WireError}
 use Rattle.sftp_wire.specs.declared.errors.WireError.TheVariants.{Unreadable}
 use Rattle.sftp_wire.specs.declared.packets.Packet.{Packet}
-use Rattle.sftp_wire.specs.declared.packets.Packet.TheVariants.{Init, Version, Request as request_packet, Reply as reply_packet}
+use Rattle.sftp_wire.specs.declared.packets.Packet.TheVariants.{Init, Version, Request as request_packet}
+use Rattle.sftp_wire.specs.declared.packets.Packet.TheVariants.{Reply as reply_packet}
 use Rattle.sftp_wire.specs.declared.packets.Request.{Request}
 use Rattle.sftp_wire.specs.declared.packets.Side.{Side}
 use Rattle.sftp_wire.specs.declared.packets.Side.TheVariants.{Client, Server}
@@ -66,8 +67,8 @@ opened_record (first ∷ others) packet = record_text packet
 abbrev pub IsGreeting : Packet → Type 0
 IsGreeting packet = IsInit packet × HasSpelling packet
 
--- The session that was opened: what was read is the client's packets and then the rest; what was written is the server's
--- packets; and the log is the record of both in the order of the session. Each event can be encoded.
+-- The session that was opened: what was read is the client's packets and then the rest; what was written is the
+-- server's packets; and the log is the record of both in the order of the session. Each event can be encoded.
 pub record IsOpened (input output log : List ℕ) (init : Packet) (events : List Event) (rest : List ℕ) : Type 0 where
   pub greeting : IsGreeting init
   pub spelled : AllByRecursion IsEvent events

@@ -1,13 +1,16 @@
 //! The core of a server: takes requests, does them, and gives their replies
 //! (draft-ietf-secsh-filexfer-02, section 6.1).
-ghost use Rattle.std.specs.Prelude.{◌≡◌, ◌≢◌, ◌≤◌, [], true, false, length, IsTrue, IfOk, IfErr, OnOk, OnErr, IfSome, IfNone};
+ghost use Rattle.std.specs.Prelude.{◌≡◌, ◌≢◌, ◌≤◌, [], true, false, length, IsTrue, IfOk, IfErr, OnOk, OnErr, IfSome};
+ghost use Rattle.std.specs.Prelude.{IfNone};
 ghost use Rattle.std.specs.Prelude.{◌↔◌, nat_lt, Some, if◌then◌else◌};
 ghost use Rattle.sftp_handles.specs.State as states;
 ghost use Rattle.sftp_handles.specs.Allowed.{Allowed};
 ghost use Rattle.sftp_server.specs.declared.refusals.Did.TheVariants as did;
-ghost use Rattle.sftp_server.specs.declared.refusals.Refuse.TheVariants.{Full as full, IdInUse as in_use, NoMemory as no_memory};
+ghost use Rattle.sftp_server.specs.declared.refusals.Refuse.TheVariants.{Full as full, IdInUse as in_use};
+ghost use Rattle.sftp_server.specs.declared.refusals.Refuse.TheVariants.{NoMemory as no_memory};
 ghost use Rattle.sftp_server.specs.Machine.{is_unsent};
-ghost use Rattle.sftp_server.specs.Machine.{at_start, taken, can_take, is_ready, is_pending_at, reply_at, IsWorked, IsSent};
+ghost use Rattle.sftp_server.specs.Machine.{at_start, taken, can_take, is_ready, is_pending_at, reply_at, IsWorked};
+ghost use Rattle.sftp_server.specs.Machine.{IsSent};
 ghost use Rattle.sftp_server.specs.Core.{server_clash, started, IsRefusedFor};
 ghost use Rattle.sftp_server.specs.Served.{closed_tree};
 
@@ -18,8 +21,8 @@ use sftp_tree::{NoMemory, Tree};
 use sftp_wire::{Reply, Request};
 use std::marker::Model;
 
-/// A session, and the queue of the requests that are not all answered yet. Requests are done in the order asked; replies
-/// are sent in any order. A request that was answered stays in the queue while an earlier one is unanswered.
+/// A session, and the queue of the requests that are not all answered yet. Requests are done in the order asked;
+/// replies are sent in any order. A request that was answered stays in the queue while an earlier one is unanswered.
 #[derive(Drop)]
 pub struct Core {
     session: Session<SlabTable>,

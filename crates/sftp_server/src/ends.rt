@@ -9,8 +9,8 @@ pub enum Ended {
     /// The input ended after a whole packet, and each request was answered. The tree is that of the session's end, with
     /// nothing open.
     Finished(Tree),
-    /// The client broke the protocol. Each request before the fault was answered; the tree is that of the session's end,
-    /// with nothing open. If no session was opened, it is the tree as it came.
+    /// The client broke the protocol. Each request before the fault was answered; the tree is that of the session's
+    /// end, with nothing open. If no session was opened, it is the tree as it came.
     Fault(Tree, SessionFault),
     /// This stream failed.
     Io(Stream),

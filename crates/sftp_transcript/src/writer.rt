@@ -6,7 +6,8 @@ ghost use Rattle.sftp_wire.specs.declared.packets.Packet.{Packet};
 ghost use Rattle.sftp_wire.specs.Spelling.{spelling, HasSpelling, side_of};
 ghost use Rattle.sftp_transcript.specs.Streams.{Counts, AppendsPart};
 ghost use Rattle.sftp_transcript.specs.Transcript.{direction_of, record_text};
-ghost use Rattle.sftp_transcript.specs.Log.{Log, opening_before, opened_text, next_number, IsAppended, IsUnwritten, IsUnrecorded};
+ghost use Rattle.sftp_transcript.specs.Log.{Log, opening_before, opened_text, next_number, IsAppended, IsUnwritten};
+ghost use Rattle.sftp_transcript.specs.Log.{IsUnrecorded};
 ghost use Rattle.sftp_transcript.specs.Log.{FailsToRecord, FailsToFlush, FailedBefore, counted, broken_at};
 ghost use Rattle.sftp_transcript.specs.Log.{IsBadPacket};
 
@@ -190,8 +191,8 @@ impl<L: Sink> Records<L> {
     }
 }
 
-/// A transcript file that is written to a sink: `SFTPTR01`, and then for each packet a byte `C` or `S`, by its side, and
-/// the packet. Nothing is written before the first record.
+/// A transcript file that is written to a sink: `SFTPTR01`, and then for each packet a byte `C` or `S`, by its side,
+/// and the packet. Nothing is written before the first record.
 ///
 /// Records count from 1, and a number is capped at 2^64 - 1.
 #[derive(Debug, Drop)]
