@@ -17,6 +17,7 @@ mod streams;
 mod tally;
 mod writer;
 
+pub use buffer::Buffer;
 pub use errors::TranscriptError;
 pub use events::Event;
 pub use memory::Memory;
@@ -24,4 +25,4 @@ pub use reader::Reader;
 pub use records::{read_events, records_are_one};
 pub use streams::{Failed, Sink, Source};
 pub use tally::Tally;
-pub use writer::Writer;
+pub use writer::{Writer, put_all};

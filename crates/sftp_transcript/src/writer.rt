@@ -22,7 +22,11 @@ use std::marker::Model;
 const OPENING: [u8; 8] = *b"SFTPTR01";
 
 /// Writes all of the bytes.
-fn put_all<L: Sink>(sink: &mut L, bytes: &[u8]) -> Result<(), Failed>
+///
+/// # Errors
+///
+/// `Failed` if a write fails. A beginning of the bytes is written then.
+pub fn put_all<L: Sink>(sink: &mut L, bytes: &[u8]) -> Result<(), Failed>
     ensures ok { OnOk result (Appends (L.written sink.old) (L.written sink.new) bytes.now) }
     ensures err { OnErr result (AppendsPart (L.written sink.old) (L.written sink.new) bytes.now) }
     ensures counts { Counts result (L.failures sink.old) (L.failures sink.new) }
