@@ -1,4 +1,9 @@
 pub mod Machine
 pub mod Queue
+pub mod Choices
 pub mod Core
 pub mod Served
+pub mod Sessions
+pub mod Fronts
+pub mod Ending
+pub mod Opening

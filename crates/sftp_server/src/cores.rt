@@ -21,6 +21,15 @@ use sftp_tree::{NoMemory, Tree};
 use sftp_wire::{Reply, Request};
 use std::marker::Model;
 
+/// What a core may do next, by the position in its queue.
+#[derive(Clone, Copy, Debug, PartialEq, Eq)]
+pub(crate) enum Choice {
+    /// Do the request.
+    Work(usize),
+    /// Send the reply.
+    Send(usize),
+}
+
 /// A session, and the queue of the requests that are not all answered yet. Requests are done in the order asked;
 /// replies are sent in any order. A request that was answered stays in the queue while an earlier one is unanswered.
 #[derive(Drop)]
@@ -84,7 +93,7 @@ impl Core {
     }
 
     /// Why no request of this id can be taken, memory aside.
-    fn refusal(&self, id: u32) -> Option<Refuse>
+    pub(crate) fn refusal(&self, id: u32) -> Option<Refuse>
         ensures full { (result ≡ Some full) ↔ (self.now.window ≤ length self.now.queue) }
         ensures in_use { (result ≡ Some in_use)
             ↔ (IsTrue (nat_lt (length self.now.queue) self.now.window) × IsTrue (is_unsent id self.now.queue)) }
@@ -156,6 +165,31 @@ impl Core {
         ensures unchanged { IfNone result (self.new ≡ self.old) }
     {
         self.queue.send(k)
+    }
+
+    /// How many acts are possible: requests that are ready, and replies to be sent.
+    pub(crate) fn choices(&self) -> usize
+        ensures { result ≡ length (choices_of server_clash self.now) }
+    {
+        let ready = match self.queue.first_pending() {
+            Some(_) => 1,
+            None => 0,
+        };
+        self.queue.done() + ready
+    }
+
+    /// The act of this number, from 0, among those possible, in the order of the queue.
+    pub(crate) fn choice(&self, number: usize) -> Choice
+        requires { number < length (choices_of server_clash self.now) }
+        ensures { slice_get (choices_of server_clash self.now) number ≡ Some result }
+    {
+        match self.queue.done_at(number) {
+            Some(k) => Choice::Send(k),
+            None => match self.queue.first_pending() {
+                Some(k) => Choice::Work(k),
+                None => unreachable!(),
+            },
+        }
     }
 
     /// The tree of the session with nothing open, once each request was answered. It takes no memory.

@@ -1,6 +1,9 @@
 //! How a session of the server ends.
 
-use sftp_tree::Tree;
+ghost use Rattle.std.specs.Prelude.{◌≡◌};
+ghost use Rattle.sftp_server.specs.Sessions.{ended_by};
+
+use sftp_tree::{NoMemory, Tree};
 use sftp_wire::WireError;
 
 /// How a session ended.
@@ -41,4 +44,35 @@ pub enum Stream {
     Writer,
     /// Where the transcript is written.
     Log,
+}
+
+/// Why a session stops before its end.
+#[derive(Clone, Copy, Debug, PartialEq, Eq)]
+pub(crate) enum Stop {
+    /// This stream failed.
+    Io(Stream),
+    /// Memory ran out.
+    NoMemory,
+}
+
+impl Stop {
+    /// How a session ended that was stopped so.
+    pub(crate) fn ended(self) -> Ended
+        ensures { result ≡ ended_by self }
+    {
+        match self {
+            Stop::Io(stream) => Ended::Io(stream),
+            Stop::NoMemory => Ended::NoMemory,
+        }
+    }
+}
+
+impl From<NoMemory> for Stop {
+    ghost use Rattle.sftp_server.specs.declared.ends.Stop.TheVariants.{NoMemory as no_memory};
+
+    ghost from_gives = { λ _ stop. stop ≡ no_memory };
+
+    fn from(_error: NoMemory) -> Stop {
+        Stop::NoMemory
+    }
 }

@@ -5,13 +5,21 @@
 mod acts;
 mod cores;
 mod ends;
+mod input;
 pub mod laws;
+mod opening;
 mod queue;
 mod refusals;
 mod schedules;
+mod sending;
+mod serving;
+mod taking;
+mod version;
+mod working;
 
 pub use acts::Act;
 pub use cores::Core;
 pub use ends::{Ended, SessionFault, Stream};
 pub use refusals::{Did, Refuse};
 pub use schedules::{InOrder, Schedule, Shuffle};
+pub use serving::serve;

@@ -160,6 +160,13 @@ impl Queue {
         self.done
     }
 
+    /// The position of the request of this number, from 0, among those done and not sent.
+    pub(crate) fn done_at(&self, number: usize) -> Option<usize>
+        ensures { result ≡ done_position self.now number }
+    {
+        done_position(&self.entries, number)
+    }
+
     /// The reply of the request at this position, which is then sent, if it is done and not sent. Requests at the front
     /// that were sent leave the queue.
     pub(crate) fn send(&mut self, k: usize) -> Option<Reply>

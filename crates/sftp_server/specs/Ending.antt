@@ -1,0 +1,53 @@
+-- How an open session goes on after a batch of requests, and how it ends.
+use Rattle.std.specs.Prelude.{◌≡◌, ℕ, List, [], Option, Some, None, Result, MatchResult}
+use Rattle.sftp_tree.specs.Tree.{Tree}
+use Rattle.sftp_handles.specs.State.{State}
+use Rattle.sftp_server.specs.declared.ends.Ended.{Ended}
+use Rattle.sftp_server.specs.declared.ends.Ended.TheVariants as ends
+use Rattle.sftp_server.specs.declared.ends.SessionFault.{SessionFault}
+use Rattle.sftp_server.specs.declared.ends.Stop.{Stop}
+use Rattle.sftp_server.specs.declared.serving.Next.{Next}
+use Rattle.sftp_server.specs.declared.serving.Next.TheVariants.{Batch, End}
+use Rattle.sftp_server.specs.declared.taking.Front.{Front}
+use Rattle.sftp_server.specs.Machine.{Machine}
+use Rattle.sftp_server.specs.Served.{closed_tree}
+use Rattle.sftp_server.specs.Sessions.{StreamBytes, Ahead, IsRunning, IsEnding, Serves, ended_by}
+use Rattle.sftp_server.specs.Fronts.{fault_of}
+
+-- how a session ended, by its last state and its fault, if it has one
+abbrev pub closed_end : State → Option SessionFault → Ended
+closed_end last None = ends.Finished (closed_tree last)
+closed_end last (Some fault) = ends.Fault (closed_tree last) fault
+
+-- the session ended by itself
+abbrev pub IsClosed : Ended → Type 0
+IsClosed (ends.Finished tree) = Unit {0}
+IsClosed (ends.Fault tree fault) = Unit {0}
+IsClosed (ends.Io stream) = ⊥
+IsClosed ends.NoMemory = ⊥
+
+-- the session goes on, or it comes to its end
+abbrev pub IsNext : Tree → StreamBytes → StreamBytes → Ahead → Machine State → Next → Type 0
+IsNext start past now ahead core Batch = IsRunning start past now ahead core None
+IsNext start past now ahead core (End fault) = IsEnding start past now core fault
+
+-- From a session with no request unanswered and no fault in front, a call leads on, or to the end, or stops it.
+abbrev pub ReadsOn : StreamBytes → StreamBytes → Ahead → Ahead → Result Next Stop → Type 0
+ReadsOn then now ahead0 ahead1 result =
+    (start : Tree) (past : StreamBytes) (core : Machine State) → IsRunning start past then ahead0 core None
+    → core.queue ≡ []
+    → MatchResult result (λ next. IsNext start past now ahead1 core next) (λ stop. Serves start past now (ended_by stop))
+
+-- the same, with what was found in front
+abbrev pub EndsOn : StreamBytes → StreamBytes → Ahead → Ahead → Front → Result Next Stop → Type 0
+EndsOn then now ahead0 ahead1 front result =
+    (start : Tree) (past : StreamBytes) (core : Machine State)
+    → IsRunning start past then ahead0 core (fault_of front) → core.queue ≡ []
+    → MatchResult result (λ next. IsNext start past now ahead1 core next) (λ stop. Serves start past now (ended_by stop))
+
+-- From an open session, a call leads to the end, or stops it.
+abbrev pub RunsOut : StreamBytes → StreamBytes → Ahead → Machine State → Machine State
+    → Result (Option SessionFault) Stop → Type 0
+RunsOut then now ahead core0 core1 result =
+    (start : Tree) (past : StreamBytes) → IsRunning start past then ahead core0 None
+    → MatchResult result (λ fault. IsEnding start past now core1 fault) (λ stop. Serves start past now (ended_by stop))

@@ -1,0 +1,201 @@
+-- A session of the server while it runs: what it read, wrote and logged since it began, and which requests it has
+-- (draft-ietf-secsh-filexfer-02, sections 3 to 7).
+use Rattle.std.specs.Prelude.{◌≡◌, ◌≢◌, ◌⊎◌, ◌<◌, ℕ, Bool, true, false, List, [], ◌++◌, length, if◌then◌else◌}
+use Rattle.std.specs.Prelude.{Option, Some, None, Result, Ok, Err, MatchResult, IfErr, IsTrue, take, drop}
+use Rattle.std.specs.List.{AllByRecursion}
+use Rattle.std.specs.Io.KnownBytes.{Appends, Consumes, IsAtEnd, Keeps}
+use Rattle.sftp_wire.specs.declared.errors.WireError.TheVariants.{Unreadable}
+use Rattle.sftp_wire.specs.declared.packets.Packet.{Packet}
+use Rattle.sftp_wire.specs.declared.packets.Side.TheVariants.{Client, Server}
+use Rattle.sftp_wire.specs.Spelling.{spelling}
+use Rattle.sftp_wire.specs.Reading.{front_of}
+use Rattle.sftp_wire.specs.Framing.{place_after}
+use Rattle.sftp_transcript.specs.declared.events.Event.{Event}
+use Rattle.sftp_transcript.specs.Streams.{one_more, AppendsPart}
+use Rattle.sftp_transcript.specs.Log.{Log, opened_text}
+use Rattle.sftp_transcript.specs.Transcript.{record_text, IsEvent}
+use Rattle.sftp_tree.specs.Tree.{Tree}
+use Rattle.sftp_handles.specs.State.{State, Good}
+use Rattle.sftp_server.specs.declared.ends.Ended.{Ended}
+use Rattle.sftp_server.specs.declared.ends.Ended.TheVariants as ends
+use Rattle.sftp_server.specs.declared.ends.SessionFault.{SessionFault}
+use Rattle.sftp_server.specs.declared.ends.SessionFault.TheVariants as faults
+use Rattle.sftp_server.specs.declared.ends.Stream.{Stream}
+use Rattle.sftp_server.specs.declared.ends.Stream.TheVariants as streams
+use Rattle.sftp_server.specs.declared.ends.Stop.{Stop}
+use Rattle.sftp_server.specs.declared.ends.Stop.TheVariants as stops
+use Rattle.sftp_server.specs.declared.queue.Entry.{Entry}
+use Rattle.sftp_server.specs.Machine.{Machine, is_unsent}
+use Rattle.sftp_server.specs.Core.{started, IsReached}
+use Rattle.sftp_server.specs.Served.{session_packets, sent_by, recorded, IsGreeting, answered_last, BeginsWithId}
+use Rattle.sftp_server.specs.Served.{BeginsWithInit, EndsSession, IsUnopenedBy, Served}
+
+-- ---- the streams
+
+-- the bytes that a session's input has left, those written, and those logged, each where they are known
+pub record StreamBytes : Type 0 where
+  pub left : Option (List ℕ)
+  pub written : Option (List ℕ)
+  pub logged : Option (List ℕ)
+
+abbrev pub stream_bytes : Option (List ℕ) → Option (List ℕ) → Option (List ℕ) → StreamBytes
+stream_bytes left written logged = record { left = left; written = written; logged = logged }
+
+-- between two moments these bytes were read, written and logged
+pub record Passed (past now : StreamBytes) (input output log : List ℕ) : Type 0 where
+  pub read : Consumes past.left now.left input
+  pub written : Appends past.written now.written output
+  pub logged : Appends past.logged now.logged log
+
+-- what was read, written and logged between two moments is that of a session on this tree that ended so
+pub record Serves (start : Tree) (past now : StreamBytes) (ended : Ended) : Type 0 where
+  pub input : List ℕ
+  pub output : List ℕ
+  pub log : List ℕ
+  pub passed : Passed past now input output log
+  pub served : Served start input (IsAtEnd now.left) output log ended
+
+-- ---- what stops a session before its end
+
+abbrev pub ended_by : Stop → Ended
+ended_by (stops.Io stream) = ends.Io stream
+ended_by stops.NoMemory = ends.NoMemory
+
+abbrev pub is_same_stream : Stream → Stream → Bool
+is_same_stream streams.Reader streams.Reader = true
+is_same_stream streams.Reader streams.Writer = false
+is_same_stream streams.Reader streams.Log = false
+is_same_stream streams.Writer streams.Reader = false
+is_same_stream streams.Writer streams.Writer = true
+is_same_stream streams.Writer streams.Log = false
+is_same_stream streams.Log streams.Reader = false
+is_same_stream streams.Log streams.Writer = false
+is_same_stream streams.Log streams.Log = true
+
+abbrev pub failures_if : Bool → ℕ → ℕ
+failures_if true count = one_more count
+failures_if false count = count
+
+-- the failures of a stream after a session stopped: one more if the stream is why, and no more if not
+abbrev pub CountsStop : Stream → Stop → ℕ → ℕ → Type 0
+CountsStop stream (stops.Io failed) old new = new ≡ failures_if (is_same_stream stream failed) old
+CountsStop stream stops.NoMemory old new = new ≡ old
+
+-- the same of a call, which may not stop the session
+abbrev pub CountsCall : {A : Type 0} → Stream → Result A Stop → ℕ → ℕ → Type 0
+CountsCall stream result old new = MatchResult result (λ _. new ≡ old) (λ stop. CountsStop stream stop old new)
+
+-- the same of the whole session
+abbrev pub CountsEnd : Stream → Ended → ℕ → ℕ → Type 0
+CountsEnd stream (ends.Io failed) old new = new ≡ failures_if (is_same_stream stream failed) old
+CountsEnd stream other old new = new ≡ old
+
+-- the call does not stop the session because of this stream
+abbrev pub Spares : {A : Type 0} → Stream → Result A Stop → Type 0
+Spares stream result = IfErr result (λ stop. stop ≢ stops.Io stream)
+
+-- each call on the log's stream succeeded so far, and the log has a record
+pub record IsLogging (log : Log) : Type 0 where
+  pub sound : log.broken ≡ None
+  pub begun : log.records ≢ 0
+
+-- nothing was logged so far
+pub record IsUnused (log : Log) : Type 0 where
+  pub sound : log.broken ≡ None
+  pub unused : log.records ≡ 0
+
+-- ---- a session that is open
+
+-- The client's packet in front of what was read is a fault that ends the session, once each request before it is
+-- answered.
+abbrev pub IsFaultAhead : List Event → List Entry → List ℕ → ℕ → Option SessionFault → Type 0
+IsFaultAhead events queue rest place None = Unit {0}
+IsFaultAhead events queue rest place (Some (faults.Wire (Unreadable fault at))) =
+    (front_of Client rest ≡ Err fault) × (at ≡ place)
+IsFaultAhead events queue rest place (Some (faults.Wire other)) = ⊥
+IsFaultAhead events queue rest place (Some (faults.IdInUse id)) =
+    BeginsWithId rest id × (IsTrue (is_unsent id queue) ⊎ IsTrue (answered_last id false events))
+IsFaultAhead events queue rest place (Some faults.BadInit) = BeginsWithInit rest
+IsFaultAhead events queue rest place (Some (faults.Cut at)) = ⊥
+
+-- what a server has read and not taken, and the place in the input of the first of these bytes
+pub record Ahead : Type 0 where
+  pub held : List ℕ
+  pub place : ℕ
+
+abbrev pub ahead_without : ℕ → Ahead → Ahead
+ahead_without count a = record { held = drop count a.held; place = place_after a.place count }
+
+-- A session on this tree is open. Since it began the client's packets were read, and then what is held; the server's
+-- packets were written; and both were logged. The core was reached by the events. `fault`: what was found in front of
+-- the bytes held, if a fault was.
+pub record IsRunning (start : Tree) (past now : StreamBytes) (ahead : Ahead) (core : Machine State)
+    (fault : Option SessionFault) : Type 0 where
+  pub init : Packet
+  pub events : List Event
+  pub good : Good (started start)
+  pub greeting : IsGreeting init
+  pub spelled : AllByRecursion IsEvent events
+  pub reached : IsReached (started start) 1024 events core
+  pub passed : Passed past now (sent_by Client (session_packets init events) ++ ahead.held)
+      (sent_by Server (session_packets init events)) (recorded (session_packets init events))
+  pub place : ahead.place ≡ place_after 0 (length (sent_by Client (session_packets init events)))
+  pub found : IsFaultAhead events core.queue ahead.held ahead.place fault
+
+-- ---- a session that was not opened yet
+
+-- since the session began these bytes were read, nothing was written and nothing was logged
+abbrev pub IsUnopenedYet : StreamBytes → StreamBytes → Ahead → Type 0
+IsUnopenedYet past now ahead = Passed past now ahead.held [] [] × (ahead.place ≡ 0)
+
+-- the bytes begin with an INIT of version 3 or more, which takes so many of them
+pub record BeginsWithGreeting (bytes : List ℕ) (count : ℕ) : Type 0 where
+  pub init : Packet
+  pub greeting : IsGreeting init
+  pub rest : List ℕ
+  pub bytes_are : bytes ≡ spelling init ++ rest
+  pub count_is : count ≡ length (spelling init)
+
+-- ---- a session that comes to its end
+
+-- why a session ends: it has a fault, or the input ended and nothing is left of it
+abbrev pub IsEnd : List Event → List ℕ → ℕ → Type 0 → Option SessionFault → Type 0
+IsEnd events rest place over None = over × (rest ≡ [])
+IsEnd events rest place over (Some fault) = EndsSession events rest place over fault
+
+-- the session is open, each request is answered, and it ends so
+pub record IsEnding (start : Tree) (past now : StreamBytes) (core : Machine State) (fault : Option SessionFault) : Type 0
+  where
+    pub ahead : Ahead
+    pub running : IsRunning start past now ahead core None
+    pub answered : core.queue ≡ []
+    pub why : IsEnd running.events ahead.held ahead.place (IsAtEnd now.left) fault
+
+-- ---- a packet that is sent
+
+-- What was written and logged where a packet could not be sent: nothing where memory ran out, a beginning of the packet
+-- where the writer failed, or the packet and a beginning of its record.
+abbrev pub FailsToSend : Packet → Option (List ℕ) → Option (List ℕ) → Log → Log → Stop → Type 0
+FailsToSend packet written0 written1 log0 log1 (stops.Io streams.Reader) = ⊥
+FailsToSend packet written0 written1 log0 log1 (stops.Io streams.Writer) =
+    AppendsPart written0 written1 (spelling packet) × Keeps log0.bytes log1.bytes
+FailsToSend packet written0 written1 log0 log1 (stops.Io streams.Log) =
+    Appends written0 written1 (spelling packet)
+    × AppendsPart log0.bytes log1.bytes (opened_text log0.records (record_text packet))
+FailsToSend packet written0 written1 log0 log1 stops.NoMemory =
+    Keeps written0 written1 × Keeps log0.bytes log1.bytes
+
+-- From a running session, whatever the reader has left and whatever fault was found, a call that sends packets leads to
+-- a running session, or stops it.
+abbrev pub SendsOn : Machine State → Machine State → Option (List ℕ) → Option (List ℕ) → Option (List ℕ)
+    → Option (List ℕ) → Result (Unit {0}) Stop → Type 0
+SendsOn core0 core1 written0 written1 logged0 logged1 result =
+    (start : Tree) (past : StreamBytes) (left : Option (List ℕ)) (ahead : Ahead) (fault : Option SessionFault)
+    → IsRunning start past (stream_bytes left written0 logged0) ahead core0 fault
+    → MatchResult result (λ _. IsRunning start past (stream_bytes left written1 logged1) ahead core1 fault)
+    (λ stop. Serves start past (stream_bytes left written1 logged1) (ended_by stop))
+
+-- a call served a session to its end, or it was stopped
+abbrev pub ServesOn : Tree → StreamBytes → StreamBytes → Result Ended Stop → Type 0
+ServesOn start past now result =
+    MatchResult result (λ ended. Serves start past now ended) (λ stop. Serves start past now (ended_by stop))

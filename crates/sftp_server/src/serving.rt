@@ -1,0 +1,228 @@
+//! Serves a session: reads the client's packets, does the requests, and sends the replies (draft, sections 3 to 7).
+ghost use Rattle.std.specs.Prelude.{◌≡◌, ◌<◌, ◌≤◌, ◌≢◌, [], Ok, None, IfOk, OnOk};
+ghost use Rattle.sftp_wire.specs.declared.packets.Side.TheVariants.{Client};
+ghost use Rattle.sftp_wire.specs.Reading.{front_of};
+ghost use Rattle.sftp_server.specs.declared.ends.Stream.TheVariants as streams;
+ghost use Rattle.sftp_server.specs.declared.taking.Front.TheVariants as fronts;
+ghost use Rattle.sftp_server.specs.declared.serving.Next.TheVariants as nexts;
+ghost use Rattle.sftp_server.specs.Sessions.{stream_bytes, IsUnused, IsLogging, Serves, CountsCall, CountsEnd};
+ghost use Rattle.sftp_server.specs.Sessions.{StreamBytes, IsUnopenedYet, BeginsWithGreeting, ServesOn};
+ghost use Rattle.sftp_server.specs.Ending.{closed_end, IsClosed, EndsOn, ReadsOn, RunsOut};
+
+use crate::cores::Core;
+use crate::ends::{Ended, SessionFault, Stop};
+use crate::input::Input;
+use crate::opening::{First, await_init, greet};
+use crate::schedules::Schedule;
+use crate::sending::{flush, flush_log};
+use crate::taking::{Front, take_requests};
+use crate::working::work_off;
+use sftp_transcript::{Sink, Source, Writer};
+use sftp_tree::Tree;
+use sftp_wire::PACKET_LIMIT;
+use std::alloc::Global;
+
+/// How many requests a session has at most from the oldest unanswered one to the newest. This profile's own.
+const WINDOW: usize = 1024;
+
+/// What an open session does after a batch of requests.
+#[derive(Clone, Copy, Debug, PartialEq, Eq)]
+enum Next {
+    /// It goes on.
+    Batch,
+    /// It ends: with the fault, or because the input ended after a whole packet.
+    End(Option<SessionFault>),
+}
+
+/// Serves one session on a tree over these streams, in the order of the schedule, and returns how it ended. Pins that
+/// the tree has are removed.
+///
+/// It reads an INIT of version 3 or more, answers it by VERSION 3, and then answers each request. It takes requests as
+/// long as complete packets were read and the window has room; it then answers all that it took, passes the replies on,
+/// and reads again. A fault in the input ends the session once each request before it is answered. The log gets each
+/// packet of both sides, in the order in which requests were taken and replies were sent.
+///
+/// `log` has no records yet.
+pub fn serve<R: Source, W: Sink, L: Sink, S: Schedule>(
+    tree: Tree,
+    reader: &mut R,
+    writer: &mut W,
+    log: &mut Writer<L>,
+    schedule: &mut S,
+) -> Ended
+    requires { IsUnused log.old }
+    ensures served { Serves tree (stream_bytes (R.left reader.old) (W.written writer.old) log.old.bytes)
+        (stream_bytes (R.left reader.new) (W.written writer.new) log.new.bytes) result }
+    // A stream fails once if the session ends because of it, and otherwise never.
+    ensures counts_reader { CountsEnd streams.Reader result (R.failures reader.old) (R.failures reader.new) }
+    ensures counts_writer { CountsEnd streams.Writer result (W.failures writer.old) (W.failures writer.new) }
+    ensures counts_log { CountsEnd streams.Log result log.old.failures log.new.failures }
+{
+    match run(tree, reader, writer, log, schedule) {
+        Ok(ended) => ended,
+        Err(stop) => stop.ended(),
+    }
+}
+
+/// Serves a session to its end.
+fn run<R: Source, W: Sink, L: Sink, S: Schedule>(
+    tree: Tree,
+    reader: &mut R,
+    writer: &mut W,
+    log: &mut Writer<L>,
+    schedule: &mut S,
+) -> Result<Ended, Stop>
+    requires { IsUnused log.old }
+    ensures served { ServesOn tree (stream_bytes (R.left reader.old) (W.written writer.old) log.old.bytes)
+        (stream_bytes (R.left reader.new) (W.written writer.new) log.new.bytes) result }
+    ensures closed { IfOk result IsClosed }
+    ensures counts_reader { CountsCall streams.Reader result (R.failures reader.old) (R.failures reader.new) }
+    ensures counts_writer { CountsCall streams.Writer result (W.failures writer.old) (W.failures writer.new) }
+    ensures counts_log { CountsCall streams.Log result log.old.failures log.new.failures }
+{
+    let alloc = tree.allocator();
+    let mut input = Input::new(alloc)?;
+    match await_init(alloc, &mut input, reader)? {
+        First::Init(count) => serve_from(tree, &mut input, count, reader, writer, log, schedule),
+        First::Fault(fault) => Ok(Ended::Fault(tree, fault)),
+    }
+}
+
+/// Serves the session whose INIT, of so many bytes, is in front of the input, to its end.
+fn serve_from<R: Source, W: Sink, L: Sink, S: Schedule>(
+    tree: Tree,
+    input: &mut Input,
+    count: usize,
+    reader: &mut R,
+    writer: &mut W,
+    log: &mut Writer<L>,
+    schedule: &mut S,
+) -> Result<Ended, Stop>
+    requires unused { IsUnused log.old }
+    requires whole { BeginsWithGreeting input.old.held count }
+    // Whatever was read before, if only that.
+    ensures served { (past : StreamBytes)
+        → IsUnopenedYet past (stream_bytes (R.left reader.old) (W.written writer.old) log.old.bytes) input.old
+        → ServesOn tree past (stream_bytes (R.left reader.new) (W.written writer.new) log.new.bytes) result }
+    ensures closed { IfOk result IsClosed }
+    ensures counts_reader { CountsCall streams.Reader result (R.failures reader.old) (R.failures reader.new) }
+    ensures counts_writer { CountsCall streams.Writer result (W.failures writer.old) (W.failures writer.new) }
+    ensures counts_log { CountsCall streams.Log result log.old.failures log.new.failures }
+{
+    let alloc = tree.allocator();
+    let mut output = Vec::with_capacity(alloc, PACKET_LIMIT)?;
+    let mut core = Core::new(tree, WINDOW)?;
+    greet(alloc, input, count, &mut output, writer, log)?;
+    let fault = serve_requests(input, &mut core, &mut output, reader, writer, log, schedule)?;
+    Ok(end(core, fault))
+}
+
+/// The end of a session whose requests are all answered.
+fn end(core: Core, fault: Option<SessionFault>) -> Ended
+    requires { core.queue ≡ [] }
+    ensures { result ≡ closed_end core.state fault }
+{
+    let Ok(tree) = core.finish() else {
+        unreachable!()
+    };
+    match fault {
+        None => Ended::Finished(tree),
+        Some(fault) => Ended::Fault(tree, fault),
+    }
+}
+
+/// Serves an open session to its end, and returns the fault that ends it, if it has one.
+fn serve_requests<R: Source, W: Sink, L: Sink, S: Schedule>(
+    input: &mut Input,
+    core: &mut Core,
+    output: &mut Vec<u8>,
+    reader: &mut R,
+    writer: &mut W,
+    log: &mut Writer<L>,
+    schedule: &mut S,
+) -> Result<Option<SessionFault>, Stop>
+    requires logging { IsLogging log.old }
+    requires answered { core.old.queue ≡ [] }
+    ensures running { RunsOut (stream_bytes (R.left reader.old) (W.written writer.old) log.old.bytes)
+        (stream_bytes (R.left reader.new) (W.written writer.new) log.new.bytes) input.old core.old core.new result }
+    ensures answered { OnOk result (core.new.queue ≡ []) }
+    ensures counts_reader { CountsCall streams.Reader result (R.failures reader.old) (R.failures reader.new) }
+    ensures counts_writer { CountsCall streams.Writer result (W.failures writer.old) (W.failures writer.new) }
+    ensures counts_log { CountsCall streams.Log result log.old.failures log.new.failures }
+{
+    let alloc = *output.allocator();
+    'batch: loop {
+        let front = take_requests(alloc, input, core, log)?;
+        work_off(core, output, writer, log, schedule)?;
+        match next(front, input, reader, writer, log)? {
+            Next::Batch => {}
+            Next::End(fault) => return Ok(fault),
+        }
+    }
+}
+
+/// What comes after a batch, by what is in front of the input: the session ends at a fault, reads if no packet in front
+/// is complete, and otherwise goes on.
+fn next<R: Source, W: Sink, L: Sink>(
+    front: Front,
+    input: &mut Input,
+    reader: &mut R,
+    writer: &mut W,
+    log: &mut Writer<L>,
+) -> Result<Next, Stop>
+    requires logging { IsLogging log.old }
+    requires waits { front ≡ fronts.Waiting → front_of Client input.old.held ≡ Ok None }
+    ensures running { EndsOn (stream_bytes (R.left reader.old) (W.written writer.old) log.old.bytes)
+        (stream_bytes (R.left reader.new) (W.written writer.new) log.new.bytes) input.old input.new front result }
+    ensures logging { OnOk result (IsLogging log.new) }
+    ensures counts_reader { CountsCall streams.Reader result (R.failures reader.old) (R.failures reader.new) }
+    ensures counts_writer { CountsCall streams.Writer result (W.failures writer.old) (W.failures writer.new) }
+    ensures counts_log { CountsCall streams.Log result log.old.failures log.new.failures }
+    ensures never_rises { R.reads_left reader.new ≤ R.reads_left reader.old }
+    // Either bytes are read, or the bytes in front stay.
+    ensures falls { IfOk result (λ next. next ≡ nexts.Batch → front ≡ fronts.Waiting →
+        R.reads_left reader.new < R.reads_left reader.old) }
+    ensures same { front ≢ fronts.Waiting → input.new ≡ input.old }
+{
+    match front {
+        Front::Taken => Ok(Next::Batch),
+        Front::Full => Ok(Next::Batch),
+        Front::Waiting => read_more(input, reader, writer, log),
+        Front::Fault(fault) => {
+            flush(writer)?;
+            flush_log(log)?;
+            Ok(Next::End(Some(fault)))
+        }
+    }
+}
+
+/// Reads once, after it has passed on what was written. The session ends where the input does.
+fn read_more<R: Source, W: Sink, L: Sink>(
+    input: &mut Input,
+    reader: &mut R,
+    writer: &mut W,
+    log: &mut Writer<L>,
+) -> Result<Next, Stop>
+    requires logging { IsLogging log.old }
+    requires waits { front_of Client input.old.held ≡ Ok None }
+    ensures running { ReadsOn (stream_bytes (R.left reader.old) (W.written writer.old) log.old.bytes)
+        (stream_bytes (R.left reader.new) (W.written writer.new) log.new.bytes) input.old input.new result }
+    ensures logging { OnOk result (IsLogging log.new) }
+    ensures counts_reader { CountsCall streams.Reader result (R.failures reader.old) (R.failures reader.new) }
+    ensures counts_writer { CountsCall streams.Writer result (W.failures writer.old) (W.failures writer.new) }
+    ensures counts_log { CountsCall streams.Log result log.old.failures log.new.failures }
+    ensures never_rises { R.reads_left reader.new ≤ R.reads_left reader.old }
+    ensures falls { IfOk result (λ next. next ≡ nexts.Batch → R.reads_left reader.new < R.reads_left reader.old) }
+{
+    flush(writer)?;
+    if input.read(reader)? > 0 {
+        return Ok(Next::Batch);
+    }
+    flush_log(log)?;
+    if input.held().is_empty() {
+        Ok(Next::End(None))
+    } else {
+        let place = input.place();
+        Ok(Next::End(Some(SessionFault::Cut { place })))
+    }
+}

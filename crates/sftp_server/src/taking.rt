@@ -1,0 +1,175 @@
+//! Takes requests from what was read: logs each, and delivers it to the core.
+ghost use Rattle.std.specs.Prelude.{◌≡◌, ◌≢◌, ◌<◌, ◌≤◌, [], length, Ok, None, IsTrue, IfOk, IfErr, OnOk, OnErr};
+ghost use Rattle.sftp_wire.specs.declared.packets.Packet.TheVariants.{Request as request_packet};
+ghost use Rattle.sftp_wire.specs.declared.packets.Side.TheVariants.{Client};
+ghost use Rattle.sftp_wire.specs.Reading.{StandsInFront, front_of};
+ghost use Rattle.sftp_server.specs.declared.ends.Stop.TheVariants as stops;
+ghost use Rattle.sftp_server.specs.declared.ends.Stream.TheVariants as streams;
+ghost use Rattle.sftp_server.specs.declared.taking.Front.TheVariants as fronts;
+ghost use Rattle.sftp_server.specs.Machine.{can_take, taken};
+ghost use Rattle.sftp_server.specs.Sessions.{ahead_without, IsLogging, CountsCall, Spares};
+ghost use Rattle.sftp_server.specs.Fronts.{FallsIfTaken, TakesOn};
+
+use crate::cores::Core;
+use crate::ends::{SessionFault, Stop, Stream};
+use crate::input::Input;
+use crate::refusals::Refuse;
+use sftp_transcript::{Sink, Writer};
+use sftp_wire::{Packet, Request, Side, WireError, front};
+use std::alloc::Global;
+
+/// What was found in front of the bytes read.
+#[derive(Clone, Copy, Debug, PartialEq, Eq)]
+pub(crate) enum Front {
+    /// A request, which was taken.
+    Taken,
+    /// A complete packet, and the core has no room for a request.
+    Full,
+    /// No complete packet.
+    Waiting,
+    /// What ends the session once each request is answered.
+    Fault(SessionFault),
+}
+
+/// Takes requests, until no packet in front is complete, the core is full, or a fault is in front.
+///
+/// # Errors
+///
+/// `NoMemory` if memory runs out; `Io(Log)` if the log fails.
+pub(crate) fn take_requests<L: Sink>(
+    alloc: Global,
+    input: &mut Input,
+    core: &mut Core,
+    log: &mut Writer<L>,
+) -> Result<Front, Stop>
+    requires { IsLogging log.old }
+    ensures running { TakesOn input.old input.new core.old core.new log.old.bytes log.new.bytes result }
+    ensures logging { OnOk result (IsLogging log.new) }
+    ensures waits { IfOk result (λ front. front ≡ fronts.Waiting → front_of Client input.new.held ≡ Ok None) }
+    ensures done { IfOk result (λ front. front ≢ fronts.Taken) }
+    ensures never_rises { OnOk result (length input.new.held ≤ length input.old.held) }
+    // If the queue was empty and is full now, some bytes were taken.
+    ensures falls { IfOk result (λ front. front ≡ fronts.Full → core.old.queue ≡ []
+        → length input.new.held < length input.old.held) }
+    ensures counts { CountsCall streams.Log result log.old.failures log.new.failures }
+    ensures spares_reader { Spares streams.Reader result }
+    ensures spares_writer { Spares streams.Writer result }
+{
+    'front: loop {
+        let front = take_one(alloc, input, core, log)?;
+        match front {
+            Front::Taken => {}
+            Front::Full => return Ok(front),
+            Front::Waiting => return Ok(front),
+            Front::Fault(_) => return Ok(front),
+        }
+    }
+}
+
+/// Takes the request in front, if there is one and the core has room.
+fn take_one<L: Sink>(
+    alloc: Global,
+    input: &mut Input,
+    core: &mut Core,
+    log: &mut Writer<L>,
+) -> Result<Front, Stop>
+    requires { IsLogging log.old }
+    ensures running { TakesOn input.old input.new core.old core.new log.old.bytes log.new.bytes result }
+    ensures logging { OnOk result (IsLogging log.new) }
+    ensures waits { IfOk result (λ front. front ≡ fronts.Waiting → front_of Client input.new.held ≡ Ok None) }
+    // Bytes are taken exactly if a request is; if the core is full, it has some request.
+    ensures falls { IfOk result (λ front. FallsIfTaken front input.old input.new core.old.queue) }
+    ensures counts { CountsCall streams.Log result log.old.failures log.new.failures }
+    ensures spares_reader { Spares streams.Reader result }
+    ensures spares_writer { Spares streams.Writer result }
+{
+    match front(alloc, input.held(), Side::Client) {
+        Ok(None) => Ok(Front::Waiting),
+        Ok(Some((packet, count))) => take_packet(packet, count, input, core, log),
+        Err(WireError::Unreadable { fault, .. }) => {
+            let place = input.place();
+            Ok(Front::Fault(SessionFault::Wire(WireError::Unreadable { fault, place })))
+        }
+        Err(_) => Err(Stop::NoMemory),
+    }
+}
+
+/// Takes the packet in front, of so many bytes, if it is a request and the core has room.
+fn take_packet<L: Sink>(
+    packet: Packet,
+    count: usize,
+    input: &mut Input,
+    core: &mut Core,
+    log: &mut Writer<L>,
+) -> Result<Front, Stop>
+    requires logging { IsLogging log.old }
+    requires whole { StandsInFront Client input.old.held packet count }
+    ensures running { TakesOn input.old input.new core.old core.new log.old.bytes log.new.bytes result }
+    ensures logging { OnOk result (IsLogging log.new) }
+    ensures complete { IfOk result (λ front. front ≢ fronts.Waiting) }
+    ensures falls { IfOk result (λ front. FallsIfTaken front input.old input.new core.old.queue) }
+    ensures counts { CountsCall streams.Log result log.old.failures log.new.failures }
+    ensures spares_reader { Spares streams.Reader result }
+    ensures spares_writer { Spares streams.Writer result }
+{
+    match packet {
+        Packet::Request(request) => take_request(request, count, input, core, log),
+        Packet::Init { .. } => Ok(Front::Fault(SessionFault::BadInit)),
+        Packet::Version { .. } => unreachable!(),
+        Packet::Reply(_) => unreachable!(),
+    }
+}
+
+/// Takes the request in front, of so many bytes, if the core has room: logs it, and delivers it.
+fn take_request<L: Sink>(
+    request: Request,
+    count: usize,
+    input: &mut Input,
+    core: &mut Core,
+    log: &mut Writer<L>,
+) -> Result<Front, Stop>
+    requires logging { IsLogging log.old }
+    requires whole { StandsInFront Client input.old.held (request_packet request) count }
+    ensures running { TakesOn input.old input.new core.old core.new log.old.bytes log.new.bytes result }
+    ensures logging { OnOk result (IsLogging log.new) }
+    ensures complete { IfOk result (λ front. front ≢ fronts.Waiting) }
+    ensures falls { IfOk result (λ front. FallsIfTaken front input.old input.new core.old.queue) }
+    ensures counts { CountsCall streams.Log result log.old.failures log.new.failures }
+    ensures spares_reader { Spares streams.Reader result }
+    ensures spares_writer { Spares streams.Writer result }
+{
+    match core.refusal(request.id) {
+        Some(Refuse::Full) => return Ok(Front::Full),
+        Some(Refuse::IdInUse) => return Ok(Front::Fault(SessionFault::IdInUse(request.id))),
+        Some(Refuse::NoMemory) => return Err(Stop::NoMemory),
+        None => {}
+    }
+    match log.record_bytes(Side::Client, &input.held()[..count]) {
+        Ok(()) => deliver(request, count, input, core),
+        Err(_) => Err(Stop::Io(Stream::Log)),
+    }
+}
+
+/// Delivers the request in front, of so many bytes, which then counts as taken.
+fn deliver(
+    request: Request,
+    count: usize,
+    input: &mut Input,
+    core: &mut Core,
+) -> Result<Front, Stop>
+    requires within { count ≤ length input.old.held }
+    requires can { IsTrue (can_take core.old request) }
+    ensures ok { IfOk result (λ front. front ≡ fronts.Taken) }
+    ensures taken { OnOk result (core.new ≡ taken core.old request) }
+    ensures moved { OnOk result (input.new ≡ ahead_without count input.old) }
+    ensures err { IfErr result (λ stop. stop ≡ stops.NoMemory) }
+    ensures same { OnErr result (input.new ≡ input.old) }
+{
+    match core.deliver(request) {
+        Ok(()) => {
+            input.take(count);
+            Ok(Front::Taken)
+        }
+        Err(_) => Err(Stop::NoMemory),
+    }
+}

@@ -1,0 +1,39 @@
+//! The server's VERSION (draft, section 4).
+ghost use Rattle.std.specs.Prelude.{◌≡◌, codes, IfOk, IfErr};
+ghost use Rattle.sftp_server.specs.declared.ends.Stop.TheVariants as stops;
+ghost use Rattle.sftp_server.specs.Served.{our_version};
+
+use crate::ends::Stop;
+use sftp_wire::{ByteString, FSYNC, HARDLINK, POSIX_RENAME, Packet, Pairs};
+use std::alloc::Global;
+
+/// The version of the protocol.
+const VERSION: u32 = 3;
+
+/// The version of each extension (OpenSSH's PROTOCOL, section 4).
+const EXTENSION_VERSION: &[u8] = b"1";
+
+/// The server's VERSION.
+pub(crate) fn our_version(alloc: Global) -> Result<Packet, Stop>
+    ensures ok { IfOk result (λ packet. packet ≡ our_version) }
+    ensures err { IfErr result (λ stop. stop ≡ stops.NoMemory) }
+{
+    let mut extensions = Vec::new(alloc);
+    'names: for name in [POSIX_RENAME, HARDLINK, FSYNC] {
+        extensions.push(extension(alloc, name)?)?;
+    }
+    Ok(Packet::Version {
+        version: VERSION,
+        extensions: Pairs::new(extensions),
+    })
+}
+
+/// An extension of this name.
+fn extension(alloc: Global, name: &[u8]) -> Result<(ByteString, ByteString), Stop>
+    ensures ok { IfOk result (λ pair. pair ≡ (name.now, codes "1")) }
+    ensures err { IfErr result (λ stop. stop ≡ stops.NoMemory) }
+{
+    let name = ByteString::from_slice(alloc, name)?;
+    let version = ByteString::from_slice(alloc, EXTENSION_VERSION)?;
+    Ok((name, version))
+}
