@@ -1,3 +1,5 @@
 pub mod Queues
 pub mod CoreSteps
 pub mod Machines
+pub mod Sessions
+pub mod ChoiceLaws

@@ -1,0 +1,1 @@
+-- What a machine may do next, by its queue.

@@ -1,0 +1,6 @@
+pub mod Lists
+pub mod Stops
+pub mod Asked
+pub mod Replied
+pub mod Opened
+pub mod Closed

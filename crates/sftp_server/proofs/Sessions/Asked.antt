@@ -1,0 +1,1 @@
+-- A request is taken in a running session.

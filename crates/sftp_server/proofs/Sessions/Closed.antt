@@ -1,0 +1,1 @@
+-- A session reads on, or comes to its end.

@@ -1,0 +1,1 @@
+-- What the packets of a session and their records are with one event more, and what streams passed in two steps.

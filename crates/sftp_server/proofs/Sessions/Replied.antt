@@ -1,0 +1,1 @@
+-- A request is done, or a reply is sent, in a running session.

@@ -1,0 +1,1 @@
+-- A session that stops where a stream fails or memory runs out.
