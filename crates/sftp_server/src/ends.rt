@@ -6,6 +6,7 @@ ghost use Rattle.sftp_server.specs.Sessions.{ended_by};
 use sftp_tree::{NoMemory, Tree};
 use sftp_wire::WireError;
 use std::alloc::{AllocError, AllocFailed};
+use thiserror::Error;
 
 /// How a session ended.
 #[derive(Debug, Drop)]
@@ -23,16 +24,20 @@ pub enum Ended {
 }
 
 /// How a client broke the protocol (draft-ietf-secsh-filexfer-02, sections 3 and 4).
-#[derive(Clone, Copy, Debug, PartialEq, Eq)]
+#[derive(Clone, Copy, Debug, PartialEq, Eq, Error)]
 pub enum SessionFault {
     /// A packet cannot be read. It begins at the place in the input that the error names.
+    #[error("{0}")]
     Wire(WireError),
     /// A request has the id of one that is not answered.
+    #[error("IdInUse {0}")]
     IdInUse(u32),
     /// The input has no complete first packet, the first packet is not an INIT of version 3 or more, or a later one is
     /// an INIT.
+    #[error("BadInit")]
     BadInit,
     /// The input ended inside a packet. `place` is that of its first byte, from 0, capped at 2^64 - 1.
+    #[error("Cut at {place}")]
     Cut { place: u64 },
 }
 

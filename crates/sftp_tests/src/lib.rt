@@ -25,6 +25,8 @@ mod open_flags;
 #[cfg(test)]
 mod path;
 #[cfg(test)]
+mod serving;
+#[cfg(test)]
 mod transcript;
 #[cfg(test)]
 mod tree;

@@ -1,16 +1,31 @@
 //! The command line: parses the arguments, and has the help texts.
 use crate::messages::Failure;
 use clap::error::ErrorKind;
-use clap::{Arg, ArgAction, ArgMatches, Command, Error};
+use clap::{Arg, ArgAction, ArgMatches, Command, Error, value_parser};
 use std::alloc::{AllocError, Global};
 
-const ABOUT: &str = "Audits recorded sessions of the SSH File Transfer Protocol, version 3";
+const ABOUT: &str =
+    "Serves sessions of the SSH File Transfer Protocol, version 3, and audits recorded ones";
 
 const STATUSES: &str = "Exit status:
-  0  the session is accepted, the file was written, or help or the version was shown
-  1  the session is refused
+  0  the session was served or is accepted, the file was written, or help or the version was shown
+  1  the session is refused, or the client broke the protocol
   2  bad usage, or a malformed input file
   3  a file or a stream cannot be read or written, or memory ran out";
+
+const ABOUT_SERVE: &str =
+    "Serves one session over standard input and output, on a file tree in memory";
+
+const AFTER_SERVE: &str =
+    "Nothing but packets is written to standard output, so sshd can run this as a subsystem, and
+'sftp -D' and sshfs as their server. The tree file itself does not change; --save keeps the changes.
+
+If the client breaks the protocol, the requests before that are answered, the tree is saved, and
+'sftpv3: session fault: FAULT' is printed on standard error. FAULT is one of:
+  KIND at PLACE  the packet at this byte of the input cannot be read
+  IdInUse ID     a request has the id of one that is not answered
+  BadInit        the first packet is no INIT of version 3 or more, or a later one is an INIT
+  Cut at PLACE   the input ends inside the packet at this byte";
 
 const ABOUT_AUDIT: &str = "Checks every reply of a recorded session against a file tree";
 
@@ -24,19 +39,32 @@ KIND is one of:
   IdInUse       an unanswered request has the id of this request
   Window        the 1,024th request before this one is still unanswered
   NotAllowed    the tree does not allow this reply
-  Unanswered    this request has no reply
-
-Sessions that open files or directories cannot be audited yet.";
+  Unanswered    this request has no reply";
 
 /// What a command line asks for.
 #[derive(Drop)]
 pub(crate) enum Request<'a> {
+    /// Serve a session.
+    Serve(ServeOptions<'a>),
     /// Audit a session.
     Audit(AuditFiles<'a>),
     /// Write the blank tree to a file.
     Blank { file: &'a str },
     /// Show this text: help or the version.
     Show(String),
+}
+
+/// The options of `serve`.
+#[derive(Drop)]
+pub(crate) struct ServeOptions<'a> {
+    /// The name of the tree file that the session starts from.
+    pub(crate) tree: &'a str,
+    /// The name of the file to write the final tree to.
+    pub(crate) save: Option<&'a str>,
+    /// The name of the file to record the session in.
+    pub(crate) record: Option<&'a str>,
+    /// The state that a pseudorandom order of replies starts from; without it they come in the order asked.
+    pub(crate) shuffle: Option<u64>,
 }
 
 /// The names of the files of `audit`.
@@ -78,15 +106,31 @@ fn matched(alloc: Global, words: &[String]) -> Result<Request<'_>, Error> {
 
 fn requested<'a>(matches: &ArgMatches<'a>) -> Option<Request<'a>> {
     let (name, given) = matches.subcommand()?;
-    if name == "blank" {
-        let file = given.get_str("file")?;
-        return Some(Request::Blank { file });
+    match name {
+        "serve" => Some(Request::Serve(serve_options(given)?)),
+        "audit" => Some(Request::Audit(audit_files(given)?)),
+        _ => {
+            let file = given.get_str("file")?;
+            Some(Request::Blank { file })
+        }
     }
-    Some(Request::Audit(AuditFiles {
+}
+
+fn serve_options<'a>(given: &ArgMatches<'a>) -> Option<ServeOptions<'a>> {
+    Some(ServeOptions {
+        tree: given.get_str("tree")?,
+        save: given.get_str("save"),
+        record: given.get_str("record"),
+        shuffle: given.get_one("shuffle"),
+    })
+}
+
+fn audit_files<'a>(given: &ArgMatches<'a>) -> Option<AuditFiles<'a>> {
+    Some(AuditFiles {
         tree: given.get_str("tree")?,
         transcript: given.get_str("transcript")?,
         out: given.get_str("out"),
-    }))
+    })
 }
 
 fn command<'a>(alloc: Global) -> Result<Command<'a>, AllocError> {
@@ -95,8 +139,30 @@ fn command<'a>(alloc: Global) -> Result<Command<'a>, AllocError> {
         .about(ABOUT)
         .after_help(STATUSES)
         .subcommand_required(true)
+        .subcommand(serve_command(alloc)?)?
         .subcommand(audit_command(alloc)?)?
         .subcommand(blank_command(alloc)?)
+}
+
+fn serve_command<'a>(alloc: Global) -> Result<Command<'a>, AllocError> {
+    let tree = file_option(alloc, "tree")
+        .required(true)
+        .help("The tree file: the tree at the start of the session");
+    let save = file_option(alloc, "save").help("The file to write the final tree to");
+    let record = file_option(alloc, "record").help("The file to record the session in, for audit");
+    let shuffle = Arg::new(alloc, "shuffle")
+        .long("shuffle")
+        .value_name("N")
+        .value_parser(value_parser!(u64))
+        .action(ArgAction::Set)
+        .help("Reply in a pseudorandom order that N fixes, not in the order asked");
+    Command::new(alloc, "serve")
+        .about(ABOUT_SERVE)
+        .after_help(AFTER_SERVE)
+        .arg(tree)?
+        .arg(save)?
+        .arg(record)?
+        .arg(shuffle)
 }
 
 fn audit_command<'a>(alloc: Global) -> Result<Command<'a>, AllocError> {

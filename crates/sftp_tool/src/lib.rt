@@ -6,6 +6,7 @@ ghost use Rattle.std.specs.Prelude.{◌≤◌};
 
 mod command_line;
 mod messages;
+mod serving;
 mod subcommands;
 
 use command_line::Request;
@@ -15,17 +16,17 @@ use std::io::{Read, Write};
 
 /// Runs the command line `words`, whose first word is the program's name, and returns the exit status:
 ///
-/// - 0: the session is accepted, the file was written, or help or the version was shown;
-/// - 1: the session is refused, and `output` says why;
+/// - 0: the session was served or is accepted, the file was written, or help or the version was shown;
+/// - 1: the session is refused, and `output` says why; or the client broke the protocol, and `errors` says how;
 /// - 2: bad usage, or a malformed tree file or transcript;
 /// - 3: a file or a stream cannot be read or written, or memory ran out.
 ///
-/// With status 2 or 3 the reason is written to `errors`; with 0 or 1 nothing is. If `errors` cannot be
-/// written, the status is the same. `output` is flushed. No subcommand reads `input` yet.
+/// With status 2 or 3 the reason is written to `errors`. If `errors` cannot be written, the status is the same. `output`
+/// is flushed. Only `serve` reads `input`.
 pub fn run<R, I, O, E>(
     rt: &R,
     words: &[String],
-    _input: &mut I,
+    input: &mut I,
     output: &mut O,
     errors: &mut E,
 ) -> u8
@@ -36,7 +37,7 @@ where
     E: Write,
     ensures { result ≤ 3 }
 {
-    match perform(rt, words, output) {
+    match perform(rt, words, input, output) {
         Ok(ending) => ending.status(),
         Err(failure) => {
             let status = failure.status();
@@ -46,12 +47,14 @@ where
     }
 }
 
-fn perform<'a, R: Files + AllocGlobal, O: Write>(
+fn perform<'a, R: Files + AllocGlobal, I: Read, O: Write>(
     rt: &R,
     words: &'a [String],
+    input: &mut I,
     output: &mut O,
 ) -> Result<Ending, Failure<'a>> {
     match command_line::parse(rt.alloc(), words)? {
+        Request::Serve(options) => serving::serve(rt, &options, input, output),
         Request::Audit(files) => subcommands::audit(rt, &files, output),
         Request::Blank { file } => subcommands::blank(rt, file),
         Request::Show(text) => subcommands::show(text.as_str(), output),

@@ -7,11 +7,16 @@ ghost use Rattle.sftp_tool.specs.Failures.{tree_failure, transcript_failure};
 ghost use Rattle.sftp_tool.specs.Failures.{IsUnreadFile, IsUnwritten, IsUnwrittenFile};
 
 use sftp_audit::{TranscriptError, TreeError};
+use sftp_server::SessionFault;
+use sftp_tree::NoMemory;
 use std::alloc::AllocError;
 use std::fmt::Display;
 use std::io;
 use std::io::Write;
 use thiserror::Error;
+
+/// How messages call standard input.
+pub(crate) const STANDARD_INPUT: &str = "standard input";
 
 /// How messages call standard output.
 pub(crate) const STANDARD_OUTPUT: &str = "standard output";
@@ -19,7 +24,7 @@ pub(crate) const STANDARD_OUTPUT: &str = "standard output";
 /// The outcome of a run that did what was asked.
 #[derive(Clone, Copy)]
 pub(crate) enum Ending {
-    /// The session is accepted, the file was written, or the text was shown.
+    /// The session was served or is accepted, the file was written, or the text was shown.
     Done,
     /// The session is refused.
     Refused,
@@ -37,7 +42,10 @@ pub(crate) enum Failure<'a> {
     /// The transcript is malformed.
     #[error("sftpv3: transcript: {0}")]
     Transcript(TranscriptError),
-    /// The file with this name cannot be read.
+    /// The client broke the protocol.
+    #[error("sftpv3: session fault: {0}")]
+    Session(SessionFault),
+    /// The file or stream with this name cannot be read.
     #[error("sftpv3: cannot read {0}")]
     CannotRead(&'a str),
     /// The file or stream with this name cannot be written.
@@ -72,6 +80,7 @@ impl Failure<'_> {
         ensures bound { result ≤ 3 }
     {
         match self {
+            Failure::Session(_) => 1,
             Failure::Usage(_) | Failure::Tree(_) | Failure::Transcript(_) => 2,
             Failure::CannotRead(_) | Failure::CannotWrite(_) | Failure::OutOfMemory => 3,
         }
@@ -99,6 +108,14 @@ impl<'a> Failure<'a> {
             io::ErrorKind::OutOfMemory => Failure::OutOfMemory,
             _ => Failure::CannotWrite(name),
         }
+    }
+}
+
+impl From<NoMemory> for Failure<'_> {
+    ghost from_gives = { λ _ failure. failure ≡ failures.OutOfMemory };
+
+    fn from(_error: NoMemory) -> Self {
+        Failure::OutOfMemory
     }
 }
 

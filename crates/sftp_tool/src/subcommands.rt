@@ -89,7 +89,11 @@ fn refusal_or_failure<'a>(error: AuditError) -> Result<Refusal, Failure<'a>>
     }
 }
 
-fn read<'a, R: Files + AllocGlobal>(rt: &R, name: &'a str) -> Result<Vec<u8>, Failure<'a>>
+/// The bytes of the file `name`.
+pub(crate) fn read<'a, R: Files + AllocGlobal>(
+    rt: &R,
+    name: &'a str,
+) -> Result<Vec<u8>, Failure<'a>>
     ensures { IfErr result IsUnread }
 {
     match fs::read(rt, name) {
@@ -98,7 +102,8 @@ fn read<'a, R: Files + AllocGlobal>(rt: &R, name: &'a str) -> Result<Vec<u8>, Fa
     }
 }
 
-fn write<'a, R: Files>(rt: &R, name: &'a str, bytes: &[u8]) -> Result<(), Failure<'a>>
+/// Writes bytes to the file `name`.
+pub(crate) fn write<'a, R: Files>(rt: &R, name: &'a str, bytes: &[u8]) -> Result<(), Failure<'a>>
     ensures { IfErr result IsUnwritten }
 {
     match fs::write(rt, name, bytes) {

@@ -6,6 +6,8 @@ mod audits;
 #[cfg(test)]
 mod runs;
 #[cfg(test)]
+mod serving;
+#[cfg(test)]
 mod streams;
 #[cfg(test)]
 mod usage;

@@ -79,6 +79,24 @@ pub(crate) fn run_words<R: Files + AllocGlobal>(
     })
 }
 
+/// Runs the program with these bytes on its standard input.
+pub(crate) fn run_on<R: Files + AllocGlobal>(
+    rt: &R,
+    words: &[&str],
+    input: &[u8],
+) -> Result<Outcome, AllocError> {
+    let mut input = input;
+    let mut output = Vec::new(rt.alloc());
+    let mut errors = Vec::new(rt.alloc());
+    let words = texts(rt.alloc(), words)?;
+    let status = run(rt, words.as_slice(), &mut input, &mut output, &mut errors);
+    Ok(Outcome {
+        status,
+        output,
+        errors,
+    })
+}
+
 /// Runs the program with these streams for its output and its errors, and gives the status.
 pub(crate) fn run_onto<R: Files + AllocGlobal, O: Write, E: Write>(
     rt: &R,

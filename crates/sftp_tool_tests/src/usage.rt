@@ -22,6 +22,12 @@ fn refuses_bad_usage(rt: HostRuntime) -> Result<(), Fail> {
         "sftpv3 blank",
         "sftpv3 blank a b",
         "sftpv3 blank --unknown a",
+        "sftpv3 serve",
+        "sftpv3 serve --save a",
+        "sftpv3 serve --tree a --shuffle",
+        "sftpv3 serve --tree a --shuffle -1",
+        "sftpv3 serve --tree a --shuffle 18446744073709551616",
+        "sftpv3 serve --tree a b",
         "sftpv3 audit",
         "sftpv3 audit --tree a",
         "sftpv3 audit --transcript a",
@@ -39,8 +45,9 @@ fn refuses_bad_usage(rt: HostRuntime) -> Result<(), Fail> {
 fn shows_help_and_version(rt: HostRuntime) -> Result<(), Fail> {
     for (words, front) in [
         (["sftpv3", "--version"].as_slice(), "sftpv3 "),
-        (["sftpv3", "--help"].as_slice(), "Audits recorded sessions"),
-        (["sftpv3", "help"].as_slice(), "Audits recorded sessions"),
+        (["sftpv3", "--help"].as_slice(), "Serves sessions"),
+        (["sftpv3", "help"].as_slice(), "Serves sessions"),
+        (["sftpv3", "help", "serve"].as_slice(), "Serves one session"),
         (
             ["sftpv3", "audit", "--help"].as_slice(),
             "Checks every reply",

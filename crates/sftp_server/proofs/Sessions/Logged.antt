@@ -1,0 +1,53 @@
+-- The log of a session is a transcript.
+use Rattle.std.proofs.Common.{◌≡◌, ℕ, ◌≤◌, List, [], ◌∷◌, ◌++◌, refl, sym, ap, ◌∙◌, subst, append_assoc, absurd}
+use Rattle.std.specs.Prelude.{map}
+use Rattle.std.specs.List.{flat_map}
+use Rattle.sftp_wire.specs.declared.packets.Packet.{Packet}
+use Rattle.sftp_wire.specs.declared.packets.Packet.TheVariants.{Init, Version, Request as request_packet}
+use Rattle.sftp_wire.specs.declared.packets.Packet.TheVariants.{Reply as reply_packet}
+use Rattle.sftp_wire.specs.Spelling.{HasSpelling}
+use Rattle.sftp_transcript.specs.declared.events.Event.{Event}
+use Rattle.sftp_transcript.specs.Transcript.{packet_of, record_text, event_record, transcript_opening, IsHandshake}
+use Rattle.sftp_transcript.specs.Transcript.{AreRecords, IsRecord}
+use Rattle.sftp_server.specs.Served.{our_version, our_extensions, session_packets, recorded, IsGreeting, IsOpened}
+use Rattle.sftp_server.proofs.Sessions.Opened.{version-spelled}
+
+records-are : (events : List Event) → flat_map record_text (map packet_of events) ≡ flat_map event_record events
+records-are [] = refl
+records-are (event ∷ events) = ap (λ (bytes : List ℕ). record_text (packet_of event) ++ bytes) (records-are events)
+
+-- a greeting by its parts
+record GreetingParts (init : Packet) : Type 0 where
+  version : ℕ
+  extensions : List (List ℕ × List ℕ)
+  high_enough : 3 ≤ version
+  init_is : init ≡ Init version extensions
+
+greeting-parts : (init : Packet) → IsGreeting init → GreetingParts init
+greeting-parts (Init version extensions) greeting =
+    record { version = version; extensions = extensions; high_enough = greeting.0; init_is = refl }
+greeting-parts (Version version extensions) greeting = absurd greeting.0
+greeting-parts (request_packet request) greeting = absurd greeting.0
+greeting-parts (reply_packet reply) greeting = absurd greeting.0
+
+pub log-is-transcript : (input output log : List ℕ) (init : Packet) (events : List Event) (rest : List ℕ)
+    → IsOpened input output log init events rest → IsRecord events log
+log-is-transcript input output log init events rest opened =
+    let parts = greeting-parts init opened.greeting in
+    let packets = our_version ∷ map packet_of events in
+    record {
+      opened = flat_map record_text (init ∷ packets);
+      records = flat_map event_record events;
+      opening = opened.logged;
+      handshake = record {
+        version = parts.version;
+        asked = parts.extensions;
+        told = our_extensions;
+        high_enough = parts.high_enough;
+        init = subst HasSpelling parts.init_is opened.greeting.1;
+        answer = version-spelled;
+        bytes_are = ap (λ (p : Packet). record_text p ++ (record_text our_version ++ flat_map record_text (map packet_of events))) parts.init_is
+            ∙ ap (λ (bytes : List ℕ). record_text (Init parts.version parts.extensions) ++ (record_text our_version ++ bytes)) (records-are events);
+      };
+      recorded = record { spelled = opened.spelled; bytes_are = refl };
+    }
