@@ -1,15 +1,15 @@
 -- The log of a session is a transcript.
 use Rattle.std.proofs.Common.{◌≡◌, ℕ, ◌≤◌, List, [], ◌∷◌, ◌++◌, refl, sym, ap, ◌∙◌, subst, append_assoc, absurd}
-use Rattle.std.specs.Prelude.{map}
+use Rattle.std.specs.Prelude.{map, codes}
 use Rattle.std.specs.List.{flat_map}
 use Rattle.sftp_wire.specs.declared.packets.Packet.{Packet}
 use Rattle.sftp_wire.specs.declared.packets.Packet.TheVariants.{Init, Version, Request as request_packet}
 use Rattle.sftp_wire.specs.declared.packets.Packet.TheVariants.{Reply as reply_packet}
-use Rattle.sftp_wire.specs.Spelling.{HasSpelling}
+use Rattle.sftp_wire.specs.Spelling.{HasSpelling, posix_rename_name, hardlink_name, fsync_name}
 use Rattle.sftp_transcript.specs.declared.events.Event.{Event}
 use Rattle.sftp_transcript.specs.Transcript.{packet_of, record_text, event_record, transcript_opening, IsHandshake}
 use Rattle.sftp_transcript.specs.Transcript.{AreRecords, IsRecord}
-use Rattle.sftp_server.specs.Served.{our_version, our_extensions, session_packets, recorded, IsGreeting, IsOpened}
+use Rattle.sftp_server.specs.Served.{our_version, session_packets, recorded, IsGreeting, IsOpened}
 use Rattle.sftp_server.proofs.Sessions.Opened.{version-spelled}
 
 records-are : (events : List Event) → flat_map record_text (map packet_of events) ≡ flat_map event_record events
@@ -42,7 +42,7 @@ log-is-transcript input output log init events rest opened =
       handshake = record {
         version = parts.version;
         asked = parts.extensions;
-        told = our_extensions;
+        told = (posix_rename_name, codes "1") ∷ (hardlink_name, codes "1") ∷ (fsync_name, codes "1") ∷ [];
         high_enough = parts.high_enough;
         init = subst HasSpelling parts.init_is opened.greeting.1;
         answer = version-spelled;
