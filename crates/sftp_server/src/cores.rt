@@ -2,7 +2,9 @@
 //! (draft-ietf-secsh-filexfer-02, section 6.1).
 ghost use Rattle.std.specs.Prelude.{◌≡◌, ◌≢◌, ◌≤◌, [], true, false, length, IsTrue, IfOk, IfErr, OnOk, OnErr, IfSome};
 ghost use Rattle.std.specs.Prelude.{IfNone};
-ghost use Rattle.std.specs.Prelude.{◌↔◌, nat_lt, Some, if◌then◌else◌};
+ghost use Rattle.std.specs.Prelude.{◌↔◌, ◌<◌, nat_lt, Some, if◌then◌else◌, slice_get};
+ghost use Rattle.sftp_wire.specs.declared.packets.Packet.TheVariants.{Reply as reply_packet};
+ghost use Rattle.sftp_wire.specs.Spelling.{HasSpelling};
 ghost use Rattle.sftp_handles.specs.State as states;
 ghost use Rattle.sftp_handles.specs.Allowed.{Allowed};
 ghost use Rattle.sftp_server.specs.declared.refusals.Did.TheVariants as did;
@@ -10,7 +12,8 @@ ghost use Rattle.sftp_server.specs.declared.refusals.Refuse.TheVariants.{Full as
 ghost use Rattle.sftp_server.specs.declared.refusals.Refuse.TheVariants.{NoMemory as no_memory};
 ghost use Rattle.sftp_server.specs.Machine.{is_unsent};
 ghost use Rattle.sftp_server.specs.Machine.{at_start, taken, can_take, is_ready, is_pending_at, reply_at, IsWorked};
-ghost use Rattle.sftp_server.specs.Machine.{IsSent};
+ghost use Rattle.sftp_server.specs.Machine.{IsSent, from_unsent};
+ghost use Rattle.sftp_server.specs.Choices.{choices_of};
 ghost use Rattle.sftp_server.specs.Core.{server_clash, started, IsRefusedFor};
 ghost use Rattle.sftp_server.specs.Served.{closed_tree};
 
@@ -42,13 +45,13 @@ pub struct Core {
 impl Model for Core {
     ghost use Rattle.sftp_handles.specs.State.{State};
     ghost use Rattle.sftp_server.specs.Machine.{Machine};
-    ghost use Rattle.sftp_server.specs.Core.{IsBounded};
+    ghost use Rattle.sftp_server.specs.Core.{IsCore};
 
     ghost Value = { Machine State };
 
     ghost view = { λ c. record { state = c.session; window = c.window; queue = c.queue } };
 
-    ghost invariant = { λ c. IsBounded c.window c.queue };
+    ghost invariant = { λ c. IsCore c.window c.queue };
 }
 
 impl Core {
@@ -60,7 +63,8 @@ impl Core {
     /// `NoMemory` if memory runs out.
     pub fn new(tree: Tree, window: usize) -> Result<Core, NoMemory>
         requires { (1 ≤ window) × (window ≤ 1024) }
-        ensures { IfOk result (λ core. core ≡ at_start (started tree) window) }
+        ensures start { IfOk result (λ core. core ≡ at_start (started tree) window) }
+        ensures good { OnOk result (states.Good (started tree)) }
     {
         let alloc = tree.allocator();
         Ok(Core {
@@ -162,6 +166,7 @@ impl Core {
     pub fn send(&mut self, k: usize) -> Option<Reply>
         ensures reply { result ≡ reply_at self.old.queue k }
         ensures sent { IfSome result (λ reply. IsSent self.old k reply self.new) }
+        ensures spelled { IfSome result (λ reply. HasSpelling (reply_packet reply)) }
         ensures unchanged { IfNone result (self.new ≡ self.old) }
     {
         self.queue.send(k)
@@ -169,13 +174,13 @@ impl Core {
 
     /// How many acts are possible: requests that are ready, and replies to be sent.
     pub(crate) fn choices(&self) -> usize
-        ensures { result ≡ length (choices_of server_clash self.now) }
+        ensures count { result ≡ length (choices_of server_clash self.now) }
+        ensures front { from_unsent self.now.queue ≡ self.now.queue }
     {
-        let ready = match self.queue.first_pending() {
-            Some(_) => 1,
-            None => 0,
-        };
-        self.queue.done() + ready
+        match self.queue.first_pending() {
+            Some(_) => self.queue.done() + 1,
+            None => self.queue.done(),
+        }
     }
 
     /// The act of this number, from 0, among those possible, in the order of the queue.
@@ -183,9 +188,10 @@ impl Core {
         requires { number < length (choices_of server_clash self.now) }
         ensures { slice_get (choices_of server_clash self.now) number ≡ Some result }
     {
+        let pending = self.queue.first_pending();
         match self.queue.done_at(number) {
             Some(k) => Choice::Send(k),
-            None => match self.queue.first_pending() {
+            None => match pending {
                 Some(k) => Choice::Work(k),
                 None => unreachable!(),
             },
