@@ -92,7 +92,7 @@ unsent-left id (entry ∷ queue) = by (is_sent entry.progress) refl (unsent-left
         → is_unsent id (if is_sent entry.progress then from_unsent queue else entry ∷ queue)
         ≡ ((not (is_sent entry.progress) && entry.request.id == id) || is_unsent id queue)
     by true is rest = rw is rest
-    by false is rest = rw is refl
+    by false is rest = rw (is, is) refl
 
 -- ---- the answered ids
 
