@@ -1,16 +1,14 @@
 -- A request is done, or a reply is sent, in a running session.
-use Rattle.std.proofs.Common.{◌≡◌, ◌⊎◌, ◌==◌, ◌&&◌, ◌||◌, not, ◌≤◌, ℕ, Bool, true, false, List, [], ◌∷◌, ◌++◌, length, map}
-use Rattle.std.proofs.Common.{Option, Some, None, Result, Ok, Err, OnOk, IfErr, MatchResult, IsTrue, if◌then◌else◌}
+use Rattle.std.proofs.Common.{◌≡◌, ◌⊎◌, ◌==◌, ◌&&◌, ◌||◌, not, ℕ, Bool, true, false, List, [], ◌∷◌, ◌++◌, length, map}
+use Rattle.std.proofs.Common.{Option, Some, None, Result, Ok, Err, OnOk, IfErr, IsTrue, if◌then◌else◌}
 use Rattle.std.proofs.Common.{inl, inr, refl, sym, ap, subst, ◌∙◌, arith}
 use Rattle.std.specs.Io.KnownBytes.{Appends, Consumes}
 use Rattle.std.proofs.KnownBytes.{Appends-trans}
 use Rattle.std.specs.List.{AllByRecursion}
 use Rattle.sftp_wire.specs.declared.errors.WireError.TheVariants.{Unreadable}
-use Rattle.sftp_wire.specs.declared.packets.Packet.{Packet}
 use Rattle.sftp_wire.specs.declared.packets.Packet.TheVariants.{Reply as reply_packet}
 use Rattle.sftp_wire.specs.declared.packets.Request.{Request}
 use Rattle.sftp_wire.specs.declared.packets.Reply.{Reply}
-use Rattle.sftp_wire.specs.declared.packets.Side.TheVariants.{Client, Server}
 use Rattle.sftp_wire.specs.Framing.{place_after}
 use Rattle.sftp_wire.specs.Spelling.{spelling, HasSpelling}
 use Rattle.sftp_transcript.specs.declared.events.Event.{Event}
@@ -24,15 +22,13 @@ use Rattle.sftp_server.specs.declared.ends.SessionFault.{SessionFault}
 use Rattle.sftp_server.specs.declared.ends.SessionFault.TheVariants as faults
 use Rattle.sftp_server.specs.declared.ends.Stop.{Stop}
 use Rattle.sftp_server.specs.declared.ends.Stop.TheVariants as stops
-use Rattle.sftp_server.specs.declared.ends.Stream.{Stream}
-use Rattle.sftp_server.specs.declared.ends.Stream.TheVariants as streams
 use Rattle.sftp_server.specs.declared.queue.Entry.{Entry}
 use Rattle.sftp_server.specs.declared.queue.Progress.TheVariants.{Pending, Done, Sent}
 use Rattle.sftp_server.specs.Machine.{Machine, is_sent, is_unsent, is_ready, reply_at, from_unsent, IsWorked, IsSent}
 use Rattle.sftp_server.specs.Core.{server_clash, started, IsReached}
-use Rattle.sftp_server.specs.Served.{session_packets, our_version, sent_by, recorded, answered_last, IsListed}
-use Rattle.sftp_server.specs.Sessions.{StreamBytes, stream_bytes, Passed, Serves, ended_by, IsLogging, Ahead, IsRunning}
-use Rattle.sftp_server.specs.Sessions.{IsFaultAhead, FailsToSend, SendsOn, CountsStop, CountsCall, Spares}
+use Rattle.sftp_server.specs.Served.{session_packets, our_version, answered_last, IsListed}
+use Rattle.sftp_server.specs.Sessions.{StreamBytes, stream_bytes, IsLogging, Ahead, IsRunning}
+use Rattle.sftp_server.specs.Sessions.{IsFaultAhead, FailsToSend, SendsOn}
 use Rattle.sftp_server.proofs.Machines.InOrder.{reply-for}
 use Rattle.sftp_server.proofs.Machines.Reached.{reached-worked, reached-sent}
 use Rattle.sftp_server.proofs.Sessions.Lists.{session-more, replied-session, events-more}
@@ -41,7 +37,7 @@ use Rattle.sftp_server.proofs.Sessions.Stops.{stopped-no-memory}
 
 -- ---- the unsent requests
 
--- the head of `is_unsent` by whether it is sent
+-- a request that is done is not sent yet
 unsent-worked : (id : ℕ) (front : List Entry) (request : Request) (reply : Reply) (back : List Entry)
     → is_unsent id (front ++ record { request = request; progress = Done reply } ∷ back)
     ≡ is_unsent id (front ++ record { request = request; progress = Pending } ∷ back)
@@ -62,7 +58,7 @@ or-cases : (a b : Bool) → a || b ≡ true → (a ≡ true) ⊎ (b ≡ true)
 or-cases true b is = inl refl
 or-cases false b is = inr is
 
--- once one reply is sent, each unsent id is still unsent or the id of that request
+-- once a reply is sent, an id that was unsent is still unsent, or is that of its request
 unsent-sent : (id : ℕ) (front : List Entry) (request : Request) (reply : Reply) (back : List Entry)
     → is_unsent id (front ++ record { request = request; progress = Done reply } ∷ back) ≡ true
     → (is_unsent id (front ++ record { request = request; progress = Sent } ∷ back) ≡ true)
@@ -75,14 +71,14 @@ unsent-sent id (entry ∷ front) request reply back unsent =
     let old : Bool = is_unsent id (front ++ record { request = request; progress = Done reply } ∷ back) in
     let new : Bool = is_unsent id (front ++ record { request = request; progress = Sent } ∷ back) in
     elim (or-cases here old unsent) [
-    | inl first ↦ inl (or-left here new first)
-    | inr later ↦ elim (unsent-sent id front request reply back later) [
-    | inl still ↦ inl (or-right here new still)
-    | inr same ↦ inr same
-    ]
+      | inl first ↦ inl (or-left here new first)
+      | inr later ↦ elim (unsent-sent id front request reply back later) [
+        | inl still ↦ inl (or-right here new still)
+        | inr same ↦ inr same
+      ]
     ]
 
--- requests that were sent are not missed
+-- the requests that leave the queue were sent
 unsent-left : (id : ℕ) (queue : List Entry) → is_unsent id (from_unsent queue) ≡ is_unsent id queue
 unfolding is_unsent from_unsent
 unsent-left id [] = refl
@@ -94,7 +90,7 @@ unsent-left id (entry ∷ queue) = by (is_sent entry.progress) refl (unsent-left
     by true is rest = rw is rest
     by false is rest = rw (is, is) refl
 
--- ---- the answered ids
+-- ---- the ids answered last
 
 answered-more : (id : ℕ) (since : Bool) (events : List Event) (reply : Reply)
     → answered_last id since (events ++ Replied reply ∷ []) ≡ answered_last id since events || reply.id == id
@@ -105,7 +101,7 @@ answered-more id since (Replied first ∷ events) reply = answered-more id (sinc
 
 -- ---- the fault in front
 
--- an id is in use, or was answered last
+-- an unsent request has the id, or it was answered last
 abbrev IsUsed : ℕ → List Event → List Entry → Type 0
 IsUsed id events queue = IsTrue (is_unsent id queue) ⊎ IsTrue (answered_last id false events)
 
@@ -133,10 +129,10 @@ used-sent : {core0 core1 : Machine State} {k : ℕ} {reply : Reply} (sent : IsSe
     → IsUsed id (events ++ Replied reply ∷ []) core1.queue
 used-sent {core0} {core1} {k} {reply} sent events same id (inl unsent) =
     elim (unsent-sent id sent.front sent.request reply sent.back (ap (is_unsent id) (sym sent.queue_is) ∙ unsent)) [
-    | inl still ↦ inl (ap (λ (m : Machine State). is_unsent id m.queue) sent.marked
-    ∙ unsent-left id (sent.front ++ record { request = sent.request; progress = Sent } ∷ sent.back) ∙ still)
-    | inr here ↦ inr (answered-more id false events reply
-    ∙ or-right (answered_last id false events) (reply.id == id) (ap (λ (n : ℕ). n == id) same ∙ here))
+      | inl still ↦ inl (ap (λ (m : Machine State). is_unsent id m.queue) sent.marked
+          ∙ unsent-left id (sent.front ++ record { request = sent.request; progress = Sent } ∷ sent.back) ∙ still)
+      | inr here ↦ inr (answered-more id false events reply
+          ∙ or-right (answered_last id false events) (reply.id == id) (ap (λ (n : ℕ). n == id) same ∙ here))
     ]
 used-sent {core0} {core1} {k} {reply} sent events same id (inr answered) =
     inr (answered-more id false events reply ∙ or-left (answered_last id false events) (reply.id == id) answered)
@@ -265,26 +261,3 @@ worked-on core0 core1 k written logged (Ok done) ready worked stopped =
 worked-on core0 core1 k written logged (Err stop) ready worked stopped =
     subst (λ (s : Stop). SendsOn core0 core1 written written logged logged (Err s)) (sym stopped)
     (sends-nothing core0 core1 written logged)
-
--- a call that fails only where memory runs out counts for no stream
-pub counts-nothing : (stream : Stream) (result : Result (Unit {0}) Stop) (count : ℕ)
-    → IfErr result (λ stop. stop ≡ stops.NoMemory) → CountsCall stream result count count
-counts-nothing stream (Ok done) count stopped = refl
-counts-nothing stream (Err stop) count stopped =
-    subst (λ (s : Stop). CountsStop stream s count count) (sym stopped) refl
-
-pub spares-without : (stream : Stream) (result : Result (Unit {0}) Stop)
-    → IfErr result (λ stop. stop ≡ stops.NoMemory) → Spares stream result
-spares-without stream (Ok done) stopped = tt
-spares-without stream (Err stop) stopped = λ same. absurd (no-stream (sym stopped ∙ same))
-  where
-    no-stream : stops.NoMemory ≡ stops.Io stream → ⊥
-    no-stream e = cc
-
--- no reader fails where a packet is sent
-pub spares-reader : (packet : Packet) (written0 written1 : Option (List ℕ)) (log0 log1 : Log)
-    (result : Result (Unit {0}) Stop) → IfErr result (λ stop. FailsToSend packet written0 written1 log0 log1 stop)
-    → Spares streams.Reader result
-spares-reader packet written0 written1 log0 log1 (Ok done) fails = tt
-spares-reader packet written0 written1 log0 log1 (Err stop) fails = λ same.
-    subst (λ (s : Stop). FailsToSend packet written0 written1 log0 log1 s) same fails

@@ -1,5 +1,5 @@
 -- A session that stops where a stream fails or memory runs out.
-use Rattle.std.proofs.Common.{◌≡◌, ◌≢◌, ◌≤◌, ℕ, Bool, if◌then◌else◌, List, [], ◌∷◌, ◌++◌, Option, Some, None, refl, sym, ap, ◌∙◌}
+use Rattle.std.proofs.Common.{◌≡◌, ◌≢◌, ℕ, Bool, if◌then◌else◌, List, [], ◌∷◌, ◌++◌, Option, refl, sym, ap, ◌∙◌}
 use Rattle.std.proofs.Common.{inl, inr, arith, append-nil, ne_eqb}
 use Rattle.std.specs.Io.KnownBytes.{Keeps}
 use Rattle.std.proofs.KnownBytes.{Appends-trans, Appends-kept, Consumes-kept, Keeps-refl}
@@ -9,7 +9,7 @@ use Rattle.sftp_wire.specs.declared.packets.Side.TheVariants.{Client, Server}
 use Rattle.sftp_wire.specs.Spelling.{spelling, side_of}
 use Rattle.sftp_transcript.specs.declared.events.Event.{Event}
 use Rattle.sftp_transcript.specs.Explained.{BeginsFrom}
-use Rattle.sftp_transcript.specs.Log.{Log, opening_before, opened_text}
+use Rattle.sftp_transcript.specs.Log.{Log, opened_text}
 use Rattle.sftp_transcript.specs.Transcript.{record_text, transcript_opening}
 use Rattle.sftp_tree.specs.Tree.{Tree}
 use Rattle.sftp_tree.proofs.Walks.Places.{path-found}
@@ -79,11 +79,6 @@ pub reached-begins : (start : Tree) (events : List Event) (core : Machine State)
 reached-begins start events core good reached =
     in_order.begun stays-good each-answered (started start) 1024 events core good (omega arith) reached
 
-pub reached-good : (start : Tree) (events : List Event) (core : Machine State) → Good (started start)
-    → IsReached (started start) 1024 events core → Good core.state
-reached-good start events core good reached =
-    in_order.still-good stays-good each-answered (started start) 1024 events core good (omega arith) reached
-
 pub begun : {start : Tree} {past now : StreamBytes} {ahead : Ahead} {core : Machine State} {fault : Option SessionFault}
     → (running : IsRunning start past now ahead core fault) → BeginsFrom Allowed (settled start []) running.events
 begun {start = start} {core = core} running = reached-begins start running.events core running.good running.reached
@@ -115,8 +110,14 @@ cut-whole [] = inl (refl, refl)
 cut-whole (first ∷ packets) =
     let split = split-last first packets in
     let last : List ℕ = opened_record split.0 split.1 in
-    inr (split.0, split.1, last, split.2, ([], sym (append-nil last)),
-    ap recorded split.2 ∙ recorded-behind split.0 split.1)
+    inr (
+      split.0,
+      split.1,
+      last,
+      split.2,
+      ([], sym (append-nil last)),
+      ap recorded split.2 ∙ recorded-behind split.0 split.1,
+    )
 
 -- ---- a session that stops between packets
 
@@ -256,8 +257,10 @@ stopped-sending start past left written0 written1 log0 log1 first others packet 
         rest = rest;
         listed = more;
         read = ap (λ (l : List ℕ). l ++ rest) (sym (client-silent packets packet side));
-        left = (sym (server-sent packets packet side),
-            inr (packets, packet, fails.1.part, refl, (fails.1.rest, sym text ∙ fails.1.parts), refl));
+        left = (
+          sym (server-sent packets packet side),
+          inr (packets, packet, fails.1.part, refl, (fails.1.rest, sym text ∙ fails.1.parts), refl),
+        );
       };
     }
 stopped-sending start past left written0 written1 log0 log1 first others packet rest stops.NoMemory logging listed more
