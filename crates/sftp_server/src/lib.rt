@@ -5,6 +5,7 @@
 mod acts;
 mod cores;
 mod ends;
+pub mod examples;
 mod input;
 pub mod laws;
 mod opening;
