@@ -22,8 +22,8 @@ use Rattle.sftp_server.specs.Machine.{is_ready, reply_at, from_unsent, IsWorked,
 use Rattle.sftp_server.specs.Machine.{IsSend, IsAct, AreActs, Delivers}
 use Rattle.sftp_server.proofs.Machines.Premises.{Premises}
 use Rattle.sftp_server.proofs.Machines.Histories.{Fate, Item, Pair, pending, done, sent, progress_of, entry_of}
-use Rattle.sftp_server.proofs.Machines.Histories.{entries_of, ledger_of, answered, sent_first, unsent_on, IsItem, IsReplyFor}
-use Rattle.sftp_server.proofs.Machines.Histories.{RunsOn, Follows}
+use Rattle.sftp_server.proofs.Machines.Histories.{entries_of, ledger_of, answered, sent_first, unsent_on, IsItem}
+use Rattle.sftp_server.proofs.Machines.Histories.{IsReplyFor, RunsOn, Follows}
 use Rattle.sftp_server.proofs.Machines.Runs.{runs-asked, runs-worked, runs-sent, runs-left}
 use Rattle.sftp_server.proofs.Machines.Ledgers.{stands-taken, ledger-worked, stands-sent, queue-left}
 use Rattle.sftp_server.proofs.Machines.Ledgers.{ledger-left, all-left}

@@ -32,8 +32,8 @@ use Rattle.sftp_server.specs.Sessions.{IsFaultAhead, FailsToSend, SendsOn}
 use Rattle.sftp_server.proofs.Machines.InOrder.{reply-for}
 use Rattle.sftp_server.proofs.Machines.Reached.{reached-worked, reached-sent}
 use Rattle.sftp_server.proofs.Sessions.Lists.{session-more, replied-session, events-more}
-use Rattle.sftp_server.proofs.Sessions.Stops.{stays-good, each-answered, reached-begins, running-listed, stopped-sending}
-use Rattle.sftp_server.proofs.Sessions.Stops.{stopped-no-memory}
+use Rattle.sftp_server.proofs.Sessions.Stops.{stays-good, each-answered, reached-begins, running-listed}
+use Rattle.sftp_server.proofs.Sessions.Stops.{stopped-no-memory, stopped-sending}
 
 -- ---- the unsent requests
 
@@ -199,8 +199,8 @@ pub running-replied : (start : Tree) (past : StreamBytes) (left written0 written
     → Appends written0 written1 (spelling (reply_packet reply))
     → Appends logged0 logged1 (record_text (reply_packet reply))
     → IsRunning start past (stream_bytes left written1 logged1) ahead core1 fault
-running-replied start past left written0 written1 logged0 logged1 ahead core0 core1 k reply fault running at sent written
-    logged =
+running-replied start past left written0 written1 logged0 logged1 ahead core0 core1 k reply fault running at sent
+    written logged =
     let more = replied-session running.init running.events reply in
     record {
       init = running.init;
@@ -231,18 +231,19 @@ pub replied : (core0 core1 : Machine State) (k : ℕ) (reply : Reply) (written0 
     → SendsOn core0 core1 written0 written1 log0.bytes log1.bytes result
 replied core0 core1 k reply written0 written1 log0 log1 (Ok done) at sent logging written logged fails start past left
     ahead fault running =
-    running-replied start past left written0 written1 log0.bytes log1.bytes ahead core0 core1 k reply fault running at sent
-    written logged
+    running-replied start past left written0 written1 log0.bytes log1.bytes ahead core0 core1 k reply fault running at
+    sent written logged
 replied core0 core1 k reply written0 written1 log0 log1 (Err stop) at sent logging written logged fails start past left
     ahead fault running =
-    stopped-sending start past left written0 written1 log0 log1 running.init (our_version ∷ map packet_of running.events)
+    stopped-sending start past left written0 written1 log0 log1 running.init
+    (our_version ∷ map packet_of running.events)
     (reply_packet reply) ahead.held stop logging (running-listed running) (listed-replied running at sent) refl
     running.passed fails
 
 -- ---- call after call
 
-pub sends-more : (core0 core1 core2 : Machine State) (written0 written1 written2 logged0 logged1 logged2 : Option (List ℕ))
-    (result : Result (Unit {0}) Stop) → SendsOn core0 core1 written0 written1 logged0 logged1 (Ok tt)
+pub sends-more : (core0 core1 core2 : Machine State)
+    (written0 written1 written2 logged0 logged1 logged2 : Option (List ℕ)) (result : Result (Unit {0}) Stop) → SendsOn core0 core1 written0 written1 logged0 logged1 (Ok tt)
     → SendsOn core1 core2 written1 written2 logged1 logged2 result
     → SendsOn core0 core2 written0 written2 logged0 logged2 result
 sends-more core0 core1 core2 written0 written1 written2 logged0 logged1 logged2 result first more start past left ahead

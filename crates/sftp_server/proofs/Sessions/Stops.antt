@@ -26,7 +26,8 @@ use Rattle.sftp_server.specs.declared.ends.Stop.TheVariants as stops
 use Rattle.sftp_server.specs.declared.ends.Stream.TheVariants as streams
 use Rattle.sftp_server.specs.Machine.{Machine}
 use Rattle.sftp_server.specs.Core.{started, IsReached}
-use Rattle.sftp_server.specs.Served.{session_packets, sent_by, spelled_if, recorded, opened_record, IsListed, IsCutInLast}
+use Rattle.sftp_server.specs.Served.{session_packets, sent_by, spelled_if, recorded, opened_record, IsListed}
+use Rattle.sftp_server.specs.Served.{IsCutInLast}
 use Rattle.sftp_server.specs.Sessions.{StreamBytes, stream_bytes, Passed, Serves, ended_by, IsLogging, Ahead, IsRunning}
 use Rattle.sftp_server.specs.Sessions.{FailsToSend}
 use Rattle.sftp_server.proofs.Machines.InOrder as in_order

@@ -1,3 +1,4 @@
+-- A request that is done leads on, and fewer acts are owed then.
 use Rattle.std.proofs.Common.{subst}
 use Rattle.std.proofs.lemmas.Result.{on_ok_weaker}
 use Rattle.sftp_handles.specs.Allowed.{Allowed}

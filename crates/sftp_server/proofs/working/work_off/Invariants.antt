@@ -6,7 +6,8 @@ use Rattle.sftp_server.proofs.working.work_off.Given as goal
 
 abbrev pub invariant-owed : goal.invariant-owed
 invariant-owed g l = record {
-  running : SendsOn l.initial.core l.core (g.W.Sink.written l.initial.writer) (g.W.Sink.written l.writer) l.initial.log.bytes l.log.bytes (Ok tt);
+  running : SendsOn l.initial.core l.core (g.W.Sink.written l.initial.writer) (g.W.Sink.written l.writer)
+      l.initial.log.bytes l.log.bytes (Ok tt);
   logging : IsLogging l.log;
   same_writer : g.W.Sink.failures l.writer ≡ g.W.Sink.failures l.initial.writer;
   same_log : l.log.failures ≡ l.initial.log.failures;
