@@ -4,3 +4,4 @@ pub mod Asked
 pub mod Replied
 pub mod Opened
 pub mod Closed
+pub mod Logged
