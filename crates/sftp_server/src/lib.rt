@@ -3,6 +3,7 @@
 #![tactic(auto)]
 
 mod acts;
+mod copying;
 mod cores;
 mod ends;
 pub mod examples;
@@ -12,6 +13,7 @@ mod opening;
 mod queue;
 mod refusals;
 mod schedules;
+mod scripts;
 mod sending;
 mod serving;
 mod taking;
@@ -23,4 +25,5 @@ pub use cores::Core;
 pub use ends::{Ended, SessionFault, Stream};
 pub use refusals::{Did, Refuse};
 pub use schedules::{InOrder, Schedule, Shuffle};
+pub use scripts::run_script;
 pub use serving::serve;
