@@ -1,6 +1,8 @@
 -- What the calls of the queue say of the core.
 use Rattle.std.proofs.Common.{◌≡◌, ◌==◌, ◌&&◌, not, nat_eq, ℕ, zero, suc, ◌≤◌, Bool, true, false, List, [], ◌∷◌, ◌++◌}
-use Rattle.std.proofs.Common.{Option, Some, None, length, take, slice_get, refl, sym, ap, ◌∙◌, arith, IsTrue}
+use Rattle.std.proofs.Common.{Option, Some, None, length, take, slice_get, refl, sym, ap, subst, ◌∙◌, arith, IsTrue, ◌<◌}
+use Rattle.std.proofs.Common.{length-append}
+use Rattle.std.specs.List.{AllByRecursion}
 use Rattle.std.specs.Option.{option_map, IfSome, IfNone}
 use Rattle.std.proofs.lemmas.Bool.{true≢false, eq-eqb, eqb-true, cases_Bool}
 use Rattle.std.proofs.lemmas.Option.{none-some, same_Some}
@@ -14,10 +16,11 @@ use Rattle.sftp_server.specs.declared.queue.Entry.{Entry}
 use Rattle.sftp_server.specs.declared.queue.Progress.{Progress}
 use Rattle.sftp_server.specs.declared.queue.Progress.TheVariants.{Pending, Done, Sent}
 use Rattle.sftp_server.specs.Machine.{Machine, is_pending, is_free_of, ready_in, reply_of, reply_at, IsSent, IsWorked}
-use Rattle.sftp_server.specs.Machine.{from_unsent}
+use Rattle.sftp_server.specs.Machine.{from_unsent, is_sent}
 use Rattle.sftp_server.specs.Queue.{first_pending_of, next_request_of, with_progress}
-use Rattle.sftp_server.specs.Core.{server_clash, IsBounded}
-use Rattle.sftp_server.proofs.Queues.{length-progress, from_unsent-short}
+use Rattle.sftp_server.specs.Core.{server_clash, HasGoodReply, IsSendable, IsCore}
+use Rattle.sftp_server.proofs.Queues.{length-progress, from_unsent-short, from_unsent-pushed, front-done, from_unsent-again}
+use Rattle.sftp_server.proofs.Machines.Acts.{all-append, all-parts}
 
 -- ---- what is ready
 
@@ -243,24 +246,95 @@ worked-step machine after k request reply first next allowed spelled window queu
       marked = queue ∙ at.changed (Done reply);
     }
 
--- ---- the bounds stay
+-- ---- what the core keeps
 
-pub bounded-worked : (window : ℕ) (queue : List Entry) (k : ℕ) (progress : Progress) → IsBounded window queue
-    → IsBounded window (with_progress queue k progress)
-bounded-worked window queue k progress is = record {
+pub core-new : (window : ℕ) → 1 ≤ window → window ≤ 1024 → IsCore window []
+unfolding from_unsent
+core-new window some bounded =
+    record { some = some; bounded = bounded; few = omega arith; front = refl; sendable = tt }
+
+pub core-taken : (window : ℕ) (queue : List Entry) (request : Request) → IsCore window queue
+    → length queue < window → IsCore window (queue ++ record { request = request; progress = Pending } ∷ [])
+core-taken window queue request is room = record {
   some = is.some;
   bounded = is.bounded;
-  few = rw (length-progress queue k progress) is.few;
+  few = simp length-append (omega (arith, room));
+  front = from_unsent-pushed queue request is.front;
+  sendable = all-append IsSendable queue (record { request = request; progress = Pending } ∷ []) is.sendable (tt, tt);
 }
 
-pub bounded-sent : (window : ℕ) (queue after : List Entry) (k : ℕ) (found : Option Reply) → IsBounded window queue
+sendable-worked : (queue : List Entry) (k : ℕ) (request : Request) (reply : Reply) → IsAt queue k request Pending
+    → reply.id ≡ request.id → HasSpelling (reply_packet reply) → AllByRecursion IsSendable queue
+    → AllByRecursion IsSendable (with_progress queue k (Done reply))
+sendable-worked queue k request reply at same spelled all =
+    let entry : Entry = record { request = request; progress = Pending } in
+    let changed : Entry = record { request = request; progress = Done reply } in
+    let parts = all-parts IsSendable at.front entry at.back (subst (λ q. AllByRecursion IsSendable q) at.queue_is all) in
+    subst (λ q. AllByRecursion IsSendable q) (sym (at.changed (Done reply)))
+    (all-append IsSendable at.front (changed ∷ at.back) parts.before ((same, spelled), parts.after))
+
+pub core-worked : (window : ℕ) (queue : List Entry) (k : ℕ) (request : Request) (reply : Reply)
+    → first_pending_of queue ≡ Some k → next_request_of queue ≡ Some request → reply.id ≡ request.id
+    → HasSpelling (reply_packet reply) → IsCore window queue → IsCore window (with_progress queue k (Done reply))
+core-worked window queue k request reply first next same spelled is = record {
+  some = is.some;
+  bounded = is.bounded;
+  few = rw (length-progress queue k (Done reply)) is.few;
+  front = front-done queue k reply is.front;
+  sendable = sendable-worked queue k request reply (at-first_pending queue k request first next) same spelled is.sendable;
+}
+
+sendable-sent : (queue : List Entry) (k : ℕ) → AllByRecursion IsSendable queue
+    → AllByRecursion IsSendable (with_progress queue k Sent)
+unfolding with_progress
+sendable-sent [] k all = tt
+sendable-sent (entry ∷ queue) zero all = (tt, all.1)
+sendable-sent (entry ∷ queue) (suc k) all = (all.0, sendable-sent queue k all.1)
+
+sendable-front : (queue : List Entry) → AllByRecursion IsSendable queue
+    → AllByRecursion IsSendable (from_unsent queue)
+unfolding from_unsent
+sendable-front [] all = tt
+sendable-front (entry ∷ queue) all = by (sendable-front queue all.1) (is_sent entry.progress) refl
+  where
+    by : AllByRecursion IsSendable (from_unsent queue) → (b : Bool) → is_sent entry.progress ≡ b
+        → AllByRecursion IsSendable (from_unsent (entry ∷ queue))
+    by rest true is = rw is rest
+    by rest false is = rw is all
+
+pub core-sent : (window : ℕ) (queue after : List Entry) (k : ℕ) (found : Option Reply) → IsCore window queue
     → IfSome found (λ reply. after ≡ from_unsent (with_progress queue k Sent)) → IfNone found (after ≡ queue)
-    → IsBounded window after
-bounded-sent window queue after k None is sent unchanged = rw unchanged is
-bounded-sent window queue after k (Some reply) is sent unchanged =
+    → IsCore window after
+core-sent window queue after k None is sent unchanged = rw unchanged is
+core-sent window queue after k (Some reply) is sent unchanged =
     let shorter = from_unsent-short (with_progress queue k Sent) in
     let same = length-progress queue k Sent in
-    rw sent record { some = is.some; bounded = is.bounded; few = omega (arith, shorter, same, is.few) }
+    rw sent record {
+      some = is.some;
+      bounded = is.bounded;
+      few = omega (arith, shorter, same, is.few);
+      front = from_unsent-again (with_progress queue k Sent);
+      sendable = sendable-front (with_progress queue k Sent) (sendable-sent queue k is.sendable);
+    }
+
+sendable-done : (request : Request) (progress : Progress) (reply : Reply) → reply_of progress ≡ Some reply
+    → HasGoodReply request.id progress → HasSpelling (reply_packet reply)
+sendable-done request Pending reply is good = absurd (none-some reply is)
+sendable-done request (Done given) reply is good =
+    subst (λ (r : Reply). HasSpelling (reply_packet r)) (same_Some given reply is) good.1
+sendable-done request Sent reply is good = absurd (none-some reply is)
+
+-- a reply of the queue can be encoded
+pub spelled-at : (queue : List Entry) (k : ℕ) (reply : Reply) → AllByRecursion IsSendable queue
+    → reply_at queue k ≡ Some reply → HasSpelling (reply_packet reply)
+spelled-at [] k reply all is = absurd (none-some reply is)
+spelled-at (entry ∷ queue) zero reply all is = sendable-done entry.request entry.progress reply is all.0
+spelled-at (entry ∷ queue) (suc k) reply all is = spelled-at queue k reply all.1 is
+
+pub spelled-answers : (queue : List Entry) (k : ℕ) (found : Option Reply) → AllByRecursion IsSendable queue
+    → found ≡ reply_at queue k → IfSome found (λ reply. HasSpelling (reply_packet reply))
+spelled-answers queue k None all is = tt
+spelled-answers queue k (Some reply) all is = spelled-at queue k reply all (sym is)
 
 pub sent-answers : (machine : Machine State) (after : List Entry) (k : ℕ) (found : Option Reply)
     → found ≡ reply_at machine.queue k

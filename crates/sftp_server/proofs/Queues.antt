@@ -107,7 +107,7 @@ queue-new = record { front = refl; indexed = λ id. refl; apart = tt; split = tt
 
 -- ---- one request more
 
-from_unsent-pushed : (queue : List Entry) (request : Request) → from_unsent queue ≡ queue
+pub from_unsent-pushed : (queue : List Entry) (request : Request) → from_unsent queue ≡ queue
     → from_unsent (queue ++ record { request = request; progress = Pending } ∷ [])
     ≡ queue ++ record { request = request; progress = Pending } ∷ []
 unfolding from_unsent
@@ -215,12 +215,12 @@ length-progress (entry ∷ queue) (suc k) progress = ap suc (length-progress que
 
 -- ---- the first pending request is done
 
-front-done : (queue : List Entry) (n : ℕ) (reply : Reply) → IsSplit n queue → from_unsent queue ≡ queue
+pub front-done : (queue : List Entry) (n : ℕ) (reply : Reply) → from_unsent queue ≡ queue
     → from_unsent (with_progress queue n (Done reply)) ≡ with_progress queue n (Done reply)
-unfolding from_unsent with_progress IsSplit
-front-done [] n reply split front = refl
-front-done (entry ∷ queue) zero reply split front = refl
-front-done (entry ∷ queue) (suc n) reply split front = by (is_sent entry.progress) refl
+unfolding from_unsent with_progress
+front-done [] n reply front = refl
+front-done (entry ∷ queue) zero reply front = refl
+front-done (entry ∷ queue) (suc n) reply front = by (is_sent entry.progress) refl
   where
     by : (b : Bool) → is_sent entry.progress ≡ b
         → from_unsent (entry ∷ with_progress queue n (Done reply)) ≡ entry ∷ with_progress queue n (Done reply)
@@ -283,7 +283,7 @@ pub queue-done : (queue : List Entry) (ids : List (ℕ × Unit {0})) (n done nex
     → IsQueue queue ids n done → n < length queue → next ≡ suc n → more ≡ suc done
     → IsQueue (with_progress queue n (Done reply)) ids next more
 queue-done queue ids n done next more reply is some next_is more_is = rw (next_is, more_is) record {
-  front = front-done queue n reply is.split is.front;
+  front = front-done queue n reply is.front;
   indexed = λ id. is.indexed id ∙ sym (is_unsent-done id queue n reply is.split);
   apart = apart-done queue n reply is.split is.apart;
   split = split-done queue n reply is.split some;
@@ -400,7 +400,7 @@ done_count-sent (first ∷ queue) (suc k) at reply has = by (done_count-sent que
 
 -- ---- the front leaves
 
-from_unsent-again : (queue : List Entry) → from_unsent (from_unsent queue) ≡ from_unsent queue
+pub from_unsent-again : (queue : List Entry) → from_unsent (from_unsent queue) ≡ from_unsent queue
 unfolding from_unsent
 from_unsent-again [] = refl
 from_unsent-again (entry ∷ queue) = by (from_unsent-again queue) (is_sent entry.progress) refl

@@ -1,18 +1,23 @@
 -- The core of this server: the general machine over the states of sessions.
 use Rattle.std.specs.Prelude.{◌≡◌, nat_lt, ℕ, ◌≤◌, true, List, [], length, IsTrue}
 use Rattle.std.specs.List.{AllByRecursion}
+use Rattle.sftp_wire.specs.declared.packets.Packet.TheVariants.{Reply as reply_packet}
 use Rattle.sftp_wire.specs.declared.packets.Request.{Request}
+use Rattle.sftp_wire.specs.Spelling.{HasSpelling}
 use Rattle.sftp_transcript.specs.declared.events.Event.{Event}
 use Rattle.sftp_tree.specs.Tree.{Tree}
 use Rattle.sftp_handles.specs.State.{State, settled}
 use Rattle.sftp_handles.specs.Allowed.{Allowed}
 use Rattle.sftp_server.specs.declared.queue.Entry.{Entry}
+use Rattle.sftp_server.specs.declared.queue.Progress.{Progress}
+use Rattle.sftp_server.specs.declared.queue.Progress.TheVariants.{Pending, Done, Sent}
 use Rattle.sftp_server.specs.declared.acts.Act.{Act}
 use Rattle.sftp_handles.specs.Laws.{IsAskable}
 use Rattle.sftp_tree.specs.AskValues.{IsAsk}
 use Rattle.sftp_server.specs.declared.refusals.Refuse.{Refuse}
 use Rattle.sftp_server.specs.declared.refusals.Refuse.TheVariants.{Full, IdInUse, NoMemory}
 use Rattle.sftp_server.specs.Machine.{Machine, at_start, ClashOf, AreActs, Delivers, is_unsent, can_take}
+use Rattle.sftp_server.specs.Machine.{from_unsent}
 
 -- The server works in the order asked: any two requests clash.
 abbrev pub server_clash : ClashOf State
@@ -31,11 +36,23 @@ IsRefusedFor machine request NoMemory = IsTrue (can_take machine request)
 
 -- ---- what the core keeps
 
--- the window is 1 to 1,024, and the queue has at most that many requests
-pub record IsBounded (window : ℕ) (queue : List Entry) : Type 0 where
+-- if the request of this id is done, its reply has the id and can be encoded
+abbrev pub HasGoodReply : ℕ → Progress → Type 0
+HasGoodReply id Pending = Unit {0}
+HasGoodReply id (Done reply) = (reply.id ≡ id) × HasSpelling (reply_packet reply)
+HasGoodReply id Sent = Unit {0}
+
+abbrev pub IsSendable : Entry → Type 0
+IsSendable entry = HasGoodReply entry.request.id entry.progress
+
+-- The window is 1 to 1,024, and the queue has at most that many requests, the first of which is not sent. Each reply of
+-- the queue can be sent.
+pub record IsCore (window : ℕ) (queue : List Entry) : Type 0 where
   pub some : 1 ≤ window
   pub bounded : window ≤ 1024
   pub few : length queue ≤ window
+  pub front : from_unsent queue ≡ queue
+  pub sendable : AllByRecursion IsSendable queue
 
 -- ---- requests that can be delivered
 

@@ -21,6 +21,16 @@ unfoldable pub done_count : List Entry → ℕ
 done_count [] = 0
 done_count (entry ∷ queue) = if is_done entry.progress then suc (done_count queue) else done_count queue
 
+abbrev pub done_next : (ℕ → Option ℕ) → ℕ → Option ℕ
+done_next rest zero = Some 0
+done_next rest (suc number) = option_map suc (rest number)
+
+-- the position of the request of this number, from 0, among those done and not sent
+unfoldable pub done_position : List Entry → ℕ → Option ℕ
+done_position [] number = None
+done_position (entry ∷ queue) number =
+    if is_done entry.progress then done_next (done_position queue) number else option_map suc (done_position queue number)
+
 -- the position of the first pending request
 unfoldable pub first_pending_of : List Entry → Option ℕ
 first_pending_of [] = None

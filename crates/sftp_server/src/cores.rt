@@ -2,7 +2,9 @@
 //! (draft-ietf-secsh-filexfer-02, section 6.1).
 ghost use Rattle.std.specs.Prelude.{◌≡◌, ◌≢◌, ◌≤◌, [], true, false, length, IsTrue, IfOk, IfErr, OnOk, OnErr, IfSome};
 ghost use Rattle.std.specs.Prelude.{IfNone};
-ghost use Rattle.std.specs.Prelude.{◌↔◌, nat_lt, Some, if◌then◌else◌};
+ghost use Rattle.std.specs.Prelude.{◌↔◌, ◌<◌, nat_lt, Some, if◌then◌else◌, slice_get};
+ghost use Rattle.sftp_wire.specs.declared.packets.Packet.TheVariants.{Reply as reply_packet};
+ghost use Rattle.sftp_wire.specs.Spelling.{HasSpelling};
 ghost use Rattle.sftp_handles.specs.State as states;
 ghost use Rattle.sftp_handles.specs.Allowed.{Allowed};
 ghost use Rattle.sftp_server.specs.declared.refusals.Did.TheVariants as did;
@@ -10,7 +12,8 @@ ghost use Rattle.sftp_server.specs.declared.refusals.Refuse.TheVariants.{Full as
 ghost use Rattle.sftp_server.specs.declared.refusals.Refuse.TheVariants.{NoMemory as no_memory};
 ghost use Rattle.sftp_server.specs.Machine.{is_unsent};
 ghost use Rattle.sftp_server.specs.Machine.{at_start, taken, can_take, is_ready, is_pending_at, reply_at, IsWorked};
-ghost use Rattle.sftp_server.specs.Machine.{IsSent};
+ghost use Rattle.sftp_server.specs.Machine.{IsSent, from_unsent};
+ghost use Rattle.sftp_server.specs.Choices.{choices_of};
 ghost use Rattle.sftp_server.specs.Core.{server_clash, started, IsRefusedFor};
 ghost use Rattle.sftp_server.specs.Served.{closed_tree};
 
@@ -42,13 +45,13 @@ pub struct Core {
 impl Model for Core {
     ghost use Rattle.sftp_handles.specs.State.{State};
     ghost use Rattle.sftp_server.specs.Machine.{Machine};
-    ghost use Rattle.sftp_server.specs.Core.{IsBounded};
+    ghost use Rattle.sftp_server.specs.Core.{IsCore};
 
     ghost Value = { Machine State };
 
     ghost view = { λ c. record { state = c.session; window = c.window; queue = c.queue } };
 
-    ghost invariant = { λ c. IsBounded c.window c.queue };
+    ghost invariant = { λ c. IsCore c.window c.queue };
 }
 
 impl Core {
@@ -162,6 +165,7 @@ impl Core {
     pub fn send(&mut self, k: usize) -> Option<Reply>
         ensures reply { result ≡ reply_at self.old.queue k }
         ensures sent { IfSome result (λ reply. IsSent self.old k reply self.new) }
+        ensures spelled { IfSome result (λ reply. HasSpelling (reply_packet reply)) }
         ensures unchanged { IfNone result (self.new ≡ self.old) }
     {
         self.queue.send(k)
@@ -169,7 +173,8 @@ impl Core {
 
     /// How many acts are possible: requests that are ready, and replies to be sent.
     pub(crate) fn choices(&self) -> usize
-        ensures { result ≡ length (choices_of server_clash self.now) }
+        ensures count { result ≡ length (choices_of server_clash self.now) }
+        ensures front { from_unsent self.now.queue ≡ self.now.queue }
     {
         let ready = match self.queue.first_pending() {
             Some(_) => 1,

@@ -3,7 +3,8 @@ ghost use Rattle.std.specs.Prelude.{◌≡◌, ◌≢◌, ◌+◌, ℕ, ◌++◌
 ghost use Rattle.std.specs.Prelude.{IfErr, OnOk, OnErr, IfSome, IfNone, option_copied, slice_get};
 ghost use Rattle.sftp_server.specs.declared.queue.Progress.TheVariants as progress;
 ghost use Rattle.sftp_server.specs.Machine.{is_unsent, is_pending, is_pending_at, reply_at, from_unsent};
-ghost use Rattle.sftp_server.specs.Queue.{done_count, first_pending_of, next_request_of, with_progress, sent_in};
+ghost use Rattle.sftp_server.specs.Queue.{done_count, first_pending_of, next_request_of, with_progress, sent_in, is_done};
+ghost use Rattle.sftp_server.specs.Queue.{done_position};
 ghost use Rattle.sftp_server.specs.Queue.{HasReply};
 ghost use Rattle.std.specs.Option.{option_map};
 
@@ -164,7 +165,7 @@ impl Queue {
     pub(crate) fn done_at(&self, number: usize) -> Option<usize>
         ensures { result ≡ done_position self.now number }
     {
-        done_position(&self.entries, number)
+        find_done(&self.entries, number)
     }
 
     /// The reply of the request at this position, which is then sent, if it is done and not sent. Requests at the front
@@ -199,6 +200,35 @@ fn take_reply(entries: &mut VecDeque<Entry>, k: usize) -> Option<(u32, Reply)>
         Progress::Done(reply) => Some((entry.request.id, reply)),
         Progress::Pending => unreachable!(),
         Progress::Sent => unreachable!(),
+    }
+}
+
+/// The position of the request of this number, from 0, among those done and not sent.
+fn find_done(entries: &VecDeque<Entry>, number: usize) -> Option<usize>
+    ensures { result ≡ done_position entries.now.items number }
+{
+    let mut left = number;
+    let mut k = 0;
+    'scan: while let Some(entry) = entries.get(k) {
+        if is_done(&entry.progress) {
+            if left == 0 {
+                return Some(k);
+            }
+            left -= 1;
+        }
+        k += 1;
+    }
+    None
+}
+
+/// Whether the request is done and not sent.
+fn is_done(progress: &Progress) -> bool
+    ensures { result ≡ is_done progress.now }
+{
+    match progress {
+        Progress::Done(_) => true,
+        Progress::Pending => false,
+        Progress::Sent => false,
     }
 }
 

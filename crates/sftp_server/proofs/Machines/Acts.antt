@@ -35,12 +35,12 @@ pub all-append : {X : Type 0} (P : X → Type 0) (xs ys : List X) → AllByRecur
 all-append P [] ys all_xs all_ys = all_ys
 all-append P (x ∷ xs) ys all_xs all_ys = (all_xs.0, all-append P xs ys all_xs.1 all_ys)
 
-record AllParts {X : Type 0} (P : X → Type 0) (xs : List X) (x : X) (ys : List X) : Type 0 where
-  before : AllByRecursion P xs
-  here : P x
-  after : AllByRecursion P ys
+pub record AllParts {X : Type 0} (P : X → Type 0) (xs : List X) (x : X) (ys : List X) : Type 0 where
+  pub before : AllByRecursion P xs
+  pub here : P x
+  pub after : AllByRecursion P ys
 
-all-parts : {X : Type 0} (P : X → Type 0) (xs : List X) (x : X) (ys : List X) → AllByRecursion P (xs ++ x ∷ ys)
+pub all-parts : {X : Type 0} (P : X → Type 0) (xs : List X) (x : X) (ys : List X) → AllByRecursion P (xs ++ x ∷ ys)
     → AllParts P xs x ys
 all-parts P [] x ys all = record { before = tt; here = all.0; after = all.1 }
 all-parts P (first ∷ xs) x ys all =

@@ -1,11 +1,10 @@
 use Rattle.std.proofs.Common.{◌≡◌, true, Some, None, take, slice_get, refl, sym, ap, subst, ◌∙◌}
 use Rattle.std.proofs.lemmas.Option.{none-some}
-use Rattle.sftp_server.specs.declared.queue.Progress.TheVariants.{Done}
 use Rattle.sftp_handles.specs.State.{State}
 use Rattle.sftp_server.specs.Machine.{Machine, is_ready}
 use Rattle.sftp_server.specs.Queue.{first_pending_of, next_request_of}
 use Rattle.sftp_server.specs.Core.{server_clash}
-use Rattle.sftp_server.proofs.CoreSteps.{ready-is, no_next, worked-step, bounded-worked}
+use Rattle.sftp_server.proofs.CoreSteps.{ready-is, no_next, worked-step, core-worked}
 use Rattle.sftp_server.proofs.cores.Core.work.Goals as goal
 
 pub returns-in_default-clause-no_such : goal.returns-in_default-clause-no_such
@@ -27,8 +26,9 @@ invariant_of-self-2 c =
     let queue = c.self.inside.queue in
     let first : first_pending_of queue ≡ Some c.args.k =
     ready-is c.self.inside.session queue c.args.k (subst (λ (machine : Machine State). is_ready server_clash machine c.args.k ≡ true) (sym c.self.view_is) (sym c.ready.ensures ∙ c.if-not-ready.false)) in
+    let next : next_request_of queue ≡ Some c.in-Some.request.now = sym c.next_request.ensures ∙ rw c.in-Some.is refl in
     rw (c.complete.ensures c.args.k first)
-    (bounded-worked c.self.inside.window queue c.args.k (Done c.in_ok-reply.reply) c.self.invariant)
+    (core-worked c.self.inside.window queue c.args.k c.in-Some.request.now c.in_ok-reply.reply first next c.in_ok-reply.ensures.allowed.same_id c.in_ok-reply.ensures.spelled c.self.invariant)
 
 pub returns-clause-done : goal.returns-clause-done
 returns-clause-done c = λ _.
