@@ -1,10 +1,12 @@
 -- What the calls of the queue say of the core.
 use Rattle.std.proofs.Common.{◌≡◌, ◌==◌, ◌&&◌, not, nat_eq, ℕ, zero, suc, ◌≤◌, Bool, true, false, List, [], ◌∷◌, ◌++◌}
 use Rattle.std.proofs.Common.{Option, Some, None, length, take, slice_get, refl, sym, ap, subst, ◌∙◌, arith, IsTrue, ◌<◌}
+use Rattle.std.proofs.Common.{nat_lt, Result, Ok, Err}
+use Rattle.std.specs.Result.{OnOk, OnErr}
 use Rattle.std.proofs.Common.{length-append}
 use Rattle.std.specs.List.{AllByRecursion}
 use Rattle.std.specs.Option.{option_map, IfSome, IfNone}
-use Rattle.std.proofs.lemmas.Bool.{true≢false, eq-eqb, eqb-true, cases_Bool}
+use Rattle.std.proofs.lemmas.Bool.{true≢false, eq-eqb, eqb-true, cases_Bool, ltb-true, ltb-false}
 use Rattle.std.proofs.lemmas.Option.{none-some, same_Some}
 use Rattle.sftp_wire.specs.declared.packets.Request.{Request}
 use Rattle.sftp_wire.specs.declared.packets.Reply.{Reply}
@@ -12,6 +14,8 @@ use Rattle.sftp_wire.specs.declared.packets.Packet.TheVariants.{Reply as reply_p
 use Rattle.sftp_wire.specs.Spelling.{HasSpelling}
 use Rattle.sftp_handles.specs.State.{State}
 use Rattle.sftp_handles.specs.Allowed.{Allowed}
+use Rattle.sftp_server.specs.declared.refusals.Refuse.{Refuse}
+use Rattle.sftp_server.specs.declared.refusals.Refuse.TheVariants.{Full}
 use Rattle.sftp_server.specs.declared.queue.Entry.{Entry}
 use Rattle.sftp_server.specs.declared.queue.Progress.{Progress}
 use Rattle.sftp_server.specs.declared.queue.Progress.TheVariants.{Pending, Done, Sent}
@@ -34,7 +38,7 @@ zero-eqb : (k : ℕ) → (0 == suc k) ≡ false
 zero-eqb k = grind (arith, cases_Bool, eqb-true)
 
 -- behind a pending request nothing is ready
-behind_pending : (s : State) (first : Entry) (earlier : List Entry) (found : Option Entry) → is_pending first.progress ≡ true
+pub behind_pending : (s : State) (first : Entry) (earlier : List Entry) (found : Option Entry) → is_pending first.progress ≡ true
     → ready_in server_clash s (first ∷ earlier) found ≡ false
 unfolding is_free_of
 behind_pending s first earlier None pending = refl
@@ -45,7 +49,7 @@ behind_pending s first earlier (Some entry) pending = rw pending (and_false (is_
     and_false false = refl
 
 -- one that is not pending is in nobody's way
-behind_worked : (s : State) (first : Entry) (earlier : List Entry) (found : Option Entry) → is_pending first.progress ≡ false
+pub behind_worked : (s : State) (first : Entry) (earlier : List Entry) (found : Option Entry) → is_pending first.progress ≡ false
     → ready_in server_clash s (first ∷ earlier) found ≡ ready_in server_clash s earlier found
 unfolding is_free_of
 behind_worked s first earlier None worked = refl
@@ -253,7 +257,7 @@ unfolding from_unsent
 core-new window some bounded =
     record { some = some; bounded = bounded; few = omega arith; front = refl; sendable = tt }
 
-pub core-taken : (window : ℕ) (queue : List Entry) (request : Request) → IsCore window queue
+core-taken : (window : ℕ) (queue : List Entry) (request : Request) → IsCore window queue
     → length queue < window → IsCore window (queue ++ record { request = request; progress = Pending } ∷ [])
 core-taken window queue request is room = record {
   some = is.some;
@@ -262,6 +266,23 @@ core-taken window queue request is room = record {
   front = from_unsent-pushed queue request is.front;
   sendable = all-append IsSendable queue (record { request = request; progress = Pending } ∷ []) is.sendable (tt, tt);
 }
+
+-- if there is room, the queue is not full
+has_room : (found : Option Refuse) (size window : ℕ) → (window ≤ size → found ≡ Some Full) → found ≡ None → size < window
+has_room found size window full none = by (nat_lt size window) refl
+  where
+    by : (b : Bool) → nat_lt size window ≡ b → size < window
+    by true is = ltb-true size window is
+    by false is = absurd (none-some Full (sym none ∙ full (ltb-false size window is)))
+
+pub core-pushed : (window : ℕ) (queue after : List Entry) (request : Request) (found : Option Refuse)
+    (result : Result (Unit {0}) Request) → IsCore window queue → (window ≤ length queue → found ≡ Some Full)
+    → found ≡ None
+    → OnOk result (after ≡ queue ++ record { request = request; progress = Pending } ∷ [])
+    → OnErr result (after ≡ queue) → IsCore window after
+core-pushed window queue after request found (Ok it) is full none pushed same =
+    rw pushed (core-taken window queue request is (has_room found (length queue) window full none))
+core-pushed window queue after request found (Err back) is full none pushed same = rw same is
 
 sendable-worked : (queue : List Entry) (k : ℕ) (request : Request) (reply : Reply) → IsAt queue k request Pending
     → reply.id ≡ request.id → HasSpelling (reply_packet reply) → AllByRecursion IsSendable queue

@@ -14,6 +14,7 @@ use Rattle.sftp_server.specs.declared.queue.Progress.{Progress}
 use Rattle.sftp_server.specs.declared.queue.Progress.TheVariants.{Pending, Done, Sent}
 use Rattle.sftp_server.specs.Machine.{is_pending, is_sent, is_unsent, is_pending_at, reply_at, from_unsent, reply_of}
 use Rattle.sftp_server.specs.Queue.{is_done, done_count, first_pending_of, next_request_of, with_progress, IsPendingEntry}
+use Rattle.sftp_server.specs.Queue.{done_next, done_position}
 use Rattle.sftp_server.specs.Queue.{HasReply, sent_in, IsSplit, AreUnsentApart, IsQueue}
 
 -- ---- tests of numbers
@@ -260,7 +261,7 @@ split-done [] n reply split some = absurd (omega (arith, some))
 split-done (entry ∷ queue) zero reply split some = (refl, split.1)
 split-done (entry ∷ queue) (suc n) reply split some = (split.0, split-done queue n reply split.1 (omega (arith, some)))
 
-is_done-pending : (progress : Progress) → is_pending progress ≡ true → is_done progress ≡ false
+pub is_done-pending : (progress : Progress) → is_pending progress ≡ true → is_done progress ≡ false
 is_done-pending Pending is = refl
 is_done-pending (Done reply) is = sym is
 is_done-pending Sent is = refl
@@ -299,6 +300,60 @@ done_count-few (entry ∷ queue) = by (done_count-few queue) (is_done entry.prog
         → done_count (entry ∷ queue) ≤ suc (length queue)
     by rest true is = rw is (omega (arith, rest))
     by rest false is = rw is (omega (arith, rest))
+
+-- ---- a search for a request that is done
+
+shifted : (k : ℕ) (found : Option ℕ)
+    → option_map (λ n. k + n) (option_map suc found) ≡ option_map (λ n. suc k + n) found
+shifted k None = refl
+shifted k (Some n) = ap Some (omega arith)
+
+pub scan-start : (found : Option ℕ) → found ≡ option_map (λ n. 0 + n) found
+scan-start None = refl
+scan-start (Some n) = ap Some (omega arith)
+
+drop-at : (queue : List Entry) (k : ℕ) (entry : Entry) → slice_get queue k ≡ Some entry
+    → drop k queue ≡ entry ∷ drop (suc k) queue
+drop-at [] k entry at = absurd (none-some entry at)
+drop-at (first ∷ queue) zero entry at = ap (λ (e : Entry). e ∷ queue) (same_Some first entry at)
+drop-at (first ∷ queue) (suc k) entry at = drop-at queue k entry at
+
+-- the request at `k` is not done
+pub scan-other : (queue : List Entry) (k next left : ℕ) (entry : Entry) → slice_get queue k ≡ Some entry
+    → is_done entry.progress ≡ false → next ≡ suc k
+    → option_map (λ n. k + n) (done_position (drop k queue) left)
+    ≡ option_map (λ n. next + n) (done_position (drop next queue) left)
+unfolding done_position
+scan-other queue k next left entry at other next_is =
+    rw (next_is, drop-at queue k entry at, other) (shifted k (done_position (drop (suc k) queue) left))
+
+-- the request at `k` is done, and not the one that is looked for
+pub scan-done : (queue : List Entry) (k next left fewer : ℕ) (entry : Entry) → slice_get queue k ≡ Some entry
+    → is_done entry.progress ≡ true → next ≡ suc k → left ≡ suc fewer
+    → option_map (λ n. k + n) (done_position (drop k queue) left)
+    ≡ option_map (λ n. next + n) (done_position (drop next queue) fewer)
+unfolding done_position
+scan-done queue k next left fewer entry at done next_is left_is =
+    rw (next_is, left_is, drop-at queue k entry at, done) (shifted k (done_position (drop (suc k) queue) fewer))
+
+-- the request at `k` is the one that is looked for
+pub scan-found : (queue : List Entry) (k left : ℕ) (entry : Entry) → slice_get queue k ≡ Some entry
+    → is_done entry.progress ≡ true → left ≡ 0
+    → option_map (λ n. k + n) (done_position (drop k queue) left) ≡ Some k
+unfolding done_position
+scan-found queue k left entry at done left_is = rw (left_is, drop-at queue k entry at, done) (ap Some (omega arith))
+
+-- the search came to the end
+pub scan-end : (queue : List Entry) (k left : ℕ) → length queue ≤ k
+    → option_map (λ n. k + n) (done_position (drop k queue) left) ≡ None
+unfolding done_position
+scan-end queue k left past = rw (drop-past queue k past) refl
+  where
+    drop-past : (queue : List Entry) (k : ℕ) → length queue ≤ k → drop k queue ≡ []
+    drop-past [] zero past = refl
+    drop-past [] (suc k) past = refl
+    drop-past (entry ∷ queue) zero past = absurd (omega (arith, past))
+    drop-past (entry ∷ queue) (suc k) past = drop-past queue k (omega (arith, past))
 
 -- ---- a reply is sent
 

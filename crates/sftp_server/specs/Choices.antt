@@ -1,5 +1,5 @@
 -- What a machine may do next.
-use Rattle.std.specs.Prelude.{◌<◌, ◌+◌, ℕ, suc, Bool, true, false, List, [], ◌∷◌, ◌++◌, Option, Some, None, is_some}
+use Rattle.std.specs.Prelude.{◌<◌, ◌+◌, ℕ, zero, suc, Bool, true, false, List, [], ◌∷◌, ◌++◌, Option, Some, None, is_some}
 use Rattle.std.specs.Prelude.{if◌then◌else◌, IsTrue, length, slice_get}
 use Rattle.sftp_server.specs.declared.cores.Choice.{Choice}
 use Rattle.sftp_server.specs.declared.cores.Choice.TheVariants.{Work, Send}
@@ -15,7 +15,7 @@ choices_at clash machine k =
 
 -- those at `count` positions from `k` on
 unfoldable pub choices_from : {S : Type 0} → ClashOf S → Machine S → ℕ → ℕ → List Choice
-choices_from clash machine k 0 = []
+choices_from clash machine k zero = []
 choices_from clash machine k (suc count) = choices_at clash machine k ++ choices_from clash machine (suc k) count
 
 -- all acts that are possible, in the order of the queue

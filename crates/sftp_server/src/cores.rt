@@ -176,11 +176,10 @@ impl Core {
         ensures count { result ≡ length (choices_of server_clash self.now) }
         ensures front { from_unsent self.now.queue ≡ self.now.queue }
     {
-        let ready = match self.queue.first_pending() {
-            Some(_) => 1,
-            None => 0,
-        };
-        self.queue.done() + ready
+        match self.queue.first_pending() {
+            Some(_) => self.queue.done() + 1,
+            None => self.queue.done(),
+        }
     }
 
     /// The act of this number, from 0, among those possible, in the order of the queue.
@@ -188,9 +187,10 @@ impl Core {
         requires { number < length (choices_of server_clash self.now) }
         ensures { slice_get (choices_of server_clash self.now) number ≡ Some result }
     {
+        let pending = self.queue.first_pending();
         match self.queue.done_at(number) {
             Some(k) => Choice::Send(k),
-            None => match self.queue.first_pending() {
+            None => match pending {
                 Some(k) => Choice::Work(k),
                 None => unreachable!(),
             },

@@ -4,7 +4,7 @@ ghost use Rattle.std.specs.Prelude.{IfErr, OnOk, OnErr, IfSome, IfNone, option_c
 ghost use Rattle.sftp_server.specs.declared.queue.Progress.TheVariants as progress;
 ghost use Rattle.sftp_server.specs.Machine.{is_unsent, is_pending, is_pending_at, reply_at, from_unsent};
 ghost use Rattle.sftp_server.specs.Queue.{done_count, first_pending_of, next_request_of, with_progress, sent_in, is_done};
-ghost use Rattle.sftp_server.specs.Queue.{done_position};
+ghost use Rattle.sftp_server.specs.Queue.{done_position, IsSplit};
 ghost use Rattle.sftp_server.specs.Queue.{HasReply};
 ghost use Rattle.std.specs.Option.{option_map};
 
@@ -116,6 +116,7 @@ impl Queue {
     /// The position of the first pending request. All before it are done or sent.
     pub(crate) fn first_pending(&self) -> Option<usize>
         ensures first { result ≡ first_pending_of self.now }
+        ensures split { (n : ℕ) × IsSplit n self.now }
     {
         if self.first_pending < self.entries.len() {
             Some(self.first_pending)
