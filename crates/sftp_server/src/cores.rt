@@ -63,7 +63,8 @@ impl Core {
     /// `NoMemory` if memory runs out.
     pub fn new(tree: Tree, window: usize) -> Result<Core, NoMemory>
         requires { (1 ≤ window) × (window ≤ 1024) }
-        ensures { IfOk result (λ core. core ≡ at_start (started tree) window) }
+        ensures start { IfOk result (λ core. core ≡ at_start (started tree) window) }
+        ensures good { OnOk result (states.Good (started tree)) }
     {
         let alloc = tree.allocator();
         Ok(Core {
