@@ -1,12 +1,11 @@
 -- A request is taken in a running session, or a fault is found in front.
-use Rattle.std.proofs.Common.{◌≡◌, ◌≢◌, ◌≤◌, ◌⊎◌, nat_lt, not, ℕ, ◌+◌, Bool, true, false, List, [], ◌∷◌, ◌++◌}
-use Rattle.std.proofs.Common.{length, drop, Option, Some, None, IsTrue, inl, inr, refl, sym, ap, ◌∙◌, subst, arith}
-use Rattle.std.proofs.Common.{append_assoc, append-nil}
+use Rattle.std.proofs.Common.{◌≡◌, ◌<◌, ◌≤◌, ◌⊎◌, ℕ, ◌+◌, List, [], ◌∷◌}
+use Rattle.std.proofs.Common.{◌++◌, length, take, drop, Option, Some, None, Result, Ok, Err, IfOk, IfErr, OnOk, IsTrue}
+use Rattle.std.proofs.Common.{inl, inr, refl, sym, ap, ◌∙◌, subst, subst₂, arith, append_assoc}
 use Rattle.std.specs.Io.KnownBytes.{Appends, Consumes}
 use Rattle.std.specs.List.{AllByRecursion}
 use Rattle.std.proofs.KnownBytes.{Appends-trans}
-use Rattle.std.proofs.lemmas.List.{length-append}
-use Rattle.sftp_wire.specs.declared.errors.Fault.{Fault as WireFault}
+use Rattle.std.proofs.lemmas.List.{length-append, take_at}
 use Rattle.sftp_wire.specs.declared.packets.Packet.{Packet}
 use Rattle.sftp_wire.specs.declared.packets.Packet.TheVariants.{Request as request_packet}
 use Rattle.sftp_wire.specs.declared.packets.Request.{Request}
@@ -14,25 +13,34 @@ use Rattle.sftp_wire.specs.declared.packets.Side.TheVariants.{Client, Server}
 use Rattle.sftp_wire.specs.Spelling.{spelling, HasSpelling}
 use Rattle.sftp_wire.specs.Framing.{place_after}
 use Rattle.sftp_wire.specs.Reading.{StandsInFront}
+use Rattle.sftp_wire.proofs.StreamLaws.Front.{length-spelling}
 use Rattle.sftp_transcript.specs.declared.errors.TranscriptError.{TranscriptError}
-use Rattle.sftp_transcript.specs.declared.errors.TranscriptError.TheVariants.{Wire, Io, NoMemory}
+use Rattle.sftp_transcript.specs.declared.errors.TranscriptError.TheVariants.{Io}
 use Rattle.sftp_transcript.specs.declared.events.Event.{Event}
 use Rattle.sftp_transcript.specs.declared.events.Event.TheVariants.{Asked}
-use Rattle.sftp_transcript.specs.Streams.{one_more, AppendsPart}
-use Rattle.sftp_transcript.specs.Log.{Log, opened_text, next_number, IsAppended, IsBroken, Breaks, FailsToRecord, Fails}
-use Rattle.sftp_transcript.specs.Transcript.{record_text, packet_of, IsEvent}
+use Rattle.sftp_transcript.specs.Streams.{AppendsPart}
+use Rattle.sftp_transcript.specs.Log.{Log, IsAppended, FailsToRecord}
+use Rattle.sftp_transcript.specs.Transcript.{record_text, IsEvent}
 use Rattle.sftp_tree.specs.Tree.{Tree}
 use Rattle.sftp_tree.proofs.Requests.AskValues.{encoded-ask}
 use Rattle.sftp_handles.specs.State.{State}
 use Rattle.sftp_handles.proofs.TotalSteps.SpelledRequests.{spelled-askable}
 use Rattle.sftp_server.specs.declared.ends.Ended.TheVariants as ends
 use Rattle.sftp_server.specs.declared.ends.SessionFault.{SessionFault}
+use Rattle.sftp_server.specs.declared.ends.SessionFault.TheVariants as faults
+use Rattle.sftp_server.specs.declared.ends.Stop.{Stop}
+use Rattle.sftp_server.specs.declared.ends.Stop.TheVariants as stops
 use Rattle.sftp_server.specs.declared.ends.Stream.TheVariants as streams
-use Rattle.sftp_server.specs.Machine.{Machine, taken, can_take}
+use Rattle.sftp_server.specs.declared.taking.Front.{Front}
+use Rattle.sftp_server.specs.declared.taking.Front.TheVariants.{Taken, Fault}
+use Rattle.sftp_server.specs.declared.refusals.Refuse.{Refuse}
+use Rattle.sftp_server.specs.declared.refusals.Refuse.TheVariants as refusals
+use Rattle.sftp_server.specs.Machine.{Machine, taken, can_take, is_unsent}
 use Rattle.sftp_server.specs.Core.{started, IsValue, IsReached}
+use Rattle.sftp_server.specs.Fronts.{fault_of, found_refused, TakesOn}
 use Rattle.sftp_server.specs.Served.{session_packets, sent_by, recorded}
-use Rattle.sftp_server.specs.Sessions.{StreamBytes, stream_bytes, Passed, Serves, IsLogging, Ahead, ahead_without}
-use Rattle.sftp_server.specs.Sessions.{IsRunning, IsFaultAhead}
+use Rattle.sftp_server.specs.Sessions.{StreamBytes, stream_bytes, Serves, ended_by, IsLogging, Ahead}
+use Rattle.sftp_server.specs.Sessions.{ahead_without, IsRunning, IsFaultAhead}
 use Rattle.sftp_server.proofs.Machines.Reached.{reached-taken}
 use Rattle.sftp_server.proofs.Sessions.Lists.{asked-session, session-more, events-more}
 use Rattle.sftp_server.proofs.Sessions.Stops.{no-opening, reached-begins, stopped-no-memory}
@@ -50,21 +58,21 @@ place-more first second = omega arith
 
 -- ---- the log
 
--- The first failure of a log: a beginning of the record was appended.
+-- where the log fails for the first time, a beginning of the record was appended
 pub breaks : (log0 log1 : Log) (text : List ℕ) (error : TranscriptError) → IsLogging log0
-    → FailsToRecord log0 text error log1
-    → AppendsPart log0.bytes log1.bytes text × (log1.failures ≡ one_more log0.failures)
+    → FailsToRecord log0 text error log1 → AppendsPart log0.bytes log1.bytes text
 breaks log0 log1 text (Io place) logging (inl broken) = absurd cc
 breaks log0 log1 text (Io place) logging (inr fails) =
-    (subst (λ (bytes : List ℕ). AppendsPart log0.bytes log1.bytes bytes) (no-opening log0.records text logging.begun)
-    fails.1.bytes, fails.1.failures)
+    let same = no-opening log0.records text logging.begun in
+    subst (λ (bytes : List ℕ). AppendsPart log0.bytes log1.bytes bytes) same fails.1.bytes
 breaks log0 log1 text other logging fails = absurd fails
 
 -- the record was appended, with no opening
 appended : (log0 log1 : Log) (text : List ℕ) → IsLogging log0 → IsAppended log0 text log1
     → Appends log0.bytes log1.bytes text
 appended log0 log1 text logging is =
-    subst (λ (bytes : List ℕ). Appends log0.bytes log1.bytes bytes) (no-opening log0.records text logging.begun) is.bytes
+    let same = no-opening log0.records text logging.begun in
+    subst (λ (bytes : List ℕ). Appends log0.bytes log1.bytes bytes) same is.bytes
 
 -- ---- a request
 
@@ -101,7 +109,8 @@ module _ (start : Tree) (past : StreamBytes) (left written : Option (List ℕ)) 
 
   -- a request was taken
   pub asked : IsAppended log0 (record_text (request_packet request)) log1
-      → IsRunning start past (stream_bytes left written log1.bytes) (ahead_without count ahead) (taken core request) None
+      → IsRunning start past (stream_bytes left written log1.bytes) (ahead_without count ahead) (taken core request)
+      None
   asked logged =
       let session = asked-session running.init running.events request in
       let text : List ℕ = record_text (request_packet request) in
@@ -154,16 +163,26 @@ module _ (start : Tree) (past : StreamBytes) (left written : Option (List ℕ)) 
         served = record {
           packets = after;
           rest = drop count ahead.held;
-          listed =
-              (running.greeting, refl, events, refl, spelled-more,
-              reached-begins start events (taken core request) running.good reached-more);
+          listed = (
+            running.greeting,
+            refl,
+            events,
+            refl,
+            spelled-more,
+            reached-begins start events (taken core request) running.good reached-more,
+          );
           read = read-more;
-          left =
-              (sym session.server,
-              inr
-              (before, request_packet request, fails.part,
+          left = (
+            sym session.server,
+            inr (
+              before,
+              request_packet request,
+              fails.part,
               session-more running.init running.events (Asked request ∷ []),
-              (fails.rest, fails.parts), refl));
+              (fails.rest, fails.parts),
+              refl,
+            ),
+          );
         };
       }
 
@@ -183,3 +202,106 @@ faulty start past now ahead core fault found running = record {
   place = running.place;
   found = found running.events;
 }
+
+-- ---- the bytes of a packet in front
+
+module _ (bytes : List ℕ) (packet : Packet) (count : ℕ) (front : StandsInFront Client bytes packet count) where
+  whole-length : length bytes ≡ count + length (drop count bytes)
+  whole-length =
+      ap length front.is_spelled
+      ∙ length-append (spelling packet) (drop count bytes)
+      ∙ ap (λ (n : ℕ). n + length (drop count bytes)) (sym front.is_whole)
+
+  -- some bytes are taken
+  pub bytes-fall : length (drop count bytes) < length bytes
+  bytes-fall = omega (arith, whole-length, front.is_whole, length-spelling packet)
+
+  pub bytes-in-front : take count bytes ≡ spelling packet
+  bytes-in-front =
+      ap (take count) front.is_spelled ∙ take_at (spelling packet) (drop count bytes) count (sym front.is_whole)
+
+-- ---- what calls that take requests do
+
+-- memory ran out before anything was done
+pub takes-no-memory : (ahead : Ahead) (core : Machine State) (logged : Option (List ℕ))
+    → TakesOn ahead ahead core core logged logged (Err stops.NoMemory)
+takes-no-memory ahead core logged = λ start past left written running. stopped-no-memory running
+
+-- a fault was found
+pub takes-fault : (ahead : Ahead) (core : Machine State) (logged : Option (List ℕ)) (fault : SessionFault)
+    → ((events : List Event) → IsFaultAhead events core.queue ahead.held ahead.place (Some fault))
+    → TakesOn ahead ahead core core logged logged (Ok (Fault fault))
+takes-fault ahead core logged fault found =
+    λ start past left written running.
+    faulty start past (stream_bytes left written logged) ahead core fault found running
+
+-- the core refuses the request
+pub takes-refused : (ahead : Ahead) (core : Machine State) (logged : Option (List ℕ)) (request : Request) (count : ℕ)
+    (refuse : Refuse) → StandsInFront Client ahead.held (request_packet request) count
+    → (Some refuse ≡ Some refusals.IdInUse → IsTrue (is_unsent request.id core.queue))
+    → TakesOn ahead ahead core core logged logged (found_refused request.id refuse)
+takes-refused ahead core logged request count refusals.Full front unsent =
+    λ start past left written running. running
+takes-refused ahead core logged request count refusals.IdInUse front unsent =
+    takes-fault ahead core logged (faults.IdInUse request.id) (λ events. (
+      record {
+        request = request;
+        rest = drop count ahead.held;
+        spelled = front.has_spelling;
+        bytes_are = front.is_spelled;
+        same_id = refl;
+      },
+      inl (unsent refl),
+    ))
+takes-refused ahead core logged request count refusals.NoMemory front unsent = takes-no-memory ahead core logged
+
+-- the request was logged, and then delivered, or memory ran out
+pub takes-delivered : (ahead0 ahead1 : Ahead) (core0 core1 : Machine State) (log0 log1 : Log) (request : Request)
+    (count : ℕ) (result : Result Front Stop) → StandsInFront Client ahead0.held (request_packet request) count
+    → IsTrue (can_take core0 request) → IsLogging log0 → IsAppended log0 (record_text (request_packet request)) log1
+    → IfOk result (λ front. front ≡ Taken) → OnOk result (core1 ≡ taken core0 request)
+    → OnOk result (ahead1 ≡ ahead_without count ahead0) → IfErr result (λ stop. stop ≡ stops.NoMemory)
+    → TakesOn ahead0 ahead1 core0 core1 log0.bytes log1.bytes result
+takes-delivered ahead0 ahead1 core0 core1 log0 log1 request count (Ok found) front can logging logged ok took moved
+    err =
+    λ start past left written running.
+    let now : StreamBytes = stream_bytes left written log1.bytes in
+    subst (λ (f : Front). IsRunning start past now ahead1 core1 (fault_of f)) (sym ok)
+    (subst₂ (λ (a : Ahead) (m : Machine State). IsRunning start past now a m None) (sym moved) (sym took)
+    (asked start past left written log0 log1 ahead0 core0 request count running front can logging logged))
+takes-delivered ahead0 ahead1 core0 core1 log0 log1 request count (Err stop) front can logging logged ok took moved
+    err =
+    λ start past left written running.
+    subst (λ (s : Stop). Serves start past (stream_bytes left written log1.bytes) (ended_by s)) (sym err)
+    (asked-no-memory start past left written log0 log1 ahead0 core0 request count running front can logging logged)
+
+-- a request that was delivered takes bytes
+pub delivered-falls : (ahead0 ahead1 : Ahead) (packet : Packet) (count : ℕ) (result : Result Front Stop)
+    → StandsInFront Client ahead0.held packet count → OnOk result (ahead1 ≡ ahead_without count ahead0)
+    → OnOk result (length ahead1.held < length ahead0.held)
+delivered-falls ahead0 ahead1 packet count (Ok found) front moved =
+    subst (λ (a : Ahead). length a.held < length ahead0.held) (sym moved)
+    (bytes-fall ahead0.held packet count front)
+delivered-falls ahead0 ahead1 packet count (Err stop) front moved = tt
+
+-- the log failed
+pub takes-unlogged : (ahead : Ahead) (core : Machine State) (log0 log1 : Log) (request : Request) (count : ℕ)
+    (error : TranscriptError) → StandsInFront Client ahead.held (request_packet request) count
+    → IsTrue (can_take core request) → IsLogging log0
+    → FailsToRecord log0 (record_text (request_packet request)) error log1
+    → TakesOn ahead ahead core core log0.bytes log1.bytes (Err (stops.Io streams.Log))
+takes-unlogged ahead core log0 log1 request count error front can logging fails =
+    λ start past left written running.
+    asked-in-part start past left written log0 log1 ahead core request count running front can logging
+    (breaks log0 log1 (record_text (request_packet request)) error logging fails)
+
+-- ---- calls one after the other
+
+-- What holds after some calls that each took a request: the log did not fail, and the core changed only if bytes were
+-- taken.
+pub record HasTaken (ahead0 ahead1 : Ahead) (core0 core1 : Machine State) (log0 log1 : Log) : Type 0 where
+  pub running : TakesOn ahead0 ahead1 core0 core1 log0.bytes log1.bytes (Ok Taken)
+  pub logging : IsLogging log1
+  pub failures : log1.failures ≡ log0.failures
+  pub never_rises : length ahead1.held ≤ length ahead0.held
+  pub falls : (length ahead1.held < length ahead0.held) ⊎ (core1 ≡ core0)
