@@ -10,7 +10,8 @@ use Rattle.sftp_audit.proofs.recording.events_of.Goals as goal
 
 pub events-init : goal.events-init
 events-init c = rw c.new-events.ensures.items
-    (HasRead-fresh c.args.bytes.now c.new.result.rest.now _ _ c.in_ok-reader.reader c.new.ensures c.in_ok-reader.ensures.ok)
+    (HasRead-fresh c.args.bytes.now c.new.result.rest.now _ _ c.in_ok-reader.reader c.new.ensures
+    c.in_ok-reader.ensures.ok)
 
 pub returns-in_err-event-clause-only : goal.returns-in_err-event-clause-only
 returns-in_err-event-clause-only c =
