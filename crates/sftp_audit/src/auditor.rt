@@ -7,8 +7,8 @@ ghost use Rattle.sftp_audit.specs.Audit.{Accounts, IsReason, IsPlain, request_co
 
 use crate::errors::AuditError;
 use crate::ledger::pair;
+use crate::recording::events_of;
 use crate::runs::end_of;
-use sftp_transcript::read_events;
 use sftp_tree::Tree;
 use std::alloc::Global;
 
@@ -55,7 +55,7 @@ pub fn audit(alloc: Global, tree: &[u8], transcript: &[u8]) -> Result<Accepted, 
     ensures plain { IfErr result IsPlain }
 {
     let start = Tree::read(alloc, tree)?;
-    let events = read_events(alloc, transcript)?;
+    let events = events_of(alloc, transcript)?;
     let exchanges = pair(alloc, events.as_slice())?;
     let end = end_of(start, exchanges.as_slice())?;
     let requests = exchanges.len() as u64;

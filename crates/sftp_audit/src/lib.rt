@@ -9,6 +9,7 @@ pub mod examples;
 mod exchanges;
 pub mod laws;
 mod ledger;
+mod recording;
 mod runs;
 
 pub use auditor::{Accepted, audit};

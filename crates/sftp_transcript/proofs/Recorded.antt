@@ -7,12 +7,11 @@ use Rattle.sftp_transcript.specs.declared.errors.TranscriptError.{TranscriptErro
 use Rattle.sftp_transcript.specs.declared.events.Event.{Event}
 use Rattle.sftp_transcript.specs.declared.stage.Stage.{Stage}
 use Rattle.sftp_transcript.specs.declared.stage.Stage.TheVariants as stages
-use Rattle.sftp_transcript.specs.Ahead.{Ahead, IsSameAhead, bytes_ahead, size_of}
+use Rattle.sftp_transcript.specs.Ahead.{IsSameAhead, bytes_ahead, size_of}
 use Rattle.sftp_transcript.specs.Records.{BeginsInit, BeginsVersion}
 use Rattle.sftp_transcript.specs.Recorded.{Reading, RecordsFrom, RecordsFromInit, RecordsFromVersion, IsKnown, Records, RecordsSame, Gave, Gives}
 use Rattle.sftp_transcript.specs.Steps.{HasAhead, IsExcuse, IsOpened, Took, BeginsEvent, TookEvent}
 use Rattle.sftp_transcript.specs.Transcript.{event_record, AreRecords, IsRecord}
-use Rattle.sftp_transcript.proofs.Inputs.{Keeps-same}
 use Rattle.sftp_transcript.proofs.Taking.{known_kept}
 use Rattle.sftp_transcript.proofs.transcripts.Reading.{record_parts, record_by}
 

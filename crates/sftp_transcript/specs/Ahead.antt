@@ -1,6 +1,6 @@
 -- What a reader of a transcript file has ahead of it: bytes that it holds, and bytes that its source has left.
 use Rattle.std.specs.Prelude.{◌≡◌, ℕ, ◌+◌, ◌*◌, ◌≤◌, List, ◌++◌, length, drop, Option, Some}
-use Rattle.std.specs.Io.KnownBytes.{Appends, Keeps, IsAtEnd, prepend_known}
+use Rattle.std.specs.Io.KnownBytes.{Keeps, prepend_known}
 use Rattle.sftp_wire.specs.declared.packets.Packet.{Packet}
 use Rattle.sftp_wire.specs.Spelling.{HasSpelling, packet_limit}
 use Rattle.sftp_transcript.specs.Transcript.{transcript_opening, record_text}

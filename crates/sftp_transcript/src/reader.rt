@@ -1,13 +1,14 @@
 //! A transcript file that is read record by record from a source. This profile's own; the packets in it are those of
 //! the draft, section 4 on.
-ghost use Rattle.std.specs.Prelude.{◌≡◌, ◌<◌, ◌≤◌, List, ℕ, ⊤, [], Some, None, Ok, Err, OnOk, OnErr, IfOk, IfErr, IfSome};
-ghost use Rattle.std.specs.Prelude.{MatchResult};
+ghost use Rattle.std.specs.Prelude.{◌≡◌, ◌<◌, ◌≤◌, List, ℕ, ⊤, [], Some, None, Ok, Err, OnOk, OnErr, IfOk, IfErr};
+ghost use Rattle.std.specs.Prelude.{IfSome, MatchResult};
 ghost use Rattle.sftp_transcript.specs.declared.errors.TranscriptError.{TranscriptError};
 ghost use Rattle.sftp_transcript.specs.declared.events.Event.{Event};
 ghost use Rattle.sftp_transcript.specs.Ahead.{size_of};
 ghost use Rattle.sftp_transcript.specs.Steps.{CountsError, IsExcuse};
 ghost use Rattle.sftp_transcript.specs.Refused.{FaultIn};
-ghost use Rattle.sftp_transcript.specs.Recorded.{Reading, IsKnown, Records, RecordsSame, Gave, Gives, rank, reported, number_after};
+ghost use Rattle.sftp_transcript.specs.Recorded.{Reading, IsKnown, Records, RecordsSame, Gave, Gives};
+ghost use Rattle.sftp_transcript.specs.Recorded.{rank, reported, number_after};
 
 use crate::buffer::Buffer;
 use crate::errors::TranscriptError;
@@ -218,7 +219,7 @@ impl<R: Source> Reader<R> {
     ///   from the server, or the file ends before one of them begins, or a later record is an INIT or a VERSION.
     /// - `Direction` if the byte before a packet is neither `C` nor `S`.
     /// - `Wire` if a packet cannot be read.
-    /// - `Truncated` if the file ends inside a record.
+    /// - `Truncated` if the source ended inside a record: it has no bytes left.
     /// - `Io` if the source fails.
     /// - `NoMemory` if memory runs out. This one is not for good: the same events are to come.
     pub fn next(&mut self) -> Result<Option<Event>, TranscriptError>

@@ -1,11 +1,10 @@
-//! Transcript files: the recorded bytes of a session. This profile's own; the packets in them are those of
+//! The records of transcript files, read from the bytes held. This profile's own; the packets in them are those of
 //! draft-ietf-secsh-filexfer-02, section 4 on.
 ghost use Rattle.std.specs.Prelude.{◌≡◌, ℕ, List, ◌++◌, ◌<◌, length, IfOk, IfErr, IsTrue, false};
 ghost use Rattle.sftp_wire.specs.declared.packets.Packet.{Packet};
 ghost use Rattle.sftp_wire.specs.Spelling.{spelling, HasSpelling, side_of};
 ghost use Rattle.sftp_transcript.specs.declared.events.Event.{Event};
-ghost use Rattle.sftp_transcript.specs.Transcript.{transcript_opening, packet_of, event_record, IsEvent, AreRecords};
-ghost use Rattle.sftp_transcript.specs.Transcript.{IsRecord, GivesRecorded};
+ghost use Rattle.sftp_transcript.specs.Transcript.{transcript_opening, packet_of, event_record, IsEvent, IsRecord};
 ghost use Rattle.sftp_transcript.specs.Records.{side_of_direction, read_fault, Begins, GivesOnly};
 ghost use Rattle.sftp_transcript.specs.Records.{IsInit, BeginsInit, IsVersion, BeginsVersion};
 ghost use Rattle.sftp_transcript.specs.Refused.{PacketFault, RecordFault, InitFault, VersionFault, EventFault};
@@ -20,36 +19,6 @@ const OPENING: [u8; 8] = *b"SFTPTR01";
 
 /// The version of the protocol (draft, section 4).
 const PROTOCOL_VERSION: u32 = 3;
-
-/// The events that a transcript file records.
-///
-/// The file is `SFTPTR01` and then the records: a byte `C` or `S` that names the side, and one whole packet
-/// of that side. The first two records are an INIT of version 3 or more and a VERSION 3, with any extensions;
-/// the later ones, requests and replies, are the events. The time is linear in the bytes.
-///
-/// # Errors
-///
-/// The first fault from left to right, with the number of its record. Records count from 1, the opening has
-/// the number 0, and a number is capped at 2^64 - 1.
-///
-/// - `Magic` if the file does not begin with `SFTPTR01`.
-/// - `Start` if the first record is no INIT of version 3 or more from the client, or the second is no VERSION 3 from
-///   the server, or the file ends before one of them begins, or a later record is an INIT or a VERSION.
-/// - `Direction` if the byte before a packet is neither `C` nor `S`.
-/// - `Wire` if a packet cannot be read.
-/// - `Truncated` if the file ends inside a record.
-/// - `NoMemory` if memory runs out.
-pub fn read_events(alloc: Global, bytes: &[u8]) -> Result<Vec<Event>, TranscriptError>
-    // The result is what the bytes record.
-    ensures found { IfOk result (λ events. IsRecord events.items bytes.now) }
-    // What the bytes record is the result, unless memory runs out.
-    ensures only { GivesRecorded result bytes.now }
-{
-    let records = take_opening(bytes)?;
-    let records = take_init(alloc, records)?;
-    let records = take_version(alloc, records)?;
-    take_events(alloc, records)
-}
 
 /// The bytes behind the opening.
 pub(crate) fn take_opening(bytes: &[u8]) -> Result<&[u8], TranscriptError>
@@ -110,23 +79,6 @@ fn is_version(packet: Packet) -> bool
         Packet::Version { version, .. } => version == PROTOCOL_VERSION,
         Packet::Init { .. } | Packet::Request(_) | Packet::Reply(_) => false,
     }
-}
-
-/// The events of the third record and those behind it, up to the end.
-fn take_events(alloc: Global, bytes: &[u8]) -> Result<Vec<Event>, TranscriptError>
-    ensures found { IfOk result (λ events. AreRecords events.items bytes.now) }
-    ensures only { (events : List Event) → AreRecords events bytes.now → GivesOnly (λ v. v.items ≡ events) result }
-{
-    let mut events = Vec::new(alloc);
-    let mut rest = bytes;
-    let mut number: u64 = 3;
-    'records: while !rest.is_empty() {
-        let (event, after) = take_event(alloc, rest, number)?;
-        events.push(event)?;
-        rest = after;
-        number = number.saturating_add(1);
-    }
-    Ok(events)
 }
 
 /// The event of the record in front, and the bytes behind it.

@@ -1,5 +1,6 @@
 //! What a reader of a transcript file takes from its input: the opening, the first two records, and each later one.
-ghost use Rattle.std.specs.Prelude.{◌≡◌, ◌≤◌, List, ℕ, [], OnOk, OnErr, IfOk, IfErr, MatchResult, Some, None, ◌<◌, IfSome};
+ghost use Rattle.std.specs.Prelude.{◌≡◌, ◌<◌, ◌≤◌, List, ℕ, [], Some, None, OnOk, OnErr, IfOk, IfErr};
+ghost use Rattle.std.specs.Prelude.{IfSome, MatchResult};
 ghost use Rattle.sftp_transcript.specs.declared.events.Event.{Event};
 ghost use Rattle.sftp_transcript.specs.Ahead.{IsSameAhead, size_of};
 ghost use Rattle.sftp_transcript.specs.Records.{BeginsInit, BeginsVersion};

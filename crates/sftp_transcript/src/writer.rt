@@ -103,8 +103,8 @@ fn spell(out: &mut Vec<u8>, side: Side, packet: &Packet, number: u64) -> Result<
 {
     if !is_same(sender(packet), side) {
         return Err(TranscriptError::Wire {
-            fault: Fault::WrongType,
             record: number,
+            fault: Fault::WrongType,
         });
     }
     out.clear();
