@@ -341,11 +341,13 @@ pub struck-marked : (items : List Item) (marks : List Bool) (left : ℕ) (name :
     → (1 ≤ left) × IsMarked items (set marks place true) (left - 1)
 struck-marked items marks left name place before marked named is none =
     let same = marked.paired.same in
-    let less = count-struck items marks place before (named-within items name place named) same is none in
-    (omega (arith, less, marked.counted), record {
-      paired = record { same = length-set marks place true ∙ same; ordered = marked.paired.ordered };
-      counted = omega (arith, less, marked.counted);
-    })
+    let less = count-struck items marks place before (named-within items name place named) same is none in (
+      omega (arith, less, marked.counted),
+      record {
+        paired = record { same = length-set marks place true ∙ same; ordered = marked.paired.ordered };
+        counted = omega (arith, less, marked.counted);
+      },
+    )
 
 pub struck-again : (items : List Item) (marks : List Bool) (left : ℕ) (place : ℕ) (before : Bool)
     → IsMarked items marks left → before ≡ get_or marks place before → before ≡ true
@@ -498,9 +500,11 @@ first-dropped [] [] paired none = (paired, refl, refl)
 first-dropped [] (m ∷ ms) paired none = absurd (omega (arith, paired.same))
 first-dropped (x ∷ xs) [] paired none = absurd (omega (arith, paired.same))
 first-dropped (x ∷ xs) (true ∷ ms) paired none = absurd cc
-first-dropped (x ∷ xs) (false ∷ ms) paired none =
-    (record { same = omega (arith, paired.same); ordered = order-tail x xs paired.ordered }, refl,
-    lt-ltb 0 (length (x ∷ xs)) (omega arith) ∙ sym (lt-ltb 0 (length (entry_of x ∷ unmarked xs ms)) (omega arith)))
+first-dropped (x ∷ xs) (false ∷ ms) paired none = (
+  record { same = omega (arith, paired.same); ordered = order-tail x xs paired.ordered },
+  refl,
+  lt-ltb 0 (length (x ∷ xs)) (omega arith) ∙ sym (lt-ltb 0 (length (entry_of x ∷ unmarked xs ms)) (omega arith)),
+)
 
 -- ---- what a search finds
 
@@ -517,10 +521,12 @@ gap-from : (items : List Item) (name : Name) (place : ℕ) → place ≤ length 
 gap-from [] name zero within below above = tt
 gap-from [] name (suc place) within below above = absurd (omega (arith, within))
 gap-from (x ∷ xs) name zero within below above = above 0 x (omega arith) (omega arith)
-gap-from (x ∷ xs) name (suc place) within below above =
-    (below 0 x (omega arith) (omega arith), gap-from xs name place (omega (arith, within))
-    (λ k d low high. below (suc k) d (omega arith) (omega (arith, high)))
-    (λ k d low high. above (suc k) d (omega (arith, low)) (omega (arith, high))))
+gap-from (x ∷ xs) name (suc place) within below above = (
+  below 0 x (omega arith) (omega arith),
+  gap-from xs name place (omega (arith, within))
+      (λ k d low high. below (suc k) d (omega arith) (omega (arith, high)))
+      (λ k d low high. above (suc k) d (omega (arith, low)) (omega (arith, high))),
+)
 
 next-rises : (items : List Item) → InOrder name_cmp (map entry_of items) → (k : ℕ) (d : Item) → suc k < length items
     → name_cmp (get_or items k d).name (get_or items (suc k) d).name ≡ Less
@@ -597,9 +603,10 @@ pub dropped-one : (items : List Item) (marks : List Bool) (next : List Item) (ne
     → some ≡ true → (1 ≤ left) × IsMarked next next-marks (left - 1)
 dropped-one items marks next next-marks left some marked paired dropped is there =
     let less = tail-shorter (unmarked items marks) (sym is ∙ there) in
-    let size = ap (λ (l : Left). length l) dropped in
-    (omega (arith, less, marked.counted),
-    record { paired = paired; counted = omega (arith, less, size, marked.counted) })
+    let size = ap (λ (l : Left). length l) dropped in (
+      omega (arith, less, marked.counted),
+      record { paired = paired; counted = omega (arith, less, size, marked.counted) },
+    )
 
 pub dropped-none : (items : List Item) (marks : List Bool) (next : List Item) (next-marks : List Bool) (left : ℕ)
     → (some : Bool) → IsMarked items marks left → ArePaired next next-marks
@@ -616,9 +623,10 @@ pub put-one : (items : List Item) (marks : List Bool) (next : List Item) (next-m
     → (left + 1 ≤ length next) × IsMarked next next-marks (left + 1)
 put-one items marks next next-marks left more marked paired size is =
     let grown : length (unmarked next next-marks) ≡ 1 + length (unmarked items marks) =
-    size ∙ ap (λ b. cond b 1 0 + length (unmarked items marks)) is in
-    (omega (arith, grown, marked.counted, unmarked-few next next-marks),
-    record { paired = paired; counted = omega (arith, grown, marked.counted) })
+    size ∙ ap (λ b. cond b 1 0 + length (unmarked items marks)) is in (
+      omega (arith, grown, marked.counted, unmarked-few next next-marks),
+      record { paired = paired; counted = omega (arith, grown, marked.counted) },
+    )
 
 pub put-none : (items : List Item) (marks : List Bool) (next : List Item) (next-marks : List Bool) (left : ℕ)
     → (more : Bool) → IsMarked items marks left → ArePaired next next-marks

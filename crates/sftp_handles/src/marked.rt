@@ -38,13 +38,7 @@ pub(crate) fn item_at<'a>(
     ensures { option_map entry_of (option_copied result) ≡ unmarked_at items.now.items marks.now.items place }
 {
     match marks.get(place) {
-        Some(struck) => {
-            if *struck {
-                None
-            } else {
-                items.get(place)
-            }
-        }
+        Some(struck) => { if *struck { None } else { items.get(place) } }
         None => None,
     }
 }

@@ -38,11 +38,7 @@ impl Listing {
 /// # Errors
 ///
 /// `NoMemory` if memory runs out.
-fn push_item(
-    items: &mut Vec<NameItem>,
-    alloc: Global,
-    item: Option<&Item>,
-) -> Result<(), NoMemory>
+fn push_item(items: &mut Vec<NameItem>, alloc: Global, item: Option<&Item>) -> Result<(), NoMemory>
     requires { IfSome item (λ item. IsTrue (is_plain item.now.attrs)) }
     ensures { OnOk result (items.new.items
         ≡ items.old.items ++ map first.item_of (option_to_list (option_map entry_of (option_copied item.entry)))) }

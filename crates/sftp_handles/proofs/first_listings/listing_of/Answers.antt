@@ -1,6 +1,4 @@
-use Rattle.std.proofs.Common.{rules, ◌≡◌, length, replicate, false, sym, ap, ◌∙◌}
-use Rattle.sftp_tree.specs.Items.{entry_of}
-use Rattle.sftp_handles.specs.Marked.{unmarked}
+use Rattle.std.proofs.Common.{rules, ◌∙◌}
 use Rattle.sftp_handles.proofs.MarkedItems.{first-marks, first-marked, all-false}
 use Rattle.sftp_handles.proofs.first_listings.listing_of.Goals as goal
 

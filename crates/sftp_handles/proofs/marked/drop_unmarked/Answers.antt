@@ -1,4 +1,3 @@
-use Rattle.std.proofs.Common.{sym, ap, ◌∙◌}
 use Rattle.sftp_handles.proofs.MarkedItems.{first-dropped}
 use Rattle.sftp_handles.proofs.marked.drop_unmarked.Goals as goal
 
