@@ -25,6 +25,7 @@ use Rattle.sftp_path.proofs.Table.Entries.{without-absent}
 use Rattle.sftp_tree.specs.declared.listings.Item.{Item}
 use Rattle.sftp_tree.specs.Items.{entry_of}
 use Rattle.sftp_handles.specs.Handles.{Left}
+use Rattle.sftp_handles.specs.State.{IsLeft}
 use Rattle.sftp_handles.specs.Marked.{unmarked, unmarked_at, is_struck_first, with_attrs_at, ArePaired, IsMarked}
 use Rattle.sftp_handles.specs.Marked.{IsNamed, IsGap}
 
@@ -636,3 +637,6 @@ put-none items marks next next-marks left more marked paired size is =
     let same : length (unmarked next next-marks) ≡ 0 + length (unmarked items marks) =
     size ∙ ap (λ b. cond b 1 0 + length (unmarked items marks)) is in
     record { paired = paired; counted = omega (arith, same, marked.counted) }
+
+pub none-left : IsLeft []
+none-left = record { ordered = InOrder-empty Attrs name_cmp; items = tt }
