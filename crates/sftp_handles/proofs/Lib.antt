@@ -9,6 +9,8 @@ pub mod GoodSteps
 pub mod GoodPaths
 pub mod GoodLaws
 pub mod FirstListings
+pub mod MarkedItems
+pub mod ListedItems
 pub mod Strikes
 pub mod DistinctNames
 pub mod NamesLeft

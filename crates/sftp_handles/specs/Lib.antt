@@ -12,6 +12,7 @@ pub mod Giving
 pub mod Slots
 pub mod FirstNames
 pub mod Found
+pub mod Marked
 pub mod Judged
 pub mod Answered
 pub mod Opening

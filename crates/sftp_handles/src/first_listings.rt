@@ -7,6 +7,7 @@ ghost use Rattle.sftp_tree.specs.Items.{entry_of};
 use crate::listings::Listing;
 use sftp_path::NoMemory;
 use sftp_tree::Item;
+use std::collections::VecDeque;
 
 /// A listing that gives these items, which are in rising order of their names.
 ///
@@ -17,9 +18,12 @@ pub(crate) fn listing_of(items: Vec<Item>) -> Result<Listing, NoMemory>
     requires { InOrder name_cmp (map entry_of items.items) }
     ensures { IfOk result (λ left. left ≡ map entry_of items.items) }
 {
-    let mut left = Listing::empty(*items.allocator());
-    for item in items {
-        left.add(item.name, item.attrs)?;
-    }
-    Ok(left)
+    let left = items.len();
+    let mut marks = VecDeque::new(*items.allocator());
+    marks.resize(left, false)?;
+    Ok(Listing {
+        items: VecDeque::from_vec(items),
+        marks,
+        left,
+    })
 }

@@ -13,6 +13,7 @@ mod giving;
 mod handle_causes;
 pub mod laws;
 mod listings;
+mod marked;
 mod naming;
 mod not_opened;
 mod open_files;

@@ -1,25 +1,23 @@
-use Rattle.std.proofs.Common.{◌≡◌, ◌∷◌, ◌++◌, [], length, arith, sym, ap, subst, ◌∙◌, append_assoc, map}
-use Rattle.std.specs.Vec.Iter.{into_iter_items}
-use Rattle.sftp_path.specs.Place.{name_cmp}
-use Rattle.sftp_path.specs.Table.{InOrder, put}
-use Rattle.sftp_tree.specs.Items.{entry_of}
-use Rattle.sftp_handles.proofs.FirstListings.{item-last}
+use Rattle.std.proofs.Common.{rules, ◌∙◌}
+use Rattle.sftp_handles.proofs.MarkedItems.{first-marks, first-marked, all-false}
 use Rattle.sftp_handles.proofs.first_listings.listing_of.Goals as goal
 
-pub loop-item-preserved : goal.loop-item-preserved
-loop-item-preserved c =
-    let so_far = c.loop-item.yielded in
-    let item = c.in-Some.item in
-    let items : so_far ++ item ∷ into_iter_items c.next.new.self ≡ c.args.items.items =
-    ap (λ xs. so_far ++ xs) (sym c.in-Some.ensures.steps.0) ∙ c.loop-item.invariant.items in
-    record {
-      items = append_assoc so_far (item ∷ []) (into_iter_items c.next.new.self) ∙ items;
-      count =
-          (let more = ap length c.in-Some.ensures.steps.0 in
-          omega (arith, more, c.in-Some.ensures.steps.1, c.loop-item.invariant.count));
-      left =
-          c.in_ok-add.ensures.added
-          ∙ (ap (λ left. put name_cmp left item.name item.attrs) c.loop-item.invariant.left
-          ∙ item-last so_far item (into_iter_items c.next.new.self)
-          (subst (λ xs. InOrder name_cmp (map entry_of xs)) (sym items) c.requires));
-    }
+pub invariant_of-result : goal.invariant_of-result
+invariant_of-result c =
+    let items = c.args.items.items in
+    rw (c.from_vec.ensures.items, c.len-left.ensures)
+    (rw c.args.items.ok.0
+    (first-marked items c.resize.new.self.items
+    (all-false items c.new-marks.result.items c.resize.new.self.items c.new-marks.result.len c.len-left.result
+    c.new-marks.ensures.items c.new-marks.ensures.len (c.len-left.ensures ∙ c.args.items.ok.0)
+    (c.in_ok-resize.ensures.items_if_clones_equal (λ y clones. search rules)))
+    c.requires))
+
+pub returns : goal.returns
+returns c =
+    let items = c.args.items.items in
+    rw c.from_vec.ensures.items
+    (first-marks items c.resize.new.self.items
+    (all-false items c.new-marks.result.items c.resize.new.self.items c.new-marks.result.len c.len-left.result
+    c.new-marks.ensures.items c.new-marks.ensures.len (c.len-left.ensures ∙ c.args.items.ok.0)
+    (c.in_ok-resize.ensures.items_if_clones_equal (λ y clones. search rules))))

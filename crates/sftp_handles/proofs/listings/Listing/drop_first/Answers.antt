@@ -1,8 +1,9 @@
-use Rattle.sftp_handles.proofs.FirstStruck.{next-dropped}
+use Rattle.std.proofs.Common.{drop, ap, ◌∙◌}
+use Rattle.std.proofs.lemmas.List.{drop-drop}
+use Rattle.sftp_handles.specs.Handles.{Left}
 use Rattle.sftp_handles.proofs.listings.Listing.drop_first.Goals as goal
 
 pub loop-preserved : goal.loop-preserved
 loop-preserved c =
-    let popped = c.pop_first-dropped in
-    next-dropped c.loop.counter c.self.inside.names.entries c.loop.self-inside.names.entries popped.new.self.entries
-    popped.result c.loop.invariant popped.ensures.removal popped.ensures.unchanged popped.ensures.variant
+    c.drop_one.ensures
+    ∙ (ap (λ (left : Left). drop 1 left) c.loop.invariant ∙ drop-drop 1 c.loop.counter c.args.self.now)

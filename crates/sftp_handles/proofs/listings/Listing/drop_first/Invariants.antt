@@ -3,4 +3,4 @@ use Rattle.std.proofs.Common.{◌≡◌, drop}
 use Rattle.sftp_handles.proofs.listings.Listing.drop_first.Given as goal
 
 abbrev pub invariant-loop : goal.invariant-loop
-invariant-loop l = l.self-inside.names.entries ≡ drop l.counter l.initial.self-inside.names.entries
+invariant-loop l = l.self ≡ drop l.counter l.initial.self

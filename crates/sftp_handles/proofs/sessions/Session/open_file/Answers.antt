@@ -5,6 +5,7 @@ use Rattle.sftp_tree.specs.Tree.{Tree, WellFormed, HasFile, times_pinned}
 use Rattle.sftp_tree.proofs.KeptTrees.Files.{pins-stay}
 use Rattle.sftp_handles.specs.State.{State, Good}
 use Rattle.sftp_handles.proofs.NewStates.{state_of}
+use Rattle.sftp_handles.proofs.MarkedItems.{none-left}
 use Rattle.sftp_handles.proofs.Opened as opened
 use Rattle.sftp_handles.proofs.sessions.Session.open_file.Goals as goal
 
@@ -79,3 +80,6 @@ returns-in-Err-clause-failed g c =
     opened.refused-file c.args.self.now c.self-2.inside.tree c.args.path.now c.args.pflags c.args.attrs.now
     c.in-Err.refused (ap (λ (s : State). s.tree) (c.self-2.view_is ∙ c.in_ok-name.ensures.opened))
     c.in-Err.ensures.refused
+
+pub open_listing-requires-clause-left : goal.open_listing-requires-clause-left
+open_listing-requires-clause-left g c = rw c.empty.ensures none-left

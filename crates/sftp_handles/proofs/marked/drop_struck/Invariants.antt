@@ -1,0 +1,12 @@
+-- What is left stays left.
+use Rattle.std.proofs.Common.{◌≡◌, length}
+use Rattle.sftp_handles.specs.Marked.{unmarked, ArePaired}
+use Rattle.sftp_handles.proofs.marked.drop_struck.Given as goal
+
+abbrev pub invariant-struck : goal.invariant-struck
+invariant-struck l =
+    ArePaired l.items.items l.marks.items
+    × (unmarked l.items.items l.marks.items ≡ unmarked l.initial.items.items l.initial.marks.items)
+
+abbrev pub decreases-struck : goal.decreases-struck
+decreases-struck l = length l.marks.items
