@@ -26,10 +26,11 @@ next_name table = slot_name table.opens.vacant_key table.serial
 abbrev pub IsNext : Slots → List ℕ → Type 0
 IsNext table name = take 8 name ≡ uint64 table.opens.vacant_key
 
--- serials count openings; after 2^32 - 1 comes 0
+-- the serial after another; after 2^32 - 1 comes 0
 abbrev pub serial_after : ℕ → ℕ
 serial_after serial = (serial + 1) % 2 ^ 32
 
+-- the serial before another; before 0 comes 2^32 - 1
 abbrev pub serial_before : ℕ → ℕ
 serial_before serial = (serial + (2 ^ 32 - 1)) % 2 ^ 32
 

@@ -27,7 +27,7 @@ impl<T: HandleTable> Session<T> {
     ///
     /// # Errors
     ///
-    /// The first cause that holds. `NoMemory` if memory runs out. The session is then as before.
+    /// `Cause` with the first cause that holds. `NoMemory` if memory runs out. The session is then as before.
     pub(crate) fn answer_open(
         &mut self,
         ask: &Ask,
@@ -54,7 +54,7 @@ impl<T: HandleTable> Session<T> {
     ///
     /// # Errors
     ///
-    /// The first cause that holds. `NoMemory` if memory runs out. The session is then as before.
+    /// `Cause` with the first cause that holds. `NoMemory` if memory runs out. The session is then as before.
     pub(crate) fn answer_opendir(&mut self, ask: &Ask, path: &[u8]) -> Result<Answer, Refused>
         requires table { T.takes_want ≡ false }
         requires asked { ask.now ≡ asks.Opendir path.now }
@@ -75,8 +75,8 @@ impl<T: HandleTable> Session<T> {
     ///
     /// # Errors
     ///
-    /// If there is none, the first cause that holds: one of the path's, or else `NoRoom`. `NoMemory` if memory runs
-    /// out.
+    /// If there is none, `Cause` with the first cause that holds: one of the path's, or else `NoRoom`. `NoMemory` if
+    /// memory runs out.
     fn check_handles(&self, ask: &Ask) -> Result<(), Refused>
         requires { IsTrue (is_opening ask.now) }
         ensures left { OnOk result (IsTrue (state.has_handle_left self.now)) }

@@ -28,7 +28,7 @@ impl<T: HandleTable> Session<T> {
     ///
     /// # Errors
     ///
-    /// The first cause that holds. `NoMemory` if memory runs out. The session is then as before.
+    /// `Cause` with the first cause that holds. `NoMemory` if memory runs out. The session is then as before.
     pub(crate) fn do_ok(&mut self, ask: &Ask) -> Result<(), Refused>
         requires { IsTrue (says_ok ask.now) }
         ensures done { OnOk result (IsDone self.old ask.now self.new) }
@@ -69,7 +69,7 @@ impl<T: HandleTable> Session<T> {
     ///
     /// # Errors
     ///
-    /// The first cause that holds. `NoMemory` if memory runs out. The session is then as before.
+    /// `Cause` with the first cause that holds. `NoMemory` if memory runs out. The session is then as before.
     fn change_tree(&mut self, ask: &Ask) -> Result<(), Refused>
         requires { IsTrue (changes_tree ask.now) }
         ensures done { OnOk result (IsDone self.old ask.now self.new) }

@@ -18,7 +18,7 @@ impl<T: HandleTable> Session<T> {
     ///
     /// # Errors
     ///
-    /// The first cause that holds. `NoMemory` if memory runs out.
+    /// `Cause` with the first cause that holds. `NoMemory` if memory runs out.
     pub(crate) fn answer_stat(&self, path: &[u8], follow: bool) -> Result<Answer, Refused>
         ensures done { IfOk result (λ answer. IsAnswered self.now (stat_ask follow path.now) answer self.now) }
         ensures refused { IfErr result (IsRefusal self.now (stat_ask follow path.now)) }
@@ -48,7 +48,7 @@ impl<T: HandleTable> Session<T> {
     ///
     /// # Errors
     ///
-    /// The first cause that holds. `NoMemory` if memory runs out.
+    /// `Cause` with the first cause that holds. `NoMemory` if memory runs out.
     pub(crate) fn answer_real_path(&self, path: &[u8]) -> Result<Answer, Refused>
         ensures done { IfOk result (λ answer. IsAnswered self.now (Realpath path.now) answer self.now) }
         ensures refused { IfErr result (IsRefusal self.now (Realpath path.now)) }
@@ -62,7 +62,7 @@ impl<T: HandleTable> Session<T> {
     ///
     /// # Errors
     ///
-    /// The first cause that holds. `NoMemory` if memory runs out.
+    /// `Cause` with the first cause that holds. `NoMemory` if memory runs out.
     pub(crate) fn answer_read_link(&self, path: &[u8]) -> Result<Answer, Refused>
         ensures done { IfOk result (λ answer. IsAnswered self.now (Readlink path.now) answer self.now) }
         ensures refused { IfErr result (IsRefusal self.now (Readlink path.now)) }

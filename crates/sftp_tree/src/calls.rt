@@ -24,8 +24,8 @@ impl Tree {
     ///
     /// # Errors
     ///
-    /// The first cause that holds, as for the call of the request. `NoMemory` if memory runs out. The tree is then as
-    /// before.
+    /// `Cause` with the first cause that holds, as for the call of the request. `NoMemory` if memory runs out. The tree
+    /// is then as before.
     pub fn carry_out(&mut self, ask: &Ask) -> Result<(), Refused>
         requires { IsTrue (requests.has_step ask.now) }
         ensures free { OnOk result (IsFree self.old ask.now) }
@@ -46,7 +46,7 @@ impl Tree {
     ///
     /// # Errors
     ///
-    /// The first cause that holds, as for the call of the request. `NoMemory` if memory runs out.
+    /// `Cause` with the first cause that holds, as for the call of the request. `NoMemory` if memory runs out.
     pub fn check(&self, ask: &Ask) -> Result<(), Refused>
         requires { IsTrue (requests.has_step ask.now) }
         ensures free { OnOk result (IsFree self.now ask.now) }
@@ -64,8 +64,8 @@ impl Tree {
     ///
     /// # Errors
     ///
-    /// The first cause that holds: `BadPath`, the walk's, `Exists` or `NoRoom`. `NoMemory` if memory runs out. The tree
-    /// is then as before.
+    /// `Cause` with the first cause that holds: `BadPath`, the walk's, `Exists` or `NoRoom`. `NoMemory` if memory runs
+    /// out. The tree is then as before.
     pub fn mkdir(&mut self, path: &[u8], attrs: &Attrs) -> Result<(), Refused>
         ensures free { OnOk result (IsFree self.old (Mkdir path.now attrs.now)) }
         ensures done { OnOk result (self.new ≡ requests.after self.old (Mkdir path.now attrs.now)) }
@@ -81,8 +81,8 @@ impl Tree {
     ///
     /// # Errors
     ///
-    /// The first cause that holds: `BadPath`, the walk's, `NoEntry`, `NotDir`, `NotEmpty` or `Root`. `NoMemory` if
-    /// memory runs out. The tree is then as before.
+    /// `Cause` with the first cause that holds: `BadPath`, the walk's, `NoEntry`, `NotDir`, `NotEmpty` or `Root`.
+    /// `NoMemory` if memory runs out. The tree is then as before.
     pub fn rmdir(&mut self, path: &[u8]) -> Result<(), Refused>
         ensures free { OnOk result (IsFree self.old (Rmdir path.now)) }
         ensures done { OnOk result (self.new ≡ requests.after self.old (Rmdir path.now)) }
@@ -98,8 +98,8 @@ impl Tree {
     ///
     /// # Errors
     ///
-    /// The first cause that holds: `BadPath`, the walk's, `NoEntry` or `IsDir`. `NoMemory` if memory runs out. The tree
-    /// is then as before.
+    /// `Cause` with the first cause that holds: `BadPath`, the walk's, `NoEntry` or `IsDir`. `NoMemory` if memory runs
+    /// out. The tree is then as before.
     pub fn remove(&mut self, path: &[u8]) -> Result<(), Refused>
         ensures free { OnOk result (IsFree self.old (Remove path.now)) }
         ensures done { OnOk result (self.new ≡ requests.after self.old (Remove path.now)) }
@@ -116,8 +116,8 @@ impl Tree {
     ///
     /// # Errors
     ///
-    /// The first cause that holds: `BadPath`, the walk's, `NoEntry`, `NotFile` if a directory is given a size, or
-    /// `NoRoom`. `NoMemory` if memory runs out. The tree is then as before.
+    /// `Cause` with the first cause that holds: `BadPath`, the walk's, `NoEntry`, `NotFile` if a directory is given a
+    /// size, or `NoRoom`. `NoMemory` if memory runs out. The tree is then as before.
     pub fn set_stat(&mut self, path: &[u8], attrs: &Attrs) -> Result<(), Refused>
         ensures free { OnOk result (IsFree self.old (Setstat path.now attrs.now)) }
         ensures done { OnOk result (self.new ≡ requests.after self.old (Setstat path.now attrs.now)) }
@@ -133,8 +133,8 @@ impl Tree {
     ///
     /// # Errors
     ///
-    /// The first cause that holds: `BadPath`, the walk's of the old path and then of the new one, `NoEntry`, `Exists`,
-    /// `Root`, `Inside` or `NoRoom`. `NoMemory` if memory runs out. The tree is then as before.
+    /// `Cause` with the first cause that holds: `BadPath`, the walk's of the old path and then of the new one,
+    /// `NoEntry`, `Exists`, `Root`, `Inside` or `NoRoom`. `NoMemory` if memory runs out. The tree is then as before.
     pub fn rename(&mut self, old: &[u8], new: &[u8]) -> Result<(), Refused>
         ensures free { OnOk result (IsFree self.old (Rename old.now new.now)) }
         ensures done { OnOk result (self.new ≡ requests.after self.old (Rename old.now new.now)) }
@@ -152,8 +152,9 @@ impl Tree {
     ///
     /// # Errors
     ///
-    /// The first cause that holds: `BadPath`, the walk's of the old path and then of the new one, `NoEntry`, `NotDir`,
-    /// `IsDir`, `NotEmpty`, `Root`, `Inside` or `NoRoom`. `NoMemory` if memory runs out. The tree is then as before.
+    /// `Cause` with the first cause that holds: `BadPath`, the walk's of the old path and then of the new one,
+    /// `NoEntry`, `NotDir`, `IsDir`, `NotEmpty`, `Root`, `Inside` or `NoRoom`. `NoMemory` if memory runs out. The tree
+    /// is then as before.
     pub fn posix_rename(&mut self, old: &[u8], new: &[u8]) -> Result<(), Refused>
         ensures free { OnOk result (IsFree self.old (PosixRename old.now new.now)) }
         ensures done { OnOk result (self.new ≡ requests.after self.old (PosixRename old.now new.now)) }
@@ -169,8 +170,8 @@ impl Tree {
     ///
     /// # Errors
     ///
-    /// The first cause that holds: `BadPath`, the walk's of the old path and then of the new one, `NoEntry`, `Exists`,
-    /// `NotFile` or `NoRoom`. `NoMemory` if memory runs out. The tree is then as before.
+    /// `Cause` with the first cause that holds: `BadPath`, the walk's of the old path and then of the new one,
+    /// `NoEntry`, `Exists`, `NotFile` or `NoRoom`. `NoMemory` if memory runs out. The tree is then as before.
     pub fn hardlink(&mut self, old: &[u8], new: &[u8]) -> Result<(), Refused>
         ensures free { OnOk result (IsFree self.old (Hardlink old.now new.now)) }
         ensures done { OnOk result (self.new ≡ requests.after self.old (Hardlink old.now new.now)) }
@@ -186,8 +187,8 @@ impl Tree {
     ///
     /// # Errors
     ///
-    /// The first cause that holds: `BadPath`, of the target or of the link's path, the walk's, `Exists` or `NoRoom`.
-    /// `NoMemory` if memory runs out. The tree is then as before.
+    /// `Cause` with the first cause that holds: `BadPath`, of the target or of the link's path, the walk's, `Exists` or
+    /// `NoRoom`. `NoMemory` if memory runs out. The tree is then as before.
     pub fn symlink(&mut self, target: &[u8], link: &[u8]) -> Result<(), Refused>
         ensures free { OnOk result (IsFree self.old (Symlink target.now link.now)) }
         ensures done { OnOk result (self.new ≡ requests.after self.old (Symlink target.now link.now)) }
@@ -206,9 +207,9 @@ impl Tree {
     ///
     /// # Errors
     ///
-    /// The first cause that holds: `BadFlags`, `BadPath`, the walk's, `NoEntry` if there is no file and none is to be
-    /// made, `Exists` if EXCL asks for a new file, `IsDir` or `NoRoom`. `NoMemory` if memory runs out. The tree is then
-    /// as before.
+    /// `Cause` with the first cause that holds: `BadFlags`, `BadPath`, the walk's, `NoEntry` if there is no file and
+    /// none is to be made, `Exists` if EXCL asks for a new file, `IsDir` or `NoRoom`. `NoMemory` if memory runs out.
+    /// The tree is then as before.
     pub fn open_file(&mut self, path: &[u8], flags: u32, attrs: &Attrs) -> Result<FileNo, Refused>
         ensures free { OnOk result (IsFree self.old (Open path.now flags attrs.now)) }
         ensures done { OnOk result (self.new ≡ requests.after self.old (Open path.now flags attrs.now)) }
@@ -231,7 +232,7 @@ impl Tree {
     ///
     /// # Errors
     ///
-    /// The first cause that holds: `BadPath`, the walk's, or `NoEntry`. `NoMemory` if memory runs out.
+    /// `Cause` with the first cause that holds: `BadPath`, the walk's, or `NoEntry`. `NoMemory` if memory runs out.
     pub fn stat(&self, path: &[u8], follow: bool) -> Result<Attrs, Refused>
         ensures free { OnOk result (IsFree self.now (stat_ask follow path.now)) }
         ensures shown { IfOk result (λ attrs. requests.shown_to self.now (stat_ask follow path.now) ≡ Some attrs) }
@@ -251,7 +252,7 @@ impl Tree {
     ///
     /// # Errors
     ///
-    /// The first cause that holds: `BadPath`, or the walk's. `NoMemory` if memory runs out.
+    /// `Cause` with the first cause that holds: `BadPath`, or the walk's. `NoMemory` if memory runs out.
     pub fn real_path(&self, path: &[u8]) -> Result<Vec<u8>, Refused>
         ensures free { OnOk result (IsFree self.now (Realpath path.now)) }
         ensures text { IfOk result (λ text. requests.text_to self.now (Realpath path.now) ≡ Some text.items) }
@@ -266,7 +267,8 @@ impl Tree {
     ///
     /// # Errors
     ///
-    /// The first cause that holds: `BadPath`, the walk's, `NoEntry` or `NotLink`. `NoMemory` if memory runs out.
+    /// `Cause` with the first cause that holds: `BadPath`, the walk's, `NoEntry` or `NotLink`. `NoMemory` if memory
+    /// runs out.
     pub fn read_link(&self, path: &[u8]) -> Result<Vec<u8>, Refused>
         ensures free { OnOk result (IsFree self.now (Readlink path.now)) }
         ensures target { IfOk result (λ target. requests.target_to self.now (Readlink path.now) ≡ Some target.items) }

@@ -75,8 +75,8 @@ impl Tree {
     ///
     /// # Errors
     ///
-    /// The first cause that holds: of the request's own bytes, then of the walks, then in the order of the table.
-    /// `NoMemory` if memory runs out.
+    /// `Cause` with the first cause that holds: of the request's own bytes, then of the walks, then in the order of the
+    /// table. `NoMemory` if memory runs out.
     pub(crate) fn free_places<'a>(&'a self, ask: PathAsk<'a>) -> Result<Places<'a>, Refused>
         ensures free { IfOk result (λ places. IsFree self.now (asked ask.entry)) }
         ensures led { IfOk result (λ places. spec.LeadTo self.now (asked ask.entry) places) }

@@ -36,7 +36,8 @@ impl Tree {
     ///
     /// # Errors
     ///
-    /// The first cause that holds: `BadPath`, the walk's, `NoEntry` or `NotDir`. `NoMemory` if memory runs out.
+    /// `Cause` with the first cause that holds: `BadPath`, the walk's, `NoEntry` or `NotDir`. `NoMemory` if memory runs
+    /// out.
     pub fn list(&self, path: &[u8]) -> Result<Vec<Item>, Refused>
         ensures free { OnOk result (IsFree self.now (Opendir path.now)) }
         ensures listed { IfOk result

@@ -54,8 +54,8 @@ impl Tree {
     ///
     /// # Errors
     ///
-    /// The first cause that holds: of the request's own bytes, then of the walks, then in the order of the table.
-    /// `NoMemory` if memory runs out.
+    /// `Cause` with the first cause that holds: of the request's own bytes, then of the walks, then in the order of the
+    /// table. `NoMemory` if memory runs out.
     pub(crate) fn plan<'a>(&self, ask: PathAsk<'a>) -> Result<Plan<'a>, Refused>
         ensures free { OnOk result (IsFree self.now (asked ask.entry)) }
         ensures ready { IfOk result (λ plan. spec.IsReady self.now plan) }

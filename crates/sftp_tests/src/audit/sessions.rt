@@ -164,6 +164,25 @@ fn windows(rt: HostRuntime) -> Result<(), Fail> {
     Ok(())
 }
 
+/// Whether so many requests, and then one with the id of the first, are judged so, over the blank tree.
+fn is_window_with_the_first_id(
+    alloc: Global,
+    requests: u32,
+    verdict: &Verdict,
+) -> Result<bool, AllocError> {
+    let mut transcript = window(alloc, requests, 0)?;
+    append_request(&mut transcript, 0)?;
+    Ok(is_judged(alloc, BLANK, transcript.as_slice(), verdict))
+}
+
+/// A request that comes too late for the window and has the id of an unanswered one is refused for its id.
+#[test]
+fn late_requests_with_an_id_in_use(rt: HostRuntime) -> Result<(), Fail> {
+    let used = Verdict::Refused(Refusal::IdInUse { record: 1027 });
+    assert!(rt; is_window_with_the_first_id(rt.alloc(), 1024, &used)?);
+    Ok(())
+}
+
 /// Whether a request and a STATUS of this code to the id 1 are judged so, over the blank tree.
 fn is_answered(
     alloc: Global,
