@@ -1,6 +1,5 @@
 -- How a session is opened.
 use Rattle.std.specs.Prelude.{◌≡◌, ℕ, List, Option, Some, None, Result, Ok, MatchResult}
-use Rattle.std.specs.Io.KnownBytes.{IsAtEnd}
 use Rattle.sftp_wire.specs.declared.packets.Packet.{Packet}
 use Rattle.sftp_wire.specs.declared.packets.Side.TheVariants.{Client}
 use Rattle.sftp_wire.specs.Reading.{front_of}
@@ -33,8 +32,8 @@ IsGreetingOf packet count (Init taken) = IsInit packet × (taken ≡ count)
 IsGreetingOf packet count (Fault faults.BadInit) = IsInit packet → ⊥
 IsGreetingOf packet count (Fault other) = ⊥
 
--- From a session that was not opened yet, whatever was written and logged before it, a call that reads leads to one that
--- was not opened yet, or stops it.
+-- From a session that was not opened yet, whatever was written and logged before it, a call that reads leads to one
+-- that was not opened yet, or stops it.
 abbrev pub ReadsFirst : Option (List ℕ) → Option (List ℕ) → Ahead → Ahead → Result First Stop → Type 0
 ReadsFirst left0 left1 ahead0 ahead1 result =
     (start : Tree) (past : StreamBytes) (written logged : Option (List ℕ))

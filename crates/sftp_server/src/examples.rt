@@ -1,5 +1,5 @@
-//! Worked examples: how sessions end that are not opened, computed by the checker on the definition that the contract of
-//! `serve` names. The functions do nothing; each promise is in the contract.
+//! Worked examples: how sessions end that are not opened, computed by the checker on the definition that the contract
+//! of `serve` names. The functions do nothing; each promise is in the contract.
 ghost use Rattle.std.specs.Prelude.{[], codes};
 ghost use Rattle.sftp_wire.specs.Examples.{hex};
 ghost use Rattle.sftp_tree.specs.Tree.{Tree};

@@ -1,5 +1,5 @@
 //! Opens a session: reads the client's INIT, and answers it by the server's VERSION (draft, section 4).
-ghost use Rattle.std.specs.Prelude.{◌≡◌, ◌≤◌, ℕ, Option, List, length, take, IfOk, IfErr, OnOk, OnErr, MatchResult};
+ghost use Rattle.std.specs.Prelude.{◌≡◌, take, IfOk, IfErr, OnOk, MatchResult};
 ghost use Rattle.std.specs.Io.KnownBytes.{Appends, IsAtEnd};
 ghost use Rattle.sftp_wire.specs.declared.packets.Packet.{Packet};
 ghost use Rattle.sftp_wire.specs.declared.packets.Side.TheVariants.{Client};
@@ -7,15 +7,10 @@ ghost use Rattle.sftp_wire.specs.Spelling.{spelling, side_of};
 ghost use Rattle.sftp_transcript.specs.Streams.{AppendsPart};
 ghost use Rattle.sftp_transcript.specs.Log.{opened_text};
 ghost use Rattle.sftp_transcript.specs.Transcript.{record_text};
-ghost use Rattle.sftp_tree.specs.Tree.{Tree};
-ghost use Rattle.sftp_handles.specs.State.{Good};
 ghost use Rattle.sftp_server.specs.declared.ends.Stop.TheVariants as stops;
 ghost use Rattle.sftp_server.specs.declared.ends.Stream.TheVariants as streams;
-ghost use Rattle.sftp_server.specs.Machine.{at_start};
-ghost use Rattle.sftp_server.specs.Core.{started};
-ghost use Rattle.sftp_server.specs.Sessions.{StreamBytes, stream_bytes, Serves, ended_by, IsLogging, IsUnused};
-ghost use Rattle.sftp_server.specs.Sessions.{IsRunning, IsUnopenedYet, BeginsWithGreeting, CountsCall, Spares};
-ghost use Rattle.sftp_server.specs.Sessions.{ahead_without};
+ghost use Rattle.sftp_server.specs.Sessions.{IsUnused, IsLogging, BeginsWithGreeting, ahead_without, CountsCall};
+ghost use Rattle.sftp_server.specs.Sessions.{Spares};
 ghost use Rattle.sftp_server.specs.Opening.{IsFirst, IsInFront, IsGreetingOf, OpensOn, ReadsFirst};
 
 use crate::ends::{SessionFault, Stop, Stream};
@@ -82,17 +77,13 @@ fn first_packet(alloc: Global, input: &Input) -> Result<Option<First>, Stop>
 fn greeting(packet: &Packet, count: usize) -> First
     ensures { IsGreetingOf packet.now count result }
 {
-    match packet {
-        Packet::Init { version, .. } => {
-            if *version >= 3 {
-                First::Init(count)
-            } else {
-                First::Fault(SessionFault::BadInit)
-            }
-        }
-        Packet::Version { .. } => First::Fault(SessionFault::BadInit),
-        Packet::Request(_) => First::Fault(SessionFault::BadInit),
-        Packet::Reply(_) => First::Fault(SessionFault::BadInit),
+    let Packet::Init { version, .. } = packet else {
+        return First::Fault(SessionFault::BadInit);
+    };
+    if *version >= 3 {
+        First::Init(count)
+    } else {
+        First::Fault(SessionFault::BadInit)
     }
 }
 

@@ -1,6 +1,7 @@
 -- A session is opened.
-use Rattle.std.proofs.Common.{◌≡◌, ◌⊎◌, ℕ, ◌<◌, ◌≤◌, List, [], ◌∷◌, ◌++◌, length, take, drop, Option, Some, None, Result, Ok, Err}
-use Rattle.std.proofs.Common.{codes, OnOk, IfErr, IfSome, MatchResult, refl, sym, ap, subst, ◌∙◌, inl, inr, append-nil, arith, lit<, lit≤}
+use Rattle.std.proofs.Common.{◌≡◌, ◌⊎◌, ℕ, ◌<◌, ◌≤◌, List, [], ◌∷◌, ◌++◌, length, take, drop, codes, Option, Some, None}
+use Rattle.std.proofs.Common.{Result, Ok, Err, OnOk, IfErr, IfSome, MatchResult, refl, sym, ap, subst, ◌∙◌, inl, inr}
+use Rattle.std.proofs.Common.{append-nil, arith, lit<, lit≤}
 use Rattle.std.proofs.lemmas.List.{take_at, drop_at, length-append}
 use Rattle.std.specs.Result.{IsErrAnd}
 use Rattle.std.specs.Io.KnownBytes.{Appends, Consumes, Keeps}
@@ -18,7 +19,7 @@ use Rattle.sftp_transcript.specs.Streams.{AppendsPart}
 use Rattle.sftp_transcript.specs.Log.{Log, opened_text}
 use Rattle.sftp_transcript.specs.Records.{IsInit}
 use Rattle.sftp_transcript.specs.Transcript.{record_text, transcript_opening}
-use Rattle.sftp_transcript.specs.Explained.{Explained, BeginsFrom, closed, turn_after, in_window, exchanges_of, leading_pairs}
+use Rattle.sftp_transcript.specs.Explained.{BeginsFrom, turn_after, in_window, exchanges_of, leading_pairs}
 use Rattle.sftp_tree.specs.Tree.{Tree}
 use Rattle.sftp_handles.specs.State.{State, Good, settled}
 use Rattle.sftp_handles.specs.Allowed.{Allowed}
@@ -32,9 +33,8 @@ use Rattle.sftp_server.specs.declared.opening.First.{First}
 use Rattle.sftp_server.specs.declared.opening.First.TheVariants as firsts
 use Rattle.sftp_server.specs.Machine.{at_start}
 use Rattle.sftp_server.specs.Core.{started}
-use Rattle.sftp_server.specs.Served.{our_version, session_packets, sent_by, spelled_if, recorded, IsGreeting, IsNoGreeting}
-use Rattle.sftp_server.specs.Served.{IsListed}
-use Rattle.sftp_server.specs.Sessions.{StreamBytes, stream_bytes, Passed, Serves, ended_by, IsLogging, IsUnused, Ahead}
+use Rattle.sftp_server.specs.Served.{our_version, sent_by, spelled_if, recorded, IsGreeting, IsNoGreeting, IsListed}
+use Rattle.sftp_server.specs.Sessions.{StreamBytes, stream_bytes, Passed, Serves, ended_by, IsLogging, Ahead}
 use Rattle.sftp_server.specs.Sessions.{ahead_without, IsRunning, IsUnopenedYet, BeginsWithGreeting, FailsToSend}
 use Rattle.sftp_server.specs.Opening.{IsFirst, IsInFront, IsGreetingOf}
 use Rattle.sftp_server.proofs.Machines.Reached.{reached-start}
@@ -189,7 +189,8 @@ init-logged past left written logged0 logged1 ahead count greets unopened logged
     record {
       greeting = greets.greeting;
       passed = record {
-        read = subst (λ (input : List ℕ). Consumes past.left left input) (init-read ahead.held count greets) unopened.0.read;
+        read = subst (λ (input : List ℕ). Consumes past.left left input) (init-read ahead.held count greets)
+            unopened.0.read;
         written = subst (λ (output : List ℕ). Appends past.written written output) (sym (init-silent init is))
             unopened.0.written;
         logged = subst (λ (log : List ℕ). Appends past.logged logged1 log) (sym (init-recorded init))
@@ -301,7 +302,6 @@ pub version-sent : (start : Tree) (init : Packet) (past : StreamBytes)
     → Appends written0 written1 (spelling our_version) → Appends logged0 logged1 (record_text our_version)
     → IsRunning start past (stream_bytes left written1 logged1) ahead (at_start (started start) 1024) None
 version-sent start init past left written0 written1 logged0 logged1 ahead good logged written recorded_too =
-    let packets : List Packet = session_packets init [] in
     record {
       init = init;
       events = [];

@@ -1,4 +1,4 @@
-use Rattle.std.proofs.Common.{◌≡◌, ◌≤◌, ℕ, List, [], ◌∷◌, Some, Ok, codes, refl, sym, subst, inl, inr, arith}
+use Rattle.std.proofs.Common.{◌≡◌, ◌≤◌, [], Some, Ok, codes, refl, sym, subst, inl, inr, arith}
 use Rattle.sftp_wire.specs.Examples.{hex}
 use Rattle.sftp_wire.specs.Reading.{front_of, packet_of, client_packet_at, uint32_at, pairs_at, pair_at, string_at}
 use Rattle.sftp_wire.specs.declared.packets.Packet.TheVariants.{Init}
