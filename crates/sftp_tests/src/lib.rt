@@ -15,6 +15,8 @@ mod audit;
 #[cfg(test)]
 mod client;
 #[cfg(test)]
+mod cores;
+#[cfg(test)]
 mod generator;
 #[cfg(test)]
 mod handles;
@@ -24,6 +26,8 @@ mod long_files;
 mod open_flags;
 #[cfg(test)]
 mod path;
+#[cfg(test)]
+mod scripts;
 #[cfg(test)]
 mod serving;
 #[cfg(test)]

@@ -1,0 +1,182 @@
+//! Acts of a server that are done one after the other: the events that they make, and the tree in the end.
+use crate::answers::packet;
+use sftp_path::NoMemory;
+use sftp_server::{Act, run_script};
+use sftp_transcript::Event;
+use sftp_tree::Tree;
+use sftp_wire::{Packet, Request, Side, encode, front};
+use std::alloc::{AllocError, Global};
+use std::test::Fail;
+
+/// An act. Of a request there are its id, and the byte of its type with what follows the id.
+#[derive(Clone, Copy)]
+enum Step<'a> {
+    Deliver(u32, &'a [u8]),
+    Work(usize),
+    Send(usize),
+}
+
+/// What a script shows, its acts, its events as packets, and whether each request is answered in the end. Then the tree
+/// is blank.
+type Row<'a> = (&'a str, &'a [Step<'a>], &'a [(u32, &'a [u8])], bool);
+
+const MKDIR: &[u8] = b"\x0e\0\0\0\x02/a\0\0\0\0";
+
+const RMDIR: &[u8] = b"\x0f\0\0\0\x02/a";
+
+/// STATUS 0.
+const DONE: &[u8] = b"e\0\0\0\0\0\0\0\0\0\0\0\0";
+
+/// The tree with nothing but a root.
+const BLANK: &[u8] = b"SFTREE01\0\0\0\x01/\0\0\0\0\0\0\0\0\0\0\0\0\0\0\0\0\0\0\0\0\0\0\x01\xed";
+
+const SCRIPTS: &[Row] = &[
+    ("no acts", &[], &[], true),
+    (
+        "requests are done in the order asked, and answered in any order",
+        &[
+            Step::Deliver(1, MKDIR),
+            Step::Deliver(2, RMDIR),
+            Step::Work(1),
+            Step::Work(0),
+            Step::Work(1),
+            Step::Send(1),
+            Step::Send(0),
+        ],
+        &[(1, MKDIR), (2, RMDIR), (2, DONE), (1, DONE)],
+        true,
+    ),
+    (
+        "what is answered in front leaves the queue",
+        &[
+            Step::Deliver(1, MKDIR),
+            Step::Deliver(2, RMDIR),
+            Step::Work(0),
+            Step::Send(0),
+            Step::Work(0),
+            Step::Send(0),
+        ],
+        &[(1, MKDIR), (2, RMDIR), (1, DONE), (2, DONE)],
+        true,
+    ),
+    (
+        "a request is answered once",
+        &[
+            Step::Deliver(1, MKDIR),
+            Step::Deliver(2, RMDIR),
+            Step::Work(0),
+            Step::Work(1),
+            Step::Send(1),
+            Step::Send(1),
+            Step::Send(0),
+            Step::Send(0),
+        ],
+        &[(1, MKDIR), (2, RMDIR), (2, DONE), (1, DONE)],
+        true,
+    ),
+    (
+        "an id is in use until the reply is sent",
+        &[
+            Step::Deliver(1, MKDIR),
+            Step::Deliver(1, RMDIR),
+            Step::Work(0),
+            Step::Deliver(1, RMDIR),
+            Step::Send(0),
+            Step::Deliver(1, RMDIR),
+            Step::Work(0),
+            Step::Send(0),
+        ],
+        &[(1, MKDIR), (1, DONE), (1, RMDIR), (1, DONE)],
+        true,
+    ),
+    (
+        "no reply is sent before its request is done",
+        &[Step::Deliver(1, MKDIR), Step::Send(0)],
+        &[(1, MKDIR)],
+        false,
+    ),
+    (
+        "behind the queue nothing is done",
+        &[
+            Step::Work(0),
+            Step::Send(0),
+            Step::Deliver(1, MKDIR),
+            Step::Work(1),
+            Step::Send(1),
+        ],
+        &[(1, MKDIR)],
+        false,
+    ),
+];
+
+/// The request with this id, of this type and with these fields.
+pub(crate) fn request(alloc: Global, id: u32, part: &[u8]) -> Result<Request, NoMemory> {
+    let packet = packet(alloc, id, part)?;
+    match front(alloc, packet.as_slice(), Side::Client) {
+        Ok(Some((Packet::Request(request), _))) => Ok(request),
+        _ => Err(NoMemory),
+    }
+}
+
+fn act(alloc: Global, step: Step) -> Result<Act, NoMemory> {
+    match step {
+        Step::Deliver(id, part) => Ok(Act::Deliver(request(alloc, id, part)?)),
+        Step::Work(k) => Ok(Act::Work(k)),
+        Step::Send(k) => Ok(Act::Send(k)),
+    }
+}
+
+fn acts(alloc: Global, steps: &[Step]) -> Result<Vec<Act>, NoMemory> {
+    let mut acts = Vec::new(alloc);
+    for step in steps {
+        acts.push(act(alloc, *step)?)?;
+    }
+    Ok(acts)
+}
+
+fn packet_of(event: Event) -> Packet {
+    match event {
+        Event::Asked(request) => Packet::Request(request),
+        Event::Replied(reply) => Packet::Reply(reply),
+    }
+}
+
+/// The packets of the events, one after the other.
+fn packets_of(alloc: Global, events: Vec<Event>) -> Result<Vec<u8>, NoMemory> {
+    let mut bytes = Vec::new(alloc);
+    for event in events {
+        if encode(&packet_of(event), &mut bytes).is_err() {
+            return Err(NoMemory);
+        }
+    }
+    Ok(bytes)
+}
+
+/// Packets by their ids, types and fields, one after the other.
+fn joined(alloc: Global, packets: &[(u32, &[u8])]) -> Result<Vec<u8>, AllocError> {
+    let mut bytes = Vec::new(alloc);
+    for (id, part) in packets {
+        bytes.extend_from_slice(packet(alloc, *id, part)?.as_slice())?;
+    }
+    Ok(bytes)
+}
+
+/// Whether the acts of a row make its events, and lead to its end.
+fn holds(alloc: Global, row: &Row) -> Result<bool, Fail> {
+    let (_, steps, packets, ends) = row;
+    let acts = acts(alloc, steps)?;
+    let (events, core) = run_script(Tree::blank(alloc)?, acts.as_slice())?;
+    let same = packets_of(alloc, events)?.as_slice() == joined(alloc, packets)?.as_slice();
+    match core.finish() {
+        Ok(tree) => Ok(same && *ends && tree.write()?.as_slice() == BLANK),
+        Err(_) => Ok(same && !*ends),
+    }
+}
+
+#[test]
+fn scripts(rt: HostRuntime) -> Result<(), Fail> {
+    for row in SCRIPTS {
+        assert!(rt; holds(rt.alloc(), row)?, "{}", row.0);
+    }
+    Ok(())
+}
