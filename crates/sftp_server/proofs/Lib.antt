@@ -3,3 +3,4 @@ pub mod CoreSteps
 pub mod Machines
 pub mod Sessions
 pub mod ChoiceLaws
+pub mod ScriptLaws

@@ -7,3 +7,4 @@ pub mod Sessions
 pub mod Fronts
 pub mod Ending
 pub mod Opening
+pub mod Scripts

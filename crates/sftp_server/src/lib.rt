@@ -3,6 +3,7 @@
 #![tactic(auto)]
 
 mod acts;
+mod copying;
 mod cores;
 mod ends;
 mod input;
@@ -11,6 +12,7 @@ mod opening;
 mod queue;
 mod refusals;
 mod schedules;
+mod scripts;
 mod sending;
 mod serving;
 mod taking;
@@ -22,4 +24,5 @@ pub use cores::Core;
 pub use ends::{Ended, SessionFault, Stream};
 pub use refusals::{Did, Refuse};
 pub use schedules::{InOrder, Schedule, Shuffle};
+pub use scripts::run_script;
 pub use serving::serve;

@@ -1,0 +1,131 @@
+-- What comes of an act of a script, and of the acts so far.
+use Rattle.std.proofs.Common.{◌≡◌, ◌≢◌, ◌<◌, ◌≤◌, ◌+◌, ◌&&◌, ◌^◌, not, nat_lt, ℕ, zero, suc, Bool, true, false, List, [], ◌∷◌, ◌++◌}
+use Rattle.std.proofs.Common.{Result, Ok, Err, IfSome, IsTrue, length, take, get_or, refl, sym, ap, subst, ◌∙◌, arith}
+use Rattle.std.proofs.Common.{append-nil, add-one}
+use Rattle.std.specs.List.{AllByRecursion}
+use Rattle.std.specs.Result.{OnOk}
+use Rattle.std.proofs.Math.Seq.{take-suc}
+use Rattle.std.proofs.lemmas.Bool.{le-ltb}
+use Rattle.sftp_path.specs.declared.errors.NoMemory.{NoMemory}
+use Rattle.sftp_wire.specs.declared.packets.Ask.{Ask}
+use Rattle.sftp_wire.specs.declared.packets.Ask.TheVariants as asks
+use Rattle.sftp_wire.specs.declared.packets.Request.{Request}
+use Rattle.sftp_treefile.specs.TreeFile.{are_bytes}
+use Rattle.sftp_tree.specs.AskValues.{IsAsk}
+use Rattle.sftp_tree.specs.Requests.{path_of}
+use Rattle.sftp_tree.proofs.WellFormedTrees.Fields.{bytes-fit}
+use Rattle.sftp_tree.specs.Tree.{Tree}
+use Rattle.sftp_handles.specs.State.{State, Good}
+use Rattle.sftp_handles.specs.Allowed.{Allowed}
+use Rattle.sftp_transcript.specs.declared.events.Event.{Event}
+use Rattle.sftp_transcript.specs.declared.events.Event.TheVariants.{Asked}
+use Rattle.sftp_transcript.specs.Explained.{Explained, BeginsFrom}
+use Rattle.sftp_server.specs.declared.acts.Act.{Act}
+use Rattle.sftp_server.specs.declared.acts.Act.TheVariants.{Deliver, Work, Send}
+use Rattle.sftp_server.specs.declared.refusals.Refuse.{Refuse}
+use Rattle.sftp_server.specs.declared.refusals.Refuse.TheVariants as refuses
+use Rattle.sftp_server.specs.Machine.{Machine, at_start, taken, can_take, is_unsent, IsDelivery, IsAct, AreActs, Delivers}
+use Rattle.sftp_server.specs.Core.{server_clash, started, IsRefusedFor, IsValue, AreDeliverable}
+use Rattle.sftp_server.specs.Scripts.{IsPerformed}
+use Rattle.sftp_server.proofs.Machines.Acts.{all-append, acts-more}
+use Rattle.sftp_server.proofs.Machines.InOrder as in_order
+use Rattle.sftp_server.proofs.Sessions.Stops.{stays-good, each-answered, reached-begins}
+
+-- ---- values
+
+path-bytes : (ask : Ask) → IsAsk ask → IfSome (path_of ask) (λ path. IsTrue (are_bytes path))
+path-bytes (asks.Open path flags attrs) is = bytes-fit path is.0
+path-bytes (asks.Opendir path) is = bytes-fit path is
+path-bytes (asks.Mkdir path attrs) is = bytes-fit path is.0
+path-bytes (asks.Setstat path attrs) is = bytes-fit path is.0
+path-bytes (asks.Rmdir path) is = bytes-fit path is
+path-bytes (asks.Remove path) is = bytes-fit path is
+path-bytes (asks.Stat path) is = bytes-fit path is
+path-bytes (asks.Lstat path) is = bytes-fit path is
+path-bytes (asks.Realpath path) is = bytes-fit path is
+path-bytes (asks.Readlink path) is = bytes-fit path is
+path-bytes (asks.Symlink linktarget link) is = bytes-fit link is.1
+path-bytes (asks.Rename oldpath newpath) is = bytes-fit oldpath is.0
+path-bytes (asks.PosixRename oldpath newpath) is = bytes-fit oldpath is.0
+path-bytes (asks.Hardlink oldpath newpath) is = bytes-fit oldpath is.0
+path-bytes other is = tt
+
+pub request-value : (request : Request) → request.id < 2 ^ 32 → IsAsk request.ask → IsValue request
+request-value request id ask = record { askable = record { id = id; path = path-bytes request.ask ask }; ask = ask }
+
+-- ---- deliveries
+
+pub performed-taken : (request copy : Request) (before after : Machine State) (old new : List Event)
+    (outcome : Result (Unit {0}) NoMemory) → copy ≡ request → IsValue request → can_take before copy ≡ true
+    → after ≡ taken before copy → OnOk outcome (new ≡ old ++ Asked request ∷ [])
+    → OnOk outcome (IsPerformed (Deliver request) before after old new)
+performed-taken request copy before after old new (Err e) same value can after_is appended = tt
+performed-taken request copy before after old new (Ok it) same value can after_is appended = record {
+  value = value;
+  events = Asked request ∷ [];
+  appended = appended;
+  acted = subst (λ (r : Request). IsDelivery (can_take before r) before request (Asked request ∷ []) after) same (subst (λ (b : Bool). IsDelivery b before request (Asked request ∷ []) after) (sym can) (after_is ∙ ap (λ (r : Request). taken before r) same, refl));
+}
+
+-- a delivery that is refused, but not because memory ran out
+cannot_take : (machine : Machine State) (request : Request) (refuse : Refuse) → IsRefusedFor machine request refuse
+    → refuse ≢ refuses.NoMemory → can_take machine request ≡ false
+cannot_take machine request refuses.Full why other =
+    rw (le-ltb (length machine.queue) machine.window why) refl
+cannot_take machine request refuses.IdInUse why other = rw (why.0, why.1) refl
+cannot_take machine request refuses.NoMemory why other = absurd (other refl)
+
+pub performed-refused : (request copy : Request) (refuse : Refuse) (before after : Machine State) (old new : List Event)
+    (outcome : Result (Unit {0}) NoMemory) → copy ≡ request → IsValue request → IsRefusedFor before copy refuse
+    → after ≡ before → new ≡ old → OnOk outcome (refuse ≢ refuses.NoMemory)
+    → OnOk outcome (IsPerformed (Deliver request) before after old new)
+performed-refused request copy refuse before after old new (Err e) same value why after_is kept other = tt
+performed-refused request copy refuse before after old new (Ok it) same value why after_is kept other = record {
+  value = value;
+  events = [];
+  appended = kept ∙ sym (append-nil old);
+  acted = subst (λ (b : Bool). IsDelivery b before request [] after) (sym (cannot_take before request refuse (subst (λ (r : Request). IsRefusedFor before r refuse) same why) other)) record { unchanged = after_is; silent = refl };
+}
+
+-- ---- the acts so far
+
+pub acts-next : (start : State) (acts : List Act) (i next : ℕ) (act : Act) (mid after : Machine State)
+    (old new : List Event) → i < length acts → act ≡ get_or acts i act → next ≡ i + 1
+    → AreActs Allowed server_clash (at_start start 1024) (take i acts) old mid → AreDeliverable (take i acts)
+    → IsPerformed act mid after old new
+    → AreActs Allowed server_clash (at_start start 1024) (take next acts) new after × AreDeliverable (take next acts)
+acts-next start acts i next act mid after old new some is next_is steps values performed =
+    let one : take next acts ≡ take i acts ++ act ∷ [] =
+    ap (λ (n : ℕ). take n acts) next_is ∙ (take-one ∙ ap (λ (a : Act). take i acts ++ a ∷ []) (sym is)) in
+    let more = acts-more Allowed server_clash (at_start start 1024) mid after (take i acts) old act performed.events steps performed.acted in
+    let all = all-append (Delivers IsValue) (take i acts) (act ∷ []) values (performed.value, tt) in
+    (subst (λ (list : List Act). AreActs Allowed server_clash (at_start start 1024) list new after) (sym one) (subst (λ (es : List Event). AreActs Allowed server_clash (at_start start 1024) (take i acts ++ act ∷ []) es after) (sym performed.appended) more), subst AreDeliverable (sym one) all)
+  where
+    take-one : take (i + 1) acts ≡ take i acts ++ get_or acts i act ∷ []
+    take-one = rw add-one (take-suc acts i act some)
+
+take-whole : (acts : List Act) (i : ℕ) → length acts ≤ i → take i acts ≡ acts
+take-whole [] zero past = refl
+take-whole [] (suc i) past = refl
+take-whole (act ∷ acts) zero past = absurd (omega (arith, past))
+take-whole (act ∷ acts) (suc i) past = ap (λ (list : List Act). act ∷ list) (take-whole acts i (omega (arith, past)))
+
+-- all acts were done
+pub acts-whole : (start : State) (acts : List Act) (i : ℕ) (events : List Event) (core : Machine State)
+    → length acts ≤ i → AreActs Allowed server_clash (at_start start 1024) (take i acts) events core
+    → AreActs Allowed server_clash (at_start start 1024) acts events core
+acts-whole start acts i events core past steps =
+    subst (λ (list : List Act). AreActs Allowed server_clash (at_start start 1024) list events core) (take-whole acts i past) steps
+
+pub acts-begin : (start : Tree) (acts : List Act) (events : List Event) (core : Machine State) → Good (started start)
+    → AreActs Allowed server_clash (at_start (started start) 1024) acts events core → AreDeliverable acts
+    → BeginsFrom Allowed (started start) events
+acts-begin start acts events core good steps values =
+    reached-begins start events core good record { acts = acts; deliverable = values; steps = steps }
+
+pub acts-explained : (start : Tree) (acts : List Act) (events : List Event) (core : Machine State)
+    → Good (started start) → AreActs Allowed server_clash (at_start (started start) 1024) acts events core
+    → AreDeliverable acts → core.queue ≡ [] → Explained Allowed (started start) events core.state
+acts-explained start acts events core good steps values empty =
+    in_order.explained stays-good each-answered (started start) 1024 events core good (omega arith)
+    record { acts = acts; deliverable = values; steps = steps } empty
