@@ -1,5 +1,5 @@
 -- How an open session goes on after a batch of requests, and how it ends.
-use Rattle.std.specs.Prelude.{◌≡◌, ◌<◌, ◌≤◌, ℕ, List, [], length, Option, Some, None, Result, MatchResult}
+use Rattle.std.specs.Prelude.{◌≡◌, ◌<◌, ◌≤◌, ℕ, [], length, Option, Some, None, Result, MatchResult}
 use Rattle.sftp_wire.specs.Spelling.{packet_limit}
 use Rattle.sftp_tree.specs.Tree.{Tree}
 use Rattle.sftp_handles.specs.State.{State}
@@ -38,14 +38,16 @@ abbrev pub ReadsOn : StreamBytes → StreamBytes → Ahead → Ahead → Result 
 ReadsOn then now ahead0 ahead1 result =
     (start : Tree) (past : StreamBytes) (core : Machine State) → IsRunning start past then ahead0 core None
     → core.queue ≡ []
-    → MatchResult result (λ next. IsNext start past now ahead1 core next) (λ stop. Serves start past now (ended_by stop))
+    → MatchResult result (λ next. IsNext start past now ahead1 core next)
+    (λ stop. Serves start past now (ended_by stop))
 
 -- the same, with what was found in front
 abbrev pub EndsOn : StreamBytes → StreamBytes → Ahead → Ahead → Front → Result Next Stop → Type 0
 EndsOn then now ahead0 ahead1 front result =
     (start : Tree) (past : StreamBytes) (core : Machine State)
     → IsRunning start past then ahead0 core (fault_of front) → core.queue ≡ []
-    → MatchResult result (λ next. IsNext start past now ahead1 core next) (λ stop. Serves start past now (ended_by stop))
+    → MatchResult result (λ next. IsNext start past now ahead1 core next)
+    (λ stop. Serves start past now (ended_by stop))
 
 -- From an open session, a call leads to the end, or stops it.
 abbrev pub RunsOut : StreamBytes → StreamBytes → Ahead → Machine State → Machine State

@@ -1,6 +1,6 @@
 -- A session reads on, or comes to its end.
-use Rattle.std.proofs.Common.{◌≡◌, ◌≢◌, ◌==◌, ◌<◌, ◌+◌, ◌*◌, ℕ, Bool, true, false, List, [], ◌∷◌, ◌++◌, length}
-use Rattle.std.proofs.Common.{Option, Some, None, Result, Ok, refl, sym, ap, ◌∙◌, subst, append_assoc, append-nil, inl, inr}
+use Rattle.std.proofs.Common.{◌≡◌, ◌≢◌, ◌==◌, ◌+◌, ◌*◌, ℕ, Bool, true, false, List, [], ◌∷◌, ◌++◌, length}
+use Rattle.std.proofs.Common.{Option, Some, None, Ok, refl, sym, ap, ◌∙◌, subst, append_assoc, append-nil, inl, inr}
 use Rattle.std.proofs.Common.{true≢false, arith}
 use Rattle.std.proofs.lemmas.Bool.{eqb-true}
 use Rattle.std.specs.Io.KnownBytes.{Consumes, IsAtEnd, Keeps}
@@ -12,27 +12,23 @@ use Rattle.sftp_wire.specs.Spelling.{packet_limit}
 use Rattle.sftp_transcript.specs.declared.events.Event.{Event}
 use Rattle.sftp_tree.specs.Tree.{Tree}
 use Rattle.sftp_handles.specs.State.{State}
-use Rattle.sftp_server.specs.declared.ends.Ended.{Ended}
 use Rattle.sftp_server.specs.declared.ends.Ended.TheVariants as ends
 use Rattle.sftp_server.specs.declared.ends.SessionFault.{SessionFault}
 use Rattle.sftp_server.specs.declared.ends.SessionFault.TheVariants as faults
-use Rattle.sftp_server.specs.declared.ends.Stream.{Stream}
 use Rattle.sftp_server.specs.declared.ends.Stream.TheVariants as streams
 use Rattle.sftp_server.specs.declared.ends.Stop.{Stop}
 use Rattle.sftp_server.specs.declared.ends.Stop.TheVariants as stops
 use Rattle.sftp_server.specs.declared.queue.Entry.{Entry}
-use Rattle.sftp_server.specs.declared.taking.Front.{Front}
-use Rattle.sftp_server.specs.declared.taking.Front.TheVariants as fronts
 use Rattle.sftp_server.specs.Machine.{Machine, is_unsent}
 use Rattle.sftp_server.specs.Core.{started}
 use Rattle.sftp_server.specs.Served.{session_packets, sent_by, recorded, EndsSession, IsUnopenedBy, IsOpened, IsServed}
 use Rattle.sftp_server.specs.Served.{closed_tree}
 use Rattle.sftp_server.specs.Sessions.{StreamBytes, stream_bytes, Passed, Serves, Ahead, IsRunning, IsEnding}
-use Rattle.sftp_server.specs.Sessions.{IsFaultAhead, IsUnopenedYet, ended_by, CountsStop, CountsCall, CountsEnd}
-use Rattle.sftp_server.specs.Ending.{closed_end, IsClosed, GoesOn}
+use Rattle.sftp_server.specs.Sessions.{IsFaultAhead, IsUnopenedYet, ended_by}
+use Rattle.sftp_server.specs.Ending.{closed_end}
 use Rattle.sftp_server.proofs.Machines.InOrder.{explained}
-use Rattle.sftp_server.proofs.Sessions.Stops.{stays-good, each-answered, running-kept, stopped-reader, stopped-writer}
-use Rattle.sftp_server.proofs.Sessions.Stops.{stopped-log}
+use Rattle.sftp_server.proofs.Sessions.Stops.{stays-good, each-answered, running-kept}
+use Rattle.sftp_server.proofs.Sessions.Stops.{stopped-reader, stopped-writer, stopped-log}
 
 -- ---- what streams passed
 
@@ -90,28 +86,29 @@ nothing-read left0 left1 ahead0 ahead1 count read none =
     ∙ ap (λ (held : List ℕ). ahead_of held ahead0.place) (append-nil ahead0.held)
 
 -- the writer kept its bytes
-pub running-written : (start : Tree) (past : StreamBytes) (left written0 written1 logged : Option (List ℕ)) (ahead : Ahead)
-    (core : Machine State) (fault : Option SessionFault)
+pub running-written : (start : Tree) (past : StreamBytes) (left written0 written1 logged : Option (List ℕ))
+    (ahead : Ahead) (core : Machine State) (fault : Option SessionFault)
     → IsRunning start past (stream_bytes left written0 logged) ahead core fault → Keeps written0 written1
     → IsRunning start past (stream_bytes left written1 logged) ahead core fault
 running-written start past left written0 written1 logged ahead core fault running kept =
-    running-kept start past (stream_bytes left written0 logged) (stream_bytes left written1 logged) ahead core fault running
-    (Keeps-refl left) kept (Keeps-refl logged)
+    running-kept start past (stream_bytes left written0 logged) (stream_bytes left written1 logged) ahead core fault
+    running (Keeps-refl left) kept (Keeps-refl logged)
 
 -- the log kept its bytes
-pub running-logged : (start : Tree) (past : StreamBytes) (left written logged0 logged1 : Option (List ℕ)) (ahead : Ahead)
-    (core : Machine State) (fault : Option SessionFault)
+pub running-logged : (start : Tree) (past : StreamBytes) (left written logged0 logged1 : Option (List ℕ))
+    (ahead : Ahead) (core : Machine State) (fault : Option SessionFault)
     → IsRunning start past (stream_bytes left written logged0) ahead core fault → Keeps logged0 logged1
     → IsRunning start past (stream_bytes left written logged1) ahead core fault
 running-logged start past left written logged0 logged1 ahead core fault running kept =
-    running-kept start past (stream_bytes left written logged0) (stream_bytes left written logged1) ahead core fault running
-    (Keeps-refl left) (Keeps-refl written) kept
+    running-kept start past (stream_bytes left written logged0) (stream_bytes left written logged1) ahead core fault
+    running (Keeps-refl left) (Keeps-refl written) kept
 
 -- what was written was passed on, and then bytes were read
 pub running-more : (start : Tree) (past : StreamBytes) (left0 left1 written0 written1 logged : Option (List ℕ))
     (ahead0 ahead1 : Ahead) (core : Machine State) (count : ℕ)
     → IsRunning start past (stream_bytes left0 written0 logged) ahead0 core None → Keeps written0 written1
-    → HasRead left0 left1 ahead0 ahead1 count → IsRunning start past (stream_bytes left1 written1 logged) ahead1 core None
+    → HasRead left0 left1 ahead0 ahead1 count
+    → IsRunning start past (stream_bytes left1 written1 logged) ahead1 core None
 running-more start past left0 left1 written0 written1 logged ahead0 ahead1 core count running kept read =
     subst (λ (a : Ahead). IsRunning start past (stream_bytes left1 written1 logged) a core None) (sym read.2)
     (running-read start past left0 left1 written1 logged ahead0 core read.0
@@ -228,8 +225,8 @@ served-by start past now core fault ending =
 opened-by : (start : Tree) (past now : StreamBytes) (ahead : Ahead) (core : Machine State) (fault : Option SessionFault)
     (running : IsRunning start past now ahead core fault)
     → IsOpened (sent_by Client (session_packets running.init running.events) ++ ahead.held)
-    (sent_by Server (session_packets running.init running.events)) (recorded (session_packets running.init running.events))
-    running.init running.events ahead.held
+    (sent_by Server (session_packets running.init running.events))
+    (recorded (session_packets running.init running.events)) running.init running.events ahead.held
 opened-by start past now ahead core fault running = record {
   greeting = running.greeting;
   spelled = running.spelled;
@@ -274,8 +271,8 @@ closed start past now core (Some fault) ending =
         rest = ahead.held;
         opened = opened-by start past now ahead core None running;
         served = served-by start past now core (Some fault) ending;
-        broken = subst (λ (place : ℕ). EndsSession running.events ahead.held place (IsAtEnd now.left) fault) running.place
-            ending.why;
+        broken = subst (λ (place : ℕ). EndsSession running.events ahead.held place (IsAtEnd now.left) fault)
+            running.place ending.why;
       };
     }
 
@@ -304,8 +301,8 @@ no_memory-unopened start past now ahead yet = record {
   served = record { packets = []; rest = ahead.held; listed = tt; read = refl; left = (refl, inl (refl, refl)) };
 }
 
-pub unopened-stops : (start : Tree) (past now : StreamBytes) (ahead : Ahead) (stop : Stop) → IsUnopenedYet past now ahead
-    → stop ≡ stops.NoMemory → Serves start past now (ended_by stop)
+pub unopened-stops : (start : Tree) (past now : StreamBytes) (ahead : Ahead) (stop : Stop)
+    → IsUnopenedYet past now ahead → stop ≡ stops.NoMemory → Serves start past now (ended_by stop)
 unopened-stops start past now ahead stop yet is =
     subst (λ (s : Stop). Serves start past now (ended_by s)) (sym is) (no_memory-unopened start past now ahead yet)
 
@@ -313,64 +310,8 @@ unopened-stops start past now ahead stop yet is =
 pub unopened-at_start : (now : StreamBytes) → IsUnopenedYet now now (record { held = []; place = 0 })
 unopened-at_start now = (passed-nothing now, refl)
 
--- ---- what counts as a failure
+-- ---- a batch takes bytes, or the next read gives some
 
--- a stream is not why the session stopped
-pub spared : (stream : Stream) (stop : Stop) (count : ℕ) → stop ≢ stops.Io stream → CountsStop stream stop count count
-spared streams.Reader (stops.Io streams.Reader) count other = absurd (other refl)
-spared streams.Reader (stops.Io streams.Writer) count other = refl
-spared streams.Reader (stops.Io streams.Log) count other = refl
-spared streams.Writer (stops.Io streams.Reader) count other = refl
-spared streams.Writer (stops.Io streams.Writer) count other = absurd (other refl)
-spared streams.Writer (stops.Io streams.Log) count other = refl
-spared streams.Log (stops.Io streams.Reader) count other = refl
-spared streams.Log (stops.Io streams.Writer) count other = refl
-spared streams.Log (stops.Io streams.Log) count other = absurd (other refl)
-spared stream stops.NoMemory count other = refl
-
--- an earlier call did not fail
-pub stop-after : (stream : Stream) (stop : Stop) (old mid new : ℕ) → mid ≡ old → CountsStop stream stop mid new
-    → CountsStop stream stop old new
-stop-after stream stop old mid new same counts = subst (λ (n : ℕ). CountsStop stream stop n new) same counts
-
-pub counts-after : {A : Type 0} (stream : Stream) (result : Result A Stop) (old mid new : ℕ) → mid ≡ old
-    → CountsCall stream result mid new → CountsCall stream result old new
-counts-after stream result old mid new same counts = subst (λ (n : ℕ). CountsCall stream result n new) same counts
-
--- the session ended by itself
-pub counts-closed : (stream : Stream) (ended : Ended) (old new : ℕ) → IsClosed ended → new ≡ old
-    → CountsEnd stream ended old new
-counts-closed stream (ends.Finished tree) old new closed same = same
-counts-closed stream (ends.Fault tree fault) old new closed same = same
-counts-closed stream (ends.Io failed) old new closed same = absurd closed
-counts-closed stream ends.NoMemory old new closed same = absurd closed
-
-pub counts-stopped : (stream : Stream) (stop : Stop) (ended : Ended) (old new : ℕ) → ended ≡ ended_by stop
-    → CountsStop stream stop old new → CountsEnd stream ended old new
-counts-stopped stream (stops.Io failed) ended old new is counts = subst (λ (e : Ended). CountsEnd stream e old new) (sym is) counts
-counts-stopped stream stops.NoMemory ended old new is counts = subst (λ (e : Ended). CountsEnd stream e old new) (sym is) counts
-
-pub end-closed : (last : State) (fault : Option SessionFault) → IsClosed (closed_end last fault)
-end-closed last None = tt
-end-closed last (Some fault) = tt
-
--- ---- a batch takes bytes, or the next read does
-
--- how much is left to take: reads that give bytes, each of at most the longest packet, and the bytes held
+-- how much is left to take: reads that give bytes, each of at most as many as the longest packet has, and what is held
 abbrev pub bytes_left : ℕ → ℕ → ℕ
 bytes_left reads held = reads * (packet_limit + 1) + held
-
--- after a batch that took all that it could
-pub batch-falls : (front : Front) (ahead0 ahead1 ahead2 : Ahead) (reads0 reads2 : ℕ) → front ≢ fronts.Taken
-    → (front ≡ fronts.Full → length ahead1.held < length ahead0.held)
-    → GoesOn front ahead1 ahead2 reads0 reads2
-    → bytes_left reads2 (length ahead2.held) < bytes_left reads0 (length ahead0.held)
-batch-falls fronts.Taken ahead0 ahead1 ahead2 reads0 reads2 done full goes = absurd (done refl)
-batch-falls fronts.Full ahead0 ahead1 ahead2 reads0 reads2 done full goes =
-    let fell = full refl in
-    rw (goes.0, goes.1) (omega arith)
-batch-falls fronts.Waiting ahead0 ahead1 ahead2 reads0 reads2 done full goes =
-    let fell = goes.0 in
-    let few = goes.1 in
-    omega arith
-batch-falls (fronts.Fault fault) ahead0 ahead1 ahead2 reads0 reads2 done full goes = absurd goes

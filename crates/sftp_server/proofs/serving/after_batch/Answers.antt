@@ -1,5 +1,5 @@
 -- A fault ends the session, once the writer and the log were flushed.
-use Rattle.std.proofs.Common.{None, Some, subst, sym}
+use Rattle.std.proofs.Common.{subst}
 use Rattle.std.proofs.lemmas.Result.{err_from_is_err_and}
 use Rattle.sftp_server.specs.declared.taking.Front.{Front}
 use Rattle.sftp_server.specs.Fronts.{fault_of}

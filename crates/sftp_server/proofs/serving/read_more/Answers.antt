@@ -6,7 +6,8 @@ use Rattle.sftp_wire.specs.Reading.{front_of}
 use Rattle.sftp_wire.proofs.StreamLaws.Front.{none-leaves_room}
 use Rattle.sftp_server.specs.Sessions.{Ahead, stream_bytes}
 use Rattle.sftp_server.proofs.Sessions.Closed.{writer-stops, reader-stops, log-stops, running-written, running-more}
-use Rattle.sftp_server.proofs.Sessions.Closed.{running-logged, ending-whole, ending-cut, nothing-read, held-none, held-some}
+use Rattle.sftp_server.proofs.Sessions.Closed.{running-logged, ending-whole, ending-cut, nothing-read}
+use Rattle.sftp_server.proofs.Sessions.Closed.{held-none, held-some}
 use Rattle.sftp_server.proofs.serving.read_more.Goals as goal
 
 pub returns-in_err-flush-clause-running : goal.returns-in_err-flush-clause-running
@@ -14,8 +15,8 @@ returns-in_err-flush-clause-running g c =
     let p = err_from_is_err_and c.from_residual.result c.from_residual.ensures.1 in
     rw (p.1, p.2) (λ start past core running answered.
     writer-stops start past (g.R.Source.left c.args.reader.now) (g.W.Sink.written c.args.writer.now)
-    (g.W.Sink.written c.flush.new.writer) c.args.log.now.bytes c.args.input.now core None c.in_err-flush.field-0.0 running
-    c.flush.ensures.bytes c.in_err-flush.ensures.err)
+    (g.W.Sink.written c.flush.new.writer) c.args.log.now.bytes c.args.input.now core None c.in_err-flush.field-0.0
+    running c.flush.ensures.bytes c.in_err-flush.ensures.err)
 
 pub read-requires : goal.read-requires
 read-requires g c = none-leaves_room Client c.args.input.now.held c.requires.waits
@@ -66,8 +67,8 @@ pub returns-else-is_empty-clause-running : goal.returns-else-is_empty-clause-run
 returns-else-is_empty-clause-running g c = λ start past core running answered.
     let none : c.in_ok-read.field-0 ≡ 0 = omega arith in
     let same : c.read.new.self ≡ c.args.input.now =
-    nothing-read (g.R.Source.left c.args.reader.now) (g.R.Source.left c.read.new.reader) c.args.input.now c.read.new.self
-    c.in_ok-read.field-0 c.in_ok-read.ensures.ok none in
+    nothing-read (g.R.Source.left c.args.reader.now) (g.R.Source.left c.read.new.reader) c.args.input.now
+    c.read.new.self c.in_ok-read.field-0 c.in_ok-read.ensures.ok none in
     ending-cut start past
     (stream_bytes (g.R.Source.left c.read.new.reader) (g.W.Sink.written c.flush.new.writer) c.flush_log.new.log.bytes)
     c.read.new.self core c.place-place.result

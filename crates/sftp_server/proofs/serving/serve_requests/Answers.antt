@@ -18,7 +18,8 @@ returns-in_err-work_off-clause-running g c =
 
 pub returns-in_err-after_batch-clause-running : goal.returns-in_err-after_batch-clause-running
 returns-in_err-after_batch-clause-running g c =
-    let p = err_from_is_err_and c.from_residual-in_err-after_batch.result c.from_residual-in_err-after_batch.ensures.1 in
+    let p =
+    err_from_is_err_and c.from_residual-in_err-after_batch.result c.from_residual-in_err-after_batch.ensures.1 in
     let left = g.R.Source.left c.batch.reader in
     let written = g.W.Sink.written c.batch.writer in
     rw (p.1, p.2) (λ start past running.
