@@ -1,5 +1,5 @@
 -- The core of a server: a state, and a queue of requests in the order asked, the first of which is unanswered. A
--- request is done once no earlier pending request clashes with it. Replies are sent in any order
+-- request may be done once no earlier pending request clashes with it. Replies are sent in any order
 -- (draft-ietf-secsh-filexfer-02, section 6.1). The states, which replies they allow, and which requests clash are
 -- parameters. That the queue is bounded is this profile's own.
 use Rattle.std.specs.Prelude.{◌≡◌, ◌==◌, ◌&&◌, ◌||◌, not, nat_lt, ℕ, Bool, true, false, List, [], ◌∷◌, ◌++◌}

@@ -26,7 +26,7 @@ pub enum Ended {
 /// How a client broke the protocol (draft-ietf-secsh-filexfer-02, sections 3 and 4).
 #[derive(Clone, Copy, Debug, PartialEq, Eq, Error)]
 pub enum SessionFault {
-    /// A packet cannot be read. It begins at the place in the input that the error names.
+    /// A packet cannot be read. The error has the place of its first byte in the input, in bytes from 0.
     #[error("{0}")]
     Wire(WireError),
     /// A request has the id of one that is not answered.

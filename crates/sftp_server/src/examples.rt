@@ -1,4 +1,4 @@
-//! Worked examples: how sessions end that are not opened, computed by the checker on the definition that the contract
+//! Worked examples: how sessions that are not opened end, computed by the checker on the definition that the contract
 //! of `serve` names. The functions do nothing; each promise is in the contract.
 ghost use Rattle.std.specs.Prelude.{[], codes};
 ghost use Rattle.sftp_wire.specs.Examples.{hex};

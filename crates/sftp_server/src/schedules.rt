@@ -17,7 +17,9 @@ impl Schedule for InOrder {
     }
 }
 
-/// A schedule of pseudorandom choices, by a linear congruential generator of this state.
+/// A schedule of pseudorandom choices, by a linear congruential generator of this state (this profile's own). For each
+/// choice the state is multiplied by 6364136223846793005 and increased by 1442695040888963407, modulo 2^64; the choice
+/// is its upper 31 bits.
 #[derive(Clone, Copy, Debug, Drop)]
 pub struct Shuffle(pub u64);
 

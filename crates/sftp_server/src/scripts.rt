@@ -18,7 +18,8 @@ use sftp_tree::{NoMemory, Tree};
 use sftp_wire::Request;
 
 /// Does the acts in their order on a core of this tree, with nothing open and a window of 1,024 requests. Returns the
-/// events that they make, and the core after them.
+/// events that they make, and the core after them. An act that is not possible, such as the delivery of a request whose
+/// id is in use, changes nothing and makes no event.
 ///
 /// # Errors
 ///

@@ -35,15 +35,19 @@ enum Next {
     End(Option<SessionFault>),
 }
 
-/// Serves one session on a tree over these streams, in the order of the schedule, and returns how it ended. Pins that
-/// the tree has are removed.
+/// Serves one session on a tree over these streams, in the order of the schedule, and returns how it ended (draft,
+/// sections 3 to 7). Once the session is open, pins that the tree has are removed.
 ///
-/// It reads an INIT of version 3 or more, answers it by VERSION 3, and then answers each request. It takes requests as
-/// long as complete packets were read and the window has room; it then answers all that it took, passes the replies on,
-/// and reads again. A fault in the input ends the session once each request before it is answered. The log gets each
-/// packet of both sides, in the order in which requests were taken and replies were sent.
+/// It reads an INIT, which has to be of version 3 or more, answers it by VERSION 3, and then answers each request. It
+/// takes requests as long as complete packets were read and the window of 1,024 requests has room; it then answers all
+/// that it took, passes the replies on, and reads again. A fault in the input ends the session once each request before
+/// it is answered. The log gets each packet of both sides, in the order in which requests were taken and replies were
+/// sent.
 ///
-/// `log` has no records yet.
+/// Where a stream fails or memory runs out, the session ends at once, with `Io` or `NoMemory`: what was written and
+/// logged is a beginning of what it would have been. Nothing is tried again.
+///
+/// `log` has no records yet, and no call on it failed. Failures are counted up to 2^64 - 1.
 pub fn serve<R: Source, W: Sink, L: Sink, S: Schedule>(
     tree: Tree,
     reader: &mut R,
@@ -101,7 +105,7 @@ fn serve_from<R: Source, W: Sink, L: Sink, S: Schedule>(
 ) -> Result<Ended, Stop>
     requires unused { IsUnused log.old }
     requires whole { BeginsWithGreeting input.old.held count }
-    // Whatever was read before, if only that.
+    // For any session that has only read so far.
     ensures served { (past : StreamBytes)
         → IsUnopenedYet past (stream_bytes (R.left reader.old) (W.written writer.old) log.old.bytes) input.old
         → ServesOn tree past (stream_bytes (R.left reader.new) (W.written writer.new) log.new.bytes) result }

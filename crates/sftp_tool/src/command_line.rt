@@ -24,7 +24,7 @@ If the client breaks the protocol, the requests before that are answered, the tr
 'sftpv3: session fault: FAULT' is printed on standard error. FAULT is one of:
   KIND at PLACE  the packet at this byte of the input cannot be read
   IdInUse ID     a request has the id of one that is not answered
-  BadInit        the first packet is no INIT of version 3 or more, or a later one is an INIT
+  BadInit        the first packet is not an INIT or its version is below 3, or a later one is an INIT
   Cut at PLACE   the input ends inside the packet at this byte";
 
 const ABOUT_AUDIT: &str = "Checks every reply of a recorded session against a file tree";

@@ -21,8 +21,8 @@ use std::io::{Read, Write};
 /// - 2: bad usage, or a malformed tree file or transcript;
 /// - 3: a file or a stream cannot be read or written, or memory ran out.
 ///
-/// With status 2 or 3 the reason is written to `errors`. If `errors` cannot be written, the status is the same. `output`
-/// is flushed. Only `serve` reads `input`.
+/// With status 2 or 3 the reason is written to `errors`. If `errors` cannot be written, the status is the same.
+/// `output` is flushed, unless a session stops because a stream fails or memory runs out. Only `serve` reads `input`.
 pub fn run<R, I, O, E>(
     rt: &R,
     words: &[String],

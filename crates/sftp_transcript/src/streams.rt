@@ -21,7 +21,7 @@ pub trait Source {
     /// Whether a read may fail.
     ghost may_fail: { Bool };
 
-    /// A number that falls with each read that gives bytes, so that a loop over the stream ends.
+    /// A measure that each read of one byte or more decreases, so that a loop over the stream ends.
     ghost reads_left: { Self → ℕ };
 
     /// Reads once, to the front of the buffer, and returns how many bytes it read. It reads 0 bytes into a buffer that
