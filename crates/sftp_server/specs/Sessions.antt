@@ -164,12 +164,12 @@ IsEnd events rest place over None = over × (rest ≡ [])
 IsEnd events rest place over (Some fault) = EndsSession events rest place over fault
 
 -- the session is open, each request is answered, and it ends so
-pub record IsEnding (start : Tree) (past now : StreamBytes) (core : Machine State) (fault : Option SessionFault) : Type 0
-  where
-    pub ahead : Ahead
-    pub running : IsRunning start past now ahead core None
-    pub answered : core.queue ≡ []
-    pub why : IsEnd running.events ahead.held ahead.place (IsAtEnd now.left) fault
+pub record IsEnding (start : Tree) (past now : StreamBytes) (core : Machine State) (fault : Option SessionFault)
+    : Type 0 where
+  pub ahead : Ahead
+  pub running : IsRunning start past now ahead core None
+  pub answered : core.queue ≡ []
+  pub why : IsEnd running.events ahead.held ahead.place (IsAtEnd now.left) fault
 
 -- ---- a packet that is sent
 
