@@ -1,4 +1,5 @@
 //! Sessions of the server, over streams that are cut into pieces and that fail. The bytes are worked out by hand.
+use sftp_audit::audit;
 use sftp_server::{Ended, Schedule, SessionFault, Stream, serve};
 use sftp_transcript::{Tally, Writer};
 use sftp_tree::Tree;
@@ -173,6 +174,17 @@ fn session<S: Schedule>(
         end,
         tree,
     })
+}
+
+/// How many requests the log of a session on the blank tree has, if it is accepted with the tree of the session's end.
+fn accepted_requests(alloc: Global, outcome: &Outcome) -> Option<u64> {
+    match audit(alloc, BLANK, outcome.logged.as_slice()) {
+        Ok(accepted) if accepted.tree.as_slice() == outcome.tree.as_slice() => {
+            Some(accepted.requests)
+        }
+        Ok(_) => None,
+        Err(_) => None,
+    }
 }
 
 /// Whether the bytes are these parts, one after the other.

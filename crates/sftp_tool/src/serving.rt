@@ -1,14 +1,13 @@
 //! The subcommand `serve`: the session of one client over a pair of streams.
-ghost use Rattle.std.specs.Prelude.{◌≡◌, IfOk, IfErr};
+ghost use Rattle.std.specs.Prelude.{◌≡◌, IfOk};
 ghost use Rattle.sftp_tool.specs.declared.messages.Ending.TheVariants as endings;
 
 use crate::command_line::ServeOptions;
 use crate::messages::{Ending, Failure, STANDARD_INPUT, STANDARD_OUTPUT};
 use crate::subcommands::{read, write};
-use sftp_server::{Ended, InOrder, Schedule, Shuffle, Stream};
+use sftp_server::{Ended, InOrder, Schedule, SessionFault, Shuffle, Stream};
 use sftp_transcript::{Tally, Writer};
 use sftp_tree::Tree;
-use std::alloc::Global;
 use std::fs::Files;
 use std::io::{BufWriter, Read, Write};
 use std::{fs, io};
@@ -23,10 +22,13 @@ pub(crate) fn serve<'a, R: Files + AllocGlobal, I: Read, O: Write>(
     ensures { IfOk result (λ ending. ending ≡ endings.Done) }
 {
     let tree = read_tree(rt, options.tree)?;
-    let recording = Recording::new(rt, options.record)?;
-    let order = Order::new(options.shuffle);
-    let ended = session(rt.alloc(), tree, recording, order, input, output)?;
-    end(rt, ended, options)
+    match new_log(rt, options.record) {
+        Ok(log) => {
+            let ended = session(tree, log, Order::new(options.shuffle), input, output);
+            end(rt, ended, options)
+        }
+        Err(failure) => Err(failure),
+    }
 }
 
 /// The tree of the file `name`.
@@ -35,19 +37,26 @@ fn read_tree<'a, R: Files + AllocGlobal>(rt: &R, name: &'a str) -> Result<Tree, 
     Ok(Tree::read(rt.alloc(), bytes.as_slice())?)
 }
 
+/// The writer of a new record.
+fn new_log<'a, R: Files + AllocGlobal>(
+    rt: &R,
+    name: Option<&'a str>,
+) -> Result<Writer<Tally<Recording<R::File>>>, Failure<'a>> {
+    let recording = Recording::new(rt, name)?;
+    Ok(Writer::new(rt.alloc(), Tally::new(recording))?)
+}
+
 /// Serves a session on a tree, and returns how it ended.
-fn session<'a, L: Write + Drop, I: Read, O: Write>(
-    alloc: Global,
+fn session<L: Write + Drop, I: Read, O: Write>(
     tree: Tree,
-    recording: Recording<L>,
+    mut log: Writer<Tally<Recording<L>>>,
     mut order: Order,
     input: &mut I,
     output: &mut O,
-) -> Result<Ended, Failure<'a>> {
-    let mut log = Writer::new(alloc, Tally::new(recording))?;
+) -> Ended {
     let mut reader = Tally::new(input);
     let mut writer = Tally::new(output);
-    Ok(sftp_server::serve(tree, &mut reader, &mut writer, &mut log, &mut order))
+    sftp_server::serve(tree, &mut reader, &mut writer, &mut log, &mut order)
 }
 
 /// What the end of a session means for the run. The tree is saved if the session ended by itself.
@@ -59,24 +68,28 @@ fn end<'a, R: Files>(
     ensures { IfOk result (λ ending. ending ≡ endings.Done) }
 {
     match ended {
-        Ended::Finished(tree) => {
-            save(rt, &tree, options.save)?;
-            Ok(Ending::Done)
-        }
-        Ended::Fault(tree, fault) => {
-            save(rt, &tree, options.save)?;
-            Err(Failure::Session(fault))
-        }
+        Ended::Finished(tree) => saved(rt, &tree, options.save, None),
+        Ended::Fault(tree, fault) => saved(rt, &tree, options.save, Some(fault)),
         Ended::Io(stream) => Err(stream_failure(stream, options)),
         Ended::NoMemory => Err(Failure::OutOfMemory),
     }
 }
 
-/// Writes the tree to the file, if one is named.
-fn save<'a, R: Files>(rt: &R, tree: &Tree, name: Option<&'a str>) -> Result<(), Failure<'a>> {
-    match name {
-        Some(name) => write(rt, name, tree.write()?.as_slice()),
-        None => Ok(()),
+/// Writes the tree at the end of a session, which may have had a fault, to the file, if one is named.
+fn saved<'a, R: Files>(
+    rt: &R,
+    tree: &Tree,
+    name: Option<&'a str>,
+    fault: Option<SessionFault>,
+) -> Result<Ending, Failure<'a>>
+    ensures { IfOk result (λ ending. ending ≡ endings.Done) }
+{
+    if let Some(name) = name {
+        write(rt, name, tree.write()?.as_slice())?;
+    }
+    match fault {
+        Some(fault) => Err(Failure::Session(fault)),
+        None => Ok(Ending::Done),
     }
 }
 
@@ -85,6 +98,7 @@ fn stream_failure<'a>(stream: Stream, options: &ServeOptions<'a>) -> Failure<'a>
     match stream {
         Stream::Reader => Failure::CannotRead(STANDARD_INPUT),
         Stream::Writer => Failure::CannotWrite(STANDARD_OUTPUT),
+        // Without a file, recording never fails.
         Stream::Log => Failure::CannotWrite(options.record.unwrap_or("the record")),
     }
 }

@@ -39,6 +39,7 @@ struct Paths {
     tree: String,
     saved: String,
     record: String,
+    end: String,
 }
 
 impl Paths {
@@ -49,6 +50,7 @@ impl Paths {
             tree: format!(in rt.alloc(); "{folder}/tree")?,
             saved: format!(in rt.alloc(); "{folder}/saved")?,
             record: format!(in rt.alloc(); "{folder}/record")?,
+            end: format!(in rt.alloc(); "{folder}/end")?,
         };
         fs::write(rt, paths.tree.as_str(), BLANK)?;
         Ok(paths)
@@ -89,14 +91,26 @@ fn left<R: Files + AllocGlobal>(
     )
 }
 
-/// What an audit says of the record of a session.
-fn audited<R: Files + AllocGlobal>(rt: &R, paths: &Paths) -> Result<Outcome, AllocError> {
-    let tree = paths.tree.as_str();
-    let record = paths.record.as_str();
-    run_words(
-        rt,
-        &["sftpv3", "audit", "--tree", tree, "--transcript", record],
-    )
+/// Whether an audit of the record of a session prints this, and ends in the tree that was saved.
+fn is_audited<R: Files + AllocGlobal>(rt: &R, paths: &Paths, output: &str) -> io::Result<bool> {
+    let (tree, record, end) = (
+        paths.tree.as_str(),
+        paths.record.as_str(),
+        paths.end.as_str(),
+    );
+    let words = [
+        "sftpv3",
+        "audit",
+        "--tree",
+        tree,
+        "--transcript",
+        record,
+        "--out",
+        end,
+    ];
+    let outcome = run_words(rt, &words)?;
+    let saved = fs::read(rt, paths.saved.as_str())?;
+    Ok(outcome.is(0, output, "") && has_bytes(rt, end, Some(saved.as_slice()))?)
 }
 
 #[test]
@@ -105,7 +119,7 @@ fn serves_a_session(rt: HostRuntime) -> Result<(), Fail> {
     let outcome = run_on(&rt, paths.words().as_slice(), MAKE_A)?;
     assert!(rt; is(&outcome, 0, VERSION_DONE, ""));
     assert!(rt; left(&rt, &paths, ONE_DIRECTORY, RECORD)?);
-    assert!(rt; audited(&rt, &paths)?.is(0, "accepted 1 requests\n", ""));
+    assert!(rt; is_audited(&rt, &paths, "accepted 1 requests\n")?);
     fs::remove_dir_all(&rt, "test_serves")?;
     Ok(())
 }
@@ -183,7 +197,7 @@ fn is_faulty<R: Files + AllocGlobal>(
     Ok(
         is(&outcome, 1, VERSION, errors)
             && has_bytes(rt, paths.saved.as_str(), Some(BLANK))?
-            && audited(rt, paths)?.is(0, "accepted 0 requests\n", ""),
+            && is_audited(rt, paths, "accepted 0 requests\n")?,
     )
 }
 
@@ -216,7 +230,7 @@ fn reports_an_id_in_use(rt: HostRuntime) -> Result<(), Fail> {
     let outcome = run_on(&rt, paths.words().as_slice(), input.as_slice())?;
     assert!(rt; outcome.status == 1);
     assert!(rt; outcome.errors.as_slice() == b"sftpv3: session fault: IdInUse 7\n".as_slice());
-    assert!(rt; audited(&rt, &paths)?.is(0, "accepted 1 requests\n", ""));
+    assert!(rt; is_audited(&rt, &paths, "accepted 1 requests\n")?);
     fs::remove_dir_all(&rt, "test_id_in_use")?;
     Ok(())
 }

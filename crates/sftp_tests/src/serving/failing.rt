@@ -106,11 +106,15 @@ fn over(alloc: Global, output: Room, log: Room) -> Result<Outcome, Fail> {
 }
 
 #[test]
-fn writer_takes_nothing(rt: HostRuntime) -> Result<(), Fail> {
+fn streams_take_nothing(rt: HostRuntime) -> Result<(), Fail> {
     let mut full = Room::of(rt.alloc(), 100, usize::MAX);
     full.fails = false;
     let outcome = over(rt.alloc(), full, Room::ample(rt.alloc()))?;
     assert!(rt; stops(&outcome, Stream::Writer, 100, 136));
+    let mut full = Room::of(rt.alloc(), 100, usize::MAX);
+    full.fails = false;
+    let outcome = over(rt.alloc(), Room::ample(rt.alloc()), full)?;
+    assert!(rt; stops(&outcome, Stream::Log, 97, 100));
     Ok(())
 }
 

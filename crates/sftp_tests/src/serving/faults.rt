@@ -1,7 +1,7 @@
 //! Sessions that a client ends by a fault: what was written and logged until then, and the tree.
 use super::{
-    BLANK, DONE, End, INIT, MKDIR, Outcome, Pieces, ROOT, Room, STAT, VERSION, WITH_A, is_joined,
-    session,
+    BLANK, DONE, End, INIT, MKDIR, Outcome, Pieces, ROOT, Room, STAT, VERSION, WITH_A,
+    accepted_requests, is_joined, session,
 };
 use sftp_server::{InOrder, SessionFault};
 use sftp_wire::{Fault, WireError};
@@ -43,8 +43,10 @@ struct Wanted<'a> {
     tree: &'a [u8],
 }
 
-fn is_as_wanted(outcome: &Outcome, wanted: Wanted<'_>) -> bool {
+/// Whether a session is as wanted, and its log is accepted.
+fn is_as_wanted(alloc: Global, outcome: &Outcome, wanted: Wanted<'_>) -> bool {
     outcome.end == wanted.end
+        && accepted_requests(alloc, outcome).is_some()
         && is_joined(outcome.written.as_slice(), wanted.written)
         && outcome.tree.as_slice() == wanted.tree
 }
@@ -80,13 +82,13 @@ fn no_greeting(rt: HostRuntime) -> Result<(), Fail> {
 fn ends_so(alloc: Global, parts: &[&[u8]], wanted: Wanted<'_>) -> Result<bool, Fail> {
     let whole = served(alloc, parts, usize::MAX)?;
     let bytes = served(alloc, parts, 1)?;
-    Ok(is_as_wanted(&whole, wanted) && is_as_wanted(&bytes, wanted))
+    Ok(is_as_wanted(alloc, &whole, wanted) && is_as_wanted(alloc, &bytes, wanted))
 }
 
 /// REMOVE of `/a` with a byte too many.
 const TRAILING: &[u8] = b"\0\0\0\x0c\x0d\0\0\0\x01\0\0\0\x02/a\0";
 
-/// STAT with a handle's worth of nothing: its path is cut short.
+/// STAT without the bytes of its path.
 const SHORT: &[u8] = b"\0\0\0\x09\x11\0\0\0\x07\0\0\0\x02";
 
 #[test]
@@ -98,7 +100,7 @@ fn first_request_is_a_fault(rt: HostRuntime) -> Result<(), Fail> {
         (VERSION, unreadable(Fault::WrongType, 9)),
         (INIT, End::Fault(SessionFault::BadInit)),
         (
-            &[0, 0, 0, 15, 14],
+            b"\0\0\0\x0f\x0e\0\0\0\x01\0",
             End::Fault(SessionFault::Cut { place: 9 }),
         ),
     ];
@@ -143,7 +145,7 @@ fn id_is_in_use(rt: HostRuntime) -> Result<(), Fail> {
         end: End::Fault(SessionFault::IdInUse(7)),
         tree: BLANK,
     };
-    assert!(rt; is_as_wanted(&twice, in_use));
+    assert!(rt; is_as_wanted(rt.alloc(), &twice, in_use));
     // Byte by byte the first is answered before the second is read.
     let apart = served(rt.alloc(), &[INIT, STAT, STAT], 1)?;
     let finished = Wanted {
@@ -151,6 +153,6 @@ fn id_is_in_use(rt: HostRuntime) -> Result<(), Fail> {
         end: End::Finished,
         tree: BLANK,
     };
-    assert!(rt; is_as_wanted(&apart, finished));
+    assert!(rt; is_as_wanted(rt.alloc(), &apart, finished));
     Ok(())
 }
