@@ -6,7 +6,10 @@ ghost use Rattle.sftp_transcript.specs.Explained.{Explained, BeginsFrom, in_wind
 ghost use Rattle.sftp_handles.specs.State.{State, Good};
 ghost use Rattle.sftp_handles.specs.Allowed.{Allowed};
 ghost use Rattle.sftp_server.specs.Machine.{Machine};
+ghost use Rattle.sftp_wire.specs.declared.packets.Packet.{Packet};
+ghost use Rattle.sftp_transcript.specs.Transcript.{IsRecord};
 ghost use Rattle.sftp_server.specs.Core.{IsReached};
+ghost use Rattle.sftp_server.specs.Served.{IsOpened};
 
 use sftp_handles::laws::{good_stays_good, some_reply};
 
@@ -27,3 +30,9 @@ pub fn sessions_are_explained()
     good_stays_good();
     some_reply();
 }
+
+/// The log of a session that was opened is the transcript of its events.
+pub fn logs_are_transcripts()
+    ensures { (input output log : List ℕ) (init : Packet) (events : List Event) (rest : List ℕ) →
+        IsOpened input output log init events rest → IsRecord events log }
+{}
