@@ -1,5 +1,6 @@
 -- How an open session goes on after a batch of requests, and how it ends.
-use Rattle.std.specs.Prelude.{◌≡◌, ℕ, List, [], Option, Some, None, Result, MatchResult}
+use Rattle.std.specs.Prelude.{◌≡◌, ◌<◌, ◌≤◌, ℕ, List, [], length, Option, Some, None, Result, MatchResult}
+use Rattle.sftp_wire.specs.Spelling.{packet_limit}
 use Rattle.sftp_tree.specs.Tree.{Tree}
 use Rattle.sftp_handles.specs.State.{State}
 use Rattle.sftp_server.specs.declared.ends.Ended.{Ended}
@@ -9,6 +10,7 @@ use Rattle.sftp_server.specs.declared.ends.Stop.{Stop}
 use Rattle.sftp_server.specs.declared.serving.Next.{Next}
 use Rattle.sftp_server.specs.declared.serving.Next.TheVariants.{Batch, End}
 use Rattle.sftp_server.specs.declared.taking.Front.{Front}
+use Rattle.sftp_server.specs.declared.taking.Front.TheVariants.{Taken, Full, Waiting, Fault}
 use Rattle.sftp_server.specs.Machine.{Machine}
 use Rattle.sftp_server.specs.Served.{closed_tree}
 use Rattle.sftp_server.specs.Sessions.{StreamBytes, Ahead, IsRunning, IsEnding, Serves, ended_by}
@@ -51,3 +53,10 @@ abbrev pub RunsOut : StreamBytes → StreamBytes → Ahead → Machine State →
 RunsOut then now ahead core0 core1 result =
     (start : Tree) (past : StreamBytes) → IsRunning start past then ahead core0 None
     → MatchResult result (λ fault. IsEnding start past now core1 fault) (λ stop. Serves start past now (ended_by stop))
+
+-- how a batch goes on: the bytes in front stay, or the reader gives more, of which there are then not too many
+abbrev pub GoesOn : Front → Ahead → Ahead → ℕ → ℕ → Type 0
+GoesOn Taken old new reads0 reads1 = (new ≡ old) × (reads1 ≡ reads0)
+GoesOn Full old new reads0 reads1 = (new ≡ old) × (reads1 ≡ reads0)
+GoesOn Waiting old new reads0 reads1 = (reads1 < reads0) × (length new.held ≤ packet_limit)
+GoesOn (Fault fault) old new reads0 reads1 = ⊥

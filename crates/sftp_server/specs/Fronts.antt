@@ -1,10 +1,15 @@
 -- What a server finds in front of the bytes that it read.
-use Rattle.std.specs.Prelude.{◌≡◌, ◌≢◌, ◌<◌, ℕ, List, [], length, Option, Some, None, Result, MatchResult}
+use Rattle.std.specs.Prelude.{◌≡◌, ◌≢◌, ◌<◌, ℕ, List, [], length, Option, Some, None, Result, Ok, Err}
+use Rattle.std.specs.Prelude.{MatchResult}
 use Rattle.sftp_tree.specs.Tree.{Tree}
 use Rattle.sftp_handles.specs.State.{State}
 use Rattle.sftp_server.specs.declared.ends.Stop.{Stop}
+use Rattle.sftp_server.specs.declared.ends.Stop.TheVariants.{NoMemory}
 use Rattle.sftp_server.specs.declared.ends.SessionFault.{SessionFault}
+use Rattle.sftp_server.specs.declared.ends.SessionFault.TheVariants.{IdInUse}
 use Rattle.sftp_server.specs.declared.queue.Entry.{Entry}
+use Rattle.sftp_server.specs.declared.refusals.Refuse.{Refuse}
+use Rattle.sftp_server.specs.declared.refusals.Refuse.TheVariants as refusals
 use Rattle.sftp_server.specs.declared.taking.Front.{Front}
 use Rattle.sftp_server.specs.declared.taking.Front.TheVariants.{Taken, Full, Waiting, Fault}
 use Rattle.sftp_server.specs.Machine.{Machine}
@@ -22,6 +27,12 @@ FallsIfTaken Taken old new queue = length new.held < length old.held
 FallsIfTaken Full old new queue = (new ≡ old) × (queue ≢ [])
 FallsIfTaken Waiting old new queue = new ≡ old
 FallsIfTaken (Fault fault) old new queue = new ≡ old
+
+-- what a call finds in front where a request of this id is refused
+abbrev pub found_refused : ℕ → Refuse → Result Front Stop
+found_refused id refusals.Full = Ok Full
+found_refused id refusals.IdInUse = Ok (Fault (IdInUse id))
+found_refused id refusals.NoMemory = Err NoMemory
 
 -- From a running session, whatever was written, a call that takes requests leads to a running session with the fault
 -- that it found, if any, or stops it.

@@ -102,6 +102,8 @@ impl Core {
         ensures in_use { (result ≡ Some in_use)
             ↔ (IsTrue (nat_lt (length self.now.queue) self.now.window) × IsTrue (is_unsent id self.now.queue)) }
         ensures other { result ≢ Some no_memory }
+        // A full queue has some request.
+        ensures busy { result ≡ Some full → self.now.queue ≢ [] }
     {
         if self.queue.len() >= self.window {
             Some(Refuse::Full)

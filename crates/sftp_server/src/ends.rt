@@ -5,6 +5,7 @@ ghost use Rattle.sftp_server.specs.Sessions.{ended_by};
 
 use sftp_tree::{NoMemory, Tree};
 use sftp_wire::WireError;
+use std::alloc::{AllocError, AllocFailed};
 
 /// How a session ended.
 #[derive(Debug, Drop)]
@@ -73,6 +74,26 @@ impl From<NoMemory> for Stop {
     ghost from_gives = { λ _ stop. stop ≡ no_memory };
 
     fn from(_error: NoMemory) -> Stop {
+        Stop::NoMemory
+    }
+}
+
+impl From<AllocError> for Stop {
+    ghost use Rattle.sftp_server.specs.declared.ends.Stop.TheVariants.{NoMemory as no_memory};
+
+    ghost from_gives = { λ _ stop. stop ≡ no_memory };
+
+    fn from(_error: AllocError) -> Stop {
+        Stop::NoMemory
+    }
+}
+
+impl<T: Drop> From<AllocFailed<T>> for Stop {
+    ghost use Rattle.sftp_server.specs.declared.ends.Stop.TheVariants.{NoMemory as no_memory};
+
+    ghost from_gives = { λ _ stop. stop ≡ no_memory };
+
+    fn from(_error: AllocFailed<T>) -> Stop {
         Stop::NoMemory
     }
 }

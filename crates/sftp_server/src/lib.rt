@@ -6,6 +6,7 @@ mod acts;
 mod copying;
 mod cores;
 mod ends;
+pub mod examples;
 mod input;
 pub mod laws;
 mod opening;

@@ -1,6 +1,12 @@
 //! Opens a session: reads the client's INIT, and answers it by the server's VERSION (draft, section 4).
-ghost use Rattle.std.specs.Prelude.{◌≡◌, ℕ, Option, None, List, [], IfOk, IfErr, OnOk, OnErr, MatchResult};
-ghost use Rattle.std.specs.Io.KnownBytes.{IsAtEnd};
+ghost use Rattle.std.specs.Prelude.{◌≡◌, ◌≤◌, ℕ, Option, List, length, take, IfOk, IfErr, OnOk, OnErr, MatchResult};
+ghost use Rattle.std.specs.Io.KnownBytes.{Appends, IsAtEnd};
+ghost use Rattle.sftp_wire.specs.declared.packets.Packet.{Packet};
+ghost use Rattle.sftp_wire.specs.declared.packets.Side.TheVariants.{Client};
+ghost use Rattle.sftp_wire.specs.Spelling.{spelling, side_of};
+ghost use Rattle.sftp_transcript.specs.Streams.{AppendsPart};
+ghost use Rattle.sftp_transcript.specs.Log.{opened_text};
+ghost use Rattle.sftp_transcript.specs.Transcript.{record_text};
 ghost use Rattle.sftp_tree.specs.Tree.{Tree};
 ghost use Rattle.sftp_handles.specs.State.{Good};
 ghost use Rattle.sftp_server.specs.declared.ends.Stop.TheVariants as stops;
@@ -9,7 +15,8 @@ ghost use Rattle.sftp_server.specs.Machine.{at_start};
 ghost use Rattle.sftp_server.specs.Core.{started};
 ghost use Rattle.sftp_server.specs.Sessions.{StreamBytes, stream_bytes, Serves, ended_by, IsLogging, IsUnused};
 ghost use Rattle.sftp_server.specs.Sessions.{IsRunning, IsUnopenedYet, BeginsWithGreeting, CountsCall, Spares};
-ghost use Rattle.sftp_server.specs.Opening.{IsFirst};
+ghost use Rattle.sftp_server.specs.Sessions.{ahead_without};
+ghost use Rattle.sftp_server.specs.Opening.{IsFirst, IsInFront, IsGreetingOf, OpensOn, ReadsFirst};
 
 use crate::ends::{SessionFault, Stop, Stream};
 use crate::input::Input;
@@ -38,18 +45,14 @@ pub(crate) fn await_init<R: Source>(
     input: &mut Input,
     reader: &mut R,
 ) -> Result<First, Stop>
-    ensures first { (start : Tree) (past : StreamBytes) (written logged : Option (List ℕ))
-        → IsUnopenedYet past (stream_bytes (R.left reader.old) written logged) input.old
-        → MatchResult result
-        (λ first. IsUnopenedYet past (stream_bytes (R.left reader.new) written logged) input.new
-        × IsFirst input.new.held (IsAtEnd (R.left reader.new)) first)
-        (λ stop. Serves start past (stream_bytes (R.left reader.new) written logged) (ended_by stop)) }
+    ensures first { IfOk result (λ first. IsFirst input.new.held (IsAtEnd (R.left reader.new)) first) }
+    ensures unopened { ReadsFirst (R.left reader.old) (R.left reader.new) input.old input.new result }
     ensures counts { CountsCall streams.Reader result (R.failures reader.old) (R.failures reader.new) }
     ensures spares_writer { Spares streams.Writer result }
     ensures spares_log { Spares streams.Log result }
 {
     'first: loop {
-        match first(alloc, input)? {
+        match first_packet(alloc, input)? {
             Some(first) => return Ok(first),
             None => {
                 if input.read(reader)? == 0 {
@@ -61,7 +64,10 @@ pub(crate) fn await_init<R: Source>(
 }
 
 /// The first packet, if it is complete.
-fn first(alloc: Global, input: &Input) -> Result<Option<First>, Stop> {
+fn first_packet(alloc: Global, input: &Input) -> Result<Option<First>, Stop>
+    ensures found { IfOk result (λ first. IsInFront input.now.held first) }
+    ensures err { IfErr result (λ stop. stop ≡ stops.NoMemory) }
+{
     match front(alloc, input.held(), Side::Client) {
         Ok(None) => Ok(None),
         Ok(Some((packet, count))) => Ok(Some(greeting(&packet, count))),
@@ -73,10 +79,42 @@ fn first(alloc: Global, input: &Input) -> Result<Option<First>, Stop> {
 }
 
 /// What a first packet of so many bytes is.
-fn greeting(packet: &Packet, count: usize) -> First {
+fn greeting(packet: &Packet, count: usize) -> First
+    ensures { IsGreetingOf packet.now count result }
+{
     match packet {
-        Packet::Init { version, .. } if *version >= 3 => First::Init(count),
-        _ => First::Fault(SessionFault::BadInit),
+        Packet::Init { version, .. } => {
+            if *version >= 3 {
+                First::Init(count)
+            } else {
+                First::Fault(SessionFault::BadInit)
+            }
+        }
+        Packet::Version { .. } => First::Fault(SessionFault::BadInit),
+        Packet::Request(_) => First::Fault(SessionFault::BadInit),
+        Packet::Reply(_) => First::Fault(SessionFault::BadInit),
+    }
+}
+
+/// Logs the INIT in front, of so many bytes, and takes these.
+fn log_init<L: Sink>(input: &mut Input, count: usize, log: &mut Writer<L>) -> Result<(), Stop>
+    requires unused { IsUnused log.old }
+    requires whole { BeginsWithGreeting input.old.held count }
+    ensures logged { (init : Packet) → side_of init ≡ Client → take count input.old.held ≡ spelling init
+        → MatchResult result
+        (λ _. Appends log.old.bytes log.new.bytes (opened_text 0 (record_text init)))
+        (λ _. AppendsPart log.old.bytes log.new.bytes (opened_text 0 (record_text init))) }
+    ensures taken { OnOk result (input.new ≡ ahead_without count input.old) }
+    ensures logging { OnOk result (IsLogging log.new) }
+    ensures err { IfErr result (λ stop. stop ≡ stops.Io streams.Log) }
+    ensures counts { CountsCall streams.Log result log.old.failures log.new.failures }
+{
+    match log.record_bytes(Side::Client, &input.held()[..count]) {
+        Ok(()) => {
+            input.take(count);
+            Ok(())
+        }
+        Err(_) => Err(Stop::Io(Stream::Log)),
     }
 }
 
@@ -95,12 +133,8 @@ pub(crate) fn greet<W: Sink, L: Sink>(
 ) -> Result<(), Stop>
     requires unused { IsUnused log.old }
     requires whole { BeginsWithGreeting input.old.held count }
-    ensures running { (start : Tree) (past : StreamBytes) (left : Option (List ℕ)) → Good (started start)
-        → IsUnopenedYet past (stream_bytes left (W.written writer.old) log.old.bytes) input.old
-        → MatchResult result
-        (λ _. IsRunning start past (stream_bytes left (W.written writer.new) log.new.bytes) input.new
-        (at_start (started start) 1024) None)
-        (λ stop. Serves start past (stream_bytes left (W.written writer.new) log.new.bytes) (ended_by stop)) }
+    ensures running { OpensOn input.old input.new (W.written writer.old) (W.written writer.new) log.old.bytes
+        log.new.bytes result }
     ensures logging { OnOk result (IsLogging log.new) }
     ensures counts_writer { CountsCall streams.Writer result (W.failures writer.old) (W.failures writer.new) }
     ensures counts_log { CountsCall streams.Log result log.old.failures log.new.failures }

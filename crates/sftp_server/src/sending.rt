@@ -85,6 +85,7 @@ pub(crate) fn flush<W: Sink>(writer: &mut W) -> Result<(), Stop>
 pub(crate) fn flush_log<L: Sink>(log: &mut Writer<L>) -> Result<(), Stop>
     requires { IsLogging log.old }
     ensures bytes { Keeps log.old.bytes log.new.bytes }
+    ensures logging { OnOk result (IsLogging log.new) }
     ensures err { IfErr result (λ stop. stop ≡ stops.Io streams.Log) }
     ensures counts { CountsCall streams.Log result log.old.failures log.new.failures }
 {

@@ -1,5 +1,5 @@
 //! Serves a session: reads the client's packets, does the requests, and sends the replies (draft, sections 3 to 7).
-ghost use Rattle.std.specs.Prelude.{◌≡◌, ◌<◌, ◌≤◌, ◌≢◌, [], Ok, None, IfOk, OnOk};
+ghost use Rattle.std.specs.Prelude.{◌≡◌, ◌<◌, ◌≤◌, [], length, Ok, None, IfOk, OnOk};
 ghost use Rattle.sftp_wire.specs.declared.packets.Side.TheVariants.{Client};
 ghost use Rattle.sftp_wire.specs.Reading.{front_of};
 ghost use Rattle.sftp_server.specs.declared.ends.Stream.TheVariants as streams;
@@ -7,7 +7,8 @@ ghost use Rattle.sftp_server.specs.declared.taking.Front.TheVariants as fronts;
 ghost use Rattle.sftp_server.specs.declared.serving.Next.TheVariants as nexts;
 ghost use Rattle.sftp_server.specs.Sessions.{stream_bytes, IsUnused, IsLogging, Serves, CountsCall, CountsEnd};
 ghost use Rattle.sftp_server.specs.Sessions.{StreamBytes, IsUnopenedYet, BeginsWithGreeting, ServesOn};
-ghost use Rattle.sftp_server.specs.Ending.{closed_end, IsClosed, EndsOn, ReadsOn, RunsOut};
+ghost use Rattle.sftp_server.specs.Ending.{closed_end, IsClosed, EndsOn, ReadsOn, RunsOut, GoesOn};
+ghost use Rattle.sftp_wire.specs.Spelling.{packet_limit};
 
 use crate::cores::Core;
 use crate::ends::{Ended, SessionFault, Stop};
@@ -154,7 +155,7 @@ fn serve_requests<R: Source, W: Sink, L: Sink, S: Schedule>(
     'batch: loop {
         let front = take_requests(alloc, input, core, log)?;
         work_off(core, output, writer, log, schedule)?;
-        match next(front, input, reader, writer, log)? {
+        match after_batch(front, input, reader, writer, log)? {
             Next::Batch => {}
             Next::End(fault) => return Ok(fault),
         }
@@ -163,7 +164,7 @@ fn serve_requests<R: Source, W: Sink, L: Sink, S: Schedule>(
 
 /// What comes after a batch, by what is in front of the input: the session ends at a fault, reads if no packet in front
 /// is complete, and otherwise goes on.
-fn next<R: Source, W: Sink, L: Sink>(
+fn after_batch<R: Source, W: Sink, L: Sink>(
     front: Front,
     input: &mut Input,
     reader: &mut R,
@@ -178,11 +179,9 @@ fn next<R: Source, W: Sink, L: Sink>(
     ensures counts_reader { CountsCall streams.Reader result (R.failures reader.old) (R.failures reader.new) }
     ensures counts_writer { CountsCall streams.Writer result (W.failures writer.old) (W.failures writer.new) }
     ensures counts_log { CountsCall streams.Log result log.old.failures log.new.failures }
-    ensures never_rises { R.reads_left reader.new ≤ R.reads_left reader.old }
     // Either bytes are read, or the bytes in front stay.
-    ensures falls { IfOk result (λ next. next ≡ nexts.Batch → front ≡ fronts.Waiting →
-        R.reads_left reader.new < R.reads_left reader.old) }
-    ensures same { front ≢ fronts.Waiting → input.new ≡ input.old }
+    ensures goes_on { IfOk result (λ next. next ≡ nexts.Batch →
+        GoesOn front input.old input.new (R.reads_left reader.old) (R.reads_left reader.new)) }
 {
     match front {
         Front::Taken => Ok(Next::Batch),
@@ -211,8 +210,8 @@ fn read_more<R: Source, W: Sink, L: Sink>(
     ensures counts_reader { CountsCall streams.Reader result (R.failures reader.old) (R.failures reader.new) }
     ensures counts_writer { CountsCall streams.Writer result (W.failures writer.old) (W.failures writer.new) }
     ensures counts_log { CountsCall streams.Log result log.old.failures log.new.failures }
-    ensures never_rises { R.reads_left reader.new ≤ R.reads_left reader.old }
     ensures falls { IfOk result (λ next. next ≡ nexts.Batch → R.reads_left reader.new < R.reads_left reader.old) }
+    ensures fits { IfOk result (λ next. next ≡ nexts.Batch → length input.new.held ≤ packet_limit) }
 {
     flush(writer)?;
     if input.read(reader)? > 0 {

@@ -8,7 +8,7 @@ ghost use Rattle.sftp_server.specs.declared.ends.Stream.TheVariants as streams;
 ghost use Rattle.sftp_server.specs.declared.taking.Front.TheVariants as fronts;
 ghost use Rattle.sftp_server.specs.Machine.{can_take, taken};
 ghost use Rattle.sftp_server.specs.Sessions.{ahead_without, IsLogging, CountsCall, Spares};
-ghost use Rattle.sftp_server.specs.Fronts.{FallsIfTaken, TakesOn};
+ghost use Rattle.sftp_server.specs.Fronts.{FallsIfTaken, TakesOn, found_refused};
 
 use crate::cores::Core;
 use crate::ends::{SessionFault, Stop, Stream};
@@ -120,7 +120,7 @@ fn take_packet<L: Sink>(
     }
 }
 
-/// Takes the request in front, of so many bytes, if the core has room: logs it, and delivers it.
+/// Takes the request in front, of so many bytes, if the core has room.
 fn take_request<L: Sink>(
     request: Request,
     count: usize,
@@ -139,11 +139,41 @@ fn take_request<L: Sink>(
     ensures spares_writer { Spares streams.Writer result }
 {
     match core.refusal(request.id) {
-        Some(Refuse::Full) => return Ok(Front::Full),
-        Some(Refuse::IdInUse) => return Ok(Front::Fault(SessionFault::IdInUse(request.id))),
-        Some(Refuse::NoMemory) => return Err(Stop::NoMemory),
-        None => {}
+        None => log_request(request, count, input, core, log),
+        Some(refuse) => refused(request.id, refuse),
     }
+}
+
+/// What is found in front if a request of this id is not taken.
+fn refused(id: u32, refuse: Refuse) -> Result<Front, Stop>
+    ensures { result ≡ found_refused id refuse }
+{
+    match refuse {
+        Refuse::Full => Ok(Front::Full),
+        Refuse::IdInUse => Ok(Front::Fault(SessionFault::IdInUse(id))),
+        Refuse::NoMemory => Err(Stop::NoMemory),
+    }
+}
+
+/// Takes the request in front, of so many bytes, for which the core has room: logs it, and delivers it.
+fn log_request<L: Sink>(
+    request: Request,
+    count: usize,
+    input: &mut Input,
+    core: &mut Core,
+    log: &mut Writer<L>,
+) -> Result<Front, Stop>
+    requires logging { IsLogging log.old }
+    requires whole { StandsInFront Client input.old.held (request_packet request) count }
+    requires can { IsTrue (can_take core.old request) }
+    ensures running { TakesOn input.old input.new core.old core.new log.old.bytes log.new.bytes result }
+    ensures logging { OnOk result (IsLogging log.new) }
+    ensures ok { IfOk result (λ front. front ≡ fronts.Taken) }
+    ensures falls { OnOk result (length input.new.held < length input.old.held) }
+    ensures counts { CountsCall streams.Log result log.old.failures log.new.failures }
+    ensures spares_reader { Spares streams.Reader result }
+    ensures spares_writer { Spares streams.Writer result }
+{
     match log.record_bytes(Side::Client, &input.held()[..count]) {
         Ok(()) => deliver(request, count, input, core),
         Err(_) => Err(Stop::Io(Stream::Log)),

@@ -1,5 +1,5 @@
 //! The server's VERSION (draft, section 4).
-ghost use Rattle.std.specs.Prelude.{◌≡◌, codes, IfOk, IfErr};
+ghost use Rattle.std.specs.Prelude.{◌≡◌, ◌∷◌, [], ◌++◌, codes, IfOk, IfErr, OnOk};
 ghost use Rattle.sftp_server.specs.declared.ends.Stop.TheVariants as stops;
 ghost use Rattle.sftp_server.specs.Served.{our_version};
 
@@ -19,21 +19,26 @@ pub(crate) fn our_version(alloc: Global) -> Result<Packet, Stop>
     ensures err { IfErr result (λ stop. stop ≡ stops.NoMemory) }
 {
     let mut extensions = Vec::new(alloc);
-    'names: for name in [POSIX_RENAME, HARDLINK, FSYNC] {
-        extensions.push(extension(alloc, name)?)?;
-    }
+    push_extension(alloc, &mut extensions, POSIX_RENAME)?;
+    push_extension(alloc, &mut extensions, HARDLINK)?;
+    push_extension(alloc, &mut extensions, FSYNC)?;
     Ok(Packet::Version {
         version: VERSION,
         extensions: Pairs::new(extensions),
     })
 }
 
-/// An extension of this name.
-fn extension(alloc: Global, name: &[u8]) -> Result<(ByteString, ByteString), Stop>
-    ensures ok { IfOk result (λ pair. pair ≡ (name.now, codes "1")) }
+/// Adds the extension of this name.
+fn push_extension(
+    alloc: Global,
+    extensions: &mut Vec<(ByteString, ByteString)>,
+    name: &[u8],
+) -> Result<(), Stop>
+    ensures ok { OnOk result (extensions.new.items ≡ extensions.old.items ++ (name.now, codes "1") ∷ []) }
     ensures err { IfErr result (λ stop. stop ≡ stops.NoMemory) }
 {
     let name = ByteString::from_slice(alloc, name)?;
     let version = ByteString::from_slice(alloc, EXTENSION_VERSION)?;
-    Ok((name, version))
+    extensions.push((name, version))?;
+    Ok(())
 }

@@ -23,7 +23,7 @@ use Rattle.sftp_server.specs.Machine.{IsSend, IsAct, AreActs, Delivers}
 use Rattle.sftp_server.proofs.Machines.Premises.{Premises}
 use Rattle.sftp_server.proofs.Machines.Histories.{Fate, Item, Pair, pending, done, sent, progress_of, entry_of}
 use Rattle.sftp_server.proofs.Machines.Histories.{entries_of, ledger_of, answered, sent_first, unsent_on, IsItem}
-use Rattle.sftp_server.proofs.Machines.Histories.{RunsOn, Follows}
+use Rattle.sftp_server.proofs.Machines.Histories.{IsReplyFor, RunsOn, Follows}
 use Rattle.sftp_server.proofs.Machines.Runs.{runs-asked, runs-worked, runs-sent, runs-left}
 use Rattle.sftp_server.proofs.Machines.Ledgers.{stands-taken, ledger-worked, stands-sent, queue-left}
 use Rattle.sftp_server.proofs.Machines.Ledgers.{ledger-left, all-left}
@@ -243,6 +243,16 @@ module _ {S : Type 0} (step : StepOf S) (clash : ClashOf S) (good : S → Type 0
         stands = subst (λ (l : List Exchange). StandsFor l (seen ++ Replied reply ∷ []))
             (sym (ledger-left f.past items)) stands;
       })
+
+  -- a reply that is sent has the id of its request, and can be encoded
+  pub follows-reply : (before : Machine S) (seen : List Event) (k : ℕ) (reply : Reply) (after : Machine S)
+      → FollowsTo before seen → (w : IsSent before k reply after) → IsReplyFor w.request (done reply)
+  follows-reply before seen k reply after f w =
+      let place = at-place f.items w.front w.request (done reply) w.back (λ item e. same-done item w.request reply e)
+      (sym f.queue_is ∙ w.queue_is) in
+      let parts = all-parts (IsItem value) place.front_items (w.request, done reply) place.back_items
+      (subst (AllByRecursion (IsItem value)) place.items_are f.all) in
+      parts.here.1
 
   follows-idle : (before : Machine S) (seen events : List Event) (after : Machine S) → FollowsTo before seen
       → IsIdle before events after → FollowsTo after (seen ++ events)

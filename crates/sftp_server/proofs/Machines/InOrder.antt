@@ -8,11 +8,11 @@ use Rattle.sftp_handles.specs.Allowed.{Allowed}
 use Rattle.sftp_handles.specs.Laws.{IsAskable, IsAnswerable}
 use Rattle.sftp_transcript.specs.declared.events.Event.{Event}
 use Rattle.sftp_transcript.specs.Explained.{Explained, BeginsFrom, in_window}
-use Rattle.sftp_server.specs.Machine.{Machine, at_start}
+use Rattle.sftp_server.specs.Machine.{Machine, at_start, IsSent}
 use Rattle.sftp_server.specs.Core.{server_clash, IsValue, IsReached}
 use Rattle.sftp_server.proofs.Machines.Premises.{Premises, HasReply}
-use Rattle.sftp_server.proofs.Machines.Histories.{Follows}
-use Rattle.sftp_server.proofs.Machines.Acts.{follows-start, follows-acts}
+use Rattle.sftp_server.proofs.Machines.Histories.{Follows, done, IsReplyFor}
+use Rattle.sftp_server.proofs.Machines.Acts.{follows-start, follows-acts, follows-reply}
 use Rattle.sftp_server.proofs.Machines.Endings as endings
 
 -- a good state stays good
@@ -68,3 +68,11 @@ module _ (stays : StaysGood) (total : IsTotal) where
       → window ≤ 1024 → IsReached start window events core → Good core.state
   still-good start window events core good bound reached =
       (follows start window events core good bound reached).good_state
+
+  -- a reply that is sent has the id of its request, and can be encoded
+  pub reply-for : (start : State) (window : ℕ) (events : List Event) (core : Machine State) (k : ℕ) (reply : Reply)
+      (after : Machine State) → Good start → window ≤ 1024 → IsReached start window events core
+      → (sent : IsSent core k reply after) → IsReplyFor sent.request (done reply)
+  reply-for start window events core k reply after good bound reached =
+      follows-reply Allowed server_clash Good IsValue in-order start core events k reply after
+      (follows start window events core good bound reached)

@@ -1,1 +1,307 @@
--- A request is taken in a running session.
+-- A request is taken in a running session, or a fault is found in front.
+use Rattle.std.proofs.Common.{◌≡◌, ◌<◌, ◌≤◌, ◌⊎◌, ℕ, ◌+◌, List, [], ◌∷◌}
+use Rattle.std.proofs.Common.{◌++◌, length, take, drop, Option, Some, None, Result, Ok, Err, IfOk, IfErr, OnOk, IsTrue}
+use Rattle.std.proofs.Common.{inl, inr, refl, sym, ap, ◌∙◌, subst, subst₂, arith, append_assoc}
+use Rattle.std.specs.Io.KnownBytes.{Appends, Consumes}
+use Rattle.std.specs.List.{AllByRecursion}
+use Rattle.std.proofs.KnownBytes.{Appends-trans}
+use Rattle.std.proofs.lemmas.List.{length-append, take_at}
+use Rattle.sftp_wire.specs.declared.packets.Packet.{Packet}
+use Rattle.sftp_wire.specs.declared.packets.Packet.TheVariants.{Request as request_packet}
+use Rattle.sftp_wire.specs.declared.packets.Request.{Request}
+use Rattle.sftp_wire.specs.declared.packets.Side.TheVariants.{Client, Server}
+use Rattle.sftp_wire.specs.Spelling.{spelling, HasSpelling}
+use Rattle.sftp_wire.specs.Framing.{place_after}
+use Rattle.sftp_wire.specs.Reading.{StandsInFront}
+use Rattle.sftp_wire.proofs.StreamLaws.Front.{length-spelling}
+use Rattle.sftp_transcript.specs.declared.errors.TranscriptError.{TranscriptError}
+use Rattle.sftp_transcript.specs.declared.errors.TranscriptError.TheVariants.{Io}
+use Rattle.sftp_transcript.specs.declared.events.Event.{Event}
+use Rattle.sftp_transcript.specs.declared.events.Event.TheVariants.{Asked}
+use Rattle.sftp_transcript.specs.Streams.{AppendsPart}
+use Rattle.sftp_transcript.specs.Log.{Log, IsAppended, FailsToRecord}
+use Rattle.sftp_transcript.specs.Transcript.{record_text, IsEvent}
+use Rattle.sftp_tree.specs.Tree.{Tree}
+use Rattle.sftp_tree.proofs.Requests.AskValues.{encoded-ask}
+use Rattle.sftp_handles.specs.State.{State}
+use Rattle.sftp_handles.proofs.TotalSteps.SpelledRequests.{spelled-askable}
+use Rattle.sftp_server.specs.declared.ends.Ended.TheVariants as ends
+use Rattle.sftp_server.specs.declared.ends.SessionFault.{SessionFault}
+use Rattle.sftp_server.specs.declared.ends.SessionFault.TheVariants as faults
+use Rattle.sftp_server.specs.declared.ends.Stop.{Stop}
+use Rattle.sftp_server.specs.declared.ends.Stop.TheVariants as stops
+use Rattle.sftp_server.specs.declared.ends.Stream.TheVariants as streams
+use Rattle.sftp_server.specs.declared.taking.Front.{Front}
+use Rattle.sftp_server.specs.declared.taking.Front.TheVariants.{Taken, Fault}
+use Rattle.sftp_server.specs.declared.refusals.Refuse.{Refuse}
+use Rattle.sftp_server.specs.declared.refusals.Refuse.TheVariants as refusals
+use Rattle.sftp_server.specs.Machine.{Machine, taken, can_take, is_unsent}
+use Rattle.sftp_server.specs.Core.{started, IsValue, IsReached}
+use Rattle.sftp_server.specs.Fronts.{fault_of, found_refused, TakesOn}
+use Rattle.sftp_server.specs.Served.{session_packets, sent_by, recorded}
+use Rattle.sftp_server.specs.Sessions.{StreamBytes, stream_bytes, Serves, ended_by, IsLogging, Ahead}
+use Rattle.sftp_server.specs.Sessions.{ahead_without, IsRunning, IsFaultAhead}
+use Rattle.sftp_server.proofs.Machines.Reached.{reached-taken}
+use Rattle.sftp_server.proofs.Sessions.Lists.{asked-session, session-more, events-more}
+use Rattle.sftp_server.proofs.Sessions.Stops.{no-opening, reached-begins, stopped-no-memory}
+
+-- what holds of a request that can be encoded
+pub request-value : (request : Request) → HasSpelling (request_packet request) → IsValue request
+request-value request spelled = record {
+  askable = spelled-askable request spelled;
+  ask = encoded-ask request.ask spelled.fields.1;
+}
+
+-- two steps are one
+place-more : (first second : ℕ) → place_after (place_after 0 first) second ≡ place_after 0 (first + second)
+place-more first second = omega arith
+
+-- ---- the log
+
+-- where the log fails for the first time, a beginning of the record was appended
+pub breaks : (log0 log1 : Log) (text : List ℕ) (error : TranscriptError) → IsLogging log0
+    → FailsToRecord log0 text error log1 → AppendsPart log0.bytes log1.bytes text
+breaks log0 log1 text (Io place) logging (inl broken) = absurd cc
+breaks log0 log1 text (Io place) logging (inr fails) =
+    let same = no-opening log0.records text logging.begun in
+    subst (λ (bytes : List ℕ). AppendsPart log0.bytes log1.bytes bytes) same fails.1.bytes
+breaks log0 log1 text other logging fails = absurd fails
+
+-- the record was appended, with no opening
+appended : (log0 log1 : Log) (text : List ℕ) → IsLogging log0 → IsAppended log0 text log1
+    → Appends log0.bytes log1.bytes text
+appended log0 log1 text logging is =
+    let same = no-opening log0.records text logging.begun in
+    subst (λ (bytes : List ℕ). Appends log0.bytes log1.bytes bytes) same is.bytes
+
+-- ---- a request
+
+module _ (start : Tree) (past : StreamBytes) (left written : Option (List ℕ)) (log0 log1 : Log) (ahead : Ahead)
+    (core : Machine State) (request : Request) (count : ℕ)
+    (running : IsRunning start past (stream_bytes left written log0.bytes) ahead core None)
+    (front : StandsInFront Client ahead.held (request_packet request) count) (can : IsTrue (can_take core request))
+    (logging : IsLogging log0) where
+  abbrev events : List Event
+  events = running.events ++ Asked request ∷ []
+
+  abbrev before : List Packet
+  before = session_packets running.init running.events
+
+  abbrev after : List Packet
+  after = session_packets running.init events
+
+  spelled-more : AllByRecursion IsEvent events
+  spelled-more = events-more running.events (Asked request) running.spelled front.has_spelling
+
+  reached-more : IsReached (started start) 1024 events (taken core request)
+  reached-more =
+      reached-taken (started start) 1024 running.events core request running.reached
+      (request-value request front.has_spelling) can
+
+  -- the packets of the client and the rest are the same bytes as before
+  read-more : sent_by Client before ++ ahead.held ≡ sent_by Client after ++ drop count ahead.held
+  read-more =
+      let spelled : List ℕ = spelling (request_packet request) in
+      let rest : List ℕ = drop count ahead.held in
+      ap (λ (l : List ℕ). sent_by Client before ++ l) front.is_spelled
+      ∙ sym (append_assoc (sent_by Client before) spelled rest)
+      ∙ ap (λ (l : List ℕ). l ++ rest) (sym (asked-session running.init running.events request).client)
+
+  -- a request was taken
+  pub asked : IsAppended log0 (record_text (request_packet request)) log1
+      → IsRunning start past (stream_bytes left written log1.bytes) (ahead_without count ahead) (taken core request)
+      None
+  asked logged =
+      let session = asked-session running.init running.events request in
+      let text : List ℕ = record_text (request_packet request) in
+      record {
+        init = running.init;
+        events = events;
+        good = running.good;
+        greeting = running.greeting;
+        spelled = spelled-more;
+        reached = reached-more;
+        passed = record {
+          read = subst (λ (l : List ℕ). Consumes past.left left l) read-more running.passed.read;
+          written = subst (λ (l : List ℕ). Appends past.written written l) (sym session.server) running.passed.written;
+          logged =
+              subst (λ (l : List ℕ). Appends past.logged log1.bytes l) (sym session.log)
+              (Appends-trans past.logged log0.bytes log1.bytes (recorded before) text running.passed.logged
+              (appended log0 log1 text logging logged));
+        };
+        place =
+            ap (λ (n : ℕ). place_after n count) running.place
+            ∙ place-more (length (sent_by Client before)) count
+            ∙ ap (place_after 0)
+            (ap (λ (n : ℕ). length (sent_by Client before) + n) front.is_whole
+            ∙ sym (length-append (sent_by Client before) (spelling (request_packet request)))
+            ∙ ap length (sym session.client));
+        found = tt;
+      }
+
+  -- memory ran out once the request was logged
+  pub asked-no-memory : IsAppended log0 (record_text (request_packet request)) log1
+      → Serves start past (stream_bytes left written log1.bytes) ends.NoMemory
+  asked-no-memory logged = stopped-no-memory (asked logged)
+
+  -- the log failed in the record of the request
+  pub asked-in-part : AppendsPart log0.bytes log1.bytes (record_text (request_packet request))
+      → Serves start past (stream_bytes left written log1.bytes) (ends.Io streams.Log)
+  asked-in-part fails =
+      let session = asked-session running.init running.events request in
+      record {
+        input = sent_by Client before ++ ahead.held;
+        output = sent_by Server before;
+        log = recorded before ++ fails.part;
+        passed = record {
+          read = running.passed.read;
+          written = running.passed.written;
+          logged =
+              Appends-trans past.logged log0.bytes log1.bytes (recorded before) fails.part running.passed.logged
+              fails.appended;
+        };
+        served = record {
+          packets = after;
+          rest = drop count ahead.held;
+          listed = (
+            running.greeting,
+            refl,
+            events,
+            refl,
+            spelled-more,
+            reached-begins start events (taken core request) running.good reached-more,
+          );
+          read = read-more;
+          left = (
+            sym session.server,
+            inr (
+              before,
+              request_packet request,
+              fails.part,
+              session-more running.init running.events (Asked request ∷ []),
+              (fails.rest, fails.parts),
+              refl,
+            ),
+          );
+        };
+      }
+
+-- ---- a fault
+
+pub faulty : (start : Tree) (past now : StreamBytes) (ahead : Ahead) (core : Machine State) (fault : SessionFault)
+    → ((events : List Event) → IsFaultAhead events core.queue ahead.held ahead.place (Some fault))
+    → IsRunning start past now ahead core None → IsRunning start past now ahead core (Some fault)
+faulty start past now ahead core fault found running = record {
+  init = running.init;
+  events = running.events;
+  good = running.good;
+  greeting = running.greeting;
+  spelled = running.spelled;
+  reached = running.reached;
+  passed = running.passed;
+  place = running.place;
+  found = found running.events;
+}
+
+-- ---- the bytes of a packet in front
+
+module _ (bytes : List ℕ) (packet : Packet) (count : ℕ) (front : StandsInFront Client bytes packet count) where
+  whole-length : length bytes ≡ count + length (drop count bytes)
+  whole-length =
+      ap length front.is_spelled
+      ∙ length-append (spelling packet) (drop count bytes)
+      ∙ ap (λ (n : ℕ). n + length (drop count bytes)) (sym front.is_whole)
+
+  -- some bytes are taken
+  pub bytes-fall : length (drop count bytes) < length bytes
+  bytes-fall = omega (arith, whole-length, front.is_whole, length-spelling packet)
+
+  pub bytes-in-front : take count bytes ≡ spelling packet
+  bytes-in-front =
+      ap (take count) front.is_spelled ∙ take_at (spelling packet) (drop count bytes) count (sym front.is_whole)
+
+-- ---- what calls that take requests do
+
+-- memory ran out before anything was done
+pub takes-no-memory : (ahead : Ahead) (core : Machine State) (logged : Option (List ℕ))
+    → TakesOn ahead ahead core core logged logged (Err stops.NoMemory)
+takes-no-memory ahead core logged = λ start past left written running. stopped-no-memory running
+
+-- a fault was found
+pub takes-fault : (ahead : Ahead) (core : Machine State) (logged : Option (List ℕ)) (fault : SessionFault)
+    → ((events : List Event) → IsFaultAhead events core.queue ahead.held ahead.place (Some fault))
+    → TakesOn ahead ahead core core logged logged (Ok (Fault fault))
+takes-fault ahead core logged fault found =
+    λ start past left written running.
+    faulty start past (stream_bytes left written logged) ahead core fault found running
+
+-- the core refuses the request
+pub takes-refused : (ahead : Ahead) (core : Machine State) (logged : Option (List ℕ)) (request : Request) (count : ℕ)
+    (refuse : Refuse) → StandsInFront Client ahead.held (request_packet request) count
+    → (Some refuse ≡ Some refusals.IdInUse → IsTrue (is_unsent request.id core.queue))
+    → TakesOn ahead ahead core core logged logged (found_refused request.id refuse)
+takes-refused ahead core logged request count refusals.Full front unsent =
+    λ start past left written running. running
+takes-refused ahead core logged request count refusals.IdInUse front unsent =
+    takes-fault ahead core logged (faults.IdInUse request.id) (λ events. (
+      record {
+        request = request;
+        rest = drop count ahead.held;
+        spelled = front.has_spelling;
+        bytes_are = front.is_spelled;
+        same_id = refl;
+      },
+      inl (unsent refl),
+    ))
+takes-refused ahead core logged request count refusals.NoMemory front unsent = takes-no-memory ahead core logged
+
+-- the request was logged, and then delivered, or memory ran out
+pub takes-delivered : (ahead0 ahead1 : Ahead) (core0 core1 : Machine State) (log0 log1 : Log) (request : Request)
+    (count : ℕ) (result : Result Front Stop) → StandsInFront Client ahead0.held (request_packet request) count
+    → IsTrue (can_take core0 request) → IsLogging log0 → IsAppended log0 (record_text (request_packet request)) log1
+    → IfOk result (λ front. front ≡ Taken) → OnOk result (core1 ≡ taken core0 request)
+    → OnOk result (ahead1 ≡ ahead_without count ahead0) → IfErr result (λ stop. stop ≡ stops.NoMemory)
+    → TakesOn ahead0 ahead1 core0 core1 log0.bytes log1.bytes result
+takes-delivered ahead0 ahead1 core0 core1 log0 log1 request count (Ok found) front can logging logged ok took moved
+    err =
+    λ start past left written running.
+    let now : StreamBytes = stream_bytes left written log1.bytes in
+    subst (λ (f : Front). IsRunning start past now ahead1 core1 (fault_of f)) (sym ok)
+    (subst₂ (λ (a : Ahead) (m : Machine State). IsRunning start past now a m None) (sym moved) (sym took)
+    (asked start past left written log0 log1 ahead0 core0 request count running front can logging logged))
+takes-delivered ahead0 ahead1 core0 core1 log0 log1 request count (Err stop) front can logging logged ok took moved
+    err =
+    λ start past left written running.
+    subst (λ (s : Stop). Serves start past (stream_bytes left written log1.bytes) (ended_by s)) (sym err)
+    (asked-no-memory start past left written log0 log1 ahead0 core0 request count running front can logging logged)
+
+-- a request that was delivered takes bytes
+pub delivered-falls : (ahead0 ahead1 : Ahead) (packet : Packet) (count : ℕ) (result : Result Front Stop)
+    → StandsInFront Client ahead0.held packet count → OnOk result (ahead1 ≡ ahead_without count ahead0)
+    → OnOk result (length ahead1.held < length ahead0.held)
+delivered-falls ahead0 ahead1 packet count (Ok found) front moved =
+    subst (λ (a : Ahead). length a.held < length ahead0.held) (sym moved)
+    (bytes-fall ahead0.held packet count front)
+delivered-falls ahead0 ahead1 packet count (Err stop) front moved = tt
+
+-- the log failed
+pub takes-unlogged : (ahead : Ahead) (core : Machine State) (log0 log1 : Log) (request : Request) (count : ℕ)
+    (error : TranscriptError) → StandsInFront Client ahead.held (request_packet request) count
+    → IsTrue (can_take core request) → IsLogging log0
+    → FailsToRecord log0 (record_text (request_packet request)) error log1
+    → TakesOn ahead ahead core core log0.bytes log1.bytes (Err (stops.Io streams.Log))
+takes-unlogged ahead core log0 log1 request count error front can logging fails =
+    λ start past left written running.
+    asked-in-part start past left written log0 log1 ahead core request count running front can logging
+    (breaks log0 log1 (record_text (request_packet request)) error logging fails)
+
+-- ---- calls one after the other
+
+-- What holds after some calls that each took a request: the log did not fail, and the core changed only if bytes were
+-- taken.
+pub record HasTaken (ahead0 ahead1 : Ahead) (core0 core1 : Machine State) (log0 log1 : Log) : Type 0 where
+  pub running : TakesOn ahead0 ahead1 core0 core1 log0.bytes log1.bytes (Ok Taken)
+  pub logging : IsLogging log1
+  pub failures : log1.failures ≡ log0.failures
+  pub never_rises : length ahead1.held ≤ length ahead0.held
+  pub falls : (length ahead1.held < length ahead0.held) ⊎ (core1 ≡ core0)

@@ -1,1 +1,376 @@
 -- A session reads on, or comes to its end.
+use Rattle.std.proofs.Common.{◌≡◌, ◌≢◌, ◌==◌, ◌<◌, ◌+◌, ◌*◌, ℕ, Bool, true, false, List, [], ◌∷◌, ◌++◌, length}
+use Rattle.std.proofs.Common.{Option, Some, None, Result, Ok, refl, sym, ap, ◌∙◌, subst, append_assoc, append-nil, inl, inr}
+use Rattle.std.proofs.Common.{true≢false, arith}
+use Rattle.std.proofs.lemmas.Bool.{eqb-true}
+use Rattle.std.specs.Io.KnownBytes.{Consumes, IsAtEnd, Keeps}
+use Rattle.std.proofs.KnownBytes.{Consumes-nil, Consumes-trans, Appends-nil, Keeps-refl}
+use Rattle.sftp_wire.specs.declared.errors.WireError.TheVariants.{TooLong, NotCanonical, NoMemory, Unreadable}
+use Rattle.sftp_wire.specs.declared.packets.Side.TheVariants.{Client, Server}
+use Rattle.sftp_wire.specs.Reading.{front_of}
+use Rattle.sftp_wire.specs.Spelling.{packet_limit}
+use Rattle.sftp_transcript.specs.declared.events.Event.{Event}
+use Rattle.sftp_tree.specs.Tree.{Tree}
+use Rattle.sftp_handles.specs.State.{State}
+use Rattle.sftp_server.specs.declared.ends.Ended.{Ended}
+use Rattle.sftp_server.specs.declared.ends.Ended.TheVariants as ends
+use Rattle.sftp_server.specs.declared.ends.SessionFault.{SessionFault}
+use Rattle.sftp_server.specs.declared.ends.SessionFault.TheVariants as faults
+use Rattle.sftp_server.specs.declared.ends.Stream.{Stream}
+use Rattle.sftp_server.specs.declared.ends.Stream.TheVariants as streams
+use Rattle.sftp_server.specs.declared.ends.Stop.{Stop}
+use Rattle.sftp_server.specs.declared.ends.Stop.TheVariants as stops
+use Rattle.sftp_server.specs.declared.queue.Entry.{Entry}
+use Rattle.sftp_server.specs.declared.taking.Front.{Front}
+use Rattle.sftp_server.specs.declared.taking.Front.TheVariants as fronts
+use Rattle.sftp_server.specs.Machine.{Machine, is_unsent}
+use Rattle.sftp_server.specs.Core.{started}
+use Rattle.sftp_server.specs.Served.{session_packets, sent_by, recorded, EndsSession, IsUnopenedBy, IsOpened, IsServed}
+use Rattle.sftp_server.specs.Served.{closed_tree}
+use Rattle.sftp_server.specs.Sessions.{StreamBytes, stream_bytes, Passed, Serves, Ahead, IsRunning, IsEnding}
+use Rattle.sftp_server.specs.Sessions.{IsFaultAhead, IsUnopenedYet, ended_by, CountsStop, CountsCall, CountsEnd}
+use Rattle.sftp_server.specs.Ending.{closed_end, IsClosed, GoesOn}
+use Rattle.sftp_server.proofs.Machines.InOrder.{explained}
+use Rattle.sftp_server.proofs.Sessions.Stops.{stays-good, each-answered, running-kept, stopped-reader, stopped-writer}
+use Rattle.sftp_server.proofs.Sessions.Stops.{stopped-log}
+
+-- ---- what streams passed
+
+pub passed-nothing : (now : StreamBytes) → Passed now now [] [] []
+passed-nothing now = record {
+  read = Consumes-nil now.left;
+  written = Appends-nil now.written;
+  logged = Appends-nil now.logged;
+}
+
+-- ---- a session that runs on
+
+-- more was read
+pub running-read : (start : Tree) (past : StreamBytes) (left0 left1 written logged : Option (List ℕ)) (ahead : Ahead)
+    (core : Machine State) (more : List ℕ) → IsRunning start past (stream_bytes left0 written logged) ahead core None
+    → Consumes left0 left1 more
+    → IsRunning start past (stream_bytes left1 written logged)
+    (record { held = ahead.held ++ more; place = ahead.place }) core None
+running-read start past left0 left1 written logged ahead core more running read =
+    let sent = sent_by Client (session_packets running.init running.events) in
+    record {
+      init = running.init;
+      events = running.events;
+      good = running.good;
+      greeting = running.greeting;
+      spelled = running.spelled;
+      reached = running.reached;
+      passed = record {
+        read = subst (Consumes past.left left1) (append_assoc sent ahead.held more)
+            (Consumes-trans past.left left0 left1 (sent ++ ahead.held) more running.passed.read read);
+        written = running.passed.written;
+        logged = running.passed.logged;
+      };
+      place = running.place;
+      found = tt;
+    }
+
+abbrev ahead_of : List ℕ → ℕ → Ahead
+ahead_of held place = record { held = held; place = place }
+
+-- so many bytes were read
+abbrev pub HasRead : Option (List ℕ) → Option (List ℕ) → Ahead → Ahead → ℕ → Type 0
+HasRead left0 left1 ahead0 ahead1 count =
+    (more : List ℕ) × (length more ≡ count) × (ahead1 ≡ record { held = ahead0.held ++ more; place = ahead0.place })
+    × Consumes left0 left1 more
+
+no-bytes : (bytes : List ℕ) → length bytes ≡ 0 → bytes ≡ []
+no-bytes [] none = refl
+no-bytes (first ∷ bytes) none = absurd cc
+
+pub nothing-read : (left0 left1 : Option (List ℕ)) (ahead0 ahead1 : Ahead) (count : ℕ)
+    → HasRead left0 left1 ahead0 ahead1 count → count ≡ 0 → ahead1 ≡ ahead0
+nothing-read left0 left1 ahead0 ahead1 count read none =
+    read.2 ∙ ap (λ (more : List ℕ). ahead_of (ahead0.held ++ more) ahead0.place) (no-bytes read.0 (read.1 ∙ none))
+    ∙ ap (λ (held : List ℕ). ahead_of held ahead0.place) (append-nil ahead0.held)
+
+-- the writer kept its bytes
+pub running-written : (start : Tree) (past : StreamBytes) (left written0 written1 logged : Option (List ℕ)) (ahead : Ahead)
+    (core : Machine State) (fault : Option SessionFault)
+    → IsRunning start past (stream_bytes left written0 logged) ahead core fault → Keeps written0 written1
+    → IsRunning start past (stream_bytes left written1 logged) ahead core fault
+running-written start past left written0 written1 logged ahead core fault running kept =
+    running-kept start past (stream_bytes left written0 logged) (stream_bytes left written1 logged) ahead core fault running
+    (Keeps-refl left) kept (Keeps-refl logged)
+
+-- the log kept its bytes
+pub running-logged : (start : Tree) (past : StreamBytes) (left written logged0 logged1 : Option (List ℕ)) (ahead : Ahead)
+    (core : Machine State) (fault : Option SessionFault)
+    → IsRunning start past (stream_bytes left written logged0) ahead core fault → Keeps logged0 logged1
+    → IsRunning start past (stream_bytes left written logged1) ahead core fault
+running-logged start past left written logged0 logged1 ahead core fault running kept =
+    running-kept start past (stream_bytes left written logged0) (stream_bytes left written logged1) ahead core fault running
+    (Keeps-refl left) (Keeps-refl written) kept
+
+-- what was written was passed on, and then bytes were read
+pub running-more : (start : Tree) (past : StreamBytes) (left0 left1 written0 written1 logged : Option (List ℕ))
+    (ahead0 ahead1 : Ahead) (core : Machine State) (count : ℕ)
+    → IsRunning start past (stream_bytes left0 written0 logged) ahead0 core None → Keeps written0 written1
+    → HasRead left0 left1 ahead0 ahead1 count → IsRunning start past (stream_bytes left1 written1 logged) ahead1 core None
+running-more start past left0 left1 written0 written1 logged ahead0 ahead1 core count running kept read =
+    subst (λ (a : Ahead). IsRunning start past (stream_bytes left1 written1 logged) a core None) (sym read.2)
+    (running-read start past left0 left1 written1 logged ahead0 core read.0
+    (running-written start past left0 written0 written1 logged ahead0 core None running kept) read.3)
+
+-- ---- a stream fails
+
+pub reader-stops : (start : Tree) (past : StreamBytes) (left0 left1 written logged : Option (List ℕ)) (ahead : Ahead)
+    (core : Machine State) (fault : Option SessionFault) (stop : Stop)
+    → IsRunning start past (stream_bytes left0 written logged) ahead core fault → Keeps left0 left1
+    → stop ≡ stops.Io streams.Reader → Serves start past (stream_bytes left1 written logged) (ended_by stop)
+reader-stops start past left0 left1 written logged ahead core fault stop running kept is =
+    subst (λ (s : Stop). Serves start past (stream_bytes left1 written logged) (ended_by s)) (sym is)
+    (stopped-reader
+    (running-kept start past (stream_bytes left0 written logged) (stream_bytes left1 written logged) ahead core fault
+    running kept (Keeps-refl written) (Keeps-refl logged)))
+
+pub writer-stops : (start : Tree) (past : StreamBytes) (left written0 written1 logged : Option (List ℕ)) (ahead : Ahead)
+    (core : Machine State) (fault : Option SessionFault) (stop : Stop)
+    → IsRunning start past (stream_bytes left written0 logged) ahead core fault → Keeps written0 written1
+    → stop ≡ stops.Io streams.Writer → Serves start past (stream_bytes left written1 logged) (ended_by stop)
+writer-stops start past left written0 written1 logged ahead core fault stop running kept is =
+    subst (λ (s : Stop). Serves start past (stream_bytes left written1 logged) (ended_by s)) (sym is)
+    (stopped-writer (running-written start past left written0 written1 logged ahead core fault running kept))
+
+pub log-stops : (start : Tree) (past : StreamBytes) (left written logged0 logged1 : Option (List ℕ)) (ahead : Ahead)
+    (core : Machine State) (fault : Option SessionFault) (stop : Stop)
+    → IsRunning start past (stream_bytes left written logged0) ahead core fault → Keeps logged0 logged1
+    → stop ≡ stops.Io streams.Log → Serves start past (stream_bytes left written logged1) (ended_by stop)
+log-stops start past left written logged0 logged1 ahead core fault stop running kept is =
+    subst (λ (s : Stop). Serves start past (stream_bytes left written logged1) (ended_by s)) (sym is)
+    (stopped-log (running-logged start past left written logged0 logged1 ahead core fault running kept))
+
+-- ---- the end of a session
+
+-- a fault was in front, and each request before it is answered
+without-fault : (start : Tree) (past now : StreamBytes) (ahead : Ahead) (core : Machine State)
+    (fault : Option SessionFault) → IsRunning start past now ahead core fault → IsRunning start past now ahead core None
+without-fault start past now ahead core fault running = record {
+  init = running.init;
+  events = running.events;
+  good = running.good;
+  greeting = running.greeting;
+  spelled = running.spelled;
+  reached = running.reached;
+  passed = running.passed;
+  place = running.place;
+  found = tt;
+}
+
+-- the fault in front ends the session, since nothing is unanswered
+pub fault-ends : (events : List Event) (rest : List ℕ) (place : ℕ) (over : Type 0) (fault : SessionFault)
+    → IsFaultAhead events [] rest place (Some fault) → EndsSession events rest place over fault
+unfolding is_unsent
+fault-ends events rest place over (faults.Wire (Unreadable fault at)) found = found
+fault-ends events rest place over (faults.Wire TooLong) found = absurd found
+fault-ends events rest place over (faults.Wire NotCanonical) found = absurd found
+fault-ends events rest place over (faults.Wire NoMemory) found = absurd found
+fault-ends events rest place over (faults.IdInUse id) found =
+    (found.0, elim found.1 [ inl unsent ↦ absurd (true≢false (sym unsent)) | inr answered ↦ answered ])
+fault-ends events rest place over faults.BadInit found = found
+fault-ends events rest place over (faults.Cut at) found = absurd found
+
+-- the session that found this fault ends, once each request is answered
+pub ending-fault : (start : Tree) (past now : StreamBytes) (ahead : Ahead) (core : Machine State) (fault : SessionFault)
+    → IsRunning start past now ahead core (Some fault) → core.queue ≡ [] → IsEnding start past now core (Some fault)
+unfolding without-fault
+ending-fault start past now ahead core fault running answered =
+    let found : IsFaultAhead running.events [] ahead.held ahead.place (Some fault) =
+    subst (λ (queue : List Entry). IsFaultAhead running.events queue ahead.held ahead.place (Some fault)) answered
+    running.found in
+    record {
+      ahead = ahead;
+      running = without-fault start past now ahead core (Some fault) running;
+      answered = answered;
+      why = fault-ends running.events ahead.held ahead.place (IsAtEnd now.left) fault found;
+    }
+
+-- the input ended after a whole packet
+pub ending-whole : (start : Tree) (past now : StreamBytes) (ahead : Ahead) (core : Machine State)
+    → IsRunning start past now ahead core None → core.queue ≡ [] → IsAtEnd now.left → ahead.held ≡ []
+    → IsEnding start past now core None
+ending-whole start past now ahead core running answered over none =
+    record { ahead = ahead; running = running; answered = answered; why = (over, none) }
+
+-- the input ended inside a packet
+pub ending-cut : (start : Tree) (past now : StreamBytes) (ahead : Ahead) (core : Machine State) (at : ℕ)
+    → IsRunning start past now ahead core None → core.queue ≡ [] → IsAtEnd now.left → ahead.held ≢ []
+    → front_of Client ahead.held ≡ Ok None → at ≡ ahead.place → IsEnding start past now core (Some (faults.Cut at))
+ending-cut start past now ahead core at running answered over some waits is =
+    record { ahead = ahead; running = running; answered = answered; why = (over, some, waits, is) }
+
+-- whether bytes are held
+pub held-none : (held got : List ℕ) (empty : Bool) → got ≡ held → empty ≡ (length got == 0) → empty ≡ true → held ≡ []
+held-none held got empty same is true_is = sym same ∙ no-bytes got (eqb-true (length got) 0 (sym is ∙ true_is))
+
+pub held-some : (held got : List ℕ) (empty : Bool) → got ≡ held → empty ≡ (length got == 0) → empty ≡ false → held ≢ []
+held-some held got empty same is false_is none =
+    true≢false (sym (ap (λ (bytes : List ℕ). length bytes == 0) (same ∙ none)) ∙ sym is ∙ false_is)
+
+-- ---- a session that has ended
+
+served-by : (start : Tree) (past now : StreamBytes) (core : Machine State) (fault : Option SessionFault)
+    → (ending : IsEnding start past now core fault) → IsServed start ending.running.events (closed_tree core.state)
+served-by start past now core fault ending =
+    let running = ending.running in
+    record {
+      last = core.state;
+      explained = explained stays-good each-answered (started start) 1024 running.events core running.good (omega arith)
+          running.reached ending.answered;
+      end_is = refl;
+    }
+
+opened-by : (start : Tree) (past now : StreamBytes) (ahead : Ahead) (core : Machine State) (fault : Option SessionFault)
+    (running : IsRunning start past now ahead core fault)
+    → IsOpened (sent_by Client (session_packets running.init running.events) ++ ahead.held)
+    (sent_by Server (session_packets running.init running.events)) (recorded (session_packets running.init running.events))
+    running.init running.events ahead.held
+opened-by start past now ahead core fault running = record {
+  greeting = running.greeting;
+  spelled = running.spelled;
+  read = refl;
+  written = refl;
+  logged = refl;
+}
+
+pub closed : (start : Tree) (past now : StreamBytes) (core : Machine State) (fault : Option SessionFault)
+    → IsEnding start past now core fault → Serves start past now (closed_end core.state fault)
+closed start past now core None ending =
+    let running = ending.running in
+    let ahead = ending.ahead in
+    let packets = session_packets running.init running.events in
+    record {
+      input = sent_by Client packets ++ ahead.held;
+      output = sent_by Server packets;
+      log = recorded packets;
+      passed = running.passed;
+      served = record {
+        init = running.init;
+        events = running.events;
+        opened = subst (λ (rest : List ℕ). IsOpened (sent_by Client packets ++ ahead.held) (sent_by Server packets)
+            (recorded packets) running.init running.events rest) ending.why.1
+            (opened-by start past now ahead core None running);
+        served = served-by start past now core None ending;
+        ended = ending.why.0;
+      };
+    }
+closed start past now core (Some fault) ending =
+    let running = ending.running in
+    let ahead = ending.ahead in
+    let packets = session_packets running.init running.events in
+    record {
+      input = sent_by Client packets ++ ahead.held;
+      output = sent_by Server packets;
+      log = recorded packets;
+      passed = running.passed;
+      served = inr record {
+        init = running.init;
+        events = running.events;
+        rest = ahead.held;
+        opened = opened-by start past now ahead core None running;
+        served = served-by start past now core (Some fault) ending;
+        broken = subst (λ (place : ℕ). EndsSession running.events ahead.held place (IsAtEnd now.left) fault) running.place
+            ending.why;
+      };
+    }
+
+-- ---- a session that was not opened
+
+pub unopened : (start : Tree) (past now : StreamBytes) (ahead : Ahead) (fault : SessionFault)
+    → IsUnopenedYet past now ahead → IsUnopenedBy ahead.held (IsAtEnd now.left) fault
+    → Serves start past now (ends.Fault start fault)
+unopened start past now ahead fault yet by = record {
+  input = ahead.held;
+  output = [];
+  log = [];
+  passed = yet.0;
+  served = inl record { by = by; nothing_written = refl; nothing_logged = refl; end_is = refl };
+}
+
+-- memory ran out before the first packet was logged
+no_memory-unopened : (start : Tree) (past now : StreamBytes) (ahead : Ahead) → IsUnopenedYet past now ahead
+    → Serves start past now ends.NoMemory
+unfolding sent_by
+no_memory-unopened start past now ahead yet = record {
+  input = ahead.held;
+  output = [];
+  log = [];
+  passed = yet.0;
+  served = record { packets = []; rest = ahead.held; listed = tt; read = refl; left = (refl, inl (refl, refl)) };
+}
+
+pub unopened-stops : (start : Tree) (past now : StreamBytes) (ahead : Ahead) (stop : Stop) → IsUnopenedYet past now ahead
+    → stop ≡ stops.NoMemory → Serves start past now (ended_by stop)
+unopened-stops start past now ahead stop yet is =
+    subst (λ (s : Stop). Serves start past now (ended_by s)) (sym is) (no_memory-unopened start past now ahead yet)
+
+-- nothing was read yet
+pub unopened-at_start : (now : StreamBytes) → IsUnopenedYet now now (record { held = []; place = 0 })
+unopened-at_start now = (passed-nothing now, refl)
+
+-- ---- what counts as a failure
+
+-- a stream is not why the session stopped
+pub spared : (stream : Stream) (stop : Stop) (count : ℕ) → stop ≢ stops.Io stream → CountsStop stream stop count count
+spared streams.Reader (stops.Io streams.Reader) count other = absurd (other refl)
+spared streams.Reader (stops.Io streams.Writer) count other = refl
+spared streams.Reader (stops.Io streams.Log) count other = refl
+spared streams.Writer (stops.Io streams.Reader) count other = refl
+spared streams.Writer (stops.Io streams.Writer) count other = absurd (other refl)
+spared streams.Writer (stops.Io streams.Log) count other = refl
+spared streams.Log (stops.Io streams.Reader) count other = refl
+spared streams.Log (stops.Io streams.Writer) count other = refl
+spared streams.Log (stops.Io streams.Log) count other = absurd (other refl)
+spared stream stops.NoMemory count other = refl
+
+-- an earlier call did not fail
+pub stop-after : (stream : Stream) (stop : Stop) (old mid new : ℕ) → mid ≡ old → CountsStop stream stop mid new
+    → CountsStop stream stop old new
+stop-after stream stop old mid new same counts = subst (λ (n : ℕ). CountsStop stream stop n new) same counts
+
+pub counts-after : {A : Type 0} (stream : Stream) (result : Result A Stop) (old mid new : ℕ) → mid ≡ old
+    → CountsCall stream result mid new → CountsCall stream result old new
+counts-after stream result old mid new same counts = subst (λ (n : ℕ). CountsCall stream result n new) same counts
+
+-- the session ended by itself
+pub counts-closed : (stream : Stream) (ended : Ended) (old new : ℕ) → IsClosed ended → new ≡ old
+    → CountsEnd stream ended old new
+counts-closed stream (ends.Finished tree) old new closed same = same
+counts-closed stream (ends.Fault tree fault) old new closed same = same
+counts-closed stream (ends.Io failed) old new closed same = absurd closed
+counts-closed stream ends.NoMemory old new closed same = absurd closed
+
+pub counts-stopped : (stream : Stream) (stop : Stop) (ended : Ended) (old new : ℕ) → ended ≡ ended_by stop
+    → CountsStop stream stop old new → CountsEnd stream ended old new
+counts-stopped stream (stops.Io failed) ended old new is counts = subst (λ (e : Ended). CountsEnd stream e old new) (sym is) counts
+counts-stopped stream stops.NoMemory ended old new is counts = subst (λ (e : Ended). CountsEnd stream e old new) (sym is) counts
+
+pub end-closed : (last : State) (fault : Option SessionFault) → IsClosed (closed_end last fault)
+end-closed last None = tt
+end-closed last (Some fault) = tt
+
+-- ---- a batch takes bytes, or the next read does
+
+-- how much is left to take: reads that give bytes, each of at most the longest packet, and the bytes held
+abbrev pub bytes_left : ℕ → ℕ → ℕ
+bytes_left reads held = reads * (packet_limit + 1) + held
+
+-- after a batch that took all that it could
+pub batch-falls : (front : Front) (ahead0 ahead1 ahead2 : Ahead) (reads0 reads2 : ℕ) → front ≢ fronts.Taken
+    → (front ≡ fronts.Full → length ahead1.held < length ahead0.held)
+    → GoesOn front ahead1 ahead2 reads0 reads2
+    → bytes_left reads2 (length ahead2.held) < bytes_left reads0 (length ahead0.held)
+batch-falls fronts.Taken ahead0 ahead1 ahead2 reads0 reads2 done full goes = absurd (done refl)
+batch-falls fronts.Full ahead0 ahead1 ahead2 reads0 reads2 done full goes =
+    let fell = full refl in
+    rw (goes.0, goes.1) (omega arith)
+batch-falls fronts.Waiting ahead0 ahead1 ahead2 reads0 reads2 done full goes =
+    let fell = goes.0 in
+    let few = goes.1 in
+    omega arith
+batch-falls (fronts.Fault fault) ahead0 ahead1 ahead2 reads0 reads2 done full goes = absurd goes

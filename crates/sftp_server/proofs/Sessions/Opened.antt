@@ -1,1 +1,347 @@
 -- A session is opened.
+use Rattle.std.proofs.Common.{◌≡◌, ◌⊎◌, ℕ, ◌<◌, ◌≤◌, List, [], ◌∷◌, ◌++◌, length, take, drop, Option, Some, None, Result, Ok, Err}
+use Rattle.std.proofs.Common.{codes, OnOk, IfErr, IfSome, MatchResult, refl, sym, ap, subst, ◌∙◌, inl, inr, append-nil, arith, lit<, lit≤}
+use Rattle.std.proofs.lemmas.List.{take_at, drop_at, length-append}
+use Rattle.std.specs.Result.{IsErrAnd}
+use Rattle.std.specs.Io.KnownBytes.{Appends, Consumes, Keeps}
+use Rattle.std.proofs.KnownBytes.{Appends-trans, Consumes-kept}
+use Rattle.sftp_wire.specs.declared.packets.Packet.{Packet}
+use Rattle.sftp_wire.specs.declared.packets.Packet.TheVariants.{Init, Version, Request, Reply}
+use Rattle.sftp_wire.specs.declared.packets.Side.{Side}
+use Rattle.sftp_wire.specs.declared.packets.Side.TheVariants.{Client, Server}
+use Rattle.sftp_wire.specs.Spelling.{packet_limit, spelling, side_of, HasSpelling, FitsString}
+use Rattle.sftp_wire.specs.Spelling.{posix_rename_name, hardlink_name, fsync_name}
+use Rattle.sftp_wire.specs.Reading.{front_of, StandsInFront}
+use Rattle.sftp_wire.specs.Framing.{place_after}
+use Rattle.sftp_wire.proofs.StreamLaws.Front.{none-leaves_room}
+use Rattle.sftp_transcript.specs.Streams.{AppendsPart}
+use Rattle.sftp_transcript.specs.Log.{Log, opened_text}
+use Rattle.sftp_transcript.specs.Records.{IsInit}
+use Rattle.sftp_transcript.specs.Transcript.{record_text, transcript_opening}
+use Rattle.sftp_transcript.specs.Explained.{Explained, BeginsFrom, closed, turn_after, in_window, exchanges_of, leading_pairs}
+use Rattle.sftp_tree.specs.Tree.{Tree}
+use Rattle.sftp_handles.specs.State.{State, Good, settled}
+use Rattle.sftp_handles.specs.Allowed.{Allowed}
+use Rattle.sftp_handles.proofs.TotalSteps.PlaceTexts.{bytes-by}
+use Rattle.sftp_server.specs.declared.ends.Ended.TheVariants as ends
+use Rattle.sftp_server.specs.declared.ends.SessionFault.TheVariants as faults
+use Rattle.sftp_server.specs.declared.ends.Stop.{Stop}
+use Rattle.sftp_server.specs.declared.ends.Stop.TheVariants as stops
+use Rattle.sftp_server.specs.declared.ends.Stream.TheVariants as streams
+use Rattle.sftp_server.specs.declared.opening.First.{First}
+use Rattle.sftp_server.specs.declared.opening.First.TheVariants as firsts
+use Rattle.sftp_server.specs.Machine.{at_start}
+use Rattle.sftp_server.specs.Core.{started}
+use Rattle.sftp_server.specs.Served.{our_version, session_packets, sent_by, spelled_if, recorded, IsGreeting, IsNoGreeting}
+use Rattle.sftp_server.specs.Served.{IsListed}
+use Rattle.sftp_server.specs.Sessions.{StreamBytes, stream_bytes, Passed, Serves, ended_by, IsLogging, IsUnused, Ahead}
+use Rattle.sftp_server.specs.Sessions.{ahead_without, IsRunning, IsUnopenedYet, BeginsWithGreeting, FailsToSend}
+use Rattle.sftp_server.specs.Opening.{IsFirst, IsInFront, IsGreetingOf}
+use Rattle.sftp_server.proofs.Machines.Reached.{reached-start}
+use Rattle.sftp_server.proofs.Sessions.Lists.{sent-one, recorded-more}
+use Rattle.sftp_server.proofs.Sessions.Stops.{cut-whole, client-silent, server-sent, stopped-sending}
+
+-- ---- before the first packet is complete
+
+pub unopened-kept : (past : StreamBytes) (left0 left1 written logged : Option (List ℕ)) (ahead : Ahead)
+    → IsUnopenedYet past (stream_bytes left0 written logged) ahead → Keeps left0 left1
+    → IsUnopenedYet past (stream_bytes left1 written logged) ahead
+unopened-kept past left0 left1 written logged ahead unopened kept = (
+  record {
+    read = Consumes-kept past.left left0 left1 ahead.held unopened.0.read kept;
+    written = unopened.0.written;
+    logged = unopened.0.logged;
+  },
+  unopened.1,
+)
+
+-- Between two moments bytes were read and none was taken, whatever was written and logged; and no read failed.
+pub record OnlyReads (left0 left1 : Option (List ℕ)) (ahead0 ahead1 : Ahead) (failures0 failures1 : ℕ) : Type 0 where
+  pub unopened : (past : StreamBytes) (written logged : Option (List ℕ))
+      → IsUnopenedYet past (stream_bytes left0 written logged) ahead0
+      → IsUnopenedYet past (stream_bytes left1 written logged) ahead1
+  pub failures : failures1 ≡ failures0
+
+-- a session that stops before it is opened
+pub unopened-no_memory : (start : Tree) (past now : StreamBytes) (ahead : Ahead) → IsUnopenedYet past now ahead
+    → Serves start past now ends.NoMemory
+unfolding sent_by
+unopened-no_memory start past now ahead unopened = record {
+  input = ahead.held;
+  output = [];
+  log = [];
+  passed = unopened.0;
+  served = record { packets = []; rest = ahead.held; listed = tt; read = refl; left = (refl, inl (refl, refl)) };
+}
+
+pub unopened-reader : (start : Tree) (past now : StreamBytes) (ahead : Ahead) → IsUnopenedYet past now ahead
+    → Serves start past now (ends.Io streams.Reader)
+unfolding sent_by
+unopened-reader start past now ahead unopened = record {
+  input = ahead.held;
+  output = [];
+  log = [];
+  passed = unopened.0;
+  served = record { packets = []; rest = ahead.held; listed = tt; read = refl; left = (refl, refl) };
+}
+
+-- where no packet is in front yet there is room for more bytes
+pub waits-room : (bytes : List ℕ) (found : Option First) → IsInFront bytes found → found ≡ None
+    → length bytes < packet_limit
+waits-room bytes found waits is = none-leaves_room Client bytes (subst (IsInFront bytes) is waits)
+
+-- a call returns the stop of the call that it made
+pub stopped-so : {A : Type 0} (result : Result A Stop) (P : A → Type 0) (Q : Stop → Type 0) (stop : Stop)
+    → IsErrAnd result (λ y. y ≡ stop) → Q stop → MatchResult result P Q
+stopped-so (Ok value) P Q stop is holds = absurd is
+stopped-so (Err error) P Q stop is holds = subst Q (sym is) holds
+
+pub unopened-stopped : (start : Tree) (past now : StreamBytes) (ahead : Ahead) (stop : Stop)
+    → IsUnopenedYet past now ahead → (stop ≡ stops.NoMemory) ⊎ (stop ≡ stops.Io streams.Reader)
+    → Serves start past now (ended_by stop)
+unopened-stopped start past now ahead stop unopened why = elim why [
+  | inl memory ↦ subst (λ (s : Stop). Serves start past now (ended_by s)) (sym memory)
+      (unopened-no_memory start past now ahead unopened)
+  | inr reader ↦ subst (λ (s : Stop). Serves start past now (ended_by s)) (sym reader)
+      (unopened-reader start past now ahead unopened)
+]
+
+-- ---- the first packet
+
+-- what a packet in front is
+pub first-greeting : (bytes : List ℕ) (packet : Packet) (count : ℕ) (first : First)
+    → front_of Client bytes ≡ Ok (Some (packet, count)) → StandsInFront Client bytes packet count
+    → IsGreetingOf packet count first → IsFirst bytes ⊥ first
+first-greeting bytes packet count (firsts.Init taken) found stands is = record {
+  init = packet;
+  greeting = (is.0, stands.has_spelling);
+  rest = drop count bytes;
+  bytes_are = stands.is_spelled;
+  count_is = is.1 ∙ stands.is_whole;
+}
+first-greeting bytes packet count (firsts.Fault faults.BadInit) found stands is =
+    inr (subst IsNoGreeting (sym found) is)
+first-greeting bytes packet count (firsts.Fault (faults.Wire error)) found stands is = absurd is
+first-greeting bytes packet count (firsts.Fault (faults.IdInUse id)) found stands is = absurd is
+first-greeting bytes packet count (firsts.Fault (faults.Cut at)) found stands is = absurd is
+
+-- the same, as a call finds it
+pub first-found : (bytes held : List ℕ) (front : Option (Packet × ℕ)) (packet : Packet) (count : ℕ) (first : First)
+    → held ≡ bytes → front_of Client held ≡ Ok front → IfSome front (λ f. StandsInFront Client held f.0 f.1)
+    → front ≡ Some (packet, count) → IsGreetingOf packet count first → IsFirst bytes ⊥ first
+first-found bytes held front packet count first is found stands front_is greets =
+    let whole : IfSome {T = Packet × ℕ} (Some (packet, count)) (λ f. StandsInFront Client held f.0 f.1) =
+    subst (λ (f : Option (Packet × ℕ)). IfSome f (λ f. StandsInFront Client held f.0 f.1)) front_is stands in
+    subst (λ (bytes : List ℕ). IsFirst bytes ⊥ first) is
+    (first-greeting held packet count first (found ∙ ap Ok front_is) whole greets)
+
+-- ---- INIT is logged
+
+pub init-client : (packet : Packet) → IsInit packet → side_of packet ≡ Client
+init-client (Init version extensions) is = refl
+init-client (Version version extensions) is = absurd is
+init-client (Request request) is = absurd is
+init-client (Reply reply) is = absurd is
+
+pub init-sent : (init : Packet) → IsInit init → sent_by Client (init ∷ []) ≡ spelling init
+init-sent init is =
+    sent-one Client init ∙ ap (λ (side : Side). spelled_if Client side (spelling init)) (init-client init is)
+
+pub init-silent : (init : Packet) → IsInit init → sent_by Server (init ∷ []) ≡ []
+init-silent init is =
+    sent-one Server init ∙ ap (λ (side : Side). spelled_if Server side (spelling init)) (init-client init is)
+
+pub init-recorded : (init : Packet) → recorded (init ∷ []) ≡ opened_text 0 (record_text init)
+init-recorded init = ap (λ (text : List ℕ). transcript_opening ++ text) (append-nil (record_text init))
+
+-- the bytes of INIT, and those behind it
+pub init-taken : (bytes : List ℕ) (count : ℕ) → (greets : BeginsWithGreeting bytes count)
+    → (take count bytes ≡ spelling greets.init) × (drop count bytes ≡ greets.rest) × (count ≤ length bytes)
+init-taken bytes count greets =
+    let len : length (spelling greets.init) ≡ count = sym greets.count_is in (
+      ap (take count) greets.bytes_are ∙ take_at (spelling greets.init) greets.rest count len,
+      ap (drop count) greets.bytes_are ∙ drop_at (spelling greets.init) greets.rest count len,
+      omega (arith, ap length greets.bytes_are, length-append (spelling greets.init) greets.rest),
+    )
+
+-- INIT is logged and taken, and nothing was written
+pub record IsInitLogged (init : Packet) (past now : StreamBytes) (ahead : Ahead) : Type 0 where
+  pub greeting : IsGreeting init
+  pub passed : Passed past now (sent_by Client (init ∷ []) ++ ahead.held) (sent_by Server (init ∷ []))
+      (recorded (init ∷ []))
+  pub place : ahead.place ≡ place_after 0 (length (sent_by Client (init ∷ [])))
+
+init-read : (bytes : List ℕ) (count : ℕ) → (greets : BeginsWithGreeting bytes count)
+    → bytes ≡ sent_by Client (greets.init ∷ []) ++ drop count bytes
+init-read bytes count greets =
+    greets.bytes_are ∙ ap (λ (rest : List ℕ). spelling greets.init ++ rest) (sym (init-taken bytes count greets).1)
+    ∙ ap (λ (front : List ℕ). front ++ drop count bytes) (sym (init-sent greets.init greets.greeting.0))
+
+pub init-logged : (past : StreamBytes) (left written logged0 logged1 : Option (List ℕ)) (ahead : Ahead) (count : ℕ)
+    → (greets : BeginsWithGreeting ahead.held count) → IsUnopenedYet past (stream_bytes left written logged0) ahead
+    → Appends logged0 logged1 (opened_text 0 (record_text greets.init))
+    → IsInitLogged greets.init past (stream_bytes left written logged1) (ahead_without count ahead)
+init-logged past left written logged0 logged1 ahead count greets unopened logged =
+    let init = greets.init in
+    let is = greets.greeting.0 in
+    let text : List ℕ = opened_text 0 (record_text init) in
+    let counted : count ≡ length (sent_by Client (init ∷ [])) = greets.count_is ∙ ap length (sym (init-sent init is)) in
+    record {
+      greeting = greets.greeting;
+      passed = record {
+        read = subst (λ (input : List ℕ). Consumes past.left left input) (init-read ahead.held count greets) unopened.0.read;
+        written = subst (λ (output : List ℕ). Appends past.written written output) (sym (init-silent init is))
+            unopened.0.written;
+        logged = subst (λ (log : List ℕ). Appends past.logged logged1 log) (sym (init-recorded init))
+            (Appends-trans past.logged logged0 logged1 [] text unopened.0.logged logged);
+      };
+      place = ap (λ (place : ℕ). place_after place count) unopened.1 ∙ ap (place_after 0) counted;
+    }
+
+-- the log fails in its record
+pub init-unlogged : (start : Tree) (past : StreamBytes) (left written logged0 logged1 : Option (List ℕ)) (ahead : Ahead)
+    (count : ℕ) → (greets : BeginsWithGreeting ahead.held count)
+    → IsUnopenedYet past (stream_bytes left written logged0) ahead
+    → AppendsPart logged0 logged1 (opened_text 0 (record_text greets.init))
+    → Serves start past (stream_bytes left written logged1) (ends.Io streams.Log)
+init-unlogged start past left written logged0 logged1 ahead count greets unopened logged =
+    let init = greets.init in
+    record {
+      input = ahead.held;
+      output = [];
+      log = logged.part;
+      passed = record {
+        read = unopened.0.read;
+        written = unopened.0.written;
+        logged = Appends-trans past.logged logged0 logged1 [] logged.part unopened.0.logged logged.appended;
+      };
+      served = record {
+        packets = init ∷ [];
+        rest = drop count ahead.held;
+        listed = greets.greeting;
+        read = init-read ahead.held count greets;
+        left = (
+          sym (init-silent init greets.greeting.0),
+          inr ([], init, logged.part, refl, (logged.rest, logged.parts), refl),
+        );
+      };
+    }
+
+-- memory runs out behind it
+pub init-no_memory : (start : Tree) (init : Packet) (past now : StreamBytes) (ahead : Ahead)
+    → IsInitLogged init past now ahead → Serves start past now ends.NoMemory
+init-no_memory start init past now ahead logged = record {
+  input = sent_by Client (init ∷ []) ++ ahead.held;
+  output = sent_by Server (init ∷ []);
+  log = recorded (init ∷ []);
+  passed = logged.passed;
+  served = record {
+    packets = init ∷ [];
+    rest = ahead.held;
+    listed = logged.greeting;
+    read = refl;
+    left = (refl, cut-whole (init ∷ []));
+  };
+}
+
+-- ---- VERSION
+
+pub version-server : side_of our_version ≡ Server
+version-server = refl
+
+one-fits : FitsString (codes "1")
+one-fits = record { bytes_fit = bytes-by (codes "1") refl; length_fits = lit< tt }
+
+pub version-spelled : HasSpelling our_version
+unfolding spelling
+version-spelled =
+    record {
+      fields = (
+        lit< tt,
+        (
+          (record { bytes_fit = bytes-by posix_rename_name refl; length_fits = lit< tt }, one-fits),
+          (
+            (record { bytes_fit = bytes-by hardlink_name refl; length_fits = lit< tt }, one-fits),
+            ((record { bytes_fit = bytes-by fsync_name refl; length_fits = lit< tt }, one-fits), tt),
+          ),
+        ),
+      );
+      whole = lit≤ tt;
+      handle = tt;
+      canonical = refl;
+    }
+
+-- no events begin an explained session
+pub none-begin : (start : State) → BeginsFrom Allowed start []
+unfolding turn_after in_window exchanges_of leading_pairs
+none-begin start = record {
+  more = [];
+  end = start;
+  recordable = tt;
+  explained = record { matching = λ id. refl; within_window = refl; run = refl };
+}
+
+pub version-listed : (start : Tree) (init : Packet) → IsGreeting init → IsListed start (init ∷ our_version ∷ [])
+version-listed start init greeting = (greeting, refl, [], refl, tt, none-begin (settled start []))
+
+-- VERSION could not be sent
+pub version-unsent : (start : Tree) (init : Packet) (past : StreamBytes) (left written0 written1 : Option (List ℕ))
+    (log0 log1 : Log) (ahead : Ahead) (stop : Stop) → IsLogging log0
+    → IsInitLogged init past (stream_bytes left written0 log0.bytes) ahead
+    → FailsToSend our_version written0 written1 log0 log1 stop
+    → Serves start past (stream_bytes left written1 log1.bytes) (ended_by stop)
+version-unsent start init past left written0 written1 log0 log1 ahead stop logging logged fails =
+    stopped-sending start past left written0 written1 log0 log1 init [] our_version ahead.held stop logging
+    logged.greeting (version-listed start init logged.greeting) version-server logged.passed fails
+
+-- VERSION was sent
+pub version-sent : (start : Tree) (init : Packet) (past : StreamBytes)
+    (left written0 written1 logged0 logged1 : Option (List ℕ)) (ahead : Ahead) → Good (started start)
+    → IsInitLogged init past (stream_bytes left written0 logged0) ahead
+    → Appends written0 written1 (spelling our_version) → Appends logged0 logged1 (record_text our_version)
+    → IsRunning start past (stream_bytes left written1 logged1) ahead (at_start (started start) 1024) None
+version-sent start init past left written0 written1 logged0 logged1 ahead good logged written recorded_too =
+    let packets : List Packet = session_packets init [] in
+    record {
+      init = init;
+      events = [];
+      good = good;
+      greeting = logged.greeting;
+      spelled = tt;
+      reached = reached-start (started start) 1024;
+      passed = record {
+        read = subst (λ (input : List ℕ). Consumes past.left left (input ++ ahead.held))
+            (sym (client-silent (init ∷ []) our_version refl)) logged.passed.read;
+        written = subst (λ (output : List ℕ). Appends past.written written1 output)
+            (sym (server-sent (init ∷ []) our_version refl))
+            (Appends-trans past.written written0 written1 (sent_by Server (init ∷ [])) (spelling our_version)
+            logged.passed.written written);
+        logged = subst (λ (log : List ℕ). Appends past.logged logged1 log)
+            (sym (recorded-more init [] our_version))
+            (Appends-trans past.logged logged0 logged1 (recorded (init ∷ [])) (record_text our_version)
+            logged.passed.logged recorded_too);
+      };
+      place = logged.place ∙ ap (λ (sent : List ℕ). place_after 0 (length sent))
+          (sym (client-silent (init ∷ []) our_version refl));
+      found = tt;
+    }
+
+-- VERSION was sent, or could not be
+pub version-done : (start : Tree) (init : Packet) (past : StreamBytes) (left written0 written1 : Option (List ℕ))
+    (log0 log1 : Log) (ahead : Ahead) (packet : Packet) (result : Result (Unit {0}) Stop) → Good (started start)
+    → packet ≡ our_version → IsLogging log0 → IsInitLogged init past (stream_bytes left written0 log0.bytes) ahead
+    → OnOk result (Appends written0 written1 (spelling packet))
+    → OnOk result (Appends log0.bytes log1.bytes (record_text packet))
+    → IfErr result (λ stop. FailsToSend packet written0 written1 log0 log1 stop)
+    → MatchResult result
+    (λ _. IsRunning start past (stream_bytes left written1 log1.bytes) ahead (at_start (started start) 1024) None)
+    (λ stop. Serves start past (stream_bytes left written1 log1.bytes) (ended_by stop))
+version-done start init past left written0 written1 log0 log1 ahead packet (Ok done) good is logging logged written
+    recorded_too fails =
+    version-sent start init past left written0 written1 log0.bytes log1.bytes ahead good logged
+    (subst (λ (p : Packet). Appends written0 written1 (spelling p)) is written)
+    (subst (λ (p : Packet). Appends log0.bytes log1.bytes (record_text p)) is recorded_too)
+version-done start init past left written0 written1 log0 log1 ahead packet (Err stop) good is logging logged written
+    recorded_too fails =
+    version-unsent start init past left written0 written1 log0 log1 ahead stop logging logged
+    (subst (λ (p : Packet). FailsToSend p written0 written1 log0 log1 stop) is fails)

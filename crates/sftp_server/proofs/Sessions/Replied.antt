@@ -1,1 +1,264 @@
 -- A request is done, or a reply is sent, in a running session.
+use Rattle.std.proofs.Common.{◌≡◌, ◌⊎◌, ◌==◌, ◌&&◌, ◌||◌, not, ℕ, Bool, true, false, List, [], ◌∷◌, ◌++◌, length, map}
+use Rattle.std.proofs.Common.{Option, Some, None, Result, Ok, Err, OnOk, IfErr, IsTrue, if◌then◌else◌}
+use Rattle.std.proofs.Common.{inl, inr, refl, sym, ap, subst, ◌∙◌, arith}
+use Rattle.std.specs.Io.KnownBytes.{Appends, Consumes}
+use Rattle.std.proofs.KnownBytes.{Appends-trans}
+use Rattle.std.specs.List.{AllByRecursion}
+use Rattle.sftp_wire.specs.declared.errors.WireError.TheVariants.{Unreadable}
+use Rattle.sftp_wire.specs.declared.packets.Packet.TheVariants.{Reply as reply_packet}
+use Rattle.sftp_wire.specs.declared.packets.Request.{Request}
+use Rattle.sftp_wire.specs.declared.packets.Reply.{Reply}
+use Rattle.sftp_wire.specs.Framing.{place_after}
+use Rattle.sftp_wire.specs.Spelling.{spelling, HasSpelling}
+use Rattle.sftp_transcript.specs.declared.events.Event.{Event}
+use Rattle.sftp_transcript.specs.declared.events.Event.TheVariants.{Asked, Replied}
+use Rattle.sftp_transcript.specs.Log.{Log}
+use Rattle.sftp_transcript.specs.Transcript.{packet_of, record_text, IsEvent}
+use Rattle.sftp_tree.specs.Tree.{Tree}
+use Rattle.sftp_handles.specs.State.{State}
+use Rattle.sftp_handles.specs.Allowed.{Allowed}
+use Rattle.sftp_server.specs.declared.ends.SessionFault.{SessionFault}
+use Rattle.sftp_server.specs.declared.ends.SessionFault.TheVariants as faults
+use Rattle.sftp_server.specs.declared.ends.Stop.{Stop}
+use Rattle.sftp_server.specs.declared.ends.Stop.TheVariants as stops
+use Rattle.sftp_server.specs.declared.queue.Entry.{Entry}
+use Rattle.sftp_server.specs.declared.queue.Progress.TheVariants.{Pending, Done, Sent}
+use Rattle.sftp_server.specs.Machine.{Machine, is_sent, is_unsent, is_ready, reply_at, from_unsent, IsWorked, IsSent}
+use Rattle.sftp_server.specs.Core.{server_clash, started, IsReached}
+use Rattle.sftp_server.specs.Served.{session_packets, our_version, answered_last, IsListed}
+use Rattle.sftp_server.specs.Sessions.{StreamBytes, stream_bytes, IsLogging, Ahead, IsRunning}
+use Rattle.sftp_server.specs.Sessions.{IsFaultAhead, FailsToSend, SendsOn}
+use Rattle.sftp_server.proofs.Machines.InOrder.{reply-for}
+use Rattle.sftp_server.proofs.Machines.Reached.{reached-worked, reached-sent}
+use Rattle.sftp_server.proofs.Sessions.Lists.{session-more, replied-session, events-more}
+use Rattle.sftp_server.proofs.Sessions.Stops.{stays-good, each-answered, reached-begins, running-listed}
+use Rattle.sftp_server.proofs.Sessions.Stops.{stopped-no-memory, stopped-sending}
+
+-- ---- the unsent requests
+
+-- a request that is done is not sent yet
+unsent-worked : (id : ℕ) (front : List Entry) (request : Request) (reply : Reply) (back : List Entry)
+    → is_unsent id (front ++ record { request = request; progress = Done reply } ∷ back)
+    ≡ is_unsent id (front ++ record { request = request; progress = Pending } ∷ back)
+unfolding is_unsent
+unsent-worked id [] request reply back = refl
+unsent-worked id (entry ∷ front) request reply back =
+    ap (λ (later : Bool). (not (is_sent entry.progress) && entry.request.id == id) || later)
+    (unsent-worked id front request reply back)
+
+or-left : (a b : Bool) → a ≡ true → a || b ≡ true
+or-left a b is = ap (λ (x : Bool). x || b) is
+
+or-right : (a b : Bool) → b ≡ true → a || b ≡ true
+or-right true b is = refl
+or-right false b is = is
+
+or-cases : (a b : Bool) → a || b ≡ true → (a ≡ true) ⊎ (b ≡ true)
+or-cases true b is = inl refl
+or-cases false b is = inr is
+
+-- once a reply is sent, an id that was unsent is still unsent, or is that of its request
+unsent-sent : (id : ℕ) (front : List Entry) (request : Request) (reply : Reply) (back : List Entry)
+    → is_unsent id (front ++ record { request = request; progress = Done reply } ∷ back) ≡ true
+    → (is_unsent id (front ++ record { request = request; progress = Sent } ∷ back) ≡ true)
+    ⊎ (request.id == id ≡ true)
+unfolding is_unsent
+unsent-sent id [] request reply back unsent =
+    elim (or-cases (request.id == id) (is_unsent id back) unsent) [ inl here ↦ inr here | inr later ↦ inl later ]
+unsent-sent id (entry ∷ front) request reply back unsent =
+    let here : Bool = not (is_sent entry.progress) && entry.request.id == id in
+    let old : Bool = is_unsent id (front ++ record { request = request; progress = Done reply } ∷ back) in
+    let new : Bool = is_unsent id (front ++ record { request = request; progress = Sent } ∷ back) in
+    elim (or-cases here old unsent) [
+      | inl first ↦ inl (or-left here new first)
+      | inr later ↦ elim (unsent-sent id front request reply back later) [
+        | inl still ↦ inl (or-right here new still)
+        | inr same ↦ inr same
+      ]
+    ]
+
+-- the requests that leave the queue were sent
+unsent-left : (id : ℕ) (queue : List Entry) → is_unsent id (from_unsent queue) ≡ is_unsent id queue
+unfolding is_unsent from_unsent
+unsent-left id [] = refl
+unsent-left id (entry ∷ queue) = by (is_sent entry.progress) refl (unsent-left id queue)
+  where
+    by : (sent : Bool) → is_sent entry.progress ≡ sent → is_unsent id (from_unsent queue) ≡ is_unsent id queue
+        → is_unsent id (if is_sent entry.progress then from_unsent queue else entry ∷ queue)
+        ≡ ((not (is_sent entry.progress) && entry.request.id == id) || is_unsent id queue)
+    by true is rest = rw is rest
+    by false is rest = rw (is, is) refl
+
+-- ---- the ids answered last
+
+answered-more : (id : ℕ) (since : Bool) (events : List Event) (reply : Reply)
+    → answered_last id since (events ++ Replied reply ∷ []) ≡ answered_last id since events || reply.id == id
+unfolding answered_last
+answered-more id since [] reply = refl
+answered-more id since (Asked request ∷ events) reply = answered-more id false events reply
+answered-more id since (Replied first ∷ events) reply = answered-more id (since || first.id == id) events reply
+
+-- ---- the fault in front
+
+-- an unsent request has the id, or it was answered last
+abbrev IsUsed : ℕ → List Event → List Entry → Type 0
+IsUsed id events queue = IsTrue (is_unsent id queue) ⊎ IsTrue (answered_last id false events)
+
+fault-kept : (events0 events1 : List Event) (queue0 queue1 : List Entry) (rest : List ℕ) (place : ℕ)
+    (fault : Option SessionFault) → ((id : ℕ) → IsUsed id events0 queue0 → IsUsed id events1 queue1)
+    → IsFaultAhead events0 queue0 rest place fault → IsFaultAhead events1 queue1 rest place fault
+fault-kept events0 events1 queue0 queue1 rest place None used found = tt
+fault-kept events0 events1 queue0 queue1 rest place (Some (faults.Wire (Unreadable fault at))) used found = found
+fault-kept events0 events1 queue0 queue1 rest place (Some (faults.Wire other)) used found = absurd found
+fault-kept events0 events1 queue0 queue1 rest place (Some (faults.IdInUse id)) used found =
+    (found.0, used id found.1)
+fault-kept events0 events1 queue0 queue1 rest place (Some faults.BadInit) used found = found
+fault-kept events0 events1 queue0 queue1 rest place (Some (faults.Cut at)) used found = absurd found
+
+used-worked : {core0 core1 : Machine State} {k : ℕ} (worked : IsWorked Allowed core0 k core1) (events : List Event)
+    (id : ℕ) → IsUsed id events core0.queue → IsUsed id events core1.queue
+used-worked {core0} {core1} {k} worked events id (inl unsent) =
+    inl (ap (is_unsent id) worked.marked
+    ∙ unsent-worked id worked.front worked.request worked.reply worked.back
+    ∙ ap (is_unsent id) (sym worked.queue_is) ∙ unsent)
+used-worked {core0} {core1} {k} worked events id (inr answered) = inr answered
+
+used-sent : {core0 core1 : Machine State} {k : ℕ} {reply : Reply} (sent : IsSent core0 k reply core1)
+    (events : List Event) → reply.id ≡ sent.request.id → (id : ℕ) → IsUsed id events core0.queue
+    → IsUsed id (events ++ Replied reply ∷ []) core1.queue
+used-sent {core0} {core1} {k} {reply} sent events same id (inl unsent) =
+    elim (unsent-sent id sent.front sent.request reply sent.back (ap (is_unsent id) (sym sent.queue_is) ∙ unsent)) [
+      | inl still ↦ inl (ap (λ (m : Machine State). is_unsent id m.queue) sent.marked
+          ∙ unsent-left id (sent.front ++ record { request = sent.request; progress = Sent } ∷ sent.back) ∙ still)
+      | inr here ↦ inr (answered-more id false events reply
+          ∙ or-right (answered_last id false events) (reply.id == id) (ap (λ (n : ℕ). n == id) same ∙ here))
+    ]
+used-sent {core0} {core1} {k} {reply} sent events same id (inr answered) =
+    inr (answered-more id false events reply ∙ or-left (answered_last id false events) (reply.id == id) answered)
+
+-- ---- a request is done
+
+pub running-worked : (start : Tree) (past now : StreamBytes) (ahead : Ahead) (core0 core1 : Machine State) (k : ℕ)
+    (fault : Option SessionFault) → IsRunning start past now ahead core0 fault → is_ready server_clash core0 k ≡ true
+    → IsWorked Allowed core0 k core1 → IsRunning start past now ahead core1 fault
+running-worked start past now ahead core0 core1 k fault running ready worked = record {
+  init = running.init;
+  events = running.events;
+  good = running.good;
+  greeting = running.greeting;
+  spelled = running.spelled;
+  reached = reached-worked (started start) 1024 running.events core0 core1 k running.reached ready worked;
+  passed = running.passed;
+  place = running.place;
+  found = fault-kept running.events running.events core0.queue core1.queue ahead.held ahead.place fault
+      (used-worked worked running.events) running.found;
+}
+
+pub sends-worked : (core0 core1 : Machine State) (k : ℕ) (written logged : Option (List ℕ))
+    → is_ready server_clash core0 k ≡ true → IsWorked Allowed core0 k core1
+    → SendsOn core0 core1 written written logged logged (Ok tt)
+sends-worked core0 core1 k written logged ready worked start past left ahead fault running =
+    running-worked start past (stream_bytes left written logged) ahead core0 core1 k fault running ready worked
+
+-- memory ran out, and nothing changed
+pub sends-nothing : (core0 core1 : Machine State) (written logged : Option (List ℕ))
+    → SendsOn core0 core1 written written logged logged (Err stops.NoMemory)
+sends-nothing core0 core1 written logged start past left ahead fault running = stopped-no-memory running
+
+-- ---- a reply is sent
+
+-- what is reached once a reply is sent, and that the reply can be encoded
+module _ {start : Tree} {past now : StreamBytes} {ahead : Ahead} {core0 core1 : Machine State}
+    {fault : Option SessionFault} {k : ℕ} {reply : Reply} (running : IsRunning start past now ahead core0 fault)
+    (at : reply_at core0.queue k ≡ Some reply) (sent : IsSent core0 k reply core1) where
+  for-request : (reply.id ≡ sent.request.id) × HasSpelling (reply_packet reply)
+  for-request =
+      reply-for stays-good each-answered (started start) 1024 running.events core0 k reply core1 running.good
+      (omega arith) running.reached sent
+
+  abbrev events : List Event
+  events = running.events ++ Replied reply ∷ []
+
+  reached : IsReached (started start) 1024 events core1
+  reached = reached-sent (started start) 1024 running.events core0 core1 k reply running.reached at sent
+
+  spelled : AllByRecursion IsEvent events
+  spelled = events-more running.events (Replied reply) running.spelled for-request.1
+
+  -- the packets so far and the reply
+  listed-replied : IsListed start (session_packets running.init running.events ++ reply_packet reply ∷ [])
+  listed-replied =
+      subst (IsListed start) (session-more running.init running.events (Replied reply ∷ []))
+      (running.greeting, refl, events, refl, spelled, reached-begins start events core1 running.good reached)
+
+pub running-replied : (start : Tree) (past : StreamBytes) (left written0 written1 logged0 logged1 : Option (List ℕ))
+    (ahead : Ahead) (core0 core1 : Machine State) (k : ℕ) (reply : Reply) (fault : Option SessionFault)
+    → IsRunning start past (stream_bytes left written0 logged0) ahead core0 fault
+    → reply_at core0.queue k ≡ Some reply → IsSent core0 k reply core1
+    → Appends written0 written1 (spelling (reply_packet reply))
+    → Appends logged0 logged1 (record_text (reply_packet reply))
+    → IsRunning start past (stream_bytes left written1 logged1) ahead core1 fault
+running-replied start past left written0 written1 logged0 logged1 ahead core0 core1 k reply fault running at sent
+    written logged =
+    let more = replied-session running.init running.events reply in
+    record {
+      init = running.init;
+      events = running.events ++ Replied reply ∷ [];
+      good = running.good;
+      greeting = running.greeting;
+      spelled = spelled running at sent;
+      reached = reached running at sent;
+      passed = record {
+        read = subst (λ (bytes : List ℕ). Consumes past.left left (bytes ++ ahead.held)) (sym more.client)
+            running.passed.read;
+        written = subst (Appends past.written written1) (sym more.server)
+            (Appends-trans past.written written0 written1 _ _ running.passed.written written);
+        logged = subst (Appends past.logged logged1) (sym more.log)
+            (Appends-trans past.logged logged0 logged1 _ _ running.passed.logged logged);
+      };
+      place = running.place ∙ ap (λ (bytes : List ℕ). place_after 0 (length bytes)) (sym more.client);
+      found = fault-kept running.events (running.events ++ Replied reply ∷ []) core0.queue core1.queue ahead.held
+          ahead.place fault (used-sent sent running.events (for-request running at sent).0) running.found;
+    }
+
+pub replied : (core0 core1 : Machine State) (k : ℕ) (reply : Reply) (written0 written1 : Option (List ℕ))
+    (log0 log1 : Log) (result : Result (Unit {0}) Stop) → reply_at core0.queue k ≡ Some reply
+    → IsSent core0 k reply core1 → IsLogging log0
+    → OnOk result (Appends written0 written1 (spelling (reply_packet reply)))
+    → OnOk result (Appends log0.bytes log1.bytes (record_text (reply_packet reply)))
+    → IfErr result (λ stop. FailsToSend (reply_packet reply) written0 written1 log0 log1 stop)
+    → SendsOn core0 core1 written0 written1 log0.bytes log1.bytes result
+replied core0 core1 k reply written0 written1 log0 log1 (Ok done) at sent logging written logged fails start past left
+    ahead fault running =
+    running-replied start past left written0 written1 log0.bytes log1.bytes ahead core0 core1 k reply fault running at
+    sent written logged
+replied core0 core1 k reply written0 written1 log0 log1 (Err stop) at sent logging written logged fails start past left
+    ahead fault running =
+    stopped-sending start past left written0 written1 log0 log1 running.init
+    (our_version ∷ map packet_of running.events)
+    (reply_packet reply) ahead.held stop logging (running-listed running) (listed-replied running at sent) refl
+    running.passed fails
+
+-- ---- call after call
+
+pub sends-more : (core0 core1 core2 : Machine State)
+    (written0 written1 written2 logged0 logged1 logged2 : Option (List ℕ)) (result : Result (Unit {0}) Stop) → SendsOn core0 core1 written0 written1 logged0 logged1 (Ok tt)
+    → SendsOn core1 core2 written1 written2 logged1 logged2 result
+    → SendsOn core0 core2 written0 written2 logged0 logged2 result
+sends-more core0 core1 core2 written0 written1 written2 logged0 logged1 logged2 result first more start past left ahead
+    fault running =
+    more start past left ahead fault (first start past left ahead fault running)
+
+-- ---- what one call does
+
+-- a request was done, or memory ran out
+pub worked-on : (core0 core1 : Machine State) (k : ℕ) (written logged : Option (List ℕ))
+    (result : Result (Unit {0}) Stop) → is_ready server_clash core0 k ≡ true
+    → OnOk result (IsWorked Allowed core0 k core1) → IfErr result (λ stop. stop ≡ stops.NoMemory)
+    → SendsOn core0 core1 written written logged logged result
+worked-on core0 core1 k written logged (Ok done) ready worked stopped =
+    sends-worked core0 core1 k written logged ready worked
+worked-on core0 core1 k written logged (Err stop) ready worked stopped =
+    subst (λ (s : Stop). SendsOn core0 core1 written written logged logged (Err s)) (sym stopped)
+    (sends-nothing core0 core1 written logged)

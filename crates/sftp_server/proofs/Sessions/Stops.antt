@@ -1,1 +1,283 @@
 -- A session that stops where a stream fails or memory runs out.
+use Rattle.std.proofs.Common.{◌≡◌, ◌≢◌, ℕ, Bool, if◌then◌else◌, List, [], ◌∷◌, ◌++◌, Option, refl, sym, ap, ◌∙◌}
+use Rattle.std.proofs.Common.{inl, inr, arith, append-nil, ne_eqb}
+use Rattle.std.specs.Io.KnownBytes.{Keeps}
+use Rattle.std.proofs.KnownBytes.{Appends-trans, Appends-kept, Consumes-kept, Keeps-refl}
+use Rattle.sftp_wire.specs.declared.packets.Packet.{Packet}
+use Rattle.sftp_wire.specs.declared.packets.Side.{Side}
+use Rattle.sftp_wire.specs.declared.packets.Side.TheVariants.{Client, Server}
+use Rattle.sftp_wire.specs.Spelling.{spelling, side_of}
+use Rattle.sftp_transcript.specs.declared.events.Event.{Event}
+use Rattle.sftp_transcript.specs.Explained.{BeginsFrom}
+use Rattle.sftp_transcript.specs.Log.{Log, opened_text}
+use Rattle.sftp_transcript.specs.Transcript.{record_text, transcript_opening}
+use Rattle.sftp_tree.specs.Tree.{Tree}
+use Rattle.sftp_tree.proofs.Walks.Places.{path-found}
+use Rattle.sftp_tree.proofs.Requests.Trees.{PathsLeadWell}
+use Rattle.sftp_handles.specs.State.{State, Good, settled}
+use Rattle.sftp_handles.specs.Allowed.{Allowed}
+use Rattle.sftp_handles.proofs.GoodLaws.{allowed-good}
+use Rattle.sftp_handles.proofs.FirstListings.{listing-fits}
+use Rattle.sftp_handles.proofs.TotalSteps.SomeReplies.{some-allowed}
+use Rattle.sftp_server.specs.declared.ends.Ended.TheVariants as ends
+use Rattle.sftp_server.specs.declared.ends.SessionFault.{SessionFault}
+use Rattle.sftp_server.specs.declared.ends.Stop.{Stop}
+use Rattle.sftp_server.specs.declared.ends.Stop.TheVariants as stops
+use Rattle.sftp_server.specs.declared.ends.Stream.TheVariants as streams
+use Rattle.sftp_server.specs.Machine.{Machine}
+use Rattle.sftp_server.specs.Core.{started, IsReached}
+use Rattle.sftp_server.specs.Served.{session_packets, sent_by, spelled_if, recorded, opened_record, IsListed}
+use Rattle.sftp_server.specs.Served.{IsCutInLast}
+use Rattle.sftp_server.specs.Sessions.{StreamBytes, stream_bytes, Passed, Serves, ended_by, IsLogging, Ahead, IsRunning}
+use Rattle.sftp_server.specs.Sessions.{FailsToSend}
+use Rattle.sftp_server.proofs.Machines.InOrder as in_order
+use Rattle.sftp_server.proofs.Sessions.Lists.{sent-more, recorded-more}
+
+-- ---- streams that kept their bytes since
+
+pub passed-kept : (past mid now : StreamBytes) (input output log : List ℕ) → Passed past mid input output log
+    → Keeps mid.left now.left → Keeps mid.written now.written → Keeps mid.logged now.logged
+    → Passed past now input output log
+passed-kept past mid now input output log passed left written logged = record {
+  read = Consumes-kept past.left mid.left now.left input passed.read left;
+  written = Appends-kept past.written mid.written now.written output passed.written written;
+  logged = Appends-kept past.logged mid.logged now.logged log passed.logged logged;
+}
+
+pub running-kept : (start : Tree) (past mid now : StreamBytes) (ahead : Ahead) (core : Machine State)
+    (fault : Option SessionFault) → IsRunning start past mid ahead core fault → Keeps mid.left now.left
+    → Keeps mid.written now.written → Keeps mid.logged now.logged → IsRunning start past now ahead core fault
+running-kept start past mid now ahead core fault running left written logged = record {
+  init = running.init;
+  events = running.events;
+  good = running.good;
+  greeting = running.greeting;
+  spelled = running.spelled;
+  reached = running.reached;
+  passed = passed-kept past mid now _ _ _ running.passed left written logged;
+  place = running.place;
+  found = running.found;
+}
+
+-- ---- what is reached begins an explained session
+
+paths-lead : PathsLeadWell
+paths-lead t kept follow path place bytes is =
+    let found = path-found t follow path place kept bytes is in
+    record { named = found.names; above = found.parent_stands }
+
+-- a good state stays good
+pub stays-good : in_order.StaysGood
+stays-good s request reply end good fit =
+    allowed-good paths-lead s request reply end (listing-fits s.tree good.tree) good fit
+
+-- each request has a reply
+pub each-answered : in_order.IsTotal
+each-answered = some-allowed paths-lead
+
+pub reached-begins : (start : Tree) (events : List Event) (core : Machine State) → Good (started start)
+    → IsReached (started start) 1024 events core → BeginsFrom Allowed (settled start []) events
+reached-begins start events core good reached =
+    in_order.begun stays-good each-answered (started start) 1024 events core good (omega arith) reached
+
+pub begun : {start : Tree} {past now : StreamBytes} {ahead : Ahead} {core : Machine State} {fault : Option SessionFault}
+    → (running : IsRunning start past now ahead core fault) → BeginsFrom Allowed (settled start []) running.events
+begun {start = start} {core = core} running = reached-begins start running.events core running.good running.reached
+
+pub running-listed : {start : Tree} {past now : StreamBytes} {ahead : Ahead} {core : Machine State}
+    {fault : Option SessionFault} → (running : IsRunning start past now ahead core fault)
+    → IsListed start (session_packets running.init running.events)
+running-listed running =
+    (running.greeting, refl, running.events, refl, running.spelled, begun running)
+
+-- ---- whole records
+
+-- the last of some packets
+split-last : (first : Packet) (packets : List Packet)
+    → (front : List Packet) × (last : Packet) × ((first ∷ packets) ≡ front ++ last ∷ [])
+split-last first [] = ([], first, refl)
+split-last first (second ∷ packets) =
+    let rest = split-last second packets in
+    (first ∷ rest.0, rest.1, ap (λ (ps : List Packet). first ∷ ps) rest.2)
+
+pub recorded-behind : (front : List Packet) (last : Packet)
+    → recorded (front ++ last ∷ []) ≡ recorded front ++ opened_record front last
+recorded-behind [] last = ap (λ (text : List ℕ). transcript_opening ++ text) (append-nil (record_text last))
+recorded-behind (first ∷ others) last = recorded-more first others last
+
+-- records that are whole are cut nowhere
+pub cut-whole : (packets : List Packet) → IsCutInLast packets (recorded packets)
+cut-whole [] = inl (refl, refl)
+cut-whole (first ∷ packets) =
+    let split = split-last first packets in
+    let last : List ℕ = opened_record split.0 split.1 in
+    inr (
+      split.0,
+      split.1,
+      last,
+      split.2,
+      ([], sym (append-nil last)),
+      ap recorded split.2 ∙ recorded-behind split.0 split.1,
+    )
+
+-- ---- a session that stops between packets
+
+module _ {start : Tree} {past now : StreamBytes} {ahead : Ahead} {core : Machine State} {fault : Option SessionFault}
+    (running : IsRunning start past now ahead core fault) where
+  abbrev packets : List Packet
+  packets = session_packets running.init running.events
+
+  pub stopped-no-memory : Serves start past now ends.NoMemory
+  stopped-no-memory = record {
+    input = sent_by Client packets ++ ahead.held;
+    output = sent_by Server packets;
+    log = recorded packets;
+    passed = running.passed;
+    served = record {
+      packets = packets;
+      rest = ahead.held;
+      listed = running-listed running;
+      read = refl;
+      left = (refl, cut-whole packets);
+    };
+  }
+
+  pub stopped-reader : Serves start past now (ends.Io streams.Reader)
+  stopped-reader = record {
+    input = sent_by Client packets ++ ahead.held;
+    output = sent_by Server packets;
+    log = recorded packets;
+    passed = running.passed;
+    served = record {
+      packets = packets;
+      rest = ahead.held;
+      listed = running-listed running;
+      read = refl;
+      left = (refl, refl);
+    };
+  }
+
+  pub stopped-writer : Serves start past now (ends.Io streams.Writer)
+  stopped-writer = record {
+    input = sent_by Client packets ++ ahead.held;
+    output = sent_by Server packets;
+    log = recorded packets;
+    passed = running.passed;
+    served = record {
+      packets = packets;
+      rest = ahead.held;
+      listed = running-listed running;
+      read = refl;
+      left = (refl, inl refl);
+    };
+  }
+
+  pub stopped-log : Serves start past now (ends.Io streams.Log)
+  stopped-log = record {
+    input = sent_by Client packets ++ ahead.held;
+    output = sent_by Server packets;
+    log = recorded packets;
+    passed = running.passed;
+    served = record {
+      packets = packets;
+      rest = ahead.held;
+      listed = running-listed running;
+      read = refl;
+      left = (refl, cut-whole packets);
+    };
+  }
+
+-- ---- a session that stops in a packet of the server
+
+pub server-sent : (packets : List Packet) (packet : Packet) → side_of packet ≡ Server
+    → sent_by Server (packets ++ packet ∷ []) ≡ sent_by Server packets ++ spelling packet
+server-sent packets packet side =
+    sent-more Server packets packet
+    ∙ ap (λ (s : Side). sent_by Server packets ++ spelled_if Server s (spelling packet)) side
+
+pub client-silent : (packets : List Packet) (packet : Packet) → side_of packet ≡ Server
+    → sent_by Client (packets ++ packet ∷ []) ≡ sent_by Client packets
+client-silent packets packet side =
+    sent-more Client packets packet
+    ∙ ap (λ (s : Side). sent_by Client packets ++ spelled_if Client s (spelling packet)) side
+    ∙ append-nil (sent_by Client packets)
+
+-- a record that is not the first has no opening before it
+pub no-opening : (records : ℕ) (text : List ℕ) → records ≢ 0 → opened_text records text ≡ text
+no-opening records text some =
+    ap (λ (first : Bool). (if first then transcript_opening else []) ++ text) (ne_eqb records 0 some)
+
+-- some packets were written and logged, and the next could not be
+pub stopped-sending : (start : Tree) (past : StreamBytes) (left written0 written1 : Option (List ℕ)) (log0 log1 : Log)
+    (first : Packet) (others : List Packet) (packet : Packet) (rest : List ℕ) (stop : Stop) → IsLogging log0
+    → IsListed start (first ∷ others) → IsListed start ((first ∷ others) ++ packet ∷ []) → side_of packet ≡ Server
+    → Passed past (stream_bytes left written0 log0.bytes) (sent_by Client (first ∷ others) ++ rest)
+    (sent_by Server (first ∷ others)) (recorded (first ∷ others)) → FailsToSend packet written0 written1 log0 log1 stop
+    → Serves start past (stream_bytes left written1 log1.bytes) (ended_by stop)
+stopped-sending start past left written0 written1 log0 log1 first others packet rest (stops.Io streams.Reader) logging
+    listed more side passed fails =
+    absurd fails
+stopped-sending start past left written0 written1 log0 log1 first others packet rest (stops.Io streams.Writer) logging
+    listed more side passed fails =
+    let packets : List Packet = first ∷ others in
+    record {
+      input = sent_by Client packets ++ rest;
+      output = sent_by Server packets ++ fails.0.part;
+      log = recorded packets;
+      passed = record {
+        read = passed.read;
+        written = Appends-trans past.written written0 written1 (sent_by Server packets) fails.0.part passed.written
+            fails.0.appended;
+        logged = Appends-kept past.logged log0.bytes log1.bytes (recorded packets) passed.logged fails.1;
+      };
+      served = record {
+        packets = packets;
+        rest = rest;
+        listed = listed;
+        read = refl;
+        left = (refl, inr (packet, fails.0.part, side, more, (fails.0.rest, fails.0.parts), refl));
+      };
+    }
+stopped-sending start past left written0 written1 log0 log1 first others packet rest (stops.Io streams.Log) logging
+    listed more side passed fails =
+    let packets : List Packet = first ∷ others in
+    let text = no-opening log0.records (record_text packet) logging.begun in
+    record {
+      input = sent_by Client packets ++ rest;
+      output = sent_by Server packets ++ spelling packet;
+      log = recorded packets ++ fails.1.part;
+      passed = record {
+        read = passed.read;
+        written = Appends-trans past.written written0 written1 (sent_by Server packets) (spelling packet) passed.written
+            fails.0;
+        logged = Appends-trans past.logged log0.bytes log1.bytes (recorded packets) fails.1.part passed.logged
+            fails.1.appended;
+      };
+      served = record {
+        packets = packets ++ packet ∷ [];
+        rest = rest;
+        listed = more;
+        read = ap (λ (l : List ℕ). l ++ rest) (sym (client-silent packets packet side));
+        left = (
+          sym (server-sent packets packet side),
+          inr (packets, packet, fails.1.part, refl, (fails.1.rest, sym text ∙ fails.1.parts), refl),
+        );
+      };
+    }
+stopped-sending start past left written0 written1 log0 log1 first others packet rest stops.NoMemory logging listed more
+    side passed fails =
+    let packets : List Packet = first ∷ others in
+    record {
+      input = sent_by Client packets ++ rest;
+      output = sent_by Server packets;
+      log = recorded packets;
+      passed = passed-kept past (stream_bytes left written0 log0.bytes) (stream_bytes left written1 log1.bytes) _ _ _
+          passed (Keeps-refl left) fails.0 fails.1;
+      served = record {
+        packets = packets;
+        rest = rest;
+        listed = listed;
+        read = refl;
+        left = (refl, cut-whole packets);
+      };
+    }

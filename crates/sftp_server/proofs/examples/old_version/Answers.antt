@@ -1,0 +1,22 @@
+use Rattle.std.proofs.Common.{◌≡◌, ◌≤◌, ℕ, List, [], ◌∷◌, Some, Ok, codes, refl, sym, subst, inl, inr, arith}
+use Rattle.sftp_wire.specs.Examples.{hex}
+use Rattle.sftp_wire.specs.Reading.{front_of, packet_of, client_packet_at, uint32_at, pairs_at, pair_at, string_at}
+use Rattle.sftp_wire.specs.declared.packets.Packet.TheVariants.{Init}
+use Rattle.sftp_wire.specs.declared.packets.Side.TheVariants.{Client}
+use Rattle.sftp_server.specs.Served.{IsNoGreeting}
+use Rattle.sftp_server.proofs.examples.old_version.Goals as goal
+
+too-old : 3 ≤ 2 → ⊥
+too-old is = absurd (omega arith)
+
+read : front_of Client (hex (codes "00000005 01 00000002")) ≡ Ok (Some (Init 2 [], 9))
+unfolding hex front_of packet_of client_packet_at uint32_at pairs_at pair_at string_at
+read = refl
+
+pub returns : goal.returns
+returns c = λ start. inl (record {
+  by = inr (subst IsNoGreeting (sym read) too-old);
+  nothing_written = refl;
+  nothing_logged = refl;
+  end_is = refl;
+})
