@@ -3,9 +3,8 @@ ghost use Rattle.std.specs.Prelude.{◌≡◌, ◌≢◌, ◌+◌, ℕ, ◌++◌
 ghost use Rattle.std.specs.Prelude.{IfErr, OnOk, OnErr, IfSome, IfNone, option_copied, slice_get};
 ghost use Rattle.sftp_server.specs.declared.queue.Progress.TheVariants as progress;
 ghost use Rattle.sftp_server.specs.Machine.{is_unsent, is_pending, is_pending_at, reply_at, from_unsent};
-ghost use Rattle.sftp_server.specs.Queue.{done_count, first_pending_of, next_request_of, with_progress, sent_in, is_done};
-ghost use Rattle.sftp_server.specs.Queue.{done_position, IsSplit};
-ghost use Rattle.sftp_server.specs.Queue.{HasReply};
+ghost use Rattle.sftp_server.specs.Queue.{done_count, first_pending_of, next_request_of, with_progress, sent_in};
+ghost use Rattle.sftp_server.specs.Queue.{is_done, done_position, IsSplit, HasReply};
 ghost use Rattle.std.specs.Option.{option_map};
 
 use crate::refusals::Refuse;
