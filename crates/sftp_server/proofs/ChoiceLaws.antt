@@ -39,7 +39,13 @@ unfolding owed
 worked-falls step before k after worked =
     let old : Entry = record { request = worked.request; progress = Pending } in
     let new : Entry = record { request = worked.request; progress = Done worked.reply } in
-    rw (worked.queue_is, worked.marked, owed-append worked.front (old ∷ worked.back), owed-append worked.front (new ∷ worked.back))
+    rw (
+      worked.queue_is,
+      worked.marked,
+      owed-append worked.front (old ∷ worked.back),
+      owed-append worked.front
+          (new ∷ worked.back),
+    )
     (omega arith)
 
 owed-unsent : (queue : List Entry) → owed (from_unsent queue) ≡ owed queue
@@ -60,7 +66,14 @@ unfolding owed
 sent-falls before k reply after sent =
     let old : Entry = record { request = sent.request; progress = Done reply } in
     let new : Entry = record { request = sent.request; progress = Sent } in
-    rw (sent.marked, sent.queue_is, owed-unsent (sent.front ++ new ∷ sent.back), owed-append sent.front (old ∷ sent.back), owed-append sent.front (new ∷ sent.back))
+    rw (
+      sent.marked,
+      sent.queue_is,
+      owed-unsent (sent.front ++ new ∷ sent.back),
+      owed-append sent.front
+          (old ∷ sent.back),
+      owed-append sent.front (new ∷ sent.back),
+    )
     (omega arith)
 
 -- ---- what is possible
@@ -105,7 +118,9 @@ nothing-left clash machine front none = by machine.queue refl
     by : (queue : List Entry) → machine.queue ≡ queue → machine.queue ≡ []
     by [] is = is
     by (entry ∷ queue) is =
-        absurd (nothing-first clash machine entry queue is (unsent-front entry queue (subst (λ (q : List Entry). from_unsent q ≡ q) is front)) (subst (λ (n : ℕ). length (choices_from clash machine 0 n) ≡ 0) (ap length is) none))
+        absurd (nothing-first clash machine entry queue is
+        (unsent-front entry queue (subst (λ (q : List Entry). from_unsent q ≡ q) is front))
+        (subst (λ (n : ℕ). length (choices_from clash machine 0 n) ≡ 0) (ap length is) none))
 
 possible-at : {S : Type 0} (clash : ClashOf S) (machine : Machine S) (k : ℕ)
     → AllByRecursion (IsPossible clash machine) (choices_at clash machine k)
@@ -166,7 +181,8 @@ unfolding acts_from
 acts-same ready ready' replies replies' k zero same alike = refl
 acts-same ready ready' replies replies' k (suc count) same alike =
     rw (same k, alike k)
-    (ap (λ (more : List Choice). act_at (ready' k) (replies' k) k ++ more) (acts-same ready ready' replies replies' (suc k) count same alike))
+    (ap (λ (more : List Choice). act_at (ready' k) (replies' k) k ++ more) (acts-same ready ready' replies replies'
+    (suc k) count same alike))
 
 act-later : (ready replies : Bool) (k : ℕ) → act_at ready replies (suc k) ≡ map later (act_at ready replies k)
 act-later true replies k = refl
@@ -178,7 +194,12 @@ acts-later : (ready replies : ℕ → Bool) (k count : ℕ) → acts_from ready 
 unfolding acts_from
 acts-later ready replies k zero = refl
 acts-later ready replies k (suc count) =
-    rw (map-append later (act_at (ready (suc k)) (replies (suc k)) k) (acts_from (λ j. ready (suc j)) (λ j. replies (suc j)) (suc k) count), act-later (ready (suc k)) (replies (suc k)) k, acts-later ready replies (suc k) count)
+    rw (
+      map-append later (act_at (ready (suc k)) (replies (suc k)) k) (acts_from (λ j. ready (suc j)) (λ j. replies
+          (suc j)) (suc k) count),
+      act-later (ready (suc k)) (replies (suc k)) k,
+      acts-later ready replies (suc k) count,
+    )
     refl
 
 -- the choices of a server with this queue
@@ -230,11 +251,14 @@ first-pending Sent rest pending = absurd (true≢false (sym pending))
 -- the acts behind the first request
 acts-behind : (s : State) (entry : Entry) (queue : List Entry) → server_acts s (entry ∷ queue)
     ≡ act_at (is_pending entry.progress && true) (is_some (reply_of entry.progress)) 0
-    ++ map later (acts_from (λ j. ready_in server_clash s (entry ∷ take j queue) (slice_get queue j)) (λ j. is_some (reply_at queue j)) 0 (length queue))
+    ++ map later (acts_from (λ j. ready_in server_clash s (entry ∷ take j queue) (slice_get queue j)) (λ j. is_some
+    (reply_at queue j)) 0 (length queue))
 unfolding acts_from is_free_of
 acts-behind s entry queue =
-    ap (λ (more : List Choice). act_at (is_pending entry.progress && true) (is_some (reply_of entry.progress)) 0 ++ more)
-    (acts-later (λ j. ready_in server_clash s (take j (entry ∷ queue)) (slice_get (entry ∷ queue) j)) (λ j. is_some (reply_at (entry ∷ queue) j)) 0 (length queue))
+    ap (λ (more : List Choice). act_at (is_pending entry.progress && true) (is_some
+    (reply_of entry.progress)) 0 ++ more)
+    (acts-later (λ j. ready_in server_clash s (take j (entry ∷ queue)) (slice_get (entry ∷ queue) j)) (λ j. is_some
+    (reply_at (entry ∷ queue) j)) 0 (length queue))
 
 -- behind a first request that is done or sent, the acts are those of the rest
 acts-worked : (s : State) (entry : Entry) (queue : List Entry) → is_pending entry.progress ≡ false
@@ -245,8 +269,10 @@ acts-worked s entry queue worked rest =
     let behind : ℕ → Bool = λ j. ready_in server_clash s (entry ∷ take j queue) (slice_get queue j) in
     let alone : ℕ → Bool = λ j. ready_in server_clash s (take j queue) (slice_get queue j) in
     acts-behind s entry queue
-    ∙ (ap (λ (more : List Choice). act_at (is_pending entry.progress && true) (is_some (reply_of entry.progress)) 0 ++ map later more)
-    (acts-same behind alone replies replies 0 (length queue) (λ j. behind_worked s entry (take j queue) (slice_get queue j) worked) (λ j. refl) ∙ rest)
+    ∙ (ap (λ (more : List Choice). act_at (is_pending entry.progress && true) (is_some
+    (reply_of entry.progress)) 0 ++ map later more)
+    (acts-same behind alone replies replies 0 (length queue) (λ j. behind_worked s entry (take j queue)
+    (slice_get queue j) worked) (λ j. refl) ∙ rest)
     ∙ first-worked entry.progress (acts_of queue) worked)
 
 acts-pending : (s : State) (entry : Entry) (queue : List Entry) → is_pending entry.progress ≡ true
@@ -256,8 +282,10 @@ acts-pending s entry queue pending all =
     let replies : ℕ → Bool = λ j. is_some (reply_at queue j) in
     let behind : ℕ → Bool = λ j. ready_in server_clash s (entry ∷ take j queue) (slice_get queue j) in
     acts-behind s entry queue
-    ∙ (ap (λ (more : List Choice). act_at (is_pending entry.progress && true) (is_some (reply_of entry.progress)) 0 ++ map later more)
-    (nothing-pending behind replies 0 (length queue) (λ j. behind_pending s entry (take j queue) (slice_get queue j) pending) (λ j. no_reply queue j all))
+    ∙ (ap (λ (more : List Choice). act_at (is_pending entry.progress && true) (is_some
+    (reply_of entry.progress)) 0 ++ map later more)
+    (nothing-pending behind replies 0 (length queue) (λ j. behind_pending s entry (take j queue)
+    (slice_get queue j) pending) (λ j. no_reply queue j all))
     ∙ first-pending entry.progress (acts_of queue) pending)
 
 server-acts : (s : State) (n : ℕ) (queue : List Entry) → IsSplit n queue → server_acts s queue ≡ acts_of queue
@@ -355,7 +383,8 @@ acts-sent (suc n) (entry ∷ queue) number k split is =
   where
     by : ((m j : ℕ) → done_position queue m ≡ Some j → slice_get (acts_of queue) m ≡ Some (choices.Send j))
         → (b : Bool) → is_done entry.progress ≡ b → (number : ℕ)
-        → (if is_done entry.progress then done_next (done_position queue) number else option_map suc (done_position queue number)) ≡ Some k
+        → (if is_done entry.progress then done_next (done_position queue) number else option_map suc
+        (done_position queue number)) ≡ Some k
         → slice_get (acts_with false (is_done entry.progress) (acts_of queue)) number ≡ Some (choices.Send k)
     by rest true done zero is =
         let first : Some 0 ≡ Some k = rw done at is in
@@ -376,29 +405,35 @@ acts-done zero (entry ∷ queue) zero k split is first some =
     let zeroth : Some 0 ≡ Some k = rw split.0 at first in
     rw (split.0, ← same_Some 0 k zeroth) refl
 acts-done zero (entry ∷ queue) (suc number) k split is first some =
-    absurd (let few : suc number < length (acts_with true (is_done entry.progress) (acts_of queue)) = rw split.0 at some in omega (arith, few))
+    absurd (let few : suc number < length (acts_with true (is_done entry.progress) (acts_of queue)) =
+    rw split.0 at some in omega (arith, few))
 acts-done (suc n) [] number k split is first some = absurd split
 acts-done (suc n) (entry ∷ queue) number k split is first some =
     let behind : option_map suc (first_pending_of queue) ≡ Some k = rw split.0 at first in
     let found = found-later (first_pending_of queue) k behind in
     let few : number < length (acts_with false (is_done entry.progress) (acts_of queue)) = rw split.0 at some in
     rw (split.0, found.2)
-    (by found.0 (λ m none. acts-done n queue m found.0 split.1 none found.1) (is_done entry.progress) refl number is few)
+    (by found.0 (λ m none. acts-done n queue m found.0 split.1 none found.1)
+    (is_done entry.progress) refl number is few)
   where
-    by : (j : ℕ) → ((m : ℕ) → done_position queue m ≡ None → m < length (acts_of queue) → slice_get (acts_of queue) m ≡ Some (choices.Work j))
+    by : (j : ℕ) → ((m : ℕ) → done_position queue m ≡ None → m < length (acts_of queue) → slice_get
+        (acts_of queue) m ≡ Some (choices.Work j))
         → (b : Bool) → is_done entry.progress ≡ b → (number : ℕ)
-        → (if is_done entry.progress then done_next (done_position queue) number else option_map suc (done_position queue number)) ≡ None
+        → (if is_done entry.progress then done_next (done_position queue) number else option_map suc
+        (done_position queue number)) ≡ None
         → number < length (acts_with false (is_done entry.progress) (acts_of queue))
         → slice_get (acts_with false (is_done entry.progress) (acts_of queue)) number ≡ Some (choices.Work (suc j))
     by j rest true done zero is some = absurd (none-some 0 (let f : Some 0 ≡ None = rw done at is in sym f))
     by j rest true done (suc m) is some =
         let few : suc m < suc (length (map later (acts_of queue))) = rw done at some in
         let same = length-map (acts_of queue) later in
-        rw done (get-later (acts_of queue) m (choices.Work j) (rest m (none-later (done_position queue m) (rw done at is)) (omega (arith, few, same))))
+        rw done (get-later (acts_of queue) m (choices.Work j) (rest m (none-later (done_position queue m)
+        (rw done at is)) (omega (arith, few, same))))
     by j rest false done number is some =
         let few : number < length (map later (acts_of queue)) = rw done at some in
         let same = length-map (acts_of queue) later in
-        rw done (get-later (acts_of queue) number (choices.Work j) (rest number (none-later (done_position queue number) (rw done at is)) (omega (arith, few, same))))
+        rw done (get-later (acts_of queue) number (choices.Work j) (rest number (none-later
+        (done_position queue number) (rw done at is)) (omega (arith, few, same))))
 
 few-done : (queue : List Entry) (number : ℕ) → done_position queue number ≡ None → done_count queue ≤ number
 unfolding done_position done_count
@@ -407,7 +442,8 @@ few-done (entry ∷ queue) number none = by (λ m. few-done queue m) (is_done en
   where
     by : ((m : ℕ) → done_position queue m ≡ None → done_count queue ≤ m) → (b : Bool) → is_done entry.progress ≡ b
         → (number : ℕ)
-        → (if is_done entry.progress then done_next (done_position queue) number else option_map suc (done_position queue number)) ≡ None
+        → (if is_done entry.progress then done_next (done_position queue) number else option_map suc
+        (done_position queue number)) ≡ None
         → (if is_done entry.progress then suc (done_count queue) else done_count queue) ≤ number
     by rest true done zero none = absurd (none-some 0 (let f : Some 0 ≡ None = rw done at none in sym f))
     by rest true done (suc m) none =
@@ -429,7 +465,8 @@ pub choice-done : (machine : Machine State) (n number k : ℕ) → IsSplit n mac
     → slice_get (choices_of server_clash machine) number ≡ Some (choices.Work k)
 choice-done machine n number k split is first some =
     rw (choices-are machine n split)
-    (acts-done n machine.queue number k split is first (subst (λ (acts : List Choice). number < length acts) (choices-are machine n split) some))
+    (acts-done n machine.queue number k split is first (subst (λ (acts : List Choice). number < length acts)
+    (choices-are machine n split) some))
 
 pub choice-none : (machine : Machine State) (n number : ℕ) → IsSplit n machine.queue
     → done_position machine.queue number ≡ None → first_pending_of machine.queue ≡ None

@@ -1,6 +1,7 @@
 -- What the calls of the queue say of the core.
 use Rattle.std.proofs.Common.{◌≡◌, ◌==◌, ◌&&◌, not, nat_eq, ℕ, zero, suc, ◌≤◌, Bool, true, false, List, [], ◌∷◌, ◌++◌}
-use Rattle.std.proofs.Common.{Option, Some, None, length, take, slice_get, refl, sym, ap, subst, ◌∙◌, arith, IsTrue, ◌<◌}
+use Rattle.std.proofs.Common.{Option, Some, None, length, take, slice_get, refl, sym, ap, subst, ◌∙◌, arith, IsTrue}
+use Rattle.std.proofs.Common.{◌<◌}
 use Rattle.std.proofs.Common.{nat_lt, Result, Ok, Err}
 use Rattle.std.specs.Result.{OnOk, OnErr}
 use Rattle.std.proofs.Common.{length-append}
@@ -23,7 +24,8 @@ use Rattle.sftp_server.specs.Machine.{Machine, is_pending, is_free_of, ready_in,
 use Rattle.sftp_server.specs.Machine.{from_unsent, is_sent}
 use Rattle.sftp_server.specs.Queue.{first_pending_of, next_request_of, with_progress}
 use Rattle.sftp_server.specs.Core.{server_clash, HasGoodReply, IsSendable, IsCore}
-use Rattle.sftp_server.proofs.Queues.{length-progress, from_unsent-short, from_unsent-pushed, front-done, from_unsent-again}
+use Rattle.sftp_server.proofs.Queues.{length-progress, from_unsent-short, from_unsent-pushed, front-done}
+use Rattle.sftp_server.proofs.Queues.{from_unsent-again}
 use Rattle.sftp_server.proofs.Machines.Acts.{all-append, all-parts}
 
 -- ---- what is ready
@@ -38,7 +40,8 @@ zero-eqb : (k : ℕ) → (0 == suc k) ≡ false
 zero-eqb k = grind (arith, cases_Bool, eqb-true)
 
 -- behind a pending request nothing is ready
-pub behind_pending : (s : State) (first : Entry) (earlier : List Entry) (found : Option Entry) → is_pending first.progress ≡ true
+pub behind_pending : (s : State) (first : Entry) (earlier : List Entry) (found : Option Entry)
+    → is_pending first.progress ≡ true
     → ready_in server_clash s (first ∷ earlier) found ≡ false
 unfolding is_free_of
 behind_pending s first earlier None pending = refl
@@ -49,7 +52,8 @@ behind_pending s first earlier (Some entry) pending = rw pending (and_false (is_
     and_false false = refl
 
 -- one that is not pending is in nobody's way
-pub behind_worked : (s : State) (first : Entry) (earlier : List Entry) (found : Option Entry) → is_pending first.progress ≡ false
+pub behind_worked : (s : State) (first : Entry) (earlier : List Entry) (found : Option Entry)
+    → is_pending first.progress ≡ false
     → ready_in server_clash s (first ∷ earlier) found ≡ ready_in server_clash s earlier found
 unfolding is_free_of
 behind_worked s first earlier None worked = refl
@@ -162,14 +166,16 @@ at-first_pending [] k request is next = absurd (none-some k is)
 at-first_pending (entry ∷ queue) k request is next =
     by (λ n at. at-first_pending queue n request at) (is_pending entry.progress) refl (first_pending_of queue) refl
   where
-    by : ((n : ℕ) → first_pending_of queue ≡ Some n → next_request_of queue ≡ Some request → IsAt queue n request Pending)
+    by : ((n : ℕ) → first_pending_of queue ≡ Some n → next_request_of queue ≡ Some request
+        → IsAt queue n request Pending)
         → (b : Bool) → is_pending entry.progress ≡ b → (found : Option ℕ) → first_pending_of queue ≡ found
         → IsAt (entry ∷ queue) k request Pending
     by rest true pending found at =
         let zeroth : Some 0 ≡ Some k = rw pending at is in
         let named : Some entry.request ≡ Some request = rw pending at next in
         rw (← same_Some 0 k zeroth)
-        (at-front entry queue request Pending (same_Some entry.request request named) (pending-is entry.progress pending))
+        (at-front entry queue request Pending (same_Some entry.request request named)
+        (pending-is entry.progress pending))
     by rest false worked None at =
         absurd (none-some k (let f : None ≡ Some k = rw (worked, at) at is in f))
     by rest false worked (Some n) at =
@@ -268,7 +274,8 @@ core-taken window queue request is room = record {
 }
 
 -- if there is room, the queue is not full
-has_room : (found : Option Refuse) (size window : ℕ) → (window ≤ size → found ≡ Some Full) → found ≡ None → size < window
+has_room : (found : Option Refuse) (size window : ℕ) → (window ≤ size → found ≡ Some Full) → found ≡ None
+    → size < window
 has_room found size window full none = by (nat_lt size window) refl
   where
     by : (b : Bool) → nat_lt size window ≡ b → size < window
@@ -290,7 +297,8 @@ sendable-worked : (queue : List Entry) (k : ℕ) (request : Request) (reply : Re
 sendable-worked queue k request reply at same spelled all =
     let entry : Entry = record { request = request; progress = Pending } in
     let changed : Entry = record { request = request; progress = Done reply } in
-    let parts = all-parts IsSendable at.front entry at.back (subst (λ q. AllByRecursion IsSendable q) at.queue_is all) in
+    let parts = all-parts IsSendable at.front entry at.back (subst
+    (λ q. AllByRecursion IsSendable q) at.queue_is all) in
     subst (λ q. AllByRecursion IsSendable q) (sym (at.changed (Done reply)))
     (all-append IsSendable at.front (changed ∷ at.back) parts.before ((same, spelled), parts.after))
 
@@ -302,7 +310,8 @@ core-worked window queue k request reply first next same spelled is = record {
   bounded = is.bounded;
   few = rw (length-progress queue k (Done reply)) is.few;
   front = front-done queue k reply is.front;
-  sendable = sendable-worked queue k request reply (at-first_pending queue k request first next) same spelled is.sendable;
+  sendable = sendable-worked queue k request reply
+      (at-first_pending queue k request first next) same spelled is.sendable;
 }
 
 sendable-sent : (queue : List Entry) (k : ℕ) → AllByRecursion IsSendable queue

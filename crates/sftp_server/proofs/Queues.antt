@@ -1,11 +1,14 @@
 -- How each change of a queue goes over its requests.
-use Rattle.std.proofs.Common.{◌≡◌, ◌==◌, ◌&&◌, ◌||◌, not, nat_lt, nat_le, nat_eq, ℕ, zero, suc, ◌+◌, ◌-◌, ◌<◌, ◌≤◌, Bool}
-use Rattle.std.proofs.Common.{true, false, cond, List, [], ◌∷◌, ◌++◌, Option, Some, None, is_some, length, set, drop, slice_get}
+use Rattle.std.proofs.Common.{◌≡◌, ◌==◌, ◌&&◌, ◌||◌, not, nat_lt, nat_le, nat_eq, ℕ, zero, suc, ◌+◌, ◌-◌, ◌<◌, ◌≤◌}
+use Rattle.std.proofs.Common.{Bool}
+use Rattle.std.proofs.Common.{true, false, cond, List, [], ◌∷◌, ◌++◌, Option, Some, None, is_some, length, set, drop}
+use Rattle.std.proofs.Common.{slice_get}
 use Rattle.std.proofs.Common.{refl, sym, ap, ◌∙◌, arith, IsTrue}
 use Rattle.std.specs.List.{AllByRecursion}
 use Rattle.std.specs.Option.{option_map}
 use Rattle.std.specs.Map.{lookup}
-use Rattle.std.proofs.lemmas.Bool.{or_parts, ne_eqb, eqb-true, eqb-false, lt-ltb, le-ltb, le-leb, lt-leb, eq-eqb, cases_Bool, true≢false}
+use Rattle.std.proofs.lemmas.Bool.{or_parts, ne_eqb, eqb-true, eqb-false, lt-ltb, le-ltb, le-leb, lt-leb, eq-eqb}
+use Rattle.std.proofs.lemmas.Bool.{cases_Bool, true≢false}
 use Rattle.std.proofs.lemmas.Option.{none-some, same_Some}
 use Rattle.sftp_wire.specs.declared.packets.Request.{Request}
 use Rattle.sftp_wire.specs.declared.packets.Reply.{Reply}
@@ -13,7 +16,8 @@ use Rattle.sftp_server.specs.declared.queue.Entry.{Entry}
 use Rattle.sftp_server.specs.declared.queue.Progress.{Progress}
 use Rattle.sftp_server.specs.declared.queue.Progress.TheVariants.{Pending, Done, Sent}
 use Rattle.sftp_server.specs.Machine.{is_pending, is_sent, is_unsent, is_pending_at, reply_at, from_unsent, reply_of}
-use Rattle.sftp_server.specs.Queue.{is_done, done_count, first_pending_of, next_request_of, with_progress, IsPendingEntry}
+use Rattle.sftp_server.specs.Queue.{is_done, done_count, first_pending_of, next_request_of, with_progress}
+use Rattle.sftp_server.specs.Queue.{IsPendingEntry}
 use Rattle.sftp_server.specs.Queue.{done_next, done_position}
 use Rattle.sftp_server.specs.Queue.{HasReply, sent_in, IsSplit, AreUnsentApart, IsQueue}
 
@@ -54,7 +58,8 @@ pub next_some : (n : ℕ) (queue : List Entry) (entry : Entry) → IsSplit n que
     → next_request_of queue ≡ Some entry.request
 unfolding IsSplit next_request_of
 next_some n [] entry split at = absurd (none-some entry at)
-next_some zero (first ∷ queue) entry split at = rw split.0 (ap (λ (e : Entry). Some e.request) (same_Some first entry at))
+next_some zero (first ∷ queue) entry split at = rw split.0 (ap (λ (e : Entry). Some e.request)
+    (same_Some first entry at))
 next_some (suc n) (first ∷ queue) entry split at = rw split.0 (next_some n queue entry split.1 at)
 
 pub next_none : (n : ℕ) (queue : List Entry) → IsSplit n queue → length queue ≤ n → next_request_of queue ≡ None
@@ -147,12 +152,17 @@ apart-pushed : (queue : List Entry) (request : Request) → AreUnsentApart queue
 unfolding AreUnsentApart is_unsent
 apart-pushed [] request apart free = (λ _. refl, tt)
 apart-pushed (entry ∷ queue) request apart free =
-    let parts = or_parts (not (is_sent entry.progress) && entry.request.id == request.id) (is_unsent request.id queue) free in
-    (λ unsent. rw (is_unsent-pushed entry.request.id queue request, apart.0 unsent) (other unsent parts.0), apart-pushed queue request apart.1 parts.1)
+    let parts = or_parts (not (is_sent entry.progress) && entry.request.id == request.id)
+    (is_unsent request.id queue) free in (
+      λ unsent. rw (is_unsent-pushed entry.request.id queue request, apart.0 unsent)
+          (other unsent parts.0),
+      apart-pushed queue request apart.1 parts.1,
+    )
   where
     other : is_sent entry.progress ≡ false → (not (is_sent entry.progress) && entry.request.id == request.id) ≡ false
         → (request.id == entry.request.id) ≡ false
-    other unsent e = ne_eqb request.id entry.request.id (λ same. eqb-false entry.request.id request.id (let f : (entry.request.id == request.id) ≡ false = rw unsent at e in f) (sym same))
+    other unsent e = ne_eqb request.id entry.request.id (λ same. eqb-false entry.request.id request.id (let f :
+        (entry.request.id == request.id) ≡ false = rw unsent at e in f) (sym same))
 
 split-pushed : (n : ℕ) (queue : List Entry) (request : Request) → IsSplit n queue
     → IsSplit n (queue ++ record { request = request; progress = Pending } ∷ [])
@@ -184,7 +194,8 @@ pub queue-pushed : (queue : List Entry) (ids after : List (ℕ × Unit {0})) (n 
 queue-pushed queue ids after n done request is free noted = record {
   front = from_unsent-pushed queue request is.front;
   indexed = λ id.
-      rw (noted id, is.indexed id, is_unsent-pushed id queue request) (or_swap (nat_eq request.id id) (is_unsent id queue));
+      rw (noted id, is.indexed id, is_unsent-pushed id queue request) (or_swap (nat_eq request.id id)
+      (is_unsent id queue));
   apart = apart-pushed queue request is.apart free;
   split = split-pushed n queue request is.split;
   counted = rw (done_count-pushed queue request) is.counted;
@@ -251,8 +262,11 @@ unfolding AreUnsentApart with_progress IsSplit
 apart-done [] n reply split apart = tt
 apart-done (entry ∷ queue) zero reply split apart =
     (λ _. apart.0 (is_sent-pending entry.progress split.0), apart.1)
-apart-done (entry ∷ queue) (suc n) reply split apart =
-    (λ unsent. is_unsent-done entry.request.id queue n reply split.1 ∙ apart.0 unsent, apart-done queue n reply split.1 apart.1)
+apart-done (entry ∷ queue) (suc n) reply split apart = (
+  λ unsent. is_unsent-done entry.request.id queue n reply split.1
+      ∙ apart.0 unsent,
+  apart-done queue n reply split.1 apart.1,
+)
 
 split-done : (queue : List Entry) (n : ℕ) (reply : Reply) → IsSplit n queue → n < length queue
     → IsSplit (suc n) (with_progress queue n (Done reply))
@@ -400,7 +414,8 @@ is_unsent-sent id at (first ∷ queue) zero reply apart has =
   where
     by : is_sent first.progress ≡ false → first.request.id ≡ at → is_unsent first.request.id queue ≡ false → (b : Bool)
         → nat_eq at id ≡ b
-        → is_unsent id queue ≡ (not (nat_eq at id) && ((not (is_sent first.progress) && first.request.id == id) || is_unsent id queue))
+        → is_unsent id queue ≡ (not (nat_eq at id) && ((not
+        (is_sent first.progress) && first.request.id == id) || is_unsent id queue))
     by unsent named other true is = rw (is, ← eqb-true at id is, ← named) other
     by unsent named other false is = rw (unsent, named, is) refl
 is_unsent-sent id at (first ∷ queue) (suc k) reply apart has =
@@ -414,15 +429,23 @@ is_unsent-sent id at (first ∷ queue) (suc k) reply apart has =
     by alone there false is c sent = rw is refl
     by alone there true is true sent = rw (is, sent) refl
     by alone there true is false sent =
-        rw (is, sent, ne_eqb first.request.id id (λ same. true≢false (sym there ∙ rw (eqb-true at id is, ← same) (alone sent)))) refl
+        rw (
+          is,
+          sent,
+          ne_eqb first.request.id id (λ same. true≢false (sym there ∙ rw (eqb-true at id is, ← same)
+              (alone sent))),
+        ) refl
 
 apart-sent : (queue : List Entry) (k at : ℕ) (reply : Reply) → AreUnsentApart queue → HasReply queue k at reply
     → AreUnsentApart (with_progress queue k Sent)
 unfolding AreUnsentApart with_progress
 apart-sent [] k at reply apart has = tt
 apart-sent (first ∷ queue) zero at reply apart has = (λ e. absurd (true≢false e), apart.1)
-apart-sent (first ∷ queue) (suc k) at reply apart has =
-    (λ unsent. rw (is_unsent-sent first.request.id at queue k reply apart.1 has, apart.0 unsent) (and_false (not (nat_eq at first.request.id))), apart-sent queue k at reply apart.1 has)
+apart-sent (first ∷ queue) (suc k) at reply apart has = (
+  λ unsent. rw (is_unsent-sent first.request.id at queue k reply apart.1 has, apart.0 unsent) (and_false (not
+      (nat_eq at first.request.id))),
+  apart-sent queue k at reply apart.1 has,
+)
   where
     and_false : (b : Bool) → (b && false) ≡ false
     and_false true = refl
@@ -446,7 +469,8 @@ done_count-sent [] k at reply has = absurd (none-some has.0 has.1)
 done_count-sent (first ∷ queue) zero at reply has =
     let same = same_Some first has.0 has.1 in
     rw (same, done-done has.0.progress reply has.3) refl
-done_count-sent (first ∷ queue) (suc k) at reply has = by (done_count-sent queue k at reply has) (is_done first.progress) refl
+done_count-sent (first ∷ queue) (suc k) at reply has = by (done_count-sent queue k at reply has)
+    (is_done first.progress) refl
   where
     by : suc (done_count (with_progress queue k Sent)) ≡ done_count queue → (b : Bool) → is_done first.progress ≡ b
         → suc (done_count (first ∷ with_progress queue k Sent)) ≡ done_count (first ∷ queue)
@@ -559,7 +583,13 @@ pub queue-sent : (queue : List Entry) (ids fewer : List (ℕ × Unit {0})) (n do
 queue-sent queue ids fewer n done k at gone m left reply is has struck count moved one = record {
   front = from_unsent-again (with_progress queue k Sent);
   indexed = λ id.
-      rw (struck id, is.indexed id, is_unsent-front id (with_progress queue k Sent), is_unsent-sent id at queue k reply is.apart has) refl;
+      rw (
+        struck id,
+        is.indexed id,
+        is_unsent-front id
+            (with_progress queue k Sent),
+        is_unsent-sent id at queue k reply is.apart has,
+      ) refl;
   apart = apart-front (with_progress queue k Sent) (apart-sent queue k at reply is.apart has);
   split = split-front (with_progress queue k Sent) n m gone (split-sent queue n k at reply is.split has) count moved;
   counted =

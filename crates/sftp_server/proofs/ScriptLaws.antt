@@ -1,5 +1,6 @@
 -- What comes of an act of a script, and of the acts so far.
-use Rattle.std.proofs.Common.{◌≡◌, ◌≢◌, ◌<◌, ◌≤◌, ◌+◌, ◌&&◌, ◌^◌, not, nat_lt, ℕ, zero, suc, Bool, true, false, List, [], ◌∷◌, ◌++◌}
+use Rattle.std.proofs.Common.{◌≡◌, ◌≢◌, ◌<◌, ◌≤◌, ◌+◌, ◌&&◌, ◌^◌, not, nat_lt, ℕ, zero, suc, Bool, true, false, List}
+use Rattle.std.proofs.Common.{[], ◌∷◌, ◌++◌}
 use Rattle.std.proofs.Common.{Result, Ok, Err, IfSome, IsTrue, length, take, get_or, refl, sym, ap, subst, ◌∙◌, arith}
 use Rattle.std.proofs.Common.{append-nil, add-one}
 use Rattle.std.specs.List.{AllByRecursion}
@@ -24,7 +25,8 @@ use Rattle.sftp_server.specs.declared.acts.Act.{Act}
 use Rattle.sftp_server.specs.declared.acts.Act.TheVariants.{Deliver, Work, Send}
 use Rattle.sftp_server.specs.declared.refusals.Refuse.{Refuse}
 use Rattle.sftp_server.specs.declared.refusals.Refuse.TheVariants as refuses
-use Rattle.sftp_server.specs.Machine.{Machine, at_start, taken, can_take, is_unsent, IsDelivery, IsAct, AreActs, Delivers}
+use Rattle.sftp_server.specs.Machine.{Machine, at_start, taken, can_take, is_unsent, IsDelivery, IsAct, AreActs}
+use Rattle.sftp_server.specs.Machine.{Delivers}
 use Rattle.sftp_server.specs.Core.{server_clash, started, IsRefusedFor, IsValue, AreDeliverable}
 use Rattle.sftp_server.specs.Scripts.{IsPerformed}
 use Rattle.sftp_server.proofs.Machines.Acts.{all-append, acts-more}
@@ -64,7 +66,11 @@ performed-taken request copy before after old new (Ok it) same value can after_i
   value = value;
   events = Asked request ∷ [];
   appended = appended;
-  acted = subst (λ (r : Request). IsDelivery (can_take before r) before request (Asked request ∷ []) after) same (subst (λ (b : Bool). IsDelivery b before request (Asked request ∷ []) after) (sym can) (after_is ∙ ap (λ (r : Request). taken before r) same, refl));
+  acted = subst (λ (r : Request). IsDelivery (can_take before r) before request (Asked request ∷ []) after) same
+      (subst (λ (b : Bool). IsDelivery b before request (Asked request ∷ []) after) (sym can) (
+        after_is ∙ ap (λ (r : Request). taken before r) same,
+        refl,
+      ));
 }
 
 -- a delivery that is refused, but not because memory ran out
@@ -84,7 +90,10 @@ performed-refused request copy refuse before after old new (Ok it) same value wh
   value = value;
   events = [];
   appended = kept ∙ sym (append-nil old);
-  acted = subst (λ (b : Bool). IsDelivery b before request [] after) (sym (cannot_take before request refuse (subst (λ (r : Request). IsRefusedFor before r refuse) same why) other)) record { unchanged = after_is; silent = refl };
+  acted = subst (λ (b : Bool). IsDelivery b before request [] after)
+      (sym (cannot_take before request refuse
+      (subst (λ (r : Request). IsRefusedFor before r refuse) same why) other))
+      record { unchanged = after_is; silent = refl };
 }
 
 -- ---- the acts so far
@@ -97,9 +106,14 @@ pub acts-next : (start : State) (acts : List Act) (i next : ℕ) (act : Act) (mi
 acts-next start acts i next act mid after old new some is next_is steps values performed =
     let one : take next acts ≡ take i acts ++ act ∷ [] =
     ap (λ (n : ℕ). take n acts) next_is ∙ (take-one ∙ ap (λ (a : Act). take i acts ++ a ∷ []) (sym is)) in
-    let more = acts-more Allowed server_clash (at_start start 1024) mid after (take i acts) old act performed.events steps performed.acted in
-    let all = all-append (Delivers IsValue) (take i acts) (act ∷ []) values (performed.value, tt) in
-    (subst (λ (list : List Act). AreActs Allowed server_clash (at_start start 1024) list new after) (sym one) (subst (λ (es : List Event). AreActs Allowed server_clash (at_start start 1024) (take i acts ++ act ∷ []) es after) (sym performed.appended) more), subst AreDeliverable (sym one) all)
+    let more = acts-more Allowed server_clash (at_start start 1024) mid after
+    (take i acts) old act performed.events steps performed.acted in
+    let all = all-append (Delivers IsValue) (take i acts) (act ∷ []) values (performed.value, tt) in (
+      subst (λ (list : List Act). AreActs Allowed server_clash (at_start start 1024) list new after) (sym one) (subst
+          (λ (es : List Event). AreActs Allowed server_clash (at_start start 1024) (take i acts ++ act ∷ []) es after)
+          (sym performed.appended) more),
+      subst AreDeliverable (sym one) all,
+    )
   where
     take-one : take (i + 1) acts ≡ take i acts ++ get_or acts i act ∷ []
     take-one = rw add-one (take-suc acts i act some)
@@ -115,7 +129,8 @@ pub acts-whole : (start : State) (acts : List Act) (i : ℕ) (events : List Even
     → length acts ≤ i → AreActs Allowed server_clash (at_start start 1024) (take i acts) events core
     → AreActs Allowed server_clash (at_start start 1024) acts events core
 acts-whole start acts i events core past steps =
-    subst (λ (list : List Act). AreActs Allowed server_clash (at_start start 1024) list events core) (take-whole acts i past) steps
+    subst (λ (list : List Act). AreActs Allowed server_clash (at_start start 1024) list events core)
+    (take-whole acts i past) steps
 
 pub acts-begin : (start : Tree) (acts : List Act) (events : List Event) (core : Machine State) → Good (started start)
     → AreActs Allowed server_clash (at_start (started start) 1024) acts events core → AreDeliverable acts

@@ -29,7 +29,8 @@ done_next rest (suc number) = option_map suc (rest number)
 unfoldable pub done_position : List Entry → ℕ → Option ℕ
 done_position [] number = None
 done_position (entry ∷ queue) number =
-    if is_done entry.progress then done_next (done_position queue) number else option_map suc (done_position queue number)
+    if is_done entry.progress then done_next (done_position queue) number
+    else option_map suc (done_position queue number)
 
 -- the position of the first pending request
 unfoldable pub first_pending_of : List Entry → Option ℕ
@@ -54,7 +55,8 @@ with_progress (entry ∷ queue) (suc k) progress = entry ∷ with_progress queue
 -- the request at the position is done, with this id and this reply
 abbrev pub HasReply : List Entry → ℕ → ℕ → Reply → Type 0
 HasReply queue k id reply =
-    (entry : Entry) × (slice_get queue k ≡ Some entry) × (entry.request.id ≡ id) × (reply_of entry.progress ≡ Some reply)
+    (entry : Entry) × (slice_get queue k ≡ Some entry) × (entry.request.id ≡ id)
+    × (reply_of entry.progress ≡ Some reply)
 
 abbrev pub IsWorkedEntry : Entry → Type 0
 IsWorkedEntry entry = is_pending entry.progress ≡ false

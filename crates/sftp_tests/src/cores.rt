@@ -1,4 +1,4 @@
-//! What the core of a server takes, and which acts the schedules choose.
+//! What the core of a server takes and does, and which acts the schedules choose.
 use crate::scripts::request;
 use sftp_path::NoMemory;
 use sftp_server::{Core, Did, InOrder, Refuse, Schedule, Shuffle};
@@ -6,8 +6,75 @@ use sftp_tree::Tree;
 use std::alloc::Global;
 use std::test::Fail;
 
+/// A call, and what it gives: why a request with this id is not taken, whether the request at this position is ready,
+/// what comes of work on it, and the id of the reply that is sent for it.
+#[derive(Clone, Copy)]
+enum Call {
+    Deliver(u32, Option<Refuse>),
+    Ready(usize, bool),
+    Work(usize, Did),
+    Send(usize, Option<u32>),
+}
+
 /// STAT of `/`.
 const STAT: &[u8] = b"\x11\0\0\0\x01/";
+
+/// With 1,024 requests in the queue there is room again once the first is answered, and not when a later one is. A full
+/// queue is the first cause of a refusal.
+const WINDOW: &[Call] = &[
+    Call::Deliver(7, Some(Refuse::Full)),
+    Call::Work(0, Did::Done),
+    Call::Work(1, Did::Done),
+    Call::Send(1, Some(1)),
+    Call::Deliver(1, Some(Refuse::Full)),
+    Call::Send(0, Some(0)),
+    Call::Deliver(7, Some(Refuse::IdInUse)),
+    Call::Deliver(1, None),
+    Call::Deliver(0, None),
+    Call::Deliver(1_024, Some(Refuse::Full)),
+];
+
+/// Only the first pending request is ready. What is done is done once, and answered once.
+const ORDER: &[Call] = &[
+    Call::Work(0, Did::NoSuch),
+    Call::Deliver(0, None),
+    Call::Deliver(1, None),
+    Call::Ready(1, false),
+    Call::Work(1, Did::NotReady),
+    Call::Ready(0, true),
+    Call::Send(0, None),
+    Call::Work(0, Did::Done),
+    Call::Ready(0, false),
+    Call::Work(0, Did::NoSuch),
+    Call::Ready(1, true),
+    Call::Work(1, Did::Done),
+    Call::Work(2, Did::NoSuch),
+    Call::Send(1, Some(1)),
+    Call::Send(1, None),
+    Call::Work(1, Did::NoSuch),
+    Call::Send(0, Some(0)),
+    Call::Send(0, None),
+];
+
+/// Calls after which a core finishes, or does not.
+const ENDS: &[(&str, &[Call], bool)] = &[
+    ("nothing asked", &[], true),
+    ("a request is pending", &[Call::Deliver(0, None)], false),
+    (
+        "a reply is not sent",
+        &[Call::Deliver(0, None), Call::Work(0, Did::Done)],
+        false,
+    ),
+    (
+        "each request is answered",
+        &[
+            Call::Deliver(0, None),
+            Call::Work(0, Did::Done),
+            Call::Send(0, Some(0)),
+        ],
+        true,
+    ),
+];
 
 /// Why a request with this id is not taken.
 fn refusal(alloc: Global, core: &mut Core, id: u32) -> Result<Option<Refuse>, NoMemory> {
@@ -17,14 +84,33 @@ fn refusal(alloc: Global, core: &mut Core, id: u32) -> Result<Option<Refuse>, No
     }
 }
 
-/// The id of the reply that is sent for the request at this position, which is done if it is ready.
-fn answered(core: &mut Core, k: usize) -> Result<Option<u32>, NoMemory> {
-    core.work(k)?;
-    Ok(core.send(k).map(|reply| reply.id))
+/// The id of the reply that is sent for the request at this position.
+fn sent(core: &mut Core, k: usize) -> Option<u32> {
+    let reply = core.send(k)?;
+    Some(reply.id)
 }
 
-/// So many requests are taken, with the ids from 0 on.
-fn taken(alloc: Global, core: &mut Core, count: u32) -> Result<bool, NoMemory> {
+fn gives(alloc: Global, core: &mut Core, call: Call) -> Result<bool, NoMemory> {
+    match call {
+        Call::Deliver(id, refuse) => Ok(refusal(alloc, core, id)? == refuse),
+        Call::Ready(k, ready) => Ok(core.ready(k) == ready),
+        Call::Work(k, did) => Ok(core.work(k)? == did),
+        Call::Send(k, id) => Ok(sent(core, k) == id),
+    }
+}
+
+/// The number of the first call, from 0, that does not give what it has to.
+fn first_wrong(alloc: Global, core: &mut Core, calls: &[Call]) -> Result<Option<usize>, NoMemory> {
+    for (number, call) in calls.iter().enumerate() {
+        if !gives(alloc, core, *call)? {
+            return Ok(Some(number));
+        }
+    }
+    Ok(None)
+}
+
+/// Whether so many requests are taken, with the ids from 0 on.
+fn takes(alloc: Global, core: &mut Core, count: u32) -> Result<bool, NoMemory> {
     for id in 0..count {
         if refusal(alloc, core, id)?.is_some() {
             return Ok(false);
@@ -33,60 +119,40 @@ fn taken(alloc: Global, core: &mut Core, count: u32) -> Result<bool, NoMemory> {
     Ok(true)
 }
 
-/// 1,024 requests are taken. There is room again once the first is answered, not when a later one is.
+/// Whether a core on the blank tree finishes after the calls, which all give what they have to.
+fn finishes(alloc: Global, calls: &[Call]) -> Result<bool, NoMemory> {
+    let mut core = Core::new(Tree::blank(alloc)?, 1)?;
+    let wrong = first_wrong(alloc, &mut core, calls)?;
+    Ok(wrong.is_none() && core.finish().is_ok())
+}
+
 #[test]
 fn full_window(rt: HostRuntime) -> Result<(), Fail> {
     let mut core = Core::new(Tree::blank(rt.alloc())?, 1_024)?;
-    assert!(rt; taken(rt.alloc(), &mut core, 1_024)?);
-    assert!(rt; refusal(rt.alloc(), &mut core, 7)? == Some(Refuse::Full));
-    assert!(rt; core.work(0)? == Did::Done);
-    assert!(rt; answered(&mut core, 1)? == Some(1));
-    assert!(rt; refusal(rt.alloc(), &mut core, 1)? == Some(Refuse::Full));
-    assert!(rt; answered(&mut core, 0)? == Some(0));
-    assert!(rt; refusal(rt.alloc(), &mut core, 7)? == Some(Refuse::IdInUse));
-    assert!(rt; refusal(rt.alloc(), &mut core, 1)?.is_none());
-    assert!(rt; refusal(rt.alloc(), &mut core, 0)?.is_none());
-    assert!(rt; refusal(rt.alloc(), &mut core, 1_024)? == Some(Refuse::Full));
+    let taken = takes(rt.alloc(), &mut core, 1_024);
+    let wrong = first_wrong(rt.alloc(), &mut core, WINDOW);
+    assert!(rt; taken == Ok(true) && wrong == Ok(None), "{wrong:?}");
     Ok(())
 }
 
-/// Only the first pending request is ready, and what is done is done once.
 #[test]
 fn work_in_order(rt: HostRuntime) -> Result<(), Fail> {
     let mut core = Core::new(Tree::blank(rt.alloc())?, 2)?;
-    assert!(rt; core.work(0)? == Did::NoSuch);
-    assert!(rt; taken(rt.alloc(), &mut core, 2)?);
-    assert!(rt; !core.ready(1));
-    assert!(rt; core.work(1)? == Did::NotReady);
-    assert!(rt; core.ready(0));
-    assert!(rt; core.work(0)? == Did::Done);
-    assert!(rt; core.work(0)? == Did::NoSuch);
-    assert!(rt; core.work(1)? == Did::Done);
-    assert!(rt; core.work(2)? == Did::NoSuch);
-    Ok(())
-}
-
-/// The core comes back while a request is unanswered, and takes further ones.
-#[test]
-fn finish_with_unanswered_requests(rt: HostRuntime) -> Result<(), Fail> {
-    let mut core = Core::new(Tree::blank(rt.alloc())?, 1)?;
-    assert!(rt; taken(rt.alloc(), &mut core, 1)?);
-    let Some(mut core) = core.finish().err() else {
-        assert!(rt; false, "finished with a request pending");
-        return Ok(());
-    };
-    assert!(rt; core.work(0)? == Did::Done);
-    let Some(mut core) = core.finish().err() else {
-        assert!(rt; false, "finished with a reply not sent");
-        return Ok(());
-    };
-    assert!(rt; answered(&mut core, 0)? == Some(0));
-    assert!(rt; core.finish().is_ok());
+    let wrong = first_wrong(rt.alloc(), &mut core, ORDER);
+    assert!(rt; wrong == Ok(None), "{wrong:?}");
     Ok(())
 }
 
 #[test]
-fn schedules(rt: HostRuntime) -> Result<(), Fail> {
+fn ends_of_cores(rt: HostRuntime) -> Result<(), Fail> {
+    for (name, calls, ends) in ENDS {
+        assert!(rt; finishes(rt.alloc(), calls)? == *ends, "{name}");
+    }
+    Ok(())
+}
+
+#[test]
+fn picks_of_schedules(rt: HostRuntime) -> Result<(), Fail> {
     for count in [1, 2, 1_024] {
         assert!(rt; InOrder.pick(count) == 0, "{count}");
     }

@@ -1,7 +1,7 @@
 //! Acts of a server that are done one after the other: the events that they make, and the tree in the end.
 use crate::answers::packet;
 use sftp_path::NoMemory;
-use sftp_server::{Act, run_script};
+use sftp_server::{Act, Core, run_script};
 use sftp_transcript::Event;
 use sftp_tree::Tree;
 use sftp_wire::{Packet, Request, Side, encode, front};
@@ -161,20 +161,35 @@ fn joined(alloc: Global, packets: &[(u32, &[u8])]) -> Result<Vec<u8>, AllocError
     Ok(bytes)
 }
 
-/// Whether the acts of a row make its events, and lead to its end.
-fn holds(alloc: Global, row: &Row) -> Result<bool, Fail> {
-    let (_, steps, packets, ends) = row;
-    let acts = acts(alloc, steps)?;
-    let (events, core) = run_script(Tree::blank(alloc)?, acts.as_slice())?;
-    let same = packets_of(alloc, events)?.as_slice() == joined(alloc, packets)?.as_slice();
+/// Whether the events are these packets.
+fn are_events(
+    alloc: Global,
+    events: Vec<Event>,
+    packets: &[(u32, &[u8])],
+) -> Result<bool, NoMemory> {
+    let made = packets_of(alloc, events)?;
+    Ok(made.as_slice() == joined(alloc, packets)?.as_slice())
+}
+
+/// Whether a core finishes with the blank tree, or, if it is not to end, does not.
+fn ends_so(core: Core, ends: bool) -> Result<bool, NoMemory> {
     match core.finish() {
-        Ok(tree) => Ok(same && *ends && tree.write()?.as_slice() == BLANK),
-        Err(_) => Ok(same && !*ends),
+        Ok(tree) => Ok(ends && tree.write()?.as_slice() == BLANK),
+        Err(_) => Ok(!ends),
     }
 }
 
+/// Whether the acts of a row make its events, and lead to its end.
+fn holds(alloc: Global, row: &Row) -> Result<bool, NoMemory> {
+    let (_, steps, packets, ends) = row;
+    let acts = acts(alloc, steps)?;
+    let (events, core) = run_script(Tree::blank(alloc)?, acts.as_slice())?;
+    let ended = ends_so(core, *ends);
+    Ok(are_events(alloc, events, packets)? && ended?)
+}
+
 #[test]
-fn scripts(rt: HostRuntime) -> Result<(), Fail> {
+fn events_of_scripts(rt: HostRuntime) -> Result<(), Fail> {
     for row in SCRIPTS {
         assert!(rt; holds(rt.alloc(), row)?, "{}", row.0);
     }

@@ -5,7 +5,8 @@ use Rattle.sftp_server.proofs.queue.find_done.Given as goal
 
 abbrev pub invariant-scan : goal.invariant-scan
 invariant-scan l =
-    (done_position l.entries.items l.number ≡ option_map (λ n. l.k + n) (done_position (drop l.k l.entries.items) l.left))
+    (done_position l.entries.items l.number ≡ option_map (λ n. l.k + n) (done_position
+    (drop l.k l.entries.items) l.left))
     × (l.k ≤ length l.entries.items)
 
 abbrev pub decreases-scan : goal.decreases-scan

@@ -6,6 +6,7 @@ use Rattle.sftp_server.proofs.scripts.run_script.Given as goal
 
 abbrev pub invariant-acts : goal.invariant-acts
 invariant-acts l = record {
-  steps : AreActs Allowed server_clash (at_start (started l.fn.tree) 1024) (take l.act-index l.acts) l.events.items l.core;
+  steps : AreActs Allowed server_clash (at_start (started l.fn.tree) 1024)
+      (take l.act-index l.acts) l.events.items l.core;
   values : AreDeliverable (take l.act-index l.acts);
 }

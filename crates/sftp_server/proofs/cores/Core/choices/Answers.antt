@@ -18,7 +18,8 @@ returns-in-Some-clause-count c =
     let machine : Machine State = record { state = old.session; window = old.window; queue = old.queue } in
     let split = c.first_pending.ensures.split in
     subst (λ (m : Machine State). c.done.result + 1 ≡ length (choices_of server_clash m)) c.self.view_is
-    (ap (λ (n : ℕ). n + 1) c.done.ensures ∙ count-some machine split.0 c.in-Some.field-0 split.1 (sym c.first_pending.ensures.first ∙ c.in-Some.is))
+    (ap (λ (n : ℕ). n + 1) c.done.ensures ∙ count-some machine split.0 c.in-Some.field-0 split.1
+    (sym c.first_pending.ensures.first ∙ c.in-Some.is))
 
 pub returns-in-None-clause-count : goal.returns-in-None-clause-count
 returns-in-None-clause-count c =

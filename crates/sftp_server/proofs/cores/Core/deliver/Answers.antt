@@ -8,5 +8,7 @@ use Rattle.sftp_server.proofs.cores.Core.deliver.Goals as goal
 pub invariant_of-self : goal.invariant_of-self
 invariant_of-self c =
     let old = c.self.inside in
-    let full = subst (λ (m : Machine State). m.window ≤ length m.queue → c.refusal.result ≡ Some Full) (sym c.self.view_is) c.refusal.ensures.full.1 in
-    core-pushed old.window old.queue c.push.new.self c.args.request c.refusal.result c.push.result c.self.invariant full c.in-None.is c.push.ensures.pushed c.push.ensures.err
+    let full = subst (λ (m : Machine State). m.window ≤ length m.queue → c.refusal.result ≡ Some Full)
+    (sym c.self.view_is) c.refusal.ensures.full.1 in
+    core-pushed old.window old.queue c.push.new.self c.args.request c.refusal.result c.push.result c.self.invariant
+    full c.in-None.is c.push.ensures.pushed c.push.ensures.err

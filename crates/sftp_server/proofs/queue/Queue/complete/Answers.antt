@@ -17,21 +17,27 @@ invariant_of-self c =
     let old = c.self.inside in
     let entry = c.in-Some.entry.now in
     let some = c.in-Some.ensures.variant.0 refl in
-    let at = slice_get_read old.entries.items old.entries.len old.first_pending entry old.entries.ok.0 some c.in-Some.ensures.value in
+    let at = slice_get_read old.entries.items old.entries.len old.first_pending entry old.entries.ok.0 some
+    c.in-Some.ensures.value in
     rw (stored old.entries.items old.first_pending entry (Done c.args.reply) at)
-    (queue-done old.entries.items old.ids.entries old.first_pending old.done (old.first_pending + 1) (old.done + 1) c.args.reply c.self.invariant (omega (arith, some, old.entries.ok.0)) (omega arith) (omega arith))
+    (queue-done old.entries.items old.ids.entries old.first_pending old.done (old.first_pending + 1)
+    (old.done + 1) c.args.reply c.self.invariant (omega (arith, some, old.entries.ok.0)) (omega arith)
+    (omega arith))
 
 pub returns-in-Some : goal.returns-in-Some
 returns-in-Some c = λ k is.
     let old = c.self.inside in
     let entry = c.in-Some.entry.now in
     let some = c.in-Some.ensures.variant.0 refl in
-    let at = slice_get_read old.entries.items old.entries.len old.first_pending entry old.entries.ok.0 some c.in-Some.ensures.value in
-    let first = first_some old.first_pending old.entries.items c.self.invariant.split (omega (arith, some, old.entries.ok.0)) in
+    let at = slice_get_read old.entries.items old.entries.len old.first_pending entry old.entries.ok.0 some
+    c.in-Some.ensures.value in
+    let first = first_some old.first_pending old.entries.items c.self.invariant.split (omega
+    (arith, some, old.entries.ok.0)) in
     let same = same_Some k old.first_pending (sym is ∙ rw (← c.self.view_is) first) in
     rw (same, ← c.self.view_is) (stored old.entries.items old.first_pending entry (Done c.args.reply) at)
 
 pub returns-in_default : goal.returns-in_default
 returns-in_default c = absurd (
     let old = c.self.inside in
-    c.requires (rw (← c.self.view_is) (first_none old.first_pending old.entries.items c.self.invariant.split (ltb-false old.first_pending _ (sym c.in_default.ensures.item.0)))))
+    c.requires (rw (← c.self.view_is) (first_none old.first_pending old.entries.items c.self.invariant.split
+    (ltb-false old.first_pending _ (sym c.in_default.ensures.item.0)))))

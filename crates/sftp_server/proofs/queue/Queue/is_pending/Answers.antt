@@ -6,9 +6,20 @@ use Rattle.sftp_server.proofs.queue.Queue.is_pending.Goals as goal
 pub returns-then-self-k : goal.returns-then-self-k
 returns-then-self-k c =
     let old = c.self.inside in
-    rw (← c.self.view_is, pending_at old.first_pending old.entries.items c.args.k c.self.invariant.split, le-leb old.first_pending c.args.k c.if-self-k.true, c.len.ensures) (ap (λ (n : ℕ). nat_lt c.args.k n) old.entries.ok.0)
+    rw (
+      ← c.self.view_is,
+      pending_at old.first_pending old.entries.items c.args.k c.self.invariant.split,
+      le-leb
+          old.first_pending c.args.k c.if-self-k.true,
+      c.len.ensures,
+    ) (ap (λ (n : ℕ). nat_lt c.args.k n) old.entries.ok.0)
 
 pub returns-else-self-k : goal.returns-else-self-k
 returns-else-self-k c =
     let old = c.self.inside in
-    rw (← c.self.view_is, pending_at old.first_pending old.entries.items c.args.k c.self.invariant.split, lt-leb old.first_pending c.args.k c.if-self-k.false) refl
+    rw (
+      ← c.self.view_is,
+      pending_at old.first_pending old.entries.items c.args.k c.self.invariant.split,
+      lt-leb
+          old.first_pending c.args.k c.if-self-k.false,
+    ) refl

@@ -8,6 +8,8 @@ invariant_of-self-in-Ok c =
     let old = c.self.inside in
     let noted : (id : ℕ) → is_some (lookup (nat_eq id) c.insert.new.self.entries)
     ≡ (nat_eq c.args.request.id id || is_some (lookup (nat_eq id) old.ids.entries)) =
-    λ id. ap is_some (c.in-Ok.ensures.updates.0 id) ∙ some_or (nat_eq c.args.request.id id) (lookup (nat_eq id) old.ids.entries) in
+    λ id. ap is_some (c.in-Ok.ensures.updates.0 id) ∙ some_or (nat_eq c.args.request.id id) (lookup
+    (nat_eq id) old.ids.entries) in
     rw (c.push_back_reserved.ensures.items, c.reserve.ensures.items)
-    (queue-pushed old.entries.items old.ids.entries c.insert.new.self.entries old.first_pending old.done c.args.request c.self.invariant (rw c.self.view_is c.requires) noted)
+    (queue-pushed old.entries.items old.ids.entries c.insert.new.self.entries old.first_pending old.done
+    c.args.request c.self.invariant (rw c.self.view_is c.requires) noted)
