@@ -1,6 +1,6 @@
 //! Tests of the public calls of all libraries of this repository, in modules by crate; those of `sftp_handles` are in
 //! `handles`, `answers` and `agreement`. A crate with tests is proved twice, so they are here, and the libraries have
-//! none.
+//! none. The law of `audited` stands on the server and on the auditor, and so is here too.
 //!
 //! A test goes over a table of cases, each with what it has to give, worked out by hand. The assertion names the
 //! case that fails.
@@ -12,6 +12,7 @@ mod agreement;
 mod answers;
 #[cfg(test)]
 mod audit;
+pub mod audited;
 #[cfg(test)]
 mod client;
 #[cfg(test)]
