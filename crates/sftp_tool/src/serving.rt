@@ -1,5 +1,6 @@
 //! The subcommand `serve`: the session of one client over a pair of streams.
 ghost use Rattle.std.specs.Prelude.{◌≡◌, IfOk};
+ghost use Rattle.sftp_server.specs.Sessions.{IsUnused};
 ghost use Rattle.sftp_tool.specs.declared.messages.Ending.TheVariants as endings;
 
 use crate::command_line::ServeOptions;
@@ -41,7 +42,9 @@ fn read_tree<'a, R: Files + AllocGlobal>(rt: &R, name: &'a str) -> Result<Tree, 
 fn new_log<'a, R: Files + AllocGlobal>(
     rt: &R,
     name: Option<&'a str>,
-) -> Result<Writer<Tally<Recording<R::File>>>, Failure<'a>> {
+) -> Result<Writer<Tally<Recording<R::File>>>, Failure<'a>>
+    ensures { IfOk result IsUnused }
+{
     let recording = Recording::new(rt, name)?;
     Ok(Writer::new(rt.alloc(), Tally::new(recording))?)
 }
@@ -53,7 +56,9 @@ fn session<L: Write + Drop, I: Read, O: Write>(
     mut order: Order,
     input: &mut I,
     output: &mut O,
-) -> Ended {
+) -> Ended
+    requires { IsUnused log }
+{
     let mut reader = Tally::new(input);
     let mut writer = Tally::new(output);
     sftp_server::serve(tree, &mut reader, &mut writer, &mut log, &mut order)
