@@ -53,15 +53,14 @@ fn is_accepted(alloc: Global, outcome: &Outcome, requests: u64) -> bool {
 /// Whether the first 1,024 records behind the greeting are the client's STATs, of 15 bytes each, and the next one is the
 /// server's.
 fn has_full_window(logged: &[u8]) -> bool {
-    let Some(records) = logged.get(116..) else {
-        return false;
-    };
-    for number in 0..1024 {
-        if records.get(15 * number) != Some(&b'C') {
+    let mut rest = logged.get(116..).unwrap_or(&[]);
+    for _ in 0..1024 {
+        if rest.first() != Some(&b'C') {
             return false;
         }
+        rest = rest.get(15..).unwrap_or(&[]);
     }
-    records.get(15 * 1024) == Some(&b'S')
+    rest.first() == Some(&b'S')
 }
 
 #[test]
