@@ -50,7 +50,7 @@ fn is_accepted(alloc: Global, outcome: &Outcome, requests: u64) -> bool {
     accepted_requests(alloc, outcome) == Some(requests)
 }
 
-/// Whether the first 1,024 records behind the greeting are the client's STATs, of 15 bytes each, and the next one is the
+/// Whether the first 1,024 records behind the greeting are the client's, of 15 bytes each, and the next one is the
 /// server's.
 fn has_full_window(logged: &[u8]) -> bool {
     let mut rest = logged.get(116..).unwrap_or(&[]);
