@@ -93,9 +93,11 @@ fn fault_is_behind_a_full_window(rt: HostRuntime) -> Result<(), Fail> {
 fn pairs(alloc: Global, count: u32) -> Result<Vec<u8>, Fail> {
     let mut input = Vec::new(alloc);
     input.extend_from_slice(INIT)?;
+    let mut id: u32 = 0;
     for number in 0..count {
-        push_mkdir(&mut input, 2 * number, number)?;
-        push_stat(&mut input, 2 * number + 1)?;
+        push_mkdir(&mut input, id, number)?;
+        push_stat(&mut input, id.wrapping_add(1))?;
+        id = id.wrapping_add(2);
     }
     Ok(input)
 }
