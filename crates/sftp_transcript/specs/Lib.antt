@@ -11,3 +11,5 @@ pub mod Log
 pub mod Ahead
 pub mod Steps
 pub mod Recorded
+pub mod Sound
+pub mod Begun

@@ -1,6 +1,6 @@
 //! A transcript file that is read record by record from a source. This profile's own; the packets in it are those of
 //! the draft, section 4 on.
-ghost use Rattle.std.specs.Prelude.{◌≡◌, ◌<◌, ◌≤◌, List, ℕ, ⊤, [], Some, None, Ok, Err, OnOk, OnErr, IfOk, IfErr};
+ghost use Rattle.std.specs.Prelude.{◌≡◌, ◌⊎◌, ◌<◌, ◌≤◌, List, ℕ, ⊤, [], Some, None, Ok, Err, OnOk, OnErr, IfOk, IfErr};
 ghost use Rattle.std.specs.Prelude.{IfSome, MatchResult};
 ghost use Rattle.sftp_transcript.specs.declared.errors.TranscriptError.{TranscriptError};
 ghost use Rattle.sftp_transcript.specs.declared.events.Event.{Event};
@@ -9,6 +9,7 @@ ghost use Rattle.sftp_transcript.specs.Steps.{CountsError, IsExcuse};
 ghost use Rattle.sftp_transcript.specs.Refused.{FaultIn};
 ghost use Rattle.sftp_transcript.specs.Recorded.{Reading, IsKnown, Records, RecordsSame, Gave, Gives};
 ghost use Rattle.sftp_transcript.specs.Recorded.{rank, reported, number_after};
+ghost use Rattle.sftp_transcript.specs.Begun.{HasGiven, GaveFrom, FaultBehind};
 
 use crate::buffer::Buffer;
 use crate::errors::TranscriptError;
@@ -231,6 +232,10 @@ impl<R: Source> Reader<R> {
         // Unless memory runs out or the source fails, it returns the next event that is recorded.
         ensures only { (events : List Event) → self.old.fault ≡ None → Records self.old events
             → MatchResult result (λ given. Gives given events self.new) IsExcuse }
+        // Of known bytes it returns the event that is next, or the first fault.
+        ensures first { (bytes ahead : List ℕ) (events : List Event) → HasGiven bytes events ahead self.old
+            → MatchResult result (λ given. GaveFrom bytes events given self.new)
+            (λ error. IsExcuse error ⊎ FaultBehind bytes events error) }
         ensures known { IsKnown self.old → IsKnown self.new }
         // Where memory ran out, the same events are to come.
         ensures no_memory { result ≡ Err TranscriptError.NoMemory → RecordsSame self.old self.new }
