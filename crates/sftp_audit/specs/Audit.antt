@@ -1,5 +1,5 @@
 -- Which files an auditor accepts: those of a starting tree and of a recorded session that account for a run.
-use Rattle.std.specs.Prelude.{◌≡◌, ℕ, ◌^◌, ◌-◌, min, List, [], length}
+use Rattle.std.specs.Prelude.{◌≡◌, ◌⊎◌, ⊤, ℕ, ◌^◌, ◌-◌, min, List, [], ◌∷◌, ◌++◌, length}
 use Rattle.sftp_transcript.specs.declared.events.Event.{Event}
 use Rattle.sftp_treefile.specs.declared.errors.TreeError.{TreeError}
 use Rattle.sftp_treefile.specs.declared.errors.TreeError.TheVariants as tree_errors
@@ -15,6 +15,12 @@ use Rattle.sftp_handles.specs.State.{State, settled}
 use Rattle.sftp_handles.specs.Allowed.{Allowed}
 use Rattle.sftp_transcript.specs.Transcript.{IsRecord}
 use Rattle.sftp_transcript.specs.Explained.{Explained, exchanges_of}
+use Rattle.sftp_transcript.specs.Sound.{Sound}
+use Rattle.sftp_transcript.specs.Streams.{one_more}
+use Rattle.sftp_transcript.specs.Begun.{BeginsRecord, FaultBehind, HasGiven}
+use Rattle.sftp_transcript.specs.Recorded.{Reading}
+use Rattle.sftp_transcript.specs.declared.stage.Stage.TheVariants as stages
+use Rattle.sftp_audit.specs.Auditor.{Refuses, LacksReply}
 
 -- the state in which a session begins on a tree: nothing is open
 abbrev pub started : Tree → State
@@ -50,13 +56,56 @@ error_of_session refusal = audit_errors.Refused refusal
 abbrev pub HasStart : List ℕ → Type 0
 HasStart tree = (start : Tree) × IsStart start tree
 
--- the reason for an error of an audit: no tree; a tree but no events; or, where the session was refused, a tree
-abbrev pub IsReason : List ℕ → List ℕ → AuditError → Type 0
-IsReason tree transcript (audit_errors.Tree error) = HasStart tree → ⊥
-IsReason tree transcript (audit_errors.Transcript error) =
-    HasStart tree × ((events : List Event) → IsRecord events transcript → ⊥)
-IsReason tree transcript (audit_errors.Refused refusal) = HasStart tree
-IsReason tree transcript audit_errors.NoMemory = Unit {0}
+-- an event is refused behind events that are sound: the file records them, then this one, and then whatever it may
+pub record RefusedAt (start : State) (transcript : List ℕ) (refusal : Refusal) : Type 0 where
+  pub events : List Event
+  pub event : Event
+  pub rest : List ℕ
+  pub begins : BeginsRecord (events ++ event ∷ []) transcript rest
+  pub end : State
+  pub sound : Sound Allowed start events end
+  pub refuses : Refuses start events event refusal
+
+-- the events of the whole file are sound, but one request has no reply
+pub record RefusedAtEnd (start : State) (transcript : List ℕ) (refusal : Refusal) : Type 0 where
+  pub events : List Event
+  pub recorded : IsRecord events transcript
+  pub end : State
+  pub sound : Sound Allowed start events end
+  pub lacks : LacksReply events refusal
+
+-- the file has a fault behind events that are sound
+pub record FaultAt (start : State) (transcript : List ℕ) (error : TranscriptError) : Type 0 where
+  pub events : List Event
+  pub end : State
+  pub sound : Sound Allowed start events end
+  pub fault : FaultBehind transcript events error
+
+-- What an audit meets first: the bytes are no tree; or, record by record, the fault of a record or the refusal of its
+-- event; or, at the end, a request without a reply.
+abbrev pub IsFirstFault : List ℕ → List ℕ → AuditError → Type 0
+IsFirstFault tree transcript (audit_errors.Tree error) = HasStart tree → ⊥
+IsFirstFault tree transcript (audit_errors.Transcript error) =
+    (start : Tree) × IsStart start tree × FaultAt (started start) transcript error
+IsFirstFault tree transcript (audit_errors.Refused refusal) =
+    (start : Tree) × IsStart start tree
+    × (RefusedAt (started start) transcript refusal ⊎ RefusedAtEnd (started start) transcript refusal)
+IsFirstFault tree transcript audit_errors.NoMemory = ⊤
+
+-- memory ran out, or the source failed
+abbrev pub IsNoJudgement : AuditError → Type 0
+IsNoJudgement audit_errors.NoMemory = ⊤
+IsNoJudgement (audit_errors.Transcript (transcript_errors.Io number)) = ⊤
+IsNoJudgement other = ⊥
+
+-- the source failed, and its failures rose by one
+abbrev pub CountsFailure : AuditError → ℕ → ℕ → Type 0
+CountsFailure (audit_errors.Transcript (transcript_errors.Io number)) old new = new ≡ one_more old
+CountsFailure other old new = new ≡ old
+
+-- a reader that has read nothing yet of these bytes
+abbrev pub IsNew : List ℕ → Reading → Type 0
+IsNew bytes s = HasGiven bytes [] bytes s × (s.stage ≡ stages.Opening)
 
 -- no other error has `NoMemory` inside
 abbrev pub IsPlain : AuditError → Type 0

@@ -73,3 +73,14 @@ IsOldestOpen events number =
 abbrev pub LacksReply : List Event → Refusal → Type 0
 LacksReply events (refusals.Unanswered number) = IsOldestOpen events number
 LacksReply events other = ⊥
+
+-- why settling stops before a request without a reply
+abbrev pub RefusesToSettle : State → List Exchange → Refusal → Type 0
+RefusesToSettle start exchanges (refusals.NotAllowed number) = IsFirstWrong start exchanges number
+RefusesToSettle start exchanges refusals.NoMemory = ⊤
+RefusesToSettle start exchanges other = ⊥
+
+-- the events are sound from the start, and this is kept of them; the number is still that of the last event's record
+pub record IsNoted (start : State) (events : List Event) (a : Audited) : Type 0 where
+  pub sound : Sound Allowed start events a.state
+  pub kept : a.kept ≡ unsettled (recorded_exchanges events)
