@@ -1,10 +1,10 @@
 -- How the index of the requests that wait follows the exchanges that are kept.
 use Rattle.std.proofs.Common.{◌≡◌, ◌==◌, ◌&&◌, ◌||◌, not, nat_eq, ℕ, zero, suc, ◌+◌, ◌%◌, ◌^◌, ◌<◌, ◌≤◌, ◌⊎◌, Bool, true, false}
-use Rattle.std.proofs.Common.{cond, List, [], ◌∷◌, ◌++◌, Option, Some, None, is_some, map, length, set, drop, slice_get}
+use Rattle.std.proofs.Common.{cond, List, [], ◌∷◌, ◌++◌, Option, Some, None, is_some, length, set, drop, slice_get}
 use Rattle.std.proofs.Common.{refl, sym, ap, ◌∙◌, subst, arith, inl, inr}
 use Rattle.std.specs.Map.{lookup}
 use Rattle.std.specs.Option.{option_map}
-use Rattle.std.proofs.lemmas.Bool.{or_parts, or_right, or_left, eqb-true, eqb-false, eq-eqb, ne_eqb, cases_Bool, cases_lt, true≢false}
+use Rattle.std.proofs.lemmas.Bool.{or_parts, or_right, eqb-true, eqb-false, eq-eqb, ne_eqb, cases_Bool, cases_lt, true≢false}
 use Rattle.std.proofs.lemmas.List.{length-append, length-map, map-append}
 use Rattle.std.proofs.lemmas.Option.{none-some, same_Some, slice_get-map, slice_get_within}
 use Rattle.sftp_wire.specs.declared.packets.Request.{Request}
