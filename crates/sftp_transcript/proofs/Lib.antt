@@ -3,5 +3,8 @@ pub mod transcripts
 pub mod Putting
 pub mod Buffers
 pub mod Inputs
+pub mod Fronts
 pub mod Taking
+pub mod Faults
 pub mod Recorded
+pub mod Begun

@@ -10,7 +10,7 @@ use Rattle.sftp_transcript.specs.declared.stage.Stage.TheVariants as stages
 use Rattle.sftp_transcript.specs.Records.{BeginsInit}
 use Rattle.sftp_transcript.specs.Recorded.{Reading}
 use Rattle.sftp_transcript.specs.Refused.{InitFault, VersionFault, EventFault}
-use Rattle.sftp_transcript.specs.Steps.{HasAhead}
+use Rattle.sftp_transcript.specs.Steps.{HasAhead, IsExcuse}
 use Rattle.sftp_transcript.specs.Streams.{largest_count}
 use Rattle.sftp_transcript.specs.Transcript.{transcript_opening, event_record, IsEvent, IsHandshake}
 
@@ -66,6 +66,14 @@ pub record FaultBehind (bytes : List ℕ) (events : List Event) (error : Transcr
   pub read : ReadUpTo stage bytes events ahead
   pub fault : FaultAhead stage (number_behind events) ahead error
 
+-- the reader has given these events of the bytes
+abbrev pub HasGivenOf : List ℕ → List Event → Reading → Type 0
+HasGivenOf bytes events s = (ahead : List ℕ) × HasGiven bytes events ahead s
+
+-- the first fault of the bytes comes behind these events, unless memory ran out or the source failed
+abbrev pub FaultOf : List ℕ → List Event → TranscriptError → Type 0
+FaultOf bytes events error = IsExcuse error ⊎ FaultBehind bytes events error
+
 -- the events with one that is given, if any
 abbrev pub with_given : List Event → Option Event → List Event
 with_given events None = events
@@ -73,5 +81,5 @@ with_given events (Some event) = events ++ event ∷ []
 
 -- the reader gave the event, or none and nothing is ahead
 abbrev pub GaveFrom : List ℕ → List Event → Option Event → Reading → Type 0
-GaveFrom bytes events (Some event) new = (ahead : List ℕ) × HasGiven bytes (events ++ event ∷ []) ahead new
+GaveFrom bytes events (Some event) new = HasGivenOf bytes (events ++ event ∷ []) new
 GaveFrom bytes events None new = HasGiven bytes events [] new × (new.stage ≡ stages.Events)

@@ -19,14 +19,15 @@ PacketFault number side bytes (Wire fault place) = (place ≡ number) × (front_
 PacketFault number side bytes NoMemory = ⊤
 PacketFault number side bytes other = ⊥
 
+-- the same behind any byte, which names a side or none
+abbrev pub DirectedFault : ℕ → Option Side → List ℕ → TranscriptError → Type 0
+DirectedFault number None bytes error = error ≡ Direction number
+DirectedFault number (Some side) bytes error = PacketFault number side bytes error
+
 -- why the bytes begin with no record
 abbrev pub RecordFault : ℕ → List ℕ → TranscriptError → Type 0
 RecordFault number [] error = error ≡ Start number
-RecordFault number (direction ∷ bytes) error = directed_fault number (side_of_direction direction) bytes error
-  where
-    directed_fault : ℕ → Option Side → List ℕ → TranscriptError → Type 0
-    directed_fault number None bytes error = error ≡ Direction number
-    directed_fault number (Some side) bytes error = PacketFault number side bytes error
+RecordFault number (direction ∷ bytes) error = DirectedFault number (side_of_direction direction) bytes error
 
 -- the bytes begin with the record of a packet that is none of these
 pub record BeginsOther (P : Packet → Type 0) (bytes : List ℕ) : Type 0 where

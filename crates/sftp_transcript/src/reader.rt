@@ -1,6 +1,6 @@
 //! A transcript file that is read record by record from a source. This profile's own; the packets in it are those of
 //! the draft, section 4 on.
-ghost use Rattle.std.specs.Prelude.{◌≡◌, ◌⊎◌, ◌<◌, ◌≤◌, List, ℕ, ⊤, [], Some, None, Ok, Err, OnOk, OnErr, IfOk, IfErr};
+ghost use Rattle.std.specs.Prelude.{◌≡◌, ◌≢◌, ◌<◌, ◌≤◌, List, ℕ, ⊤, [], Some, None, Ok, Err, OnOk, OnErr, IfOk, IfErr};
 ghost use Rattle.std.specs.Prelude.{IfSome, MatchResult};
 ghost use Rattle.sftp_transcript.specs.declared.errors.TranscriptError.{TranscriptError};
 ghost use Rattle.sftp_transcript.specs.declared.events.Event.{Event};
@@ -9,7 +9,7 @@ ghost use Rattle.sftp_transcript.specs.Steps.{CountsError, IsExcuse};
 ghost use Rattle.sftp_transcript.specs.Refused.{FaultIn};
 ghost use Rattle.sftp_transcript.specs.Recorded.{Reading, IsKnown, Records, RecordsSame, Gave, Gives};
 ghost use Rattle.sftp_transcript.specs.Recorded.{rank, reported, number_after};
-ghost use Rattle.sftp_transcript.specs.Begun.{HasGiven, GaveFrom, FaultBehind};
+ghost use Rattle.sftp_transcript.specs.Begun.{HasGiven, HasGivenOf, GaveFrom, FaultOf};
 
 use crate::buffer::Buffer;
 use crate::errors::TranscriptError;
@@ -91,6 +91,8 @@ impl<R: Source> Reader<R> {
         ensures only { (events : List Event) → Records self.old events → MatchResult result (λ _. ⊤) IsExcuse }
         ensures next { OnOk result (1 ≤ rank self.new.stage) }
         ensures refused { IfErr result (FaultIn self.new.stage self.new.number self.new.ahead.held) }
+        ensures first { (bytes ahead : List ℕ) (events : List Event) → HasGiven bytes events ahead self.old
+            → MatchResult result (λ _. HasGivenOf bytes events self.new) (FaultOf bytes events) }
         ensures counts { CountsError R.may_fail result self.old.ahead.failures self.new.ahead.failures }
     {
         match self.stage {
@@ -112,6 +114,8 @@ impl<R: Source> Reader<R> {
         ensures only { (events : List Event) → Records self.old events → MatchResult result (λ _. ⊤) IsExcuse }
         ensures next { OnOk result (2 ≤ rank self.new.stage) }
         ensures refused { IfErr result (FaultIn self.new.stage self.new.number self.new.ahead.held) }
+        ensures first { (bytes ahead : List ℕ) (events : List Event) → HasGiven bytes events ahead self.old
+            → MatchResult result (λ _. HasGivenOf bytes events self.new) (FaultOf bytes events) }
         ensures counts { CountsError R.may_fail result self.old.ahead.failures self.new.ahead.failures }
     {
         match self.stage {
@@ -133,6 +137,8 @@ impl<R: Source> Reader<R> {
         ensures only { (events : List Event) → Records self.old events → MatchResult result (λ _. ⊤) IsExcuse }
         ensures next { OnOk result (self.new.stage ≡ Stage.Events) }
         ensures refused { IfErr result (FaultIn self.new.stage self.new.number self.new.ahead.held) }
+        ensures first { (bytes ahead : List ℕ) (events : List Event) → HasGiven bytes events ahead self.old
+            → MatchResult result (λ _. HasGivenOf bytes events self.new) (FaultOf bytes events) }
         ensures counts { CountsError R.may_fail result self.old.ahead.failures self.new.ahead.failures }
     {
         match self.stage {
@@ -153,6 +159,8 @@ impl<R: Source> Reader<R> {
         ensures only { (events : List Event) → Records self.old events → MatchResult result (λ _. ⊤) IsExcuse }
         ensures next { OnOk result (self.new.stage ≡ Stage.Events) }
         ensures refused { IfErr result (FaultIn self.new.stage self.new.number self.new.ahead.held) }
+        ensures first { (bytes ahead : List ℕ) (events : List Event) → HasGiven bytes events ahead self.old
+            → MatchResult result (λ _. HasGivenOf bytes events self.new) (FaultOf bytes events) }
         ensures counts { CountsError R.may_fail result self.old.ahead.failures self.new.ahead.failures }
     {
         self.take_opening()?;
@@ -174,6 +182,8 @@ impl<R: Source> Reader<R> {
         ensures falls { IfOk result (λ given. IfSome given (λ _. size_of self.new.ahead < size_of self.old.ahead)) }
         ensures never_rises { size_of self.new.ahead ≤ size_of self.old.ahead }
         ensures refused { IfErr result (FaultIn self.new.stage self.new.number self.new.ahead.held) }
+        ensures first { (bytes ahead : List ℕ) (events : List Event) → HasGiven bytes events ahead self.old
+            → MatchResult result (λ given. GaveFrom bytes events given self.new) (FaultOf bytes events) }
         ensures counts { CountsError R.may_fail result self.old.ahead.failures self.new.ahead.failures }
     {
         let given = pass_event(self.alloc, &mut self.input, self.number)?;
@@ -192,6 +202,8 @@ impl<R: Source> Reader<R> {
         ensures number { IfOk result (λ given. self.new.number ≡ number_after self.old.number given) }
         ensures falls { IfOk result (λ given. IfSome given (λ _. size_of self.new.ahead < size_of self.old.ahead)) }
         ensures refused { IfErr result (FaultIn self.new.stage self.new.number self.new.ahead.held) }
+        ensures first { (bytes ahead : List ℕ) (events : List Event) → HasGiven bytes events ahead self.old
+            → MatchResult result (λ given. GaveFrom bytes events given self.new) (FaultOf bytes events) }
         ensures counts { CountsError R.may_fail result self.old.ahead.failures self.new.ahead.failures }
     {
         self.take_start()?;
@@ -234,12 +246,13 @@ impl<R: Source> Reader<R> {
             → MatchResult result (λ given. Gives given events self.new) IsExcuse }
         // Of known bytes it returns the event that is next, or the first fault.
         ensures first { (bytes ahead : List ℕ) (events : List Event) → HasGiven bytes events ahead self.old
-            → MatchResult result (λ given. GaveFrom bytes events given self.new)
-            (λ error. IsExcuse error ⊎ FaultBehind bytes events error) }
+            → MatchResult result (λ given. GaveFrom bytes events given self.new) (FaultOf bytes events) }
         ensures known { IsKnown self.old → IsKnown self.new }
         // Where memory ran out, the same events are to come.
         ensures no_memory { result ≡ Err TranscriptError.NoMemory → RecordsSame self.old self.new }
         ensures fault { OnOk result (self.new.fault ≡ None) }
+        // An error is for good, unless memory ran out.
+        ensures stays { IfErr result (λ error. error ≢ TranscriptError.NoMemory → self.new.fault ≡ Some error) }
         ensures number { IfOk result (λ given. self.new.number ≡ number_after self.old.number given) }
         // An error is of the record in hand.
         ensures refused { self.old.fault ≡ None

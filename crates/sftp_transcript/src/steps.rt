@@ -1,8 +1,9 @@
 //! What a reader of a transcript file takes from its input: the opening, the first two records, and each later one.
-ghost use Rattle.std.specs.Prelude.{◌≡◌, ◌<◌, ◌≤◌, List, ℕ, [], Some, None, OnOk, OnErr, IfOk, IfErr};
+ghost use Rattle.std.specs.Prelude.{◌≡◌, ◌⊎◌, ◌<◌, ◌≤◌, List, ℕ, [], Some, None, OnOk, OnErr, IfOk, IfErr};
 ghost use Rattle.std.specs.Prelude.{IfSome, MatchResult};
 ghost use Rattle.sftp_transcript.specs.declared.events.Event.{Event};
 ghost use Rattle.sftp_transcript.specs.Ahead.{IsSameAhead, size_of};
+ghost use Rattle.sftp_transcript.specs.Begun.{FaultAhead};
 ghost use Rattle.sftp_transcript.specs.Records.{BeginsInit, BeginsVersion};
 ghost use Rattle.sftp_transcript.specs.Refused.{FaultIn};
 ghost use Rattle.sftp_transcript.specs.Steps.{HasAhead, IsExcuse, CountsError, IsOpened, Took, BeginsEvent, TookEvent};
@@ -23,6 +24,8 @@ pub(crate) fn pass_opening<R: Source>(input: &mut Input<R>) -> Result<(), Transc
     ensures same { OnErr result (IsSameAhead input.old input.new) }
     ensures never_rises { size_of input.new ≤ size_of input.old }
     ensures refused { IfErr result (FaultIn Stage.Opening 0 input.new.held) }
+    ensures first { (before : List ℕ) → HasAhead input.old before
+        → IfErr result (λ error. IsExcuse error ⊎ FaultAhead Stage.Opening 0 before error) }
     ensures counts { CountsError R.may_fail result input.old.failures input.new.failures }
 {
     input.fill_opening()?;
@@ -42,6 +45,8 @@ pub(crate) fn pass_init<R: Source>(
     ensures same { OnErr result (IsSameAhead input.old input.new) }
     ensures never_rises { size_of input.new ≤ size_of input.old }
     ensures refused { IfErr result (FaultIn Stage.Init 0 input.new.held) }
+    ensures first { (before : List ℕ) → HasAhead input.old before
+        → IfErr result (λ error. IsExcuse error ⊎ FaultAhead Stage.Init 0 before error) }
     ensures counts { CountsError R.may_fail result input.old.failures input.new.failures }
 {
     input.fill_record(1)?;
@@ -61,6 +66,8 @@ pub(crate) fn pass_version<R: Source>(
     ensures same { OnErr result (IsSameAhead input.old input.new) }
     ensures never_rises { size_of input.new ≤ size_of input.old }
     ensures refused { IfErr result (FaultIn Stage.Version 0 input.new.held) }
+    ensures first { (before : List ℕ) → HasAhead input.old before
+        → IfErr result (λ error. IsExcuse error ⊎ FaultAhead Stage.Version 0 before error) }
     ensures counts { CountsError R.may_fail result input.old.failures input.new.failures }
 {
     input.fill_record(2)?;
@@ -84,6 +91,8 @@ pub(crate) fn pass_event<R: Source>(
     ensures never_rises { size_of input.new ≤ size_of input.old }
     ensures falls { IfOk result (λ given. IfSome given (λ _. size_of input.new < size_of input.old)) }
     ensures refused { IfErr result (FaultIn Stage.Events number input.new.held) }
+    ensures first { (before : List ℕ) → HasAhead input.old before
+        → IfErr result (λ error. IsExcuse error ⊎ FaultAhead Stage.Events number before error) }
     ensures counts { CountsError R.may_fail result input.old.failures input.new.failures }
 {
     input.fill_record(number)?;
