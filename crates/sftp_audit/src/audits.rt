@@ -1,11 +1,12 @@
 //! Audits, from bytes to bytes.
-ghost use Rattle.std.specs.Prelude.{◌≡◌, ◌≢◌, ⊤, ℕ, [], List, OnOk, IfOk, IfErr, MatchResult};
+ghost use Rattle.std.specs.Prelude.{◌≡◌, ◌≢◌, ℕ, [], List, None, false, IfOk, IfErr, MatchResult};
 ghost use Rattle.sftp_audit.specs.declared.errors.AuditError.TheVariants.{NoMemory};
 ghost use Rattle.sftp_tree.specs.Tree as values;
 ghost use Rattle.sftp_tree.specs.Picture.{picture};
-ghost use Rattle.sftp_transcript.specs.declared.events.Event.{Event};
-ghost use Rattle.sftp_audit.specs.Audit.{Accounts, IsFirstFault, IsNoJudgement, CountsFailure, IsNew, IsPlain};
-ghost use Rattle.sftp_audit.specs.Audit.{request_count};
+ghost use Rattle.sftp_handles.specs.State.{State};
+ghost use Rattle.sftp_audit.specs.Auditor.{StandsFor};
+ghost use Rattle.sftp_audit.specs.Audit.{Accounts, IsFirstFault, IsNoJudgement, CountsFailure, IsExcusedBy, IsNew};
+ghost use Rattle.sftp_audit.specs.Audit.{IsPlain, WasFed, StopsFeed, request_count, is_request};
 
 use crate::auditor::Auditor;
 use crate::errors::AuditError;
@@ -53,6 +54,8 @@ pub fn audit(alloc: Global, tree: &[u8], transcript: &[u8]) -> Result<Accepted, 
         → Accounts tree.now transcript.now start events end → ⊥) }
     // The error is the first fault.
     ensures first { IfErr result (IsFirstFault tree.now transcript.now) }
+    // It is never `Io`, since bytes in memory can be read.
+    ensures never_fails { IfErr result (IsExcusedBy false) }
     ensures plain { IfErr result IsPlain }
 {
     let mut records = Reader::new(alloc, Memory::new(transcript))?;
@@ -98,6 +101,15 @@ pub fn audit_stream<R: Source>(
 ///
 /// The first of the refusals and of the faults.
 fn feed_all<R: Source>(auditor: &mut Auditor, records: &mut Reader<R>) -> Result<u64, AuditError>
+    // Of a reader that has read nothing yet, and an auditor that was fed nothing yet, from any start.
+    ensures fed { IfOk result (λ requests. (start : State) (transcript : List ℕ) → IsNew transcript records.old
+        → StandsFor start [] auditor.old → WasFed start transcript requests auditor.new) }
+    ensures stopped { IfErr result (λ e. (IsNoJudgement e → ⊥) → (start : State) (transcript : List ℕ)
+        → IsNew transcript records.old → StandsFor start [] auditor.old → StopsFeed start transcript e) }
+    ensures counts { records.old.fault ≡ None → MatchResult result (λ _. records.new.ahead.failures ≡ records.old.ahead.failures)
+        (λ e. CountsFailure e records.old.ahead.failures records.new.ahead.failures) }
+    ensures may_fail { records.old.fault ≡ None → IfErr result (IsExcusedBy R.may_fail) }
+    ensures plain { IfErr result IsPlain }
 {
     let mut requests: u64 = 0;
     'events: while let Some(event) = records.next()? {
@@ -109,6 +121,7 @@ fn feed_all<R: Source>(auditor: &mut Auditor, records: &mut Reader<R>) -> Result
 
 /// Whether the event is a request.
 fn is_request(event: &Event) -> bool
+    ensures { result ≡ is_request event.now }
 {
     match event {
         Event::Asked(_) => true,
