@@ -11,7 +11,7 @@ use Rattle.sftp_transcript.specs.declared.stage.Stage.TheVariants as stages
 use Rattle.sftp_transcript.specs.Ahead.{Ahead, HoldsOpening, CutsPacket, CutsAtEnd}
 use Rattle.sftp_transcript.specs.Begun.{FaultAhead}
 use Rattle.sftp_transcript.specs.Records.{side_of_direction, IsInit, IsVersion}
-use Rattle.sftp_transcript.specs.Refused.{PacketFault, DirectedFault, RecordFault, BeginsOther, IsEventPacket, InitFault, VersionFault, EventFault}
+use Rattle.sftp_transcript.specs.Refused.{PacketFault, DirectedFault, RecordFault, BeginsOther, KindFault, IsEventPacket, InitFault, VersionFault, EventFault}
 use Rattle.sftp_transcript.specs.Steps.{HasAhead, IsExcuse}
 use Rattle.sftp_transcript.specs.Transcript.{transcript_opening, record_text}
 use Rattle.sftp_transcript.proofs.Fronts.{fault_stays}
@@ -57,13 +57,9 @@ other_record P held more other = record {
   is_other = other.is_other;
 }
 
--- the bytes begin with no record, or with that of a packet that is none of these
-abbrev pub NotA : (Packet → Type 0) → ℕ → List ℕ → TranscriptError → Type 0
-NotA P number bytes error = RecordFault number bytes error ⊎ ((error ≡ Start number) × BeginsOther P bytes)
-
 not_a : (P : Packet → Type 0) (number : ℕ) (held more : List ℕ) (error : TranscriptError) → (held ≡ [] → more ≡ [])
-    → ((side : Side) → CutsPacket held side → more ≡ []) → NotA P number held error
-    → IsExcuse error ⊎ NotA P number (held ++ more) error
+    → ((side : Side) → CutsPacket held side → more ≡ []) → KindFault P number held error
+    → IsExcuse error ⊎ KindFault P number (held ++ more) error
 not_a P number held more error end part (inl fault) =
     elim (record_fault number held more error end part fault) [
       | inl excuse ↦ inl excuse
@@ -75,12 +71,12 @@ at_end : (left : Option (List ℕ)) (more : List ℕ) → left ≡ Some more →
 at_end left more e end = subst IsAtEnd e end
 
 pub fault_ahead : (P : Packet → Type 0) (number : ℕ) (m : Ahead) (before : List ℕ) (error : TranscriptError) → HasAhead m before
-    → (m.held ≡ [] → IsAtEnd m.left) → CutsAtEnd m → NotA P number m.held error
-    → IsExcuse error ⊎ NotA P number before error
+    → (m.held ≡ [] → IsAtEnd m.left) → CutsAtEnd m → KindFault P number m.held error
+    → IsExcuse error ⊎ KindFault P number before error
 fault_ahead P number m before error known end part fault =
     let p = ahead_parts m before known in
     let all = not_a P number m.held p.left error (λ none. at_end m.left p.left p.known (end none)) (λ side cut. at_end m.left p.left p.known (part side cut)) fault in
-    subst (λ (l : List ℕ). IsExcuse error ⊎ NotA P number l error) (sym p.bytes_are) all
+    subst (λ (l : List ℕ). IsExcuse error ⊎ KindFault P number l error) (sym p.bytes_are) all
 
 -- ---- what comes next is refused
 

@@ -8,3 +8,4 @@ pub mod Taking
 pub mod Faults
 pub mod Recorded
 pub mod Begun
+pub mod Packets

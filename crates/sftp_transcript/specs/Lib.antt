@@ -13,3 +13,4 @@ pub mod Steps
 pub mod Recorded
 pub mod Sound
 pub mod Begun
+pub mod Packets

@@ -40,18 +40,21 @@ pub record BeginsOther (P : Packet → Type 0) (bytes : List ℕ) : Type 0 where
 abbrev pub IsEventPacket : Packet → Type 0
 IsEventPacket packet = (event : Event) × (packet ≡ packet_of event)
 
+-- why the bytes do not begin with the record of one of these packets, the record of this number
+abbrev pub KindFault : (Packet → Type 0) → ℕ → List ℕ → TranscriptError → Type 0
+KindFault P number bytes error = RecordFault number bytes error ⊎ ((error ≡ Start number) × BeginsOther P bytes)
+
 -- why the bytes do not begin with an INIT, the first record
 abbrev pub InitFault : List ℕ → TranscriptError → Type 0
-InitFault bytes error = RecordFault 1 bytes error ⊎ ((error ≡ Start 1) × BeginsOther IsInit bytes)
+InitFault bytes error = KindFault IsInit 1 bytes error
 
 -- why the bytes do not begin with a VERSION, the second record
 abbrev pub VersionFault : List ℕ → TranscriptError → Type 0
-VersionFault bytes error = RecordFault 2 bytes error ⊎ ((error ≡ Start 2) × BeginsOther IsVersion bytes)
+VersionFault bytes error = KindFault IsVersion 2 bytes error
 
 -- why the bytes do not begin with an event, the record of this number
 abbrev pub EventFault : ℕ → List ℕ → TranscriptError → Type 0
-EventFault number bytes error =
-    RecordFault number bytes error ⊎ ((error ≡ Start number) × BeginsOther IsEventPacket bytes)
+EventFault number bytes error = KindFault IsEventPacket number bytes error
 
 -- Why what comes next is refused where these bytes are held, or what the source's failure is called there. The number
 -- is that of the next event's record.

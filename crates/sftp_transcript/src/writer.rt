@@ -71,7 +71,7 @@ fn put_record<L: Sink>(sink: &mut L, records: u64, side: Side, spelled: &[u8]) -
 }
 
 /// Who sends a packet.
-fn sender(packet: &Packet) -> Side
+pub(crate) fn sender(packet: &Packet) -> Side
     ensures { result ≡ side_of packet.now }
 {
     match packet {

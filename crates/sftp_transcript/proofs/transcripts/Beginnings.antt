@@ -18,9 +18,8 @@ use Rattle.sftp_transcript.specs.declared.stage.Stage.{Stage}
 use Rattle.sftp_transcript.specs.declared.stage.Stage.TheVariants as stages
 use Rattle.sftp_transcript.specs.Begun.{BeginsRecord, ReadUpTo, FaultAhead, FaultBehind, number_behind}
 use Rattle.sftp_transcript.specs.Records.{side_of_direction, Begins, IsInit, IsVersion}
-use Rattle.sftp_transcript.specs.Refused.{PacketFault, DirectedFault, RecordFault, IsEventPacket, EventFault}
+use Rattle.sftp_transcript.specs.Refused.{KindFault, PacketFault, DirectedFault, RecordFault, IsEventPacket, EventFault}
 use Rattle.sftp_transcript.specs.Transcript.{transcript_opening, direction_of, record_text, packet_of, event_record, IsEvent, AreRecords, IsHandshake, IsRecord}
-use Rattle.sftp_transcript.proofs.Faults.{NotA}
 use Rattle.sftp_transcript.proofs.transcripts.OneRecord.{Begins-one, event_from_packet}
 use Rattle.sftp_transcript.proofs.transcripts.Reading.{record_parts}
 
@@ -47,7 +46,7 @@ beginning_from_record events bytes is = record {
 
 -- ---- what begins the records begins each list of events
 
-begins_one : (bytes : List ℕ) (p q : Packet) (x y : List ℕ) → Begins bytes p x → Begins bytes q y → (p ≡ q) × (x ≡ y)
+pub begins_one : (bytes : List ℕ) (p q : Packet) (x y : List ℕ) → Begins bytes p x → Begins bytes q y → (p ≡ q) × (x ≡ y)
 begins_one bytes p q x y one other = Begins-one spellings-apart bytes p q x y one other
 
 -- the list goes on with events that the rest records
@@ -131,8 +130,8 @@ whole_record packet number bytes rest error apart begins fault =
     subst (λ (s : Option Side). DirectedFault number s behind error) (side_back (side_of packet)) at in
     whole_packet packet number rest error apart begins.spelled directed
 
-not_both : (P : Packet → Type 0) (packet : Packet) (number : ℕ) (bytes rest : List ℕ) (error : TranscriptError) → error ≢ NoMemory
-    → P packet → Begins bytes packet rest → NotA P number bytes error → ⊥
+pub not_both : (P : Packet → Type 0) (packet : Packet) (number : ℕ) (bytes rest : List ℕ) (error : TranscriptError) → error ≢ NoMemory
+    → P packet → Begins bytes packet rest → KindFault P number bytes error → ⊥
 not_both P packet number bytes rest error apart is begins (inl fault) = whole_record packet number bytes rest error apart begins fault
 not_both P packet number bytes rest error apart is begins (inr other) =
     let one = begins_one bytes packet other.1.packet rest other.1.rest begins other.1.begins in
