@@ -20,41 +20,17 @@ use Rattle.sftp_audit.specs.Exchanges.{recorded_exchanges, unsettled, is_answere
 use Rattle.sftp_audit.specs.Auditor.{Refuses, LacksReply, IsFirstWrong}
 use Rattle.sftp_audit.proofs.steps.RunEnds.{run_end, run_end-of_run}
 use Rattle.sftp_audit.proofs.auditing.Lists.{ledger_of-recorded, is_open-unsettled, leading_pairs-settled}
-use Rattle.sftp_audit.proofs.auditing.Turns.{waits_if_open, window-full, run-split}
+use Rattle.sftp_audit.proofs.auditing.Lists.{first_unsettled}
+use Rattle.sftp_audit.proofs.auditing.Turns.{waits_if_open, window-full, run-split, turn_after-append, broken_stays}
 
--- ---- turns over two parts of a list of events
-
-turn_after-append : (id : ℕ) (turn : Turn) (xs ys : List Event)
-    → turn_after id turn (xs ++ ys) ≡ turn_after id (turn_after id turn xs) ys
-unfolding turn_after
-turn_after-append id turn [] ys = refl
-turn_after-append id turn (x ∷ xs) ys = turn_after-append id (after_event id x turn) xs ys
-
--- what came out of turn is never put right
-broken_after : (id : ℕ) (event : Event) → after_event id event broken ≡ broken
-broken_after id (Asked request) = by (request.id == id)
-  where
-    by : (b : Bool) → (if b then broken else broken) ≡ broken
-    by true = refl
-    by false = refl
-broken_after id (Replied reply) = by (reply.id == id)
-  where
-    by : (b : Bool) → (if b then broken else broken) ≡ broken
-    by true = refl
-    by false = refl
-
-stays_broken : (id : ℕ) (events : List Event) → turn_after id broken events ≡ broken
-unfolding turn_after
-stays_broken id [] = refl
-stays_broken id (event ∷ events) =
-    ap (λ (t : Turn). turn_after id t events) (broken_after id event) ∙ stays_broken id events
+-- ---- out of turn
 
 -- no session goes on behind an event that comes out of turn
 out_of_turn : (id : ℕ) (events more : List Event) → turn_after id closed events ≡ broken → Matching (events ++ more) → ⊥
 out_of_turn id events more turn matching =
     let end : turn_after id closed (events ++ more) ≡ closed = matching id in
     let ends : turn_after id closed (events ++ more) ≡ broken =
-    turn_after-append id closed events more ∙ ap (λ (t : Turn). turn_after id t more) turn ∙ stays_broken id more in
+    turn_after-append id closed events more ∙ ap (λ (t : Turn). turn_after id t more) turn ∙ broken_stays id more in
     let same : broken ≡ closed = sym ends ∙ end in
     absurd cc
 
@@ -267,18 +243,6 @@ refuses_lost start events (Replied reply) (refusals.NotAllowed number) end sound
 refuses_lost start events (Replied reply) (refusals.Unanswered number) end sound refuses memory more last explained =
     absurd refuses
 refuses_lost start events (Replied reply) refusals.NoMemory end sound refuses memory more last explained = memory refl
-
--- the first of what is unsettled has no reply
-first_unsettled : (xs : List Exchange) (x : Exchange) (others : List Exchange) → unsettled xs ≡ x ∷ others
-    → is_answered x ≡ false
-unfolding unsettled
-first_unsettled [] x others is = absurd cc
-first_unsettled (y ∷ ys) x others is = by (first_unsettled ys x others) (is_answered y) refl is
-  where
-    by : (unsettled ys ≡ x ∷ others → is_answered x ≡ false) → (b : Bool) → is_answered y ≡ b
-        → (if b then unsettled ys else y ∷ ys) ≡ x ∷ others → is_answered x ≡ false
-    by rest true answered are = rest are
-    by rest false waits are = let same : y ≡ x = cc in ap is_answered (sym same) ∙ waits
 
 first_is_open : (x : Exchange) (others : List Exchange) → is_answered x ≡ false → is_open x.request.id (x ∷ others) ≡ true
 unfolding is_open

@@ -171,7 +171,7 @@ noted-replied start events reply old kept new stands waits replied settled run =
         in_turn = in_turn-replied events reply stands.sound.in_turn turn;
         within_window = window-replied events reply stands.sound.within_window stands.sound.in_turn turn;
         run = subst (λ (xs : List (Request × Reply)). Run Allowed start xs new.state) pairs
-        (run-append Allowed start (leading_pairs (ledger_of a.before)) (leading_pairs (ledger_of kept)) old.state new.state a.run run);
+        (run-append Allowed start (leading_pairs (ledger_of a.before)) old.state (leading_pairs (ledger_of kept)) new.state a.run run);
       };
       kept = settled ∙ sym (unsettled-answered a.before kept a.answered) ∙ ap unsettled (sym all);
     }
@@ -218,7 +218,7 @@ refused-settling start events reply old kept (refusals.NotAllowed number) stands
       mid = r.mid;
       run = subst (λ (xs : List (Request × Reply)). Run Allowed start xs r.mid)
       (sym (leading_pairs-settled a.before r.before a.answered))
-      (run-append Allowed start (leading_pairs (ledger_of a.before)) (leading_pairs (ledger_of r.before)) old.state r.mid a.run r.run);
+      (run-append Allowed start (leading_pairs (ledger_of a.before)) old.state (leading_pairs (ledger_of r.before)) r.mid a.run r.run);
       wrong = r.wrong;
     })
 refused-settling start events reply old kept (refusals.Unanswered number) stands waits replied r = absurd r
