@@ -69,6 +69,7 @@ impl Ledger {
         ensures noted { OnOk result
             (self.new ≡ self.old ++ record { request = request; number = number; reply = None } ∷ []) }
         ensures apart { OnOk result (is_open request.id self.old ≡ false) }
+        ensures in_time { OnOk result (length self.old < window) }
         ensures refused { IfErr result (RefusesRequest self.old request number) }
     {
         match enter(
@@ -160,6 +161,7 @@ fn enter(
         (exchanges.old.items ++ record { request = request.now; number = number; reply = None } ∷ [])
         unanswered.new.entries first) }
     ensures apart { OnOk result (is_open request.now.id exchanges.old.items ≡ false) }
+    ensures in_time { OnOk result (length exchanges.old.items < window) }
     ensures unchanged { OnErr result (unanswered.new.entries ≡ unanswered.old.entries) }
     ensures refused { IfErr result (RefusesRequest exchanges.old.items request.now number) }
 {
