@@ -20,7 +20,6 @@ use Rattle.sftp_transcript.specs.Explained.{closed, waiting, turn_after, next_re
 use Rattle.sftp_transcript.specs.Explained.{requests_before_reply, in_window, Run}
 use Rattle.sftp_transcript.specs.Sound.{Sound}
 use Rattle.sftp_transcript.specs.Examples.{mkdir, status}
-use Rattle.sftp_audit.specs.declared.errors.Refusal.{Refusal}
 use Rattle.sftp_audit.specs.declared.errors.Refusal.TheVariants as refusals
 use Rattle.sftp_audit.specs.declared.exchanges.Exchange.{Exchange}
 use Rattle.sftp_audit.specs.Audit.{started, RefusedAt}
