@@ -77,7 +77,8 @@ next_recorded-bare id number (Replied reply ∷ events) =
     by rest true is = rw is refl
     by rest false is = rw is rest
 
-exchanges_from-bare : (number : ℕ) (events : List Event) → ledger_of (exchanges_from number events) ≡ exchanges_of events
+exchanges_from-bare : (number : ℕ) (events : List Event)
+    → ledger_of (exchanges_from number events) ≡ exchanges_of events
 unfolding exchanges_from exchanges_of
 exchanges_from-bare number [] = refl
 exchanges_from-bare number (Asked request ∷ events) =
@@ -109,8 +110,8 @@ exchanges_from-asked : (number : ℕ) (events : List Event) (request : Request)
 unfolding exchanges_from next_recorded
 exchanges_from-asked number [] request = refl
 exchanges_from-asked number (Asked first ∷ events) request =
-    rw (next_recorded-asked first.id (one_more number) events request, exchanges_from-asked (one_more number) events request)
-    refl
+    let later = one_more number in
+    rw (next_recorded-asked first.id later events request, exchanges_from-asked later events request) refl
 exchanges_from-asked number (Replied reply ∷ events) request = exchanges_from-asked (one_more number) events request
 
 pub recorded-asked : (events : List Event) (request : Request)
@@ -224,7 +225,8 @@ pub unsettled-asked : (xs : List Exchange) (x : Exchange) → is_answered x ≡ 
 unfolding unsettled
 unsettled-asked [] x waits = unsettled-here x [] waits
 unsettled-asked (y ∷ xs) x waits = elim (cases_Bool (is_answered y)) [
-  | inl answered ↦ rw (unsettled-past y (xs ++ x ∷ []) answered, unsettled-past y xs answered) (unsettled-asked xs x waits)
+  | inl answered ↦
+      rw (unsettled-past y (xs ++ x ∷ []) answered, unsettled-past y xs answered) (unsettled-asked xs x waits)
   | inr first ↦ rw (unsettled-here y (xs ++ x ∷ []) first, unsettled-here y xs first) refl
 ]
 
@@ -295,7 +297,8 @@ with_reply-append recorded xs ys = map-append (answered_by recorded) xs ys
 pub with_reply-answered : (recorded : RecordedReply) (before : List Exchange) → AreAnswered before
     → with_reply recorded before ≡ before
 with_reply-answered recorded [] answered = refl
-with_reply-answered recorded (x ∷ before) answered = rw (answered.0, with_reply-answered recorded before answered.1) refl
+with_reply-answered recorded (x ∷ before) answered =
+    rw (answered.0, with_reply-answered recorded before answered.1) refl
 
 with_reply-parts : (recorded : RecordedReply) (xs before : List Exchange) → AreAnswered before
     → xs ≡ before ++ unsettled xs → with_reply recorded xs ≡ before ++ with_reply recorded (unsettled xs)
@@ -328,8 +331,11 @@ pub leading_pairs-settled : (before xs : List Exchange) → AreAnswered before
 unfolding leading_pairs
 leading_pairs-settled [] xs answered = refl
 leading_pairs-settled (x ∷ before) xs answered =
+    let ledger = ledger_of before in
+    let others : leading_pairs (ledger ++ ledger_of xs) ≡ leading_pairs ledger ++ leading_pairs (ledger_of xs) =
+    rw (← ledger_of-append before xs) (leading_pairs-settled before xs answered.1) in
     rw (ledger_of-append before xs)
-    (leading_pairs-answered_one x.request x.reply (ledger_of before) (ledger_of xs) answered.0 (rw (← ledger_of-append before xs) (leading_pairs-settled before xs answered.1)))
+    (leading_pairs-answered_one x.request x.reply ledger (ledger_of xs) answered.0 others)
 
 leading_pairs-waits : (request : Request) (reply : Option RecordedReply) (others : List ledgers.Exchange)
     → is_some reply ≡ false → leading_pairs ((request, option_map reply_of reply) ∷ others) ≡ []

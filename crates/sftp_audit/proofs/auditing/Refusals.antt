@@ -69,7 +69,8 @@ not_wrong : (start mid : State) (x y : Exchange) (others : List Exchange) (end :
     → IsWrong mid x → FirstStep start y others end → ⊥
 not_wrong start mid x y others end here same wrong step =
     let wrong_y : IsWrong start y = subst (λ (m : State). IsWrong m y) here (subst (IsWrong mid) same wrong) in
-    let reply : step.reply ≡ wrong_y.reply = same_reply y.reply step.reply wrong_y.reply step.reply_is wrong_y.reply_is in
+    let reply : step.reply ≡ wrong_y.reply =
+    same_reply y.reply step.reply wrong_y.reply step.reply_is wrong_y.reply_is in
     wrong_y.wrong step.mid
     (subst (λ (r : RecordedReply). Allowed start y.request r.reply step.mid) reply step.allowed)
 
@@ -117,8 +118,11 @@ one_first_wrong start xs m n a b =
     let y : Exchange = record { request = b.request; number = b.asked_in; reply = Some reply_b } in
     let wrong_a : IsWrong a.mid x = record { reply = reply_a; reply_is = refl; wrong = a.wrong } in
     let wrong_b : IsWrong b.mid y = record { reply = reply_b; reply_is = refl; wrong = b.wrong } in
-    number_of x y reply_a reply_b refl refl
-    (one_wrong start a.before b.before x y a.behind b.behind a.mid b.mid (sym a.exchanges_are ∙ b.exchanges_are) a.answered b.answered a.run b.run wrong_a wrong_b)
+    let same : a.before ++ x ∷ a.behind ≡ b.before ++ y ∷ b.behind = sym a.exchanges_are ∙ b.exchanges_are in
+    let exchange : x ≡ y =
+    one_wrong start a.before b.before x y a.behind b.behind a.mid b.mid same a.answered b.answered a.run b.run wrong_a
+    wrong_b in
+    number_of x y reply_a reply_b refl refl exchange
 
 -- ---- the reasons
 
@@ -141,8 +145,10 @@ one_of_two : (turn : Turn) (a b in_use late : Refusal)
     → ((a ≡ in_use) × (turn ≡ waiting)) ⊎ ((a ≡ late) × (turn ≡ closed))
     → ((b ≡ in_use) × (turn ≡ waiting)) ⊎ ((b ≡ late) × (turn ≡ closed)) → a ≡ b
 one_of_two turn a b in_use late (inl first) (inl second) = first.0 ∙ sym second.0
-one_of_two turn a b in_use late (inl first) (inr second) = absurd (let e : waiting ≡ closed = sym first.1 ∙ second.1 in cc)
-one_of_two turn a b in_use late (inr first) (inl second) = absurd (let e : waiting ≡ closed = sym second.1 ∙ first.1 in cc)
+one_of_two turn a b in_use late (inl first) (inr second) =
+    absurd (let e : waiting ≡ closed = sym first.1 ∙ second.1 in cc)
+one_of_two turn a b in_use late (inr first) (inl second) =
+    absurd (let e : waiting ≡ closed = sym second.1 ∙ first.1 in cc)
 one_of_two turn a b in_use late (inr first) (inr second) = first.0 ∙ sym second.0
 
 abbrev WhyReplied : State → List Event → Reply → Refusal → Type 0

@@ -51,7 +51,8 @@ turn_after-event id events event = turn_after-append id closed events (event ∷
 -- the front of what is in turn is in turn
 pub in_turn-front : (xs ys : List Event) → InTurn (xs ++ ys) → InTurn xs
 in_turn-front xs ys whole id breaks =
-    whole id (turn_after-append id closed xs ys ∙ ap (λ (turn : Turn). turn_after id turn ys) breaks ∙ broken_stays id ys)
+    let stays = ap (λ (turn : Turn). turn_after id turn ys) breaks ∙ broken_stays id ys in
+    whole id (turn_after-append id closed xs ys ∙ stays)
 
 -- ---- a request that waits, and its place
 
@@ -87,7 +88,8 @@ open_parts ((first, None) ∷ ledger) id opened = by (open_parts ledger id) (fir
       same_id = eqb-true first.id id same;
     }
     by others false other now =
-        open_parts-more (first, None) ledger id (others (let later : (false || ledgers.is_open id ledger) ≡ true = rw other at now in later))
+        let later : (false || ledgers.is_open id ledger) ≡ true = rw other at now in
+        open_parts-more (first, None) ledger id (others later)
 open_parts ((first, Some reply) ∷ ledger) id opened =
     open_parts-more (first, Some reply) ledger id (open_parts ledger id opened)
 
@@ -161,23 +163,31 @@ replied_on ledger seen reply stands opened =
 abbrev SomeStands : List Event → Type 0
 SomeStands events = (ledger : List ledgers.Exchange) × ledgers.StandsFor ledger events
 
+abbrev IsInside : List Event → Type 0
+IsInside events = IsTrue (in_window events)
+
 -- however far the events were seen
 stands_behind : (ledger : List ledgers.Exchange) (seen more : List Event) → ledgers.StandsFor ledger seen
     → InTurn (seen ++ more) → IsTrue (in_window (seen ++ more)) → SomeStands (seen ++ more)
-stands_behind ledger seen [] stands in_turn inside = (ledger, subst (ledgers.StandsFor ledger) (sym (append-nil seen)) stands)
+stands_behind ledger seen [] stands in_turn inside =
+    (ledger, subst (ledgers.StandsFor ledger) (sym (append-nil seen)) stands)
 stands_behind ledger seen (Asked request ∷ more) stands in_turn inside =
     let free = free_if_in_turn ledger seen request more stands in_turn in
     let kept = kept_if_in_time ledger seen request more stands inside in
+    let next = stands_asked ledger seen request stands free kept in
     let parts : (seen ++ Asked request ∷ []) ++ more ≡ seen ++ Asked request ∷ more =
     append_assoc seen (Asked request ∷ []) more in
+    let turns : InTurn ((seen ++ Asked request ∷ []) ++ more) = subst InTurn (sym parts) in_turn in
+    let kept_later : IsTrue (in_window ((seen ++ Asked request ∷ []) ++ more)) = subst IsInside (sym parts) inside in
     subst SomeStands parts
-    (stands_behind (ledger ++ (request, None) ∷ []) (seen ++ Asked request ∷ []) more (stands_asked ledger seen request stands free kept) (subst InTurn (sym parts) in_turn) (subst (λ (es : List Event). IsTrue (in_window es)) (sym parts) inside))
+    (stands_behind (ledger ++ (request, None) ∷ []) (seen ++ Asked request ∷ []) more next turns kept_later)
 stands_behind ledger seen (Replied reply ∷ more) stands in_turn inside =
     let next = replied_on ledger seen reply stands (open_if_in_turn ledger seen reply more stands in_turn) in
     let parts : (seen ++ Replied reply ∷ []) ++ more ≡ seen ++ Replied reply ∷ more =
     append_assoc seen (Replied reply ∷ []) more in
-    subst SomeStands parts
-    (stands_behind next.0 (seen ++ Replied reply ∷ []) more next.1 (subst InTurn (sym parts) in_turn) (subst (λ (es : List Event). IsTrue (in_window es)) (sym parts) inside))
+    let turns : InTurn ((seen ++ Replied reply ∷ []) ++ more) = subst InTurn (sym parts) in_turn in
+    let kept_later : IsTrue (in_window ((seen ++ Replied reply ∷ []) ++ more)) = subst IsInside (sym parts) inside in
+    subst SomeStands parts (stands_behind next.0 (seen ++ Replied reply ∷ []) more next.1 turns kept_later)
 
 with_replies-none : (ledger : List ledgers.Exchange) → ledgers.with_replies ledger [] ≡ ledger
 unfolding ledgers.with_replies next_reply
@@ -251,7 +261,9 @@ in_turn-asked events request in_turn shut id breaks = by (cases_Bool (request.id
         let e : waiting ≡ broken = rw (turn_after-event id events (Asked request), same, turn) at breaks in
         cc
     by (inr other) =
-        in_turn id (let e : turn_after id closed events ≡ broken = rw (turn_after-event id events (Asked request), other) at breaks in e)
+        let e : turn_after id closed events ≡ broken =
+        rw (turn_after-event id events (Asked request), other) at breaks in
+        in_turn id e
 
 pub in_turn-replied : (events : List Event) (reply : Reply) → InTurn events → IsWaiting events reply.id
     → InTurn (events ++ Replied reply ∷ [])
@@ -264,7 +276,9 @@ in_turn-replied events reply in_turn waits id breaks = by (cases_Bool (reply.id 
         let e : closed ≡ broken = rw (turn_after-event id events (Replied reply), same, turn) at breaks in
         cc
     by (inr other) =
-        in_turn id (let e : turn_after id closed events ≡ broken = rw (turn_after-event id events (Replied reply), other) at breaks in e)
+        let e : turn_after id closed events ≡ broken =
+        rw (turn_after-event id events (Replied reply), other) at breaks in
+        in_turn id e
 
 -- ---- one event more, in time
 
@@ -306,9 +320,10 @@ pub window-asked : (events : List Event) (request : Request) → InTurn events �
     → turn_after request.id closed events ≡ closed → length (unsettled (recorded_exchanges events)) < window
     → IsTrue (in_window (events ++ Asked request ∷ []))
 window-asked events request in_turn inside shut few =
-    let late = ledger_of (unsettled (recorded_exchanges events)) in
+    let xs = unsettled (recorded_exchanges events) in
+    let late = ledger_of xs in
     let short : length (late ++ (request, None) ∷ []) ≤ window =
-    omega (arith, length-append late ((request, None) ∷ []), ledger_of-length (unsettled (recorded_exchanges events))) in
+    omega (arith, length-append late ((request, None) ∷ []), ledger_of-length xs) in
     let kept : ledgers.keeps_window (exchanges_of events ++ (request, None) ∷ []) [] ≡ true =
     window_by_unsettled events request ∙ keeps_window-few (late ++ (request, None) ∷ []) short in
     let none = open_bare events request.id false (none_if_closed events request.id in_turn inside shut) in
@@ -320,15 +335,18 @@ late_if_many : (xs : List Exchange) (request : Request) → unsettled xs ≡ xs 
 late_if_many [] request same many = absurd (omega arith)
 late_if_many (x ∷ xs) request same many =
     let more = ledger_of xs ++ (request, None) ∷ [] in
-    let enough : window ≤ length more = omega (arith, length-append (ledger_of xs) ((request, None) ∷ []), ledger_of-length xs) in
+    let enough : window ≤ length more =
+    omega (arith, length-append (ledger_of xs) ((request, None) ∷ []), ledger_of-length xs) in
     rw (none_bare x.reply (first_unsettled (x ∷ xs) x xs same)) (keeps_window-many x.request more enough)
 
 pub window-full : (events : List Event) (request : Request) → InTurn events → IsTrue (in_window events)
     → turn_after request.id closed events ≡ closed → window ≤ length (unsettled (recorded_exchanges events))
     → (more : List Event) → IsTrue (in_window (events ++ Asked request ∷ more)) → ⊥
 window-full events request in_turn inside shut many more =
-    no_late_request (exchanges_of events) events request more (ledger_stands events in_turn inside)
-    (window_by_unsettled events request ∙ late_if_many (unsettled (recorded_exchanges events)) request (unsettled-twice (recorded_exchanges events)) many)
+    let xs = recorded_exchanges events in
+    let late : ledgers.keeps_window (exchanges_of events ++ (request, None) ∷ []) [] ≡ false =
+    window_by_unsettled events request ∙ late_if_many (unsettled xs) request (unsettled-twice xs) many in
+    no_late_request (exchanges_of events) events request more (ledger_stands events in_turn inside) late
 
 pub window-replied : (events : List Event) (reply : Reply) → IsTrue (in_window events) → InTurn events
     → IsWaiting events reply.id → IsTrue (in_window (events ++ Replied reply ∷ []))

@@ -20,7 +20,6 @@ use Rattle.sftp_transcript.specs.Explained.{closed, waiting, turn_after, next_re
 use Rattle.sftp_transcript.specs.Explained.{requests_before_reply, in_window, Run}
 use Rattle.sftp_transcript.specs.Sound.{Sound}
 use Rattle.sftp_transcript.specs.Examples.{mkdir, status}
-use Rattle.sftp_audit.specs.declared.errors.Refusal.{Refusal}
 use Rattle.sftp_audit.specs.declared.errors.Refusal.TheVariants as refusals
 use Rattle.sftp_audit.specs.declared.exchanges.Exchange.{Exchange}
 use Rattle.sftp_audit.specs.Audit.{started, RefusedAt}
@@ -39,7 +38,8 @@ use Rattle.sftp_audit.proofs.worked.Runs.{sound_by}
 two_replies_sound : Sound Allowed (started blank) (two_backward_replies 0) (started blank)
 unfolding turn_after in_window requests_before_reply leading_pairs exchanges_of next_reply
 two_replies_sound =
-    sound_by blank (two_backward_replies 0) blank (inr refl, (inl refl, (inl refl, (inl refl, (inl refl, tt))))) refl refl
+    sound_by blank (two_backward_replies 0) blank
+    (inr refl, (inl refl, (inl refl, (inl refl, (inl refl, tt))))) refl refl
 
 pub nothing_settled : StandsFor (started blank) (two_backward_replies 0)
     (auditor_with blank (recorded_exchanges (two_backward_replies 0)) 8)
@@ -53,17 +53,24 @@ removal = record { id = 3; ask = Rmdir (codes "/a") }
 abbrev removal_done : Reply
 removal_done = record { id = 3; answer = Status 0 [] [] }
 
+-- a request for a directory in one record, and in another that it was made
+abbrev made : ℕ → List ℕ → ℕ → ℕ → Exchange
+made id path asked_in told_in = record {
+  request = record { id = id; ask = Mkdir path no_attributes };
+  number = asked_in;
+  reply = Some (record { reply = record { id = id; answer = Status 0 [] [] }; number = told_in });
+}
+
 -- the requests before it, with the replies that came later
 abbrev first_two_done : List Exchange
 first_two_done =
-    record { request = record { id = 1; ask = Mkdir (codes "/a") no_attributes }; number = 3; reply = Some (record { reply = record { id = 1; answer = Status 0 [] [] }; number = 8 }) }
-    ∷ record { request = record { id = 2; ask = Mkdir (codes "/a/b") no_attributes }; number = 4; reply = Some (record { reply = record { id = 2; answer = Status 0 [] [] }; number = 7 }) }
-    ∷ []
+    made 1 (codes "/a") 3 8 ∷ made 2 (codes "/a/b") 4 7 ∷ []
 
 -- after the first two requests the directory is not empty
 first_two_run : Run Allowed (started blank) (leading_pairs (ledger_of first_two_done)) (started with_a_and_b)
 unfolding
-    leading_pairs step causes answers after told_to pins_of path_causes plain_causes no_causes when joined led outcome reached walk
+    leading_pairs step causes answers after told_to pins_of path_causes plain_causes no_causes when joined led outcome
+    reached walk
     walk_parts meets is_good_path components parts get put without has_entries fits retain
 first_two_run = run-of_run_end (started blank) (leading_pairs (ledger_of first_two_done)) (started with_a_and_b) refl
 
@@ -104,8 +111,8 @@ not_memory number e = cc
 
 pub not_the_last : ¬ Refuses (started blank) (two_backward_replies 0) (status 1 0) (refusals.NotAllowed 8)
 not_the_last other =
-    other_record
-    (one_refusal (started blank) (two_backward_replies 0) (status 1 0) (refusals.NotAllowed 6) (refusals.NotAllowed 8) refused other (not_memory 6) (not_memory 8))
+    let one = one_refusal (started blank) (two_backward_replies 0) (status 1 0) in
+    other_record (one (refusals.NotAllowed 6) (refusals.NotAllowed 8) refused other (not_memory 6) (not_memory 8))
 
 pub in_bytes : RefusedAt (started blank) removal_done_bytes (refusals.NotAllowed 6)
 in_bytes = record {
@@ -148,7 +155,8 @@ used_again = record { sound = id_used_again_sound; kept = refl; number = refl; u
 
 first_answered_sound : Sound Allowed (started blank) first_answered (started with_a)
 unfolding
-    turn_after in_window requests_before_reply leading_pairs exchanges_of next_reply step causes answers after told_to pins_of path_causes plain_causes no_causes when joined led outcome reached walk
+    turn_after in_window requests_before_reply leading_pairs exchanges_of next_reply step causes answers after told_to
+    pins_of path_causes plain_causes no_causes when joined led outcome reached walk
     walk_parts meets is_good_path components parts get put without has_entries fits retain
 first_answered_sound = sound_by blank first_answered with_a (inl refl, (inr refl, (inl refl, tt))) refl refl
 
@@ -162,7 +170,8 @@ second_left = refl
 
 pub unanswered : LacksReply first_answered (refusals.Unanswered 4)
 unanswered =
-    (record { request = record { id = 2; ask = Mkdir (codes "/a/b") no_attributes }; number = 4; reply = None }, [], second_left, refl)
+    let waits : Request = record { id = 2; ask = Mkdir (codes "/a/b") no_attributes } in
+    (record { request = waits; number = 4; reply = None }, [], second_left, refl)
 
 pub not_the_first : ¬ LacksReply first_answered (refusals.Unanswered 3)
 not_the_first first =
