@@ -4,3 +4,4 @@ pub mod Places
 pub mod Settled
 pub mod Standing
 pub mod Lost
+pub mod Refusals

@@ -1,6 +1,7 @@
 -- The index of the exchanges that are kept: where the requests that wait are, by their ids.
-use Rattle.std.specs.Prelude.{◌≡◌, ◌⊎◌, ℕ, ◌+◌, ◌^◌, ◌≤◌, true, false, List, length, slice_get, Some, None, nat_eq, ⊤}
+use Rattle.std.specs.Prelude.{◌≡◌, ◌⊎◌, ℕ, ◌+◌, ◌^◌, ◌<◌, ◌≤◌, Bool, true, false, List, length, slice_get, Some, None, nat_eq, ⊤}
 use Rattle.std.specs.Map.{lookup}
+use Rattle.std.specs.Option.{option_map_or}
 use Rattle.sftp_transcript.specs.Explained.{window}
 use Rattle.sftp_transcript.specs.Ledger.{AreApart}
 use Rattle.sftp_audit.specs.declared.errors.Refusal.{Refusal}
@@ -10,9 +11,14 @@ use Rattle.sftp_audit.specs.declared.exchanges.RecordedReply.{RecordedReply}
 use Rattle.sftp_audit.specs.Exchanges.{is_answered, is_open, ledger_of}
 use Rattle.sftp_wire.specs.declared.packets.Request.{Request}
 
+-- there is a first exchange, and it has its reply
+abbrev pub starts_answered : List Exchange → Bool
+starts_answered exchanges = option_map_or is_answered (slice_get exchanges 0) false
+
 -- the ordinal of the exchange at a place, where the first one has an ordinal; ordinals count modulo 2^64
 abbrev pub IsOrdinal : ℕ → ℕ → ℕ → Type 0
-IsOrdinal first place ordinal = (ordinal ≡ first + place) ⊎ (ordinal + 2 ^ 64 ≡ first + place)
+IsOrdinal first place ordinal =
+    (ordinal < 2 ^ 64) × ((ordinal ≡ first + place) ⊎ (ordinal + 2 ^ 64 ≡ first + place))
 
 -- at this place is a request of this id that waits
 pub record WaitsAt (exchanges : List Exchange) (place id : ℕ) : Type 0 where

@@ -106,7 +106,11 @@ impl Auditor {
         }
     }
 
-    /// Notes an event, and settles what it settles.
+    /// Notes an event, and does the requests that are then settled.
+    ///
+    /// # Errors
+    ///
+    /// Those of `feed`.
     fn note(&mut self, event: Event) -> Result<(), Refusal>
         ensures same { (self.new.number ≡ self.old.number) × (self.new.refusal ≡ self.old.refusal) }
         ensures stands { OnOk result ((start : State) (events : List Event) →
@@ -133,13 +137,13 @@ impl Auditor {
     /// `Unanswered` with the record of the oldest request without a reply, if there is one; and a refusal that `feed`
     /// returned comes again.
     pub fn finish(self) -> Result<Tree, Refusal>
-        ensures again { (refusal : Refusal) → self.entry.refusal ≡ Some refusal → result ≡ Err refusal }
+        ensures again { (refusal : Refusal) → self.refusal ≡ Some refusal → result ≡ Err refusal }
         // The events are explained, and the result is the tree where their run ends.
-        ensures ended { IfOk result (λ end. (start : State) (events : List Event) → StandsFor start events self.entry
+        ensures ended { IfOk result (λ end. (start : State) (events : List Event) → StandsFor start events self
             → (last : State) × Explained Allowed start events last × (end ≡ trim (record last.tree { pins = [] }))) }
         // Otherwise a request has no reply.
         ensures unanswered { IfErr result (λ refusal. (start : State) (events : List Event) →
-            StandsFor start events self.entry → LacksReply events refusal) }
+            StandsFor start events self → LacksReply events refusal) }
     {
         if let Some(refusal) = self.refusal {
             return Err(refusal);

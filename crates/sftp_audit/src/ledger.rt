@@ -1,9 +1,10 @@
 //! The exchanges that an auditor keeps: those from the oldest request without a reply on.
-ghost use Rattle.std.specs.Prelude.{◌≡◌, ◌≤◌, ◌++◌, [], ◌∷◌, None, true, false, length, slice_get, IsTrue, OnOk, OnErr, IfErr};
-ghost use Rattle.std.specs.Prelude.{IfSome, IfNone, option_copied};
+ghost use Rattle.std.specs.Prelude.{◌≡◌, ◌<◌, ◌≤◌, ◌++◌, ℕ, [], ◌∷◌, None, true, false, length, drop, slice_get};
+ghost use Rattle.std.specs.Prelude.{OnOk, OnErr, IfErr, option_copied};
+ghost use Rattle.std.specs.VecDeque.{deque_len, deque_capacity};
 ghost use Rattle.sftp_transcript.specs.Explained.{window};
-ghost use Rattle.sftp_audit.specs.Exchanges.{is_answered, is_open, unsettled, with_reply};
-ghost use Rattle.sftp_audit.specs.Ledger.{RefusesRequest, RefusesReply};
+ghost use Rattle.sftp_audit.specs.Exchanges.{is_open, with_reply};
+ghost use Rattle.sftp_audit.specs.Ledger.{starts_answered, IsOrdinal, IsIndexed, RefusesRequest, RefusesReply};
 
 use crate::errors::Refusal;
 use crate::exchanges::{Exchange, RecordedReply};
@@ -68,9 +69,16 @@ impl Ledger {
         ensures noted { OnOk result
             (self.new ≡ self.old ++ record { request = request; number = number; reply = None } ∷ []) }
         ensures apart { OnOk result (is_open request.id self.old ≡ false) }
+        ensures in_time { OnOk result (length self.old < window) }
         ensures refused { IfErr result (RefusesRequest self.old request number) }
     {
-        match self.enter(request.id, number) {
+        match enter(
+            &mut self.exchanges,
+            &mut self.unanswered,
+            self.first,
+            &request,
+            number,
+        ) {
             Ok(()) => {
                 self.exchanges.push_back_reserved(Exchange {
                     request,
@@ -81,21 +89,6 @@ impl Ledger {
             }
             Err(refusal) => Err(refusal),
         }
-    }
-
-    /// Makes room for a request and puts its id into the index, if nothing speaks against it. The request itself has to
-    /// follow.
-    fn enter(&mut self, id: u32, number: u64) -> Result<(), Refusal> {
-        if self.unanswered.contains_key(&id) {
-            return Err(Refusal::IdInUse { record: number });
-        }
-        if self.exchanges.len() >= WINDOW {
-            return Err(Refusal::Window { record: number });
-        }
-        self.exchanges.reserve(1)?;
-        let ordinal = self.first.wrapping_add(self.exchanges.len() as u64);
-        self.unanswered.insert(id, ordinal)?;
-        Ok(())
     }
 
     /// Notes a reply: the request of its id that waits gets it.
@@ -113,23 +106,14 @@ impl Ledger {
                 record: recorded.number,
             });
         };
-        let place = ordinal.wrapping_sub(self.first) as usize;
-        if let Some(exchange) = self.exchanges.get_mut(place) {
-            exchange.reply = Some(recorded);
+        let place = place_of(ordinal, self.first);
+        match self.exchanges.get_mut(place) {
+            Some(exchange) => {
+                exchange.reply = Some(recorded);
+                Ok(())
+            }
+            None => unreachable!(),
         }
-        Ok(())
-    }
-
-    /// Takes the first exchange, if it has its reply.
-    pub(crate) fn take_settled(&mut self) -> Option<Exchange>
-        ensures some { IfSome result (λ exchange. (self.old ≡ exchange ∷ self.new) × IsTrue (is_answered exchange)) }
-        ensures none { IfNone result ((self.new ≡ self.old) × (unsettled self.old ≡ self.old)) }
-    {
-        if !is_settled(self.exchanges.front()) {
-            return None;
-        }
-        self.first = self.first.wrapping_add(1);
-        self.exchanges.pop_front()
     }
 
     /// The first exchange.
@@ -137,6 +121,15 @@ impl Ledger {
         ensures { option_copied result ≡ slice_get self.now 0 }
     {
         self.exchanges.front()
+    }
+
+    /// Forgets the first exchange, which has its reply.
+    pub(crate) fn forget_first(&mut self)
+        requires { starts_answered self.old ≡ true }
+        ensures { self.new ≡ drop 1 self.old }
+    {
+        self.exchanges.pop_front();
+        self.first = self.first.wrapping_add(1);
     }
 
     /// Forgets all exchanges.
@@ -148,11 +141,45 @@ impl Ledger {
     }
 }
 
-/// Whether there is an exchange, and it has its reply.
-fn is_settled(first: Option<&Exchange>) -> bool
+/// Makes room for the exchange of a request, and puts its id into the index. The exchange itself has to follow.
+///
+/// # Errors
+///
+/// `IdInUse` if a request of the same id waits, `Window` if `WINDOW` exchanges are kept, and `NoMemory` if memory
+/// runs out.
+fn enter(
+    exchanges: &mut VecDeque<Exchange>,
+    unanswered: &mut IndexMap<u32, u64>,
+    first: u64,
+    request: &Request,
+    number: u64,
+) -> Result<(), Refusal>
+    requires { IsIndexed exchanges.old.items unanswered.old.entries first }
+    ensures kept { exchanges.new.items ≡ exchanges.old.items }
+    ensures room { OnOk result (deque_len exchanges.new < deque_capacity exchanges.new) }
+    ensures entered { OnOk result (IsIndexed
+        (exchanges.old.items ++ record { request = request.now; number = number; reply = None } ∷ [])
+        unanswered.new.entries first) }
+    ensures apart { OnOk result (is_open request.now.id exchanges.old.items ≡ false) }
+    ensures in_time { OnOk result (length exchanges.old.items < window) }
+    ensures unchanged { OnErr result (unanswered.new.entries ≡ unanswered.old.entries) }
+    ensures refused { IfErr result (RefusesRequest exchanges.old.items request.now number) }
 {
-    match first {
-        Some(exchange) => exchange.reply.is_some(),
-        None => false,
+    if unanswered.contains_key(&request.id) {
+        return Err(Refusal::IdInUse { record: number });
     }
+    if exchanges.len() >= WINDOW {
+        return Err(Refusal::Window { record: number });
+    }
+    exchanges.reserve(1)?;
+    let ordinal = first.wrapping_add(exchanges.len() as u64);
+    unanswered.insert(request.id, ordinal)?;
+    Ok(())
+}
+
+/// The place of the exchange that has an ordinal, where the first one has the other.
+fn place_of(ordinal: u64, first: u64) -> usize
+    ensures { (place : ℕ) → place ≤ window → IsOrdinal first place ordinal → result ≡ place }
+{
+    ordinal.wrapping_sub(first) as usize
 }

@@ -1,15 +1,13 @@
 //! How requests are settled: each is done as soon as it and all before it have their replies.
-ghost use Rattle.std.specs.Prelude.{◌≡◌, [], ◌∷◌, IsTrue, OnOk, IfErr};
+ghost use Rattle.std.specs.Prelude.{◌≡◌, OnOk, IfErr};
 ghost use Rattle.sftp_handles.specs.Allowed.{Allowed};
 ghost use Rattle.sftp_transcript.specs.Explained.{Run, leading_pairs};
-ghost use Rattle.sftp_audit.specs.Exchanges.{is_answered, ledger_of, unsettled};
+ghost use Rattle.sftp_audit.specs.Exchanges.{ledger_of, unsettled};
 ghost use Rattle.sftp_audit.specs.Auditor.{RefusesToSettle};
 
 use crate::errors::Refusal;
-use crate::exchanges::Exchange;
 use crate::ledger::Ledger;
 use sftp_handles::{GivenTable, Session};
-use sftp_tree::NoMemory;
 
 /// Does the requests up to the first one without a reply, and forgets their exchanges.
 ///
@@ -21,30 +19,16 @@ pub(crate) fn settle(ledger: &mut Ledger, session: &mut Session<GivenTable>) -> 
     ensures ran { OnOk result (Run Allowed session.old (leading_pairs (ledger_of ledger.old)) session.new) }
     ensures refused { IfErr result (RefusesToSettle session.old ledger.old) }
 {
-    'settle: while let Some(exchange) = ledger.take_settled() {
-        judge(session, exchange)?;
+    'settle: while let Some(exchange) = ledger.first() {
+        let Some(recorded) = &exchange.reply else {
+            return Ok(());
+        };
+        if !session.accept(&exchange.request, &recorded.reply)? {
+            return Err(Refusal::NotAllowed {
+                record: recorded.number,
+            });
+        }
+        ledger.forget_first();
     }
     Ok(())
-}
-
-/// Does a request that has its reply.
-///
-/// # Errors
-///
-/// `NotAllowed`, with the record of the reply, if the reply is not allowed, and `NoMemory` if memory runs out.
-fn judge(session: &mut Session<GivenTable>, exchange: Exchange) -> Result<(), Refusal>
-    requires { IsTrue (is_answered exchange) }
-    ensures ran { OnOk result (Run Allowed session.old (leading_pairs (ledger_of (exchange ∷ []))) session.new) }
-    ensures refused { IfErr result (RefusesToSettle session.old (exchange ∷ [])) }
-{
-    match exchange.reply {
-        Some(recorded) => match session.accept(&exchange.request, &recorded.reply) {
-            Ok(true) => Ok(()),
-            Ok(false) => Err(Refusal::NotAllowed {
-                record: recorded.number,
-            }),
-            Err(NoMemory) => Err(Refusal::NoMemory),
-        },
-        None => unreachable!(),
-    }
 }
