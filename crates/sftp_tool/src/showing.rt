@@ -48,7 +48,7 @@ fn show_file<'a, F: Read + Drop, O: Write>(
 ) -> Result<(), Failure<'a>> {
     let mut start = Vec::new(alloc);
     append(name, &mut file.by_ref().take(OPENING.len() as u64), &mut start)?;
-    if start.as_slice() == &OPENING {
+    if start.as_slice() == OPENING.as_slice() {
         show_records(alloc, name, start.as_slice().chain(file), output)
     } else {
         append(name, &mut file, &mut start)?;

@@ -18,7 +18,7 @@ use sftp_wire::{Fault, Packet, Side, WireError, front};
 use std::alloc::Global;
 
 /// What a transcript file begins with.
-const OPENING: [u8; 8] = *b"SFTPTR01";
+pub const OPENING: [u8; 8] = *b"SFTPTR01";
 
 /// The version of the protocol (draft, section 4).
 const PROTOCOL_VERSION: u32 = 3;
