@@ -97,7 +97,8 @@ TookPacket stage before None new = (stage ≡ stages.Events) × (before ≡ []) 
 -- the next record is given, or none at the end
 abbrev pub GivesNext : Stage → List ℕ → Option GivenRecord → Reading → Type 0
 GivesNext stage before (Some given) new =
-    (new.stage ≡ stage_behind stage) × ((rest : List ℕ) × HasAhead new.ahead rest × BeginsNext stage before given.1 rest)
+    (new.stage ≡ stage_behind stage)
+    × ((rest : List ℕ) × HasAhead new.ahead rest × BeginsNext stage before given.1 rest)
 GivesNext stage before None new =
     (stage ≡ stages.Events) × (new.stage ≡ stages.Events) × (before ≡ []) × HasAhead new.ahead []
 
