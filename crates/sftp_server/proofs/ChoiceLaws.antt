@@ -23,6 +23,7 @@ use Rattle.sftp_server.specs.Queue.{is_done, done_count, done_next, done_positio
 use Rattle.sftp_server.specs.Queue.{IsPendingEntry, IsWorkedEntry}
 use Rattle.sftp_server.specs.Core.{server_clash}
 use Rattle.sftp_server.proofs.Queues.{from_unsent-short, first_none, done_count-few, is_done-pending, split-within}
+use Rattle.sftp_server.proofs.Queues.{found-later}
 use Rattle.sftp_server.proofs.CoreSteps.{ready-first, ready-none, behind_pending, behind_worked}
 use Rattle.sftp_server.proofs.Machines.Acts.{all-append}
 
@@ -315,10 +316,6 @@ none-positioned (entry ∷ queue) number all =
     rw (is_done-pending entry.progress all.0, none-positioned queue number all.1) refl
 
 -- what comes of a search in the rest of a queue
-found-later : (found : Option ℕ) (k : ℕ) → option_map suc found ≡ Some k → (j : ℕ) × (found ≡ Some j) × (k ≡ suc j)
-found-later None k is = absurd (none-some k is)
-found-later (Some j) k is = (j, refl, sym (same_Some (suc j) k is))
-
 none-later : (found : Option ℕ) → option_map suc found ≡ None → found ≡ None
 none-later None is = refl
 none-later (Some j) is = absurd (none-some (suc j) (sym is))
