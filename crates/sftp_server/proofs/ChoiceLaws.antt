@@ -1,10 +1,10 @@
 -- What a machine may do next, by its queue.
 use Rattle.std.proofs.Common.{◌≡◌, ◌<◌, ◌≤◌, ◌+◌, ◌++◌, ◌&&◌, ℕ, zero, suc, Bool, true, false, List, [], ◌∷◌}
-use Rattle.std.proofs.Common.{Option, Some, None, is_some, IsTrue, if◌then◌else◌, length, take, slice_get}
+use Rattle.std.proofs.Common.{Option, Some, None, is_some, if◌then◌else◌, length, take, slice_get}
 use Rattle.std.proofs.Common.{refl, sym, ap, subst, ◌∙◌, arith, length-append, map}
 use Rattle.std.specs.Option.{option_map}
 use Rattle.std.proofs.lemmas.List.{map-append, length-map}
-use Rattle.std.proofs.lemmas.Option.{slice_get-map, slice_get_within}
+use Rattle.std.proofs.lemmas.Option.{slice_get-map}
 use Rattle.std.specs.List.{AllByRecursion}
 use Rattle.std.proofs.lemmas.Bool.{true≢false}
 use Rattle.std.proofs.lemmas.Option.{none-some, same_Some}
@@ -20,11 +20,11 @@ use Rattle.sftp_server.specs.Machine.{Machine, ClashOf, is_pending, is_sent, is_
 use Rattle.sftp_server.specs.Machine.{ready_in, from_unsent, IsWorked, IsSent}
 use Rattle.sftp_server.specs.Choices.{choices_at, choices_from, choices_of, IsPossible, steps_left, owed}
 use Rattle.sftp_server.specs.Queue.{is_done, done_count, done_next, done_position, first_pending_of, IsSplit}
-use Rattle.sftp_server.specs.Queue.{IsPendingEntry, IsWorkedEntry}
+use Rattle.sftp_server.specs.Queue.{IsPendingEntry}
 use Rattle.sftp_server.specs.Core.{server_clash}
-use Rattle.sftp_server.proofs.Queues.{from_unsent-short, first_none, done_count-few, is_done-pending, split-within}
+use Rattle.sftp_server.proofs.Queues.{from_unsent-short, is_done-pending}
 use Rattle.sftp_server.proofs.Queues.{found-later}
-use Rattle.sftp_server.proofs.CoreSteps.{ready-first, ready-none, behind_pending, behind_worked}
+use Rattle.sftp_server.proofs.CoreSteps.{behind_pending, behind_worked}
 use Rattle.sftp_server.proofs.Machines.Acts.{all-append}
 
 -- ---- acts bring a machine nearer to its end

@@ -9,11 +9,11 @@ use Rattle.std.specs.List.Sorted.{IsNonDecreasing, IsBinarySearchResult}
 use Rattle.std.specs.Ordering.{nat_cmp}
 use Rattle.std.proofs.lemmas.List.{length-map, take-map, drop-map, map-append}
 use Rattle.std.proofs.lemmas.List.Sorted.{searched}
-use Rattle.std.proofs.Common.{refl, sym, ap, ◌∙◌, arith, IsTrue, append-nil, add-one}
+use Rattle.std.proofs.Common.{refl, sym, ap, ◌∙◌, arith, append-nil, add-one}
 use Rattle.std.specs.List.{AllByRecursion}
 use Rattle.std.specs.Option.{option_map}
 use Rattle.std.specs.Map.{lookup}
-use Rattle.std.proofs.lemmas.Bool.{or_parts, ne_eqb, eqb-true, eqb-false, lt-ltb, le-ltb, le-leb, lt-leb, eq-eqb}
+use Rattle.std.proofs.lemmas.Bool.{or_parts, ne_eqb, eqb-true, eqb-false, lt-ltb, le-ltb, le-leb, eq-eqb}
 use Rattle.std.proofs.lemmas.Bool.{cases_Bool, true≢false, ltb-true, ltb-false}
 use Rattle.std.proofs.lemmas.Option.{none-some, same_Some, slice_get-map, slice_get-get_or, get_or_from_slice_get}
 use Rattle.std.proofs.lemmas.Option.{slice_get_within}
@@ -22,7 +22,7 @@ use Rattle.sftp_wire.specs.declared.packets.Reply.{Reply}
 use Rattle.sftp_server.specs.declared.queue.Entry.{Entry}
 use Rattle.sftp_server.specs.declared.queue.Progress.{Progress}
 use Rattle.sftp_server.specs.declared.queue.Progress.TheVariants.{Pending, Done, Sent}
-use Rattle.sftp_server.specs.Machine.{is_pending, is_sent, is_unsent, is_pending_at, reply_at, from_unsent, reply_of}
+use Rattle.sftp_server.specs.Machine.{is_pending, is_sent, is_unsent, is_pending_at, from_unsent, reply_of}
 use Rattle.sftp_server.specs.Queue.{is_done, done_count, first_pending_of, next_request_of, with_progress}
 use Rattle.sftp_server.specs.Queue.{IsPendingEntry}
 use Rattle.sftp_server.specs.Queue.{done_next, done_position, done_positions}
@@ -370,6 +370,7 @@ positions-get (entry ∷ queue) number = by (λ m. positions-get queue m) (is_do
     later : (m : ℕ) → slice_get (done_positions queue) m ≡ done_position queue m
         → slice_get (map suc (done_positions queue)) m ≡ option_map suc (done_position queue m)
     later m rest = slice_get-map suc (done_positions queue) m ∙ ap (option_map suc) rest
+
     by : ((m : ℕ) → slice_get (done_positions queue) m ≡ done_position queue m) → (b : Bool) (number : ℕ)
         → slice_get (if b then 0 ∷ map suc (done_positions queue) else map suc (done_positions queue)) number
         ≡ (if b then done_next (done_position queue) number else option_map suc (done_position queue number))
@@ -455,11 +456,13 @@ all-moved move items ks now len i same len_is past size is =
     take-all : (ks : List ℕ) → take (length ks) ks ≡ ks
     take-all [] = refl
     take-all (k ∷ ks) = ap (λ (js : List ℕ). k ∷ js) (take-all ks)
+
     take-past : (ks : List ℕ) (i : ℕ) → length ks ≤ i → take i ks ≡ ks
     take-past [] zero past = refl
     take-past [] (suc i) past = refl
     take-past (k ∷ ks) zero past = absurd (omega (arith, past))
     take-past (k ∷ ks) (suc i) past = ap (λ (js : List ℕ). k ∷ js) (take-past ks i (omega (arith, past)))
+
     drop-past : (ks : List ℕ) (i : ℕ) → length ks ≤ i → drop i ks ≡ []
     drop-past [] zero past = refl
     drop-past [] (suc i) past = refl
@@ -573,6 +576,7 @@ positions-there (first ∷ queue) (suc k) at reply has = by (positions-there que
     later : (number : ℕ) → slice_get (done_positions queue) number ≡ Some k
         → slice_get (map suc (done_positions queue)) number ≡ Some (suc k)
     later number rest = slice_get-map suc (done_positions queue) number ∙ ap (option_map suc) rest
+
     by : ((number : ℕ) × (slice_get (done_positions queue) number ≡ Some k)) → (b : Bool)
         → (number : ℕ)
         × (slice_get (if b then 0 ∷ map suc (done_positions queue) else map suc (done_positions queue)) number
@@ -602,6 +606,7 @@ positions-sent (first ∷ queue) k number there =
         let found = found-later (slice_get (done_positions queue) m) k
         (sym (slice_get-map suc (done_positions queue) m) ∙ there) in
         (found.0, found.2, ap (map suc) (rest found.0 m found.1) ∙ remove-map (done_positions queue) m)
+
     by : ((j m : ℕ) → slice_get (done_positions queue) m ≡ Some j → done_positions (with_progress queue j Sent)
         ≡ remove (done_positions queue) m)
         → (b : Bool) → is_done first.progress ≡ b → (k number : ℕ)

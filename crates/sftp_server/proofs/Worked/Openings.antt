@@ -1,15 +1,13 @@
 -- Sessions that are opened by an INIT of version 3: what makes one, and what their bytes say of them.
-use Rattle.std.proofs.Common.{◌≡◌, ◌<◌, ◌≤◌, ℕ, List, [], ◌∷◌, ◌++◌, length, map, Option, Some, Result, Ok, refl, sym, ap}
-use Rattle.std.proofs.Common.{subst, ◌∙◌, arith, append_assoc, append-nil, lit<, lit≤}
+use Rattle.std.proofs.Common.{◌≡◌, ℕ, List, [], ◌∷◌, ◌++◌, length, map, Some, Ok, refl, sym, ap}
+use Rattle.std.proofs.Common.{◌∙◌, arith, append_assoc, append-nil, lit<, lit≤}
 use Rattle.std.specs.List.{AllByRecursion}
 use Rattle.std.proofs.lemmas.List.{length-append}
 use Rattle.sftp_wire.specs.declared.packets.Packet.{Packet}
 use Rattle.sftp_wire.specs.declared.packets.Packet.TheVariants.{Init, Version, Request as request_packet}
 use Rattle.sftp_wire.specs.declared.packets.Packet.TheVariants.{Reply as reply_packet}
-use Rattle.sftp_wire.specs.declared.packets.Reply.{Reply}
-use Rattle.sftp_wire.specs.declared.packets.Request.{Request}
 use Rattle.sftp_wire.specs.declared.packets.Side.TheVariants.{Client, Server}
-use Rattle.sftp_wire.specs.Spelling.{spelling, side_of, HasSpelling, contents}
+use Rattle.sftp_wire.specs.Spelling.{spelling}
 use Rattle.sftp_wire.specs.Reading.{front_of}
 use Rattle.sftp_wire.specs.Framing.{place_after}
 use Rattle.sftp_wire.specs.Examples.{hex, version_bytes}
@@ -17,15 +15,13 @@ use Rattle.sftp_wire.proofs.StreamLaws.Front.{front_again, spellings-apart, leng
 use Rattle.sftp_transcript.specs.declared.events.Event.{Event}
 use Rattle.sftp_transcript.specs.declared.events.Event.TheVariants.{Asked, Replied}
 use Rattle.sftp_transcript.specs.Transcript.{packet_of, IsEvent}
-use Rattle.sftp_transcript.specs.Explained.{Explained, turn_after, in_window, exchanges_of, leading_pairs}
+use Rattle.sftp_transcript.specs.Explained.{turn_after, in_window, exchanges_of, leading_pairs}
 use Rattle.sftp_transcript.specs.Examples.{handshake_bytes}
 use Rattle.sftp_tree.specs.Picture.{blank}
 use Rattle.sftp_path.specs.Table.{get, retain}
 use Rattle.sftp_handles.specs.State.{settled}
 use Rattle.sftp_handles.specs.Handles.{pins_of}
-use Rattle.sftp_handles.specs.Allowed.{Allowed}
-use Rattle.sftp_server.specs.Served.{our_version, session_packets, sent_by, recorded, IsGreeting, IsOpened, IsServed}
-use Rattle.sftp_server.specs.Served.{closed_tree}
+use Rattle.sftp_server.specs.Served.{our_version, session_packets, sent_by, IsGreeting, IsOpened, IsServed}
 use Rattle.sftp_server.specs.Examples.{init_bytes}
 
 -- ---- what opens a session

@@ -1,5 +1,5 @@
 -- Worked examples: what requests are allowed on the blank tree, and a script of acts.
-use Rattle.std.proofs.Common.{◌≡◌, ℕ, ◌<◌, ◌≤◌, ◌^◌, List, [], ◌∷◌, codes, length, refl, inr, lit<, lit≤}
+use Rattle.std.proofs.Common.{ℕ, ◌<◌, ◌≤◌, ◌^◌, List, [], ◌∷◌, codes, length, refl, inr, lit<, lit≤}
 use Rattle.sftp_wire.specs.declared.packets.Ask.TheVariants.{Mkdir, Rmdir, Stat}
 use Rattle.sftp_wire.specs.declared.packets.Answer.TheVariants.{Status, Attrs as attributes}
 use Rattle.sftp_wire.specs.declared.packets.Packet.TheVariants.{Request as request_packet, Reply as reply_packet}
@@ -15,7 +15,7 @@ use Rattle.sftp_tree.specs.Walk.{meets, walk, walk_parts, reached}
 use Rattle.sftp_tree.specs.Causes.{no_causes, when, joined}
 use Rattle.sftp_tree.specs.Requests.{led, plain_causes, causes as path_causes, outcome}
 use Rattle.sftp_tree.specs.Picture.{blank}
-use Rattle.sftp_handles.specs.State.{State, settled}
+use Rattle.sftp_handles.specs.State.{State}
 use Rattle.sftp_handles.specs.Handles.{pins_of}
 use Rattle.sftp_handles.specs.Requests.{causes, told_to, answers, after}
 use Rattle.sftp_handles.specs.Allowed.{Allowed}
@@ -96,9 +96,11 @@ root_spelled = record {
 
 -- the blank tree with the directory `/a`
 abbrev with_a : Tree
-with_a = record blank { names =
-    ([], Dir (record { uid = 0; gid = 0; permissions = 0o755 }))
-    ∷ (codes "a" ∷ [], Dir (record { uid = 0; gid = 0; permissions = 0o755 })) ∷ [] }
+with_a = record blank {
+  names =
+      ([], Dir (record { uid = 0; gid = 0; permissions = 0o755 }))
+      ∷ (codes "a" ∷ [], Dir (record { uid = 0; gid = 0; permissions = 0o755 })) ∷ [];
+}
 
 makes : Allowed (started blank) make_a (success 1) (started with_a)
 unfolding

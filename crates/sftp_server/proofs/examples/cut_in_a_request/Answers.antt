@@ -7,7 +7,6 @@ use Rattle.sftp_wire.specs.Examples.{hex}
 use Rattle.sftp_wire.specs.Spelling.{spelling}
 use Rattle.sftp_wire.specs.Reading.{front_of, packet_of, client_packet_at, uint32_at, pairs_at, pair_at, string_at}
 use Rattle.sftp_tree.specs.Tree.{Tree}
-use Rattle.sftp_tree.specs.Picture.{blank}
 use Rattle.sftp_transcript.specs.Examples.{handshake_bytes}
 use Rattle.sftp_server.specs.declared.ends.Ended.TheVariants as ends
 use Rattle.sftp_server.specs.declared.ends.SessionFault.TheVariants as faults

@@ -1,6 +1,4 @@
-use Rattle.std.proofs.Common.{◌≡◌, ℕ, ◌-◌, ◌+◌, List, ◌++◌, map, take, drop, set, get_or, length, refl, sym, ap, ◌∙◌, arith}
-use Rattle.std.proofs.Common.{append-nil}
-use Rattle.std.proofs.lemmas.List.{length-map}
+use Rattle.std.proofs.Common.{◌-◌}
 use Rattle.sftp_server.proofs.Queues.{one-moved, all-moved}
 use Rattle.sftp_server.proofs.queue.move_forward.Goals as goal
 

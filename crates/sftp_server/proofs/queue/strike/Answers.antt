@@ -1,4 +1,4 @@
-use Rattle.std.proofs.Common.{◌≡◌, Some, Ok, Err, List, ℕ, slice_get, sym, ap, subst, ◌∙◌}
+use Rattle.std.proofs.Common.{Ok, Err, List, ℕ, subst}
 use Rattle.std.specs.List.Sorted.{IsBinarySearchResult}
 use Rattle.std.specs.Ordering.{nat_cmp}
 use Rattle.sftp_server.proofs.Queues.{found-position}

@@ -1,8 +1,7 @@
-use Rattle.std.proofs.Common.{◌≡◌, ℕ, ◌+◌, Some, None, refl, ap, sym, ◌∙◌, arith, length, slice_get}
+use Rattle.std.proofs.Common.{◌+◌, refl, ap, sym, ◌∙◌, arith, length}
 use Rattle.std.proofs.lemmas.Bool.{ltb-false}
 use Rattle.std.proofs.lemmas.Option.{slice_get_read, same_Some}
 use Rattle.sftp_server.specs.declared.queue.Progress.TheVariants.{Done}
-use Rattle.sftp_server.specs.Queue.{with_progress}
 use Rattle.sftp_server.proofs.Queues.{queue-done, stored, first_some, first_none, positions-few, length-progress}
 use Rattle.sftp_server.proofs.queue.Queue.complete.Goals as goal
 

@@ -1,4 +1,4 @@
-use Rattle.std.proofs.Common.{length, ap, sym, ◌∙◌}
+use Rattle.std.proofs.Common.{length, ap, ◌∙◌}
 use Rattle.sftp_server.proofs.Queues.{positions-count}
 use Rattle.sftp_server.proofs.queue.Queue.done.Goals as goal
 

@@ -1,5 +1,5 @@
-use Rattle.std.proofs.Common.{◌≡◌, ◌||◌, ℕ, ◌+◌, nat_eq, Bool, true, false, is_some, cond, Some, refl, ◌∙◌, ap, arith}
-use Rattle.std.proofs.Common.{Result, Ok, Err, OnOk, length, ◌<◌, List, [], ◌∷◌}
+use Rattle.std.proofs.Common.{◌≡◌, ◌||◌, ℕ, nat_eq, false, is_some, ◌∙◌, ap, arith}
+use Rattle.std.proofs.Common.{Result, Ok, Err, OnOk, length, ◌<◌, [], ◌∷◌}
 use Rattle.std.specs.Vec.{vec_capacity}
 use Rattle.sftp_server.specs.declared.queue.Entry.{Entry}
 use Rattle.sftp_server.specs.declared.queue.Progress.TheVariants.{Pending}

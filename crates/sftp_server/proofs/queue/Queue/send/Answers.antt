@@ -1,4 +1,4 @@
-use Rattle.std.proofs.Common.{◌≡◌, ◌≤◌, ◌-◌, ◌+◌, ◌&&◌, not, ℕ, List, map, nat_eq, is_some, Some, arith, ap, sym, subst, ◌∙◌}
+use Rattle.std.proofs.Common.{◌≡◌, ◌-◌, ◌+◌, ◌&&◌, not, ℕ, List, map, nat_eq, is_some, Some, arith, ap, sym, subst, ◌∙◌}
 use Rattle.std.proofs.Common.{length, slice_get}
 use Rattle.std.specs.List.Sorted.{IsNonDecreasing}
 use Rattle.std.specs.Map.{lookup}
