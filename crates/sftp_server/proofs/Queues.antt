@@ -1,8 +1,8 @@
 -- How each change of a queue goes over its requests.
 use Rattle.std.proofs.Common.{◌≡◌, ◌==◌, ◌&&◌, ◌||◌, not, nat_lt, nat_le, nat_eq, ℕ, zero, suc, ◌+◌, ◌-◌, ◌<◌, ◌≤◌}
 use Rattle.std.proofs.Common.{Bool}
-use Rattle.std.proofs.Common.{true, false, cond, List, [], ◌∷◌, ◌++◌, Option, Some, None, is_some, length, set, take, drop}
-use Rattle.std.proofs.Common.{slice_get, get_or, map, if◌then◌else◌}
+use Rattle.std.proofs.Common.{true, false, cond, List, [], ◌∷◌, ◌++◌, Option, Some, None, is_some, length}
+use Rattle.std.proofs.Common.{set, take, drop, slice_get, get_or, map, if◌then◌else◌}
 use Rattle.std.proofs.Common.{Result, Ok, Err, MatchResult}
 use Rattle.std.specs.Prelude.{remove}
 use Rattle.std.specs.List.Sorted.{IsNonDecreasing, IsBinarySearchResult}
@@ -664,11 +664,15 @@ sent-not_done Sent is = refl
 
 all-same : (ks : List ℕ) → map (λ k. k - 0) ks ≡ ks
 all-same [] = refl
-all-same (k ∷ ks) = rw (all-same ks, (let same : k - 0 ≡ k = omega arith in same)) refl
+all-same (k ∷ ks) =
+    let same : k - 0 ≡ k = omega arith in
+    rw (all-same ks, same) refl
 
 one-forward : (gone : ℕ) (ks : List ℕ) → map (λ k. k - suc gone) (map suc ks) ≡ map (λ k. k - gone) ks
 one-forward gone [] = refl
-one-forward gone (k ∷ ks) = rw (one-forward gone ks, (let same : suc k - suc gone ≡ k - gone = omega arith in same)) refl
+one-forward gone (k ∷ ks) =
+    let same : suc k - suc gone ≡ k - gone = omega arith in
+    rw (one-forward gone ks, same) refl
 
 -- so many leave the front, and those that are done are so many positions nearer
 positions-front : (queue : List Entry) (gone : ℕ) → gone + length (from_unsent queue) ≡ length queue

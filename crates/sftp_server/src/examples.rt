@@ -1,5 +1,5 @@
-//! Worked examples: what a core does, and how sessions end, computed by the checker on the definitions that the contracts
-//! of `run_script` and `serve` name. The functions do nothing; each promise is in the contract.
+//! Worked examples: what a core does and how sessions end, as theorems on the definitions that the contracts of
+//! `run_script` and `serve` name. The functions do nothing; each promise is in the contract.
 ghost use Rattle.std.specs.Prelude.{◌≡◌, ℕ, ◌∷◌, ◌++◌, [], codes, length};
 ghost use Rattle.sftp_wire.specs.Examples.{hex, version_bytes};
 ghost use Rattle.sftp_transcript.specs.Examples.{handshake_bytes};
@@ -15,7 +15,7 @@ ghost use Rattle.sftp_server.specs.Examples.{mkdir_beginning, stat_bytes, attrs_
 use crate::ends::{Ended, SessionFault};
 use sftp_wire::{Fault, WireError};
 
-/// On the blank tree MKDIR and RMDIR of `/a` are delivered. Work on the second does nothing, since the first is pending;
+/// On the blank tree MKDIR and RMDIR of `/a` are delivered. Work on the second does nothing while the first is pending;
 /// then both are done in the order asked, and both succeed. Their replies are sent in the opposite order. The tree is
 /// blank again.
 pub fn work_keeps_the_order()

@@ -47,8 +47,8 @@ pub(crate) struct Queue {
     ids: IndexMap<u32, ()>,
     /// The position of the first pending request, or the length of the queue.
     first_pending: usize,
-    /// The positions of the requests that are done and not sent, in their order. It has room for one more for each
-    /// request that is not done.
+    /// The positions of the requests that are done and not sent, in their order. It has the capacity for the positions
+    /// of all requests.
     done: Vec<usize>,
 }
 
@@ -195,7 +195,11 @@ impl Queue {
     }
 }
 
-/// Makes room for one request more, and for the positions of all.
+/// Reserves memory for one request more, and for the positions of all.
+///
+/// # Errors
+///
+/// `AllocError` if memory runs out. Nothing changes but the capacities.
 fn reserve_one(entries: &mut VecDeque<Entry>, done: &mut Vec<usize>) -> Result<(), AllocError>
     requires { length done.old.items ≤ length entries.old.items }
     ensures entries { entries.new.items ≡ entries.old.items }
@@ -229,7 +233,7 @@ fn take_reply(entries: &mut VecDeque<Entry>, k: usize) -> Option<(u32, Reply)>
     }
 }
 
-/// Takes a position out of a list of positions that rise.
+/// Removes a position from a list of positions that rise.
 fn strike(positions: &mut Vec<usize>, k: usize)
     requires rises { IsNonDecreasing positions.old.items }
     requires there { (number : ℕ) × (slice_get positions.old.items number ≡ Some k) }

@@ -51,8 +51,9 @@ fn write<W: Sink>(writer: &mut W, bytes: &[u8]) -> Result<(), Stop>
 ///
 /// # Errors
 ///
-/// `NoMemory` if memory runs out, before anything is written; `Io(Writer)` if the writer fails, after a beginning of the
-/// packet; `Io(Log)` if the log fails, after the packet and a beginning of its record.
+/// - `NoMemory` if memory runs out. Nothing is written.
+/// - `Io(Writer)` if the writer fails. A beginning of the packet is written.
+/// - `Io(Log)` if the log fails. The packet is written, and a beginning of its record is logged.
 pub(crate) fn send<W: Sink, L: Sink>(
     packet: &Packet,
     output: &mut Vec<u8>,
