@@ -252,7 +252,8 @@ impl<L: Sink> Writer<L> {
         self.records.append(side, &self.spelled)
     }
 
-    /// Writes the record of a packet of that side whose bytes are at hand, as `record` does. It takes no memory.
+    /// Writes the record of a packet of that side whose bytes are at hand, as `record` does. It takes no memory. The
+    /// bytes are not looked at: nothing is promised where they are not those of one packet of that side.
     ///
     /// # Errors
     ///
