@@ -1,6 +1,6 @@
 //! A transcript file that is read record by record from a source. This profile's own; the packets in it are those of
 //! the draft, section 4 on.
-ghost use Rattle.std.specs.Prelude.{◌≡◌, ◌≢◌, ◌<◌, ◌≤◌, List, ℕ, ⊤, [], Some, None, Ok, Err, OnOk, OnErr, IfOk, IfErr};
+ghost use Rattle.std.specs.Prelude.{◌≡◌, ◌<◌, ◌≤◌, List, ℕ, ⊤, [], Some, None, Ok, Err, OnOk, OnErr, IfOk, IfErr};
 ghost use Rattle.std.specs.Prelude.{IfSome, MatchResult};
 ghost use Rattle.sftp_transcript.specs.declared.errors.TranscriptError.{TranscriptError};
 ghost use Rattle.sftp_transcript.specs.declared.events.Event.{Event};
@@ -235,8 +235,6 @@ impl<R: Source> Reader<R> {
         // Where memory ran out, the same events are to come.
         ensures no_memory { result ≡ Err TranscriptError.NoMemory → RecordsSame self.old self.new }
         ensures fault { OnOk result (self.new.fault ≡ None) }
-        // Any other error is returned for good.
-        ensures stays { IfErr result (λ error. error ≢ TranscriptError.NoMemory → self.new.fault ≡ Some error) }
         ensures number { IfOk result (λ given. self.new.number ≡ number_after self.old.number given) }
         // An error is of the record in hand.
         ensures refused { self.old.fault ≡ None
