@@ -1,6 +1,7 @@
 -- Which files an auditor accepts: those of a starting tree and of a recorded session that account for a run.
-use Rattle.std.specs.Prelude.{◌≡◌, ◌⊎◌, ⊤, ℕ, ◌^◌, ◌-◌, min, List, [], ◌∷◌, ◌++◌, length}
+use Rattle.std.specs.Prelude.{◌≡◌, ◌⊎◌, ⊤, ℕ, ◌^◌, ◌-◌, min, List, [], ◌∷◌, ◌++◌, length, Bool, true, false, IsTrue}
 use Rattle.sftp_transcript.specs.declared.events.Event.{Event}
+use Rattle.sftp_transcript.specs.declared.events.Event.TheVariants.{Asked, Replied}
 use Rattle.sftp_treefile.specs.declared.errors.TreeError.{TreeError}
 use Rattle.sftp_treefile.specs.declared.errors.TreeError.TheVariants as tree_errors
 use Rattle.sftp_transcript.specs.declared.errors.TranscriptError.{TranscriptError}
@@ -20,7 +21,7 @@ use Rattle.sftp_transcript.specs.Streams.{one_more}
 use Rattle.sftp_transcript.specs.Begun.{BeginsRecord, FaultBehind, HasGiven}
 use Rattle.sftp_transcript.specs.Recorded.{Reading}
 use Rattle.sftp_transcript.specs.declared.stage.Stage.TheVariants as stages
-use Rattle.sftp_audit.specs.Auditor.{Refuses, LacksReply}
+use Rattle.sftp_audit.specs.Auditor.{Audited, StandsFor, Refuses, LacksReply}
 
 -- the state in which a session begins on a tree: nothing is open
 abbrev pub started : Tree → State
@@ -38,6 +39,10 @@ pub record Accounts (tree transcript : List ℕ) (start : Tree) (events : List E
 -- the number of requests, capped at 2^64 - 1
 abbrev pub request_count : List Event → ℕ
 request_count events = min (length (exchanges_of events)) (2 ^ 64 - 1)
+
+abbrev pub is_request : Event → Bool
+is_request (Asked request) = true
+is_request (Replied reply) = false
 
 -- the error of an audit, by the error of its part: `NoMemory` is the same everywhere
 abbrev pub error_of_tree : TreeError → AuditError
@@ -103,9 +108,28 @@ abbrev pub CountsFailure : AuditError → ℕ → ℕ → Type 0
 CountsFailure (audit_errors.Transcript (transcript_errors.Io number)) old new = new ≡ one_more old
 CountsFailure other old new = new ≡ old
 
+-- the source failed only if it may fail
+abbrev pub IsExcusedBy : Bool → AuditError → Type 0
+IsExcusedBy may_fail (audit_errors.Transcript (transcript_errors.Io number)) = IsTrue may_fail
+IsExcusedBy may_fail other = ⊤
+
 -- a reader that has read nothing yet of these bytes
 abbrev pub IsNew : List ℕ → Reading → Type 0
 IsNew bytes s = HasGiven bytes [] bytes s × (s.stage ≡ stages.Opening)
+
+-- the bytes record some events; the auditor stands for these, and so many of them are requests
+pub record WasFed (start : State) (transcript : List ℕ) (requests : ℕ) (auditor : Audited) : Type 0 where
+  pub events : List Event
+  pub recorded : IsRecord events transcript
+  pub stands : StandsFor start events auditor
+  pub counted : requests ≡ request_count events
+
+-- why no further event is fed: the next record has a fault, or its event is refused
+abbrev pub StopsFeed : State → List ℕ → AuditError → Type 0
+StopsFeed start transcript (audit_errors.Transcript error) = FaultAt start transcript error
+StopsFeed start transcript (audit_errors.Refused refusal) = RefusedAt start transcript refusal
+StopsFeed start transcript audit_errors.NoMemory = ⊤
+StopsFeed start transcript (audit_errors.Tree error) = ⊥
 
 -- no other error has `NoMemory` inside
 abbrev pub IsPlain : AuditError → Type 0

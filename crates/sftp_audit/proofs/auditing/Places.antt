@@ -1,10 +1,11 @@
 -- How the index of the requests that wait follows the exchanges that are kept.
-use Rattle.std.proofs.Common.{◌≡◌, ◌==◌, ◌&&◌, ◌||◌, not, nat_eq, ℕ, zero, suc, ◌+◌, ◌%◌, ◌^◌, ◌<◌, ◌≤◌, ◌⊎◌, Bool, true, false}
-use Rattle.std.proofs.Common.{cond, List, [], ◌∷◌, ◌++◌, Option, Some, None, is_some, length, set, drop, slice_get}
-use Rattle.std.proofs.Common.{refl, sym, ap, ◌∙◌, subst, arith, inl, inr}
+use Rattle.std.proofs.Common.{◌≡◌, ◌==◌, ◌&&◌, ◌||◌, not, nat_eq, ℕ, zero, suc, ◌+◌, ◌%◌, ◌^◌, ◌<◌, ◌≤◌, ◌⊎◌, Bool}
+use Rattle.std.proofs.Common.{true, false, cond, List, [], ◌∷◌, ◌++◌, Option, Some, None, is_some, length, set, drop}
+use Rattle.std.proofs.Common.{slice_get, refl, sym, ap, ◌∙◌, subst, arith, inl, inr}
 use Rattle.std.specs.Map.{lookup}
 use Rattle.std.specs.Option.{option_map}
-use Rattle.std.proofs.lemmas.Bool.{or_parts, or_right, eqb-true, eqb-false, eq-eqb, ne_eqb, cases_Bool, cases_lt, true≢false}
+use Rattle.std.proofs.lemmas.Bool.{or_parts, or_right, eqb-true, eqb-false, eq-eqb, ne_eqb, cases_Bool, cases_lt}
+use Rattle.std.proofs.lemmas.Bool.{true≢false}
 use Rattle.std.proofs.lemmas.List.{length-append, length-map, map-append}
 use Rattle.std.proofs.lemmas.Option.{none-some, same_Some, slice_get-map, slice_get_within}
 use Rattle.sftp_wire.specs.declared.packets.Request.{Request}
@@ -15,6 +16,7 @@ use Rattle.sftp_transcript.proofs.pairing.Standing.{AreApart-asked}
 use Rattle.sftp_audit.specs.declared.exchanges.RecordedReply.{RecordedReply}
 use Rattle.sftp_audit.specs.declared.exchanges.Exchange.{Exchange}
 use Rattle.sftp_audit.specs.Exchanges.{is_answered, is_open, answered_by, with_reply, bare, ledger_of}
+use Rattle.sftp_audit.proofs.auditing.Lists.{is_open-append, is_open-ledger}
 use Rattle.sftp_audit.specs.Ledger.{starts_answered, IsOrdinal, WaitsAt, IsIndexed}
 
 flipped : (a b : ℕ) → (a == b) ≡ false → (b == a) ≡ false
@@ -45,16 +47,6 @@ ordinal-next first place ordinal small is = (is.0, by is.1)
 
 -- ---- the requests that wait
 
-is_open-bare : (id : ℕ) (xs : List Exchange) → is_open id xs ≡ ledgers.is_open id (ledger_of xs)
-unfolding is_open ledgers.is_open
-is_open-bare id [] = refl
-is_open-bare id (x ∷ xs) = by (is_open-bare id xs) x.reply refl
-  where
-    by : is_open id xs ≡ ledgers.is_open id (ledger_of xs) → (r : Option RecordedReply) → x.reply ≡ r
-        → is_open id (x ∷ xs) ≡ ledgers.is_open id (ledger_of (x ∷ xs))
-    by rest None is = rw (is, rest) refl
-    by rest (Some given) is = rw (is, rest) refl
-
 open_at : (xs : List Exchange) (place : ℕ) (x : Exchange) → slice_get xs place ≡ Some x → is_answered x ≡ false
     → is_open x.request.id xs ≡ true
 unfolding is_open
@@ -65,22 +57,6 @@ open_at (y ∷ xs) (suc place) x at waits =
     or_right (not (is_answered y) && y.request.id == x.request.id) (is_open x.request.id xs)
     (open_at xs place x at waits)
 
-is_open-push : (id : ℕ) (xs : List Exchange) (x : Exchange)
-    → is_open id (xs ++ x ∷ []) ≡ (is_open id xs || (not (is_answered x) && x.request.id == id))
-unfolding is_open
-is_open-push id [] x = or_false (not (is_answered x) && x.request.id == id)
-  where
-    or_false : (b : Bool) → (b || false) ≡ b
-    or_false true = refl
-    or_false false = refl
-is_open-push id (y ∷ xs) x =
-    rw (is_open-push id xs x)
-    (or_assoc (not (is_answered y) && y.request.id == id) (is_open id xs) (not (is_answered x) && x.request.id == id))
-  where
-    or_assoc : (a b c : Bool) → (a || (b || c)) ≡ ((a || b) || c)
-    or_assoc true b c = refl
-    or_assoc false b c = refl
-
 -- ---- no two of one id
 
 apart-first : (x : Exchange) (xs : List Exchange) → AreApart (ledger_of (x ∷ xs)) → is_answered x ≡ false
@@ -89,8 +65,9 @@ unfolding AreApart
 apart-first x xs apart waits = by x.reply refl
   where
     by : (r : Option RecordedReply) → x.reply ≡ r → is_open x.request.id xs ≡ false
-    by None is = is_open-bare x.request.id xs ∙ (let f : AreApart ((x.request, None) ∷ ledger_of xs) = rw is at apart in
-        f.0)
+    by None is =
+        is_open-ledger x.request.id xs
+        ∙ (let f : AreApart ((x.request, None) ∷ ledger_of xs) = rw is at apart in f.0)
     by (Some given) is = absurd (true≢false (sym (ap is_some is) ∙ waits))
 
 apart-rest : (x : Exchange) (xs : List Exchange) → AreApart (ledger_of (x ∷ xs)) → AreApart (ledger_of xs)
@@ -107,7 +84,7 @@ unfolding AreApart
 apart-from x xs free apart = by x.reply refl
   where
     by : (r : Option RecordedReply) → x.reply ≡ r → AreApart (ledger_of (x ∷ xs))
-    by None is = rw is (sym (is_open-bare x.request.id xs) ∙ free (ap is_some is), apart)
+    by None is = rw is (sym (is_open-ledger x.request.id xs) ∙ free (ap is_some is), apart)
     by (Some given) is = rw is apart
 
 -- ---- a reply
@@ -201,7 +178,8 @@ stored r (y ∷ xs) zero x apart at waits same =
     let shut : is_open r.reply.id xs ≡ false = rw (← same, ← is) (apart-first y xs apart first) in
     rw (is, waits, eq-eqb x.request.id r.reply.id same, with_reply-shut r xs shut) refl
 stored r (y ∷ xs) (suc place) x apart at waits same =
-    rw (passed (is_answered y) refl (y.request.id == r.reply.id) refl, stored r xs place x (apart-rest y xs apart) at waits same) refl
+    rw (passed (is_answered y) refl (y.request.id == r.reply.id) refl,
+    stored r xs place x (apart-rest y xs apart) at waits same) refl
   where
     passed : (a : Bool) → is_answered y ≡ a → (b : Bool) → (y.request.id == r.reply.id) ≡ b → answered_by r y ≡ y
     passed true answered b is = rw answered refl
@@ -278,9 +256,11 @@ slice_get-front (z ∷ xs) x y (suc place) at = slice_get-front xs x y place at
 abbrev pub asked : Request → ℕ → Exchange
 asked request number = record { request = request; number = number; reply = None }
 
-module _ (xs : List Exchange) (index after : List (ℕ × ℕ)) (first ordinal : ℕ) (request : Request) (number : ℕ) (indexed : IsIndexed xs index first)
-    (few : length xs < window) (free : is_open request.id xs ≡ false) (is : IsOrdinal first (length xs) ordinal)
-    (changed : (id : ℕ) → lookup (nat_eq id) after ≡ cond (nat_eq request.id id) (Some ordinal) (lookup (nat_eq id) index)) where
+module _ (xs : List Exchange) (index after : List (ℕ × ℕ)) (first ordinal : ℕ) (request : Request) (number : ℕ)
+    (indexed : IsIndexed xs index first) (few : length xs < window) (free : is_open request.id xs ≡ false)
+    (is : IsOrdinal first (length xs) ordinal)
+    (changed : (id : ℕ) → lookup (nat_eq id) after
+    ≡ cond (nat_eq request.id id) (Some ordinal) (lookup (nat_eq id) index)) where
   found_asked : (id o : ℕ) → lookup (nat_eq id) after ≡ Some o
       → (place : ℕ) × IsOrdinal first place o × WaitsAt (xs ++ asked request number ∷ []) place id
   found_asked id o at = by (nat_eq request.id id) refl
@@ -292,7 +272,8 @@ module _ (xs : List Exchange) (index after : List (ℕ × ℕ)) (first ordinal :
           → (place : ℕ) × IsOrdinal first place o × WaitsAt (xs ++ asked request number ∷ []) place id
       by true hit = (
         length xs,
-        subst (IsOrdinal first (length xs)) (same_Some ordinal o (let f : Some ordinal ≡ Some o = rw hit at now in f)) is,
+        subst (IsOrdinal first (length xs))
+            (same_Some ordinal o (let f : Some ordinal ≡ Some o = rw hit at now in f)) is,
         record {
           exchange = asked request number;
           at = slice_get-push xs (asked request number);
@@ -314,6 +295,7 @@ module _ (xs : List Exchange) (index after : List (ℕ × ℕ)) (first ordinal :
           )
 
   absent_asked : (id : ℕ) → lookup (nat_eq id) after ≡ None → is_open id (xs ++ asked request number ∷ []) ≡ false
+  unfolding is_open
   absent_asked id none = by (nat_eq request.id id) refl
     where
       now : cond (nat_eq request.id id) (Some ordinal) (lookup (nat_eq id) index) ≡ None
@@ -323,20 +305,21 @@ module _ (xs : List Exchange) (index after : List (ℕ × ℕ)) (first ordinal :
       by true hit = absurd (none-some ordinal (sym (let f : Some ordinal ≡ None = rw hit at now in f)))
       by false miss =
           let shut = indexed.absent id (let f : lookup (nat_eq id) index ≡ None = rw miss at now in f) in
-          rw (is_open-push id xs (asked request number), shut, miss) refl
+          rw (is_open-append id xs (asked request number ∷ []), shut, miss) refl
 
   pub indexed-asked : IsIndexed (xs ++ asked request number ∷ []) after first
   indexed-asked = record {
     few = omega (arith, few, length-append xs (asked request number ∷ []));
     apart = rw (map-append bare xs (asked request number ∷ []))
-        (AreApart-asked (ledger_of xs) request indexed.apart (sym (is_open-bare request.id xs) ∙ free));
+        (AreApart-asked (ledger_of xs) request indexed.apart (sym (is_open-ledger request.id xs) ∙ free));
     found = found_asked;
     absent = absent_asked;
   }
 
 -- ---- a reply more
 
-module _ (xs : List Exchange) (index after : List (ℕ × ℕ)) (first : ℕ) (r : RecordedReply) (indexed : IsIndexed xs index first)
+module _ (xs : List Exchange) (index after : List (ℕ × ℕ)) (first : ℕ) (r : RecordedReply)
+    (indexed : IsIndexed xs index first)
     (changed : (id : ℕ) → lookup (nat_eq id) after ≡ cond (nat_eq r.reply.id id) None (lookup (nat_eq id) index)) where
   found_replied : (id o : ℕ) → lookup (nat_eq id) after ≡ Some o
       → (place : ℕ) × IsOrdinal first place o × WaitsAt (with_reply r xs) place id
@@ -390,8 +373,9 @@ module _ (xs : List Exchange) (index after : List (ℕ × ℕ)) (first : ℕ) (r
 
 -- ---- the first one is settled
 
-module _ (x : Exchange) (xs : List Exchange) (index : List (ℕ × ℕ)) (first next : ℕ) (indexed : IsIndexed (x ∷ xs) index first)
-    (answered : is_answered x ≡ true) (small : first < 2 ^ 64) (next_is : next ≡ (first + 1) % 2 ^ 64) where
+module _ (x : Exchange) (xs : List Exchange) (index : List (ℕ × ℕ)) (first next : ℕ)
+    (indexed : IsIndexed (x ∷ xs) index first) (answered : is_answered x ≡ true) (small : first < 2 ^ 64)
+    (next_is : next ≡ (first + 1) % 2 ^ 64) where
   behind : (id o place : ℕ) → IsOrdinal first place o → WaitsAt (x ∷ xs) place id
       → (p : ℕ) × IsOrdinal next p o × WaitsAt xs p id
   behind id o zero is w =

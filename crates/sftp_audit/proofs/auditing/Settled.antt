@@ -1,11 +1,8 @@
 -- How settling goes over the exchanges that are kept: each is done as soon as it and all before it have their replies.
-use Rattle.std.proofs.Common.{◌≡◌, true, false, List, [], ◌∷◌, ◌++◌, Option, Some, None, is_some, drop, slice_get, refl, sym, ap, subst}
-use Rattle.std.proofs.Common.{◌∙◌, append_assoc}
-use Rattle.std.proofs.lemmas.Bool.{true≢false}
+use Rattle.std.proofs.Common.{◌≡◌, true, List, [], ◌∷◌, ◌++◌, Option, Some, None, is_some, drop, slice_get}
+use Rattle.std.proofs.Common.{refl, sym, ap, ◌∙◌, append_assoc}
 use Rattle.std.proofs.lemmas.List.{append-nil}
 use Rattle.std.proofs.lemmas.Option.{none-some, same_Some}
-use Rattle.sftp_wire.specs.declared.packets.Request.{Request}
-use Rattle.sftp_wire.specs.declared.packets.Reply.{Reply}
 use Rattle.sftp_handles.specs.State.{State}
 use Rattle.sftp_handles.specs.Allowed.{Allowed}
 use Rattle.sftp_transcript.specs.Explained.{Run, leading_pairs}
@@ -13,45 +10,14 @@ use Rattle.sftp_audit.specs.declared.exchanges.RecordedReply.{RecordedReply}
 use Rattle.sftp_audit.specs.declared.exchanges.Exchange.{Exchange}
 use Rattle.sftp_audit.specs.Exchanges.{is_answered, AreAnswered, unsettled, ledger_of}
 use Rattle.sftp_audit.specs.Auditor.{IsFirstWrong}
+use Rattle.sftp_audit.proofs.auditing.Lists.{unsettled-answered, leading_pairs-settled, leading_pairs-unsettled}
+use Rattle.sftp_audit.proofs.auditing.Turns.{run-append}
 
 -- ---- lists
 
 answered-append : (xs ys : List Exchange) → AreAnswered xs → AreAnswered ys → AreAnswered (xs ++ ys)
 answered-append [] ys front back = back
 answered-append (x ∷ xs) ys front back = (front.0, answered-append xs ys front.1 back)
-
-unsettled-answered : (before xs : List Exchange) → AreAnswered before → unsettled (before ++ xs) ≡ unsettled xs
-unfolding unsettled
-unsettled-answered [] xs answered = refl
-unsettled-answered (x ∷ before) xs answered = rw answered.0 (unsettled-answered before xs answered.1)
-
-leading_pairs-settled : (before xs : List Exchange) → AreAnswered before
-    → leading_pairs (ledger_of (before ++ xs)) ≡ leading_pairs (ledger_of before) ++ leading_pairs (ledger_of xs)
-unfolding leading_pairs
-leading_pairs-settled [] xs answered = refl
-leading_pairs-settled (x ∷ before) xs answered = by (leading_pairs-settled before xs answered.1) x.reply refl
-  where
-    by : leading_pairs (ledger_of (before ++ xs)) ≡ leading_pairs (ledger_of before) ++ leading_pairs (ledger_of xs)
-        → (r : Option RecordedReply) → x.reply ≡ r → leading_pairs (ledger_of ((x ∷ before) ++ xs))
-        ≡ leading_pairs (ledger_of (x ∷ before)) ++ leading_pairs (ledger_of xs)
-    by rest None is = absurd (true≢false (sym answered.0 ∙ ap is_some is))
-    by rest (Some r) is = rw (is, rest) refl
-
-leading_pairs-unsettled : (xs : List Exchange) → leading_pairs (ledger_of (unsettled xs)) ≡ []
-unfolding leading_pairs unsettled
-leading_pairs-unsettled [] = refl
-leading_pairs-unsettled (x ∷ xs) = by (leading_pairs-unsettled xs) x.reply refl
-  where
-    by : leading_pairs (ledger_of (unsettled xs)) ≡ [] → (r : Option RecordedReply) → x.reply ≡ r
-        → leading_pairs (ledger_of (unsettled (x ∷ xs))) ≡ []
-    by rest None is = rw is refl
-    by rest (Some r) is = rw is rest
-
-run-append : (start mid end : State) (xs ys : List (Request × Reply)) → Run Allowed start xs mid
-    → Run Allowed mid ys end → Run Allowed start (xs ++ ys) end
-run-append start mid end [] ys front back = subst (λ (s : State). Run Allowed s ys end) front back
-run-append start mid end (pair ∷ xs) ys front back =
-    (front.0, front.1, run-append front.0 mid end xs ys front.2 back)
 
 -- ---- those done so far
 
@@ -82,7 +48,8 @@ done-more start mid end old (y ∷ rest) x r done at is allowed =
           ∙ ap (λ (z : Exchange). done.before ++ z ∷ rest) same
           ∙ sym (append_assoc done.before (x ∷ []) rest);
       run = rw (leading_pairs-settled done.before (x ∷ []) done.answered)
-          (run-append start mid end (leading_pairs (ledger_of done.before)) (leading_pairs (ledger_of (x ∷ []))) done.run run);
+          (run-append Allowed start (leading_pairs (ledger_of done.before)) mid (leading_pairs (ledger_of (x ∷ [])))
+          end done.run run);
     }
 
 -- its reply is the first of all that is not allowed
