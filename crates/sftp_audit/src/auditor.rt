@@ -75,8 +75,8 @@ impl Auditor {
     /// - `UnknownReply` at the event's record if no request of the reply's id waits for its reply.
     /// - `IdInUse` at the event's record if a request of the same id waits.
     /// - `Window` at the event's record if 1,024 requests were asked from the oldest unanswered one on.
-    /// - `NotAllowed` at the record of the first reply, in the order asked, that is not allowed. It is returned once all
-    ///   requests before its own have their replies.
+    /// - `NotAllowed` at the record of the first reply, in the order asked, that is not allowed. It is returned once
+    ///   all requests before its own have their replies.
     /// - `NoMemory` if memory runs out.
     pub fn feed(&mut self, event: Event) -> Result<(), Refusal>
         // It then stands for the events so far and this one.

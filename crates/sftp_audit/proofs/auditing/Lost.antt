@@ -1,6 +1,6 @@
 -- What an auditor refuses is lost: whatever else comes, the tree explains no such session.
-use Rattle.std.proofs.Common.{◌≡◌, ◌≢◌, ◌==◌, ◌&&◌, nat_lt, ℕ, suc, ◌<◌, ◌≤◌, Bool, true, false, List, [], ◌∷◌, ◌++◌}
-use Rattle.std.proofs.Common.{Option, Some, None, IsTrue, if◌then◌else◌, refl, sym, ap, ◌∙◌, subst, append_assoc, arith}
+use Rattle.std.proofs.Common.{◌≡◌, ◌==◌, nat_lt, ℕ, ◌<◌, ◌≤◌, Bool, true, false, List, [], ◌∷◌, ◌++◌}
+use Rattle.std.proofs.Common.{Option, Some, None, if◌then◌else◌, refl, sym, ap, ◌∙◌, subst, append_assoc, arith}
 use Rattle.std.proofs.lemmas.Bool.{and_parts, and_from, ltb-true, lt-ltb, eq-eqb}
 use Rattle.sftp_wire.specs.declared.packets.Request.{Request}
 use Rattle.sftp_wire.specs.declared.packets.Reply.{Reply}
@@ -8,15 +8,16 @@ use Rattle.sftp_handles.specs.State.{State}
 use Rattle.sftp_handles.specs.Allowed.{Allowed}
 use Rattle.sftp_transcript.specs.declared.events.Event.{Event}
 use Rattle.sftp_transcript.specs.declared.events.Event.TheVariants.{Asked, Replied}
-use Rattle.sftp_transcript.specs.Explained.{Turn, closed, waiting, broken, after_event, turn_after, Matching, next_reply}
+use Rattle.sftp_transcript.specs.Explained.{Turn, closed, waiting, broken, after_event, turn_after, Matching}
+use Rattle.sftp_transcript.specs.Explained.{next_reply}
 use Rattle.sftp_transcript.specs.Explained.{exchanges_of, leading_pairs, requests_before_reply, in_window, window, Run}
 use Rattle.sftp_transcript.specs.Explained.{Explained}
 use Rattle.sftp_transcript.specs.Ledger as ledgers
-use Rattle.sftp_transcript.specs.Sound.{Sound, InTurn}
+use Rattle.sftp_transcript.specs.Sound.{Sound}
 use Rattle.sftp_audit.specs.declared.errors.Refusal.{Refusal}
 use Rattle.sftp_audit.specs.declared.errors.Refusal.TheVariants as refusals
 use Rattle.sftp_audit.specs.declared.exchanges.Exchange.{Exchange}
-use Rattle.sftp_audit.specs.Exchanges.{recorded_exchanges, unsettled, is_answered, is_open, ledger_of}
+use Rattle.sftp_audit.specs.Exchanges.{recorded_exchanges, is_answered, is_open, ledger_of}
 use Rattle.sftp_audit.specs.Auditor.{Refuses, LacksReply, IsFirstWrong}
 use Rattle.sftp_audit.proofs.steps.RunEnds.{run_end, run_end-of_run}
 use Rattle.sftp_audit.proofs.auditing.Lists.{ledger_of-recorded, is_open-unsettled, leading_pairs-settled}
@@ -72,7 +73,8 @@ abbrev or_later : Option Reply → Option Reply → Option Reply
 or_later None later = later
 or_later (Some reply) later = Some reply
 
-next_reply-append : (id : ℕ) (xs ys : List Event) → next_reply id (xs ++ ys) ≡ or_later (next_reply id xs) (next_reply id ys)
+next_reply-append : (id : ℕ) (xs ys : List Event)
+    → next_reply id (xs ++ ys) ≡ or_later (next_reply id xs) (next_reply id ys)
 unfolding next_reply
 next_reply-append id [] ys = refl
 next_reply-append id (Asked request ∷ xs) ys = next_reply-append id xs ys
@@ -92,13 +94,17 @@ with_replies-first request None others more = refl
 with_replies-first request (Some reply) others more = refl
 
 -- the exchanges of events, and of more events behind them
-exchanges_of-append : (xs ys : List Event) → exchanges_of (xs ++ ys) ≡ ledgers.with_replies (exchanges_of xs) ys ++ exchanges_of ys
+exchanges_of-append : (xs ys : List Event)
+    → exchanges_of (xs ++ ys) ≡ ledgers.with_replies (exchanges_of xs) ys ++ exchanges_of ys
 unfolding exchanges_of ledgers.with_replies
 exchanges_of-append [] ys = refl
 exchanges_of-append (Asked request ∷ xs) ys =
+    let own : Option Reply = next_reply request.id xs in
+    let either : Option Reply = or_later own (next_reply request.id ys) in
     ap (λ (o : Option Reply). (request, o) ∷ exchanges_of (xs ++ ys)) (next_reply-append request.id xs ys)
-    ∙ ap (λ (l : List ledgers.Exchange). (request, or_later (next_reply request.id xs) (next_reply request.id ys)) ∷ l) (exchanges_of-append xs ys)
-    ∙ ap (λ (l : List ledgers.Exchange). l ++ exchanges_of ys) (sym (with_replies-first request (next_reply request.id xs) (exchanges_of xs) ys))
+    ∙ ap (λ (l : List ledgers.Exchange). (request, either) ∷ l) (exchanges_of-append xs ys)
+    ∙ ap (λ (l : List ledgers.Exchange). l ++ exchanges_of ys)
+    (sym (with_replies-first request own (exchanges_of xs) ys))
 exchanges_of-append (Replied reply ∷ xs) ys = exchanges_of-append xs ys
 
 -- a list begins with another one
@@ -167,12 +173,14 @@ window_before (Replied reply ∷ xs) ys inside = window_before xs ys inside
 pub sound_prefix : (start : State) (events more : List Event) (last : State)
     → Explained Allowed start (events ++ more) last → (mid : State) × Sound Allowed start events mid
 sound_prefix start events more last explained =
-    let found = run_before start events more last explained.run in
-    (found.0, record {
-      in_turn = λ id broke. out_of_turn id events more broke explained.matching;
-      within_window = window_before events more explained.within_window;
-      run = found.1;
-    })
+    let found = run_before start events more last explained.run in (
+      found.0,
+      record {
+        in_turn = λ id broke. out_of_turn id events more broke explained.matching;
+        within_window = window_before events more explained.within_window;
+        run = found.1;
+      },
+    )
 
 -- ---- a reply that is not allowed
 
@@ -190,8 +198,9 @@ run_stops : (start : State) (exchanges : List Exchange) (number : ℕ) (end : St
 unfolding leading_pairs
 run_stops start exchanges number end first run =
     let one : Exchange = record {
-      request = first.request; number = first.asked_in;
-      reply = Some (record { reply = first.reply; number = number })
+      request = first.request;
+      number = first.asked_in;
+      reply = Some (record { reply = first.reply; number = number });
     } in
     let pairs : leading_pairs (ledger_of exchanges) ≡ leading_pairs (ledger_of first.before)
     ++ (first.request, first.reply) ∷ leading_pairs (ledger_of first.behind) =
@@ -244,15 +253,17 @@ refuses_lost start events (Replied reply) (refusals.Unanswered number) end sound
     absurd refuses
 refuses_lost start events (Replied reply) refusals.NoMemory end sound refuses memory more last explained = memory refl
 
-first_is_open : (x : Exchange) (others : List Exchange) → is_answered x ≡ false → is_open x.request.id (x ∷ others) ≡ true
+first_is_open : (x : Exchange) (others : List Exchange) → is_answered x ≡ false
+    → is_open x.request.id (x ∷ others) ≡ true
 unfolding is_open
 first_is_open x others waits =
     let same : (x.request.id == x.request.id) ≡ true = eq-eqb x.request.id x.request.id refl in
     rw (waits, same) refl
 
 -- A session is not explained where a request has no reply.
-pub lacks_lost : (start : State) (events : List Event) (refusal : Refusal) (end : State) → Sound Allowed start events end
-    → LacksReply events refusal → (last : State) → Explained Allowed start events last → ⊥
+pub lacks_lost : (start : State) (events : List Event) (refusal : Refusal) (end : State)
+    → Sound Allowed start events end → LacksReply events refusal → (last : State)
+    → Explained Allowed start events last → ⊥
 lacks_lost start events (refusals.Unanswered number) end sound lacks last explained =
     let x = lacks.0 in
     let opened : is_open x.request.id (recorded_exchanges events) ≡ true =

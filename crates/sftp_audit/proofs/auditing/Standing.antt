@@ -1,5 +1,6 @@
 -- What an auditor keeps goes on with each event, and what it refuses has its reason.
-use Rattle.std.proofs.Common.{◌≡◌, ◌≢◌, ℕ, ◌<◌, ◌≤◌, Bool, true, false, List, [], ◌∷◌, ◌++◌, length, slice_get, Some, None, Ok, Err}
+use Rattle.std.proofs.Common.{◌≡◌, ℕ, ◌<◌, ◌≤◌, Bool, true, false, List, [], ◌∷◌, ◌++◌, length, slice_get, Some, None}
+use Rattle.std.proofs.Common.{Ok, Err}
 use Rattle.std.proofs.Common.{Result, OnOk, IfErr, refl, sym, ap, ◌∙◌, subst, append_assoc}
 use Rattle.std.proofs.lemmas.List.{append-nil}
 use Rattle.sftp_wire.specs.declared.packets.Request.{Request}
@@ -9,23 +10,26 @@ use Rattle.sftp_handles.specs.Allowed.{Allowed}
 use Rattle.sftp_transcript.specs.declared.events.Event.{Event}
 use Rattle.sftp_transcript.specs.declared.events.Event.TheVariants.{Asked, Replied}
 use Rattle.sftp_transcript.specs.Begun.{first_number, number_behind}
-use Rattle.sftp_transcript.specs.Explained.{Run, Explained, exchanges_of, leading_pairs, window, turn_after, closed, broken}
+use Rattle.sftp_transcript.specs.Explained.{Run, Explained, exchanges_of, leading_pairs, window, turn_after, closed}
+use Rattle.sftp_transcript.specs.Explained.{broken}
 use Rattle.sftp_transcript.specs.Explained.{in_window}
-use Rattle.sftp_transcript.specs.Sound.{Sound, IsWaiting}
+use Rattle.sftp_transcript.specs.Sound.{IsWaiting}
 use Rattle.sftp_transcript.specs.Streams.{one_more}
 use Rattle.sftp_audit.specs.declared.errors.Refusal.{Refusal}
 use Rattle.sftp_audit.specs.declared.errors.Refusal.TheVariants as refusals
 use Rattle.sftp_audit.specs.declared.exchanges.Exchange.{Exchange}
 use Rattle.sftp_audit.specs.declared.exchanges.RecordedReply.{RecordedReply}
-use Rattle.sftp_audit.specs.Exchanges.{recorded_exchanges, exchanges_from, unsettled, is_answered, AreAnswered, is_open}
+use Rattle.sftp_audit.specs.Exchanges.{recorded_exchanges, exchanges_from, unsettled, AreAnswered, is_open}
 use Rattle.sftp_audit.specs.Exchanges.{with_reply, ledger_of}
 use Rattle.sftp_audit.specs.Ledger.{RefusesRequest, RefusesReply}
-use Rattle.sftp_audit.specs.Auditor.{Audited, StandsFor, IsNoted, Refuses, RefusesToSettle, IsFirstWrong, LacksReply}
+use Rattle.sftp_audit.specs.Auditor.{Audited, StandsFor, IsNoted, Refuses, RefusesToSettle, LacksReply}
 use Rattle.sftp_audit.proofs.auditing.Lists.{ledger_of-recorded, recorded-asked, recorded-replied, settled_parts}
-use Rattle.sftp_audit.proofs.auditing.Lists.{unsettled-answered, unsettled-asked, with_reply-answered, with_reply-append}
+use Rattle.sftp_audit.proofs.auditing.Lists.{unsettled-answered, unsettled-asked, with_reply-answered}
+use Rattle.sftp_audit.proofs.auditing.Lists.{with_reply-append}
 use Rattle.sftp_audit.proofs.auditing.Lists.{is_open-unsettled, leading_pairs-settled, leading_pairs-unsettled}
 use Rattle.sftp_audit.proofs.auditing.Lists.{leading_pairs-asked, number_behind-next}
-use Rattle.sftp_audit.proofs.auditing.Turns.{waits_if_open, closed_if_none, in_turn-asked, in_turn-replied, window-asked}
+use Rattle.sftp_audit.proofs.auditing.Turns.{waits_if_open, closed_if_none, in_turn-asked, in_turn-replied}
+use Rattle.sftp_audit.proofs.auditing.Turns.{window-asked}
 use Rattle.sftp_audit.proofs.auditing.Turns.{window-replied, run-append}
 
 -- ---- nothing yet
@@ -108,9 +112,11 @@ pub refused-asked : (start : State) (events : List Event) (request : Request) (o
 refused-asked start events request old (refusals.UnknownReply number) stands r = absurd r
 refused-asked start events request old (refusals.IdInUse number) stands r =
     (r.0 ∙ stands.number, waiting_of start events old request.id stands r.1)
-refused-asked start events request old (refusals.Window number) stands r =
-    (r.0 ∙ stands.number, closed_of start events old request.id stands r.1,
-    subst (λ (xs : List Exchange). window ≤ length xs) stands.kept r.2)
+refused-asked start events request old (refusals.Window number) stands r = (
+  r.0 ∙ stands.number,
+  closed_of start events old request.id stands r.1,
+  subst (λ (xs : List Exchange). window ≤ length xs) stands.kept r.2,
+)
 refused-asked start events request old (refusals.NotAllowed number) stands r = absurd r
 refused-asked start events request old (refusals.Unanswered number) stands r = absurd r
 refused-asked start events request old refusals.NoMemory stands r = r
@@ -144,11 +150,11 @@ answered_of start events reply old stands =
       answered = parts.1;
       run = subst (λ (xs : List (Request × Reply)). Run Allowed start xs old.state) pairs stands.sound.run;
       recorded = recorded-replied events reply
-      ∙ ap (λ (n : ℕ). with_reply (given n) (recorded_exchanges events)) (sym stands.number)
-      ∙ ap (with_reply (given old.number)) all
-      ∙ with_reply-append (given old.number) parts.0 old.kept
-      ∙ ap (λ (xs : List Exchange). xs ++ with_reply (given old.number) old.kept)
-      (with_reply-answered (given old.number) parts.0 parts.1);
+          ∙ ap (λ (n : ℕ). with_reply (given n) (recorded_exchanges events)) (sym stands.number)
+          ∙ ap (with_reply (given old.number)) all
+          ∙ with_reply-append (given old.number) parts.0 old.kept
+          ∙ ap (λ (xs : List Exchange). xs ++ with_reply (given old.number) old.kept)
+          (with_reply-answered (given old.number) parts.0 parts.1);
     }
 
 pub noted-replied : (start : State) (events : List Event) (reply : Reply) (old : Audited) (kept : List Exchange)
@@ -166,12 +172,14 @@ noted-replied start events reply old kept new stands waits replied settled run =
     sym (leading_pairs-settled a.before kept a.answered)
     ∙ ap (λ (xs : List Exchange). leading_pairs (ledger_of xs)) (sym all)
     ∙ ap leading_pairs (ledger_of-recorded (events ++ Replied reply ∷ [])) in
+    let settled_pairs : List (Request × Reply) = leading_pairs (ledger_of a.before) in
+    let more_pairs : List (Request × Reply) = leading_pairs (ledger_of kept) in
     record {
       sound = record {
         in_turn = in_turn-replied events reply stands.sound.in_turn turn;
         within_window = window-replied events reply stands.sound.within_window stands.sound.in_turn turn;
         run = subst (λ (xs : List (Request × Reply)). Run Allowed start xs new.state) pairs
-        (run-append Allowed start (leading_pairs (ledger_of a.before)) old.state (leading_pairs (ledger_of kept)) new.state a.run run);
+            (run-append Allowed start settled_pairs old.state more_pairs new.state a.run run);
       };
       kept = settled ∙ sym (unsettled-answered a.before kept a.answered) ∙ ap unsettled (sym all);
     }
@@ -203,31 +211,37 @@ refused-settling start events reply old kept (refusals.IdInUse number) stands wa
 refused-settling start events reply old kept (refusals.Window number) stands waits replied r = absurd r
 refused-settling start events reply old kept (refusals.NotAllowed number) stands waits replied r =
     let a = answered_of start events reply old stands in
+    let settled_pairs : List (Request × Reply) = leading_pairs (ledger_of a.before) in
+    let more_pairs : List (Request × Reply) = leading_pairs (ledger_of r.before) in
     let one : Exchange = record {
-      request = r.request; number = r.asked_in; reply = Some (record { reply = r.reply; number = number })
-    } in
-    (waiting_of start events old reply.id stands waits, record {
-      before = a.before ++ r.before;
       request = r.request;
-      asked_in = r.asked_in;
-      reply = r.reply;
-      behind = r.behind;
-      exchanges_are = a.recorded ∙ ap (λ (xs : List Exchange). a.before ++ xs) (sym replied ∙ r.exchanges_are)
-      ∙ sym (append_assoc a.before r.before (one ∷ r.behind));
-      answered = both_answered a.before r.before a.answered r.answered;
-      mid = r.mid;
-      run = subst (λ (xs : List (Request × Reply)). Run Allowed start xs r.mid)
-      (sym (leading_pairs-settled a.before r.before a.answered))
-      (run-append Allowed start (leading_pairs (ledger_of a.before)) old.state (leading_pairs (ledger_of r.before)) r.mid a.run r.run);
-      wrong = r.wrong;
-    })
+      number = r.asked_in;
+      reply = Some (record { reply = r.reply; number = number });
+    } in (
+      waiting_of start events old reply.id stands waits,
+      record {
+        before = a.before ++ r.before;
+        request = r.request;
+        asked_in = r.asked_in;
+        reply = r.reply;
+        behind = r.behind;
+        exchanges_are = a.recorded ∙ ap (λ (xs : List Exchange). a.before ++ xs) (sym replied ∙ r.exchanges_are)
+            ∙ sym (append_assoc a.before r.before (one ∷ r.behind));
+        answered = both_answered a.before r.before a.answered r.answered;
+        mid = r.mid;
+        run = subst (λ (xs : List (Request × Reply)). Run Allowed start xs r.mid)
+            (sym (leading_pairs-settled a.before r.before a.answered))
+            (run-append Allowed start settled_pairs old.state more_pairs r.mid a.run r.run);
+        wrong = r.wrong;
+      },
+    )
 refused-settling start events reply old kept (refusals.Unanswered number) stands waits replied r = absurd r
 refused-settling start events reply old kept refusals.NoMemory stands waits replied r = r
 
 -- ---- the same, of what a call returns
 
 -- the auditor is as it was seen
-at_view : (start : State) (events : List Event) (seen old : Audited) → old ≡ seen → StandsFor start events seen
+pub at_view : (start : State) (events : List Event) (seen old : Audited) → old ≡ seen → StandsFor start events seen
     → StandsFor start events old
 at_view start events seen old view stands = subst (StandsFor start events) (sym view) stands
 
@@ -268,7 +282,8 @@ pub result-settled : {T : Type 0} (result : Result T Refusal) (event : Event) (r
     → IsNoted start (events ++ event ∷ []) new)
 result-settled (Ok x) event reply seen old kept new is view waits replied settled run = λ start events stands.
     subst (λ (e : Event). IsNoted start (events ++ e ∷ []) new) (sym is)
-    (noted-replied start events reply old kept new (at_view start events seen old view stands) waits replied settled run)
+    (let at = at_view start events seen old view stands in
+    noted-replied start events reply old kept new at waits replied settled run)
 result-settled (Err e) event reply seen old kept new is view waits replied settled run = tt
 
 pub refusal-settled : {T : Type 0} (result : Result T Refusal) (event : Event) (reply : Reply)
@@ -280,7 +295,8 @@ pub refusal-settled : {T : Type 0} (result : Result T Refusal) (event : Event) (
 refusal-settled (Ok x) event reply seen old kept is view waits replied refused = tt
 refusal-settled (Err refusal) event reply seen old kept is view waits replied refused = λ start events stands.
     subst (λ (e : Event). Refuses start events e refusal) (sym is)
-    (refused-settling start events reply old kept refusal (at_view start events seen old view stands) waits replied refused)
+    (let at = at_view start events seen old view stands in
+    refused-settling start events reply old kept refusal at waits replied refused)
 
 -- ---- the number of the next record
 

@@ -1,7 +1,6 @@
 -- What is noted of an event, and why it is refused.
-use Rattle.std.proofs.Common.{◌≡◌, refl}
+use Rattle.std.proofs.Common.{refl}
 use Rattle.std.proofs.lemmas.Result.{err_from_is_err_and}
-use Rattle.sftp_audit.specs.Auditor.{Audited}
 use Rattle.sftp_audit.proofs.auditing.Standing.{result-asked, refusal-asked, refusal-replied, result-settled}
 use Rattle.sftp_audit.proofs.auditing.Standing.{refusal-settled}
 use Rattle.sftp_audit.proofs.auditor.Auditor.note.Goals as goal
@@ -19,8 +18,10 @@ returns-in-Asked-clause-refused c =
 pub returns-in_err-answer-in-Replied-clause-refused : goal.returns-in_err-answer-in-Replied-clause-refused
 returns-in_err-answer-in-Replied-clause-refused c =
     let p = err_from_is_err_and c.from_residual.result c.from_residual.ensures.1 in
-    rw (p.1, p.2)
-    (refusal-replied c.args.event c.in-Replied.reply c.args.self.now _ c.in_err-answer-in-Replied.field-0.0 c.in-Replied.is c.self.view_is c.in_err-answer-in-Replied.ensures.refused)
+    let e = c.in_err-answer-in-Replied in
+    let refused = refusal-replied c.args.event c.in-Replied.reply c.args.self.now _ e.field-0.0 c.in-Replied.is
+    c.self.view_is e.ensures.refused in
+    rw (p.1, p.2) refused
 
 pub returns-in_ok-answer-in-Replied-clause-stands : goal.returns-in_ok-answer-in-Replied-clause-stands
 returns-in_ok-answer-in-Replied-clause-stands c =
