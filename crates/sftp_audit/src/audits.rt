@@ -62,28 +62,31 @@ pub fn audit(alloc: Global, tree: &[u8], transcript: &[u8]) -> Result<Accepted, 
     audit_stream(alloc, tree, &mut records)
 }
 
-/// The same of a transcript that is read from a stream, in the memory of the tree, the reader and the requests that
-/// wait. The reader has read nothing yet.
+/// Audits a session whose transcript is read from a stream, as `audit` does. The reader has read nothing yet. Of the
+/// transcript it keeps what the reader holds, and the requests from the oldest unanswered one on with their replies.
 ///
 /// # Errors
 ///
-/// Those of `audit`, and `Transcript` with `Io` if the source fails. This one decides nothing of the session.
+/// Those of `audit`, and `Transcript` with `Io` if the source fails, which says nothing about the session.
 pub fn audit_stream<R: Source>(
     alloc: Global,
     tree: &[u8],
     records: &mut Reader<R>,
 ) -> Result<Accepted, AuditError>
+    // Of a reader that has read nothing yet, whatever bytes its source has.
     ensures accepted { IfOk result (λ accepted. (transcript : List ℕ) → IsNew transcript records.old →
         (start : values.Tree) × (events : List _) × (end : values.Tree)
         × Accounts tree.now transcript start events end
         × (accepted.tree.items ≡ picture end)
         × (accepted.requests ≡ request_count events)) }
     ensures refused { IfErr result (λ e. (IsNoJudgement e → ⊥) → (transcript : List ℕ) → IsNew transcript records.old →
-        (start : values.Tree) (events : List _) (end : values.Tree) → Accounts tree.now transcript start events end → ⊥) }
+        (start : values.Tree) (events : List _) (end : values.Tree)
+        → Accounts tree.now transcript start events end → ⊥) }
     ensures first { IfErr result (λ e. (IsNoJudgement e → ⊥) → (transcript : List ℕ) → IsNew transcript records.old →
         IsFirstFault tree.now transcript e) }
-    // The source failed in this call where the error is `Io`, and then alone.
-    ensures counts { records.old.fault ≡ None → MatchResult result (λ _. records.new.ahead.failures ≡ records.old.ahead.failures)
+    // The source failed once where the error is `Io`, and otherwise never.
+    ensures counts { records.old.fault ≡ None → MatchResult result
+        (λ _. records.new.ahead.failures ≡ records.old.ahead.failures)
         (λ e. CountsFailure e records.old.ahead.failures records.new.ahead.failures) }
     ensures may_fail { records.old.fault ≡ None → IfErr result (IsExcusedBy R.may_fail) }
     ensures plain { IfErr result IsPlain }
@@ -95,18 +98,20 @@ pub fn audit_stream<R: Source>(
     Ok(Accepted { tree, requests })
 }
 
-/// Feeds the events that are still to come, and returns how many requests there were, up to 2^64 - 1.
+/// Feeds an auditor the events that are still to come, and returns how many of them are requests, up to 2^64 - 1.
 ///
 /// # Errors
 ///
-/// The first of the refusals and of the faults.
+/// The first error: `Refused` if an event is refused, `Transcript` if the next record has a fault or the source fails,
+/// and `NoMemory` if memory runs out.
 fn feed_all<R: Source>(auditor: &mut Auditor, records: &mut Reader<R>) -> Result<u64, AuditError>
-    // Of a reader that has read nothing yet, and an auditor that was fed nothing yet, from any start.
+    // Of a reader that has read nothing yet, and an auditor that stands for no events, from any start.
     ensures fed { IfOk result (λ requests. (start : State) (transcript : List ℕ) → IsNew transcript records.old
         → StandsFor start [] auditor.old → WasFed start transcript requests auditor.new) }
     ensures stopped { IfErr result (λ e. (IsNoJudgement e → ⊥) → (start : State) (transcript : List ℕ)
         → IsNew transcript records.old → StandsFor start [] auditor.old → StopsFeed start transcript e) }
-    ensures counts { records.old.fault ≡ None → MatchResult result (λ _. records.new.ahead.failures ≡ records.old.ahead.failures)
+    ensures counts { records.old.fault ≡ None → MatchResult result
+        (λ _. records.new.ahead.failures ≡ records.old.ahead.failures)
         (λ e. CountsFailure e records.old.ahead.failures records.new.ahead.failures) }
     ensures may_fail { records.old.fault ≡ None → IfErr result (IsExcusedBy R.may_fail) }
     ensures plain { IfErr result IsPlain }

@@ -66,7 +66,7 @@ pub record BeginsNext (stage : Stage) (ahead : List ℕ) (packet : Packet) (rest
   pub may_come : MayCome stage packet
   pub begins : Begins records packet rest
 
--- why no record is next in the bytes ahead, although there are some
+-- why the bytes ahead begin with no record that may come next, and are not the end of a transcript file
 abbrev pub FaultNext : Stage → ℕ → List ℕ → TranscriptError → Type 0
 FaultNext stages.Opening number ahead error =
     FaultAhead stages.Opening number ahead error
@@ -97,7 +97,8 @@ TookPacket stage before None new = (stage ≡ stages.Events) × (before ≡ []) 
 -- the next record is given, or none at the end
 abbrev pub GivesNext : Stage → List ℕ → Option GivenRecord → Reading → Type 0
 GivesNext stage before (Some given) new =
-    (new.stage ≡ stage_behind stage) × ((rest : List ℕ) × HasAhead new.ahead rest × BeginsNext stage before given.1 rest)
+    (new.stage ≡ stage_behind stage)
+    × ((rest : List ℕ) × HasAhead new.ahead rest × BeginsNext stage before given.1 rest)
 GivesNext stage before None new =
     (stage ≡ stages.Events) × (new.stage ≡ stages.Events) × (before ≡ []) × HasAhead new.ahead []
 

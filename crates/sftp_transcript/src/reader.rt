@@ -1,7 +1,7 @@
 //! A transcript file that is read record by record from a source. This profile's own; the packets in it are those of
 //! the draft, section 4 on.
-ghost use Rattle.std.specs.Prelude.{◌≡◌, ◌≢◌, ◌⊎◌, ◌<◌, ◌≤◌, List, ℕ, ⊤, [], Some, None, Ok, Err, OnOk, OnErr, IfOk, IfErr};
-ghost use Rattle.std.specs.Prelude.{IfSome, MatchResult};
+ghost use Rattle.std.specs.Prelude.{◌≡◌, ◌≢◌, ◌⊎◌, ◌<◌, ◌≤◌, List, ℕ, ⊤, [], Some, None, Ok, Err, IfSome, MatchResult};
+ghost use Rattle.std.specs.Prelude.{OnOk, OnErr, IfOk, IfErr};
 ghost use Rattle.sftp_wire.specs.declared.packets.Packet.{Packet};
 ghost use Rattle.sftp_transcript.specs.declared.errors.TranscriptError.{TranscriptError};
 ghost use Rattle.sftp_transcript.specs.declared.events.Event.{Event};
@@ -61,9 +61,9 @@ fn stage_behind(stage: Stage) -> Stage
     }
 }
 
-/// The events of a transcript file, one after the other: `SFTPTR01`, an INIT of version 3 or more from the client, a
-/// VERSION 3 from the server, with any extensions, and then requests and replies. Before each packet is a byte `C` or
-/// `S` that names its side.
+/// The events or the records of a transcript file, one after the other: `SFTPTR01`, an INIT of version 3 or more from
+/// the client, a VERSION 3 from the server, with any extensions, and then requests and replies. Before each packet is a
+/// byte `C` or `S` that names its side.
 ///
 /// It holds at most 128 KiB of the file.
 #[derive(Debug, Drop)]

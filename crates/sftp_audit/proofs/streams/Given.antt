@@ -1,36 +1,33 @@
 -- What an auditor is fed from a reader, event by event.
-use Rattle.std.proofs.Common.{◌≡◌, ◌⊎◌, inl, inr, ℕ, suc, ◌+◌, ◌-◌, ◌^◌, min, List, [], ◌∷◌, ◌++◌, length, Bool, true, false}
-use Rattle.std.proofs.Common.{Option, Some, None, IsTrue, if◌then◌else◌, refl, sym, ap, ◌∙◌, subst, append-nil, arith}
-use Rattle.std.specs.List.{flat_map}
-use Rattle.sftp_wire.specs.declared.packets.Request.{Request}
-use Rattle.sftp_wire.specs.declared.packets.Reply.{Reply}
+use Rattle.std.proofs.Common.{◌≡◌, inl, inr, ℕ, ◌+◌, ◌-◌, ◌^◌, min, List, [], ◌∷◌, ◌++◌, length, Bool}
+use Rattle.std.proofs.Common.{Option, Some, None, if◌then◌else◌, refl, subst, arith}
 use Rattle.sftp_transcript.specs.declared.errors.TranscriptError.{TranscriptError}
 use Rattle.sftp_transcript.specs.declared.errors.TranscriptError.TheVariants as transcript_errors
 use Rattle.sftp_transcript.specs.declared.events.Event.{Event}
 use Rattle.sftp_transcript.specs.declared.events.Event.TheVariants.{Asked, Replied}
 use Rattle.sftp_transcript.specs.declared.stage.Stage.{Stage}
 use Rattle.sftp_transcript.specs.declared.stage.Stage.TheVariants as stages
-use Rattle.sftp_transcript.specs.Begun.{BeginsRecord, ReadUpTo, HasGiven, GaveFrom, FaultBehind}
-use Rattle.sftp_transcript.specs.Explained.{exchanges_of, next_reply}
+use Rattle.sftp_transcript.specs.Begun.{BeginsRecord, ReadUpTo, HasGiven, GaveFrom, FaultOf}
+use Rattle.sftp_transcript.specs.Explained.{exchanges_of}
 use Rattle.sftp_transcript.specs.Recorded.{Reading}
-use Rattle.sftp_transcript.specs.Steps.{IsExcuse}
-use Rattle.sftp_transcript.specs.Transcript.{IsRecord, event_record}
+use Rattle.sftp_transcript.specs.Transcript.{IsRecord}
+use Rattle.sftp_transcript.proofs.transcripts.Beginnings.{record_from_beginning}
 use Rattle.sftp_handles.specs.State.{State}
-use Rattle.sftp_audit.specs.declared.errors.AuditError.{AuditError}
-use Rattle.sftp_audit.specs.declared.errors.AuditError.TheVariants as audit_errors
 use Rattle.sftp_audit.specs.declared.errors.Refusal.{Refusal}
 use Rattle.sftp_audit.specs.declared.errors.Refusal.TheVariants as refusals
 use Rattle.sftp_audit.specs.Auditor.{Audited, StandsFor, Refuses}
-use Rattle.sftp_audit.specs.Audit.{FaultAt, RefusedAt, IsNew, IsNoJudgement, WasFed, StopsFeed, request_count, is_request}
+use Rattle.sftp_audit.specs.Audit.{IsNew, IsNoJudgement, WasFed, StopsFeed, request_count, is_request}
 use Rattle.sftp_audit.specs.Audit.{error_of_transcript, error_of_session}
 
 -- the events so far were given and fed, and so many of them are requests
-pub record IsFeeding (start : State) (transcript : List ℕ) (requests : ℕ) (auditor : Audited) (records : Reading) : Type 0 where
-  pub seen : List Event
-  pub ahead : List ℕ
-  pub given : HasGiven transcript seen ahead records
-  pub stands : StandsFor start seen auditor
-  pub counted : requests ≡ request_count seen
+pub record IsFeeding (start : State) (transcript : List ℕ) (requests : ℕ) (auditor : Audited) (records : Reading)
+    : Type 0
+  where
+    pub seen : List Event
+    pub ahead : List ℕ
+    pub given : HasGiven transcript seen ahead records
+    pub stands : StandsFor start seen auditor
+    pub counted : requests ≡ request_count seen
 
 -- from wherever nothing was read and nothing was fed
 abbrev pub KeepsFeeding : Audited → Reading → ℕ → Audited → Reading → Type 0
@@ -68,7 +65,8 @@ request_count-one_more events event old e =
 
 -- ---- one step
 
-pub feeding-next : (start : State) (transcript : List ℕ) (requests : ℕ) (auditor auditor_now : Audited) (records records_now : Reading) (event : Event)
+pub feeding-next : (start : State) (transcript : List ℕ) (requests : ℕ) (auditor auditor_now : Audited)
+    (records records_now : Reading) (event : Event)
     → (feeding : IsFeeding start transcript requests auditor records)
     → GaveFrom transcript feeding.seen (Some event) records_now
     → StandsFor start (feeding.seen ++ event ∷ []) auditor_now
@@ -83,26 +81,15 @@ feeding-next start transcript requests auditor auditor_now records records_now e
 
 -- ---- the end
 
-whole_record : (events : List Event) (bytes : List ℕ) → BeginsRecord events bytes [] → IsRecord events bytes
-whole_record events bytes begins = record {
-  opened = begins.opened;
-  records = begins.records;
-  opening = begins.opening;
-  handshake = begins.handshake;
-  recorded = record {
-    spelled = begins.spelled;
-    bytes_are = begins.records_are ∙ append-nil (flat_map event_record events);
-  };
-}
-
 none_given : (transcript : List ℕ) (events : List Event) (given : Option Event) (new : Reading)
     → ((event : Event) → given ≡ Some event → ⊥) → GaveFrom transcript events given new → IsRecord events transcript
 none_given transcript events (Some event) new other gave = absurd (other event refl)
 none_given transcript events None new other gave =
-    whole_record events transcript
+    record_from_beginning events transcript
     (subst (λ (stage : Stage). ReadUpTo stage transcript events []) gave.1 gave.0.read)
 
-pub all-fed : (start : State) (transcript : List ℕ) (requests : ℕ) (auditor : Audited) (records records_now : Reading) (given : Option Event)
+pub all-fed : (start : State) (transcript : List ℕ) (requests : ℕ) (auditor : Audited)
+    (records records_now : Reading) (given : Option Event)
     → (feeding : IsFeeding start transcript requests auditor records) → ((event : Event) → given ≡ Some event → ⊥)
     → GaveFrom transcript feeding.seen given records_now → WasFed start transcript requests auditor
 all-fed start transcript requests auditor records records_now given feeding other gave = record {
@@ -114,11 +101,13 @@ all-fed start transcript requests auditor records records_now given feeding othe
 
 -- ---- stops
 
-pub stops-fault : (start : State) (transcript : List ℕ) (requests : ℕ) (auditor : Audited) (records : Reading) (error : TranscriptError)
-    → (feeding : IsFeeding start transcript requests auditor records) → IsExcuse error ⊎ FaultBehind transcript feeding.seen error
+pub stops-fault : (start : State) (transcript : List ℕ) (requests : ℕ) (auditor : Audited) (records : Reading)
+    (error : TranscriptError) → (feeding : IsFeeding start transcript requests auditor records)
+    → FaultOf transcript feeding.seen error
     → (IsNoJudgement (error_of_transcript error) → ⊥) → StopsFeed start transcript (error_of_transcript error)
 stops-fault start transcript requests auditor records transcript_errors.NoMemory feeding why judged = tt
-stops-fault start transcript requests auditor records (transcript_errors.Io number) feeding why judged = absurd (judged tt)
+stops-fault start transcript requests auditor records (transcript_errors.Io number) feeding why judged =
+    absurd (judged tt)
 stops-fault start transcript requests auditor records other feeding (inl excuse) judged = absurd excuse
 stops-fault start transcript requests auditor records other feeding (inr fault) judged = record {
   events = feeding.seen;
@@ -137,8 +126,9 @@ begun_by stages.Version bytes [] event ahead read = cc
 begun_by stages.Version bytes (first ∷ seen) event ahead read = cc
 begun_by stages.Events bytes seen event ahead read = read
 
-pub stops-refused : (start : State) (transcript : List ℕ) (requests : ℕ) (auditor : Audited) (records records_now : Reading) (event : Event)
-    (refusal : Refusal) → (feeding : IsFeeding start transcript requests auditor records)
+pub stops-refused : (start : State) (transcript : List ℕ) (requests : ℕ) (auditor : Audited)
+    (records records_now : Reading) (event : Event) (refusal : Refusal)
+    → (feeding : IsFeeding start transcript requests auditor records)
     → GaveFrom transcript feeding.seen (Some event) records_now → Refuses start feeding.seen event refusal
     → StopsFeed start transcript (error_of_session refusal)
 stops-refused start transcript requests auditor records records_now event refusals.NoMemory feeding gave why = tt

@@ -1,6 +1,6 @@
 -- What the parts of an audit say of the whole.
-use Rattle.std.proofs.Common.{◌≡◌, ◌≢◌, ◌⊎◌, inl, inr, ℕ, List, [], ◌∷◌, ◌++◌, refl, sym, ap, ◌∙◌, subst, append_assoc, Bool, false}
-use Rattle.std.proofs.Common.{Option, Some, None, Result, Ok, Err}
+use Rattle.std.proofs.Common.{◌≡◌, ◌≢◌, inl, inr, ℕ, List, [], ◌∷◌, ◌++◌, refl, sym, ap, ◌∙◌, subst, append_assoc}
+use Rattle.std.proofs.Common.{false, Some, None, Result, Ok, Err}
 use Rattle.std.specs.Result.{IfErr}
 use Rattle.sftp_wire.proofs.StreamLaws.Front.{spellings-apart}
 use Rattle.sftp_tree.specs.Tree.{Tree, trim}
@@ -13,7 +13,6 @@ use Rattle.sftp_transcript.specs.declared.events.Event.{Event}
 use Rattle.sftp_transcript.specs.declared.stage.Stage.TheVariants as stages
 use Rattle.sftp_transcript.specs.Explained.{Explained}
 use Rattle.sftp_transcript.specs.Recorded.{Reading}
-use Rattle.sftp_transcript.specs.Transcript.{IsRecord}
 use Rattle.sftp_transcript.proofs.transcripts.Beginnings.{begins_each, faulty_records_none}
 use Rattle.sftp_transcript.proofs.transcripts.OneRecord.{records_are_one_lem}
 use Rattle.sftp_audit.specs.declared.errors.AuditError.{AuditError}
@@ -21,7 +20,7 @@ use Rattle.sftp_audit.specs.declared.errors.AuditError.TheVariants as audit_erro
 use Rattle.sftp_audit.specs.declared.errors.Refusal.{Refusal}
 use Rattle.sftp_audit.specs.declared.errors.Refusal.TheVariants as refusals
 use Rattle.sftp_audit.specs.Auditor.{Audited, LacksReply}
-use Rattle.sftp_audit.specs.Audit.{started, Accounts, FaultAt, RefusedAt, RefusedAtEnd, IsFirstFault, IsNoJudgement}
+use Rattle.sftp_audit.specs.Audit.{started, Accounts, FaultAt, RefusedAt, IsFirstFault, IsNoJudgement}
 use Rattle.sftp_audit.specs.Audit.{IsExcusedBy, IsNew, IsPlain, WasFed, StopsFeed, error_of_session}
 use Rattle.sftp_audit.proofs.auditing.Lost.{refuses_lost, lacks_lost}
 
@@ -98,13 +97,17 @@ pub end-first : (start : Tree) (tree transcript : List ℕ) (requests : ℕ) (au
     → IsStart start tree → (was : WasFed (started start) transcript requests auditor) → LacksReply was.events refusal
     → IsFirstFault tree transcript (error_of_session refusal)
 end-first start tree transcript requests auditor refusals.NoMemory is was lacks = tt
-end-first start tree transcript requests auditor other is was lacks = (start, is, inr (record {
-  events = was.events;
-  recorded = was.recorded;
-  end = auditor.state;
-  sound = was.stands.sound;
-  lacks = lacks;
-}))
+end-first start tree transcript requests auditor other is was lacks = (
+  start,
+  is,
+  inr (record {
+    events = was.events;
+    recorded = was.recorded;
+    end = auditor.state;
+    sound = was.stands.sound;
+    lacks = lacks;
+  }),
+)
 
 -- the end is the tree where the run ends
 pub accounts-fed : (start : Tree) (tree transcript : List ℕ) (requests : ℕ) (auditor : Audited) (end : Tree)
@@ -140,7 +143,8 @@ is_new bytes failures reads =
 
 pub refused-memory : {T : Type 0} (tree bytes left : List ℕ) (failures reads : ℕ) (records : Reading)
     (result : Result T AuditError) → left ≡ bytes → records ≡ fresh left failures reads
-    → IfErr result (λ e. (IsNoJudgement e → ⊥) → (transcript : List ℕ) → IsNew transcript records → HasNoRun tree transcript)
+    → IfErr result (λ e. (IsNoJudgement e → ⊥) → (transcript : List ℕ) → IsNew transcript records
+    → HasNoRun tree transcript)
     → (records.fault ≡ None → IfErr result (IsExcusedBy false))
     → IfErr result (λ e. e ≢ audit_errors.NoMemory → HasNoRun tree bytes)
 refused-memory tree bytes left failures reads records (Ok value) same is refused excused = tt

@@ -7,6 +7,10 @@ use std::test::Fail;
 /// INIT and MKDIR: 28 bytes.
 const INPUT: &[u8] = b"\0\0\0\x05\x01\0\0\0\x03\0\0\0\x0f\x0e\0\0\0\x01\0\0\0\x02/a\0\0\0\0";
 
+/// The same, and a packet that cannot be read.
+const FAULTY: &[u8] =
+    b"\0\0\0\x05\x01\0\0\0\x03\0\0\0\x0f\x0e\0\0\0\x01\0\0\0\x02/a\0\0\0\0\0\0\0\0";
+
 /// What is written and logged of that session without a failure: 118 and 158 bytes.
 const WRITTEN: &[&[u8]] = &[VERSION, DONE];
 
@@ -100,20 +104,20 @@ fn log_fails(rt: HostRuntime) -> Result<(), Fail> {
     Ok(())
 }
 
-/// The session with these writers.
-fn over(alloc: Global, output: Room, log: Room) -> Result<Outcome, Fail> {
-    session(alloc, Pieces::whole(INPUT), output, log, &mut InOrder)
+/// The session of these bytes with these writers.
+fn over(alloc: Global, input: &[u8], output: Room, log: Room) -> Result<Outcome, Fail> {
+    session(alloc, Pieces::whole(input), output, log, &mut InOrder)
 }
 
 #[test]
 fn streams_take_nothing(rt: HostRuntime) -> Result<(), Fail> {
     let mut full = Room::of(rt.alloc(), 100, usize::MAX);
     full.fails = false;
-    let outcome = over(rt.alloc(), full, Room::ample(rt.alloc()))?;
+    let outcome = over(rt.alloc(), INPUT, full, Room::ample(rt.alloc()))?;
     assert!(rt; stops(&outcome, Stream::Writer, 100, 136));
     let mut full = Room::of(rt.alloc(), 100, usize::MAX);
     full.fails = false;
-    let outcome = over(rt.alloc(), Room::ample(rt.alloc()), full)?;
+    let outcome = over(rt.alloc(), INPUT, Room::ample(rt.alloc()), full)?;
     assert!(rt; stops(&outcome, Stream::Log, 97, 100));
     Ok(())
 }
@@ -127,10 +131,12 @@ fn stuck(alloc: Global) -> Room {
 
 #[test]
 fn flush_fails(rt: HostRuntime) -> Result<(), Fail> {
-    let writer = over(rt.alloc(), stuck(rt.alloc()), Room::ample(rt.alloc()))?;
-    assert!(rt; stops(&writer, Stream::Writer, 118, 158));
-    let log = over(rt.alloc(), Room::ample(rt.alloc()), stuck(rt.alloc()))?;
-    assert!(rt; stops(&log, Stream::Log, 118, 158));
+    for input in [INPUT, FAULTY] {
+        let writer = over(rt.alloc(), input, stuck(rt.alloc()), Room::ample(rt.alloc()))?;
+        assert!(rt; stops(&writer, Stream::Writer, 118, 158), "{input:?}");
+        let log = over(rt.alloc(), input, Room::ample(rt.alloc()), stuck(rt.alloc()))?;
+        assert!(rt; stops(&log, Stream::Log, 118, 158), "{input:?}");
+    }
     Ok(())
 }
 

@@ -46,8 +46,12 @@ pub returns-clause-accepted : goal.returns-clause-accepted
 returns-clause-accepted g c = λ transcript new.
     let start = c.in_ok-read.field-0 in
     let was = c.in_ok-requests.ensures.fed (started start) transcript new c.in_ok-auditor.ensures.stands in
-    let ended = c.in_ok-end.ensures.ended (started start) was.events was.stands in
-    (start, was.events, c.in_ok-end.end,
-    accounts-fed start c.args.tree.now transcript c.in_ok-requests.requests c.feed_all.new.auditor c.in_ok-end.end
-    c.in_ok-read.ensures.found was ended,
-    c.in_ok-tree.ensures, was.counted)
+    let ended = c.in_ok-end.ensures.ended (started start) was.events was.stands in (
+      start,
+      was.events,
+      c.in_ok-end.end,
+      accounts-fed start c.args.tree.now transcript c.in_ok-requests.requests c.feed_all.new.auditor c.in_ok-end.end
+          c.in_ok-read.ensures.found was ended,
+      c.in_ok-tree.ensures,
+      was.counted,
+    )

@@ -1,5 +1,5 @@
 -- Each turn of the loop gives an event and feeds it; the feed ends where no event is left, or at an error.
-use Rattle.std.proofs.Common.{◌≡◌, ℕ, Option, Some, refl, subst, sym, ap, ◌∙◌, arith}
+use Rattle.std.proofs.Common.{ℕ, Option, Some, refl, subst, ◌∙◌, arith}
 use Rattle.std.proofs.lemmas.Grind.{common_steps}
 use Rattle.std.proofs.lemmas.Result.{err_from_is_err_and}
 use Rattle.sftp_transcript.specs.declared.events.Event.{Event}
@@ -29,8 +29,9 @@ events-preserved g c = record {
       let gave : GaveFrom transcript feeding.seen (Some c.in-Some.event) c.next.new.self =
       subst (λ (given : Option Event). GaveFrom transcript feeding.seen given c.next.new.self) c.in-Some.is
       (c.in_ok-event.ensures.first transcript feeding.ahead feeding.seen feeding.given) in
-      let fed = feeding-next start transcript c.events.requests c.events.auditor c.feed.new.self c.events.records c.next.new.self c.in-Some.event feeding gave
-      (c.in_ok-feed.ensures.stands start feeding.seen feeding.stands) in
+      let fed =
+      feeding-next start transcript c.events.requests c.events.auditor c.feed.new.self c.events.records
+      c.next.new.self c.in-Some.event feeding gave (c.in_ok-feed.ensures.stands start feeding.seen feeding.stands) in
       subst (λ (m : ℕ). IsFeeding start transcript m c.feed.new.self c.next.new.self) (grind (arith, common_steps)) fed;
   faultless = λ is. c.in_ok-event.ensures.fault;
   sound = λ is. c.in_ok-event.ensures.counts (c.events.invariant.faultless is) ∙ c.events.invariant.sound is;
@@ -50,5 +51,6 @@ returns-in_err-feed-clause-stopped g c =
 pub returns-clause-fed : goal.returns-clause-fed
 returns-clause-fed g c = λ start transcript new stands.
     let feeding = c.events.invariant.feeding start transcript new stands in
-    all-fed start transcript c.events.requests c.events.auditor c.events.records c.next.new.self c.in_ok-event.field-0 feeding
+    all-fed start transcript c.events.requests c.events.auditor c.events.records c.next.new.self
+    c.in_ok-event.field-0 feeding
     c.in_default.not-Some (c.in_ok-event.ensures.first transcript feeding.ahead feeding.seen feeding.given)
