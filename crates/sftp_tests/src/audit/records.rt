@@ -178,8 +178,7 @@ const TAILS: &[Tail] = &[
         Verdict::Transcript(TranscriptError::Start { record: 3 }),
     ),
     // All kinds of requests and replies are read: OPEN and OPENDIR of "/a", CLOSE of the handle "h", and an extension
-    // named "x"; HANDLE, DATA, NAME, ATTRS and EXTENDED_REPLY, to five CLOSE. These replies are not judged, since MKDIR
-    // has none.
+    // named "x"; HANDLE, DATA, NAME, ATTRS and EXTENDED_REPLY, to requests behind one that is not answered.
     (
         "no side behind requests",
         28,
@@ -191,34 +190,35 @@ const TAILS: &[Tail] = &[
     (
         "no side behind replies",
         48,
-        b"C\0\0\0\x0a\x04\0\0\0\x02\0\0\0\x01hC\0\0\0\x0a\x04\0\0\0\x03\0\0\0\x01h\
-        C\0\0\0\x0a\x04\0\0\0\x04\0\0\0\x01hC\0\0\0\x0a\x04\0\0\0\x05\0\0\0\x01h\
-        C\0\0\0\x0a\x04\0\0\0\x06\0\0\0\x01h\
+        b"C\0\0\0\x0b\x0b\0\0\0\x02\0\0\0\x02/aC\0\0\0\x0b\x0b\0\0\0\x03\0\0\0\x02/a\
+        C\0\0\0\x0b\x0b\0\0\0\x04\0\0\0\x02/aC\0\0\0\x0b\x0b\0\0\0\x05\0\0\0\x02/a\
+        C\0\0\0\x0b\x0b\0\0\0\x06\0\0\0\x02/a\
         S\0\0\0\x0a\x66\0\0\0\x02\0\0\0\x01hS\0\0\0\x0a\x67\0\0\0\x03\0\0\0\x01h\
-        S\0\0\0\x09\x68\0\0\0\x04\0\0\0\0S\0\0\0\x09\x69\0\0\0\x05\0\0\0\0S\0\0\0\x05\xc9\0\0\0\x06D",
+        S\0\0\0\x09\x68\0\0\0\x04\0\0\0\0S\0\0\0\x09\x69\0\0\0\x05\0\0\0\0\
+        S\0\0\0\x05\xc9\0\0\0\x06D",
         Verdict::Transcript(TranscriptError::Direction { record: 14 }),
     ),
-    // A refusal comes before a fault behind it, and a fault before a refusal.
+    // What is wrong first counts: a reply that is not allowed, and one without a request, before a record that is none.
     (
-        "a wrong reply, and then no side",
+        "HANDLE for MKDIR before no side",
         48,
         b"S\0\0\0\x0a\x66\0\0\0\x01\0\0\0\x01hD",
         Verdict::Refused(Refusal::NotAllowed { record: 4 }),
     ),
     (
-        "no side, and then no reply",
-        48,
-        b"D",
-        Verdict::Transcript(TranscriptError::Direction { record: 4 }),
+        "a second reply before no side",
+        70,
+        b"S\0\0\0\x05\xc9\0\0\0\x01D",
+        Verdict::Refused(Refusal::UnknownReply { record: 5 }),
     ),
 ];
 
-/// Whether that is the verdict on a file of so many bytes of `FILE` and these.
+/// Whether the verdict on a file of so many bytes of `FILE` and these is this one.
 fn is_tailed(
     alloc: Global,
     end: usize,
     back: &[u8],
-    verdict: &Verdict<'_>,
+    verdict: &Verdict,
 ) -> Result<bool, AllocError> {
     let Some(front) = FILE.get(..end) else {
         return Ok(false);
