@@ -127,7 +127,12 @@ fn with_value(change: Change, place: usize, line: Line<'static>) -> Line<'static
 }
 
 /// The record at this place behind two changes.
-fn line_at(lines: &'static [Line<'static>], first: Change, second: Change, place: usize) -> Option<Line<'static>> {
+fn line_at(
+    lines: &'static [Line<'static>],
+    first: Change,
+    second: Change,
+    place: usize,
+) -> Option<Line<'static>> {
     let middle = source(second, place);
     let line = lines.get(source(first, middle))?;
     Some(with_value(second, place, with_value(first, middle, *line)))
@@ -164,10 +169,15 @@ fn whole(alloc: Global, lines: &'static [Line<'static>]) -> Result<Vec<u8>, Allo
     changed(alloc, lines, Change::Nothing, Change::Nothing)
 }
 
-/// Whether auditor and model agree on these records with two changes.
-fn agrees_on_some(alloc: Global, lines: &'static [Line<'static>], generator: &mut Generator) -> Result<bool, AllocError> {
-    let first = some_change(generator, lines.len() as u32);
-    let second = some_change(generator, lines.len() as u32);
+/// Whether auditor and model agree on these records, so many of them, with two changes.
+fn agrees_on_some(
+    alloc: Global,
+    lines: &'static [Line<'static>],
+    count: u32,
+    generator: &mut Generator,
+) -> Result<bool, AllocError> {
+    let first = some_change(generator, count);
+    let second = some_change(generator, count);
     let transcript = changed(alloc, lines, first, second)?;
     agrees(alloc, transcript.as_slice())
 }
@@ -176,8 +186,14 @@ fn agrees_on_some(alloc: Global, lines: &'static [Line<'static>], generator: &mu
 fn changed_sessions(rt: HostRuntime) -> Result<(), Fail> {
     let mut generator = Generator::new(5);
     for round in 0..500 {
-        assert!(rt; agrees_on_some(rt.alloc(), SIX, &mut generator)?, "six, {round}");
-        assert!(rt; agrees_on_some(rt.alloc(), EIGHT, &mut generator)?, "eight, {round}");
+        assert!(rt;
+            agrees_on_some(rt.alloc(), SIX, 6, &mut generator)?,
+            "six, {round}"
+        );
+        assert!(rt;
+            agrees_on_some(rt.alloc(), EIGHT, 8, &mut generator)?,
+            "eight, {round}"
+        );
     }
     Ok(())
 }
@@ -215,7 +231,11 @@ fn is_counted(alloc: Global, bytes: &[u8]) -> bool {
         Err(fault) => is_refused(alloc, bytes, AuditError::Transcript(fault)),
         Ok(events) if events % 2 == 1 => {
             let record = events.saturating_add(2);
-            is_refused(alloc, bytes, AuditError::Refused(Refusal::Unanswered { record }))
+            is_refused(
+                alloc,
+                bytes,
+                AuditError::Refused(Refusal::Unanswered { record }),
+            )
         }
         Ok(events) => {
             matches!(audit(alloc, BLANK, bytes), Ok(accepted) if accepted.requests == events / 2)
@@ -296,7 +316,8 @@ fn changed_heads(rt: HostRuntime) -> Result<(), Fail> {
 }
 
 /// The tree of a file `/f` with `abc`, and its second name `/g`: a head of 37 bytes, and entries of 26 and 11.
-const TWO_NAMES: &[u8] = b"SFTREE01\0\0\0\x01/\0\0\0\0\0\0\0\0\0\0\0\x02\0\0\0\0\0\0\0\0\0\0\x01\xed\
+const TWO_NAMES: &[u8] =
+    b"SFTREE01\0\0\0\x01/\0\0\0\0\0\0\0\0\0\0\0\x02\0\0\0\0\0\0\0\0\0\0\x01\xed\
 \0\0\0\x02/fF\0\0\0\0\0\0\0\0\0\0\x01\xa4\0\0\0\x03abc\0\0\0\x02/gH\0\0\0\x01";
 
 /// What is wrong with the first bytes of that file, so many of them.
@@ -324,5 +345,12 @@ fn cut_trees(rt: HostRuntime) {
     for end in 0..74_usize {
         assert!(rt; is_cut_tree(rt.alloc(), end), "{end} bytes");
     }
-    assert!(rt; is_judged(rt.alloc(), TWO_NAMES, OPENING, &Verdict::Accepted(0, TWO_NAMES)));
+    assert!(rt;
+        is_judged(
+            rt.alloc(),
+            TWO_NAMES,
+            OPENING,
+            &Verdict::Accepted(0, TWO_NAMES)
+        )
+    );
 }

@@ -178,7 +178,10 @@ enum Outcome {
 }
 
 fn run(events: &[Row]) -> Outcome {
-    let mut end = End { requests: 0, places: [false; 3] };
+    let mut end = End {
+        requests: 0,
+        places: [false; 3],
+    };
     for (place, event) in events.iter().enumerate() {
         if event.asked {
             let Some(found) = reply_behind(events, place, number(event.body)) else {
@@ -203,7 +206,11 @@ fn refusal(events: &[Row]) -> Option<Refusal> {
     let record = record_of(before.len());
     let waits = waits(before, number(last.body));
     if last.asked {
-        return if waits { Some(Refusal::IdInUse { record }) } else { None };
+        return if waits {
+            Some(Refusal::IdInUse { record })
+        } else {
+            None
+        };
     }
     if !waits {
         return Some(Refusal::UnknownReply { record });
@@ -291,7 +298,14 @@ fn is_accepted(alloc: Global, bytes: &[u8], end: End) -> Result<bool, AllocError
         Ok(found) => found.as_slice() == tree.as_slice(),
         Err(_) => false,
     };
-    Ok(fed && is_judged(alloc, BLANK, bytes, &Verdict::Accepted(end.requests, tree.as_slice())))
+    Ok(
+        fed && is_judged(
+            alloc,
+            BLANK,
+            bytes,
+            &Verdict::Accepted(end.requests, tree.as_slice()),
+        ),
+    )
 }
 
 /// Whether the auditor refuses a session so, at once and event by event.
@@ -307,4 +321,3 @@ pub(super) fn agrees(alloc: Global, bytes: &[u8]) -> Result<bool, AllocError> {
         Err(error) => Ok(is_refused(alloc, bytes, error)),
     }
 }
-

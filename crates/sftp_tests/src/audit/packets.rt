@@ -105,7 +105,11 @@ fn behind(bytes: &[u8], count: usize) -> Result<&[u8], Fault> {
 
 /// What is behind so many bytes, if they are there.
 fn behind_if(bytes: &[u8], there: bool, count: usize) -> Result<&[u8], Fault> {
-    if there { behind(bytes, count) } else { Ok(bytes) }
+    if there {
+        behind(bytes, count)
+    } else {
+        Ok(bytes)
+    }
 }
 
 /// The number in front of a field, and what is behind it.
@@ -220,13 +224,23 @@ fn packet(rest: &[u8], asked: bool, record: u64) -> Result<Row<'_>, TranscriptEr
         return Err(TranscriptError::Truncated { record });
     };
     if length == 0 || length > 33_996 {
-        return Err(TranscriptError::Wire { fault: Fault::Length, record });
+        return Err(TranscriptError::Wire {
+            fault: Fault::Length,
+            record,
+        });
     }
-    let Some((kind, body)) = rest.get(4..).and_then(|rest| rest.get(..length as usize)).and_then(|all| all.split_first())
+    let Some((kind, body)) = rest
+        .get(4..)
+        .and_then(|rest| rest.get(..length as usize))
+        .and_then(|all| all.split_first())
     else {
         return Err(TranscriptError::Truncated { record });
     };
-    let row = Row { asked, kind: *kind, body };
+    let row = Row {
+        asked,
+        kind: *kind,
+        body,
+    };
     match fault_of(row) {
         Some(fault) => Err(TranscriptError::Wire { fault, record }),
         None => Ok(row),
@@ -244,7 +258,11 @@ fn is_in_turn(row: Row, record: u64) -> bool {
 }
 
 /// The record that begins there, or `None` at the end of the file.
-pub(super) fn row_at(bytes: &[u8], place: usize, record: u64) -> Result<Option<Row<'_>>, TranscriptError> {
+pub(super) fn row_at(
+    bytes: &[u8],
+    place: usize,
+    record: u64,
+) -> Result<Option<Row<'_>>, TranscriptError> {
     let Some((direction, rest)) = bytes.get(place..).and_then(|rest| rest.split_first()) else {
         return if record < 3 {
             Err(TranscriptError::Start { record })

@@ -158,7 +158,12 @@ type Tail<'a> = (&'a str, usize, &'a [u8], Verdict<'a>);
 
 const TAILS: &[Tail] = &[
     // The direction is judged before the packet.
-    ("no side", 8, b"D", Verdict::Transcript(TranscriptError::Direction { record: 1 })),
+    (
+        "no side",
+        8,
+        b"D",
+        Verdict::Transcript(TranscriptError::Direction { record: 1 }),
+    ),
     // A session begins with the client, and begins once.
     (
         "VERSION first",
