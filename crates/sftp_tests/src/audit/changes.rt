@@ -169,14 +169,15 @@ fn whole(alloc: Global, lines: &'static [Line<'static>]) -> Result<Vec<u8>, Allo
     changed(alloc, lines, Change::Nothing, Change::Nothing)
 }
 
-/// Whether auditor and model agree on these records with two changes.
+/// Whether auditor and model agree on these records, so many of them, with two changes.
 fn agrees_on_some(
     alloc: Global,
     lines: &'static [Line<'static>],
+    count: u32,
     generator: &mut Generator,
 ) -> Result<bool, AllocError> {
-    let first = some_change(generator, lines.len() as u32);
-    let second = some_change(generator, lines.len() as u32);
+    let first = some_change(generator, count);
+    let second = some_change(generator, count);
     let transcript = changed(alloc, lines, first, second)?;
     agrees(alloc, transcript.as_slice())
 }
@@ -186,11 +187,11 @@ fn changed_sessions(rt: HostRuntime) -> Result<(), Fail> {
     let mut generator = Generator::new(5);
     for round in 0..500 {
         assert!(rt;
-            agrees_on_some(rt.alloc(), SIX, &mut generator)?,
+            agrees_on_some(rt.alloc(), SIX, 6, &mut generator)?,
             "six, {round}"
         );
         assert!(rt;
-            agrees_on_some(rt.alloc(), EIGHT, &mut generator)?,
+            agrees_on_some(rt.alloc(), EIGHT, 8, &mut generator)?,
             "eight, {round}"
         );
     }
