@@ -132,9 +132,19 @@ fn stuck(alloc: Global) -> Room {
 #[test]
 fn flush_fails(rt: HostRuntime) -> Result<(), Fail> {
     for input in [INPUT, FAULTY] {
-        let writer = over(rt.alloc(), input, stuck(rt.alloc()), Room::ample(rt.alloc()))?;
+        let writer = over(
+            rt.alloc(),
+            input,
+            stuck(rt.alloc()),
+            Room::ample(rt.alloc()),
+        )?;
         assert!(rt; stops(&writer, Stream::Writer, 118, 158), "{input:?}");
-        let log = over(rt.alloc(), input, Room::ample(rt.alloc()), stuck(rt.alloc()))?;
+        let log = over(
+            rt.alloc(),
+            input,
+            Room::ample(rt.alloc()),
+            stuck(rt.alloc()),
+        )?;
         assert!(rt; stops(&log, Stream::Log, 118, 158), "{input:?}");
     }
     Ok(())
