@@ -1,3 +1,2 @@
 pub mod RunEnds
-pub mod ExchangeRuns
 pub mod StepLaws

@@ -3,3 +3,4 @@ pub mod Sessions
 pub mod Links
 pub mod Reads
 pub mod Records
+pub mod Refused

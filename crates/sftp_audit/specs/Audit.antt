@@ -1,6 +1,7 @@
 -- Which files an auditor accepts: those of a starting tree and of a recorded session that account for a run.
-use Rattle.std.specs.Prelude.{◌≡◌, ℕ, ◌^◌, ◌-◌, min, List, [], length}
+use Rattle.std.specs.Prelude.{◌≡◌, ◌⊎◌, ⊤, ℕ, ◌^◌, ◌-◌, min, List, [], ◌∷◌, ◌++◌, length, Bool, true, false, IsTrue}
 use Rattle.sftp_transcript.specs.declared.events.Event.{Event}
+use Rattle.sftp_transcript.specs.declared.events.Event.TheVariants.{Asked, Replied}
 use Rattle.sftp_treefile.specs.declared.errors.TreeError.{TreeError}
 use Rattle.sftp_treefile.specs.declared.errors.TreeError.TheVariants as tree_errors
 use Rattle.sftp_transcript.specs.declared.errors.TranscriptError.{TranscriptError}
@@ -15,6 +16,12 @@ use Rattle.sftp_handles.specs.State.{State, settled}
 use Rattle.sftp_handles.specs.Allowed.{Allowed}
 use Rattle.sftp_transcript.specs.Transcript.{IsRecord}
 use Rattle.sftp_transcript.specs.Explained.{Explained, exchanges_of}
+use Rattle.sftp_transcript.specs.Sound.{Sound}
+use Rattle.sftp_transcript.specs.Streams.{one_more}
+use Rattle.sftp_transcript.specs.Begun.{BeginsRecord, FaultBehind, HasGiven}
+use Rattle.sftp_transcript.specs.Recorded.{Reading}
+use Rattle.sftp_transcript.specs.declared.stage.Stage.TheVariants as stages
+use Rattle.sftp_audit.specs.Auditor.{Audited, StandsFor, Refuses, LacksReply}
 
 -- the state in which a session begins on a tree: nothing is open
 abbrev pub started : Tree → State
@@ -33,6 +40,10 @@ pub record Accounts (tree transcript : List ℕ) (start : Tree) (events : List E
 abbrev pub request_count : List Event → ℕ
 request_count events = min (length (exchanges_of events)) (2 ^ 64 - 1)
 
+abbrev pub is_request : Event → Bool
+is_request (Asked request) = true
+is_request (Replied reply) = false
+
 -- the error of an audit, by the error of its part: `NoMemory` is the same everywhere
 abbrev pub error_of_tree : TreeError → AuditError
 error_of_tree tree_errors.NoMemory = audit_errors.NoMemory
@@ -50,13 +61,75 @@ error_of_session refusal = audit_errors.Refused refusal
 abbrev pub HasStart : List ℕ → Type 0
 HasStart tree = (start : Tree) × IsStart start tree
 
--- the reason for an error of an audit: no tree; a tree but no events; or, where the session was refused, a tree
-abbrev pub IsReason : List ℕ → List ℕ → AuditError → Type 0
-IsReason tree transcript (audit_errors.Tree error) = HasStart tree → ⊥
-IsReason tree transcript (audit_errors.Transcript error) =
-    HasStart tree × ((events : List Event) → IsRecord events transcript → ⊥)
-IsReason tree transcript (audit_errors.Refused refusal) = HasStart tree
-IsReason tree transcript audit_errors.NoMemory = Unit {0}
+-- an event is refused behind events that are sound: the file records them, then this one, and then whatever it may
+pub record RefusedAt (start : State) (transcript : List ℕ) (refusal : Refusal) : Type 0 where
+  pub events : List Event
+  pub event : Event
+  pub rest : List ℕ
+  pub begins : BeginsRecord (events ++ event ∷ []) transcript rest
+  pub end : State
+  pub sound : Sound Allowed start events end
+  pub refuses : Refuses start events event refusal
+
+-- the events of the whole file are sound, but one request has no reply
+pub record RefusedAtEnd (start : State) (transcript : List ℕ) (refusal : Refusal) : Type 0 where
+  pub events : List Event
+  pub recorded : IsRecord events transcript
+  pub end : State
+  pub sound : Sound Allowed start events end
+  pub lacks : LacksReply events refusal
+
+-- the file has a fault behind events that are sound
+pub record FaultAt (start : State) (transcript : List ℕ) (error : TranscriptError) : Type 0 where
+  pub events : List Event
+  pub end : State
+  pub sound : Sound Allowed start events end
+  pub fault : FaultBehind transcript events error
+
+-- What an audit meets first: the bytes are no tree; or, record by record, the fault of a record or the refusal of its
+-- event; or, at the end, a request without a reply.
+abbrev pub IsFirstFault : List ℕ → List ℕ → AuditError → Type 0
+IsFirstFault tree transcript (audit_errors.Tree error) = HasStart tree → ⊥
+IsFirstFault tree transcript (audit_errors.Transcript error) =
+    (start : Tree) × IsStart start tree × FaultAt (started start) transcript error
+IsFirstFault tree transcript (audit_errors.Refused refusal) =
+    (start : Tree) × IsStart start tree
+    × (RefusedAt (started start) transcript refusal ⊎ RefusedAtEnd (started start) transcript refusal)
+IsFirstFault tree transcript audit_errors.NoMemory = ⊤
+
+-- memory ran out, or the source failed
+abbrev pub IsNoJudgement : AuditError → Type 0
+IsNoJudgement audit_errors.NoMemory = ⊤
+IsNoJudgement (audit_errors.Transcript (transcript_errors.Io number)) = ⊤
+IsNoJudgement other = ⊥
+
+-- the source failed, and its failures rose by one
+abbrev pub CountsFailure : AuditError → ℕ → ℕ → Type 0
+CountsFailure (audit_errors.Transcript (transcript_errors.Io number)) old new = new ≡ one_more old
+CountsFailure other old new = new ≡ old
+
+-- the source failed only if it may fail
+abbrev pub IsExcusedBy : Bool → AuditError → Type 0
+IsExcusedBy may_fail (audit_errors.Transcript (transcript_errors.Io number)) = IsTrue may_fail
+IsExcusedBy may_fail other = ⊤
+
+-- a reader that has read nothing yet of these bytes
+abbrev pub IsNew : List ℕ → Reading → Type 0
+IsNew bytes s = HasGiven bytes [] bytes s × (s.stage ≡ stages.Opening)
+
+-- the bytes record some events; the auditor stands for these, and so many of them are requests
+pub record WasFed (start : State) (transcript : List ℕ) (requests : ℕ) (auditor : Audited) : Type 0 where
+  pub events : List Event
+  pub recorded : IsRecord events transcript
+  pub stands : StandsFor start events auditor
+  pub counted : requests ≡ request_count events
+
+-- why no further event is fed: the next record has a fault, or its event is refused
+abbrev pub StopsFeed : State → List ℕ → AuditError → Type 0
+StopsFeed start transcript (audit_errors.Transcript error) = FaultAt start transcript error
+StopsFeed start transcript (audit_errors.Refused refusal) = RefusedAt start transcript refusal
+StopsFeed start transcript audit_errors.NoMemory = ⊤
+StopsFeed start transcript (audit_errors.Tree error) = ⊥
 
 -- no other error has `NoMemory` inside
 abbrev pub IsPlain : AuditError → Type 0

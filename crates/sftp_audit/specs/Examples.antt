@@ -1,7 +1,8 @@
 -- What the worked examples name: trees, and sessions.
-use Rattle.std.specs.Prelude.{ℕ, List, [], ◌∷◌, ◌++◌, codes}
+use Rattle.std.specs.Prelude.{ℕ, List, [], ◌∷◌, ◌++◌, codes, None}
+use Rattle.sftp_wire.specs.declared.packets.Ask.TheVariants.{Mkdir}
 use Rattle.sftp_wire.specs.declared.attributes.Attrs.{Attrs}
-use Rattle.sftp_wire.specs.Examples.{hex}
+use Rattle.sftp_wire.specs.Examples.{hex, no_attributes}
 use Rattle.sftp_transcript.specs.declared.events.Event.{Event}
 use Rattle.sftp_transcript.specs.Examples.{mkdir, rmdir, open_directory, stat, lstat, real_path, read_link, symlink}
 use Rattle.sftp_transcript.specs.Examples.{open_to_read, read, close, status, handle_reply, data_reply, name_reply}
@@ -15,7 +16,9 @@ use Rattle.sftp_handles.specs.State.{State}
 use Rattle.sftp_handles.specs.Allowed.{Allowed}
 use Rattle.sftp_handles.specs.Examples.{with_text}
 use Rattle.sftp_transcript.specs.Explained.{Explained}
+use Rattle.sftp_audit.specs.declared.exchanges.Exchange.{Exchange}
 use Rattle.sftp_audit.specs.Audit.{started}
+use Rattle.sftp_audit.specs.Auditor.{Audited}
 
 -- ---- trees
 
@@ -59,6 +62,27 @@ three_requests = mkdir 1 (codes "/a") ∷ mkdir 2 (codes "/a/b") ∷ rmdir 3 (co
 abbrev pub backward_replies : ℕ → List Event
 backward_replies code = three_requests ++ status 3 code ∷ status 2 0 ∷ status 1 0 ∷ []
 
+-- the same before the last of the replies, which is that to the first request
+abbrev pub two_backward_replies : ℕ → List Event
+two_backward_replies code = three_requests ++ status 3 code ∷ status 2 0 ∷ []
+
+-- the last of three requests has its reply
+abbrev pub last_answered : List Event
+last_answered = three_requests ++ status 3 4 ∷ []
+
+-- another request with its id follows
+abbrev pub id_used_again : List Event
+id_used_again = last_answered ++ mkdir 3 (codes "/c") ∷ []
+
+-- the first of two requests has its reply
+abbrev pub first_answered : List Event
+first_answered = mkdir 1 (codes "/a") ∷ mkdir 2 (codes "/a/b") ∷ status 1 0 ∷ []
+
+-- the second one, which waits in record 4
+abbrev pub second_waits : List Exchange
+second_waits =
+    record { request = record { id = 2; ask = Mkdir (codes "/a/b") no_attributes }; number = 4; reply = None } ∷ []
+
 -- the second request has no reply
 abbrev pub one_unanswered : List Event
 one_unanswered = three_requests ++ status 3 4 ∷ status 1 0 ∷ []
@@ -98,16 +122,37 @@ read_in_parts first =
     ∷ read 4 (codes "h") 6 3 ∷ status 4 1 ∷ data_reply 3 (codes "de") ∷ data_reply 2 first
     ∷ close 5 (codes "h") ∷ status 5 0 ∷ []
 
--- the transcript file of the replies that come backwards, the removal being refused
-abbrev pub backward_replies_bytes : List ℕ
-backward_replies_bytes =
+-- the beginning of a transcript file of the three requests
+abbrev pub three_requests_bytes : List ℕ
+three_requests_bytes =
     handshake_bytes ++
     hex (codes "43 0000000f 0e 00000001 00000002 2f61 00000000") ++
     hex (codes "43 00000011 0e 00000002 00000004 2f612f62 00000000") ++
-    hex (codes "43 0000000b 0f 00000003 00000002 2f61") ++
+    hex (codes "43 0000000b 0f 00000003 00000002 2f61")
+
+-- the transcript file of the replies that come backwards, the removal being refused
+abbrev pub backward_replies_bytes : List ℕ
+backward_replies_bytes =
+    three_requests_bytes ++
     hex (codes "53 00000011 65 00000003 00000004 00000000 00000000") ++
     hex (codes "53 00000011 65 00000002 00000000 00000000 00000000") ++
     hex (codes "53 00000011 65 00000001 00000000 00000000 00000000")
+
+-- the same, but the reply says that the removal is done
+abbrev pub removal_done_bytes : List ℕ
+removal_done_bytes =
+    three_requests_bytes ++
+    hex (codes "53 00000011 65 00000003 00000000 00000000 00000000") ++
+    hex (codes "53 00000011 65 00000002 00000000 00000000 00000000") ++
+    hex (codes "53 00000011 65 00000001 00000000 00000000 00000000")
+
+-- ---- what an auditor keeps
+
+-- it has settled requests that lead to this tree, keeps these exchanges, and the next record has this number
+abbrev pub auditor_with : Tree → List Exchange → ℕ → Audited
+auditor_with tree kept number = record { state = started tree; kept = kept; number = number; refusal = None }
+
+-- ---- sessions that are not explained
 
 -- no run from the tree explains the events, whatever the end
 abbrev pub Unexplained : Tree → List Event → Type 0

@@ -1,3 +1,5 @@
 pub mod Audit
+pub mod Auditor
 pub mod Examples
 pub mod Exchanges
+pub mod Ledger

@@ -1,64 +1,167 @@
-//! The auditor, from bytes to bytes.
-ghost use Rattle.std.specs.Prelude.{◌≡◌, ◌≢◌, List, IfOk, IfErr};
-ghost use Rattle.sftp_audit.specs.declared.errors.AuditError.TheVariants.{NoMemory};
-ghost use Rattle.sftp_tree.specs.Tree as values;
-ghost use Rattle.sftp_tree.specs.Picture.{picture};
-ghost use Rattle.sftp_audit.specs.Audit.{Accounts, IsReason, IsPlain, request_count};
+//! The auditor: it is fed the events of a session, one after the other, and sees each once.
+ghost use Rattle.std.specs.Prelude.{◌≡◌, ◌≤◌, List, [], ◌∷◌, ◌++◌, length, Some, None, Ok, Err, OnOk, IfOk, IfErr};
+ghost use Rattle.sftp_tree.specs.Tree.{trim};
+ghost use Rattle.sftp_handles.specs.State.{State};
+ghost use Rattle.sftp_handles.specs.Allowed.{Allowed};
+ghost use Rattle.sftp_transcript.specs.declared.events.Event.{Event};
+ghost use Rattle.sftp_transcript.specs.Begun.{first_number};
+ghost use Rattle.sftp_transcript.specs.Explained.{Explained, window};
+ghost use Rattle.sftp_audit.specs.declared.errors.Refusal.{Refusal};
+ghost use Rattle.sftp_audit.specs.Audit.{started};
+ghost use Rattle.sftp_audit.specs.Auditor.{StandsFor, Refuses, LacksReply, IsNoted};
 
-use crate::errors::AuditError;
-use crate::ledger::pair;
-use crate::recording::events_of;
-use crate::runs::end_of;
-use sftp_tree::Tree;
-use std::alloc::Global;
+use crate::errors::Refusal;
+use crate::exchanges::RecordedReply;
+use crate::ledger::Ledger;
+use crate::settling::settle;
+use sftp_handles::{GivenTable, Session};
+use sftp_transcript::Event;
+use sftp_tree::{NoMemory, Tree};
+use std::marker::Model;
 
-/// The result of an accepted session.
-#[derive(Debug, Drop)]
-pub struct Accepted {
-    /// The tree file of the tree after the last request, with every handle closed.
-    pub tree: Vec<u8>,
-    /// How many requests there were, up to 2^64 - 1.
-    pub requests: u64,
+/// The number of the first event's record: INIT and VERSION have the numbers 1 and 2.
+const FIRST_NUMBER: u64 = 3;
+
+/// An auditor of one session. It keeps the tree with what is open on it, and the requests from the oldest unanswered
+/// one on, at most 1,024, with the replies that came; nothing else of the past. A request is done as soon as it and all
+/// before it have their replies.
+#[derive(Drop)]
+pub struct Auditor {
+    session: Session<GivenTable>,
+    ledger: Ledger,
+    /// The number of the next event's record, capped at 2^64 - 1.
+    number: u64,
+    /// The refusal, once there is one.
+    refusal: Option<Refusal>,
 }
 
-/// Says whether a tree allows every reply of a recorded session, in whatever order the replies came, and what
-/// tree the session ends in.
-///
-/// It accepts exactly if the bytes of the tree file are a tree, those of the transcript file record a session, the
-/// replies pair off with earlier requests, each within 1,024 requests, and each reply is allowed when the requests are
-/// carried out singly and in sequence (draft-ietf-secsh-filexfer-02, section 6.1). The session starts with nothing
-/// open. A handle is open from the reply that gives it until its CLOSE is done; the names of handles are the server's
-/// own choice, but no reply gives a handle that is open. A file that is removed while it is open lives until its last
-/// handle is closed. The end is taken as if the handles that are still open were closed then, and files without a name
-/// are not in it.
-///
-/// # Errors
-///
-/// The tree file is judged first, then the transcript file, then the session.
-///
-/// - `Tree` if the bytes are not a tree file; the fault is the first one from left to right.
-/// - `Transcript` if the tree file is good, but the bytes are not a transcript file; the fault is the first one from
-///   left to right.
-/// - `Refused` if the tree file is good and the tree does not explain the session.
-/// - `NoMemory` if memory ran out. The other errors never have `NoMemory` inside.
-pub fn audit(alloc: Global, tree: &[u8], transcript: &[u8]) -> Result<Accepted, AuditError>
-    // An accepted session accounts for a run, and the result is the tree where it ends.
-    ensures accepted { IfOk result (λ accepted. (start : values.Tree) × (events : List _) × (end : values.Tree)
-        × Accounts tree.now transcript.now start events end
-        × (accepted.tree.items ≡ picture end)
-        × (accepted.requests ≡ request_count events)) }
-    // A refused session accounts for no run, unless memory ran out.
-    ensures refused { IfErr result (λ e. e ≢ NoMemory → (start : values.Tree) (events : List _) (end : values.Tree)
-        → Accounts tree.now transcript.now start events end → ⊥) }
-    // Each kind of error has its reason.
-    ensures reasons { IfErr result (IsReason tree.now transcript.now) }
-    ensures plain { IfErr result IsPlain }
-{
-    let start = Tree::read(alloc, tree)?;
-    let events = events_of(alloc, transcript)?;
-    let exchanges = pair(alloc, events.as_slice())?;
-    let end = end_of(start, exchanges.as_slice())?;
-    let requests = exchanges.len() as u64;
-    let tree = end.write()?;
-    Ok(Accepted { tree, requests })
+impl Model for Auditor {
+    ghost use Rattle.sftp_audit.specs.Auditor.{Audited};
+
+    ghost Value = { Audited };
+
+    ghost view = { λ a. record { state = a.session; kept = a.ledger; number = a.number; refusal = a.refusal } };
+}
+
+impl Auditor {
+    /// An auditor of a session that begins on this tree, with nothing open. The pins that the tree came with are taken
+    /// away. The first event is that of record 3.
+    ///
+    /// # Errors
+    ///
+    /// `NoMemory` if memory runs out.
+    pub fn new(tree: Tree) -> Result<Auditor, NoMemory>
+        ensures fresh { IfOk result (λ auditor. auditor ≡
+            record { state = started tree; kept = []; number = first_number; refusal = None }) }
+        // It stands for no events.
+        ensures stands { IfOk result (StandsFor (started tree) []) }
+    {
+        let alloc = tree.allocator();
+        let session = Session::new(tree)?;
+        Ok(Auditor {
+            session,
+            ledger: Ledger::new(alloc),
+            number: FIRST_NUMBER,
+            refusal: None,
+        })
+    }
+
+    /// Judges the next event of the session.
+    ///
+    /// # Errors
+    ///
+    /// A refusal is for good: each later call returns it again, and nothing is kept.
+    ///
+    /// - `UnknownReply` at the event's record if no request of the reply's id waits for its reply.
+    /// - `IdInUse` at the event's record if a request of the same id waits.
+    /// - `Window` at the event's record if 1,024 requests were asked from the oldest unanswered one on.
+    /// - `NotAllowed` at the record of the first reply, in the order asked, that is not allowed. It is returned once
+    ///   all requests before its own have their replies.
+    /// - `NoMemory` if memory runs out.
+    pub fn feed(&mut self, event: Event) -> Result<(), Refusal>
+        // It then stands for the events so far and this one.
+        ensures stands { OnOk result ((start : State) (events : List Event) →
+            StandsFor start events self.old → StandsFor start (events ++ event ∷ []) self.new) }
+        // A refusal has its reason.
+        ensures refused { IfErr result (λ refusal. (start : State) (events : List Event) →
+            StandsFor start events self.old → Refuses start events event refusal) }
+        // It is for good, and nothing is kept.
+        ensures for_good { IfErr result (λ refusal. (self.new.refusal ≡ Some refusal) × (self.new.kept ≡ [])) }
+        ensures again { (refusal : Refusal) → self.old.refusal ≡ Some refusal → result ≡ Err refusal }
+    {
+        if let Some(refusal) = self.refusal {
+            self.ledger.clear();
+            return Err(refusal);
+        }
+        match self.note(event) {
+            Ok(()) => {
+                self.number = self.number.saturating_add(1);
+                Ok(())
+            }
+            Err(refusal) => {
+                self.refusal = Some(refusal);
+                self.ledger.clear();
+                Err(refusal)
+            }
+        }
+    }
+
+    /// Notes an event, and does the requests that are then settled.
+    ///
+    /// # Errors
+    ///
+    /// Those of `feed`.
+    fn note(&mut self, event: Event) -> Result<(), Refusal>
+        ensures same { (self.new.number ≡ self.old.number) × (self.new.refusal ≡ self.old.refusal) }
+        ensures stands { OnOk result ((start : State) (events : List Event) →
+            StandsFor start events self.old → IsNoted start (events ++ event ∷ []) self.new) }
+        ensures refused { IfErr result (λ refusal. (start : State) (events : List Event) →
+            StandsFor start events self.old → Refuses start events event refusal) }
+    {
+        match event {
+            Event::Asked(request) => self.ledger.ask(request, self.number),
+            Event::Replied(reply) => {
+                self.ledger.answer(RecordedReply {
+                    reply,
+                    number: self.number,
+                })?;
+                settle(&mut self.ledger, &mut self.session)
+            }
+        }
+    }
+
+    /// The tree where the session ends, as if what is still open were closed. It takes no memory.
+    ///
+    /// # Errors
+    ///
+    /// `Unanswered` with the record of the oldest request without a reply, if there is one; and a refusal that `feed`
+    /// returned comes again.
+    pub fn finish(self) -> Result<Tree, Refusal>
+        ensures again { (refusal : Refusal) → self.refusal ≡ Some refusal → result ≡ Err refusal }
+        // The events are explained, and the result is the tree where their run ends.
+        ensures ended { IfOk result (λ end. (start : State) (events : List Event) → StandsFor start events self
+            → (last : State) × Explained Allowed start events last × (end ≡ trim (record last.tree { pins = [] }))) }
+        // Otherwise a request has no reply.
+        ensures unanswered { IfErr result (λ refusal. (start : State) (events : List Event) →
+            StandsFor start events self → LacksReply events refusal) }
+    {
+        if let Some(refusal) = self.refusal {
+            return Err(refusal);
+        }
+        match self.ledger.first() {
+            Some(exchange) => Err(Refusal::Unanswered {
+                record: exchange.number,
+            }),
+            None => Ok(self.session.into_tree()),
+        }
+    }
+
+    /// How many requests are kept with their replies: those from the oldest unanswered one on, at most 1,024; 0 where
+    /// none waits, and after a refusal. It takes no memory.
+    pub fn kept(&self) -> usize
+        ensures count { result ≡ length self.now.kept }
+        ensures few { result ≤ window }
+    {
+        self.ledger.len()
+    }
 }

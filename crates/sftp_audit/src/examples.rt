@@ -5,13 +5,19 @@ ghost use Rattle.sftp_tree.specs.Picture.{picture, blank};
 ghost use Rattle.sftp_transcript.specs.Transcript.{IsRecord};
 ghost use Rattle.sftp_handles.specs.Allowed.{Allowed};
 ghost use Rattle.sftp_transcript.specs.Explained.{Explained};
-ghost use Rattle.sftp_audit.specs.Audit.{started};
+ghost use Rattle.sftp_audit.specs.declared.errors.Refusal.TheVariants.{UnknownReply, IdInUse, Window, NotAllowed};
+ghost use Rattle.sftp_audit.specs.declared.errors.Refusal.TheVariants.{Unanswered};
+ghost use Rattle.sftp_audit.specs.Audit.{started, RefusedAt};
+ghost use Rattle.sftp_audit.specs.Auditor.{StandsFor, Refuses, LacksReply};
+ghost use Rattle.sftp_audit.specs.Exchanges.{recorded_exchanges};
 ghost use Rattle.sftp_audit.specs.Examples.{with_a, with_a_and_b, with_a_and_b_bytes, with_link};
-ghost use Rattle.sftp_transcript.specs.Examples.{handshake_bytes, of_link, with_no_permissions};
+ghost use Rattle.sftp_transcript.specs.Examples.{handshake_bytes, mkdir, status, of_link, with_no_permissions};
 ghost use Rattle.sftp_audit.specs.Examples.{backward_replies, backward_replies_bytes, one_unanswered};
 ghost use Rattle.sftp_audit.specs.Examples.{same_directory_twice, data_for_mkdir, opendir_of_nothing, link_session};
 ghost use Rattle.sftp_audit.specs.Examples.{one_answered_twice};
 ghost use Rattle.sftp_audit.specs.Examples.{above_the_root, with_five_letters, read_in_parts, Unexplained};
+ghost use Rattle.sftp_audit.specs.Examples.{three_requests, two_backward_replies, removal_done_bytes, last_answered};
+ghost use Rattle.sftp_audit.specs.Examples.{id_used_again, first_answered, second_waits, auditor_with};
 
 /// A session without a request ends where it starts.
 pub fn nothing_asked()
@@ -92,4 +98,33 @@ pub fn file_is_read()
 /// The same session is not explained if one byte of the data is another.
 pub fn wrong_byte()
     ensures { Unexplained with_five_letters (read_in_parts (codes "abd")) }
+{}
+
+/// The auditor judges replies in the order in which their requests were asked. In the session whose replies come
+/// backwards, where that to the removal says OK, it keeps all three requests as long as the first one waits. The last
+/// reply, in record 8, settles them, and the one that is refused is that to the removal, in record 6.
+pub fn refused_in_order_asked()
+    ensures nothing_settled { StandsFor (started blank) (two_backward_replies 0)
+        (auditor_with blank (recorded_exchanges (two_backward_replies 0)) 8) }
+    ensures refused { Refuses (started blank) (two_backward_replies 0) (status 1 0) (NotAllowed 6) }
+    ensures not_the_last { ¬ Refuses (started blank) (two_backward_replies 0) (status 1 0) (NotAllowed 8) }
+    ensures in_bytes { RefusedAt (started blank) removal_done_bytes (NotAllowed 6) }
+{}
+
+/// A second reply to one request is refused, and so is a second request with the id of one that waits. Once a request
+/// has its reply, its id may come again.
+pub fn ids_in_use()
+    ensures answered_twice { Refuses (started blank) last_answered (status 3 4) (UnknownReply 7) }
+    ensures asked_twice { Refuses (started blank) three_requests (mkdir 1 (codes "/c")) (IdInUse 6) }
+    ensures not_late { ¬ Refuses (started blank) three_requests (mkdir 1 (codes "/c")) (Window 6) }
+    ensures used_again { StandsFor (started blank) id_used_again
+        (auditor_with blank (recorded_exchanges id_used_again) 8) }
+{}
+
+/// Two requests are asked, and the first one is answered: it is settled, and the second one, in record 4, waits. If the
+/// session ends there, that is the request without a reply.
+pub fn oldest_waits()
+    ensures settled { StandsFor (started blank) first_answered (auditor_with with_a second_waits 6) }
+    ensures unanswered { LacksReply first_answered (Unanswered 4) }
+    ensures not_the_first { ¬ LacksReply first_answered (Unanswered 3) }
 {}

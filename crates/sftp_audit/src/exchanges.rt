@@ -1,18 +1,18 @@
-//! The exchanges of a session: each request with its reply.
+//! The exchanges of a session: each request with its reply, and the numbers of their records.
 
 use sftp_wire::{Reply, Request};
 
 /// A reply, and the number of its record.
-#[derive(Clone, Copy)]
-pub struct RecordedReply<'a> {
-    pub reply: &'a Reply,
+#[derive(Drop)]
+pub struct RecordedReply {
+    pub reply: Reply,
     pub number: u64,
 }
 
-/// A request, the number of its record, and the reply, if there is one.
-#[derive(Clone, Copy)]
-pub struct Exchange<'a> {
-    pub request: &'a Request,
+/// A request, the number of its record, and the reply, if it came.
+#[derive(Drop)]
+pub struct Exchange {
+    pub request: Request,
     pub number: u64,
-    pub reply: Option<RecordedReply<'a>>,
+    pub reply: Option<RecordedReply>,
 }

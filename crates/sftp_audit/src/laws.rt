@@ -1,13 +1,34 @@
 //! Laws of sessions, as theorems on the definitions that the auditor's contract names. The functions do nothing; each
 //! promise is in the contract.
-ghost use Rattle.std.specs.Prelude.{◌≡◌, List};
+ghost use Rattle.std.specs.Prelude.{◌≡◌, ◌≢◌, ℕ, List};
 ghost use Rattle.sftp_transcript.specs.declared.events.Event.{Event};
 ghost use Rattle.sftp_handles.specs.State.{State};
 ghost use Rattle.sftp_handles.specs.Allowed.{Allowed};
 ghost use Rattle.sftp_transcript.specs.Explained.{Explained};
+ghost use Rattle.sftp_transcript.specs.Sound.{Sound, IsWaiting};
+ghost use Rattle.sftp_audit.specs.declared.errors.Refusal.{Refusal};
+ghost use Rattle.sftp_audit.specs.declared.errors.Refusal.TheVariants.{NoMemory};
+ghost use Rattle.sftp_audit.specs.Auditor.{Refuses};
 
 /// A start and the events of a session fix the end, since each reply fixes the state after it.
 pub fn one_end()
     ensures { (s : State) (events : List Event) (a b : State) →
         Explained Allowed s events a → Explained Allowed s events b → a ≡ b }
+{}
+
+/// A session is explained exactly if its events are sound and no request waits for its reply.
+pub fn explained_when_none_waits()
+    ensures sound { (start : State) (events : List Event) (end : State) →
+        Explained Allowed start events end → Sound Allowed start events end }
+    ensures answered { (start : State) (events : List Event) (end : State) →
+        Explained Allowed start events end → (id : ℕ) → IsWaiting events id → ⊥ }
+    ensures explained { (start : State) (events : List Event) (end : State) →
+        Sound Allowed start events end → ((id : ℕ) → IsWaiting events id → ⊥) →
+        Explained Allowed start events end }
+{}
+
+/// Behind events that went before, an event is refused for one reason at most, unless memory runs out.
+pub fn one_refusal()
+    ensures { (start : State) (events : List Event) (event : Event) (a b : Refusal) →
+        Refuses start events event a → Refuses start events event b → a ≢ NoMemory → b ≢ NoMemory → a ≡ b }
 {}

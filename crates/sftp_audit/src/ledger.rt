@@ -1,176 +1,185 @@
-//! The ledger of a session, which pairs each request with its reply.
-ghost use Rattle.std.specs.Prelude.{◌≡◌, ◌≢◌, ◌⊎◌, ◌++◌, ◌<◌, ◌≤◌, [], ◌∷◌, None, Some, length, take};
-ghost use Rattle.std.specs.Prelude.{slice_get, IsTrue, IfOk, IfErr, OnOk, true, false, List};
-ghost use Rattle.std.specs.List.{AllByRecursion};
-ghost use Rattle.sftp_audit.specs.declared.errors.Refusal.TheVariants.{NoMemory};
-ghost use Rattle.sftp_transcript.specs.Explained.{Matching, in_window};
-ghost use Rattle.sftp_transcript.specs.Ledger.{is_open, keeps_window, StandsFor, IsAnswered, IsComplete, HasAnswer};
-ghost use Rattle.sftp_audit.specs.Exchanges.{ledger_of};
+//! The exchanges that an auditor keeps: those from the oldest request without a reply on.
+ghost use Rattle.std.specs.Prelude.{◌≡◌, ◌<◌, ◌≤◌, ◌++◌, ℕ, [], ◌∷◌, None, true, false, length, drop, slice_get};
+ghost use Rattle.std.specs.Prelude.{OnOk, OnErr, IfErr, option_copied};
+ghost use Rattle.std.specs.VecDeque.{deque_len, deque_capacity};
+ghost use Rattle.sftp_transcript.specs.Explained.{window};
+ghost use Rattle.sftp_audit.specs.Exchanges.{is_open, with_reply};
+ghost use Rattle.sftp_audit.specs.Ledger.{starts_answered, IsOrdinal, IsIndexed, RefusesRequest, RefusesReply};
 
 use crate::errors::Refusal;
 use crate::exchanges::{Exchange, RecordedReply};
 use indexmap::IndexMap;
-use sftp_transcript::Event;
 use sftp_wire::{Reply, Request};
 use std::alloc::Global;
+use std::collections::VecDeque;
 use std::marker::Model;
 
 /// How many requests may be asked from an unanswered one on, itself included. This profile's own.
 pub const WINDOW: usize = 1_024;
 
-/// The number of the first record after the two opening packets.
-const FIRST_RECORD: u64 = 3;
-
-/// The exchanges so far, in the order asked.
+/// The exchanges that are kept, in the order asked. No two requests of one id wait for their replies.
 #[derive(Drop)]
-struct Ledger<'a> {
-    exchanges: Vec<Exchange<'a>>,
-    /// The places of the unanswered requests, by their ids.
-    unanswered: IndexMap<u32, usize>,
-    /// The place of the oldest unanswered request, or the number of exchanges.
-    oldest: usize,
+pub(crate) struct Ledger {
+    exchanges: VecDeque<Exchange>,
+    /// The ordinals of the unanswered requests, by their ids.
+    unanswered: IndexMap<u32, u64>,
+    /// The ordinal of the first exchange. Ordinals count requests, modulo 2^64.
+    first: u64,
 }
 
-impl<'a> Model for Ledger<'a> {
+impl Model for Ledger {
     ghost use Rattle.std.specs.Prelude.{List};
-    ghost use Rattle.sftp_transcript.specs.Ledger.{Exchange, IsIndexed};
-    ghost use Rattle.sftp_audit.specs.Exchanges.{ledger_of};
+    ghost use Rattle.sftp_audit.specs.declared.exchanges.Exchange.{Exchange};
+    ghost use Rattle.sftp_audit.specs.Ledger.{IsIndexed};
 
     ghost Value = { List Exchange };
 
-    ghost view = { λ l. ledger_of l.exchanges.items };
+    ghost view = { λ l. l.exchanges.items };
 
-    ghost invariant = { λ l. IsIndexed (ledger_of l.exchanges.items) l.unanswered.entries l.oldest };
+    ghost invariant = { λ l. IsIndexed l.exchanges.items l.unanswered.entries l.first };
 }
 
-/// The place of the first request without a reply, from a place on, or the number of exchanges.
-fn first_waiting(exchanges: &[Exchange<'_>], from: usize) -> usize
-    requires within { from ≤ length exchanges.now }
-    requires before { AllByRecursion IsAnswered (take from (ledger_of exchanges.now)) }
-    ensures within { result ≤ length exchanges.now }
-    ensures answered { AllByRecursion IsAnswered (take result (ledger_of exchanges.now)) }
-    ensures waits { result < length exchanges.now → (request : _)
-        × (slice_get (ledger_of exchanges.now) result ≡ Some (request, None)) }
-{
-    let mut place = from;
-    while place < exchanges.len() && exchanges[place].reply.is_some() {
-        place += 1;
-    }
-    place
-}
-
-impl<'a> Ledger<'a> {
-    fn new(alloc: Global) -> Ledger<'a>
+impl Ledger {
+    /// No exchange.
+    pub(crate) fn new(alloc: Global) -> Ledger
         ensures { result ≡ [] }
     {
         Ledger {
-            exchanges: Vec::new(alloc),
+            exchanges: VecDeque::new(alloc),
             unanswered: IndexMap::new(alloc),
-            oldest: 0,
+            first: 0,
         }
     }
 
-    /// Notes a request.
+    /// How many exchanges are kept: at most `WINDOW`.
+    pub(crate) fn len(&self) -> usize
+        ensures count { result ≡ length self.now }
+        ensures few { result ≤ window }
+    {
+        self.exchanges.len()
+    }
+
+    /// Notes a request, which waits for its reply. The number is that of its record.
     ///
     /// # Errors
     ///
-    /// `IdInUse` if the id is that of an unanswered request, `Window` if the oldest unanswered request is `WINDOW`
-    /// requests back or more, and `NoMemory` if memory runs out.
-    fn ask(&mut self, request: &'a Request, record: u64) -> Result<(), Refusal>
-        ensures noted { OnOk result (self.new ≡ self.old ++ (request.now, None) ∷ []) }
-        ensures apart { OnOk result (is_open request.now.id self.old ≡ false) }
-        ensures in_time { OnOk result (keeps_window (self.old ++ (request.now, None) ∷ []) [] ≡ true) }
-        ensures refused { IfErr result (λ e. e ≢ NoMemory →
-            (is_open request.now.id self.old ≡ true)
-            ⊎ (keeps_window (self.old ++ (request.now, None) ∷ []) [] ≡ false)) }
+    /// `IdInUse` if a request of the same id waits, `Window` if `WINDOW` exchanges are kept, and `NoMemory` if memory
+    /// runs out.
+    pub(crate) fn ask(&mut self, request: Request, number: u64) -> Result<(), Refusal>
+        ensures noted { OnOk result
+            (self.new ≡ self.old ++ record { request = request; number = number; reply = None } ∷ []) }
+        ensures apart { OnOk result (is_open request.id self.old ≡ false) }
+        ensures in_time { OnOk result (length self.old < window) }
+        ensures refused { IfErr result (RefusesRequest self.old request number) }
     {
-        if self.unanswered.contains_key(&request.id) {
-            return Err(Refusal::IdInUse { record });
+        match enter(
+            &mut self.exchanges,
+            &mut self.unanswered,
+            self.first,
+            &request,
+            number,
+        ) {
+            Ok(()) => {
+                self.exchanges.push_back_reserved(Exchange {
+                    request,
+                    number,
+                    reply: None,
+                });
+                Ok(())
+            }
+            Err(refusal) => Err(refusal),
         }
-        let place = self.exchanges.len();
-        if place - self.oldest >= WINDOW {
-            return Err(Refusal::Window { record });
-        }
-        self.exchanges.reserve(1)?;
-        self.unanswered.insert(request.id, place)?;
-        self.exchanges.push_reserved(Exchange {
-            request,
-            number: record,
-            reply: None,
-        });
-        Ok(())
     }
 
-    /// Notes a reply.
+    /// Notes a reply: the request of its id that waits gets it.
     ///
     /// # Errors
     ///
-    /// `UnknownReply` if no unanswered request has its id.
-    fn answer(&mut self, reply: &'a Reply, record: u64) -> Result<(), Refusal>
-        ensures noted { OnOk result (HasAnswer self.old reply.now self.new) }
-        ensures refused { IfErr result (λ e. is_open reply.now.id self.old ≡ false) }
+    /// `UnknownReply` if no request of its id waits.
+    pub(crate) fn answer(&mut self, recorded: RecordedReply) -> Result<(), Refusal>
+        ensures noted { OnOk result (self.new ≡ with_reply recorded self.old) }
+        ensures waited { OnOk result (is_open recorded.reply.id self.old ≡ true) }
+        ensures refused { IfErr result (RefusesReply self.old recorded) }
     {
-        let Some(place) = self.unanswered.swap_remove(&reply.id) else {
-            return Err(Refusal::UnknownReply { record });
-        };
-        let exchange = &mut self.exchanges[place];
-        exchange.reply = Some(RecordedReply {
-            reply,
-            number: record,
-        });
-        self.oldest = first_waiting(self.exchanges.as_slice(), self.oldest);
-        Ok(())
-    }
-
-    /// Notes an event: the ledger then stands for the events so far and this one. It is refused only if nothing that
-    /// comes later could put the session right.
-    fn note(&mut self, event: &'a Event, record: u64) -> Result<(), Refusal>
-        ensures stands { OnOk result ((seen : List _) → StandsFor self.old seen →
-            StandsFor self.new (seen ++ event.now ∷ [])) }
-        ensures refused { IfErr result (λ e. e ≢ NoMemory → (seen more : List _) → StandsFor self.old seen
-            → Matching (seen ++ event.now ∷ more) → IsTrue (in_window (seen ++ event.now ∷ more)) → ⊥) }
-    {
-        match event {
-            Event::Asked(request) => self.ask(request, record),
-            Event::Replied(reply) => self.answer(reply, record),
-        }
-    }
-
-    /// The exchanges, once each request is answered.
-    ///
-    /// # Errors
-    ///
-    /// `Unanswered` at the record of the oldest request that has no reply.
-    fn finish(self) -> Result<Vec<Exchange<'a>>, Refusal>
-        ensures answered { IfOk result (λ exchanges. AllByRecursion IsAnswered (ledger_of exchanges.items)) }
-        ensures same { IfOk result (λ exchanges. ledger_of exchanges.items ≡ self.entry) }
-        ensures refused { IfErr result (λ _. (id : _) × (is_open id self.entry ≡ true)) }
-    {
-        if let Some(exchange) = self.exchanges.get(self.oldest) {
-            return Err(Refusal::Unanswered {
-                record: exchange.number,
+        let Some(ordinal) = self.unanswered.swap_remove(&recorded.reply.id) else {
+            return Err(Refusal::UnknownReply {
+                record: recorded.number,
             });
+        };
+        let place = place_of(ordinal, self.first);
+        match self.exchanges.get_mut(place) {
+            Some(exchange) => {
+                exchange.reply = Some(recorded);
+                Ok(())
+            }
+            None => unreachable!(),
         }
-        Ok(self.exchanges)
+    }
+
+    /// The first exchange.
+    pub(crate) fn first(&self) -> Option<&Exchange>
+        ensures { option_copied result ≡ slice_get self.now 0 }
+    {
+        self.exchanges.front()
+    }
+
+    /// Forgets the first exchange, which has its reply.
+    pub(crate) fn forget_first(&mut self)
+        requires { starts_answered self.old ≡ true }
+        ensures { self.new ≡ drop 1 self.old }
+    {
+        self.exchanges.pop_front();
+        self.first = self.first.wrapping_add(1);
+    }
+
+    /// Forgets all exchanges.
+    pub(crate) fn clear(&mut self)
+        ensures { self.new ≡ [] }
+    {
+        self.exchanges.clear();
+        self.unanswered.clear();
     }
 }
 
-/// Pairs each request with its reply, in the order asked.
+/// Makes room for the exchange of a request, and puts its id into the index. The exchange itself has to follow.
 ///
 /// # Errors
 ///
-/// A `Refusal` if a reply answers no unanswered request, a request has the id of an unanswered one, a request comes
-/// `WINDOW` requests or more after an unanswered one, or a request has no reply in the end; and `NoMemory` if memory
+/// `IdInUse` if a request of the same id waits, `Window` if `WINDOW` exchanges are kept, and `NoMemory` if memory
 /// runs out.
-pub fn pair(alloc: Global, events: &[Event]) -> Result<Vec<Exchange<'_>>, Refusal>
-    ensures paired { IfOk result (λ exchanges. IsComplete (ledger_of exchanges.items) events.now) }
-    ensures refused { IfErr result (λ e. e ≢ NoMemory → Matching events.now → IsTrue (in_window events.now) → ⊥) }
+fn enter(
+    exchanges: &mut VecDeque<Exchange>,
+    unanswered: &mut IndexMap<u32, u64>,
+    first: u64,
+    request: &Request,
+    number: u64,
+) -> Result<(), Refusal>
+    requires { IsIndexed exchanges.old.items unanswered.old.entries first }
+    ensures kept { exchanges.new.items ≡ exchanges.old.items }
+    ensures room { OnOk result (deque_len exchanges.new < deque_capacity exchanges.new) }
+    ensures entered { OnOk result (IsIndexed
+        (exchanges.old.items ++ record { request = request.now; number = number; reply = None } ∷ [])
+        unanswered.new.entries first) }
+    ensures apart { OnOk result (is_open request.now.id exchanges.old.items ≡ false) }
+    ensures in_time { OnOk result (length exchanges.old.items < window) }
+    ensures unchanged { OnErr result (unanswered.new.entries ≡ unanswered.old.entries) }
+    ensures refused { IfErr result (RefusesRequest exchanges.old.items request.now number) }
 {
-    let mut ledger = Ledger::new(alloc);
-    let mut record = FIRST_RECORD;
-    for event in events {
-        ledger.note(event, record)?;
-        record = record.saturating_add(1);
+    if unanswered.contains_key(&request.id) {
+        return Err(Refusal::IdInUse { record: number });
     }
-    ledger.finish()
+    if exchanges.len() >= WINDOW {
+        return Err(Refusal::Window { record: number });
+    }
+    exchanges.reserve(1)?;
+    let ordinal = first.wrapping_add(exchanges.len() as u64);
+    unanswered.insert(request.id, ordinal)?;
+    Ok(())
+}
+
+/// The place of the exchange that has an ordinal, where the first one has the other.
+fn place_of(ordinal: u64, first: u64) -> usize
+    ensures { (place : ℕ) → place ≤ window → IsOrdinal first place ordinal → result ≡ place }
+{
+    ordinal.wrapping_sub(first) as usize
 }

@@ -3,16 +3,17 @@
 #![tactic(auto)]
 
 mod auditor;
+mod audits;
 mod blank;
 mod errors;
 pub mod examples;
 mod exchanges;
 pub mod laws;
 mod ledger;
-mod recording;
-mod runs;
+mod settling;
 
-pub use auditor::{Accepted, audit};
+pub use auditor::Auditor;
+pub use audits::{Accepted, audit, audit_stream};
 pub use blank::{blank_tree, blank_tree_is_a_start};
 pub use errors::{AuditError, Refusal};
 pub use sftp_transcript::{Event, TranscriptError};

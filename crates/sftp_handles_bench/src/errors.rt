@@ -1,5 +1,6 @@
 //! Why a run ended early.
 use sftp_tree::NoMemory;
+use sftp_wire::WireError;
 use std::alloc::AllocError;
 use std::io;
 use thiserror::Error;
@@ -10,6 +11,9 @@ pub(crate) enum BenchError {
     /// The words cannot be understood.
     #[error("the arguments are `measure` and the name of a workload, or `measure` alone")]
     Usage,
+    /// A reply could not be written.
+    #[error("a reply: {0}")]
+    Wire(#[from] WireError),
     /// The clock, an argument or standard output failed.
     #[error(transparent)]
     Io(#[from] io::Error),

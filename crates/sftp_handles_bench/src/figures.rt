@@ -1,6 +1,6 @@
 //! What is printed of workloads.
 use crate::errors::BenchError;
-use crate::rounds::{Tally, answer_all, copy_in, copy_out, session_on};
+use crate::rounds::{Tally, answer_all, copy_each, copy_in, copy_out, replies_to, session_on};
 use crate::workloads::{Kind, Workload, block};
 use sftp_handles::{Session, SlabTable};
 use sftp_wire::Request;
@@ -15,6 +15,24 @@ const BLOCK: u32 = 32_768;
 
 /// How many blocks the file has: 16 MiB.
 const BLOCKS: u32 = 512;
+
+/// The listing of which counts are printed.
+const SMALL_LISTING: Workload = Workload {
+    kind: Kind::List,
+    name: "list",
+    unit: "names",
+    count: 40,
+    size: 40,
+};
+
+/// The listing of which times are taken.
+const WHOLE_LISTING: Workload = Workload {
+    kind: Kind::List,
+    name: "list",
+    unit: "names",
+    count: 10_000,
+    size: 10_000,
+};
 
 /// The workloads of which counts are printed.
 const SMALL: [Workload; 5] = [
@@ -46,13 +64,7 @@ const SMALL: [Workload; 5] = [
         count: 3,
         size: 8,
     },
-    Workload {
-        kind: Kind::List,
-        name: "list",
-        unit: "names",
-        count: 40,
-        size: 40,
-    },
+    SMALL_LISTING,
 ];
 
 /// The workloads of which times are taken.
@@ -85,21 +97,15 @@ const WHOLE: [Workload; 5] = [
         count: BLOCKS,
         size: BLOCK,
     },
-    Workload {
-        kind: Kind::List,
-        name: "list",
-        unit: "names",
-        count: 10_000,
-        size: 10_000,
-    },
+    WHOLE_LISTING,
 ];
 
-/// Does a small round of each workload, and prints how much it was.
+/// Does a small round of each workload and of copies of replies, and prints how much it was.
 pub(crate) fn print_all_counts<R: AllocGlobal + Print>(rt: &R) -> Result<(), BenchError> {
     for workload in SMALL {
         print_counts(rt, workload)?;
     }
-    Ok(())
+    print_reply_count(rt)
 }
 
 /// Does a round, and prints how much it was.
@@ -121,6 +127,21 @@ fn counts(alloc: Global, workload: Workload) -> Result<(usize, Tally), BenchErro
     Ok((requests.len(), tally))
 }
 
+/// Copies the replies of a small listing, and prints how much they were.
+fn print_reply_count<R: AllocGlobal + Print>(rt: &R) -> Result<(), BenchError> {
+    let replies = listing_replies(rt.alloc(), SMALL_LISTING)?;
+    let (packets, bytes) = (replies.len(), copy_each(rt.alloc(), replies.as_slice())?);
+    println!(rt; "copied as by READDIR: {packets} replies, {bytes} bytes")?;
+    Ok(())
+}
+
+/// The packets of the replies in a round of a listing.
+fn listing_replies(alloc: Global, listing: Workload) -> Result<Vec<Vec<u8>>, BenchError> {
+    let mut session = session_for(alloc, listing)?;
+    let requests = listing.round(alloc, 0)?;
+    replies_to(alloc, &mut session, requests.as_slice())
+}
+
 /// A session on the tree of a workload.
 fn session_for(alloc: Global, workload: Workload) -> Result<Session<SlabTable>, BenchError> {
     let requests = workload.setup(alloc)?;
@@ -134,7 +155,8 @@ pub(crate) fn print_all_figures<R: AllocGlobal + CpuClock + Print>(
     for workload in WHOLE {
         print_figure(rt, workload)?;
     }
-    print_copies(rt)
+    print_copies(rt)?;
+    print_reply_copies(rt)
 }
 
 /// Prints how fast the workload of a name is.
@@ -244,5 +266,31 @@ fn in_nanos<R: CpuClock>(
 ) -> Result<u128, BenchError> {
     let start = rt.thread_cpu_time()?;
     copy_in(blocks, file)?;
+    Ok(rt.thread_cpu_time()?.saturating_sub(start).as_nanos())
+}
+
+/// Prints how fast the replies of a listing are copied, each into fresh memory.
+fn print_reply_copies<R: AllocGlobal + CpuClock + Print>(rt: &R) -> Result<(), BenchError> {
+    let replies = listing_replies(rt.alloc(), WHOLE_LISTING)?;
+    let least = least_reply_copies(rt, replies.as_slice())?;
+    let (unit, count) = (WHOLE_LISTING.unit, WHOLE_LISTING.count);
+    print_speed(rt, "copied as by READDIR", unit, count, least)
+}
+
+/// The least of the times that the replies take to copy.
+fn least_reply_copies<R: AllocGlobal + CpuClock>(
+    rt: &R,
+    replies: &[Vec<u8>],
+) -> Result<u128, BenchError> {
+    let mut least = u128::MAX;
+    for _ in 0..ROUNDS {
+        least = least.min(reply_nanos(rt, replies)?);
+    }
+    Ok(least)
+}
+
+fn reply_nanos<R: AllocGlobal + CpuClock>(rt: &R, replies: &[Vec<u8>]) -> Result<u128, BenchError> {
+    let start = rt.thread_cpu_time()?;
+    copy_each(rt.alloc(), replies)?;
     Ok(rt.thread_cpu_time()?.saturating_sub(start).as_nanos())
 }

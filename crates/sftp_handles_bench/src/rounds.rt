@@ -1,7 +1,8 @@
 //! Rounds: a session answers requests; the same bytes are copied.
+use crate::errors::BenchError;
 use sftp_handles::{Session, SlabTable};
 use sftp_tree::{NoMemory, Tree};
-use sftp_wire::{Answer, Reply, Request};
+use sftp_wire::{Answer, Packet, Reply, Request, WireError, encode};
 use std::alloc::{AllocError, Global};
 
 /// What replies gave, and how many refused.
@@ -78,4 +79,35 @@ pub(crate) fn copy_in(blocks: &[Vec<u8>], file: &mut Vec<u8>) -> Result<usize, A
         file.extend_from_slice(block.as_slice())?;
     }
     Ok(file.len())
+}
+
+/// The packets of the replies to requests, each in a vector of its own.
+pub(crate) fn replies_to(
+    alloc: Global,
+    session: &mut Session<SlabTable>,
+    requests: &[Request],
+) -> Result<Vec<Vec<u8>>, BenchError> {
+    let mut replies = Vec::new(alloc);
+    for request in requests {
+        replies.push(packet_of(alloc, session.answer(request)?)?)?;
+    }
+    Ok(replies)
+}
+
+/// The packet of a reply.
+fn packet_of(alloc: Global, reply: Reply) -> Result<Vec<u8>, WireError> {
+    let mut packet = Vec::new(alloc);
+    match encode(&Packet::Reply(reply), &mut packet) {
+        Ok(()) => Ok(packet),
+        Err(error) => Err(error),
+    }
+}
+
+/// Copies each packet into fresh memory. Returns how many bytes these were.
+pub(crate) fn copy_each(alloc: Global, packets: &[Vec<u8>]) -> Result<usize, AllocError> {
+    let mut copied: usize = 0;
+    for packet in packets {
+        copied = copied.saturating_add(Vec::from_slice(alloc, packet.as_slice())?.len());
+    }
+    Ok(copied)
 }

@@ -1,10 +1,10 @@
 -- What a machine may do next, by its queue.
 use Rattle.std.proofs.Common.{◌≡◌, ◌<◌, ◌≤◌, ◌+◌, ◌++◌, ◌&&◌, ℕ, zero, suc, Bool, true, false, List, [], ◌∷◌}
-use Rattle.std.proofs.Common.{Option, Some, None, is_some, IsTrue, if◌then◌else◌, length, take, slice_get}
+use Rattle.std.proofs.Common.{Option, Some, None, is_some, if◌then◌else◌, length, take, slice_get}
 use Rattle.std.proofs.Common.{refl, sym, ap, subst, ◌∙◌, arith, length-append, map}
 use Rattle.std.specs.Option.{option_map}
 use Rattle.std.proofs.lemmas.List.{map-append, length-map}
-use Rattle.std.proofs.lemmas.Option.{slice_get-map, slice_get_within}
+use Rattle.std.proofs.lemmas.Option.{slice_get-map}
 use Rattle.std.specs.List.{AllByRecursion}
 use Rattle.std.proofs.lemmas.Bool.{true≢false}
 use Rattle.std.proofs.lemmas.Option.{none-some, same_Some}
@@ -20,10 +20,11 @@ use Rattle.sftp_server.specs.Machine.{Machine, ClashOf, is_pending, is_sent, is_
 use Rattle.sftp_server.specs.Machine.{ready_in, from_unsent, IsWorked, IsSent}
 use Rattle.sftp_server.specs.Choices.{choices_at, choices_from, choices_of, IsPossible, steps_left, owed}
 use Rattle.sftp_server.specs.Queue.{is_done, done_count, done_next, done_position, first_pending_of, IsSplit}
-use Rattle.sftp_server.specs.Queue.{IsPendingEntry, IsWorkedEntry}
+use Rattle.sftp_server.specs.Queue.{IsPendingEntry}
 use Rattle.sftp_server.specs.Core.{server_clash}
-use Rattle.sftp_server.proofs.Queues.{from_unsent-short, first_none, done_count-few, is_done-pending, split-within}
-use Rattle.sftp_server.proofs.CoreSteps.{ready-first, ready-none, behind_pending, behind_worked}
+use Rattle.sftp_server.proofs.Queues.{from_unsent-short, is_done-pending}
+use Rattle.sftp_server.proofs.Queues.{found-later}
+use Rattle.sftp_server.proofs.CoreSteps.{behind_pending, behind_worked}
 use Rattle.sftp_server.proofs.Machines.Acts.{all-append}
 
 -- ---- acts bring a machine nearer to its end
@@ -315,10 +316,6 @@ none-positioned (entry ∷ queue) number all =
     rw (is_done-pending entry.progress all.0, none-positioned queue number all.1) refl
 
 -- what comes of a search in the rest of a queue
-found-later : (found : Option ℕ) (k : ℕ) → option_map suc found ≡ Some k → (j : ℕ) × (found ≡ Some j) × (k ≡ suc j)
-found-later None k is = absurd (none-some k is)
-found-later (Some j) k is = (j, refl, sym (same_Some (suc j) k is))
-
 none-later : (found : Option ℕ) → option_map suc found ≡ None → found ≡ None
 none-later None is = refl
 none-later (Some j) is = absurd (none-some (suc j) (sym is))

@@ -4,3 +4,4 @@ pub mod Machines
 pub mod Sessions
 pub mod ChoiceLaws
 pub mod ScriptLaws
+pub mod Worked

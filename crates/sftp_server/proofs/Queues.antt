@@ -1,24 +1,31 @@
 -- How each change of a queue goes over its requests.
 use Rattle.std.proofs.Common.{◌≡◌, ◌==◌, ◌&&◌, ◌||◌, not, nat_lt, nat_le, nat_eq, ℕ, zero, suc, ◌+◌, ◌-◌, ◌<◌, ◌≤◌}
 use Rattle.std.proofs.Common.{Bool}
-use Rattle.std.proofs.Common.{true, false, cond, List, [], ◌∷◌, ◌++◌, Option, Some, None, is_some, length, set, drop}
-use Rattle.std.proofs.Common.{slice_get}
-use Rattle.std.proofs.Common.{refl, sym, ap, ◌∙◌, arith, IsTrue}
+use Rattle.std.proofs.Common.{true, false, cond, List, [], ◌∷◌, ◌++◌, Option, Some, None, is_some, length}
+use Rattle.std.proofs.Common.{set, take, drop, slice_get, get_or, map, if◌then◌else◌}
+use Rattle.std.proofs.Common.{Result, Ok, Err, MatchResult}
+use Rattle.std.specs.Prelude.{remove}
+use Rattle.std.specs.List.Sorted.{IsNonDecreasing, IsBinarySearchResult}
+use Rattle.std.specs.Ordering.{nat_cmp}
+use Rattle.std.proofs.lemmas.List.{length-map, take-map, drop-map, map-append}
+use Rattle.std.proofs.lemmas.List.Sorted.{searched}
+use Rattle.std.proofs.Common.{refl, sym, ap, ◌∙◌, arith, append-nil, add-one}
 use Rattle.std.specs.List.{AllByRecursion}
 use Rattle.std.specs.Option.{option_map}
 use Rattle.std.specs.Map.{lookup}
-use Rattle.std.proofs.lemmas.Bool.{or_parts, ne_eqb, eqb-true, eqb-false, lt-ltb, le-ltb, le-leb, lt-leb, eq-eqb}
-use Rattle.std.proofs.lemmas.Bool.{cases_Bool, true≢false}
-use Rattle.std.proofs.lemmas.Option.{none-some, same_Some}
+use Rattle.std.proofs.lemmas.Bool.{or_parts, ne_eqb, eqb-true, eqb-false, lt-ltb, le-ltb, le-leb, eq-eqb}
+use Rattle.std.proofs.lemmas.Bool.{cases_Bool, true≢false, ltb-true, ltb-false}
+use Rattle.std.proofs.lemmas.Option.{none-some, same_Some, slice_get-map, slice_get-get_or, get_or_from_slice_get}
+use Rattle.std.proofs.lemmas.Option.{slice_get_within}
 use Rattle.sftp_wire.specs.declared.packets.Request.{Request}
 use Rattle.sftp_wire.specs.declared.packets.Reply.{Reply}
 use Rattle.sftp_server.specs.declared.queue.Entry.{Entry}
 use Rattle.sftp_server.specs.declared.queue.Progress.{Progress}
 use Rattle.sftp_server.specs.declared.queue.Progress.TheVariants.{Pending, Done, Sent}
-use Rattle.sftp_server.specs.Machine.{is_pending, is_sent, is_unsent, is_pending_at, reply_at, from_unsent, reply_of}
+use Rattle.sftp_server.specs.Machine.{is_pending, is_sent, is_unsent, is_pending_at, from_unsent, reply_of}
 use Rattle.sftp_server.specs.Queue.{is_done, done_count, first_pending_of, next_request_of, with_progress}
 use Rattle.sftp_server.specs.Queue.{IsPendingEntry}
-use Rattle.sftp_server.specs.Queue.{done_next, done_position}
+use Rattle.sftp_server.specs.Queue.{done_next, done_position, done_positions}
 use Rattle.sftp_server.specs.Queue.{HasReply, sent_in, IsSplit, AreUnsentApart, IsQueue}
 
 -- ---- tests of numbers
@@ -31,6 +38,13 @@ leb-suc n k = grind (arith, cases_Bool)
 
 leb-zero : (n : ℕ) → nat_le (suc n) 0 ≡ false
 leb-zero n = grind (arith, cases_Bool)
+
+-- ---- a search in the rest of a queue
+
+pub found-later : (found : Option ℕ) (k : ℕ) → option_map suc found ≡ Some k
+    → (j : ℕ) × (found ≡ Some j) × (k ≡ suc j)
+found-later None k is = absurd (none-some k is)
+found-later (Some j) k is = (j, refl, sym (same_Some (suc j) k is))
 
 -- ---- where the pending requests begin
 
@@ -107,9 +121,9 @@ unfolding from_unsent
 unsent-first [] sent = refl
 unsent-first (entry ∷ queue) sent = rw sent refl
 
-pub queue-new : IsQueue [] [] 0 0
-unfolding from_unsent is_unsent AreUnsentApart IsSplit done_count
-queue-new = record { front = refl; indexed = λ id. refl; apart = tt; split = tt; counted = refl }
+pub queue-new : IsQueue [] [] 0 []
+unfolding from_unsent is_unsent AreUnsentApart IsSplit done_positions
+queue-new = record { front = refl; indexed = λ id. refl; apart = tt; split = tt; listed = refl }
 
 -- ---- one request more
 
@@ -172,11 +186,11 @@ split-pushed zero (entry ∷ queue) request split = (split.0, split-pushed zero 
 split-pushed (suc n) [] request split = absurd split
 split-pushed (suc n) (entry ∷ queue) request split = (split.0, split-pushed n queue request split.1)
 
-done_count-pushed : (queue : List Entry) (request : Request)
-    → done_count (queue ++ record { request = request; progress = Pending } ∷ []) ≡ done_count queue
-unfolding done_count
-done_count-pushed [] request = refl
-done_count-pushed (entry ∷ queue) request = rw (done_count-pushed queue request) refl
+positions-pushed : (queue : List Entry) (request : Request)
+    → done_positions (queue ++ record { request = request; progress = Pending } ∷ []) ≡ done_positions queue
+unfolding done_positions
+positions-pushed [] request = refl
+positions-pushed (entry ∷ queue) request = rw (positions-pushed queue request) refl
 
 pub some_or : (b : Bool) (found : Option (Unit {0})) → is_some (cond b (Some tt) found) ≡ (b || is_some found)
 some_or true found = refl
@@ -187,7 +201,7 @@ struck_or true found = refl
 struck_or false found = refl
 
 -- a request that has a new id is pushed, and its id is noted
-pub queue-pushed : (queue : List Entry) (ids after : List (ℕ × Unit {0})) (n done : ℕ) (request : Request)
+pub queue-pushed : (queue : List Entry) (ids after : List (ℕ × Unit {0})) (n : ℕ) (done : List ℕ) (request : Request)
     → IsQueue queue ids n done → is_unsent request.id queue ≡ false
     → ((id : ℕ) → is_some (lookup (nat_eq id) after) ≡ (nat_eq request.id id || is_some (lookup (nat_eq id) ids)))
     → IsQueue (queue ++ record { request = request; progress = Pending } ∷ []) after n done
@@ -198,7 +212,7 @@ queue-pushed queue ids after n done request is free noted = record {
       (is_unsent id queue));
   apart = apart-pushed queue request is.apart free;
   split = split-pushed n queue request is.split;
-  counted = rw (done_count-pushed queue request) is.counted;
+  listed = rw (positions-pushed queue request) is.listed;
 }
   where
     or_swap : (a b : Bool) → (a || b) ≡ (b || a)
@@ -280,29 +294,36 @@ is_done-pending Pending is = refl
 is_done-pending (Done reply) is = sym is
 is_done-pending Sent is = refl
 
-done_count-done : (queue : List Entry) (n : ℕ) (reply : Reply) → IsSplit n queue → n < length queue
-    → done_count (with_progress queue n (Done reply)) ≡ suc (done_count queue)
-unfolding done_count with_progress IsSplit
-done_count-done [] n reply split some = absurd (omega (arith, some))
-done_count-done (entry ∷ queue) zero reply split some = rw (is_done-pending entry.progress split.0) refl
-done_count-done (entry ∷ queue) (suc n) reply split some =
-    by (done_count-done queue n reply split.1 (omega (arith, some))) (is_done entry.progress) refl
-  where
-    by : done_count (with_progress queue n (Done reply)) ≡ suc (done_count queue) → (b : Bool)
-        → is_done entry.progress ≡ b
-        → done_count (entry ∷ with_progress queue n (Done reply)) ≡ suc (done_count (entry ∷ queue))
-    by rest true is = rw (is, rest) refl
-    by rest false is = rw (is, rest) refl
+none-listed : (queue : List Entry) → AllByRecursion IsPendingEntry queue → done_positions queue ≡ []
+unfolding done_positions
+none-listed [] all = refl
+none-listed (entry ∷ queue) all = rw (is_done-pending entry.progress all.0, none-listed queue all.1) refl
 
-pub queue-done : (queue : List Entry) (ids : List (ℕ × Unit {0})) (n done next more : ℕ) (reply : Reply)
-    → IsQueue queue ids n done → n < length queue → next ≡ suc n → more ≡ suc done
-    → IsQueue (with_progress queue n (Done reply)) ids next more
-queue-done queue ids n done next more reply is some next_is more_is = rw (next_is, more_is) record {
+positions-done : (queue : List Entry) (n : ℕ) (reply : Reply) → IsSplit n queue → n < length queue
+    → done_positions (with_progress queue n (Done reply)) ≡ done_positions queue ++ n ∷ []
+unfolding done_positions with_progress IsSplit
+positions-done [] n reply split some = absurd (omega (arith, some))
+positions-done (entry ∷ queue) zero reply split some =
+    rw (is_done-pending entry.progress split.0, none-listed queue split.1) refl
+positions-done (entry ∷ queue) (suc n) reply split some =
+    by (positions-done queue n reply split.1 (omega (arith, some))) (is_done entry.progress)
+  where
+    by : done_positions (with_progress queue n (Done reply)) ≡ done_positions queue ++ n ∷ [] → (b : Bool)
+        → (if b then 0 ∷ map suc (done_positions (with_progress queue n (Done reply)))
+        else map suc (done_positions (with_progress queue n (Done reply))))
+        ≡ (if b then 0 ∷ map suc (done_positions queue) else map suc (done_positions queue)) ++ suc n ∷ []
+    by rest true = rw (rest, map-append suc (done_positions queue) (n ∷ [])) refl
+    by rest false = rw (rest, map-append suc (done_positions queue) (n ∷ [])) refl
+
+pub queue-done : (queue : List Entry) (ids : List (ℕ × Unit {0})) (n next : ℕ) (done : List ℕ) (reply : Reply)
+    → IsQueue queue ids n done → n < length queue → next ≡ suc n
+    → IsQueue (with_progress queue n (Done reply)) ids next (done ++ n ∷ [])
+queue-done queue ids n next done reply is some next_is = rw next_is record {
   front = front-done queue n reply is.front;
   indexed = λ id. is.indexed id ∙ sym (is_unsent-done id queue n reply is.split);
   apart = apart-done queue n reply is.split is.apart;
   split = split-done queue n reply is.split some;
-  counted = ap suc is.counted ∙ sym (done_count-done queue n reply is.split some);
+  listed = ap (λ (ks : List ℕ). ks ++ n ∷ []) is.listed ∙ sym (positions-done queue n reply is.split some);
 }
 
 pub done_count-few : (queue : List Entry) → done_count queue ≤ length queue
@@ -315,59 +336,138 @@ done_count-few (entry ∷ queue) = by (done_count-few queue) (is_done entry.prog
     by rest true is = rw is (omega (arith, rest))
     by rest false is = rw is (omega (arith, rest))
 
--- ---- a search for a request that is done
+-- ---- the list of those that are done
 
-shifted : (k : ℕ) (found : Option ℕ)
-    → option_map (λ n. k + n) (option_map suc found) ≡ option_map (λ n. suc k + n) found
-shifted k None = refl
-shifted k (Some n) = ap Some (omega arith)
-
-pub scan-start : (found : Option ℕ) → found ≡ option_map (λ n. 0 + n) found
-scan-start None = refl
-scan-start (Some n) = ap Some (omega arith)
-
-drop-at : (queue : List Entry) (k : ℕ) (entry : Entry) → slice_get queue k ≡ Some entry
-    → drop k queue ≡ entry ∷ drop (suc k) queue
-drop-at [] k entry at = absurd (none-some entry at)
-drop-at (first ∷ queue) zero entry at = ap (λ (e : Entry). e ∷ queue) (same_Some first entry at)
-drop-at (first ∷ queue) (suc k) entry at = drop-at queue k entry at
-
--- the request at `k` is not done
-pub scan-other : (queue : List Entry) (k next left : ℕ) (entry : Entry) → slice_get queue k ≡ Some entry
-    → is_done entry.progress ≡ false → next ≡ suc k
-    → option_map (λ n. k + n) (done_position (drop k queue) left)
-    ≡ option_map (λ n. next + n) (done_position (drop next queue) left)
-unfolding done_position
-scan-other queue k next left entry at other next_is =
-    rw (next_is, drop-at queue k entry at, other) (shifted k (done_position (drop (suc k) queue) left))
-
--- the request at `k` is done, and not the one that is looked for
-pub scan-done : (queue : List Entry) (k next left fewer : ℕ) (entry : Entry) → slice_get queue k ≡ Some entry
-    → is_done entry.progress ≡ true → next ≡ suc k → left ≡ suc fewer
-    → option_map (λ n. k + n) (done_position (drop k queue) left)
-    ≡ option_map (λ n. next + n) (done_position (drop next queue) fewer)
-unfolding done_position
-scan-done queue k next left fewer entry at done next_is left_is =
-    rw (next_is, left_is, drop-at queue k entry at, done) (shifted k (done_position (drop (suc k) queue) fewer))
-
--- the request at `k` is the one that is looked for
-pub scan-found : (queue : List Entry) (k left : ℕ) (entry : Entry) → slice_get queue k ≡ Some entry
-    → is_done entry.progress ≡ true → left ≡ 0
-    → option_map (λ n. k + n) (done_position (drop k queue) left) ≡ Some k
-unfolding done_position
-scan-found queue k left entry at done left_is = rw (left_is, drop-at queue k entry at, done) (ap Some (omega arith))
-
--- the search came to the end
-pub scan-end : (queue : List Entry) (k left : ℕ) → length queue ≤ k
-    → option_map (λ n. k + n) (done_position (drop k queue) left) ≡ None
-unfolding done_position
-scan-end queue k left past = rw (drop-past queue k past) refl
+pub positions-count : (queue : List Entry) → length (done_positions queue) ≡ done_count queue
+unfolding done_positions done_count
+positions-count [] = refl
+positions-count (entry ∷ queue) = by (positions-count queue) (is_done entry.progress)
   where
-    drop-past : (queue : List Entry) (k : ℕ) → length queue ≤ k → drop k queue ≡ []
+    by : length (done_positions queue) ≡ done_count queue → (b : Bool)
+        → length (if b then 0 ∷ map suc (done_positions queue) else map suc (done_positions queue))
+        ≡ (if b then suc (done_count queue) else done_count queue)
+    by rest true = ap suc (length-map (done_positions queue) suc ∙ rest)
+    by rest false = length-map (done_positions queue) suc ∙ rest
+
+-- no more are done than come before the first pending request
+pub positions-few : (queue : List Entry) (n : ℕ) → IsSplit n queue → length (done_positions queue) ≤ n
+unfolding done_positions IsSplit
+positions-few queue zero split = rw (none-listed queue split) (omega arith)
+positions-few [] (suc n) split = absurd split
+positions-few (entry ∷ queue) (suc n) split = by (positions-few queue n split.1) (is_done entry.progress)
+  where
+    by : length (done_positions queue) ≤ n → (b : Bool)
+        → length (if b then 0 ∷ map suc (done_positions queue) else map suc (done_positions queue)) ≤ suc n
+    by rest true = let same = length-map (done_positions queue) suc in omega (arith, same, rest)
+    by rest false = let same = length-map (done_positions queue) suc in omega (arith, same, rest)
+
+pub positions-get : (queue : List Entry) (number : ℕ)
+    → slice_get (done_positions queue) number ≡ done_position queue number
+unfolding done_positions done_position
+positions-get [] number = refl
+positions-get (entry ∷ queue) number = by (λ m. positions-get queue m) (is_done entry.progress) number
+  where
+    later : (m : ℕ) → slice_get (done_positions queue) m ≡ done_position queue m
+        → slice_get (map suc (done_positions queue)) m ≡ option_map suc (done_position queue m)
+    later m rest = slice_get-map suc (done_positions queue) m ∙ ap (option_map suc) rest
+
+    by : ((m : ℕ) → slice_get (done_positions queue) m ≡ done_position queue m) → (b : Bool) (number : ℕ)
+        → slice_get (if b then 0 ∷ map suc (done_positions queue) else map suc (done_positions queue)) number
+        ≡ (if b then done_next (done_position queue) number else option_map suc (done_position queue number))
+    by rest true zero = refl
+    by rest true (suc m) = later m (rest m)
+    by rest false number = later number (rest number)
+
+map-rises : (ks : List ℕ) → IsNonDecreasing ks → IsNonDecreasing (map suc ks)
+map-rises ks rises i j d before within =
+    let same = length-map ks suc in
+    let inside : j < length ks = omega (arith, same, within) in
+    let inside_too : i < length ks = omega (arith, inside, before) in
+    let below = rises i j 0 before inside in
+    rw (at i inside_too, at j inside) (omega (arith, below))
+  where
+    at : (k : ℕ) → k < length ks → get_or (map suc ks) k d ≡ suc (get_or ks k 0)
+    at k inside =
+        get_or_from_slice_get (map suc ks) k (suc (get_or ks k 0)) d
+        (slice_get-map suc ks k ∙ ap (option_map suc) (slice_get-get_or ks k 0 inside))
+
+front-rises : (ks : List ℕ) → IsNonDecreasing ks → IsNonDecreasing (0 ∷ ks)
+front-rises ks rises zero zero d before within = omega arith
+front-rises ks rises zero (suc j) d before within = omega arith
+front-rises ks rises (suc i) zero d before within = absurd (omega (arith, before))
+front-rises ks rises (suc i) (suc j) d before within = rises i j d (omega (arith, before)) (omega (arith, within))
+
+pub positions-rise : (queue : List Entry) → IsNonDecreasing (done_positions queue)
+unfolding done_positions
+positions-rise [] = λ i j d before within. absurd (omega (arith, within))
+positions-rise (entry ∷ queue) = by (positions-rise queue) (is_done entry.progress)
+  where
+    by : IsNonDecreasing (done_positions queue) → (b : Bool)
+        → IsNonDecreasing (if b then 0 ∷ map suc (done_positions queue) else map suc (done_positions queue))
+    by rest true = front-rises (map suc (done_positions queue)) (map-rises (done_positions queue) rest)
+    by rest false = map-rises (done_positions queue) rest
+
+-- what a search for a position finds in a list that rises and has it
+pub found-position : (ks : List ℕ) (k at : ℕ) (found : Result ℕ ℕ) → IsNonDecreasing ks → slice_get ks at ≡ Some k
+    → IsBinarySearchResult (λ y. nat_cmp y k) ks found
+    → MatchResult found (λ number. slice_get ks number ≡ Some k) (λ number. ⊥)
+found-position ks k at (Ok number) rises there is =
+    let read = searched ks k (Ok number) is (λ i j before within. rises i j 0 before within) in
+    slice_get-get_or ks number 0 read.0 ∙ ap Some read.1
+found-position ks k at (Err number) rises there is =
+    let read = searched ks k (Err number) is (λ i j before within. rises i j 0 before within) in
+    let value = get_or_from_slice_get ks at k 0 there in
+    let within = slice_get_within ks at k there in
+    by read.1 read.2 value within (nat_lt at number) refl
+  where
+    by : ((j : ℕ) → j < number → get_or ks j 0 < k) → ((j : ℕ) → number ≤ j → j < length ks → k < get_or ks j 0)
+        → get_or ks at 0 ≡ k → at < length ks → (b : Bool) → nat_lt at number ≡ b → ⊥
+    by below above value within true is = let less = below at (ltb-true at number is) in omega (arith, less, value)
+    by below above value within false is =
+        let more = above at (ltb-false at number is) within in omega (arith, more, value)
+
+-- those before an index are moved, and those from it on are not
+abbrev pub moved_before : (ℕ → ℕ) → List ℕ → ℕ → List ℕ
+moved_before move ks i = map move (take i ks) ++ drop i ks
+
+moved-next : (move : ℕ → ℕ) (ks : List ℕ) (i : ℕ) → i < length ks
+    → set (moved_before move ks i) i (move (get_or (moved_before move ks i) i 0)) ≡ moved_before move ks (suc i)
+moved-next move [] i within = absurd (omega (arith, within))
+moved-next move (first ∷ ks) zero within = refl
+moved-next move (first ∷ ks) (suc i) within =
+    ap (λ (js : List ℕ). move first ∷ js) (moved-next move ks i (omega (arith, within)))
+
+-- one more is moved
+pub one-moved : (move : ℕ → ℕ) (ks now : List ℕ) (i k : ℕ) → i < length ks → now ≡ moved_before move ks i
+    → k ≡ move (get_or now i 0) → set now i k ≡ moved_before move ks (i + 1)
+one-moved move ks now i k within is k_is =
+    rw (k_is, is, add-one) (moved-next move ks i within)
+
+-- all are moved
+pub all-moved : (move : ℕ → ℕ) (items ks now : List ℕ) (len i : ℕ) → ks ≡ items → len ≡ length items
+    → length ks ≤ i → length now ≡ length ks → now ≡ moved_before move ks i
+    → take len (now ++ drop (length now) items) ≡ map move items
+all-moved move items ks now len i same len_is past size is =
+    let all : now ≡ map move items =
+    is ∙ (rw (take-past ks i past, drop-past ks i past) (append-nil (map move ks)) ∙ ap (map move) same) in
+    let whole : length now ≡ length items = size ∙ ap length same in
+    rw (drop-past items (length now) (omega (arith, whole)), append-nil now, len_is, ← whole) (take-all now ∙ all)
+  where
+    take-all : (ks : List ℕ) → take (length ks) ks ≡ ks
+    take-all [] = refl
+    take-all (k ∷ ks) = ap (λ (js : List ℕ). k ∷ js) (take-all ks)
+
+    take-past : (ks : List ℕ) (i : ℕ) → length ks ≤ i → take i ks ≡ ks
+    take-past [] zero past = refl
+    take-past [] (suc i) past = refl
+    take-past (k ∷ ks) zero past = absurd (omega (arith, past))
+    take-past (k ∷ ks) (suc i) past = ap (λ (js : List ℕ). k ∷ js) (take-past ks i (omega (arith, past)))
+
+    drop-past : (ks : List ℕ) (i : ℕ) → length ks ≤ i → drop i ks ≡ []
     drop-past [] zero past = refl
-    drop-past [] (suc k) past = refl
-    drop-past (entry ∷ queue) zero past = absurd (omega (arith, past))
-    drop-past (entry ∷ queue) (suc k) past = drop-past queue k (omega (arith, past))
+    drop-past [] (suc i) past = refl
+    drop-past (k ∷ ks) zero past = absurd (omega (arith, past))
+    drop-past (k ∷ ks) (suc i) past = drop-past ks i (omega (arith, past))
 
 -- ---- a reply is sent
 
@@ -462,20 +562,68 @@ split-sent (first ∷ queue) zero (suc k) at reply split has = (split.0, split-s
 split-sent (first ∷ queue) (suc n) zero at reply split has = (refl, split.1)
 split-sent (first ∷ queue) (suc n) (suc k) at reply split has = (split.0, split-sent queue n k at reply split.1 has)
 
-done_count-sent : (queue : List Entry) (k at : ℕ) (reply : Reply) → HasReply queue k at reply
-    → suc (done_count (with_progress queue k Sent)) ≡ done_count queue
-unfolding done_count with_progress
-done_count-sent [] k at reply has = absurd (none-some has.0 has.1)
-done_count-sent (first ∷ queue) zero at reply has =
+-- a request that has a reply is listed
+pub positions-there : (queue : List Entry) (k at : ℕ) (reply : Reply) → HasReply queue k at reply
+    → (number : ℕ) × (slice_get (done_positions queue) number ≡ Some k)
+unfolding done_positions
+positions-there [] k at reply has = absurd (none-some has.0 has.1)
+positions-there (first ∷ queue) zero at reply has =
     let same = same_Some first has.0 has.1 in
-    rw (same, done-done has.0.progress reply has.3) refl
-done_count-sent (first ∷ queue) (suc k) at reply has = by (done_count-sent queue k at reply has)
-    (is_done first.progress) refl
+    (0, rw (same, done-done has.0.progress reply has.3) refl)
+positions-there (first ∷ queue) (suc k) at reply has = by (positions-there queue k at reply has)
+    (is_done first.progress)
   where
-    by : suc (done_count (with_progress queue k Sent)) ≡ done_count queue → (b : Bool) → is_done first.progress ≡ b
-        → suc (done_count (first ∷ with_progress queue k Sent)) ≡ done_count (first ∷ queue)
-    by rest true is = rw (is, rest) refl
-    by rest false is = rw (is, rest) refl
+    later : (number : ℕ) → slice_get (done_positions queue) number ≡ Some k
+        → slice_get (map suc (done_positions queue)) number ≡ Some (suc k)
+    later number rest = slice_get-map suc (done_positions queue) number ∙ ap (option_map suc) rest
+
+    by : ((number : ℕ) × (slice_get (done_positions queue) number ≡ Some k)) → (b : Bool)
+        → (number : ℕ)
+        × (slice_get (if b then 0 ∷ map suc (done_positions queue) else map suc (done_positions queue)) number
+        ≡ Some (suc k))
+    by rest true = (suc rest.0, later rest.0 rest.1)
+    by rest false = (rest.0, later rest.0 rest.1)
+
+remove-map : (ks : List ℕ) (number : ℕ) → map suc (remove ks number) ≡ remove (map suc ks) number
+remove-map ks number =
+    map-append suc (take number ks) (drop (suc number) ks)
+    ∙ rw (take-map suc number ks, drop-map suc (suc number) ks) refl
+
+-- once its reply is sent, its position is not listed
+positions-sent : (queue : List Entry) (k number : ℕ) → slice_get (done_positions queue) number ≡ Some k
+    → done_positions (with_progress queue k Sent) ≡ remove (done_positions queue) number
+unfolding done_positions with_progress
+positions-sent [] k number there = absurd (none-some k there)
+positions-sent (first ∷ queue) k number there =
+    by (λ j m. positions-sent queue j m) (is_done first.progress) refl k number there
+  where
+    later : ((j m : ℕ) → slice_get (done_positions queue) m ≡ Some j → done_positions (with_progress queue j Sent)
+        ≡ remove (done_positions queue) m)
+        → (k m : ℕ) → slice_get (map suc (done_positions queue)) m ≡ Some k
+        → (j : ℕ) × (k ≡ suc j)
+        × (map suc (done_positions (with_progress queue j Sent)) ≡ remove (map suc (done_positions queue)) m)
+    later rest k m there =
+        let found = found-later (slice_get (done_positions queue) m) k
+        (sym (slice_get-map suc (done_positions queue) m) ∙ there) in
+        (found.0, found.2, ap (map suc) (rest found.0 m found.1) ∙ remove-map (done_positions queue) m)
+
+    by : ((j m : ℕ) → slice_get (done_positions queue) m ≡ Some j → done_positions (with_progress queue j Sent)
+        ≡ remove (done_positions queue) m)
+        → (b : Bool) → is_done first.progress ≡ b → (k number : ℕ)
+        → slice_get (if is_done first.progress then 0 ∷ map suc (done_positions queue) else map suc
+        (done_positions queue)) number ≡ Some k
+        → done_positions (with_progress (first ∷ queue) k Sent)
+        ≡ remove (if is_done first.progress then 0 ∷ map suc (done_positions queue) else map suc
+        (done_positions queue)) number
+    by rest true done k zero there =
+        let zeroth : Some 0 ≡ Some k = rw done at there in
+        rw (← same_Some 0 k zeroth, done) refl
+    by rest true done k (suc m) there =
+        let found = later rest k m (rw done at there) in
+        rw (found.1, done) (ap (λ (ks : List ℕ). 0 ∷ ks) found.2)
+    by rest false done k number there =
+        let found = later rest k number (rw done at there) in
+        rw (found.1, done) found.2
 
 -- ---- the front leaves
 
@@ -514,15 +662,40 @@ sent-not_done Pending is = refl
 sent-not_done (Done reply) is = sym is
 sent-not_done Sent is = refl
 
-done_count-front : (queue : List Entry) → done_count (from_unsent queue) ≡ done_count queue
-unfolding from_unsent done_count
-done_count-front [] = refl
-done_count-front (entry ∷ queue) = by (done_count-front queue) (is_sent entry.progress) refl
+all-same : (ks : List ℕ) → map (λ k. k - 0) ks ≡ ks
+all-same [] = refl
+all-same (k ∷ ks) =
+    let same : k - 0 ≡ k = omega arith in
+    rw (all-same ks, same) refl
+
+one-forward : (gone : ℕ) (ks : List ℕ) → map (λ k. k - suc gone) (map suc ks) ≡ map (λ k. k - gone) ks
+one-forward gone [] = refl
+one-forward gone (k ∷ ks) =
+    let same : suc k - suc gone ≡ k - gone = omega arith in
+    rw (one-forward gone ks, same) refl
+
+-- so many leave the front, and those that are done are so many positions nearer
+positions-front : (queue : List Entry) (gone : ℕ) → gone + length (from_unsent queue) ≡ length queue
+    → done_positions (from_unsent queue) ≡ map (λ k. k - gone) (done_positions queue)
+unfolding from_unsent done_positions
+positions-front [] gone count = refl
+positions-front (entry ∷ queue) gone count =
+    by (λ less fewer. positions-front queue less fewer) (is_sent entry.progress) refl
   where
-    by : done_count (from_unsent queue) ≡ done_count queue → (b : Bool) → is_sent entry.progress ≡ b
-        → done_count (from_unsent (entry ∷ queue)) ≡ done_count (entry ∷ queue)
-    by rest true is = rw (is, sent-not_done entry.progress is) rest
-    by rest false is = rw is refl
+    by : ((less : ℕ) → less + length (from_unsent queue) ≡ length queue → done_positions (from_unsent queue)
+        ≡ map (λ k. k - less) (done_positions queue))
+        → (b : Bool) → is_sent entry.progress ≡ b
+        → done_positions (from_unsent (entry ∷ queue)) ≡ map (λ k. k - gone) (done_positions (entry ∷ queue))
+    by rest true sent =
+        let all : gone + length (from_unsent queue) ≡ suc (length queue) = rw sent at count in
+        let shorter = from_unsent-short queue in
+        let one : gone ≡ suc (gone - 1) = omega (arith, all, shorter) in
+        rw (sent, sent-not_done entry.progress sent, one)
+        (rest (gone - 1) (omega (arith, all, shorter)) ∙ sym (one-forward (gone - 1) (done_positions queue)))
+    by rest false sent =
+        let all : gone + length (entry ∷ queue) ≡ length (entry ∷ queue) = rw sent at count in
+        let none : gone ≡ 0 = omega (arith, all) in
+        rw (sent, none) (sym (all-same (done_positions (entry ∷ queue))))
 
 -- so many leave the front, and the first pending request is so many positions nearer
 split-front : (queue : List Entry) (n m gone : ℕ) → IsSplit n queue
@@ -574,13 +747,14 @@ few (entry ∷ queue) (suc n) gone split count =
         omega (arith, whole)
 
 -- what is left of a queue after a reply was sent
-pub queue-sent : (queue : List Entry) (ids fewer : List (ℕ × Unit {0})) (n done k at gone m left : ℕ) (reply : Reply)
+pub queue-sent : (queue : List Entry) (ids fewer : List (ℕ × Unit {0})) (n k at gone m number : ℕ)
+    (done left : List ℕ) (reply : Reply)
     → IsQueue queue ids n done → HasReply queue k at reply
     → ((id : ℕ) → is_some (lookup (nat_eq id) fewer) ≡ (not (nat_eq at id) && is_some (lookup (nat_eq id) ids)))
     → gone + length (from_unsent (with_progress queue k Sent)) ≡ length (with_progress queue k Sent)
-    → n ≡ m + gone → done ≡ suc left
+    → n ≡ m + gone → slice_get done number ≡ Some k → left ≡ map (λ j. j - gone) (remove done number)
     → IsQueue (from_unsent (with_progress queue k Sent)) fewer m left
-queue-sent queue ids fewer n done k at gone m left reply is has struck count moved one = record {
+queue-sent queue ids fewer n k at gone m number done left reply is has struck count moved there left_is = record {
   front = from_unsent-again (with_progress queue k Sent);
   indexed = λ id.
       rw (
@@ -592,15 +766,14 @@ queue-sent queue ids fewer n done k at gone m left reply is has struck count mov
       ) refl;
   apart = apart-front (with_progress queue k Sent) (apart-sent queue k at reply is.apart has);
   split = split-front (with_progress queue k Sent) n m gone (split-sent queue n k at reply is.split has) count moved;
-  counted =
-      let rest = done_count-sent queue k at reply has in
-      let same = done_count-front (with_progress queue k Sent) in
-      omega (arith, rest, same, one, is.counted);
+  listed =
+      let listed : slice_get (done_positions queue) number ≡ Some k = ap (λ (ks : List ℕ). slice_get ks number)
+      (sym is.listed) ∙ there in
+      left_is
+      ∙ (ap (λ (ks : List ℕ). map (λ j. j - gone) (remove ks number)) is.listed
+      ∙ (ap (map (λ j. j - gone)) (sym (positions-sent queue k number listed))
+      ∙ sym (positions-front (with_progress queue k Sent) gone count)));
 }
-
--- some reply is there, so that some request is done
-pub some-done : (queue : List Entry) (k at : ℕ) (reply : Reply) → HasReply queue k at reply → 0 < done_count queue
-some-done queue k at reply has = let rest = done_count-sent queue k at reply has in omega (arith, rest)
 
 -- no more leave the front than are done or sent
 pub gone-few : (queue : List Entry) (n k at gone : ℕ) (reply : Reply) → IsSplit n queue → HasReply queue k at reply

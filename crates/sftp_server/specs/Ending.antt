@@ -58,7 +58,7 @@ RunsOut then now ahead core0 core1 result =
 
 -- how a batch goes on: the bytes in front stay, or the reader gives more, of which there are then not too many
 abbrev pub GoesOn : Front → Ahead → Ahead → ℕ → ℕ → Type 0
-GoesOn Taken old new reads0 reads1 = (new ≡ old) × (reads1 ≡ reads0)
+GoesOn Taken old new reads0 reads1 = ⊥
 GoesOn Full old new reads0 reads1 = (new ≡ old) × (reads1 ≡ reads0)
 GoesOn Waiting old new reads0 reads1 = (reads1 < reads0) × (length new.held ≤ packet_limit)
 GoesOn (Fault fault) old new reads0 reads1 = ⊥

@@ -8,3 +8,4 @@ pub mod Fronts
 pub mod Ending
 pub mod Opening
 pub mod Scripts
+pub mod Examples

@@ -1,6 +1,6 @@
 -- What a queue keeps beside its requests.
 use Rattle.std.specs.Prelude.{◌≡◌, nat_eq, ℕ, zero, suc, Bool, true, false, List, [], ◌∷◌}
-use Rattle.std.specs.Prelude.{is_some, IsTrue, if◌then◌else◌, Option, Some, None, slice_get}
+use Rattle.std.specs.Prelude.{is_some, IsTrue, if◌then◌else◌, Option, Some, None, map, slice_get}
 use Rattle.std.specs.Option.{option_map}
 use Rattle.std.specs.List.{AllByRecursion}
 use Rattle.std.specs.Map.{lookup}
@@ -31,6 +31,12 @@ done_position [] number = None
 done_position (entry ∷ queue) number =
     if is_done entry.progress then done_next (done_position queue) number
     else option_map suc (done_position queue number)
+
+-- the positions of the requests that are done and not sent, in their order
+unfoldable pub done_positions : List Entry → List ℕ
+done_positions [] = []
+done_positions (entry ∷ queue) =
+    if is_done entry.progress then 0 ∷ map suc (done_positions queue) else map suc (done_positions queue)
 
 -- the position of the first pending request
 unfoldable pub first_pending_of : List Entry → Option ℕ
@@ -77,10 +83,10 @@ IsSplit (suc n) [] = ⊥
 IsSplit (suc n) (entry ∷ queue) = IsWorkedEntry entry × IsSplit n queue
 
 -- The ids of the unsent requests of a queue; the position of its first pending one, before which all are done or sent,
--- and from which on all are pending; and how many are done and not sent.
-pub record IsQueue (queue : List Entry) (ids : List (ℕ × Unit {0})) (first_pending done : ℕ) : Type 0 where
+-- and from which on all are pending; and the positions of those that are done and not sent.
+pub record IsQueue (queue : List Entry) (ids : List (ℕ × Unit {0})) (first_pending : ℕ) (done : List ℕ) : Type 0 where
   pub front : from_unsent queue ≡ queue
   pub indexed : (id : ℕ) → is_some (lookup (nat_eq id) ids) ≡ is_unsent id queue
   pub apart : AreUnsentApart queue
   pub split : IsSplit first_pending queue
-  pub counted : done ≡ done_count queue
+  pub listed : done ≡ done_positions queue

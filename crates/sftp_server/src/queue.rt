@@ -4,15 +4,18 @@ ghost use Rattle.std.specs.Prelude.{IfErr, OnOk, OnErr, IfSome, IfNone, option_c
 ghost use Rattle.sftp_server.specs.declared.queue.Progress.TheVariants as progress;
 ghost use Rattle.sftp_server.specs.Machine.{is_unsent, is_pending, is_pending_at, reply_at, from_unsent};
 ghost use Rattle.sftp_server.specs.Queue.{done_count, first_pending_of, next_request_of, with_progress, sent_in};
-ghost use Rattle.sftp_server.specs.Queue.{is_done};
-ghost use Rattle.sftp_server.specs.Queue.{done_position, IsSplit};
+ghost use Rattle.sftp_server.specs.Queue.{done_position, done_positions, IsSplit};
 ghost use Rattle.sftp_server.specs.Queue.{HasReply};
+ghost use Rattle.std.specs.Prelude.{◌<◌, ◌≤◌, ◌-◌, map, remove};
+ghost use Rattle.std.specs.List.Sorted.{IsNonDecreasing};
 ghost use Rattle.std.specs.Option.{option_map};
+ghost use Rattle.std.specs.Vec.{vec_capacity};
+ghost use Rattle.std.specs.VecDeque.{deque_len, deque_capacity};
 
 use crate::refusals::Refuse;
 use indexmap::IndexMap;
 use sftp_wire::{Reply, Request};
-use std::alloc::Global;
+use std::alloc::{AllocError, Global};
 use std::collections::VecDeque;
 use std::marker::Model;
 use std::mem::replace;
@@ -44,8 +47,9 @@ pub(crate) struct Queue {
     ids: IndexMap<u32, ()>,
     /// The position of the first pending request, or the length of the queue.
     first_pending: usize,
-    /// How many requests are done and not sent.
-    done: usize,
+    /// The positions of the requests that are done and not sent, in their order. It has the capacity for the positions
+    /// of all requests.
+    done: Vec<usize>,
 }
 
 impl Model for Queue {
@@ -57,7 +61,11 @@ impl Model for Queue {
 
     ghost view = { λ q. q.entries.items };
 
-    ghost invariant = { λ q. IsQueue q.entries.items q.ids.entries q.first_pending q.done };
+    ghost use Rattle.std.specs.Prelude.{◌≤◌, length};
+    ghost use Rattle.std.specs.Vec.{vec_capacity};
+
+    ghost invariant = { λ q. IsQueue q.entries.items q.ids.entries q.first_pending q.done.items
+        × (length q.entries.items ≤ vec_capacity q.done) };
 }
 
 impl Queue {
@@ -69,7 +77,7 @@ impl Queue {
             entries: VecDeque::new(alloc),
             ids: IndexMap::new(alloc),
             first_pending: 0,
-            done: 0,
+            done: Vec::new(alloc),
         }
     }
 
@@ -99,7 +107,7 @@ impl Queue {
         ensures returned { IfErr result (λ r. r ≡ request) }
         ensures err { OnErr result (self.new ≡ self.old) }
     {
-        if self.entries.reserve(1).is_err() {
+        if reserve_one(&mut self.entries, &mut self.done).is_err() {
             return Err(request);
         }
         match self.ids.insert(request.id, ()) {
@@ -151,8 +159,8 @@ impl Queue {
     {
         if let Some(entry) = self.entries.get_mut(self.first_pending) {
             entry.progress = Progress::Done(reply);
+            self.done.push_reserved(self.first_pending);
             self.first_pending += 1;
-            self.done += 1;
         }
     }
 
@@ -160,14 +168,14 @@ impl Queue {
     pub(crate) fn done(&self) -> usize
         ensures { result ≡ done_count self.now }
     {
-        self.done
+        self.done.len()
     }
 
     /// The position of the request of this number, from 0, among those done and not sent.
     pub(crate) fn done_at(&self, number: usize) -> Option<usize>
         ensures { result ≡ done_position self.now number }
     {
-        find_done(&self.entries, number)
+        self.done.get(number).copied()
     }
 
     /// The reply of the request at this position, which is then sent, if it is done and not sent. Requests at the front
@@ -179,10 +187,30 @@ impl Queue {
     {
         let (id, reply) = take_reply(&mut self.entries, k)?;
         self.ids.swap_remove(&id);
-        self.done -= 1;
-        self.first_pending -= drop_sent(&mut self.entries);
+        strike(&mut self.done, k);
+        let count = drop_sent(&mut self.entries);
+        move_forward(&mut self.done, count);
+        self.first_pending -= count;
         Some(reply)
     }
+}
+
+/// Reserves memory for one request more, and for the positions of all.
+///
+/// # Errors
+///
+/// `AllocError` if memory runs out. Nothing changes but the capacities.
+fn reserve_one(entries: &mut VecDeque<Entry>, done: &mut Vec<usize>) -> Result<(), AllocError>
+    requires { length done.old.items ≤ length entries.old.items }
+    ensures entries { entries.new.items ≡ entries.old.items }
+    ensures done { done.new.items ≡ done.old.items }
+    ensures room { OnOk result (deque_len entries.new < deque_capacity entries.new) }
+    ensures room_done { OnOk result (length entries.new.items < vec_capacity done.new) }
+    ensures never_shrinks { vec_capacity done.old ≤ vec_capacity done.new }
+{
+    entries.reserve(1)?;
+    done.reserve(entries.len() - done.len() + 1)?;
+    Ok(())
 }
 
 /// The id and the reply of the request at this position, which is then marked as sent, if it is done and not sent.
@@ -205,32 +233,32 @@ fn take_reply(entries: &mut VecDeque<Entry>, k: usize) -> Option<(u32, Reply)>
     }
 }
 
-/// The position of the request of this number, from 0, among those done and not sent.
-fn find_done(entries: &VecDeque<Entry>, number: usize) -> Option<usize>
-    ensures { result ≡ done_position entries.now.items number }
+/// Removes a position from a list of positions that rise.
+fn strike(positions: &mut Vec<usize>, k: usize)
+    requires rises { IsNonDecreasing positions.old.items }
+    requires there { (number : ℕ) × (slice_get positions.old.items number ≡ Some k) }
+    ensures struck { (number : ℕ) × (slice_get positions.old.items number ≡ Some k)
+        × (positions.new.items ≡ remove positions.old.items number) }
+    ensures capacity { vec_capacity positions.new ≡ vec_capacity positions.old }
 {
-    let mut left = number;
-    let mut k = 0;
-    'scan: while let Some(entry) = entries.get(k) {
-        if is_done(&entry.progress) {
-            if left == 0 {
-                return Some(k);
-            }
-            left -= 1;
+    match positions.binary_search(&k) {
+        Ok(number) => {
+            positions.remove(number);
         }
-        k += 1;
+        Err(_) => unreachable!(),
     }
-    None
 }
 
-/// Whether the request is done and not sent.
-fn is_done(progress: &Progress) -> bool
-    ensures { result ≡ is_done progress.now }
+/// Moves each position forward by so many, at most to the front.
+fn move_forward(positions: &mut Vec<usize>, count: usize)
+    ensures moved { positions.new.items ≡ map (λ k. k - count) positions.old.items }
+    ensures capacity { vec_capacity positions.new ≡ vec_capacity positions.old }
 {
-    match progress {
-        Progress::Done(_) => true,
-        Progress::Pending => false,
-        Progress::Sent => false,
+    if count == 0 {
+        return;
+    }
+    'each: for k in positions.iter_mut() {
+        *k = k.saturating_sub(count);
     }
 }
 

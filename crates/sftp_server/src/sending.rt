@@ -14,6 +14,10 @@ use sftp_transcript::{Failed, Sink, Writer, put_all};
 use sftp_wire::{Packet, Side, encode};
 
 /// Replaces the bytes of `output` by those of a packet.
+///
+/// # Errors
+///
+/// `NoMemory` if memory runs out.
 fn spell(packet: &Packet, output: &mut Vec<u8>) -> Result<(), Stop>
     requires { HasSpelling packet.now }
     ensures ok { OnOk result (output.new.items ≡ spelling packet.now) }
@@ -27,6 +31,10 @@ fn spell(packet: &Packet, output: &mut Vec<u8>) -> Result<(), Stop>
 }
 
 /// Writes bytes to the client.
+///
+/// # Errors
+///
+/// `Io(Writer)` if the writer fails. A beginning of the bytes is written then.
 fn write<W: Sink>(writer: &mut W, bytes: &[u8]) -> Result<(), Stop>
     ensures ok { OnOk result (Appends (W.written writer.old) (W.written writer.new) bytes.now) }
     ensures err { IfErr result (λ stop. stop ≡ stops.Io streams.Writer) }
@@ -43,7 +51,9 @@ fn write<W: Sink>(writer: &mut W, bytes: &[u8]) -> Result<(), Stop>
 ///
 /// # Errors
 ///
-/// `NoMemory` if memory runs out, before anything is written; `Io` with the stream that failed.
+/// - `NoMemory` if memory runs out. Nothing is written.
+/// - `Io(Writer)` if the writer fails. A beginning of the packet is written.
+/// - `Io(Log)` if the log fails. The packet is written, and a beginning of its record is logged.
 pub(crate) fn send<W: Sink, L: Sink>(
     packet: &Packet,
     output: &mut Vec<u8>,
@@ -70,6 +80,10 @@ pub(crate) fn send<W: Sink, L: Sink>(
 }
 
 /// Passes on what the writer has buffered.
+///
+/// # Errors
+///
+/// `Io(Writer)` if the writer fails.
 pub(crate) fn flush<W: Sink>(writer: &mut W) -> Result<(), Stop>
     ensures bytes { Keeps (W.written writer.old) (W.written writer.new) }
     ensures err { IfErr result (λ stop. stop ≡ stops.Io streams.Writer) }
@@ -82,6 +96,10 @@ pub(crate) fn flush<W: Sink>(writer: &mut W) -> Result<(), Stop>
 }
 
 /// Passes on what the log has buffered.
+///
+/// # Errors
+///
+/// `Io(Log)` if the log fails.
 pub(crate) fn flush_log<L: Sink>(log: &mut Writer<L>) -> Result<(), Stop>
     requires { IsLogging log.old }
     ensures bytes { Keeps log.old.bytes log.new.bytes }

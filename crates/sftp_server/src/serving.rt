@@ -1,5 +1,5 @@
 //! Serves a session: reads the client's packets, does the requests, and sends the replies (draft, sections 3 to 7).
-ghost use Rattle.std.specs.Prelude.{◌≡◌, ◌<◌, ◌≤◌, [], length, Ok, None, IfOk, OnOk};
+ghost use Rattle.std.specs.Prelude.{◌≡◌, ◌≢◌, ◌<◌, ◌≤◌, [], length, Ok, None, IfOk, OnOk};
 ghost use Rattle.sftp_wire.specs.declared.packets.Side.TheVariants.{Client};
 ghost use Rattle.sftp_wire.specs.Reading.{front_of};
 ghost use Rattle.sftp_server.specs.declared.ends.Stream.TheVariants as streams;
@@ -167,7 +167,7 @@ fn serve_requests<R: Source, W: Sink, L: Sink, S: Schedule>(
 }
 
 /// What comes after a batch, by what is in front of the input: the session ends at a fault, reads if no packet in front
-/// is complete, and otherwise goes on.
+/// is complete, and goes on if a packet waits for room in the core.
 fn after_batch<R: Source, W: Sink, L: Sink>(
     front: Front,
     input: &mut Input,
@@ -176,6 +176,7 @@ fn after_batch<R: Source, W: Sink, L: Sink>(
     log: &mut Writer<L>,
 ) -> Result<Next, Stop>
     requires logging { IsLogging log.old }
+    requires done { front ≢ fronts.Taken }
     requires waits { front ≡ fronts.Waiting → front_of Client input.old.held ≡ Ok None }
     ensures running { EndsOn (stream_bytes (R.left reader.old) (W.written writer.old) log.old.bytes)
         (stream_bytes (R.left reader.new) (W.written writer.new) log.new.bytes) input.old input.new front result }
@@ -188,7 +189,7 @@ fn after_batch<R: Source, W: Sink, L: Sink>(
         GoesOn front input.old input.new (R.reads_left reader.old) (R.reads_left reader.new)) }
 {
     match front {
-        Front::Taken => Ok(Next::Batch),
+        Front::Taken => unreachable!(),
         Front::Full => Ok(Next::Batch),
         Front::Waiting => read_more(input, reader, writer, log),
         Front::Fault(fault) => {

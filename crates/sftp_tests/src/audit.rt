@@ -4,6 +4,7 @@ use std::alloc::{AllocError, Global};
 use std::test::Fail;
 
 mod contents;
+mod fed;
 mod files;
 mod handle_codes;
 mod handles;
@@ -11,6 +12,7 @@ mod links;
 mod records;
 mod refusals;
 mod sessions;
+mod streamed;
 
 /// The opening, an INIT of version 3 and a VERSION 3, both without extensions.
 const OPENING: &[u8] = b"SFTPTR01C\0\0\0\x05\x01\0\0\0\x03S\0\0\0\x05\x02\0\0\0\x03";

@@ -50,8 +50,8 @@ impl Write for Narrow {
 
 /// A reader that gives one byte a call, and fails at the end.
 #[derive(Debug, Drop)]
-struct Torn<'a> {
-    rest: &'a [u8],
+pub(crate) struct Torn<'a> {
+    pub(crate) rest: &'a [u8],
 }
 
 impl Read for Torn<'_> {

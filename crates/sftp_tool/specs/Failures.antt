@@ -1,5 +1,5 @@
 -- Which failure of a run each error is: when memory runs out, no file is to blame.
-use Rattle.std.specs.Prelude.{◌≡◌, ℕ, List, Result, Ok, Err}
+use Rattle.std.specs.Prelude.{◌≡◌, ℕ, List, Result, Ok, Err, MatchResult}
 use Rattle.sftp_treefile.specs.declared.errors.TreeError.{TreeError}
 use Rattle.sftp_treefile.specs.declared.errors.TreeError.TheVariants as tree_errors
 use Rattle.sftp_transcript.specs.declared.errors.TranscriptError.{TranscriptError}
@@ -14,18 +14,6 @@ use Rattle.sftp_tool.specs.declared.messages.Failure.TheVariants as failures
 abbrev pub tree_failure : TreeError → Failure
 tree_failure tree_errors.NoMemory = failures.OutOfMemory
 tree_failure error = failures.Tree error
-
-abbrev pub transcript_failure : TranscriptError → Failure
-transcript_failure transcript_errors.NoMemory = failures.OutOfMemory
-transcript_failure error = failures.Transcript error
-
--- the error of an audit: a refusal of the session, or a failure
-abbrev pub refusal_or_failure : AuditError → Result Refusal Failure
-refusal_or_failure (audit_errors.Refused refusals.NoMemory) = Err failures.OutOfMemory
-refusal_or_failure (audit_errors.Refused refusal) = Ok refusal
-refusal_or_failure (audit_errors.Tree error) = Err (tree_failure error)
-refusal_or_failure (audit_errors.Transcript error) = Err (transcript_failure error)
-refusal_or_failure audit_errors.NoMemory = Err failures.OutOfMemory
 
 -- the file of this name cannot be read
 abbrev pub IsUnreadFile : List ℕ → Failure → Type 0
@@ -48,3 +36,17 @@ abbrev pub IsUnwritten : Failure → Type 0
 IsUnwritten (failures.CannotWrite _) = Unit {0}
 IsUnwritten failures.OutOfMemory = Unit {0}
 IsUnwritten _ = ⊥
+
+-- the error of the transcript in the file of this name: where the source fails, the file cannot be read
+abbrev pub IsTranscriptFailure : List ℕ → TranscriptError → Failure → Type 0
+IsTranscriptFailure name transcript_errors.NoMemory failure = failure ≡ failures.OutOfMemory
+IsTranscriptFailure name (transcript_errors.Io number) failure = IsUnreadFile name failure
+IsTranscriptFailure name error failure = failure ≡ failures.Transcript error
+
+-- the error of an audit, whose transcript is in the file of this name: a refusal of the session, or a failure
+abbrev pub IsOutcome : List ℕ → AuditError → Result Refusal Failure → Type 0
+IsOutcome name (audit_errors.Refused refusals.NoMemory) result = result ≡ Err failures.OutOfMemory
+IsOutcome name (audit_errors.Refused refusal) result = result ≡ Ok refusal
+IsOutcome name (audit_errors.Tree error) result = result ≡ Err (tree_failure error)
+IsOutcome name (audit_errors.Transcript error) result = MatchResult result (λ _. ⊥) (IsTranscriptFailure name error)
+IsOutcome name audit_errors.NoMemory result = result ≡ Err failures.OutOfMemory

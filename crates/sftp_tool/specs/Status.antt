@@ -15,6 +15,7 @@ failure_status (failures.Usage _) = 2
 failure_status (failures.Session _) = 1
 failure_status (failures.Tree _) = 2
 failure_status (failures.Transcript _) = 2
+failure_status failures.UnknownFile = 2
 failure_status (failures.CannotRead _) = 3
 failure_status (failures.CannotWrite _) = 3
 failure_status failures.OutOfMemory = 3

@@ -29,6 +29,18 @@ If the client breaks the protocol, the requests before that are answered, the tr
 
 const ABOUT_AUDIT: &str = "Checks every reply of a recorded session against a file tree";
 
+const ABOUT_SHOW: &str = "Prints what a transcript or a tree file holds, a line for each record or entry";
+
+const AFTER_SHOW: &str = "The line of a record has its number, C or S for the side that sent the packet, the packet's name, its id (the
+version of an INIT or a VERSION), and the bytes of the packet; then the code of a STATUS, or the paths of a request.
+
+The first line of a tree file has the home, the owner of new entries, and the number of entries. The line of an
+entry has its number, its kind (D directory, F file, H further name of a file, L link) and its path; then the uid, gid
+and permissions of a directory or a file, the bytes of a file, the number of the entry that a further name belongs
+to, or the target of a link.
+
+Bytes that are not printable ASCII are shown as \\x and two hexadecimal digits.";
+
 const ABOUT_BLANK: &str = "Writes the tree file of a tree that holds only the root directory";
 
 const AFTER_AUDIT: &str =
@@ -50,8 +62,10 @@ pub(crate) enum Request<'a> {
     Audit(AuditFiles<'a>),
     /// Write the blank tree to a file.
     Blank { file: &'a str },
-    /// Show this text: help or the version.
-    Show(String),
+    /// Show what a transcript or a tree file holds.
+    Show { file: &'a str },
+    /// Print this text: help or the version.
+    Help(String),
 }
 
 /// The options of `serve`.
@@ -89,7 +103,7 @@ pub(crate) fn parse(alloc: Global, words: &[String]) -> Result<Request<'_>, Fail
             if error.use_stderr() {
                 Err(Failure::Usage(text))
             } else {
-                Ok(Request::Show(text))
+                Ok(Request::Help(text))
             }
         }
     }
@@ -109,6 +123,10 @@ fn requested<'a>(matches: &ArgMatches<'a>) -> Option<Request<'a>> {
     match name {
         "serve" => Some(Request::Serve(serve_options(given)?)),
         "audit" => Some(Request::Audit(audit_files(given)?)),
+        "show" => {
+            let file = given.get_str("file")?;
+            Some(Request::Show { file })
+        }
         _ => {
             let file = given.get_str("file")?;
             Some(Request::Blank { file })
@@ -141,6 +159,7 @@ fn command<'a>(alloc: Global) -> Result<Command<'a>, AllocError> {
         .subcommand_required(true)
         .subcommand(serve_command(alloc)?)?
         .subcommand(audit_command(alloc)?)?
+        .subcommand(show_command(alloc)?)?
         .subcommand(blank_command(alloc)?)
 }
 
@@ -181,6 +200,18 @@ fn audit_command<'a>(alloc: Global) -> Result<Command<'a>, AllocError> {
         .arg(tree)?
         .arg(transcript)?
         .arg(out)
+}
+
+fn show_command<'a>(alloc: Global) -> Result<Command<'a>, AllocError> {
+    let file = Arg::new(alloc, "file")
+        .value_name("FILE")
+        .action(ArgAction::Set)
+        .required(true)
+        .help("The transcript or the tree file");
+    Command::new(alloc, "show")
+        .about(ABOUT_SHOW)
+        .after_help(AFTER_SHOW)
+        .arg(file)
 }
 
 fn blank_command<'a>(alloc: Global) -> Result<Command<'a>, AllocError> {

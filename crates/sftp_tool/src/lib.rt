@@ -7,6 +7,7 @@ ghost use Rattle.std.specs.Prelude.{◌≤◌};
 mod command_line;
 mod messages;
 mod serving;
+mod showing;
 mod subcommands;
 
 use command_line::Request;
@@ -18,7 +19,7 @@ use std::io::{Read, Write};
 ///
 /// - 0: the session was served or is accepted, the file was written, or help or the version was shown;
 /// - 1: the session is refused, and `output` says why; or the client broke the protocol, and `errors` says how;
-/// - 2: bad usage, or a malformed tree file or transcript;
+/// - 2: bad usage, or a malformed or unknown file;
 /// - 3: a file or a stream cannot be read or written, or memory ran out.
 ///
 /// With status 2 or 3 the reason is written to `errors`. If `errors` cannot be written, the status is the same.
@@ -57,6 +58,7 @@ fn perform<'a, R: Files + AllocGlobal, I: Read, O: Write>(
         Request::Serve(options) => serving::serve(rt, &options, input, output),
         Request::Audit(files) => subcommands::audit(rt, &files, output),
         Request::Blank { file } => subcommands::blank(rt, file),
-        Request::Show(text) => subcommands::show(text.as_str(), output),
+        Request::Show { file } => showing::show(rt, file, output),
+        Request::Help(text) => subcommands::help(text.as_str(), output),
     }
 }

@@ -3,7 +3,7 @@ ghost use Rattle.std.specs.Prelude.{◌≡◌, ◌≢◌, ◌≤◌, IfErr};
 ghost use Rattle.std.specs.IoError.{error_kind};
 ghost use Rattle.std.specs.declared.io.ErrorKind.TheVariants as kinds;
 ghost use Rattle.sftp_tool.specs.declared.messages.Failure.TheVariants as failures;
-ghost use Rattle.sftp_tool.specs.Failures.{tree_failure, transcript_failure};
+ghost use Rattle.sftp_tool.specs.Failures.{tree_failure, IsTranscriptFailure};
 ghost use Rattle.sftp_tool.specs.Failures.{IsUnreadFile, IsUnwritten, IsUnwrittenFile};
 
 use sftp_audit::{TranscriptError, TreeError};
@@ -42,6 +42,9 @@ pub(crate) enum Failure<'a> {
     /// The transcript is malformed.
     #[error("sftpv3: transcript: {0}")]
     Transcript(TranscriptError),
+    /// The file is neither a transcript nor a tree file.
+    #[error("sftpv3: unknown file")]
+    UnknownFile,
     /// The client broke the protocol.
     #[error("sftpv3: session fault: {0}")]
     Session(SessionFault),
@@ -81,7 +84,10 @@ impl Failure<'_> {
     {
         match self {
             Failure::Session(_) => 1,
-            Failure::Usage(_) | Failure::Tree(_) | Failure::Transcript(_) => 2,
+            Failure::Usage(_)
+            | Failure::Tree(_)
+            | Failure::Transcript(_)
+            | Failure::UnknownFile => 2,
             Failure::CannotRead(_) | Failure::CannotWrite(_) | Failure::OutOfMemory => 3,
         }
     }
@@ -107,6 +113,20 @@ impl<'a> Failure<'a> {
         match error.kind() {
             io::ErrorKind::OutOfMemory => Failure::OutOfMemory,
             _ => Failure::CannotWrite(name),
+        }
+    }
+}
+
+impl<'a> Failure<'a> {
+    /// Why the transcript in the file `name` is not read to its end. When its source fails, the file cannot be read;
+    /// when memory runs out, the file is not to blame.
+    pub(crate) fn of_transcript(error: TranscriptError, name: &'a str) -> Failure<'a>
+        ensures { IsTranscriptFailure name.now error result }
+    {
+        match error {
+            TranscriptError::NoMemory => Failure::OutOfMemory,
+            TranscriptError::Io { .. } => Failure::CannotRead(name),
+            fault => Failure::Transcript(fault),
         }
     }
 }
@@ -138,16 +158,6 @@ impl From<TreeError> for Failure<'_> {
     }
 }
 
-impl From<TranscriptError> for Failure<'_> {
-    ghost from_gives = { λ error failure. failure ≡ transcript_failure error };
-
-    fn from(error: TranscriptError) -> Self {
-        match error {
-            TranscriptError::NoMemory => Failure::OutOfMemory,
-            fault => Failure::Transcript(fault),
-        }
-    }
-}
 
 /// Writes the reason of a failure. If the stream cannot be written, there is nothing left to do.
 pub(crate) fn report<E: Write>(errors: &mut E, failure: Failure<'_>) {

@@ -46,7 +46,10 @@ fn new_log<'a, R: Files + AllocGlobal>(
     ensures { IfOk result IsUnused }
 {
     let recording = Recording::new(rt, name)?;
-    Ok(Writer::new(rt.alloc(), Tally::new(recording))?)
+    match Writer::new(rt.alloc(), Tally::new(recording)) {
+        Ok(log) => Ok(log),
+        Err(_no_memory) => Err(Failure::OutOfMemory),
+    }
 }
 
 /// Serves a session on a tree, and returns how it ended.

@@ -1,27 +1,36 @@
 //! The subcommands.
 ghost use Rattle.std.specs.Prelude.{◌≡◌, IfOk, IfErr};
 ghost use Rattle.sftp_tool.specs.declared.messages.Ending.TheVariants as endings;
-ghost use Rattle.sftp_tool.specs.Failures.{refusal_or_failure as refusal_of, IsUnread, IsUnwritten};
+ghost use Rattle.sftp_tool.specs.Failures.{IsOutcome, IsUnread, IsUnwritten};
 
 use crate::command_line::AuditFiles;
 use crate::messages::{Ending, Failure, print};
 use sftp_audit::{Accepted, AuditError, Refusal};
+use sftp_transcript::{Reader, Tally};
+use std::alloc::Global;
 use std::fs;
 use std::fs::Files;
-use std::io::Write;
+use std::io::{Read, Write};
 
-/// Audits a session. Both files are read before either is judged.
+/// Audits a session. The tree file is read and the transcript is opened before either is judged. The transcript is read
+/// as a stream.
 pub(crate) fn audit<'a, R: Files + AllocGlobal, O: Write>(
     rt: &R,
     files: &AuditFiles<'a>,
     output: &mut O,
 ) -> Result<Ending, Failure<'a>> {
     let tree = read(rt, files.tree)?;
-    let transcript = read(rt, files.transcript)?;
-    match sftp_audit::audit(rt.alloc(), tree.as_slice(), transcript.as_slice()) {
+    let transcript = open(rt, files.transcript)?;
+    match judge(rt.alloc(), tree.as_slice(), transcript) {
         Ok(accepted) => accept(rt, &accepted, files.out, output),
-        Err(error) => refuse(refusal_or_failure(error)?, output),
+        Err(error) => refuse(refusal_or_failure(error, files.transcript)?, output),
     }
+}
+
+/// Audits the session of a transcript that is read as a stream.
+fn judge<F: Read + Drop>(alloc: Global, tree: &[u8], transcript: F) -> Result<Accepted, AuditError> {
+    let mut records = Reader::new(alloc, Tally::new(transcript))?;
+    sftp_audit::audit_stream(alloc, tree, &mut records)
 }
 
 /// Writes the blank tree to the file `name`.
@@ -41,8 +50,8 @@ pub(crate) fn blank<'a, R: Files + AllocGlobal>(
     }
 }
 
-/// Shows help or the version.
-pub(crate) fn show<'a, O: Write>(text: &str, output: &mut O) -> Result<Ending, Failure<'a>>
+/// Prints help or the version.
+pub(crate) fn help<'a, O: Write>(text: &str, output: &mut O) -> Result<Ending, Failure<'a>>
     ensures ok { IfOk result (λ ending. ending ≡ endings.Done) }
     ensures err { IfErr result IsUnwritten }
 {
@@ -77,15 +86,25 @@ fn refuse<'a, O: Write>(refusal: Refusal, output: &mut O) -> Result<Ending, Fail
     Ok(Ending::Refused)
 }
 
-/// What the error of an audit means for the run: a refusal of the session, or a failure.
-fn refusal_or_failure<'a>(error: AuditError) -> Result<Refusal, Failure<'a>>
-    ensures { result ≡ refusal_of error }
+/// What the error of an audit means for the run: a refusal of the session, or a failure. The transcript has this name.
+fn refusal_or_failure<'a>(error: AuditError, transcript: &'a str) -> Result<Refusal, Failure<'a>>
+    ensures { IsOutcome transcript.now error result }
 {
     match error {
         AuditError::Refused(Refusal::NoMemory) | AuditError::NoMemory => Err(Failure::OutOfMemory),
         AuditError::Refused(refusal) => Ok(refusal),
         AuditError::Tree(error) => Err(Failure::from(error)),
-        AuditError::Transcript(error) => Err(Failure::from(error)),
+        AuditError::Transcript(error) => Err(Failure::of_transcript(error, transcript)),
+    }
+}
+
+/// Opens the file `name` to read it.
+pub(crate) fn open<'a, R: Files>(rt: &R, name: &'a str) -> Result<R::File, Failure<'a>>
+    ensures { IfErr result IsUnread }
+{
+    match fs::open(rt, name) {
+        Ok(file) => Ok(file),
+        Err(error) => Err(Failure::reading(name, &error)),
     }
 }
 

@@ -8,6 +8,8 @@ mod runs;
 #[cfg(test)]
 mod serving;
 #[cfg(test)]
+mod showing;
+#[cfg(test)]
 mod streams;
 #[cfg(test)]
 mod usage;

@@ -19,6 +19,8 @@ fn refuses_bad_usage(rt: HostRuntime) -> Result<(), Fail> {
         "",
         "sftpv3",
         "sftpv3 unknown",
+        "sftpv3 show",
+        "sftpv3 show a b",
         "sftpv3 blank",
         "sftpv3 blank a b",
         "sftpv3 blank --unknown a",
@@ -51,6 +53,10 @@ fn shows_help_and_version(rt: HostRuntime) -> Result<(), Fail> {
         (
             ["sftpv3", "audit", "--help"].as_slice(),
             "Checks every reply",
+        ),
+        (
+            ["sftpv3", "help", "show"].as_slice(),
+            "Prints what a transcript",
         ),
         (
             ["sftpv3", "help", "blank"].as_slice(),

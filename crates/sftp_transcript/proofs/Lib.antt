@@ -3,5 +3,9 @@ pub mod transcripts
 pub mod Putting
 pub mod Buffers
 pub mod Inputs
+pub mod Fronts
 pub mod Taking
+pub mod Faults
 pub mod Recorded
+pub mod Begun
+pub mod Packets

@@ -1,7 +1,9 @@
 -- What a reader of a transcript file has ahead of it: bytes that it holds, and bytes that its source has left.
-use Rattle.std.specs.Prelude.{◌≡◌, ℕ, ◌+◌, ◌*◌, ◌≤◌, List, ◌++◌, length, drop, Option, Some}
-use Rattle.std.specs.Io.KnownBytes.{Keeps, prepend_known}
+use Rattle.std.specs.Prelude.{◌≡◌, ℕ, ◌+◌, ◌*◌, ◌≤◌, List, ◌∷◌, ◌++◌, length, drop, Option, Some, None, Ok}
+use Rattle.std.specs.Io.KnownBytes.{Keeps, IsAtEnd, prepend_known}
 use Rattle.sftp_wire.specs.declared.packets.Packet.{Packet}
+use Rattle.sftp_wire.specs.declared.packets.Side.{Side}
+use Rattle.sftp_wire.specs.Reading.{front_of}
 use Rattle.sftp_wire.specs.Spelling.{HasSpelling, packet_limit}
 use Rattle.sftp_transcript.specs.Transcript.{transcript_opening, record_text}
 
@@ -45,6 +47,15 @@ abbrev pub HoldsOpening : Ahead → Type 0
 HoldsOpening a =
     (bytes rest : List ℕ) → bytes_ahead a ≡ Some bytes → bytes ≡ transcript_opening ++ rest
     → length transcript_opening ≤ length a.held
+
+-- the bytes are a direction, and then a packet of that side that is not whole
+abbrev pub CutsPacket : List ℕ → Side → Type 0
+CutsPacket bytes side =
+    (direction : ℕ) × (spelled : List ℕ) × (bytes ≡ direction ∷ spelled) × (front_of side spelled ≡ Ok None)
+
+-- a record is held in part only where nothing is left
+abbrev pub CutsAtEnd : Ahead → Type 0
+CutsAtEnd a = (side : Side) → CutsPacket a.held side → IsAtEnd a.left
 
 -- the same without the first bytes held
 abbrev pub ahead_without : ℕ → Ahead → Ahead

@@ -11,3 +11,6 @@ pub mod Log
 pub mod Ahead
 pub mod Steps
 pub mod Recorded
+pub mod Sound
+pub mod Begun
+pub mod Packets

@@ -19,14 +19,15 @@ PacketFault number side bytes (Wire fault place) = (place ≡ number) × (front_
 PacketFault number side bytes NoMemory = ⊤
 PacketFault number side bytes other = ⊥
 
+-- the same behind any byte, which names a side or none
+abbrev pub DirectedFault : ℕ → Option Side → List ℕ → TranscriptError → Type 0
+DirectedFault number None bytes error = error ≡ Direction number
+DirectedFault number (Some side) bytes error = PacketFault number side bytes error
+
 -- why the bytes begin with no record
 abbrev pub RecordFault : ℕ → List ℕ → TranscriptError → Type 0
 RecordFault number [] error = error ≡ Start number
-RecordFault number (direction ∷ bytes) error = directed_fault number (side_of_direction direction) bytes error
-  where
-    directed_fault : ℕ → Option Side → List ℕ → TranscriptError → Type 0
-    directed_fault number None bytes error = error ≡ Direction number
-    directed_fault number (Some side) bytes error = PacketFault number side bytes error
+RecordFault number (direction ∷ bytes) error = DirectedFault number (side_of_direction direction) bytes error
 
 -- the bytes begin with the record of a packet that is none of these
 pub record BeginsOther (P : Packet → Type 0) (bytes : List ℕ) : Type 0 where
@@ -39,18 +40,21 @@ pub record BeginsOther (P : Packet → Type 0) (bytes : List ℕ) : Type 0 where
 abbrev pub IsEventPacket : Packet → Type 0
 IsEventPacket packet = (event : Event) × (packet ≡ packet_of event)
 
+-- why the bytes do not begin with the record of one of these packets, the record of this number
+abbrev pub KindFault : (Packet → Type 0) → ℕ → List ℕ → TranscriptError → Type 0
+KindFault P number bytes error = RecordFault number bytes error ⊎ ((error ≡ Start number) × BeginsOther P bytes)
+
 -- why the bytes do not begin with an INIT, the first record
 abbrev pub InitFault : List ℕ → TranscriptError → Type 0
-InitFault bytes error = RecordFault 1 bytes error ⊎ ((error ≡ Start 1) × BeginsOther IsInit bytes)
+InitFault bytes error = KindFault IsInit 1 bytes error
 
 -- why the bytes do not begin with a VERSION, the second record
 abbrev pub VersionFault : List ℕ → TranscriptError → Type 0
-VersionFault bytes error = RecordFault 2 bytes error ⊎ ((error ≡ Start 2) × BeginsOther IsVersion bytes)
+VersionFault bytes error = KindFault IsVersion 2 bytes error
 
 -- why the bytes do not begin with an event, the record of this number
 abbrev pub EventFault : ℕ → List ℕ → TranscriptError → Type 0
-EventFault number bytes error =
-    RecordFault number bytes error ⊎ ((error ≡ Start number) × BeginsOther IsEventPacket bytes)
+EventFault number bytes error = KindFault IsEventPacket number bytes error
 
 -- Why what comes next is refused where these bytes are held, or what the source's failure is called there. The number
 -- is that of the next event's record.

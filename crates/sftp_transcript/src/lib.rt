@@ -22,7 +22,7 @@ pub use errors::TranscriptError;
 pub use events::Event;
 pub use memory::Memory;
 pub use reader::Reader;
-pub use records::records_are_one;
+pub use records::{OPENING, records_are_one};
 pub use streams::{Failed, Sink, Source};
 pub use tally::Tally;
 pub use writer::{Writer, put_all};

@@ -1,22 +1,29 @@
 //! A transcript file that is read record by record from a source. This profile's own; the packets in it are those of
 //! the draft, section 4 on.
-ghost use Rattle.std.specs.Prelude.{◌≡◌, ◌<◌, ◌≤◌, List, ℕ, ⊤, [], Some, None, Ok, Err, OnOk, OnErr, IfOk, IfErr};
-ghost use Rattle.std.specs.Prelude.{IfSome, MatchResult};
+ghost use Rattle.std.specs.Prelude.{◌≡◌, ◌≢◌, ◌⊎◌, ◌<◌, ◌≤◌, List, ℕ, ⊤, [], Some, None, Ok, Err, IfSome, MatchResult};
+ghost use Rattle.std.specs.Prelude.{OnOk, OnErr, IfOk, IfErr};
+ghost use Rattle.sftp_wire.specs.declared.packets.Packet.{Packet};
 ghost use Rattle.sftp_transcript.specs.declared.errors.TranscriptError.{TranscriptError};
 ghost use Rattle.sftp_transcript.specs.declared.events.Event.{Event};
-ghost use Rattle.sftp_transcript.specs.Ahead.{size_of};
-ghost use Rattle.sftp_transcript.specs.Steps.{CountsError, IsExcuse};
+ghost use Rattle.sftp_transcript.specs.Ahead.{IsSameAhead, size_of};
+ghost use Rattle.sftp_transcript.specs.Steps.{HasAhead, Took, CountsError, IsExcuse};
 ghost use Rattle.sftp_transcript.specs.Refused.{FaultIn};
 ghost use Rattle.sftp_transcript.specs.Recorded.{Reading, IsKnown, Records, RecordsSame, Gave, Gives};
 ghost use Rattle.sftp_transcript.specs.Recorded.{rank, reported, number_after};
+ghost use Rattle.sftp_transcript.specs.Begun.{HasGiven, HasGivenOf, GaveFrom, FaultOf, FaultAhead, with_given};
+ghost use Rattle.sftp_transcript.specs.Packets.{IsBehindOpening, BeginsNext, FaultNext, IsMeasured, GivesPacket};
+ghost use Rattle.sftp_transcript.specs.Packets.{GivesNext, TookNoRecord, stage_opened, stage_behind, number_past};
+ghost use Rattle.sftp_transcript.specs.Packets.{number_then, event_in};
 
 use crate::buffer::Buffer;
 use crate::errors::TranscriptError;
 use crate::events::Event;
 use crate::input::Input;
 use crate::stage::Stage;
-use crate::steps::{pass_event, pass_init, pass_opening, pass_version};
+use crate::steps::{pass_event, pass_init, pass_opening, pass_record, pass_version};
 use crate::streams::Source;
+use crate::writer::sender;
+use sftp_wire::{Packet, Side};
 use std::alloc::Global;
 use std::marker::Model;
 
@@ -27,6 +34,30 @@ fn number_after(number: u64, given: &Option<Event>) -> u64
     match given {
         Some(_) => number.saturating_add(1),
         None => number,
+    }
+}
+
+/// The number of the next event's record, behind the record at this stage.
+fn number_past(stage: Stage, number: u64) -> u64
+    ensures { result ≡ number_past stage number }
+{
+    match stage {
+        Stage::Opening => number,
+        Stage::Init => number,
+        Stage::Version => number,
+        Stage::Events => number.saturating_add(1),
+    }
+}
+
+/// The stage behind the record at this one.
+fn stage_behind(stage: Stage) -> Stage
+    ensures { result ≡ stage_behind stage }
+{
+    match stage {
+        Stage::Opening => Stage::Version,
+        Stage::Init => Stage::Version,
+        Stage::Version => Stage::Events,
+        Stage::Events => Stage::Events,
     }
 }
 
@@ -89,7 +120,16 @@ impl<R: Source> Reader<R> {
         ensures same { RecordsSame self.old self.new }
         ensures only { (events : List Event) → Records self.old events → MatchResult result (λ _. ⊤) IsExcuse }
         ensures next { OnOk result (1 ≤ rank self.new.stage) }
+        ensures stage { OnOk result (self.new.stage ≡ stage_opened self.old.stage) }
+        ensures opened { OnOk result ((before : List ℕ) → HasAhead self.old.ahead before
+            → Took (IsBehindOpening self.old.stage) before self.new.ahead) }
+        ensures kept { MatchResult result (λ _. TookNoRecord self.old self.new)
+            (λ _. IsSameAhead self.old.ahead self.new.ahead × (self.new.stage ≡ self.old.stage)) }
+        ensures unopened { (before : List ℕ) → HasAhead self.old.ahead before
+            → IfErr result (λ error. IsExcuse error ⊎ FaultNext self.old.stage self.old.number before error) }
         ensures refused { IfErr result (FaultIn self.new.stage self.new.number self.new.ahead.held) }
+        ensures first { (bytes ahead : List ℕ) (events : List Event) → HasGiven bytes events ahead self.old
+            → MatchResult result (λ _. HasGivenOf bytes events self.new) (FaultOf bytes events) }
         ensures counts { CountsError R.may_fail result self.old.ahead.failures self.new.ahead.failures }
     {
         match self.stage {
@@ -111,6 +151,8 @@ impl<R: Source> Reader<R> {
         ensures only { (events : List Event) → Records self.old events → MatchResult result (λ _. ⊤) IsExcuse }
         ensures next { OnOk result (2 ≤ rank self.new.stage) }
         ensures refused { IfErr result (FaultIn self.new.stage self.new.number self.new.ahead.held) }
+        ensures first { (bytes ahead : List ℕ) (events : List Event) → HasGiven bytes events ahead self.old
+            → MatchResult result (λ _. HasGivenOf bytes events self.new) (FaultOf bytes events) }
         ensures counts { CountsError R.may_fail result self.old.ahead.failures self.new.ahead.failures }
     {
         match self.stage {
@@ -132,6 +174,8 @@ impl<R: Source> Reader<R> {
         ensures only { (events : List Event) → Records self.old events → MatchResult result (λ _. ⊤) IsExcuse }
         ensures next { OnOk result (self.new.stage ≡ Stage.Events) }
         ensures refused { IfErr result (FaultIn self.new.stage self.new.number self.new.ahead.held) }
+        ensures first { (bytes ahead : List ℕ) (events : List Event) → HasGiven bytes events ahead self.old
+            → MatchResult result (λ _. HasGivenOf bytes events self.new) (FaultOf bytes events) }
         ensures counts { CountsError R.may_fail result self.old.ahead.failures self.new.ahead.failures }
     {
         match self.stage {
@@ -152,6 +196,8 @@ impl<R: Source> Reader<R> {
         ensures only { (events : List Event) → Records self.old events → MatchResult result (λ _. ⊤) IsExcuse }
         ensures next { OnOk result (self.new.stage ≡ Stage.Events) }
         ensures refused { IfErr result (FaultIn self.new.stage self.new.number self.new.ahead.held) }
+        ensures first { (bytes ahead : List ℕ) (events : List Event) → HasGiven bytes events ahead self.old
+            → MatchResult result (λ _. HasGivenOf bytes events self.new) (FaultOf bytes events) }
         ensures counts { CountsError R.may_fail result self.old.ahead.failures self.new.ahead.failures }
     {
         self.take_opening()?;
@@ -173,6 +219,8 @@ impl<R: Source> Reader<R> {
         ensures falls { IfOk result (λ given. IfSome given (λ _. size_of self.new.ahead < size_of self.old.ahead)) }
         ensures never_rises { size_of self.new.ahead ≤ size_of self.old.ahead }
         ensures refused { IfErr result (FaultIn self.new.stage self.new.number self.new.ahead.held) }
+        ensures first { (bytes ahead : List ℕ) (events : List Event) → HasGiven bytes events ahead self.old
+            → MatchResult result (λ given. GaveFrom bytes events given self.new) (FaultOf bytes events) }
         ensures counts { CountsError R.may_fail result self.old.ahead.failures self.new.ahead.failures }
     {
         let given = pass_event(self.alloc, &mut self.input, self.number)?;
@@ -191,10 +239,59 @@ impl<R: Source> Reader<R> {
         ensures number { IfOk result (λ given. self.new.number ≡ number_after self.old.number given) }
         ensures falls { IfOk result (λ given. IfSome given (λ _. size_of self.new.ahead < size_of self.old.ahead)) }
         ensures refused { IfErr result (FaultIn self.new.stage self.new.number self.new.ahead.held) }
+        ensures first { (bytes ahead : List ℕ) (events : List Event) → HasGiven bytes events ahead self.old
+            → MatchResult result (λ given. GaveFrom bytes events given self.new) (FaultOf bytes events) }
         ensures counts { CountsError R.may_fail result self.old.ahead.failures self.new.ahead.failures }
     {
         self.take_start()?;
         self.take_event()
+    }
+
+    /// Takes the record in front, behind the opening.
+    fn take_record(&mut self) -> Result<Option<(Side, Packet, usize)>, TranscriptError>
+        requires { 1 ≤ rank self.old.stage }
+        ensures found { IfOk result (λ given. (before : List ℕ) → HasAhead self.old.ahead before
+            → GivesNext self.old.stage before given self.new) }
+        ensures measured { IfOk result (λ given. IfSome given IsMeasured) }
+        ensures kept { OnErr result (IsSameAhead self.old.ahead self.new.ahead × (self.new.stage ≡ self.old.stage)) }
+        ensures fault { self.new.fault ≡ self.old.fault }
+        ensures number { MatchResult result
+            (λ given. self.new.number ≡ number_then self.old.stage self.old.number given)
+            (λ _. self.new.number ≡ self.old.number) }
+        ensures falls { IfOk result (λ given. IfSome given (λ _. size_of self.new.ahead < size_of self.old.ahead)) }
+        ensures refused { IfErr result (FaultIn self.new.stage self.new.number self.new.ahead.held) }
+        ensures first { (before : List ℕ) → HasAhead self.old.ahead before
+            → IfErr result (λ error. IsExcuse error ⊎ FaultAhead self.old.stage self.old.number before error) }
+        ensures counts { CountsError R.may_fail result self.old.ahead.failures self.new.ahead.failures }
+    {
+        match pass_record(self.alloc, &mut self.input, self.stage, self.number)? {
+            Some((packet, length)) => {
+                self.number = number_past(self.stage, self.number);
+                self.stage = stage_behind(self.stage);
+                Ok(Some((sender(&packet), packet, length)))
+            }
+            None => Ok(None),
+        }
+    }
+
+    /// Takes the next record, behind the opening if that is next.
+    fn take_next_record(&mut self) -> Result<Option<(Side, Packet, usize)>, TranscriptError>
+        ensures found { IfOk result (λ given. (before : List ℕ) → HasAhead self.old.ahead before
+            → GivesNext self.old.stage before given self.new) }
+        ensures measured { IfOk result (λ given. IfSome given IsMeasured) }
+        ensures kept { OnErr result (TookNoRecord self.old self.new) }
+        ensures same { OnErr result (RecordsSame self.old self.new) }
+        ensures fault { self.new.fault ≡ self.old.fault }
+        ensures number { IfOk result
+            (λ given. self.new.number ≡ number_then self.old.stage self.old.number given) }
+        ensures falls { IfOk result (λ given. IfSome given (λ _. size_of self.new.ahead < size_of self.old.ahead)) }
+        ensures refused { IfErr result (FaultIn self.new.stage self.new.number self.new.ahead.held) }
+        ensures first { (before : List ℕ) → HasAhead self.old.ahead before
+            → IfErr result (λ error. IsExcuse error ⊎ FaultNext self.old.stage self.old.number before error) }
+        ensures counts { CountsError R.may_fail result self.old.ahead.failures self.new.ahead.failures }
+    {
+        self.take_opening()?;
+        self.take_record()
     }
 
     /// Reports an error: for good, unless memory ran out.
@@ -231,10 +328,15 @@ impl<R: Source> Reader<R> {
         // Unless memory runs out or the source fails, it returns the next event that is recorded.
         ensures only { (events : List Event) → self.old.fault ≡ None → Records self.old events
             → MatchResult result (λ given. Gives given events self.new) IsExcuse }
+        // Of known bytes it returns the event that is next, or the first fault.
+        ensures first { (bytes ahead : List ℕ) (events : List Event) → HasGiven bytes events ahead self.old
+            → MatchResult result (λ given. GaveFrom bytes events given self.new) (FaultOf bytes events) }
         ensures known { IsKnown self.old → IsKnown self.new }
         // Where memory ran out, the same events are to come.
         ensures no_memory { result ≡ Err TranscriptError.NoMemory → RecordsSame self.old self.new }
         ensures fault { OnOk result (self.new.fault ≡ None) }
+        // An error is for good, unless memory ran out.
+        ensures stays { IfErr result (λ error. error ≢ TranscriptError.NoMemory → self.new.fault ≡ Some error) }
         ensures number { IfOk result (λ given. self.new.number ≡ number_after self.old.number given) }
         // An error is of the record in hand.
         ensures refused { self.old.fault ≡ None
@@ -251,6 +353,58 @@ impl<R: Source> Reader<R> {
             Err(error) => {
                 self.report(error);
                 Err(error)
+            }
+        }
+    }
+
+    /// The next record, INIT and VERSION among them: the side that sent the packet, the packet, and how many bytes the
+    /// packet has with its length field; `None` at the end. Calls of `next` and of this function may be mixed.
+    ///
+    /// # Errors
+    ///
+    /// Those of `next`.
+    pub fn next_record(&mut self) -> Result<Option<(Side, Packet, usize)>, TranscriptError>
+        // An error that was returned comes again.
+        ensures again { (error : TranscriptError) → self.old.fault ≡ Some error
+            → (result ≡ Err error) × (self.new ≡ self.old) }
+        // A record that it returns is the next one; `None` is the end.
+        ensures found { IfOk result (λ given. (before : List ℕ) → HasAhead self.old.ahead before
+            → GivesNext self.old.stage before given self.new) }
+        ensures measured { IfOk result (λ given. IfSome given IsMeasured) }
+        // Unless memory runs out or the source fails, it returns the record that is next.
+        ensures only { (packet : Packet) (before rest : List ℕ) → self.old.fault ≡ None
+            → HasAhead self.old.ahead before → BeginsNext self.old.stage before packet rest
+            → MatchResult result (λ given. GivesPacket packet given × HasAhead self.new.ahead rest) IsExcuse }
+        // Where no record is next, it returns the first fault of known bytes.
+        ensures first { (before : List ℕ) → self.old.fault ≡ None → HasAhead self.old.ahead before
+            → IfErr result (λ error. IsExcuse error ⊎ FaultNext self.old.stage self.old.number before error) }
+        // The events among its records are given as those of `next` are.
+        ensures given { (bytes ahead : List ℕ) (events : List Event) → HasGiven bytes events ahead self.old
+            → IfOk result (λ given. HasGivenOf bytes (with_given events (event_in given)) self.new) }
+        // With an error it takes no record.
+        ensures kept { OnErr result (TookNoRecord self.old self.new) }
+        // Where memory ran out, the same events are to come.
+        ensures no_memory { result ≡ Err TranscriptError.NoMemory → RecordsSame self.old self.new }
+        ensures fault { OnOk result (self.new.fault ≡ None) }
+        // An error is for good, unless memory ran out.
+        ensures stays { IfErr result (λ error. error ≢ TranscriptError.NoMemory → self.new.fault ≡ Some error) }
+        ensures number { IfOk result
+            (λ given. self.new.number ≡ number_then self.old.stage self.old.number given) }
+        // An error is of the record in hand.
+        ensures refused { self.old.fault ≡ None
+            → IfErr result (FaultIn self.new.stage self.new.number self.new.ahead.held) }
+        ensures counts { self.old.fault ≡ None
+            → CountsError R.may_fail result self.old.ahead.failures self.new.ahead.failures }
+        ensures falls { IfOk result (λ given. IfSome given (λ _. size_of self.new.ahead < size_of self.old.ahead)) }
+    {
+        if let Some(fault) = self.fault {
+            return Err(fault);
+        }
+        match self.take_next_record() {
+            Ok(given) => Ok(given),
+            Err(fault) => {
+                self.report(fault);
+                Err(fault)
             }
         }
     }

@@ -8,14 +8,17 @@ ghost use Rattle.sftp_transcript.specs.Transcript.{transcript_opening, packet_of
 ghost use Rattle.sftp_transcript.specs.Records.{side_of_direction, read_fault, Begins, GivesOnly};
 ghost use Rattle.sftp_transcript.specs.Records.{IsInit, BeginsInit, IsVersion, BeginsVersion};
 ghost use Rattle.sftp_transcript.specs.Refused.{PacketFault, RecordFault, InitFault, VersionFault, EventFault};
+ghost use Rattle.sftp_transcript.specs.Refused.{KindFault, IsEventPacket};
+ghost use Rattle.sftp_transcript.specs.Packets.{MayCome};
 
 use crate::errors::TranscriptError;
 use crate::events::Event;
+use crate::stage::Stage;
 use sftp_wire::{Fault, Packet, Side, WireError, front};
 use std::alloc::Global;
 
 /// What a transcript file begins with.
-const OPENING: [u8; 8] = *b"SFTPTR01";
+pub const OPENING: [u8; 8] = *b"SFTPTR01";
 
 /// The version of the protocol (draft, section 4).
 const PROTOCOL_VERSION: u32 = 3;
@@ -38,21 +41,10 @@ pub(crate) fn take_init(alloc: Global, bytes: &[u8]) -> Result<&[u8], Transcript
     ensures refused { IfErr result (InitFault bytes.now) }
 {
     let (packet, rest) = take_record(alloc, bytes, 1)?;
-    if is_init(packet) {
+    if is_next(packet, Stage::Init) {
         Ok(rest)
     } else {
         Err(TranscriptError::Start { record: 1 })
-    }
-}
-
-/// Whether the packet is an INIT of version 3 or more. It takes the packet, so that no caller drops it.
-fn is_init(packet: Packet) -> bool
-    ensures yes { IsTrue result → IsInit packet }
-    ensures no { result ≡ false → IsInit packet → ⊥ }
-{
-    match packet {
-        Packet::Init { version, .. } => version >= PROTOCOL_VERSION,
-        Packet::Version { .. } | Packet::Request(_) | Packet::Reply(_) => false,
     }
 }
 
@@ -63,21 +55,10 @@ pub(crate) fn take_version(alloc: Global, bytes: &[u8]) -> Result<&[u8], Transcr
     ensures refused { IfErr result (VersionFault bytes.now) }
 {
     let (packet, rest) = take_record(alloc, bytes, 2)?;
-    if is_version(packet) {
+    if is_next(packet, Stage::Version) {
         Ok(rest)
     } else {
         Err(TranscriptError::Start { record: 2 })
-    }
-}
-
-/// Whether the packet is a VERSION 3. It takes the packet, so that no caller drops it.
-fn is_version(packet: Packet) -> bool
-    ensures yes { IsTrue result → IsVersion packet }
-    ensures no { result ≡ false → IsVersion packet → ⊥ }
-{
-    match packet {
-        Packet::Version { version, .. } => version == PROTOCOL_VERSION,
-        Packet::Init { .. } | Packet::Request(_) | Packet::Reply(_) => false,
     }
 }
 
@@ -109,6 +90,92 @@ fn event_of(packet: Packet, number: u64) -> Result<Event, TranscriptError>
         Packet::Reply(reply) => Ok(Event::Replied(reply)),
         Packet::Init { .. } => Err(TranscriptError::Start { record: number }),
         Packet::Version { .. } => Err(TranscriptError::Start { record: number }),
+    }
+}
+
+/// The packet of the record in front, if it may come at this stage, and the bytes behind it. `Start` if no byte is left
+/// or the packet may not come.
+pub(crate) fn take_next(
+    alloc: Global,
+    bytes: &[u8],
+    stage: Stage,
+    number: u64,
+) -> Result<(Packet, &[u8]), TranscriptError>
+    ensures found { IfOk result (λ taken. MayCome stage taken.0 × Begins bytes.now taken.0 taken.1.now) }
+    ensures shorter { IfOk result (λ taken. length taken.1.now < length bytes.now) }
+    ensures refused { IfErr result (KindFault (MayCome stage) number bytes.now) }
+{
+    let (packet, rest) = take_record(alloc, bytes, number)?;
+    let packet = next_packet(packet, stage, number)?;
+    Ok((packet, rest))
+}
+
+/// The packet, if it may come at this stage; else `Start`.
+fn next_packet(packet: Packet, stage: Stage, number: u64) -> Result<Packet, TranscriptError>
+    ensures found { IfOk result (λ given. (given ≡ packet) × MayCome stage packet) }
+    ensures none { IfErr result (λ _. MayCome stage packet → ⊥) }
+    ensures start { IfErr result (λ error. error ≡ TranscriptError.Start number) }
+{
+    if may_come(&packet, stage) {
+        Ok(packet)
+    } else {
+        Err(TranscriptError::Start { record: number })
+    }
+}
+
+/// Whether the packet may come at this stage. It takes the packet, so that no caller drops it.
+fn is_next(packet: Packet, stage: Stage) -> bool
+    ensures yes { IsTrue result → MayCome stage packet }
+    ensures no { result ≡ false → MayCome stage packet → ⊥ }
+{
+    may_come(&packet, stage)
+}
+
+/// Whether the packet may come at this stage.
+fn may_come(packet: &Packet, stage: Stage) -> bool
+    ensures yes { IsTrue result → MayCome stage packet.now }
+    ensures no { result ≡ false → MayCome stage packet.now → ⊥ }
+{
+    match stage {
+        Stage::Opening => is_init(packet),
+        Stage::Init => is_init(packet),
+        Stage::Version => is_version(packet),
+        Stage::Events => is_event(packet),
+    }
+}
+
+/// Whether the packet is an INIT of version 3 or more.
+fn is_init(packet: &Packet) -> bool
+    ensures yes { IsTrue result → IsInit packet.now }
+    ensures no { result ≡ false → IsInit packet.now → ⊥ }
+{
+    match packet {
+        Packet::Init { version, .. } => *version >= PROTOCOL_VERSION,
+        Packet::Version { .. } | Packet::Request(_) | Packet::Reply(_) => false,
+    }
+}
+
+/// Whether the packet is a VERSION 3.
+fn is_version(packet: &Packet) -> bool
+    ensures yes { IsTrue result → IsVersion packet.now }
+    ensures no { result ≡ false → IsVersion packet.now → ⊥ }
+{
+    match packet {
+        Packet::Version { version, .. } => *version == PROTOCOL_VERSION,
+        Packet::Init { .. } | Packet::Request(_) | Packet::Reply(_) => false,
+    }
+}
+
+/// Whether the packet is a request or a reply.
+fn is_event(packet: &Packet) -> bool
+    ensures yes { IsTrue result → IsEventPacket packet.now }
+    ensures no { result ≡ false → IsEventPacket packet.now → ⊥ }
+{
+    match packet {
+        Packet::Request(_) => true,
+        Packet::Reply(_) => true,
+        Packet::Init { .. } => false,
+        Packet::Version { .. } => false,
     }
 }
 

@@ -1,8 +1,12 @@
 //! What a reader of a transcript file takes from its input: the opening, the first two records, and each later one.
-ghost use Rattle.std.specs.Prelude.{◌≡◌, ◌<◌, ◌≤◌, List, ℕ, [], Some, None, OnOk, OnErr, IfOk, IfErr};
-ghost use Rattle.std.specs.Prelude.{IfSome, MatchResult};
+ghost use Rattle.std.specs.Prelude.{◌≡◌, ◌⊎◌, ◌<◌, ◌≤◌, List, ℕ, [], Some, None, OnOk, OnErr, IfOk, IfErr};
+ghost use Rattle.std.specs.Prelude.{IfSome, MatchResult, IsTrue, false, length};
+ghost use Rattle.sftp_wire.specs.Spelling.{spelling};
 ghost use Rattle.sftp_transcript.specs.declared.events.Event.{Event};
 ghost use Rattle.sftp_transcript.specs.Ahead.{IsSameAhead, size_of};
+ghost use Rattle.sftp_transcript.specs.Begun.{FaultAhead};
+ghost use Rattle.sftp_transcript.specs.Packets.{TookPacket, record_number};
+ghost use Rattle.sftp_transcript.specs.Recorded.{rank};
 ghost use Rattle.sftp_transcript.specs.Records.{BeginsInit, BeginsVersion};
 ghost use Rattle.sftp_transcript.specs.Refused.{FaultIn};
 ghost use Rattle.sftp_transcript.specs.Steps.{HasAhead, IsExcuse, CountsError, IsOpened, Took, BeginsEvent, TookEvent};
@@ -10,9 +14,10 @@ ghost use Rattle.sftp_transcript.specs.Steps.{HasAhead, IsExcuse, CountsError, I
 use crate::errors::TranscriptError;
 use crate::events::Event;
 use crate::input::Input;
-use crate::records::{take_event, take_init, take_opening, take_version};
+use crate::records::{take_event, take_init, take_next, take_opening, take_version};
 use crate::stage::Stage;
 use crate::streams::Source;
+use sftp_wire::Packet;
 use std::alloc::Global;
 
 /// Takes the opening.
@@ -23,6 +28,8 @@ pub(crate) fn pass_opening<R: Source>(input: &mut Input<R>) -> Result<(), Transc
     ensures same { OnErr result (IsSameAhead input.old input.new) }
     ensures never_rises { size_of input.new ≤ size_of input.old }
     ensures refused { IfErr result (FaultIn Stage.Opening 0 input.new.held) }
+    ensures first { (before : List ℕ) → HasAhead input.old before
+        → IfErr result (λ error. IsExcuse error ⊎ FaultAhead Stage.Opening 0 before error) }
     ensures counts { CountsError R.may_fail result input.old.failures input.new.failures }
 {
     input.fill_opening()?;
@@ -42,6 +49,8 @@ pub(crate) fn pass_init<R: Source>(
     ensures same { OnErr result (IsSameAhead input.old input.new) }
     ensures never_rises { size_of input.new ≤ size_of input.old }
     ensures refused { IfErr result (FaultIn Stage.Init 0 input.new.held) }
+    ensures first { (before : List ℕ) → HasAhead input.old before
+        → IfErr result (λ error. IsExcuse error ⊎ FaultAhead Stage.Init 0 before error) }
     ensures counts { CountsError R.may_fail result input.old.failures input.new.failures }
 {
     input.fill_record(1)?;
@@ -61,6 +70,8 @@ pub(crate) fn pass_version<R: Source>(
     ensures same { OnErr result (IsSameAhead input.old input.new) }
     ensures never_rises { size_of input.new ≤ size_of input.old }
     ensures refused { IfErr result (FaultIn Stage.Version 0 input.new.held) }
+    ensures first { (before : List ℕ) → HasAhead input.old before
+        → IfErr result (λ error. IsExcuse error ⊎ FaultAhead Stage.Version 0 before error) }
     ensures counts { CountsError R.may_fail result input.old.failures input.new.failures }
 {
     input.fill_record(2)?;
@@ -84,6 +95,8 @@ pub(crate) fn pass_event<R: Source>(
     ensures never_rises { size_of input.new ≤ size_of input.old }
     ensures falls { IfOk result (λ given. IfSome given (λ _. size_of input.new < size_of input.old)) }
     ensures refused { IfErr result (FaultIn Stage.Events number input.new.held) }
+    ensures first { (before : List ℕ) → HasAhead input.old before
+        → IfErr result (λ error. IsExcuse error ⊎ FaultAhead Stage.Events number before error) }
     ensures counts { CountsError R.may_fail result input.old.failures input.new.failures }
 {
     input.fill_record(number)?;
@@ -94,4 +107,61 @@ pub(crate) fn pass_event<R: Source>(
     let left = rest.len();
     input.take(input.held().len() - left);
     Ok(Some(event))
+}
+
+/// The number of the record at this stage, given that of the next event's record.
+fn record_number(stage: Stage, number: u64) -> u64
+    ensures { result ≡ record_number stage number }
+{
+    match stage {
+        Stage::Opening => 1,
+        Stage::Init => 1,
+        Stage::Version => 2,
+        Stage::Events => number,
+    }
+}
+
+/// Whether the transcript may end at this stage, and no bytes are held.
+fn is_end(held: &[u8], stage: Stage) -> bool
+    ensures yes { IsTrue result → (stage ≡ Stage.Events) × (held.now ≡ []) }
+    ensures no { result ≡ false → stage ≡ Stage.Events → 0 < length held.now }
+{
+    match stage {
+        Stage::Opening => false,
+        Stage::Init => false,
+        Stage::Version => false,
+        Stage::Events => held.is_empty(),
+    }
+}
+
+/// Takes the record in front, behind the opening, and returns its packet and the number of the packet's bytes; `None`
+/// at the end. The number is that of the next event's record.
+pub(crate) fn pass_record<R: Source>(
+    alloc: Global,
+    input: &mut Input<R>,
+    stage: Stage,
+    number: u64,
+) -> Result<Option<(Packet, usize)>, TranscriptError>
+    requires { 1 ≤ rank stage }
+    ensures found { IfOk result (λ given. (before : List ℕ) → HasAhead input.old before
+        → TookPacket stage before given input.new) }
+    ensures measured { IfOk result (λ given. IfSome given (λ taken. taken.1 ≡ length (spelling taken.0))) }
+    ensures same { OnErr result (IsSameAhead input.old input.new) }
+    ensures never_rises { size_of input.new ≤ size_of input.old }
+    ensures falls { IfOk result (λ given. IfSome given (λ _. size_of input.new < size_of input.old)) }
+    ensures refused { IfErr result (FaultIn stage number input.new.held) }
+    ensures first { (before : List ℕ) → HasAhead input.old before
+        → IfErr result (λ error. IsExcuse error ⊎ FaultAhead stage number before error) }
+    ensures counts { CountsError R.may_fail result input.old.failures input.new.failures }
+{
+    let place = record_number(stage, number);
+    input.fill_record(place)?;
+    if is_end(input.held(), stage) {
+        return Ok(None);
+    }
+    let (packet, rest) = take_next(alloc, input.held(), stage, place)?;
+    let left = rest.len();
+    let taken = input.held().len() - left;
+    input.take(taken);
+    Ok(Some((packet, taken - 1)))
 }

@@ -12,14 +12,11 @@ ghost use Rattle.sftp_transcript.specs.Log.{FailsToRecord, FailsToFlush, FailedB
 ghost use Rattle.sftp_transcript.specs.Log.{IsBadPacket};
 
 use crate::errors::TranscriptError;
-use crate::records::read_fault;
+use crate::records::{OPENING, read_fault};
 use crate::streams::{Failed, Sink};
 use sftp_wire::{Fault, PACKET_LIMIT, Packet, Side, encode};
 use std::alloc::Global;
 use std::marker::Model;
-
-/// What a transcript file begins with.
-const OPENING: [u8; 8] = *b"SFTPTR01";
 
 /// Writes all of the bytes.
 ///
@@ -71,7 +68,7 @@ fn put_record<L: Sink>(sink: &mut L, records: u64, side: Side, spelled: &[u8]) -
 }
 
 /// Who sends a packet.
-fn sender(packet: &Packet) -> Side
+pub(crate) fn sender(packet: &Packet) -> Side
     ensures { result ≡ side_of packet.now }
 {
     match packet {
@@ -255,7 +252,8 @@ impl<L: Sink> Writer<L> {
         self.records.append(side, &self.spelled)
     }
 
-    /// Writes the record of a packet of that side whose bytes are at hand, as `record` does. It takes no memory.
+    /// Writes the record of a packet of that side whose bytes are at hand, as `record` does. It takes no memory. The
+    /// bytes are not looked at: nothing is promised where they are not those of one packet of that side.
     ///
     /// # Errors
     ///

@@ -1,15 +1,17 @@
 -- A worked example: the bytes of a transcript file record its events.
 use Rattle.std.proofs.Common.{◌≡◌, nat_lt, ℕ, ◌^◌, ◌<◌, ◌≤◌, ◌++◌, length, codes, List, []}
-use Rattle.std.proofs.Common.{◌∷◌, IsTrue, refl, lit<, lit≤, ltb-true}
+use Rattle.std.proofs.Common.{◌∷◌, IsTrue, refl, sym, ◌∙◌, lit<, lit≤, ltb-true}
 use Rattle.std.specs.List.{list_all, flat_map, AllByRecursion}
 use Rattle.std.proofs.lemmas.Bool.{and_parts}
+use Rattle.std.proofs.lemmas.List.{append-nil}
 use Rattle.sftp_wire.specs.declared.packets.Packet.TheVariants.{Init, Version}
 use Rattle.sftp_wire.specs.Spelling.{spelling, AreBytes, FitsString, FitsPair, FitsAttrs, HasSpelling}
 use Rattle.sftp_wire.specs.Examples.{hex, no_attributes, server_extensions}
 use Rattle.sftp_transcript.specs.declared.events.Event.{Event}
 use Rattle.sftp_transcript.specs.Transcript.{IsEvent, IsRecord, event_record, transcript_opening, packet_of}
+use Rattle.sftp_transcript.specs.Begun.{BeginsRecord}
 use Rattle.sftp_transcript.specs.Examples.{mkdir, rmdir, status, handshake_bytes}
-use Rattle.sftp_audit.specs.Examples.{backward_replies, backward_replies_bytes}
+use Rattle.sftp_audit.specs.Examples.{backward_replies, backward_replies_bytes, removal_done_bytes}
 
 bytes_by : (bytes : List ℕ) → IsTrue (list_all (λ b. nat_lt b 256) bytes) → AreBytes bytes
 bytes_by [] is = tt
@@ -61,16 +63,16 @@ version_spelled : HasSpelling (Version 3 server_extensions)
 unfolding spelling
 version_spelled = record { fields = (lit< tt, extensions_fit); whole = lit≤ tt; handle = tt; canonical = refl }
 
-events_spelled : AllByRecursion IsEvent (backward_replies 4)
+backward_spelled : (code : ℕ) → IsEvent (status 3 code) → AllByRecursion IsEvent (backward_replies code)
 unfolding spelling
-events_spelled = (
+backward_spelled code refused = (
   mkdir_spelled 1 (codes "/a") (lit< tt) (string_by (codes "/a") refl (lit< tt)) (lit≤ tt),
   (
     mkdir_spelled 2 (codes "/a/b") (lit< tt) (string_by (codes "/a/b") refl (lit< tt)) (lit≤ tt),
     (
       rmdir_spelled 3 (codes "/a") (lit< tt) (string_by (codes "/a") refl (lit< tt)) (lit≤ tt),
       (
-        status_spelled 3 4 (lit< tt) (lit< tt) (lit≤ tt),
+        refused,
         (
           status_spelled 2 0 (lit< tt) (lit< tt) (lit≤ tt),
           (status_spelled 1 0 (lit< tt) (lit< tt) (lit≤ tt), tt),
@@ -79,6 +81,14 @@ events_spelled = (
     ),
   ),
 )
+
+refusal_spelled : IsEvent (status 3 4)
+unfolding spelling
+refusal_spelled = status_spelled 3 4 (lit< tt) (lit< tt) (lit≤ tt)
+
+success_spelled : IsEvent (status 3 0)
+unfolding spelling
+success_spelled = status_spelled 3 0 (lit< tt) (lit< tt) (lit≤ tt)
 
 -- ---- the bytes
 
@@ -117,4 +127,27 @@ unfolding spelling hex
 backwards_are = refl
 
 pub backwards_recorded : IsRecord (backward_replies 4) backward_replies_bytes
-backwards_recorded = recorded_by (backward_replies 4) backward_replies_bytes events_spelled backwards_are
+backwards_recorded =
+    recorded_by (backward_replies 4) backward_replies_bytes (backward_spelled 4 refusal_spelled) backwards_are
+
+removal_done_is : removal_done_bytes ≡ transcript_opening ++ opened_with (flat_map event_record (backward_replies 0))
+unfolding spelling hex
+removal_done_is = refl
+
+removal_done_recorded : IsRecord (backward_replies 0) removal_done_bytes
+removal_done_recorded =
+    recorded_by (backward_replies 0) removal_done_bytes (backward_spelled 0 success_spelled) removal_done_is
+
+-- a file that records events begins with them, and nothing follows
+begins_all : (events : List Event) (bytes : List ℕ) → IsRecord events bytes → BeginsRecord events bytes []
+begins_all events bytes recorded = record {
+  opened = recorded.opened;
+  records = recorded.records;
+  opening = recorded.opening;
+  handshake = recorded.handshake;
+  spelled = recorded.recorded.spelled;
+  records_are = recorded.recorded.bytes_are ∙ sym (append-nil (flat_map event_record events));
+}
+
+pub removal_done_begins : BeginsRecord (backward_replies 0) removal_done_bytes []
+removal_done_begins = begins_all (backward_replies 0) removal_done_bytes removal_done_recorded

@@ -1,6 +1,7 @@
 //! Transcript files that are read: from sources that fail at each place or give one byte a call, and that end anywhere.
 use super::Torn;
 use sftp_transcript::{Event, Memory, Reader, Source, Tally, TranscriptError};
+use sftp_wire::Side;
 use std::alloc::Global;
 use std::test::Fail;
 
@@ -89,5 +90,34 @@ fn stops_where_the_source_fails(rt: HostRuntime) -> Result<(), Fail> {
         let failed = Given::Refused(TranscriptError::Io { record });
         assert!(rt; torn == events_then(place, failed), "{place}");
     }
+    Ok(())
+}
+
+/// The side and the packet's length of each record: INIT, VERSION, MKDIR and STATUS.
+const RECORDS: [(Side, usize); 4] = [
+    (Side::Client, 9),
+    (Side::Server, 9),
+    (Side::Client, 19),
+    (Side::Server, 21),
+];
+
+#[test]
+fn gives_each_record(rt: HostRuntime) -> Result<(), Fail> {
+    let mut reader = Reader::new(rt.alloc(), Memory::new(SESSION))?;
+    for (side, length) in RECORDS {
+        let given = reader.next_record()?.map(|(sent, _, count)| (sent, count));
+        assert!(rt; given == Some((side, length)), "{length}");
+    }
+    assert!(rt; reader.next_record()?.is_none());
+    Ok(())
+}
+
+#[test]
+fn mixes_records_and_events(rt: HostRuntime) -> Result<(), Fail> {
+    let mut reader = Reader::new(rt.alloc(), Memory::new(SESSION))?;
+    assert!(rt; reader.next_record()?.is_some());
+    assert!(rt; next_of(&mut reader) == Given::Asked);
+    assert!(rt; reader.next_record()?.is_some());
+    assert!(rt; next_of(&mut reader) == Given::End);
     Ok(())
 }

@@ -18,7 +18,7 @@ side_from_direction Client Server e = absurd (omega arith)
 side_from_direction Server Client e = absurd (omega arith)
 side_from_direction Server Server e = refl
 
-event_from_packet : (event other : Event) → packet_of event ≡ packet_of other → event ≡ other
+pub event_from_packet : (event other : Event) → packet_of event ≡ packet_of other → event ≡ other
 event_from_packet (Asked x) (Asked y) e = cc
 event_from_packet (Asked x) (Replied y) e = cc
 event_from_packet (Replied x) (Asked y) e = cc

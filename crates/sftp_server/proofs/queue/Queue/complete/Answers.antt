@@ -1,16 +1,17 @@
-use Rattle.std.proofs.Common.{◌≡◌, ℕ, ◌+◌, Some, None, refl, ap, sym, ◌∙◌, arith, length, slice_get}
+use Rattle.std.proofs.Common.{◌+◌, refl, ap, sym, ◌∙◌, arith, length}
 use Rattle.std.proofs.lemmas.Bool.{ltb-false}
 use Rattle.std.proofs.lemmas.Option.{slice_get_read, same_Some}
 use Rattle.sftp_server.specs.declared.queue.Progress.TheVariants.{Done}
-use Rattle.sftp_server.specs.Queue.{with_progress}
-use Rattle.sftp_server.proofs.Queues.{queue-done, stored, first_some, first_none, done_count-few}
+use Rattle.sftp_server.proofs.Queues.{queue-done, stored, first_some, first_none, positions-few, length-progress}
 use Rattle.sftp_server.proofs.queue.Queue.complete.Goals as goal
 
-pub overflow_add-self-in-Some : goal.overflow_add-self-in-Some
-overflow_add-self-in-Some c =
+pub push_reserved-requires : goal.push_reserved-requires
+push_reserved-requires c =
     let old = c.self.inside in
-    let few = done_count-few old.entries.items in
-    omega (arith, few, c.self.invariant.counted, old.entries.ok.0, old.entries.small)
+    let some = c.in-Some.ensures.variant.0 refl in
+    let few = positions-few old.entries.items old.first_pending c.self.invariant.0.split in
+    let size = ap length c.self.invariant.0.listed in
+    omega (arith, few, size, some, old.entries.ok.0, old.done.ok, c.self.invariant.1)
 
 pub invariant_of-self : goal.invariant_of-self
 invariant_of-self c =
@@ -19,10 +20,13 @@ invariant_of-self c =
     let some = c.in-Some.ensures.variant.0 refl in
     let at = slice_get_read old.entries.items old.entries.len old.first_pending entry old.entries.ok.0 some
     c.in-Some.ensures.value in
-    rw (stored old.entries.items old.first_pending entry (Done c.args.reply) at)
-    (queue-done old.entries.items old.ids.entries old.first_pending old.done (old.first_pending + 1)
-    (old.done + 1) c.args.reply c.self.invariant (omega (arith, some, old.entries.ok.0)) (omega arith)
-    (omega arith))
+    let done = stored old.entries.items old.first_pending entry (Done c.args.reply) at in
+    let same_length = length-progress old.entries.items old.first_pending (Done c.args.reply) in (
+      rw (done, c.push_reserved.ensures.items)
+          (queue-done old.entries.items old.ids.entries old.first_pending (old.first_pending + 1) old.done.items
+          c.args.reply c.self.invariant.0 (omega (arith, some, old.entries.ok.0)) (omega arith)),
+      rw (done, same_length, c.push_reserved.ensures.capacity) c.self.invariant.1,
+    )
 
 pub returns-in-Some : goal.returns-in-Some
 returns-in-Some c = λ k is.
@@ -31,7 +35,7 @@ returns-in-Some c = λ k is.
     let some = c.in-Some.ensures.variant.0 refl in
     let at = slice_get_read old.entries.items old.entries.len old.first_pending entry old.entries.ok.0 some
     c.in-Some.ensures.value in
-    let first = first_some old.first_pending old.entries.items c.self.invariant.split (omega
+    let first = first_some old.first_pending old.entries.items c.self.invariant.0.split (omega
     (arith, some, old.entries.ok.0)) in
     let same = same_Some k old.first_pending (sym is ∙ rw (← c.self.view_is) first) in
     rw (same, ← c.self.view_is) (stored old.entries.items old.first_pending entry (Done c.args.reply) at)
@@ -39,5 +43,5 @@ returns-in-Some c = λ k is.
 pub returns-in_default : goal.returns-in_default
 returns-in_default c = absurd (
     let old = c.self.inside in
-    c.requires (rw (← c.self.view_is) (first_none old.first_pending old.entries.items c.self.invariant.split
+    c.requires (rw (← c.self.view_is) (first_none old.first_pending old.entries.items c.self.invariant.0.split
     (ltb-false old.first_pending _ (sym c.in_default.ensures.item.0)))))

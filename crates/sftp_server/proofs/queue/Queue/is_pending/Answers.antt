@@ -8,7 +8,7 @@ returns-then-self-k c =
     let old = c.self.inside in
     rw (
       ← c.self.view_is,
-      pending_at old.first_pending old.entries.items c.args.k c.self.invariant.split,
+      pending_at old.first_pending old.entries.items c.args.k c.self.invariant.0.split,
       le-leb
           old.first_pending c.args.k c.if-self-k.true,
       c.len.ensures,
@@ -19,7 +19,7 @@ returns-else-self-k c =
     let old = c.self.inside in
     rw (
       ← c.self.view_is,
-      pending_at old.first_pending old.entries.items c.args.k c.self.invariant.split,
+      pending_at old.first_pending old.entries.items c.args.k c.self.invariant.0.split,
       lt-leb
           old.first_pending c.args.k c.if-self-k.false,
     ) refl

@@ -9,7 +9,7 @@ returns-in-Some c =
     let old = c.self.inside in
     let entry = c.in-Some.entry.now in
     rw (← c.self.view_is)
-    (sym (next_some old.first_pending old.entries.items entry c.self.invariant.split
+    (sym (next_some old.first_pending old.entries.items entry c.self.invariant.0.split
     (slice_get_read old.entries.items old.entries.len old.first_pending entry old.entries.ok.0
     (c.in-Some.ensures.variant.0 refl) c.in-Some.ensures.lookup)))
 
@@ -17,5 +17,5 @@ pub returns-in-None : goal.returns-in-None
 returns-in-None c =
     let old = c.self.inside in
     rw (← c.self.view_is)
-    (sym (next_none old.first_pending old.entries.items c.self.invariant.split (ltb-false old.first_pending _
+    (sym (next_none old.first_pending old.entries.items c.self.invariant.0.split (ltb-false old.first_pending _
     (sym c.in-None.ensures.item.0))))

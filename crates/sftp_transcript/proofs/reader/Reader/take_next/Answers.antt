@@ -22,3 +22,13 @@ returns-clause-same g c =
     on_err_then c.take_event.result
     (RecordsSame-then c.args.self.now c.take_start.new.self c.take_event.new.self c.take_start.ensures.same)
     c.take_event.ensures.same
+
+pub returns-in_err-take_start-clause-first : goal.returns-in_err-take_start-clause-first
+returns-in_err-take_start-clause-first g c = λ bytes ahead events given.
+    let p = err_from_is_err_and c.from_residual.result c.from_residual.ensures.1 in
+    rw (p.1, p.2) (c.in_err-take_start.ensures.first bytes ahead events given)
+
+pub returns-clause-first : goal.returns-clause-first
+returns-clause-first g c = λ bytes ahead events given.
+    let begun = c.in_ok-take_start.ensures.first bytes ahead events given in
+    c.take_event.ensures.first bytes begun.0 events begun.1

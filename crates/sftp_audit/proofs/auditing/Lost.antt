@@ -1,0 +1,282 @@
+-- What an auditor refuses is lost: whatever else comes, the tree explains no such session.
+use Rattle.std.proofs.Common.{◌≡◌, ◌==◌, nat_lt, ℕ, ◌<◌, ◌≤◌, Bool, true, false, List, [], ◌∷◌, ◌++◌}
+use Rattle.std.proofs.Common.{Option, Some, None, if◌then◌else◌, refl, sym, ap, ◌∙◌, subst, append_assoc, arith}
+use Rattle.std.proofs.lemmas.Bool.{and_parts, and_from, ltb-true, lt-ltb, eq-eqb}
+use Rattle.sftp_wire.specs.declared.packets.Request.{Request}
+use Rattle.sftp_wire.specs.declared.packets.Reply.{Reply}
+use Rattle.sftp_handles.specs.State.{State}
+use Rattle.sftp_handles.specs.Allowed.{Allowed}
+use Rattle.sftp_transcript.specs.declared.events.Event.{Event}
+use Rattle.sftp_transcript.specs.declared.events.Event.TheVariants.{Asked, Replied}
+use Rattle.sftp_transcript.specs.Explained.{Turn, closed, waiting, broken, after_event, turn_after, Matching}
+use Rattle.sftp_transcript.specs.Explained.{next_reply}
+use Rattle.sftp_transcript.specs.Explained.{exchanges_of, leading_pairs, requests_before_reply, in_window, window, Run}
+use Rattle.sftp_transcript.specs.Explained.{Explained}
+use Rattle.sftp_transcript.specs.Ledger as ledgers
+use Rattle.sftp_transcript.specs.Sound.{Sound}
+use Rattle.sftp_audit.specs.declared.errors.Refusal.{Refusal}
+use Rattle.sftp_audit.specs.declared.errors.Refusal.TheVariants as refusals
+use Rattle.sftp_audit.specs.declared.exchanges.Exchange.{Exchange}
+use Rattle.sftp_audit.specs.Exchanges.{recorded_exchanges, is_answered, is_open, ledger_of}
+use Rattle.sftp_audit.specs.Auditor.{Refuses, LacksReply, IsFirstWrong}
+use Rattle.sftp_audit.proofs.steps.RunEnds.{run_end, run_end-of_run}
+use Rattle.sftp_audit.proofs.auditing.Lists.{ledger_of-recorded, is_open-unsettled, leading_pairs-settled}
+use Rattle.sftp_audit.proofs.auditing.Lists.{first_unsettled}
+use Rattle.sftp_audit.proofs.auditing.Turns.{waits_if_open, window-full, run-split, turn_after-append, broken_stays}
+
+-- ---- out of turn
+
+-- no session goes on behind an event that comes out of turn
+out_of_turn : (id : ℕ) (events more : List Event) → turn_after id closed events ≡ broken → Matching (events ++ more) → ⊥
+out_of_turn id events more turn matching =
+    let end : turn_after id closed (events ++ more) ≡ closed = matching id in
+    let ends : turn_after id closed (events ++ more) ≡ broken =
+    turn_after-append id closed events more ∙ ap (λ (t : Turn). turn_after id t more) turn ∙ broken_stays id more in
+    let same : broken ≡ closed = sym ends ∙ end in
+    absurd cc
+
+-- the turn behind one event more
+turn_behind : (id : ℕ) (events : List Event) (event : Event) (turn : Turn) → turn_after id closed events ≡ turn
+    → turn_after id closed (events ++ event ∷ []) ≡ after_event id event turn
+unfolding turn_after
+turn_behind id events event turn is =
+    turn_after-append id closed events (event ∷ []) ∙ ap (λ (t : Turn). after_event id event t) is
+
+one_more_event : (events : List Event) (event : Event) (more : List Event)
+    → (events ++ event ∷ []) ++ more ≡ events ++ event ∷ more
+one_more_event events event more = append_assoc events (event ∷ []) more
+
+-- a request of an id that waits
+second_request : (events : List Event) (request : Request) (more : List Event)
+    → turn_after request.id closed events ≡ waiting → Matching (events ++ Asked request ∷ more) → ⊥
+second_request events request more waits matching =
+    let same : (request.id == request.id) ≡ true = eq-eqb request.id request.id refl in
+    let turn : turn_after request.id closed (events ++ Asked request ∷ []) ≡ broken =
+    turn_behind request.id events (Asked request) waiting waits
+    ∙ ap (λ (b : Bool). if b then broken else waiting) same in
+    out_of_turn request.id (events ++ Asked request ∷ []) more turn
+    (subst Matching (sym (one_more_event events (Asked request) more)) matching)
+
+-- a reply of an id that does not wait
+reply_unasked : (events : List Event) (reply : Reply) (more : List Event) → turn_after reply.id closed events ≡ closed
+    → Matching (events ++ Replied reply ∷ more) → ⊥
+reply_unasked events reply more shut matching =
+    let same : (reply.id == reply.id) ≡ true = eq-eqb reply.id reply.id refl in
+    let turn : turn_after reply.id closed (events ++ Replied reply ∷ []) ≡ broken =
+    turn_behind reply.id events (Replied reply) closed shut ∙ ap (λ (b : Bool). if b then broken else closed) same in
+    out_of_turn reply.id (events ++ Replied reply ∷ []) more turn
+    (subst Matching (sym (one_more_event events (Replied reply) more)) matching)
+
+-- ---- replies that are still to come
+
+abbrev or_later : Option Reply → Option Reply → Option Reply
+or_later None later = later
+or_later (Some reply) later = Some reply
+
+next_reply-append : (id : ℕ) (xs ys : List Event)
+    → next_reply id (xs ++ ys) ≡ or_later (next_reply id xs) (next_reply id ys)
+unfolding next_reply
+next_reply-append id [] ys = refl
+next_reply-append id (Asked request ∷ xs) ys = next_reply-append id xs ys
+next_reply-append id (Replied reply ∷ xs) ys = by (next_reply-append id xs ys) (reply.id == id)
+  where
+    by : next_reply id (xs ++ ys) ≡ or_later (next_reply id xs) (next_reply id ys) → (b : Bool)
+        → (if b then Some reply else next_reply id (xs ++ ys))
+        ≡ or_later (if b then Some reply else next_reply id xs) (next_reply id ys)
+    by rest true = refl
+    by rest false = rest
+
+with_replies-first : (request : Request) (reply : Option Reply) (others : List ledgers.Exchange) (more : List Event)
+    → ledgers.with_replies ((request, reply) ∷ others) more
+    ≡ (request, or_later reply (next_reply request.id more)) ∷ ledgers.with_replies others more
+unfolding ledgers.with_replies
+with_replies-first request None others more = refl
+with_replies-first request (Some reply) others more = refl
+
+-- the exchanges of events, and of more events behind them
+exchanges_of-append : (xs ys : List Event)
+    → exchanges_of (xs ++ ys) ≡ ledgers.with_replies (exchanges_of xs) ys ++ exchanges_of ys
+unfolding exchanges_of ledgers.with_replies
+exchanges_of-append [] ys = refl
+exchanges_of-append (Asked request ∷ xs) ys =
+    let own : Option Reply = next_reply request.id xs in
+    let either : Option Reply = or_later own (next_reply request.id ys) in
+    ap (λ (o : Option Reply). (request, o) ∷ exchanges_of (xs ++ ys)) (next_reply-append request.id xs ys)
+    ∙ ap (λ (l : List ledgers.Exchange). (request, either) ∷ l) (exchanges_of-append xs ys)
+    ∙ ap (λ (l : List ledgers.Exchange). l ++ exchanges_of ys)
+    (sym (with_replies-first request own (exchanges_of xs) ys))
+exchanges_of-append (Replied reply ∷ xs) ys = exchanges_of-append xs ys
+
+-- a list begins with another one
+record BeginsWith (xs ys : List (Request × Reply)) : Type 0 where
+  others : List (Request × Reply)
+  are : ys ≡ xs ++ others
+
+leading_pairs-begin : (ledger : List ledgers.Exchange) (more : List Event) (rest : List ledgers.Exchange)
+    → BeginsWith (leading_pairs ledger) (leading_pairs (ledgers.with_replies ledger more ++ rest))
+unfolding leading_pairs ledgers.with_replies
+leading_pairs-begin [] more rest = record { others = leading_pairs rest; are = refl }
+leading_pairs-begin ((request, None) ∷ ledger) more rest = record {
+  others = leading_pairs ((request, next_reply request.id more) ∷ (ledgers.with_replies ledger more ++ rest));
+  are = refl;
+}
+leading_pairs-begin ((request, Some reply) ∷ ledger) more rest =
+    let found = leading_pairs-begin ledger more rest in
+    record { others = found.others; are = ap (λ (l : List (Request × Reply)). (request, reply) ∷ l) found.are }
+
+-- the leading pairs of events come first in those of more events
+leading_pairs-more : (xs ys : List Event)
+    → BeginsWith (leading_pairs (exchanges_of xs)) (leading_pairs (exchanges_of (xs ++ ys)))
+leading_pairs-more xs ys =
+    let found = leading_pairs-begin (exchanges_of xs) ys (exchanges_of ys) in
+    record { others = found.others; are = ap leading_pairs (exchanges_of-append xs ys) ∙ found.are }
+
+-- a run over more events begins with one over the events
+run_before : (start : State) (xs ys : List Event) (last : State)
+    → Run Allowed start (leading_pairs (exchanges_of (xs ++ ys))) last
+    → (mid : State) × Run Allowed start (leading_pairs (exchanges_of xs)) mid
+run_before start xs ys last run =
+    let found = leading_pairs-more xs ys in
+    let parts = run-split Allowed start (leading_pairs (exchanges_of xs)) found.others last
+    (subst (λ (l : List (Request × Reply)). Run Allowed start l last) found.are run) in
+    (parts.0, parts.1)
+
+-- ---- what explained events begin with is sound
+
+requests_before-more : (id : ℕ) (xs ys : List Event)
+    → requests_before_reply id xs ≤ requests_before_reply id (xs ++ ys)
+unfolding requests_before_reply
+requests_before-more id [] ys = omega arith
+requests_before-more id (Asked request ∷ xs) ys =
+    let rest : requests_before_reply id xs ≤ requests_before_reply id (xs ++ ys) = requests_before-more id xs ys in
+    omega arith
+requests_before-more id (Replied reply ∷ xs) ys = by (requests_before-more id xs ys) (reply.id == id)
+  where
+    by : requests_before_reply id xs ≤ requests_before_reply id (xs ++ ys) → (b : Bool)
+        → (if b then 0 else requests_before_reply id xs) ≤ (if b then 0 else requests_before_reply id (xs ++ ys))
+    by rest true = omega arith
+    by rest false = rest
+
+window_before : (xs ys : List Event) → in_window (xs ++ ys) ≡ true → in_window xs ≡ true
+unfolding in_window
+window_before [] ys inside = refl
+window_before (Asked request ∷ xs) ys inside =
+    let parts = and_parts (nat_lt (requests_before_reply request.id (xs ++ ys)) window) (in_window (xs ++ ys)) inside in
+    let far : requests_before_reply request.id (xs ++ ys) < window =
+    ltb-true (requests_before_reply request.id (xs ++ ys)) window parts.0 in
+    let near : requests_before_reply request.id xs < window = omega (arith, requests_before-more request.id xs ys) in
+    and_from (nat_lt (requests_before_reply request.id xs) window) (in_window xs)
+    (lt-ltb (requests_before_reply request.id xs) window near) (window_before xs ys parts.1)
+window_before (Replied reply ∷ xs) ys inside = window_before xs ys inside
+
+-- the events of an explained session are sound up to each of them
+pub sound_prefix : (start : State) (events more : List Event) (last : State)
+    → Explained Allowed start (events ++ more) last → (mid : State) × Sound Allowed start events mid
+sound_prefix start events more last explained =
+    let found = run_before start events more last explained.run in (
+      found.0,
+      record {
+        in_turn = λ id broke. out_of_turn id events more broke explained.matching;
+        within_window = window_before events more explained.within_window;
+        run = found.1;
+      },
+    )
+
+-- ---- a reply that is not allowed
+
+same_end : (pairs : List (Request × Reply)) (start a b : State) → Run Allowed start pairs a → Run Allowed start pairs b
+    → a ≡ b
+same_end pairs start a b to_a to_b =
+    by (run_end start pairs) (run_end-of_run start pairs a to_a) (run_end-of_run start pairs b to_b)
+  where
+    by : (o : Option State) → o ≡ Some a → o ≡ Some b → a ≡ b
+    by o is_a is_b = cc
+
+-- no run goes over the first reply that is not allowed
+run_stops : (start : State) (exchanges : List Exchange) (number : ℕ) (end : State)
+    → IsFirstWrong start exchanges number → Run Allowed start (leading_pairs (ledger_of exchanges)) end → ⊥
+unfolding leading_pairs
+run_stops start exchanges number end first run =
+    let one : Exchange = record {
+      request = first.request;
+      number = first.asked_in;
+      reply = Some (record { reply = first.reply; number = number });
+    } in
+    let pairs : leading_pairs (ledger_of exchanges) ≡ leading_pairs (ledger_of first.before)
+    ++ (first.request, first.reply) ∷ leading_pairs (ledger_of first.behind) =
+    ap (λ (xs : List Exchange). leading_pairs (ledger_of xs)) first.exchanges_are
+    ∙ leading_pairs-settled first.before (one ∷ first.behind) first.answered in
+    let parts = run-split Allowed start (leading_pairs (ledger_of first.before))
+    ((first.request, first.reply) ∷ leading_pairs (ledger_of first.behind)) end
+    (subst (λ (l : List (Request × Reply)). Run Allowed start l end) pairs run) in
+    let mid : parts.0 ≡ first.mid =
+    same_end (leading_pairs (ledger_of first.before)) start parts.0 first.mid parts.1 first.run in
+    first.wrong parts.2.0 (subst (λ (s : State). Allowed s first.request first.reply parts.2.0) mid parts.2.1)
+
+wrong_reply : (start : State) (events : List Event) (number : ℕ) (more : List Event) (last : State)
+    → IsFirstWrong start (recorded_exchanges events) number
+    → Run Allowed start (leading_pairs (exchanges_of (events ++ more))) last → ⊥
+wrong_reply start events number more last first run =
+    let found = run_before start events more last run in
+    run_stops start (recorded_exchanges events) number found.0 first
+    (subst (λ (l : List ledgers.Exchange). Run Allowed start (leading_pairs l) found.0)
+    (sym (ledger_of-recorded events)) found.1)
+
+-- ---- what is refused is lost
+
+-- No session that begins with an event that is refused is explained.
+pub refuses_lost : (start : State) (events : List Event) (event : Event) (refusal : Refusal) (end : State)
+    → Sound Allowed start events end → Refuses start events event refusal → (refusal ≡ refusals.NoMemory → ⊥)
+    → (more : List Event) (last : State) → Explained Allowed start (events ++ event ∷ more) last → ⊥
+refuses_lost start events (Asked request) (refusals.UnknownReply number) end sound refuses memory more last explained =
+    absurd refuses
+refuses_lost start events (Asked request) (refusals.IdInUse number) end sound refuses memory more last explained =
+    second_request events request more refuses.1 explained.matching
+refuses_lost start events (Asked request) (refusals.Window number) end sound refuses memory more last explained =
+    window-full events request sound.in_turn sound.within_window refuses.1 refuses.2 more explained.within_window
+refuses_lost start events (Asked request) (refusals.NotAllowed number) end sound refuses memory more last explained =
+    absurd refuses
+refuses_lost start events (Asked request) (refusals.Unanswered number) end sound refuses memory more last explained =
+    absurd refuses
+refuses_lost start events (Asked request) refusals.NoMemory end sound refuses memory more last explained = memory refl
+refuses_lost start events (Replied reply) (refusals.UnknownReply number) end sound refuses memory more last explained =
+    reply_unasked events reply more refuses.1 explained.matching
+refuses_lost start events (Replied reply) (refusals.IdInUse number) end sound refuses memory more last explained =
+    absurd refuses
+refuses_lost start events (Replied reply) (refusals.Window number) end sound refuses memory more last explained =
+    absurd refuses
+refuses_lost start events (Replied reply) (refusals.NotAllowed number) end sound refuses memory more last explained =
+    wrong_reply start (events ++ Replied reply ∷ []) number more last refuses.1
+    (subst (λ (all : List Event). Run Allowed start (leading_pairs (exchanges_of all)) last)
+    (sym (one_more_event events (Replied reply) more)) explained.run)
+refuses_lost start events (Replied reply) (refusals.Unanswered number) end sound refuses memory more last explained =
+    absurd refuses
+refuses_lost start events (Replied reply) refusals.NoMemory end sound refuses memory more last explained = memory refl
+
+first_is_open : (x : Exchange) (others : List Exchange) → is_answered x ≡ false
+    → is_open x.request.id (x ∷ others) ≡ true
+unfolding is_open
+first_is_open x others waits =
+    let same : (x.request.id == x.request.id) ≡ true = eq-eqb x.request.id x.request.id refl in
+    rw (waits, same) refl
+
+-- A session is not explained where a request has no reply.
+pub lacks_lost : (start : State) (events : List Event) (refusal : Refusal) (end : State)
+    → Sound Allowed start events end → LacksReply events refusal → (last : State)
+    → Explained Allowed start events last → ⊥
+lacks_lost start events (refusals.Unanswered number) end sound lacks last explained =
+    let x = lacks.0 in
+    let opened : is_open x.request.id (recorded_exchanges events) ≡ true =
+    sym (is_open-unsettled x.request.id (recorded_exchanges events))
+    ∙ ap (is_open x.request.id) lacks.2
+    ∙ first_is_open x lacks.1 (first_unsettled (recorded_exchanges events) x lacks.1 lacks.2) in
+    let waits : turn_after x.request.id closed events ≡ waiting =
+    waits_if_open events x.request.id sound.in_turn sound.within_window opened in
+    let end_is : turn_after x.request.id closed events ≡ closed = explained.matching x.request.id in
+    let same : waiting ≡ closed = sym waits ∙ end_is in
+    absurd cc
+lacks_lost start events (refusals.UnknownReply number) end sound lacks last explained = lacks
+lacks_lost start events (refusals.IdInUse number) end sound lacks last explained = lacks
+lacks_lost start events (refusals.Window number) end sound lacks last explained = lacks
+lacks_lost start events (refusals.NotAllowed number) end sound lacks last explained = lacks
+lacks_lost start events refusals.NoMemory end sound lacks last explained = lacks

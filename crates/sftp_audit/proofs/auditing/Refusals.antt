@@ -1,0 +1,191 @@
+-- An event is refused for one reason at most: its turn and the window are one or the other, and of the replies that are
+-- not allowed one is the first.
+use Rattle.std.proofs.Common.{◌≡◌, ◌≢◌, ◌⊎◌, ℕ, true, List, [], ◌∷◌, ◌++◌, Option, Some, None, is_some, IsTrue, refl}
+use Rattle.std.proofs.Common.{sym, ap, subst, ◌∙◌, inl, inr}
+use Rattle.std.specs.Option.{option_map}
+use Rattle.sftp_wire.specs.declared.packets.Request.{Request}
+use Rattle.sftp_wire.specs.declared.packets.Reply.{Reply}
+use Rattle.sftp_handles.specs.State.{State}
+use Rattle.sftp_handles.specs.Allowed.{Allowed}
+use Rattle.sftp_transcript.specs.declared.events.Event.{Event}
+use Rattle.sftp_transcript.specs.declared.events.Event.TheVariants.{Asked, Replied}
+use Rattle.sftp_transcript.specs.Begun.{number_behind}
+use Rattle.sftp_transcript.specs.Explained.{Turn, closed, waiting, turn_after, leading_pairs, Run}
+use Rattle.sftp_transcript.specs.Sound.{IsWaiting}
+use Rattle.sftp_audit.specs.declared.errors.Refusal.{Refusal}
+use Rattle.sftp_audit.specs.declared.errors.Refusal.TheVariants as refusals
+use Rattle.sftp_audit.specs.declared.exchanges.RecordedReply.{RecordedReply}
+use Rattle.sftp_audit.specs.declared.exchanges.Exchange.{Exchange}
+use Rattle.sftp_audit.specs.Exchanges.{recorded_exchanges, is_answered, AreAnswered, reply_of, ledger_of}
+use Rattle.sftp_audit.specs.Auditor.{IsFirstWrong, Refuses}
+use Rattle.sftp_audit.proofs.steps.RunEnds.{step_end, step_end-of_allowed}
+
+-- ---- the first step of a run
+
+record FirstStep (start : State) (x : Exchange) (others : List Exchange) (end : State) : Type 0 where
+  reply : RecordedReply
+  reply_is : x.reply ≡ Some reply
+  mid : State
+  allowed : Allowed start x.request reply.reply mid
+  run : Run Allowed mid (leading_pairs (ledger_of others)) end
+
+first_step_by : (start : State) (x : Exchange) (others : List Exchange) (end : State) (reply : Option RecordedReply)
+    → x.reply ≡ reply → is_some reply ≡ true
+    → Run Allowed start (leading_pairs ((x.request, option_map reply_of reply) ∷ ledger_of others)) end
+    → FirstStep start x others end
+unfolding leading_pairs
+first_step_by start x others end None is answered run = absurd cc
+first_step_by start x others end (Some reply) is answered run =
+    record { reply = reply; reply_is = is; mid = run.0; allowed = run.1; run = run.2 }
+
+first_step : (start : State) (x : Exchange) (others : List Exchange) (end : State) → IsTrue (is_answered x)
+    → Run Allowed start (leading_pairs (ledger_of (x ∷ others))) end → FirstStep start x others end
+first_step start x others end answered run = first_step_by start x others end x.reply refl answered run
+
+same_state : (o : Option State) (a b : State) → o ≡ Some a → o ≡ Some b → a ≡ b
+same_state o a b is_a is_b = cc
+
+same_reply : (o : Option RecordedReply) (a b : RecordedReply) → o ≡ Some a → o ≡ Some b → a ≡ b
+same_reply o a b is_a is_b = cc
+
+-- a reply leads to one state
+same_mid : (start : State) (request : Request) (a b : RecordedReply) (to_a to_b : State) → a ≡ b
+    → Allowed start request a.reply to_a → Allowed start request b.reply to_b → to_a ≡ to_b
+same_mid start request a b to_a to_b same by_a by_b =
+    let with_a : Allowed start request a.reply to_b =
+    subst (λ (r : RecordedReply). Allowed start request r.reply to_b) (sym same) by_b in
+    same_state (step_end start request a.reply) to_a to_b (step_end-of_allowed start request a.reply to_a by_a)
+    (step_end-of_allowed start request a.reply to_b with_a)
+
+-- ---- the first reply that is not allowed
+
+record IsWrong (mid : State) (x : Exchange) : Type 0 where
+  reply : RecordedReply
+  reply_is : x.reply ≡ Some reply
+  wrong : (end : State) → Allowed mid x.request reply.reply end → ⊥
+
+-- what is wrong is not the first step of a run
+not_wrong : (start mid : State) (x y : Exchange) (others : List Exchange) (end : State) → mid ≡ start → x ≡ y
+    → IsWrong mid x → FirstStep start y others end → ⊥
+not_wrong start mid x y others end here same wrong step =
+    let wrong_y : IsWrong start y = subst (λ (m : State). IsWrong m y) here (subst (IsWrong mid) same wrong) in
+    let reply : step.reply ≡ wrong_y.reply =
+    same_reply y.reply step.reply wrong_y.reply step.reply_is wrong_y.reply_is in
+    wrong_y.wrong step.mid
+    (subst (λ (r : RecordedReply). Allowed start y.request r.reply step.mid) reply step.allowed)
+
+same_head : (x y : Exchange) (xs ys : List Exchange) → x ∷ xs ≡ y ∷ ys → x ≡ y
+same_head x y xs ys same = cc
+
+same_tail : (x y : Exchange) (xs ys : List Exchange) → x ∷ xs ≡ y ∷ ys → xs ≡ ys
+same_tail x y xs ys same = cc
+
+one_wrong : (start : State) (b c : List Exchange) (x y : Exchange) (behind_b behind_c : List Exchange)
+    (mid_b mid_c : State) → b ++ x ∷ behind_b ≡ c ++ y ∷ behind_c → AreAnswered b → AreAnswered c
+    → Run Allowed start (leading_pairs (ledger_of b)) mid_b → Run Allowed start (leading_pairs (ledger_of c)) mid_c
+    → IsWrong mid_b x → IsWrong mid_c y → x ≡ y
+unfolding leading_pairs
+one_wrong start [] [] x y behind_b behind_c mid_b mid_c same all_b all_c run_b run_c wrong_b wrong_c =
+    same_head x y behind_b behind_c same
+one_wrong start [] (z ∷ c) x y behind_b behind_c mid_b mid_c same all_b all_c run_b run_c wrong_b wrong_c =
+    absurd (not_wrong start mid_b x z c mid_c run_b (same_head x z behind_b (c ++ y ∷ behind_c) same) wrong_b
+    (first_step start z c mid_c all_c.0 run_c))
+one_wrong start (z ∷ b) [] x y behind_b behind_c mid_b mid_c same all_b all_c run_b run_c wrong_b wrong_c =
+    absurd (not_wrong start mid_c y z b mid_b run_c (sym (same_head z y (b ++ x ∷ behind_b) behind_c same)) wrong_c
+    (first_step start z b mid_b all_b.0 run_b))
+one_wrong start (z ∷ b) (w ∷ c) x y behind_b behind_c mid_b mid_c same all_b all_c run_b run_c wrong_b wrong_c =
+    let first : z ≡ w = same_head z w (b ++ x ∷ behind_b) (c ++ y ∷ behind_c) same in
+    let step_b = first_step start z b mid_b all_b.0 run_b in
+    let step_w = first_step start w c mid_c all_c.0 run_c in
+    let step_c : FirstStep start z c mid_c = subst (λ (v : Exchange). FirstStep start v c mid_c) (sym first) step_w in
+    let reply : step_b.reply ≡ step_c.reply =
+    same_reply z.reply step_b.reply step_c.reply step_b.reply_is step_c.reply_is in
+    let mid : step_b.mid ≡ step_c.mid =
+    same_mid start z.request step_b.reply step_c.reply step_b.mid step_c.mid reply step_b.allowed step_c.allowed in
+    one_wrong step_b.mid b c x y behind_b behind_c mid_b mid_c
+    (same_tail z w (b ++ x ∷ behind_b) (c ++ y ∷ behind_c) same) all_b.1 all_c.1 step_b.run
+    (subst (λ (m : State). Run Allowed m (leading_pairs (ledger_of c)) mid_c) (sym mid) step_c.run) wrong_b wrong_c
+
+number_of : (x y : Exchange) (r q : RecordedReply) → x.reply ≡ Some r → y.reply ≡ Some q → x ≡ y → r.number ≡ q.number
+number_of x y r q is_r is_q same = cc
+
+pub one_first_wrong : (start : State) (xs : List Exchange) (m n : ℕ) → IsFirstWrong start xs m
+    → IsFirstWrong start xs n → m ≡ n
+one_first_wrong start xs m n a b =
+    let reply_a : RecordedReply = record { reply = a.reply; number = m } in
+    let reply_b : RecordedReply = record { reply = b.reply; number = n } in
+    let x : Exchange = record { request = a.request; number = a.asked_in; reply = Some reply_a } in
+    let y : Exchange = record { request = b.request; number = b.asked_in; reply = Some reply_b } in
+    let wrong_a : IsWrong a.mid x = record { reply = reply_a; reply_is = refl; wrong = a.wrong } in
+    let wrong_b : IsWrong b.mid y = record { reply = reply_b; reply_is = refl; wrong = b.wrong } in
+    let same : a.before ++ x ∷ a.behind ≡ b.before ++ y ∷ b.behind = sym a.exchanges_are ∙ b.exchanges_are in
+    let exchange : x ≡ y =
+    one_wrong start a.before b.before x y a.behind b.behind a.mid b.mid same a.answered b.answered a.run b.run wrong_a
+    wrong_b in
+    number_of x y reply_a reply_b refl refl exchange
+
+-- ---- the reasons
+
+abbrev WhyAsked : List Event → Request → Refusal → Type 0
+WhyAsked events request refusal =
+    ((refusal ≡ refusals.IdInUse (number_behind events)) × (turn_after request.id closed events ≡ waiting))
+    ⊎ ((refusal ≡ refusals.Window (number_behind events)) × (turn_after request.id closed events ≡ closed))
+
+why_asked : (start : State) (events : List Event) (request : Request) (refusal : Refusal)
+    → Refuses start events (Asked request) refusal → refusal ≢ refusals.NoMemory → WhyAsked events request refusal
+why_asked start events request (refusals.IdInUse number) why other = inl (ap refusals.IdInUse why.0, why.1)
+why_asked start events request (refusals.Window number) why other = inr (ap refusals.Window why.0, why.1)
+why_asked start events request refusals.NoMemory why other = absurd (other refl)
+why_asked start events request (refusals.UnknownReply number) why other = absurd why
+why_asked start events request (refusals.NotAllowed number) why other = absurd why
+why_asked start events request (refusals.Unanswered number) why other = absurd why
+
+-- whether a turn is closed or waiting decides
+one_of_two : (turn : Turn) (a b in_use late : Refusal)
+    → ((a ≡ in_use) × (turn ≡ waiting)) ⊎ ((a ≡ late) × (turn ≡ closed))
+    → ((b ≡ in_use) × (turn ≡ waiting)) ⊎ ((b ≡ late) × (turn ≡ closed)) → a ≡ b
+one_of_two turn a b in_use late (inl first) (inl second) = first.0 ∙ sym second.0
+one_of_two turn a b in_use late (inl first) (inr second) =
+    absurd (let e : waiting ≡ closed = sym first.1 ∙ second.1 in cc)
+one_of_two turn a b in_use late (inr first) (inl second) =
+    absurd (let e : waiting ≡ closed = sym second.1 ∙ first.1 in cc)
+one_of_two turn a b in_use late (inr first) (inr second) = first.0 ∙ sym second.0
+
+abbrev WhyReplied : State → List Event → Reply → Refusal → Type 0
+WhyReplied start events reply refusal =
+    ((refusal ≡ refusals.UnknownReply (number_behind events)) × (turn_after reply.id closed events ≡ closed))
+    ⊎ ((number : ℕ) × (refusal ≡ refusals.NotAllowed number) × IsWaiting events reply.id
+    × IsFirstWrong start (recorded_exchanges (events ++ Replied reply ∷ [])) number)
+
+why_replied : (start : State) (events : List Event) (reply : Reply) (refusal : Refusal)
+    → Refuses start events (Replied reply) refusal → refusal ≢ refusals.NoMemory
+    → WhyReplied start events reply refusal
+why_replied start events reply (refusals.UnknownReply number) why other = inl (ap refusals.UnknownReply why.0, why.1)
+why_replied start events reply (refusals.NotAllowed number) why other = inr (number, refl, why.0, why.1)
+why_replied start events reply refusals.NoMemory why other = absurd (other refl)
+why_replied start events reply (refusals.IdInUse number) why other = absurd why
+why_replied start events reply (refusals.Window number) why other = absurd why
+why_replied start events reply (refusals.Unanswered number) why other = absurd why
+
+one_of_replies : (start : State) (events : List Event) (reply : Reply) (a b : Refusal)
+    → WhyReplied start events reply a → WhyReplied start events reply b → a ≡ b
+one_of_replies start events reply a b (inl first) (inl second) = first.0 ∙ sym second.0
+one_of_replies start events reply a b (inl first) (inr second) =
+    absurd (let e : closed ≡ waiting = sym first.1 ∙ second.2 in cc)
+one_of_replies start events reply a b (inr first) (inl second) =
+    absurd (let e : closed ≡ waiting = sym second.1 ∙ first.2 in cc)
+one_of_replies start events reply a b (inr first) (inr second) =
+    let same : first.0 ≡ second.0 =
+    one_first_wrong start (recorded_exchanges (events ++ Replied reply ∷ [])) first.0 second.0 first.3 second.3 in
+    first.1 ∙ ap refusals.NotAllowed same ∙ sym second.1
+
+pub one_refusal : (start : State) (events : List Event) (event : Event) (a b : Refusal)
+    → Refuses start events event a → Refuses start events event b → a ≢ refusals.NoMemory → b ≢ refusals.NoMemory
+    → a ≡ b
+one_refusal start events (Asked request) a b for_a for_b not_a not_b =
+    one_of_two (turn_after request.id closed events) a b (refusals.IdInUse (number_behind events))
+    (refusals.Window (number_behind events)) (why_asked start events request a for_a not_a)
+    (why_asked start events request b for_b not_b)
+one_refusal start events (Replied reply) a b for_a for_b not_a not_b =
+    one_of_replies start events reply a b (why_replied start events reply a for_a not_a)
+    (why_replied start events reply b for_b not_b)

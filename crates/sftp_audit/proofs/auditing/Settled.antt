@@ -1,0 +1,103 @@
+-- How settling goes over the exchanges that are kept: each is done as soon as it and all before it have their replies.
+use Rattle.std.proofs.Common.{◌≡◌, true, List, [], ◌∷◌, ◌++◌, Option, Some, None, is_some, drop, slice_get}
+use Rattle.std.proofs.Common.{refl, sym, ap, ◌∙◌, append_assoc}
+use Rattle.std.proofs.lemmas.List.{append-nil}
+use Rattle.std.proofs.lemmas.Option.{none-some, same_Some}
+use Rattle.sftp_handles.specs.State.{State}
+use Rattle.sftp_handles.specs.Allowed.{Allowed}
+use Rattle.sftp_transcript.specs.Explained.{Run, leading_pairs}
+use Rattle.sftp_audit.specs.declared.exchanges.RecordedReply.{RecordedReply}
+use Rattle.sftp_audit.specs.declared.exchanges.Exchange.{Exchange}
+use Rattle.sftp_audit.specs.Exchanges.{is_answered, AreAnswered, unsettled, ledger_of}
+use Rattle.sftp_audit.specs.Auditor.{IsFirstWrong}
+use Rattle.sftp_audit.proofs.auditing.Lists.{unsettled-answered, leading_pairs-settled, leading_pairs-unsettled}
+use Rattle.sftp_audit.proofs.auditing.Turns.{run-append}
+
+-- ---- lists
+
+answered-append : (xs ys : List Exchange) → AreAnswered xs → AreAnswered ys → AreAnswered (xs ++ ys)
+answered-append [] ys front back = back
+answered-append (x ∷ xs) ys front back = (front.0, answered-append xs ys front.1 back)
+
+-- ---- those done so far
+
+pub record IsDoneTo (start : State) (old now : List Exchange) (mid : State) : Type 0 where
+  pub before : List Exchange
+  pub answered : AreAnswered before
+  pub exchanges_are : old ≡ before ++ now
+  pub run : Run Allowed start (leading_pairs (ledger_of before)) mid
+
+pub done-start : (s : State) (xs : List Exchange) → IsDoneTo s xs xs s
+unfolding leading_pairs
+done-start s xs = record { before = []; answered = tt; exchanges_are = refl; run = refl }
+
+-- the next exchange of what is left, whose reply is allowed, is done
+pub done-more : (start mid end : State) (old now : List Exchange) (x : Exchange) (r : RecordedReply)
+    → IsDoneTo start old now mid → Some x ≡ slice_get now 0 → x.reply ≡ Some r
+    → Allowed mid x.request r.reply end → IsDoneTo start old (drop 1 now) end
+unfolding leading_pairs
+done-more start mid end old [] x r done at is allowed = absurd (none-some x (sym at))
+done-more start mid end old (y ∷ rest) x r done at is allowed =
+    let same : y ≡ x = same_Some y x (sym at) in
+    let answered : is_answered x ≡ true = ap is_some is in
+    let run : Run Allowed mid (leading_pairs (ledger_of (x ∷ []))) end = rw is (end, allowed, refl) in
+    record {
+      before = done.before ++ x ∷ [];
+      answered = answered-append done.before (x ∷ []) done.answered (answered, tt);
+      exchanges_are = done.exchanges_are
+          ∙ ap (λ (z : Exchange). done.before ++ z ∷ rest) same
+          ∙ sym (append_assoc done.before (x ∷ []) rest);
+      run = rw (leading_pairs-settled done.before (x ∷ []) done.answered)
+          (run-append Allowed start (leading_pairs (ledger_of done.before)) mid (leading_pairs (ledger_of (x ∷ [])))
+          end done.run run);
+    }
+
+-- its reply is the first of all that is not allowed
+pub done-wrong : (start mid : State) (old now : List Exchange) (x : Exchange) (r : RecordedReply)
+    → IsDoneTo start old now mid → Some x ≡ slice_get now 0 → x.reply ≡ Some r
+    → ((end : State) → Allowed mid x.request r.reply end → ⊥) → IsFirstWrong start old r.number
+done-wrong start mid old [] x r done at is wrong = absurd (none-some x (sym at))
+done-wrong start mid old (y ∷ rest) x r done at is wrong = record {
+  before = done.before;
+  request = x.request;
+  asked_in = x.number;
+  reply = r.reply;
+  behind = rest;
+  exchanges_are = done.exchanges_are ∙ ap (λ (z : Exchange). done.before ++ z ∷ rest) (same_Some y x (sym at))
+      ∙ ap (λ (reply : Option RecordedReply). done.before
+      ++ record { request = x.request; number = x.number; reply = reply } ∷ rest) is;
+  answered = done.answered;
+  mid = mid;
+  run = done.run;
+  wrong = wrong;
+}
+
+-- ---- the end: what is left begins with a request without a reply, or is nothing
+
+pub unsettled-waits : (now : List Exchange) (x : Exchange) → Some x ≡ slice_get now 0 → x.reply ≡ None
+    → unsettled now ≡ now
+unfolding unsettled
+unsettled-waits [] x at is = refl
+unsettled-waits (y ∷ rest) x at is = rw (same_Some y x (sym at), is) refl
+
+pub unsettled-none : (now : List Exchange) → None ≡ slice_get now 0 → unsettled now ≡ now
+unfolding unsettled
+unsettled-none [] at = refl
+unsettled-none (y ∷ rest) at = absurd (none-some y at)
+
+pub done-kept : (start mid : State) (old now : List Exchange) → IsDoneTo start old now mid → unsettled now ≡ now
+    → now ≡ unsettled old
+done-kept start mid old now done is =
+    sym is ∙ sym (unsettled-answered done.before now done.answered) ∙ ap unsettled (sym done.exchanges_are)
+
+pub done-ran : (start mid : State) (old now : List Exchange) → IsDoneTo start old now mid → unsettled now ≡ now
+    → Run Allowed start (leading_pairs (ledger_of old)) mid
+done-ran start mid old now done is =
+    let none : leading_pairs (ledger_of now) ≡ [] =
+    ap (λ (xs : List Exchange). leading_pairs (ledger_of xs)) (sym is) ∙ leading_pairs-unsettled now in
+    rw (
+      done.exchanges_are,
+      leading_pairs-settled done.before now done.answered,
+      none,
+      append-nil (leading_pairs (ledger_of done.before)),
+    ) done.run

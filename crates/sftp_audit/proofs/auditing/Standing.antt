@@ -1,0 +1,340 @@
+-- What an auditor keeps goes on with each event, and what it refuses has its reason.
+use Rattle.std.proofs.Common.{◌≡◌, ℕ, ◌<◌, ◌≤◌, Bool, true, false, List, [], ◌∷◌, ◌++◌, length, slice_get, Some, None}
+use Rattle.std.proofs.Common.{Ok, Err}
+use Rattle.std.proofs.Common.{Result, OnOk, IfErr, refl, sym, ap, ◌∙◌, subst, append_assoc}
+use Rattle.std.proofs.lemmas.List.{append-nil}
+use Rattle.sftp_wire.specs.declared.packets.Request.{Request}
+use Rattle.sftp_wire.specs.declared.packets.Reply.{Reply}
+use Rattle.sftp_handles.specs.State.{State}
+use Rattle.sftp_handles.specs.Allowed.{Allowed}
+use Rattle.sftp_transcript.specs.declared.events.Event.{Event}
+use Rattle.sftp_transcript.specs.declared.events.Event.TheVariants.{Asked, Replied}
+use Rattle.sftp_transcript.specs.Begun.{first_number, number_behind}
+use Rattle.sftp_transcript.specs.Explained.{Run, Explained, exchanges_of, leading_pairs, window, turn_after, closed}
+use Rattle.sftp_transcript.specs.Explained.{broken}
+use Rattle.sftp_transcript.specs.Explained.{in_window}
+use Rattle.sftp_transcript.specs.Sound.{IsWaiting}
+use Rattle.sftp_transcript.specs.Streams.{one_more}
+use Rattle.sftp_audit.specs.declared.errors.Refusal.{Refusal}
+use Rattle.sftp_audit.specs.declared.errors.Refusal.TheVariants as refusals
+use Rattle.sftp_audit.specs.declared.exchanges.Exchange.{Exchange}
+use Rattle.sftp_audit.specs.declared.exchanges.RecordedReply.{RecordedReply}
+use Rattle.sftp_audit.specs.Exchanges.{recorded_exchanges, exchanges_from, unsettled, AreAnswered, is_open}
+use Rattle.sftp_audit.specs.Exchanges.{with_reply, ledger_of}
+use Rattle.sftp_audit.specs.Ledger.{RefusesRequest, RefusesReply}
+use Rattle.sftp_audit.specs.Auditor.{Audited, StandsFor, IsNoted, Refuses, RefusesToSettle, LacksReply}
+use Rattle.sftp_audit.proofs.auditing.Lists.{ledger_of-recorded, recorded-asked, recorded-replied, settled_parts}
+use Rattle.sftp_audit.proofs.auditing.Lists.{unsettled-answered, unsettled-asked, with_reply-answered}
+use Rattle.sftp_audit.proofs.auditing.Lists.{with_reply-append}
+use Rattle.sftp_audit.proofs.auditing.Lists.{is_open-unsettled, leading_pairs-settled, leading_pairs-unsettled}
+use Rattle.sftp_audit.proofs.auditing.Lists.{leading_pairs-asked, number_behind-next}
+use Rattle.sftp_audit.proofs.auditing.Turns.{waits_if_open, closed_if_none, in_turn-asked, in_turn-replied}
+use Rattle.sftp_audit.proofs.auditing.Turns.{window-asked}
+use Rattle.sftp_audit.proofs.auditing.Turns.{window-replied, run-append}
+
+-- ---- nothing yet
+
+-- a fresh auditor stands for no events
+pub stands_from_start : (start : State) (new : Audited) → new.state ≡ start → new.kept ≡ [] → new.number ≡ first_number
+    → new.refusal ≡ None → StandsFor start [] new
+unfolding turn_after in_window exchanges_of leading_pairs exchanges_from unsettled
+stands_from_start start new same nothing number unrefused = record {
+  sound = record {
+    in_turn = λ id broke. (let out : closed ≡ broken = broke in absurd cc);
+    within_window = refl;
+    run = same;
+  };
+  kept = nothing;
+  number = number;
+  unrefused = unrefused;
+}
+
+-- ---- what is kept says which requests wait
+
+waits_as : (start : State) (events : List Event) (old : Audited) (id : ℕ) (b : Bool) → StandsFor start events old
+    → is_open id old.kept ≡ b → is_open id (recorded_exchanges events) ≡ b
+waits_as start events old id b stands is =
+    sym (is_open-unsettled id (recorded_exchanges events)) ∙ ap (is_open id) (sym stands.kept) ∙ is
+
+waiting_of : (start : State) (events : List Event) (old : Audited) (id : ℕ) → StandsFor start events old
+    → is_open id old.kept ≡ true → IsWaiting events id
+waiting_of start events old id stands is =
+    waits_if_open events id stands.sound.in_turn stands.sound.within_window
+    (waits_as start events old id true stands is)
+
+closed_of : (start : State) (events : List Event) (old : Audited) (id : ℕ) → StandsFor start events old
+    → is_open id old.kept ≡ false → turn_after id closed events ≡ closed
+closed_of start events old id stands is =
+    closed_if_none events id stands.sound.in_turn stands.sound.within_window
+    (waits_as start events old id false stands is)
+
+-- ---- one request more
+
+asked_pairs : (events : List Event) (request : Request)
+    → leading_pairs (exchanges_of (events ++ Asked request ∷ [])) ≡ leading_pairs (exchanges_of events)
+asked_pairs events request =
+    let after : List Event = events ++ Asked request ∷ [] in
+    let one : Exchange = record { request = request; number = number_behind events; reply = None } in
+    ap leading_pairs (sym (ledger_of-recorded after))
+    ∙ ap (λ (xs : List Exchange). leading_pairs (ledger_of xs)) (recorded-asked events request)
+    ∙ leading_pairs-asked (recorded_exchanges events) one refl
+    ∙ ap leading_pairs (ledger_of-recorded events)
+
+pub noted-asked : (start : State) (events : List Event) (request : Request) (old new : Audited)
+    → StandsFor start events old → is_open request.id old.kept ≡ false → length old.kept < window
+    → new.kept ≡ old.kept ++ record { request = request; number = old.number; reply = None } ∷ []
+    → new.state ≡ old.state → IsNoted start (events ++ Asked request ∷ []) new
+noted-asked start events request old new stands none room kept same =
+    let turn = closed_of start events old request.id stands none in
+    let few : length (unsettled (recorded_exchanges events)) < window =
+    subst (λ (xs : List Exchange). length xs < window) stands.kept room in
+    let run : Run Allowed start (leading_pairs (exchanges_of (events ++ Asked request ∷ []))) new.state =
+    rw (asked_pairs events request, same) stands.sound.run in
+    let one : ℕ → Exchange = λ n. record { request = request; number = n; reply = None } in
+    let are : new.kept ≡ unsettled (recorded_exchanges (events ++ Asked request ∷ [])) =
+    kept ∙ ap (λ (xs : List Exchange). xs ++ one old.number ∷ []) stands.kept
+    ∙ ap (λ (n : ℕ). unsettled (recorded_exchanges events) ++ one n ∷ []) stands.number
+    ∙ sym (unsettled-asked (recorded_exchanges events) (one (number_behind events)) refl)
+    ∙ ap unsettled (sym (recorded-asked events request)) in
+    record {
+      sound = record {
+        in_turn = in_turn-asked events request stands.sound.in_turn turn;
+        within_window = window-asked events request stands.sound.in_turn stands.sound.within_window turn few;
+        run = run;
+      };
+      kept = are;
+    }
+
+-- a request that is not taken is refused
+pub refused-asked : (start : State) (events : List Event) (request : Request) (old : Audited) (refusal : Refusal)
+    → StandsFor start events old → RefusesRequest old.kept request old.number refusal
+    → Refuses start events (Asked request) refusal
+refused-asked start events request old (refusals.UnknownReply number) stands r = absurd r
+refused-asked start events request old (refusals.IdInUse number) stands r =
+    (r.0 ∙ stands.number, waiting_of start events old request.id stands r.1)
+refused-asked start events request old (refusals.Window number) stands r = (
+  r.0 ∙ stands.number,
+  closed_of start events old request.id stands r.1,
+  subst (λ (xs : List Exchange). window ≤ length xs) stands.kept r.2,
+)
+refused-asked start events request old (refusals.NotAllowed number) stands r = absurd r
+refused-asked start events request old (refusals.Unanswered number) stands r = absurd r
+refused-asked start events request old refusals.NoMemory stands r = r
+
+-- ---- one reply more
+
+-- What is kept, with the reply: the settled exchanges come before it.
+record Answered (start : State) (events : List Event) (reply : Reply) (old : Audited) : Type 0 where
+  before : List Exchange
+  answered : AreAnswered before
+  run : Run Allowed start (leading_pairs (ledger_of before)) old.state
+  recorded : recorded_exchanges (events ++ Replied reply ∷ [])
+      ≡ before ++ with_reply (record { reply = reply; number = old.number }) old.kept
+
+answered_of : (start : State) (events : List Event) (reply : Reply) (old : Audited) → StandsFor start events old
+    → Answered start events reply old
+answered_of start events reply old stands =
+    let parts = settled_parts (recorded_exchanges events) in
+    let given : ℕ → RecordedReply = λ n. record { reply = reply; number = n } in
+    let all : recorded_exchanges events ≡ parts.0 ++ old.kept =
+    parts.2 ∙ ap (λ (xs : List Exchange). parts.0 ++ xs) (sym stands.kept) in
+    let pairs : leading_pairs (exchanges_of events) ≡ leading_pairs (ledger_of parts.0) =
+    ap leading_pairs (sym (ledger_of-recorded events))
+    ∙ ap (λ (xs : List Exchange). leading_pairs (ledger_of xs)) parts.2
+    ∙ leading_pairs-settled parts.0 (unsettled (recorded_exchanges events)) parts.1
+    ∙ ap (λ (xs : List (Request × Reply)). leading_pairs (ledger_of parts.0) ++ xs)
+    (leading_pairs-unsettled (recorded_exchanges events))
+    ∙ append-nil (leading_pairs (ledger_of parts.0)) in
+    record {
+      before = parts.0;
+      answered = parts.1;
+      run = subst (λ (xs : List (Request × Reply)). Run Allowed start xs old.state) pairs stands.sound.run;
+      recorded = recorded-replied events reply
+          ∙ ap (λ (n : ℕ). with_reply (given n) (recorded_exchanges events)) (sym stands.number)
+          ∙ ap (with_reply (given old.number)) all
+          ∙ with_reply-append (given old.number) parts.0 old.kept
+          ∙ ap (λ (xs : List Exchange). xs ++ with_reply (given old.number) old.kept)
+          (with_reply-answered (given old.number) parts.0 parts.1);
+    }
+
+pub noted-replied : (start : State) (events : List Event) (reply : Reply) (old : Audited) (kept : List Exchange)
+    (new : Audited) → StandsFor start events old → is_open reply.id old.kept ≡ true
+    → kept ≡ with_reply (record { reply = reply; number = old.number }) old.kept → new.kept ≡ unsettled kept
+    → Run Allowed old.state (leading_pairs (ledger_of kept)) new.state
+    → IsNoted start (events ++ Replied reply ∷ []) new
+noted-replied start events reply old kept new stands waits replied settled run =
+    let turn = waiting_of start events old reply.id stands waits in
+    let a = answered_of start events reply old stands in
+    let all : recorded_exchanges (events ++ Replied reply ∷ []) ≡ a.before ++ kept =
+    a.recorded ∙ ap (λ (xs : List Exchange). a.before ++ xs) (sym replied) in
+    let pairs : leading_pairs (ledger_of a.before) ++ leading_pairs (ledger_of kept)
+    ≡ leading_pairs (exchanges_of (events ++ Replied reply ∷ [])) =
+    sym (leading_pairs-settled a.before kept a.answered)
+    ∙ ap (λ (xs : List Exchange). leading_pairs (ledger_of xs)) (sym all)
+    ∙ ap leading_pairs (ledger_of-recorded (events ++ Replied reply ∷ [])) in
+    let settled_pairs : List (Request × Reply) = leading_pairs (ledger_of a.before) in
+    let more_pairs : List (Request × Reply) = leading_pairs (ledger_of kept) in
+    record {
+      sound = record {
+        in_turn = in_turn-replied events reply stands.sound.in_turn turn;
+        within_window = window-replied events reply stands.sound.within_window stands.sound.in_turn turn;
+        run = subst (λ (xs : List (Request × Reply)). Run Allowed start xs new.state) pairs
+            (run-append Allowed start settled_pairs old.state more_pairs new.state a.run run);
+      };
+      kept = settled ∙ sym (unsettled-answered a.before kept a.answered) ∙ ap unsettled (sym all);
+    }
+
+-- a reply that is not taken is refused
+pub refused-replied : (start : State) (events : List Event) (reply : Reply) (old : Audited) (refusal : Refusal)
+    → StandsFor start events old → RefusesReply old.kept (record { reply = reply; number = old.number }) refusal
+    → Refuses start events (Replied reply) refusal
+refused-replied start events reply old (refusals.UnknownReply number) stands r =
+    (r.0 ∙ stands.number, closed_of start events old reply.id stands r.1)
+refused-replied start events reply old (refusals.IdInUse number) stands r = absurd r
+refused-replied start events reply old (refusals.Window number) stands r = absurd r
+refused-replied start events reply old (refusals.NotAllowed number) stands r = absurd r
+refused-replied start events reply old (refusals.Unanswered number) stands r = absurd r
+refused-replied start events reply old refusals.NoMemory stands r = absurd r
+
+-- each of two lists of answered exchanges
+both_answered : (xs ys : List Exchange) → AreAnswered xs → AreAnswered ys → AreAnswered (xs ++ ys)
+both_answered [] ys before behind = behind
+both_answered (x ∷ xs) ys before behind = (before.0, both_answered xs ys before.1 behind)
+
+-- what settling refuses is refused
+pub refused-settling : (start : State) (events : List Event) (reply : Reply) (old : Audited) (kept : List Exchange)
+    (refusal : Refusal) → StandsFor start events old → is_open reply.id old.kept ≡ true
+    → kept ≡ with_reply (record { reply = reply; number = old.number }) old.kept
+    → RefusesToSettle old.state kept refusal → Refuses start events (Replied reply) refusal
+refused-settling start events reply old kept (refusals.UnknownReply number) stands waits replied r = absurd r
+refused-settling start events reply old kept (refusals.IdInUse number) stands waits replied r = absurd r
+refused-settling start events reply old kept (refusals.Window number) stands waits replied r = absurd r
+refused-settling start events reply old kept (refusals.NotAllowed number) stands waits replied r =
+    let a = answered_of start events reply old stands in
+    let settled_pairs : List (Request × Reply) = leading_pairs (ledger_of a.before) in
+    let more_pairs : List (Request × Reply) = leading_pairs (ledger_of r.before) in
+    let one : Exchange = record {
+      request = r.request;
+      number = r.asked_in;
+      reply = Some (record { reply = r.reply; number = number });
+    } in (
+      waiting_of start events old reply.id stands waits,
+      record {
+        before = a.before ++ r.before;
+        request = r.request;
+        asked_in = r.asked_in;
+        reply = r.reply;
+        behind = r.behind;
+        exchanges_are = a.recorded ∙ ap (λ (xs : List Exchange). a.before ++ xs) (sym replied ∙ r.exchanges_are)
+            ∙ sym (append_assoc a.before r.before (one ∷ r.behind));
+        answered = both_answered a.before r.before a.answered r.answered;
+        mid = r.mid;
+        run = subst (λ (xs : List (Request × Reply)). Run Allowed start xs r.mid)
+            (sym (leading_pairs-settled a.before r.before a.answered))
+            (run-append Allowed start settled_pairs old.state more_pairs r.mid a.run r.run);
+        wrong = r.wrong;
+      },
+    )
+refused-settling start events reply old kept (refusals.Unanswered number) stands waits replied r = absurd r
+refused-settling start events reply old kept refusals.NoMemory stands waits replied r = r
+
+-- ---- the same, of what a call returns
+
+-- the auditor is as it was seen
+pub at_view : (start : State) (events : List Event) (seen old : Audited) → old ≡ seen → StandsFor start events seen
+    → StandsFor start events old
+at_view start events seen old view stands = subst (StandsFor start events) (sym view) stands
+
+pub result-asked : {T : Type 0} (result : Result T Refusal) (event : Event) (request : Request)
+    (seen old new : Audited) → event ≡ Asked request → old ≡ seen → new.state ≡ old.state
+    → OnOk result (is_open request.id old.kept ≡ false) → OnOk result (length old.kept < window)
+    → OnOk result (new.kept ≡ old.kept ++ record { request = request; number = old.number; reply = None } ∷ [])
+    → OnOk result ((start : State) (events : List Event) → StandsFor start events seen
+    → IsNoted start (events ++ event ∷ []) new)
+result-asked (Ok x) event request seen old new is view same none room kept = λ start events stands.
+    subst (λ (e : Event). IsNoted start (events ++ e ∷ []) new) (sym is)
+    (noted-asked start events request old new (at_view start events seen old view stands) none room kept same)
+result-asked (Err e) event request seen old new is view same none room kept = tt
+
+pub refusal-asked : {T : Type 0} (result : Result T Refusal) (event : Event) (request : Request) (seen old : Audited)
+    → event ≡ Asked request → old ≡ seen → IfErr result (RefusesRequest old.kept request old.number)
+    → IfErr result (λ refusal. (start : State) (events : List Event) → StandsFor start events seen
+    → Refuses start events event refusal)
+refusal-asked (Ok x) event request seen old is view refused = tt
+refusal-asked (Err refusal) event request seen old is view refused = λ start events stands.
+    subst (λ (e : Event). Refuses start events e refusal) (sym is)
+    (refused-asked start events request old refusal (at_view start events seen old view stands) refused)
+
+pub refusal-replied : (event : Event) (reply : Reply) (seen old : Audited) (refusal : Refusal)
+    → event ≡ Replied reply → old ≡ seen
+    → RefusesReply old.kept (record { reply = reply; number = old.number }) refusal
+    → (start : State) (events : List Event) → StandsFor start events seen → Refuses start events event refusal
+refusal-replied event reply seen old refusal is view refused start events stands =
+    subst (λ (e : Event). Refuses start events e refusal) (sym is)
+    (refused-replied start events reply old refusal (at_view start events seen old view stands) refused)
+
+pub result-settled : {T : Type 0} (result : Result T Refusal) (event : Event) (reply : Reply)
+    (seen old : Audited) (kept : List Exchange) (new : Audited) → event ≡ Replied reply → old ≡ seen
+    → is_open reply.id old.kept ≡ true → kept ≡ with_reply (record { reply = reply; number = old.number }) old.kept
+    → OnOk result (new.kept ≡ unsettled kept)
+    → OnOk result (Run Allowed old.state (leading_pairs (ledger_of kept)) new.state)
+    → OnOk result ((start : State) (events : List Event) → StandsFor start events seen
+    → IsNoted start (events ++ event ∷ []) new)
+result-settled (Ok x) event reply seen old kept new is view waits replied settled run = λ start events stands.
+    subst (λ (e : Event). IsNoted start (events ++ e ∷ []) new) (sym is)
+    (let at = at_view start events seen old view stands in
+    noted-replied start events reply old kept new at waits replied settled run)
+result-settled (Err e) event reply seen old kept new is view waits replied settled run = tt
+
+pub refusal-settled : {T : Type 0} (result : Result T Refusal) (event : Event) (reply : Reply)
+    (seen old : Audited) (kept : List Exchange) → event ≡ Replied reply → old ≡ seen
+    → is_open reply.id old.kept ≡ true → kept ≡ with_reply (record { reply = reply; number = old.number }) old.kept
+    → IfErr result (RefusesToSettle old.state kept)
+    → IfErr result (λ refusal. (start : State) (events : List Event) → StandsFor start events seen
+    → Refuses start events event refusal)
+refusal-settled (Ok x) event reply seen old kept is view waits replied refused = tt
+refusal-settled (Err refusal) event reply seen old kept is view waits replied refused = λ start events stands.
+    subst (λ (e : Event). Refuses start events e refusal) (sym is)
+    (let at = at_view start events seen old view stands in
+    refused-settling start events reply old kept refusal at waits replied refused)
+
+-- ---- the number of the next record
+
+-- what is noted is kept, once the number is one more
+pub stands-noted : (start : State) (events : List Event) (event : Event) (old new : Audited)
+    → StandsFor start events old → IsNoted start (events ++ event ∷ []) new → new.number ≡ one_more old.number
+    → new.refusal ≡ old.refusal → StandsFor start (events ++ event ∷ []) new
+stands-noted start events event old new stands noted number same = record {
+  sound = noted.sound;
+  kept = noted.kept;
+  number = number ∙ ap one_more stands.number ∙ sym (number_behind-next events event);
+  unrefused = same ∙ stands.unrefused;
+}
+
+-- ---- the end
+
+nothing_first : (xs : List Exchange) → slice_get xs 0 ≡ None → xs ≡ []
+nothing_first [] is = refl
+nothing_first (x ∷ xs) is = absurd cc
+
+others_of : (xs : List Exchange) (x : Exchange) → slice_get xs 0 ≡ Some x → (others : List Exchange) × (xs ≡ x ∷ others)
+others_of [] x is = absurd cc
+others_of (y ∷ xs) x is = (xs, let same : y ≡ x = cc in ap (λ (z : Exchange). z ∷ xs) same)
+
+-- where nothing is kept, the events are explained
+pub explained-settled : (start : State) (events : List Event) (old : Audited) → StandsFor start events old
+    → slice_get old.kept 0 ≡ None → Explained Allowed start events old.state
+unfolding is_open
+explained-settled start events old stands none = record {
+  matching = λ id. closed_of start events old id stands (ap (is_open id) (nothing_first old.kept none));
+  within_window = stands.sound.within_window;
+  run = stands.sound.run;
+}
+
+-- the first exchange that is kept is the oldest one without a reply
+pub lacks_reply : (start : State) (events : List Event) (old : Audited) (exchange : Exchange)
+    → StandsFor start events old → slice_get old.kept 0 ≡ Some exchange
+    → LacksReply events (refusals.Unanswered exchange.number)
+lacks_reply start events old exchange stands first =
+    let found = others_of old.kept exchange first in
+    (exchange, found.0, sym stands.kept ∙ found.1, refl)

@@ -1,0 +1,56 @@
+-- Each turn of the loop gives an event and feeds it; the feed ends where no event is left, or at an error.
+use Rattle.std.proofs.Common.{ℕ, Option, Some, refl, subst, ◌∙◌, arith}
+use Rattle.std.proofs.lemmas.Grind.{common_steps}
+use Rattle.std.proofs.lemmas.Result.{err_from_is_err_and}
+use Rattle.sftp_transcript.specs.declared.events.Event.{Event}
+use Rattle.sftp_transcript.specs.Begun.{GaveFrom}
+use Rattle.sftp_audit.proofs.streams.Given.{IsFeeding, feeding-start, feeding-next, all-fed, stops-fault, stops-refused}
+use Rattle.sftp_audit.proofs.audits.feed_all.Goals as goal
+
+pub events-init : goal.events-init
+events-init g c = record {
+  feeding = feeding-start c.args.auditor.now c.args.records.now;
+  faultless = λ is. is;
+  sound = λ is. refl;
+}
+
+pub returns-in_err-event-clause-stopped : goal.returns-in_err-event-clause-stopped
+returns-in_err-event-clause-stopped g c =
+    let p = err_from_is_err_and c.from_residual.result c.from_residual.ensures.1 in
+    rw (p.1, p.2) (λ judged start transcript new stands.
+    let feeding = c.events.invariant.feeding start transcript new stands in
+    stops-fault start transcript c.events.requests c.events.auditor c.events.records c.in_err-event.field-0.0 feeding
+    (c.in_err-event.ensures.first transcript feeding.ahead feeding.seen feeding.given) judged)
+
+pub events-preserved : goal.events-preserved
+events-preserved g c = record {
+  feeding = λ start transcript new stands.
+      let feeding = c.events.invariant.feeding start transcript new stands in
+      let gave : GaveFrom transcript feeding.seen (Some c.in-Some.event) c.next.new.self =
+      subst (λ (given : Option Event). GaveFrom transcript feeding.seen given c.next.new.self) c.in-Some.is
+      (c.in_ok-event.ensures.first transcript feeding.ahead feeding.seen feeding.given) in
+      let fed =
+      feeding-next start transcript c.events.requests c.events.auditor c.feed.new.self c.events.records
+      c.next.new.self c.in-Some.event feeding gave (c.in_ok-feed.ensures.stands start feeding.seen feeding.stands) in
+      subst (λ (m : ℕ). IsFeeding start transcript m c.feed.new.self c.next.new.self) (grind (arith, common_steps)) fed;
+  faultless = λ is. c.in_ok-event.ensures.fault;
+  sound = λ is. c.in_ok-event.ensures.counts (c.events.invariant.faultless is) ∙ c.events.invariant.sound is;
+}
+
+pub returns-in_err-feed-clause-stopped : goal.returns-in_err-feed-clause-stopped
+returns-in_err-feed-clause-stopped g c =
+    let p = err_from_is_err_and c.from_residual-in_err-feed.result c.from_residual-in_err-feed.ensures.1 in
+    rw (p.1, p.2) (λ judged start transcript new stands.
+    let feeding = c.events.invariant.feeding start transcript new stands in
+    let gave : GaveFrom transcript feeding.seen (Some c.in-Some.event) c.next.new.self =
+    subst (λ (given : Option Event). GaveFrom transcript feeding.seen given c.next.new.self) c.in-Some.is
+    (c.in_ok-event.ensures.first transcript feeding.ahead feeding.seen feeding.given) in
+    stops-refused start transcript c.events.requests c.events.auditor c.events.records c.next.new.self c.in-Some.event
+    c.in_err-feed.field-0.0 feeding gave (c.in_err-feed.ensures.refused start feeding.seen feeding.stands))
+
+pub returns-clause-fed : goal.returns-clause-fed
+returns-clause-fed g c = λ start transcript new stands.
+    let feeding = c.events.invariant.feeding start transcript new stands in
+    all-fed start transcript c.events.requests c.events.auditor c.events.records c.next.new.self
+    c.in_ok-event.field-0 feeding
+    c.in_default.not-Some (c.in_ok-event.ensures.first transcript feeding.ahead feeding.seen feeding.given)

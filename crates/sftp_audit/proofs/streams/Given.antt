@@ -1,0 +1,143 @@
+-- What an auditor is fed from a reader, event by event.
+use Rattle.std.proofs.Common.{◌≡◌, inl, inr, ℕ, ◌+◌, ◌-◌, ◌^◌, min, List, [], ◌∷◌, ◌++◌, length, Bool}
+use Rattle.std.proofs.Common.{Option, Some, None, if◌then◌else◌, refl, subst, arith}
+use Rattle.sftp_transcript.specs.declared.errors.TranscriptError.{TranscriptError}
+use Rattle.sftp_transcript.specs.declared.errors.TranscriptError.TheVariants as transcript_errors
+use Rattle.sftp_transcript.specs.declared.events.Event.{Event}
+use Rattle.sftp_transcript.specs.declared.events.Event.TheVariants.{Asked, Replied}
+use Rattle.sftp_transcript.specs.declared.stage.Stage.{Stage}
+use Rattle.sftp_transcript.specs.declared.stage.Stage.TheVariants as stages
+use Rattle.sftp_transcript.specs.Begun.{BeginsRecord, ReadUpTo, HasGiven, GaveFrom, FaultOf}
+use Rattle.sftp_transcript.specs.Explained.{exchanges_of}
+use Rattle.sftp_transcript.specs.Recorded.{Reading}
+use Rattle.sftp_transcript.specs.Transcript.{IsRecord}
+use Rattle.sftp_transcript.proofs.transcripts.Beginnings.{record_from_beginning}
+use Rattle.sftp_handles.specs.State.{State}
+use Rattle.sftp_audit.specs.declared.errors.Refusal.{Refusal}
+use Rattle.sftp_audit.specs.declared.errors.Refusal.TheVariants as refusals
+use Rattle.sftp_audit.specs.Auditor.{Audited, StandsFor, Refuses}
+use Rattle.sftp_audit.specs.Audit.{IsNew, IsNoJudgement, WasFed, StopsFeed, request_count, is_request}
+use Rattle.sftp_audit.specs.Audit.{error_of_transcript, error_of_session}
+
+-- the events so far were given and fed, and so many of them are requests
+pub record IsFeeding (start : State) (transcript : List ℕ) (requests : ℕ) (auditor : Audited) (records : Reading)
+    : Type 0
+  where
+    pub seen : List Event
+    pub ahead : List ℕ
+    pub given : HasGiven transcript seen ahead records
+    pub stands : StandsFor start seen auditor
+    pub counted : requests ≡ request_count seen
+
+-- from wherever nothing was read and nothing was fed
+abbrev pub KeepsFeeding : Audited → Reading → ℕ → Audited → Reading → Type 0
+KeepsFeeding auditor records requests auditor_now records_now =
+    (start : State) (transcript : List ℕ) → IsNew transcript records → StandsFor start [] auditor
+    → IsFeeding start transcript requests auditor_now records_now
+
+pub feeding-start : (auditor : Audited) (records : Reading) → KeepsFeeding auditor records 0 auditor records
+unfolding exchanges_of
+feeding-start auditor records = λ start transcript new stands. record {
+  seen = [];
+  ahead = transcript;
+  given = new.0;
+  stands = stands;
+  counted = refl;
+}
+
+-- ---- how many requests
+
+abbrev ones : Bool → ℕ
+ones bit = if bit then 1 else 0
+
+pub exchanges-one_more : (events : List Event) (event : Event)
+    → length (exchanges_of (events ++ event ∷ [])) ≡ length (exchanges_of events) + ones (is_request event)
+unfolding exchanges_of
+exchanges-one_more [] (Asked request) = refl
+exchanges-one_more [] (Replied reply) = refl
+exchanges-one_more (Asked request ∷ events) event = let e = exchanges-one_more events event in omega (arith, e)
+exchanges-one_more (Replied reply ∷ events) event = exchanges-one_more events event
+
+pub request_count-one_more : (events : List Event) (event : Event) (old : ℕ) → old ≡ request_count events
+    → min (old + ones (is_request event)) (2 ^ 64 - 1) ≡ request_count (events ++ event ∷ [])
+request_count-one_more events event old e =
+    rw (exchanges-one_more events event) (omega (arith, e))
+
+-- ---- one step
+
+pub feeding-next : (start : State) (transcript : List ℕ) (requests : ℕ) (auditor auditor_now : Audited)
+    (records records_now : Reading) (event : Event)
+    → (feeding : IsFeeding start transcript requests auditor records)
+    → GaveFrom transcript feeding.seen (Some event) records_now
+    → StandsFor start (feeding.seen ++ event ∷ []) auditor_now
+    → IsFeeding start transcript (min (requests + ones (is_request event)) (2 ^ 64 - 1)) auditor_now records_now
+feeding-next start transcript requests auditor auditor_now records records_now event feeding gave stands = record {
+  seen = feeding.seen ++ event ∷ [];
+  ahead = gave.0;
+  given = gave.1;
+  stands = stands;
+  counted = request_count-one_more feeding.seen event requests feeding.counted;
+}
+
+-- ---- the end
+
+none_given : (transcript : List ℕ) (events : List Event) (given : Option Event) (new : Reading)
+    → ((event : Event) → given ≡ Some event → ⊥) → GaveFrom transcript events given new → IsRecord events transcript
+none_given transcript events (Some event) new other gave = absurd (other event refl)
+none_given transcript events None new other gave =
+    record_from_beginning events transcript
+    (subst (λ (stage : Stage). ReadUpTo stage transcript events []) gave.1 gave.0.read)
+
+pub all-fed : (start : State) (transcript : List ℕ) (requests : ℕ) (auditor : Audited)
+    (records records_now : Reading) (given : Option Event)
+    → (feeding : IsFeeding start transcript requests auditor records) → ((event : Event) → given ≡ Some event → ⊥)
+    → GaveFrom transcript feeding.seen given records_now → WasFed start transcript requests auditor
+all-fed start transcript requests auditor records records_now given feeding other gave = record {
+  events = feeding.seen;
+  recorded = none_given transcript feeding.seen given records_now other gave;
+  stands = feeding.stands;
+  counted = feeding.counted;
+}
+
+-- ---- stops
+
+pub stops-fault : (start : State) (transcript : List ℕ) (requests : ℕ) (auditor : Audited) (records : Reading)
+    (error : TranscriptError) → (feeding : IsFeeding start transcript requests auditor records)
+    → FaultOf transcript feeding.seen error
+    → (IsNoJudgement (error_of_transcript error) → ⊥) → StopsFeed start transcript (error_of_transcript error)
+stops-fault start transcript requests auditor records transcript_errors.NoMemory feeding why judged = tt
+stops-fault start transcript requests auditor records (transcript_errors.Io number) feeding why judged =
+    absurd (judged tt)
+stops-fault start transcript requests auditor records other feeding (inl excuse) judged = absurd excuse
+stops-fault start transcript requests auditor records other feeding (inr fault) judged = record {
+  events = feeding.seen;
+  end = auditor.state;
+  sound = feeding.stands.sound;
+  fault = fault;
+}
+
+begun_by : (stage : Stage) (bytes : List ℕ) (seen : List Event) (event : Event) (ahead : List ℕ)
+    → ReadUpTo stage bytes (seen ++ event ∷ []) ahead → BeginsRecord (seen ++ event ∷ []) bytes ahead
+begun_by stages.Opening bytes [] event ahead read = cc
+begun_by stages.Opening bytes (first ∷ seen) event ahead read = cc
+begun_by stages.Init bytes [] event ahead read = cc
+begun_by stages.Init bytes (first ∷ seen) event ahead read = cc
+begun_by stages.Version bytes [] event ahead read = cc
+begun_by stages.Version bytes (first ∷ seen) event ahead read = cc
+begun_by stages.Events bytes seen event ahead read = read
+
+pub stops-refused : (start : State) (transcript : List ℕ) (requests : ℕ) (auditor : Audited)
+    (records records_now : Reading) (event : Event) (refusal : Refusal)
+    → (feeding : IsFeeding start transcript requests auditor records)
+    → GaveFrom transcript feeding.seen (Some event) records_now → Refuses start feeding.seen event refusal
+    → StopsFeed start transcript (error_of_session refusal)
+stops-refused start transcript requests auditor records records_now event refusals.NoMemory feeding gave why = tt
+stops-refused start transcript requests auditor records records_now event other feeding gave why = record {
+  events = feeding.seen;
+  event = event;
+  rest = gave.0;
+  begins = begun_by records_now.stage transcript feeding.seen event gave.0 gave.1.read;
+  end = auditor.state;
+  sound = feeding.stands.sound;
+  refuses = why;
+}

@@ -1,0 +1,155 @@
+-- What the parts of an audit say of the whole.
+use Rattle.std.proofs.Common.{◌≡◌, ◌≢◌, inl, inr, ℕ, List, [], ◌∷◌, ◌++◌, refl, sym, ap, ◌∙◌, subst, append_assoc}
+use Rattle.std.proofs.Common.{false, Some, None, Result, Ok, Err}
+use Rattle.std.specs.Result.{IfErr}
+use Rattle.sftp_wire.proofs.StreamLaws.Front.{spellings-apart}
+use Rattle.sftp_tree.specs.Tree.{Tree, trim}
+use Rattle.sftp_tree.specs.Picture.{IsStart}
+use Rattle.sftp_handles.specs.State.{State}
+use Rattle.sftp_handles.specs.Allowed.{Allowed}
+use Rattle.sftp_transcript.specs.declared.errors.TranscriptError.{TranscriptError}
+use Rattle.sftp_transcript.specs.declared.errors.TranscriptError.TheVariants as transcript_errors
+use Rattle.sftp_transcript.specs.declared.events.Event.{Event}
+use Rattle.sftp_transcript.specs.declared.stage.Stage.TheVariants as stages
+use Rattle.sftp_transcript.specs.Explained.{Explained}
+use Rattle.sftp_transcript.specs.Recorded.{Reading}
+use Rattle.sftp_transcript.proofs.transcripts.Beginnings.{begins_each, faulty_records_none}
+use Rattle.sftp_transcript.proofs.transcripts.OneRecord.{records_are_one_lem}
+use Rattle.sftp_audit.specs.declared.errors.AuditError.{AuditError}
+use Rattle.sftp_audit.specs.declared.errors.AuditError.TheVariants as audit_errors
+use Rattle.sftp_audit.specs.declared.errors.Refusal.{Refusal}
+use Rattle.sftp_audit.specs.declared.errors.Refusal.TheVariants as refusals
+use Rattle.sftp_audit.specs.Auditor.{Audited, LacksReply}
+use Rattle.sftp_audit.specs.Audit.{started, Accounts, FaultAt, RefusedAt, IsFirstFault, IsNoJudgement}
+use Rattle.sftp_audit.specs.Audit.{IsExcusedBy, IsNew, IsPlain, WasFed, StopsFeed, error_of_session}
+use Rattle.sftp_audit.proofs.auditing.Lost.{refuses_lost, lacks_lost}
+
+-- no run is accounted for
+abbrev pub HasNoRun : List ℕ → List ℕ → Type 0
+HasNoRun tree transcript =
+    (start : Tree) (events : List Event) (end : Tree) → Accounts tree transcript start events end → ⊥
+
+-- the bytes are the tree file of this tree, and of no other
+abbrev pub IsOnlyStart : Tree → List ℕ → Type 0
+IsOnlyStart start tree = IsStart start tree × ((other : Tree) → IsStart other tree → start ≡ other)
+
+-- ---- records and their events
+
+-- the events of a session that is accounted for lead from the start that was read
+explained_from : (start : Tree) (tree transcript : List ℕ) (other : Tree) (events : List Event) (end : Tree)
+    → start ≡ other → (told : Accounts tree transcript other events end)
+    → Explained Allowed (started start) events told.last
+explained_from start tree transcript other events end same told =
+    subst (λ (t : Tree). Explained Allowed (started t) events told.last) (sym same) told.explained
+
+fault-lost : (start : State) (tree transcript : List ℕ) (error : TranscriptError) → error ≢ transcript_errors.NoMemory
+    → FaultAt start transcript error → HasNoRun tree transcript
+fault-lost start tree transcript error apart at = λ other events end told.
+    faulty_records_none transcript at.events events error apart at.fault told.events_are
+
+refused-lost : (start : Tree) (tree transcript : List ℕ) (refusal : Refusal) → refusal ≢ refusals.NoMemory
+    → IsOnlyStart start tree → RefusedAt (started start) transcript refusal → HasNoRun tree transcript
+refused-lost start tree transcript refusal apart only at = λ other events end told.
+    let on = begins_each (at.events ++ at.event ∷ []) events transcript at.rest at.begins told.events_are in
+    let are : events ≡ at.events ++ at.event ∷ on.more =
+    on.others_are ∙ append_assoc at.events (at.event ∷ []) on.more in
+    let explained = explained_from start tree transcript other events end (only.1 other told.start_is) told in
+    refuses_lost (started start) at.events at.event refusal at.end at.sound at.refuses apart on.more told.last
+    (subst (λ (l : List Event). Explained Allowed (started start) l told.last) are explained)
+
+pub feed-lost : (start : Tree) (tree transcript : List ℕ) (error : AuditError) → IsOnlyStart start tree → IsPlain error
+    → (IsNoJudgement error → ⊥) → StopsFeed (started start) transcript error → HasNoRun tree transcript
+feed-lost start tree transcript (audit_errors.Tree error) only plain judged stops = absurd stops
+feed-lost start tree transcript audit_errors.NoMemory only plain judged stops = absurd (judged tt)
+feed-lost start tree transcript (audit_errors.Transcript error) only plain judged stops =
+    fault-lost (started start) tree transcript error (unlike error plain) stops
+  where
+    unlike : (error : TranscriptError) → IsPlain (audit_errors.Transcript error) → error ≢ transcript_errors.NoMemory
+    unlike transcript_errors.NoMemory plain same = plain
+    unlike other plain same = absurd cc
+feed-lost start tree transcript (audit_errors.Refused refusal) only plain judged stops =
+    refused-lost start tree transcript refusal (unlike refusal plain) only stops
+  where
+    unlike : (refusal : Refusal) → IsPlain (audit_errors.Refused refusal) → refusal ≢ refusals.NoMemory
+    unlike refusals.NoMemory plain same = plain
+    unlike other plain same = absurd cc
+
+pub feed-first : (start : Tree) (tree transcript : List ℕ) (error : AuditError) → IsStart start tree
+    → StopsFeed (started start) transcript error → IsFirstFault tree transcript error
+feed-first start tree transcript (audit_errors.Tree error) is stops = absurd stops
+feed-first start tree transcript audit_errors.NoMemory is stops = tt
+feed-first start tree transcript (audit_errors.Transcript error) is stops = (start, is, stops)
+feed-first start tree transcript (audit_errors.Refused refusal) is stops = (start, is, inl stops)
+
+-- ---- the end
+
+pub end-lost : (start : Tree) (tree transcript : List ℕ) (requests : ℕ) (auditor : Audited) (refusal : Refusal)
+    → IsOnlyStart start tree → (was : WasFed (started start) transcript requests auditor)
+    → LacksReply was.events refusal → HasNoRun tree transcript
+end-lost start tree transcript requests auditor refusal only was lacks = λ other events end told.
+    let same : events ≡ was.events =
+    records_are_one_lem spellings-apart events was.events transcript told.events_are was.recorded in
+    let explained = explained_from start tree transcript other events end (only.1 other told.start_is) told in
+    lacks_lost (started start) was.events refusal auditor.state was.stands.sound lacks told.last
+    (subst (λ (l : List Event). Explained Allowed (started start) l told.last) same explained)
+
+pub end-first : (start : Tree) (tree transcript : List ℕ) (requests : ℕ) (auditor : Audited) (refusal : Refusal)
+    → IsStart start tree → (was : WasFed (started start) transcript requests auditor) → LacksReply was.events refusal
+    → IsFirstFault tree transcript (error_of_session refusal)
+end-first start tree transcript requests auditor refusals.NoMemory is was lacks = tt
+end-first start tree transcript requests auditor other is was lacks = (
+  start,
+  is,
+  inr (record {
+    events = was.events;
+    recorded = was.recorded;
+    end = auditor.state;
+    sound = was.stands.sound;
+    lacks = lacks;
+  }),
+)
+
+-- the end is the tree where the run ends
+pub accounts-fed : (start : Tree) (tree transcript : List ℕ) (requests : ℕ) (auditor : Audited) (end : Tree)
+    → IsStart start tree → (was : WasFed (started start) transcript requests auditor)
+    → (last : State) × Explained Allowed (started start) was.events last × (end ≡ trim (record last.tree { pins = [] }))
+    → Accounts tree transcript start was.events end
+accounts-fed start tree transcript requests auditor end is was ended = record {
+  start_is = is;
+  events_are = was.recorded;
+  last = ended.0;
+  explained = ended.1;
+  end_is = ended.2;
+}
+
+-- ---- an audit of bytes in memory
+
+judges : (error : AuditError) → error ≢ audit_errors.NoMemory → IsExcusedBy false error → IsNoJudgement error → ⊥
+judges audit_errors.NoMemory apart excused none = apart refl
+judges (audit_errors.Transcript (transcript_errors.Io number)) apart excused none = absurd cc
+judges other apart excused none = absurd none
+
+abbrev fresh : List ℕ → ℕ → ℕ → Reading
+fresh bytes failures reads = record {
+  ahead = record { held = []; left = Some bytes; failures = failures; reads_left = reads };
+  stage = stages.Opening;
+  number = 3;
+  fault = None;
+}
+
+is_new : (bytes : List ℕ) (failures reads : ℕ) → IsNew bytes (fresh bytes failures reads)
+is_new bytes failures reads =
+    (record { ahead_are = refl; read = (refl, refl); number = refl; faultless = refl }, refl)
+
+pub refused-memory : {T : Type 0} (tree bytes left : List ℕ) (failures reads : ℕ) (records : Reading)
+    (result : Result T AuditError) → left ≡ bytes → records ≡ fresh left failures reads
+    → IfErr result (λ e. (IsNoJudgement e → ⊥) → (transcript : List ℕ) → IsNew transcript records
+    → HasNoRun tree transcript)
+    → (records.fault ≡ None → IfErr result (IsExcusedBy false))
+    → IfErr result (λ e. e ≢ audit_errors.NoMemory → HasNoRun tree bytes)
+refused-memory tree bytes left failures reads records (Ok value) same is refused excused = tt
+refused-memory tree bytes left failures reads records (Err error) same is refused excused = λ apart.
+    let new : IsNew bytes records =
+    subst (λ (r : Reading). IsNew bytes r) (ap (λ (l : List ℕ). fresh l failures reads) (sym same) ∙ sym is)
+    (is_new bytes failures reads) in
+    refused (judges error apart (excused new.0.faultless)) bytes new

@@ -1,0 +1,179 @@
+-- Worked examples: what an auditor keeps, and what it refuses.
+use Rattle.std.proofs.Common.{◌≡◌, ℕ, List, [], ◌∷◌, codes, Some, None, refl, sym, ◌∙◌, inl, inr, arith}
+use Rattle.sftp_wire.specs.declared.packets.Request.{Request}
+use Rattle.sftp_wire.specs.declared.packets.Reply.{Reply}
+use Rattle.sftp_wire.specs.declared.packets.Ask.TheVariants.{Mkdir, Rmdir}
+use Rattle.sftp_wire.specs.declared.packets.Answer.TheVariants.{Status}
+use Rattle.sftp_wire.specs.Examples.{no_attributes}
+use Rattle.sftp_path.specs.Place.{parts, components, is_good_path}
+use Rattle.sftp_path.specs.Table.{retain, get, put, without}
+use Rattle.sftp_tree.specs.Tree.{has_entries, fits}
+use Rattle.sftp_tree.specs.Walk.{meets, walk, walk_parts, reached}
+use Rattle.sftp_tree.specs.Causes.{no_causes, when, joined}
+use Rattle.sftp_tree.specs.Requests.{led, plain_causes, causes as path_causes, outcome}
+use Rattle.sftp_tree.specs.Picture.{blank}
+use Rattle.sftp_handles.specs.State.{State}
+use Rattle.sftp_handles.specs.Handles.{pins_of}
+use Rattle.sftp_handles.specs.Requests.{causes, told_to, answers, after}
+use Rattle.sftp_handles.specs.Allowed.{Allowed, step}
+use Rattle.sftp_transcript.specs.Explained.{closed, waiting, turn_after, next_reply, exchanges_of, leading_pairs}
+use Rattle.sftp_transcript.specs.Explained.{requests_before_reply, in_window, Run}
+use Rattle.sftp_transcript.specs.Sound.{Sound}
+use Rattle.sftp_transcript.specs.Examples.{mkdir, status}
+use Rattle.sftp_audit.specs.declared.errors.Refusal.TheVariants as refusals
+use Rattle.sftp_audit.specs.declared.exchanges.Exchange.{Exchange}
+use Rattle.sftp_audit.specs.Audit.{started, RefusedAt}
+use Rattle.sftp_audit.specs.Auditor.{StandsFor, IsFirstWrong, Refuses, LacksReply}
+use Rattle.sftp_audit.specs.Exchanges.{next_recorded, exchanges_from, recorded_exchanges, unsettled, ledger_of}
+use Rattle.sftp_audit.specs.Examples.{with_a, with_a_and_b, three_requests, backward_replies, two_backward_replies}
+use Rattle.sftp_audit.specs.Examples.{removal_done_bytes, last_answered, id_used_again, first_answered, second_waits}
+use Rattle.sftp_audit.specs.Examples.{auditor_with}
+use Rattle.sftp_audit.proofs.auditing.Refusals.{one_refusal}
+use Rattle.sftp_audit.proofs.steps.RunEnds.{run-of_run_end, no_run-of_run_end}
+use Rattle.sftp_audit.proofs.worked.Records.{removal_done_begins}
+use Rattle.sftp_audit.proofs.worked.Runs.{sound_by}
+
+-- ---- the replies come backwards
+
+two_replies_sound : Sound Allowed (started blank) (two_backward_replies 0) (started blank)
+unfolding turn_after in_window requests_before_reply leading_pairs exchanges_of next_reply
+two_replies_sound =
+    sound_by blank (two_backward_replies 0) blank
+    (inr refl, (inl refl, (inl refl, (inl refl, (inl refl, tt))))) refl refl
+
+pub nothing_settled : StandsFor (started blank) (two_backward_replies 0)
+    (auditor_with blank (recorded_exchanges (two_backward_replies 0)) 8)
+unfolding exchanges_from next_recorded unsettled
+nothing_settled = record { sound = two_replies_sound; kept = refl; number = refl; unrefused = refl }
+
+-- the removal, and the reply that says that it is done
+abbrev removal : Request
+removal = record { id = 3; ask = Rmdir (codes "/a") }
+
+abbrev removal_done : Reply
+removal_done = record { id = 3; answer = Status 0 [] [] }
+
+-- a request for a directory in one record, and in another that it was made
+abbrev made : ℕ → List ℕ → ℕ → ℕ → Exchange
+made id path asked_in told_in = record {
+  request = record { id = id; ask = Mkdir path no_attributes };
+  number = asked_in;
+  reply = Some (record { reply = record { id = id; answer = Status 0 [] [] }; number = told_in });
+}
+
+-- the requests before it, with the replies that came later
+abbrev first_two_done : List Exchange
+first_two_done =
+    made 1 (codes "/a") 3 8 ∷ made 2 (codes "/a/b") 4 7 ∷ []
+
+-- after the first two requests the directory is not empty
+first_two_run : Run Allowed (started blank) (leading_pairs (ledger_of first_two_done)) (started with_a_and_b)
+unfolding
+    leading_pairs step causes answers after told_to pins_of path_causes plain_causes no_causes when joined led outcome
+    reached walk
+    walk_parts meets is_good_path components parts get put without has_entries fits retain
+first_two_run = run-of_run_end (started blank) (leading_pairs (ledger_of first_two_done)) (started with_a_and_b) refl
+
+not_removed : (end : State) → Allowed (started with_a_and_b) removal removal_done end → ⊥
+unfolding
+    step causes answers after told_to pins_of path_causes plain_causes no_causes when joined led outcome reached walk
+    walk_parts meets is_good_path components parts get put without has_entries fits retain
+not_removed end allowed =
+    no_run-of_run_end (started with_a_and_b) ((removal, removal_done) ∷ []) refl end (end, allowed, refl)
+
+removal_is_wrong : IsFirstWrong (started blank) (recorded_exchanges (backward_replies 0)) 6
+unfolding exchanges_from next_recorded
+removal_is_wrong = record {
+  before = first_two_done;
+  request = removal;
+  asked_in = 5;
+  reply = removal_done;
+  behind = [];
+  exchanges_are = refl;
+  answered = (refl, (refl, tt));
+  mid = started with_a_and_b;
+  run = first_two_run;
+  wrong = not_removed;
+}
+
+pub refused : Refuses (started blank) (two_backward_replies 0) (status 1 0) (refusals.NotAllowed 6)
+unfolding turn_after
+refused = (refl, removal_is_wrong)
+
+same_number : (n m : ℕ) → refusals.NotAllowed n ≡ refusals.NotAllowed m → n ≡ m
+same_number n m e = cc
+
+other_record : refusals.NotAllowed 6 ≡ refusals.NotAllowed 8 → ⊥
+other_record e = absurd (omega (arith, same_number 6 8 e))
+
+not_memory : (number : ℕ) → refusals.NotAllowed number ≡ refusals.NoMemory → ⊥
+not_memory number e = cc
+
+pub not_the_last : ¬ Refuses (started blank) (two_backward_replies 0) (status 1 0) (refusals.NotAllowed 8)
+not_the_last other =
+    let one = one_refusal (started blank) (two_backward_replies 0) (status 1 0) in
+    other_record (one (refusals.NotAllowed 6) (refusals.NotAllowed 8) refused other (not_memory 6) (not_memory 8))
+
+pub in_bytes : RefusedAt (started blank) removal_done_bytes (refusals.NotAllowed 6)
+in_bytes = record {
+  events = two_backward_replies 0;
+  event = status 1 0;
+  rest = [];
+  begins = removal_done_begins;
+  end = started blank;
+  sound = two_replies_sound;
+  refuses = refused;
+}
+
+-- ---- ids
+
+pub answered_twice : Refuses (started blank) last_answered (status 3 4) (refusals.UnknownReply 7)
+unfolding turn_after
+answered_twice = (refl, refl)
+
+pub asked_twice : Refuses (started blank) three_requests (mkdir 1 (codes "/c")) (refusals.IdInUse 6)
+unfolding turn_after
+asked_twice = (refl, refl)
+
+first_waits : turn_after 1 closed three_requests ≡ waiting
+unfolding turn_after
+first_waits = refl
+
+pub not_late : ¬ Refuses (started blank) three_requests (mkdir 1 (codes "/c")) (refusals.Window 6)
+not_late late = let e : waiting ≡ closed = sym first_waits ∙ late.1 in cc
+
+id_used_again_sound : Sound Allowed (started blank) id_used_again (started blank)
+unfolding turn_after in_window requests_before_reply leading_pairs exchanges_of next_reply
+id_used_again_sound =
+    sound_by blank id_used_again blank (inr refl, (inr refl, (inr refl, (inr refl, (inr refl, tt))))) refl refl
+
+pub used_again : StandsFor (started blank) id_used_again (auditor_with blank (recorded_exchanges id_used_again) 8)
+unfolding exchanges_from next_recorded unsettled
+used_again = record { sound = id_used_again_sound; kept = refl; number = refl; unrefused = refl }
+
+-- ---- the oldest request that waits
+
+first_answered_sound : Sound Allowed (started blank) first_answered (started with_a)
+unfolding
+    turn_after in_window requests_before_reply leading_pairs exchanges_of next_reply step causes answers after told_to
+    pins_of path_causes plain_causes no_causes when joined led outcome reached walk
+    walk_parts meets is_good_path components parts get put without has_entries fits retain
+first_answered_sound = sound_by blank first_answered with_a (inl refl, (inr refl, (inl refl, tt))) refl refl
+
+pub settled : StandsFor (started blank) first_answered (auditor_with with_a second_waits 6)
+unfolding exchanges_from next_recorded unsettled
+settled = record { sound = first_answered_sound; kept = refl; number = refl; unrefused = refl }
+
+second_left : unsettled (recorded_exchanges first_answered) ≡ second_waits
+unfolding exchanges_from next_recorded unsettled
+second_left = refl
+
+pub unanswered : LacksReply first_answered (refusals.Unanswered 4)
+unanswered =
+    let waits : Request = record { id = 2; ask = Mkdir (codes "/a/b") no_attributes } in
+    (record { request = waits; number = 4; reply = None }, [], second_left, refl)
+
+pub not_the_first : ¬ LacksReply first_answered (refusals.Unanswered 3)
+not_the_first first =
+    let same : second_waits ≡ first.0 ∷ first.1 = sym second_left ∙ first.2 in
+    absurd (let n : 4 ≡ first.0.number = cc in omega arith)

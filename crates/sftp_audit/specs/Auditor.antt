@@ -1,0 +1,86 @@
+-- What an auditor keeps of the events that it was fed, and which refusal an event gets
+-- (draft-ietf-secsh-filexfer-02, section 6.1). The window and the numbers of records are this profile's own.
+use Rattle.std.specs.Prelude.{◌≡◌, ℕ, ◌≤◌, ⊤, List, [], ◌∷◌, ◌++◌, length, Option, Some, None}
+use Rattle.sftp_wire.specs.declared.packets.Request.{Request}
+use Rattle.sftp_wire.specs.declared.packets.Reply.{Reply}
+use Rattle.sftp_handles.specs.State.{State}
+use Rattle.sftp_handles.specs.Allowed.{Allowed}
+use Rattle.sftp_transcript.specs.declared.events.Event.{Event}
+use Rattle.sftp_transcript.specs.declared.events.Event.TheVariants.{Asked, Replied}
+use Rattle.sftp_transcript.specs.Begun.{number_behind}
+use Rattle.sftp_transcript.specs.Explained.{Run, leading_pairs, window, turn_after, closed}
+use Rattle.sftp_transcript.specs.Sound.{Sound, IsWaiting}
+use Rattle.sftp_audit.specs.declared.errors.Refusal.{Refusal}
+use Rattle.sftp_audit.specs.declared.errors.Refusal.TheVariants as refusals
+use Rattle.sftp_audit.specs.declared.exchanges.Exchange.{Exchange}
+use Rattle.sftp_audit.specs.Exchanges.{recorded_exchanges, unsettled, AreAnswered, ledger_of}
+
+-- What an auditor keeps: the state after the settled requests, which are those before the first one without a reply;
+-- the exchanges from that one on; the number of the next event's record; and the refusal, once there is one.
+pub record Audited : Type 0 where
+  pub state : State
+  pub kept : List Exchange
+  pub number : ℕ
+  pub refusal : Option Refusal
+
+-- the events are sound from the start, and this is kept of them
+pub record StandsFor (start : State) (events : List Event) (a : Audited) : Type 0 where
+  pub sound : Sound Allowed start events a.state
+  pub kept : a.kept ≡ unsettled (recorded_exchanges events)
+  pub number : a.number ≡ number_behind events
+  pub unrefused : a.refusal ≡ None
+
+-- The reply in the record of this number is the first in the order asked that is not allowed: all requests before its
+-- own have their replies, and these are allowed.
+pub record IsFirstWrong (start : State) (exchanges : List Exchange) (number : ℕ) : Type 0 where
+  pub before : List Exchange
+  pub request : Request
+  pub asked_in : ℕ
+  pub reply : Reply
+  pub behind : List Exchange
+  pub exchanges_are : exchanges ≡ before
+      ++ record { request = request; number = asked_in; reply = Some (record { reply = reply; number = number }) }
+      ∷ behind
+  pub answered : AreAnswered before
+  pub mid : State
+  pub run : Run Allowed start (leading_pairs (ledger_of before)) mid
+  pub wrong : (end : State) → Allowed mid request reply end → ⊥
+
+-- so many requests were asked from the first one without a reply on that there is no room for another
+abbrev pub IsWindowFull : List Event → Type 0
+IsWindowFull events = window ≤ length (unsettled (recorded_exchanges events))
+
+-- why an event is refused behind others that are sound from the start
+abbrev pub Refuses : State → List Event → Event → Refusal → Type 0
+Refuses start events (Replied reply) (refusals.UnknownReply number) =
+    (number ≡ number_behind events) × (turn_after reply.id closed events ≡ closed)
+Refuses start events (Asked request) (refusals.IdInUse number) =
+    (number ≡ number_behind events) × IsWaiting events request.id
+Refuses start events (Asked request) (refusals.Window number) =
+    (number ≡ number_behind events) × (turn_after request.id closed events ≡ closed) × IsWindowFull events
+Refuses start events (Replied reply) (refusals.NotAllowed number) =
+    IsWaiting events reply.id × IsFirstWrong start (recorded_exchanges (events ++ Replied reply ∷ [])) number
+Refuses start events event refusals.NoMemory = ⊤
+Refuses start events event other = ⊥
+
+-- the first request without a reply is in the record of this number
+abbrev pub IsOldestOpen : List Event → ℕ → Type 0
+IsOldestOpen events number =
+    (exchange : Exchange) × (others : List Exchange)
+    × (unsettled (recorded_exchanges events) ≡ exchange ∷ others) × (number ≡ exchange.number)
+
+-- why there is no end yet
+abbrev pub LacksReply : List Event → Refusal → Type 0
+LacksReply events (refusals.Unanswered number) = IsOldestOpen events number
+LacksReply events other = ⊥
+
+-- why settling stops before a request without a reply
+abbrev pub RefusesToSettle : State → List Exchange → Refusal → Type 0
+RefusesToSettle start exchanges (refusals.NotAllowed number) = IsFirstWrong start exchanges number
+RefusesToSettle start exchanges refusals.NoMemory = ⊤
+RefusesToSettle start exchanges other = ⊥
+
+-- the events are sound from the start, and this is kept of them; the number is still that of the last event's record
+pub record IsNoted (start : State) (events : List Event) (a : Audited) : Type 0 where
+  pub sound : Sound Allowed start events a.state
+  pub kept : a.kept ≡ unsettled (recorded_exchanges events)

@@ -1,0 +1,135 @@
+//! Audits, from bytes to bytes.
+ghost use Rattle.std.specs.Prelude.{◌≡◌, ◌≢◌, ℕ, [], List, None, false, IfOk, IfErr, MatchResult};
+ghost use Rattle.sftp_audit.specs.declared.errors.AuditError.TheVariants.{NoMemory};
+ghost use Rattle.sftp_tree.specs.Tree as values;
+ghost use Rattle.sftp_tree.specs.Picture.{picture};
+ghost use Rattle.sftp_handles.specs.State.{State};
+ghost use Rattle.sftp_audit.specs.Auditor.{StandsFor};
+ghost use Rattle.sftp_audit.specs.Audit.{Accounts, IsFirstFault, IsNoJudgement, CountsFailure, IsExcusedBy, IsNew};
+ghost use Rattle.sftp_audit.specs.Audit.{IsPlain, WasFed, StopsFeed, request_count, is_request};
+
+use crate::auditor::Auditor;
+use crate::errors::AuditError;
+use sftp_transcript::{Event, Memory, Reader, Source};
+use sftp_tree::Tree;
+use std::alloc::Global;
+
+/// The result of an accepted session.
+#[derive(Debug, Drop)]
+pub struct Accepted {
+    /// The tree file of the tree after the last request, with every handle closed.
+    pub tree: Vec<u8>,
+    /// How many requests there were, up to 2^64 - 1.
+    pub requests: u64,
+}
+
+/// Says whether a tree allows every reply of a recorded session, in whatever order the replies came, and what
+/// tree the session ends in.
+///
+/// It accepts exactly if the bytes of the tree file are a tree, those of the transcript file record a session, the
+/// replies pair off with earlier requests, each within 1,024 requests, and each reply is allowed when the requests are
+/// carried out singly and in sequence (draft-ietf-secsh-filexfer-02, section 6.1). The session starts with nothing
+/// open. A handle is open from the reply that gives it until its CLOSE is done; the names of handles are the server's
+/// own choice, but no reply gives a handle that is open. A file that is removed while it is open lives until its last
+/// handle is closed. The end is taken as if the handles that are still open were closed then, and files without a name
+/// are not in it.
+///
+/// # Errors
+///
+/// The tree file is judged first, then the transcript file, then the session.
+///
+/// - `Tree` if the bytes are not a tree file; the fault is the first one from left to right.
+/// - `Transcript` if the tree file is good, but the bytes are not a transcript file; the fault is the first one from
+///   left to right.
+/// - `Refused` if the tree file is good and the tree does not explain the session.
+/// - `NoMemory` if memory ran out. The other errors never have `NoMemory` inside.
+pub fn audit(alloc: Global, tree: &[u8], transcript: &[u8]) -> Result<Accepted, AuditError>
+    // An accepted session accounts for a run, and the result is the tree where it ends.
+    ensures accepted { IfOk result (λ accepted. (start : values.Tree) × (events : List _) × (end : values.Tree)
+        × Accounts tree.now transcript.now start events end
+        × (accepted.tree.items ≡ picture end)
+        × (accepted.requests ≡ request_count events)) }
+    // A refused session accounts for no run, unless memory ran out.
+    ensures refused { IfErr result (λ e. e ≢ NoMemory → (start : values.Tree) (events : List _) (end : values.Tree)
+        → Accounts tree.now transcript.now start events end → ⊥) }
+    // The error is the first fault.
+    ensures first { IfErr result (IsFirstFault tree.now transcript.now) }
+    // It is never `Io`, since bytes in memory can be read.
+    ensures never_fails { IfErr result (IsExcusedBy false) }
+    ensures plain { IfErr result IsPlain }
+{
+    let mut records = Reader::new(alloc, Memory::new(transcript))?;
+    audit_stream(alloc, tree, &mut records)
+}
+
+/// Audits a session whose transcript is read from a stream, as `audit` does. The reader has read nothing yet. Of the
+/// transcript it keeps what the reader holds, and the requests from the oldest unanswered one on with their replies.
+///
+/// # Errors
+///
+/// Those of `audit`, and `Transcript` with `Io` if the source fails, which says nothing about the session.
+pub fn audit_stream<R: Source>(
+    alloc: Global,
+    tree: &[u8],
+    records: &mut Reader<R>,
+) -> Result<Accepted, AuditError>
+    // Of a reader that has read nothing yet, whatever bytes its source has.
+    ensures accepted { IfOk result (λ accepted. (transcript : List ℕ) → IsNew transcript records.old →
+        (start : values.Tree) × (events : List _) × (end : values.Tree)
+        × Accounts tree.now transcript start events end
+        × (accepted.tree.items ≡ picture end)
+        × (accepted.requests ≡ request_count events)) }
+    ensures refused { IfErr result (λ e. (IsNoJudgement e → ⊥) → (transcript : List ℕ) → IsNew transcript records.old →
+        (start : values.Tree) (events : List _) (end : values.Tree)
+        → Accounts tree.now transcript start events end → ⊥) }
+    ensures first { IfErr result (λ e. (IsNoJudgement e → ⊥) → (transcript : List ℕ) → IsNew transcript records.old →
+        IsFirstFault tree.now transcript e) }
+    // The source failed once where the error is `Io`, and otherwise never.
+    ensures counts { records.old.fault ≡ None → MatchResult result
+        (λ _. records.new.ahead.failures ≡ records.old.ahead.failures)
+        (λ e. CountsFailure e records.old.ahead.failures records.new.ahead.failures) }
+    ensures may_fail { records.old.fault ≡ None → IfErr result (IsExcusedBy R.may_fail) }
+    ensures plain { IfErr result IsPlain }
+{
+    let mut auditor = Auditor::new(Tree::read(alloc, tree)?)?;
+    let requests = feed_all(&mut auditor, records)?;
+    let end = auditor.finish()?;
+    let tree = end.write()?;
+    Ok(Accepted { tree, requests })
+}
+
+/// Feeds an auditor the events that are still to come, and returns how many of them are requests, up to 2^64 - 1.
+///
+/// # Errors
+///
+/// The first error: `Refused` if an event is refused, `Transcript` if the next record has a fault or the source fails,
+/// and `NoMemory` if memory runs out.
+fn feed_all<R: Source>(auditor: &mut Auditor, records: &mut Reader<R>) -> Result<u64, AuditError>
+    // Of a reader that has read nothing yet, and an auditor that stands for no events, from any start.
+    ensures fed { IfOk result (λ requests. (start : State) (transcript : List ℕ) → IsNew transcript records.old
+        → StandsFor start [] auditor.old → WasFed start transcript requests auditor.new) }
+    ensures stopped { IfErr result (λ e. (IsNoJudgement e → ⊥) → (start : State) (transcript : List ℕ)
+        → IsNew transcript records.old → StandsFor start [] auditor.old → StopsFeed start transcript e) }
+    ensures counts { records.old.fault ≡ None → MatchResult result
+        (λ _. records.new.ahead.failures ≡ records.old.ahead.failures)
+        (λ e. CountsFailure e records.old.ahead.failures records.new.ahead.failures) }
+    ensures may_fail { records.old.fault ≡ None → IfErr result (IsExcusedBy R.may_fail) }
+    ensures plain { IfErr result IsPlain }
+{
+    let mut requests: u64 = 0;
+    'events: while let Some(event) = records.next()? {
+        requests = requests.saturating_add(u64::from(is_request(&event)));
+        auditor.feed(event)?;
+    }
+    Ok(requests)
+}
+
+/// Whether the event is a request.
+fn is_request(event: &Event) -> bool
+    ensures { result ≡ is_request event.now }
+{
+    match event {
+        Event::Asked(_) => true,
+        Event::Replied(_) => false,
+    }
+}

@@ -1,0 +1,12 @@
+use Rattle.std.proofs.Common.{[], refl}
+use Rattle.sftp_wire.specs.Examples.{hex}
+use Rattle.sftp_wire.specs.declared.packets.Packet.TheVariants.{Init}
+use Rattle.sftp_server.proofs.Worked.Openings.{opened, unchanged}
+use Rattle.sftp_server.proofs.examples.nothing_asked.Goals as goal
+
+pub returns-clause-served : goal.returns-clause-served
+returns-clause-served c = record { init = Init 3 []; events = []; opened = opened []; served = unchanged; ended = tt }
+
+pub returns-clause-logged : goal.returns-clause-logged
+unfolding hex
+returns-clause-logged c = refl

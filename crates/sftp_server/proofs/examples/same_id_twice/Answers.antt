@@ -1,0 +1,34 @@
+-- The first request is answered as the blank tree allows; the second has its id.
+use Rattle.std.proofs.Common.{[], refl, inr}
+use Rattle.sftp_wire.specs.declared.packets.Packet.TheVariants.{Init}
+use Rattle.sftp_wire.specs.Examples.{hex}
+use Rattle.sftp_wire.specs.Spelling.{spelling}
+use Rattle.sftp_path.specs.Table.{get, retain}
+use Rattle.sftp_tree.specs.Picture.{blank}
+use Rattle.sftp_handles.specs.Handles.{pins_of}
+use Rattle.sftp_server.specs.Core.{started}
+use Rattle.sftp_server.specs.Served.{sent_by, answered_last}
+use Rattle.sftp_server.specs.Examples.{stat_bytes, stat_answered}
+use Rattle.sftp_server.proofs.Worked.Openings.{greeting}
+use Rattle.sftp_server.proofs.Worked.Scripts.{stat_root, stat_spelled, root_spelled, looked}
+use Rattle.sftp_server.proofs.examples.same_id_twice.Goals as goal
+
+pub returns : goal.returns
+unfolding sent_by spelling hex answered_last pins_of retain get
+returns c = inr (record {
+  init = Init 3 [];
+  events = stat_answered;
+  rest = stat_bytes;
+  opened = record {
+    greeting = greeting;
+    spelled = (stat_spelled, (root_spelled, tt));
+    read = refl;
+    written = refl;
+    logged = refl;
+  };
+  served = record { last = started blank; explained = looked; end_is = refl };
+  broken = (
+    record { request = stat_root; rest = []; spelled = stat_spelled; bytes_are = refl; same_id = refl },
+    refl,
+  );
+})

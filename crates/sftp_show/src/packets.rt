@@ -1,0 +1,130 @@
+//! What a line says of a packet: its name, its id or version, and its paths (draft, sections 3 to 8).
+
+use crate::quoted::Quoted;
+use sftp_wire::{Answer, Ask, ByteString, Packet};
+use std::fmt;
+
+/// The name of a packet's type (draft, section 3).
+pub(crate) fn name(packet: &Packet) -> &'static str {
+    match packet {
+        Packet::Init { .. } => "INIT",
+        Packet::Version { .. } => "VERSION",
+        Packet::Request(request) => ask_name(&request.ask),
+        Packet::Reply(reply) => answer_name(&reply.answer),
+    }
+}
+
+fn ask_name(ask: &Ask) -> &'static str {
+    match ask {
+        Ask::Open { .. } => "OPEN",
+        Ask::Close { .. } => "CLOSE",
+        Ask::Read { .. } => "READ",
+        Ask::Write { .. } => "WRITE",
+        Ask::Lstat { .. } => "LSTAT",
+        Ask::Fstat { .. } => "FSTAT",
+        Ask::Setstat { .. } => "SETSTAT",
+        Ask::Fsetstat { .. } => "FSETSTAT",
+        Ask::Opendir { .. } => "OPENDIR",
+        Ask::Readdir { .. } => "READDIR",
+        Ask::Remove { .. } => "REMOVE",
+        Ask::Mkdir { .. } => "MKDIR",
+        Ask::Rmdir { .. } => "RMDIR",
+        Ask::Realpath { .. } => "REALPATH",
+        Ask::Stat { .. } => "STAT",
+        Ask::Rename { .. } => "RENAME",
+        Ask::Readlink { .. } => "READLINK",
+        Ask::Symlink { .. } => "SYMLINK",
+        Ask::PosixRename { .. }
+        | Ask::Hardlink { .. }
+        | Ask::Fsync { .. }
+        | Ask::Unknown { .. } => "EXTENDED",
+    }
+}
+
+fn answer_name(answer: &Answer) -> &'static str {
+    match answer {
+        Answer::Status { .. } => "STATUS",
+        Answer::Handle(_) => "HANDLE",
+        Answer::Data(_) => "DATA",
+        Answer::Name(_) => "NAME",
+        Answer::Attrs(_) => "ATTRS",
+        Answer::Extended(_) => "EXTENDED_REPLY",
+    }
+}
+
+/// The id of a request or a reply, or the version of an INIT or a VERSION.
+pub(crate) fn number(packet: &Packet) -> u32 {
+    match packet {
+        Packet::Init { version, .. } => *version,
+        Packet::Version { version, .. } => *version,
+        Packet::Request(request) => request.id,
+        Packet::Reply(reply) => reply.id,
+    }
+}
+
+/// Writes the code of a status, or the paths of a request, each with a space before it.
+pub(crate) fn put_details<W: fmt::Write>(
+    packet: &Packet,
+    f: &mut fmt::Formatter<W>,
+) -> fmt::Result {
+    match packet {
+        Packet::Request(request) => put_paths(&request.ask, f),
+        Packet::Reply(reply) => put_code(&reply.answer, f),
+        Packet::Init { .. } | Packet::Version { .. } => Ok(()),
+    }
+}
+
+fn put_code<W: fmt::Write>(answer: &Answer, f: &mut fmt::Formatter<W>) -> fmt::Result {
+    match answer {
+        Answer::Status { code, .. } => write!(f, " code {code}"),
+        Answer::Handle(_)
+        | Answer::Data(_)
+        | Answer::Name(_)
+        | Answer::Attrs(_)
+        | Answer::Extended(_) => Ok(()),
+    }
+}
+
+fn put_paths<W: fmt::Write>(ask: &Ask, f: &mut fmt::Formatter<W>) -> fmt::Result {
+    match ask {
+        Ask::Open { path, .. }
+        | Ask::Lstat { path }
+        | Ask::Setstat { path, .. }
+        | Ask::Opendir { path }
+        | Ask::Remove { path }
+        | Ask::Mkdir { path, .. }
+        | Ask::Rmdir { path }
+        | Ask::Realpath { path }
+        | Ask::Stat { path }
+        | Ask::Readlink { path } => put_path(path, f),
+        Ask::Rename { oldpath, newpath }
+        | Ask::PosixRename { oldpath, newpath }
+        | Ask::Hardlink { oldpath, newpath } => put_two_paths(oldpath, newpath, f),
+        Ask::Symlink {
+            targetpath,
+            linkpath,
+        } => put_two_paths(targetpath, linkpath, f),
+        Ask::Close { .. }
+        | Ask::Read { .. }
+        | Ask::Write { .. }
+        | Ask::Fstat { .. }
+        | Ask::Fsetstat { .. }
+        | Ask::Readdir { .. }
+        | Ask::Fsync { .. }
+        | Ask::Unknown { .. } => Ok(()),
+    }
+}
+
+fn put_path<W: fmt::Write>(path: &ByteString, f: &mut fmt::Formatter<W>) -> fmt::Result {
+    let path = Quoted(path.as_slice());
+    write!(f, " {path}")
+}
+
+fn put_two_paths<W: fmt::Write>(
+    first: &ByteString,
+    second: &ByteString,
+    f: &mut fmt::Formatter<W>,
+) -> fmt::Result {
+    put_path(first, f)?;
+    put_path(second, f)
+}

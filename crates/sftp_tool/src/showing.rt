@@ -1,0 +1,92 @@
+//! The subcommand `show`: what a transcript or a tree file holds, as lines of text.
+ghost use Rattle.std.specs.Prelude.{◌≡◌, IfOk};
+ghost use Rattle.sftp_tool.specs.declared.messages.Ending.TheVariants as endings;
+
+use crate::messages::{Ending, Failure, STANDARD_OUTPUT};
+use crate::subcommands::open;
+use sftp_audit::TreeError;
+use sftp_show::{ShowError, show_transcript, show_tree};
+use sftp_transcript::{OPENING, Reader, Tally};
+use sftp_treefile::{TreeFile, read_rows};
+use std::alloc::Global;
+use std::fs::Files;
+use std::io;
+use std::io::{Read, Write};
+
+/// Shows a file. Its first bytes say which kind it is; a transcript is then read as a stream.
+pub(crate) fn show<'a, R: Files + AllocGlobal, O: Write>(
+    rt: &R,
+    name: &'a str,
+    output: &mut O,
+) -> Result<Ending, Failure<'a>>
+    ensures { IfOk result (λ ending. ending ≡ endings.Done) }
+{
+    let file = open(rt, name)?;
+    match show_file(rt.alloc(), name, file, output) {
+        Ok(()) => flush(output),
+        Err(failure) => {
+            flush(output)?;
+            Err(failure)
+        }
+    }
+}
+
+fn flush<'a, O: Write>(output: &mut O) -> Result<Ending, Failure<'a>>
+    ensures { IfOk result (λ ending. ending ≡ endings.Done) }
+{
+    match output.flush() {
+        Ok(()) => Ok(Ending::Done),
+        Err(error) => Err(Failure::writing(STANDARD_OUTPUT, &error)),
+    }
+}
+
+fn show_file<'a, F: Read + Drop, O: Write>(
+    alloc: Global,
+    name: &'a str,
+    mut file: F,
+    output: &mut O,
+) -> Result<(), Failure<'a>> {
+    let mut start = Vec::new(alloc);
+    append(name, &mut file.by_ref().take(OPENING.len() as u64), &mut start)?;
+    if start.as_slice() == OPENING.as_slice() {
+        show_records(alloc, name, start.as_slice().chain(file), output)
+    } else {
+        append(name, &mut file, &mut start)?;
+        show_rows(alloc, start.as_slice(), output)
+    }
+}
+
+/// Appends all that is left of the file `name` to the bytes.
+fn append<'a, F: Read>(name: &'a str, file: &mut F, bytes: &mut Vec<u8>) -> Result<(), Failure<'a>> {
+    match file.read_to_end(bytes) {
+        Ok(_) => Ok(()),
+        Err(error) => Err(Failure::reading(name, &error)),
+    }
+}
+
+fn show_records<'a, F: Read + Drop, O: Write>(
+    alloc: Global,
+    name: &'a str,
+    file: F,
+    output: &mut O,
+) -> Result<(), Failure<'a>> {
+    match Reader::new(alloc, Tally::new(file)) {
+        Ok(mut records) => match show_transcript(&mut records, output) {
+            Ok(()) => Ok(()),
+            Err(ShowError::Transcript(error)) => Err(Failure::of_transcript(error, name)),
+            Err(ShowError::Output(error)) => Err(Failure::writing(STANDARD_OUTPUT, &error)),
+        },
+        Err(error) => Err(Failure::of_transcript(error, name)),
+    }
+}
+
+fn show_rows<'a, O: Write>(alloc: Global, bytes: &[u8], output: &mut O) -> Result<(), Failure<'a>> {
+    match read_rows(alloc, bytes) {
+        Ok(file) => match show_tree(&file, output) {
+            Ok(()) => Ok(()),
+            Err(error) => Err(Failure::writing(STANDARD_OUTPUT, &error)),
+        },
+        Err(TreeError::Magic { .. }) => Err(Failure::UnknownFile),
+        Err(error) => Err(Failure::from(error)),
+    }
+}

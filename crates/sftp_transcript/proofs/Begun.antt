@@ -1,0 +1,121 @@
+-- What a reader has given of known bytes, before and after each step.
+use Rattle.std.proofs.Common.{◌≡◌, ◌⊎◌, inl, inr, ℕ, List, [], ◌∷◌, ◌++◌, Option, Some, None, refl, sym, ap, ◌∙◌, subst, append_assoc, append-nil, arith}
+use Rattle.std.specs.List.{flat_map, AllByRecursion}
+use Rattle.std.proofs.lemmas.List.{length-append}
+use Rattle.std.proofs.lemmas.List.Concat.{flat_map-cons}
+use Rattle.std.proofs.lemmas.Grind.{flat_map-append}
+use Rattle.sftp_transcript.specs.declared.errors.TranscriptError.{TranscriptError}
+use Rattle.sftp_transcript.specs.declared.events.Event.{Event}
+use Rattle.sftp_transcript.specs.declared.stage.Stage.{Stage}
+use Rattle.sftp_transcript.specs.declared.stage.Stage.TheVariants as stages
+use Rattle.sftp_transcript.specs.Begun.{number_behind, BeginsRecord, ReadUpTo, HasGiven, HasGivenOf, FaultAhead, FaultOf, GaveFrom}
+use Rattle.sftp_transcript.specs.Records.{BeginsInit, BeginsVersion}
+use Rattle.sftp_transcript.specs.Recorded.{Reading, number_after}
+use Rattle.sftp_transcript.specs.Steps.{HasAhead, IsExcuse, IsOpened, Took, BeginsEvent, TookEvent}
+use Rattle.sftp_transcript.specs.Transcript.{event_record, IsEvent}
+use Rattle.sftp_transcript.proofs.transcripts.Reading.{handshake_by}
+
+-- ---- a part in front is taken
+
+pub given_passed : (P : List ℕ → List ℕ → Type 0) (s t : Stage)
+    → ((bytes : List ℕ) (events : List Event) (before after : List ℕ) → ReadUpTo s bytes events before → P before after → ReadUpTo t bytes events after)
+    → (old new : Reading) → old.stage ≡ s → new.stage ≡ t → new.number ≡ old.number → new.fault ≡ old.fault
+    → ((before : List ℕ) → HasAhead old.ahead before → Took P before new.ahead)
+    → (bytes ahead : List ℕ) (events : List Event) → HasGiven bytes events ahead old → HasGivenOf bytes events new
+given_passed P s t on old new from to number fault found bytes ahead events given =
+    let took = found ahead given.ahead_are in
+    let at : ReadUpTo s bytes events ahead = subst (λ (u : Stage). ReadUpTo u bytes events ahead) from given.read in (
+      took.0,
+      record {
+        ahead_are = took.1;
+        read = subst (λ (u : Stage). ReadUpTo u bytes events took.0) (sym to) (on bytes events ahead took.0 at took.2);
+        number = number ∙ given.number;
+        faultless = fault ∙ given.faultless;
+      },
+    )
+
+pub opening_read : (bytes : List ℕ) (events : List Event) (before after : List ℕ) → ReadUpTo stages.Opening bytes events before
+    → IsOpened before after → ReadUpTo stages.Init bytes events after
+opening_read bytes events before after read is = (read.0, read.1 ∙ is)
+
+pub init_read : (bytes : List ℕ) (events : List Event) (before after : List ℕ) → ReadUpTo stages.Init bytes events before
+    → BeginsInit before after → ReadUpTo stages.Version bytes events after
+init_read bytes events before after read is = (read.0, record { opened = before; opening = read.1; init = is })
+
+pub version_read : (bytes : List ℕ) (events : List Event) (before after : List ℕ) → ReadUpTo stages.Version bytes events before
+    → BeginsVersion before after → ReadUpTo stages.Events bytes events after
+version_read bytes events before after read is =
+    let none : BeginsRecord [] bytes after = record {
+      opened = read.1.opened;
+      records = after;
+      opening = read.1.opening;
+      handshake = handshake_by read.1.init.packet is.packet read.1.opened before after read.1.init.is_init read.1.init.begins is.is_version is.begins;
+      spelled = tt;
+      records_are = refl;
+    } in
+    subst (λ (l : List Event). BeginsRecord l bytes after) (sym read.0) none
+
+all_more : (events : List Event) (event : Event) → AllByRecursion IsEvent events → IsEvent event → AllByRecursion IsEvent (events ++ event ∷ [])
+all_more [] event all is = (is, tt)
+all_more (e ∷ events) event all is = (all.0, all_more events event all.1 is)
+
+pub event_read : (event : Event) (bytes : List ℕ) (events : List Event) (before after : List ℕ) → BeginsRecord events bytes before
+    → BeginsEvent event before after → BeginsRecord (events ++ event ∷ []) bytes after
+event_read event bytes events before after read is = record {
+  opened = read.opened;
+  records = read.records;
+  opening = read.opening;
+  handshake = read.handshake;
+  spelled = all_more events event read.spelled is.0;
+  records_are =
+      let one : flat_map event_record (event ∷ []) ≡ event_record event = flat_map-cons event_record event [] ∙ append-nil (event_record event) in
+      let more : flat_map event_record (events ++ event ∷ []) ≡ flat_map event_record events ++ event_record event =
+      flat_map-append event_record events (event ∷ []) ∙ ap (λ (l : List ℕ). flat_map event_record events ++ l) one in
+      read.records_are ∙ ap (λ (l : List ℕ). flat_map event_record events ++ l) is.1
+      ∙ sym (append_assoc (flat_map event_record events) (event_record event) after) ∙ ap (λ (l : List ℕ). l ++ after) (sym more);
+}
+
+-- ---- an event is given, or a fault comes next
+
+pub number_more : (events : List Event) (event : Event) (number : ℕ) → number ≡ number_behind events
+    → number_after number (Some event) ≡ number_behind (events ++ event ∷ [])
+number_more events event number is = omega (arith, is, length-append events (event ∷ []))
+
+pub gave_from : (old new : Reading) (given : Option Event) → old.stage ≡ stages.Events → new.stage ≡ stages.Events
+    → new.number ≡ number_after old.number given → new.fault ≡ old.fault
+    → ((before : List ℕ) → HasAhead old.ahead before → TookEvent before given new.ahead)
+    → (bytes ahead : List ℕ) (events : List Event) → HasGiven bytes events ahead old → GaveFrom bytes events given new
+gave_from old new (Some event) from to number fault found bytes ahead events given =
+    let took = found ahead given.ahead_are in
+    let at : BeginsRecord events bytes ahead = subst (λ (u : Stage). ReadUpTo u bytes events ahead) from given.read in (
+      took.0,
+      record {
+        ahead_are = took.1;
+        read = subst (λ (u : Stage). ReadUpTo u bytes (events ++ event ∷ []) took.0) (sym to) (event_read event bytes events ahead took.0 at took.2);
+        number = number ∙ number_more events event old.number given.number;
+        faultless = fault ∙ given.faultless;
+      },
+    )
+gave_from old new None from to number fault found bytes ahead events given =
+    let took = found ahead given.ahead_are in
+    let at : BeginsRecord events bytes ahead = subst (λ (u : Stage). ReadUpTo u bytes events ahead) from given.read in
+    let all : BeginsRecord events bytes [] = subst (BeginsRecord events bytes) took.0 at in (
+      record {
+        ahead_are = took.1;
+        read = subst (λ (u : Stage). ReadUpTo u bytes events []) (sym to) all;
+        number = number ∙ given.number;
+        faultless = fault ∙ given.faultless;
+      },
+      to,
+    )
+
+pub fault_from : (s : Stage) (old : Reading) (error : TranscriptError) → old.stage ≡ s
+    → (bytes ahead : List ℕ) (events : List Event) → HasGiven bytes events ahead old
+    → IsExcuse error ⊎ FaultAhead s old.number ahead error → FaultOf bytes events error
+fault_from s old error from bytes ahead events given (inl excuse) = inl excuse
+fault_from s old error from bytes ahead events given (inr fault) = inr (record {
+  stage = s;
+  ahead = ahead;
+  read = subst (λ (u : Stage). ReadUpTo u bytes events ahead) from given.read;
+  fault = subst (λ (n : ℕ). FaultAhead s n ahead error) given.number fault;
+})

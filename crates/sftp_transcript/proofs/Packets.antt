@@ -1,0 +1,264 @@
+-- The next record, before and after each step of a reader.
+use Rattle.std.proofs.Common.{◌≡◌, ◌≢◌, ℕ, ◌-◌, ◌<◌, ◌≤◌, ◌⊎◌, inl, inr, List, [], ◌++◌, length, Option, Some, None, Result, Ok, Err, OnErr, MatchResult, refl, sym, ap, ◌∙◌, subst, append_assoc, arith}
+use Rattle.std.specs.Io.KnownBytes.{IsAtEnd}
+use Rattle.std.proofs.lemmas.List.{append_cancel_left}
+use Rattle.sftp_wire.specs.declared.packets.Packet.{Packet}
+use Rattle.sftp_wire.specs.declared.packets.Packet.TheVariants.{Init, Version, Request, Reply}
+use Rattle.sftp_transcript.specs.declared.errors.TranscriptError.{TranscriptError}
+use Rattle.sftp_transcript.specs.declared.errors.TranscriptError.TheVariants.{Magic, Direction, Start, Wire, Truncated, Io, NoMemory}
+use Rattle.sftp_transcript.specs.declared.events.Event.{Event}
+use Rattle.sftp_transcript.specs.declared.events.Event.TheVariants.{Asked, Replied}
+use Rattle.sftp_transcript.specs.declared.stage.Stage.{Stage}
+use Rattle.sftp_transcript.specs.declared.stage.Stage.TheVariants as stages
+use Rattle.sftp_transcript.specs.Ahead.{Ahead, CutsAtEnd, ahead_without}
+use Rattle.sftp_transcript.specs.Begun.{FaultAhead, ReadUpTo, HasGiven, HasGivenOf, number_behind, with_given}
+use Rattle.sftp_transcript.specs.Packets.{MayCome, record_number, stage_opened, stage_behind, IsBehindOpening, BeginsNext, FaultNext, GivenRecord, GivesPacket, GivesNext, event_from, event_in, number_past, number_then}
+use Rattle.sftp_transcript.specs.Records.{Begins, IsInit, IsVersion}
+use Rattle.sftp_transcript.specs.Recorded.{Reading, rank}
+use Rattle.sftp_transcript.specs.Refused.{KindFault, IsEventPacket}
+use Rattle.sftp_transcript.specs.Steps.{HasAhead, IsExcuse, Took}
+use Rattle.sftp_transcript.specs.Transcript.{transcript_opening, record_text, packet_of}
+use Rattle.sftp_transcript.proofs.Begun.{opening_read, init_read, version_read, event_read, number_more}
+use Rattle.sftp_transcript.proofs.Faults.{init_fault, version_fault, event_fault}
+use Rattle.sftp_transcript.proofs.Inputs.{ahead_parts}
+use Rattle.sftp_transcript.proofs.Taking.{FrontHeld, front_taken}
+use Rattle.sftp_transcript.proofs.transcripts.Beginnings.{begins_one, not_both}
+
+-- ---- what is taken from the bytes held
+
+pub stage_fault : (stage : Stage) (number : ℕ) (m : Ahead) (before : List ℕ) (error : TranscriptError) → 1 ≤ rank stage → HasAhead m before
+    → (m.held ≡ [] → IsAtEnd m.left) → CutsAtEnd m → (stage ≡ stages.Events → 0 < length m.held)
+    → KindFault (MayCome stage) (record_number stage number) m.held error → IsExcuse error ⊎ FaultAhead stage number before error
+stage_fault stages.Opening number m before error begun known end part some fault = absurd (omega (arith, begun))
+stage_fault stages.Init number m before error begun known end part some fault = init_fault m before error known end part fault
+stage_fault stages.Version number m before error begun known end part some fault = version_fault m before error known end part fault
+stage_fault stages.Events number m before error begun known end part some fault = event_fault number m before error known end part (some refl) fault
+
+pub record_took : (m : Ahead) (packet : Packet) (rest before : List ℕ) → HasAhead m before → Begins m.held packet rest
+    → Took (λ all after. Begins all packet after) before (ahead_without (length m.held - length rest) m)
+record_took m packet rest before known begins =
+    let p = ahead_parts m before known in
+    let front : FrontHeld m (record_text packet) (rest ++ p.left) =
+    record { rest = rest; left = p.left; held = begins.bytes_are; known = p.known; after_is = refl } in
+    let bytes : before ≡ record_text packet ++ (rest ++ p.left) =
+    p.bytes_are ∙ ap (λ (l : List ℕ). l ++ p.left) begins.bytes_are ∙ append_assoc (record_text packet) rest p.left in
+    (rest ++ p.left, front_taken m (record_text packet) (rest ++ p.left) rest front refl, record { spelled = begins.spelled; bytes_are = bytes })
+
+-- ---- behind the opening
+
+pub at_front : (stage : Stage) (before : List ℕ) → 1 ≤ rank stage → IsBehindOpening stage before before
+at_front stages.Opening before begun = absurd (omega (arith, begun))
+at_front stages.Init before begun = refl
+at_front stages.Version before begun = refl
+at_front stages.Events before begun = refl
+
+pub next_given : (stage : Stage) (before : List ℕ) (packet : Packet) (new : Ahead) → 1 ≤ rank stage
+    → MayCome stage packet × Took (λ all after. Begins all packet after) before new
+    → (rest : List ℕ) × HasAhead new rest × BeginsNext stage before packet rest
+next_given stage before packet new begun took =
+    (took.1.0, took.1.1, record { records = before; opened = at_front stage before begun; may_come = took.0; begins = took.1.2 })
+
+-- what is next behind the opening is next before it
+next_opened : (old : Stage) (before records : List ℕ) (packet : Packet) (rest : List ℕ) → IsBehindOpening old before records
+    → BeginsNext (stage_opened old) records packet rest → BeginsNext old before packet rest
+next_opened stages.Opening before records packet rest is n = record {
+  records = n.records;
+  opened = is ∙ ap (λ (l : List ℕ). transcript_opening ++ l) (sym n.opened);
+  may_come = n.may_come;
+  begins = n.begins;
+}
+next_opened stages.Init before records packet rest is n = record { records = n.records; opened = n.opened ∙ is; may_come = n.may_come; begins = n.begins }
+next_opened stages.Version before records packet rest is n = record { records = n.records; opened = n.opened ∙ is; may_come = n.may_come; begins = n.begins }
+next_opened stages.Events before records packet rest is n = record { records = n.records; opened = n.opened ∙ is; may_come = n.may_come; begins = n.begins }
+
+behind_opened : (old : Stage) → stage_behind (stage_opened old) ≡ stage_behind old
+behind_opened stages.Opening = refl
+behind_opened stages.Init = refl
+behind_opened stages.Version = refl
+behind_opened stages.Events = refl
+
+none_opened : (old : Stage) (before records : List ℕ) → IsBehindOpening old before records → stage_opened old ≡ stages.Events → records ≡ []
+    → (old ≡ stages.Events) × (before ≡ [])
+none_opened stages.Opening before records is e none = absurd cc
+none_opened stages.Init before records is e none = absurd cc
+none_opened stages.Version before records is e none = absurd cc
+none_opened stages.Events before records is e none = (refl, sym is ∙ none)
+
+given_opened : (old : Stage) (before records : List ℕ) (given : Option GivenRecord) (new : Reading) → IsBehindOpening old before records
+    → GivesNext (stage_opened old) records given new → GivesNext old before given new
+given_opened old before records (Some g) new is gives =
+    (gives.0 ∙ behind_opened old, (gives.1.0, gives.1.1, next_opened old before records g.1 gives.1.0 is gives.1.2))
+given_opened old before records None new is gives =
+    let p = none_opened old before records is gives.0 gives.2 in
+    (p.0, gives.1, p.1, gives.3)
+
+pub gives_opened : (old mid : Stage) (before records : List ℕ) (given : Option GivenRecord) (new : Reading) → mid ≡ stage_opened old
+    → IsBehindOpening old before records → GivesNext mid records given new → GivesNext old before given new
+gives_opened old mid before records given new e is gives =
+    given_opened old before records given new is (subst (λ (s : Stage). GivesNext s records given new) e gives)
+
+fault_behind : (old : Stage) (number : ℕ) (before records : List ℕ) (error : TranscriptError) → IsBehindOpening old before records
+    → FaultAhead (stage_opened old) number records error → FaultNext old number before error
+fault_behind stages.Opening number before records error is fault = inr (records, is, fault)
+fault_behind stages.Init number before records error is fault = subst (λ (l : List ℕ). FaultAhead stages.Init number l error) is fault
+fault_behind stages.Version number before records error is fault = subst (λ (l : List ℕ). FaultAhead stages.Version number l error) is fault
+fault_behind stages.Events number before records error is fault = subst (λ (l : List ℕ). FaultAhead stages.Events number l error) is fault
+
+pub fault_opened : (old mid : Stage) (number now : ℕ) (before records : List ℕ) (error : TranscriptError) → mid ≡ stage_opened old
+    → now ≡ number → IsBehindOpening old before records → IsExcuse error ⊎ FaultAhead mid now records error
+    → IsExcuse error ⊎ FaultNext old number before error
+fault_opened old mid number now before records error e same is (inl excuse) = inl excuse
+fault_opened old mid number now before records error e same is (inr fault) =
+    let at : FaultAhead mid number records error = subst (λ (n : ℕ). FaultAhead mid n records error) same fault in
+    inr (fault_behind old number before records error is (subst (λ (s : Stage). FaultAhead s number records error) e at))
+
+pub on_err_both : {A E P Q R : Type 0} (F : A → Type 0) (result : Result A E) → (P → Q → R) → OnErr result P
+    → MatchResult result F (λ _. Q) → OnErr result R
+on_err_both F (Ok value) f p q = tt
+on_err_both F (Err error) f p q = f p q
+
+-- ---- one record is next at most, and none where a fault comes next
+
+one_opened : (stage : Stage) (before records others : List ℕ) → IsBehindOpening stage before records
+    → IsBehindOpening stage before others → records ≡ others
+one_opened stages.Opening before records others one other = append_cancel_left transcript_opening records others (sym one ∙ other)
+one_opened stages.Init before records others one other = one ∙ sym other
+one_opened stages.Version before records others one other = one ∙ sym other
+one_opened stages.Events before records others one other = one ∙ sym other
+
+pub BeginsNext-one : (stage : Stage) (before : List ℕ) (p q : Packet) (x y : List ℕ) → BeginsNext stage before p x
+    → BeginsNext stage before q y → (p ≡ q) × (x ≡ y)
+BeginsNext-one stage before p q x y one other =
+    let same = one_opened stage before other.records one.records other.opened one.opened in
+    begins_one one.records p q x y one.begins (subst (λ (l : List ℕ). Begins l q y) same other.begins)
+
+none_next : (stage : Stage) (packet : Packet) (rest : List ℕ) → stage ≡ stages.Events → BeginsNext stage [] packet rest → ⊥
+none_next stages.Opening packet rest e n = absurd cc
+none_next stages.Init packet rest e n = absurd cc
+none_next stages.Version packet rest e n = absurd cc
+none_next stages.Events packet rest e n = absurd (omega (arith, ap length n.opened, ap length n.begins.bytes_are))
+
+pub gives_only : (stage : Stage) (before rest : List ℕ) (packet : Packet) (given : Option GivenRecord) (new : Reading)
+    → GivesNext stage before given new → BeginsNext stage before packet rest → GivesPacket packet given × HasAhead new.ahead rest
+gives_only stage before rest packet (Some g) new gives n =
+    let same = BeginsNext-one stage before g.1 packet gives.1.0 rest gives.1.2 n in
+    (same.0, gives.1.1 ∙ ap Some same.1)
+gives_only stage before rest packet None new gives n =
+    absurd (none_next stage packet rest gives.0 (subst (λ (l : List ℕ). BeginsNext stage l packet rest) gives.2 n))
+
+not_next : (stage : Stage) (number : ℕ) (before rest : List ℕ) (packet : Packet) (error : TranscriptError) → error ≢ NoMemory
+    → FaultNext stage number before error → BeginsNext stage before packet rest → ⊥
+not_next stages.Opening number before rest packet error apart (inl fault) n = fault.1 n.records n.opened
+not_next stages.Opening number before rest packet error apart (inr fault) n =
+    let same = one_opened stages.Opening before n.records fault.0 n.opened fault.1 in
+    not_both IsInit packet 1 fault.0 rest error apart n.may_come (subst (λ (l : List ℕ). Begins l packet rest) same n.begins) fault.2
+not_next stages.Init number before rest packet error apart fault n =
+    not_both IsInit packet 1 before rest error apart n.may_come (subst (λ (l : List ℕ). Begins l packet rest) n.opened n.begins) fault
+not_next stages.Version number before rest packet error apart fault n =
+    not_both IsVersion packet 2 before rest error apart n.may_come (subst (λ (l : List ℕ). Begins l packet rest) n.opened n.begins) fault
+not_next stages.Events number before rest packet error apart fault n =
+    not_both IsEventPacket packet number before rest error apart n.may_come (subst (λ (l : List ℕ). Begins l packet rest) n.opened n.begins) fault.1
+
+memory_or : (error : TranscriptError) → (error ≢ NoMemory → ⊥) → IsExcuse error
+memory_or NoMemory not = tt
+memory_or (Io place) not = tt
+memory_or (Magic place) not = absurd (not (λ e. absurd cc))
+memory_or (Direction place) not = absurd (not (λ e. absurd cc))
+memory_or (Start place) not = absurd (not (λ e. absurd cc))
+memory_or (Wire f place) not = absurd (not (λ e. absurd cc))
+memory_or (Truncated place) not = absurd (not (λ e. absurd cc))
+
+pub next_excuse : (stage : Stage) (number : ℕ) (before rest : List ℕ) (packet : Packet) (error : TranscriptError)
+    → IsExcuse error ⊎ FaultNext stage number before error → BeginsNext stage before packet rest → IsExcuse error
+next_excuse stage number before rest packet error (inl excuse) n = excuse
+next_excuse stage number before rest packet error (inr fault) n =
+    memory_or error (λ apart. not_next stage number before rest packet error apart fault n)
+
+-- ---- the events among the records
+
+event_of_init : (packet : Packet) → IsInit packet → event_from packet ≡ None
+event_of_init (Init version extensions) is = refl
+event_of_init (Version version extensions) is = absurd is
+event_of_init (Request request) is = absurd is
+event_of_init (Reply reply) is = absurd is
+
+event_of_version : (packet : Packet) → IsVersion packet → event_from packet ≡ None
+event_of_version (Init version extensions) is = absurd is
+event_of_version (Version version extensions) is = refl
+event_of_version (Request request) is = absurd is
+event_of_version (Reply reply) is = absurd is
+
+event_back : (event : Event) → event_from (packet_of event) ≡ Some event
+event_back (Asked request) = refl
+event_back (Replied reply) = refl
+
+-- what a reader has given with the next record, and up to what
+record GivenUpTo (stage : Stage) (bytes : List ℕ) (events : List Event) (number : ℕ) (packet : Packet) (rest : List ℕ) : Type 0 where
+  pub read : ReadUpTo (stage_behind stage) bytes (with_given events (event_from packet)) rest
+  pub behind : number_past stage number ≡ number_behind (with_given events (event_from packet))
+
+given_up_to : (stage : Stage) (bytes : List ℕ) (events : List Event) (number : ℕ) (before : List ℕ) (packet : Packet) (rest : List ℕ)
+    → number ≡ number_behind events → ReadUpTo stage bytes events before → BeginsNext stage before packet rest
+    → GivenUpTo stage bytes events number packet rest
+given_up_to stages.Opening bytes events number before packet rest is read n =
+    let opened = opening_read bytes events before n.records read n.opened in
+    let init = init_read bytes events n.records rest opened (record { packet = packet; is_init = n.may_come; begins = n.begins }) in
+    let none : event_from packet ≡ None = event_of_init packet n.may_come in
+    record {
+      read = subst (λ (o : Option Event). ReadUpTo stages.Version bytes (with_given events o) rest) (sym none) init;
+      behind = is ∙ ap (λ (o : Option Event). number_behind (with_given events o)) (sym none);
+    }
+given_up_to stages.Init bytes events number before packet rest is read n =
+    let begins : Begins before packet rest = subst (λ (l : List ℕ). Begins l packet rest) n.opened n.begins in
+    let init = init_read bytes events before rest read (record { packet = packet; is_init = n.may_come; begins = begins }) in
+    let none : event_from packet ≡ None = event_of_init packet n.may_come in
+    record {
+      read = subst (λ (o : Option Event). ReadUpTo stages.Version bytes (with_given events o) rest) (sym none) init;
+      behind = is ∙ ap (λ (o : Option Event). number_behind (with_given events o)) (sym none);
+    }
+given_up_to stages.Version bytes events number before packet rest is read n =
+    let begins : Begins before packet rest = subst (λ (l : List ℕ). Begins l packet rest) n.opened n.begins in
+    let version = version_read bytes events before rest read (record { packet = packet; is_version = n.may_come; begins = begins }) in
+    let none : event_from packet ≡ None = event_of_version packet n.may_come in
+    record {
+      read = subst (λ (o : Option Event). ReadUpTo stages.Events bytes (with_given events o) rest) (sym none) version;
+      behind = is ∙ ap (λ (o : Option Event). number_behind (with_given events o)) (sym none);
+    }
+given_up_to stages.Events bytes events number before packet rest is read n =
+    let event = n.may_come.0 in
+    let begins : Begins before (packet_of event) rest =
+    subst (λ (p : Packet). Begins before p rest) n.may_come.1 (subst (λ (l : List ℕ). Begins l packet rest) n.opened n.begins) in
+    let more = event_read event bytes events before rest read (begins.spelled, begins.bytes_are) in
+    let some : event_from packet ≡ Some event = ap event_from n.may_come.1 ∙ event_back event in
+    record {
+      read = subst (λ (o : Option Event). ReadUpTo stages.Events bytes (with_given events o) rest) (sym some) more;
+      behind = number_more events event number is ∙ ap (λ (o : Option Event). number_behind (with_given events o)) (sym some);
+    }
+
+pub given_next : (old new : Reading) (given : Option GivenRecord) → new.number ≡ number_then old.stage old.number given
+    → new.fault ≡ old.fault → ((before : List ℕ) → HasAhead old.ahead before → GivesNext old.stage before given new)
+    → (bytes ahead : List ℕ) (events : List Event) → HasGiven bytes events ahead old → HasGivenOf bytes (with_given events (event_in given)) new
+given_next old new (Some g) number fault found bytes ahead events given =
+    let gives = found ahead given.ahead_are in
+    let rest = gives.1.0 in
+    let up = given_up_to old.stage bytes events old.number ahead g.1 rest given.number given.read gives.1.2 in (
+      rest,
+      record {
+        ahead_are = gives.1.1;
+        read = subst (λ (s : Stage). ReadUpTo s bytes (with_given events (event_from g.1)) rest) (sym gives.0) up.read;
+        number = number ∙ up.behind;
+        faultless = fault ∙ given.faultless;
+      },
+    )
+given_next old new None number fault found bytes ahead events given =
+    let gives = found ahead given.ahead_are in
+    let at : ReadUpTo stages.Events bytes events ahead = subst (λ (s : Stage). ReadUpTo s bytes events ahead) gives.0 given.read in
+    let all : ReadUpTo stages.Events bytes events [] = subst (λ (l : List ℕ). ReadUpTo stages.Events bytes events l) gives.2 at in (
+      [],
+      record {
+        ahead_are = gives.3;
+        read = subst (λ (s : Stage). ReadUpTo s bytes events []) (sym gives.1) all;
+        number = number ∙ given.number;
+        faultless = fault ∙ given.faultless;
+      },
+    )

@@ -1,0 +1,15 @@
+-- One record is next at most.
+use Rattle.sftp_transcript.proofs.Packets.{gives_only, next_excuse, given_next}
+use Rattle.sftp_transcript.proofs.reader.Reader.next_record.Goals as goal
+
+pub returns-in-Ok-clause-only : goal.returns-in-Ok-clause-only
+returns-in-Ok-clause-only g c = λ packet before rest none known n.
+    gives_only c.args.self.now.stage before rest packet c.in-Ok.given c.take_next_record.new.self (c.in-Ok.ensures.found before known) n
+
+pub returns-in-Err-clause-only : goal.returns-in-Err-clause-only
+returns-in-Err-clause-only g c = λ packet before rest none known n.
+    next_excuse c.args.self.now.stage c.args.self.now.number before rest packet c.in-Err.fault (c.in-Err.ensures.first before known) n
+
+pub returns-in-Ok-clause-given : goal.returns-in-Ok-clause-given
+returns-in-Ok-clause-given g c = λ bytes ahead events given.
+    given_next c.args.self.now c.take_next_record.new.self c.in-Ok.given c.in-Ok.ensures.number c.in-Ok.ensures.fault c.in-Ok.ensures.found bytes ahead events given

@@ -1,0 +1,28 @@
+-- The record in front is the next one.
+use Rattle.std.proofs.Common.{◌≡◌, ◌≤◌, List, ℕ, [], sym, subst}
+use Rattle.sftp_transcript.specs.declared.stage.Stage.TheVariants as stages
+use Rattle.sftp_transcript.specs.Packets.{BeginsNext, stage_behind}
+use Rattle.sftp_transcript.specs.Recorded.{Reading, rank}
+use Rattle.sftp_transcript.specs.Steps.{HasAhead}
+use Rattle.sftp_transcript.proofs.Packets.{next_given}
+use Rattle.sftp_transcript.proofs.reader.Reader.take_record.Goals as goal
+
+pub returns-in-Some-clause-found : goal.returns-in-Some-clause-found
+returns-in-Some-clause-found g c =
+    let old : Reading =
+    record { ahead = c.self.inside.input; stage = c.self.inside.stage; number = c.self.inside.number; fault = c.self.inside.fault } in
+    let begun : 1 ≤ rank old.stage = subst (λ (s : Reading). 1 ≤ rank s.stage) (sym c.self.view_is) c.requires in
+    let packet = c.in-Some.packet in
+    let new = c.pass_record.new.input in
+    subst
+    (λ (s : Reading). (before : List ℕ) → HasAhead s.ahead before → (c.stage_behind-self-inside.result ≡ stage_behind s.stage) × ((x : List ℕ) × HasAhead new x × BeginsNext s.stage before packet x))
+    c.self.view_is
+    (λ before known. (c.stage_behind-self-inside.ensures, next_given old.stage before packet new begun (rw c.in-Some.is at (c.in_ok-packet.ensures.found before known))))
+
+pub returns-in-None-clause-found : goal.returns-in-None-clause-found
+returns-in-None-clause-found g c =
+    let new = c.pass_record.new.input in
+    subst
+    (λ (s : Reading). (before : List ℕ) → HasAhead s.ahead before → (s.stage ≡ stages.Events) × (c.self.inside.stage ≡ stages.Events) × (before ≡ []) × HasAhead new [])
+    c.self.view_is
+    (λ before known. let took = rw c.in-None.is at (c.in_ok-packet.ensures.found before known) in (took.0, took.0, took.1, took.2))

@@ -1,0 +1,85 @@
+-- A transcript file that is read in part: the events read so far, the bytes behind them, and the first fault in these.
+-- This profile's own.
+use Rattle.std.specs.Prelude.{◌≡◌, ◌≢◌, ◌⊎◌, ℕ, ◌+◌, min, List, [], ◌∷◌, ◌++◌, length, Option, Some, None}
+use Rattle.std.specs.List.{flat_map, AllByRecursion}
+use Rattle.sftp_transcript.specs.declared.errors.TranscriptError.{TranscriptError}
+use Rattle.sftp_transcript.specs.declared.errors.TranscriptError.TheVariants.{Magic}
+use Rattle.sftp_transcript.specs.declared.events.Event.{Event}
+use Rattle.sftp_transcript.specs.declared.stage.Stage.{Stage}
+use Rattle.sftp_transcript.specs.declared.stage.Stage.TheVariants as stages
+use Rattle.sftp_transcript.specs.Records.{BeginsInit}
+use Rattle.sftp_transcript.specs.Recorded.{Reading}
+use Rattle.sftp_transcript.specs.Refused.{InitFault, VersionFault, EventFault}
+use Rattle.sftp_transcript.specs.Steps.{HasAhead, IsExcuse}
+use Rattle.sftp_transcript.specs.Streams.{largest_count}
+use Rattle.sftp_transcript.specs.Transcript.{transcript_opening, event_record, IsEvent, IsHandshake}
+
+-- the number of the first event's record: INIT and VERSION have the numbers 1 and 2
+abbrev pub first_number : ℕ
+first_number = 3
+
+-- the number of the record behind these events, capped at 2^64 - 1
+abbrev pub number_behind : List Event → ℕ
+number_behind events = min (first_number + length events) largest_count
+
+-- the bytes begin with a transcript file of these events, and the rest follows
+pub record BeginsRecord (events : List Event) (bytes rest : List ℕ) : Type 0 where
+  pub opened : List ℕ
+  pub records : List ℕ
+  pub opening : bytes ≡ transcript_opening ++ opened
+  pub handshake : IsHandshake opened records
+  pub spelled : AllByRecursion IsEvent events
+  pub records_are : records ≡ flat_map event_record events ++ rest
+
+-- the opening and the client's INIT come first, and these bytes behind them
+pub record BeginsWithInit (bytes rest : List ℕ) : Type 0 where
+  pub opened : List ℕ
+  pub opening : bytes ≡ transcript_opening ++ opened
+  pub init : BeginsInit opened rest
+
+-- what is read of the bytes: the events, up to what comes next in the bytes ahead
+abbrev pub ReadUpTo : Stage → List ℕ → List Event → List ℕ → Type 0
+ReadUpTo stages.Opening bytes events ahead = (events ≡ []) × (bytes ≡ ahead)
+ReadUpTo stages.Init bytes events ahead = (events ≡ []) × (bytes ≡ transcript_opening ++ ahead)
+ReadUpTo stages.Version bytes events ahead = (events ≡ []) × BeginsWithInit bytes ahead
+ReadUpTo stages.Events bytes events ahead = BeginsRecord events bytes ahead
+
+-- a reader that has given these events of the bytes, and these bytes are ahead of it
+pub record HasGiven (bytes : List ℕ) (events : List Event) (ahead : List ℕ) (s : Reading) : Type 0 where
+  pub ahead_are : HasAhead s.ahead ahead
+  pub read : ReadUpTo s.stage bytes events ahead
+  pub number : s.number ≡ number_behind events
+  pub faultless : s.fault ≡ None
+
+-- why the bytes are not a transcript file, where this comes next in the bytes ahead, a record of this number
+abbrev pub FaultAhead : Stage → ℕ → List ℕ → TranscriptError → Type 0
+FaultAhead stages.Opening number ahead error =
+    (error ≡ Magic 0) × ((rest : List ℕ) → ahead ≡ transcript_opening ++ rest → ⊥)
+FaultAhead stages.Init number ahead error = InitFault ahead error
+FaultAhead stages.Version number ahead error = VersionFault ahead error
+FaultAhead stages.Events number ahead error = (ahead ≢ []) × EventFault number ahead error
+
+-- the first fault of the bytes comes behind these events
+pub record FaultBehind (bytes : List ℕ) (events : List Event) (error : TranscriptError) : Type 0 where
+  pub stage : Stage
+  pub ahead : List ℕ
+  pub read : ReadUpTo stage bytes events ahead
+  pub fault : FaultAhead stage (number_behind events) ahead error
+
+-- the reader has given these events of the bytes
+abbrev pub HasGivenOf : List ℕ → List Event → Reading → Type 0
+HasGivenOf bytes events s = (ahead : List ℕ) × HasGiven bytes events ahead s
+
+-- the first fault of the bytes comes behind these events, unless memory ran out or the source failed
+abbrev pub FaultOf : List ℕ → List Event → TranscriptError → Type 0
+FaultOf bytes events error = IsExcuse error ⊎ FaultBehind bytes events error
+
+-- the events with one that is given, if any
+abbrev pub with_given : List Event → Option Event → List Event
+with_given events None = events
+with_given events (Some event) = events ++ event ∷ []
+
+-- the reader gave the event, or none and nothing is ahead
+abbrev pub GaveFrom : List ℕ → List Event → Option Event → Reading → Type 0
+GaveFrom bytes events (Some event) new = HasGivenOf bytes (events ++ event ∷ []) new
+GaveFrom bytes events None new = HasGiven bytes events [] new × (new.stage ≡ stages.Events)
