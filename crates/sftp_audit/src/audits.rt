@@ -36,12 +36,14 @@ pub struct Accepted {
 ///
 /// # Errors
 ///
-/// The tree file is judged first, then the transcript file, then the session.
+/// The tree file is judged first; then the records of the transcript, one after the other, each with its event; and
+/// last whether each request has its reply. The first error is returned.
 ///
 /// - `Tree` if the bytes are not a tree file; the fault is the first one from left to right.
-/// - `Transcript` if the tree file is good, but the bytes are not a transcript file; the fault is the first one from
-///   left to right.
-/// - `Refused` if the tree file is good and the tree does not explain the session.
+/// - `Transcript` if a record has a fault, with its number; the events before it are not refused.
+/// - `Refused` if the tree does not explain the session, whatever else would follow, with the number of a record: of a
+///   reply that no request waits for; of a request whose id one that waits has, or which comes too late for one that
+///   waits; of the first reply, in the order asked, that is not allowed; or of the oldest request without a reply.
 /// - `NoMemory` if memory ran out. The other errors never have `NoMemory` inside.
 pub fn audit(alloc: Global, tree: &[u8], transcript: &[u8]) -> Result<Accepted, AuditError>
     // An accepted session accounts for a run, and the result is the tree where it ends.

@@ -66,7 +66,7 @@ pub record BeginsNext (stage : Stage) (ahead : List ℕ) (packet : Packet) (rest
   pub may_come : MayCome stage packet
   pub begins : Begins records packet rest
 
--- why no record is next in the bytes ahead, although there are some
+-- why the bytes ahead begin with no record that may come next, and are not the end of a transcript file
 abbrev pub FaultNext : Stage → ℕ → List ℕ → TranscriptError → Type 0
 FaultNext stages.Opening number ahead error =
     FaultAhead stages.Opening number ahead error

@@ -61,9 +61,9 @@ fn stage_behind(stage: Stage) -> Stage
     }
 }
 
-/// The events of a transcript file, one after the other: `SFTPTR01`, an INIT of version 3 or more from the client, a
-/// VERSION 3 from the server, with any extensions, and then requests and replies. Before each packet is a byte `C` or
-/// `S` that names its side.
+/// The events or the records of a transcript file, one after the other: `SFTPTR01`, an INIT of version 3 or more from
+/// the client, a VERSION 3 from the server, with any extensions, and then requests and replies. Before each packet is a
+/// byte `C` or `S` that names its side.
 ///
 /// It holds at most 128 KiB of the file.
 #[derive(Debug, Drop)]

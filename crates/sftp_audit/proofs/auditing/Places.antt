@@ -178,8 +178,10 @@ stored r (y ∷ xs) zero x apart at waits same =
     let shut : is_open r.reply.id xs ≡ false = rw (← same, ← is) (apart-first y xs apart first) in
     rw (is, waits, eq-eqb x.request.id r.reply.id same, with_reply-shut r xs shut) refl
 stored r (y ∷ xs) (suc place) x apart at waits same =
-    rw (passed (is_answered y) refl (y.request.id == r.reply.id) refl,
-    stored r xs place x (apart-rest y xs apart) at waits same) refl
+    rw (
+      passed (is_answered y) refl (y.request.id == r.reply.id) refl,
+      stored r xs place x (apart-rest y xs apart) at waits same,
+    ) refl
   where
     passed : (a : Bool) → is_answered y ≡ a → (b : Bool) → (y.request.id == r.reply.id) ≡ b → answered_by r y ≡ y
     passed true answered b is = rw answered refl

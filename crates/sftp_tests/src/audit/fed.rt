@@ -20,10 +20,12 @@ const FAILED_3: &[u8] = b"S\0\0\0\x11\x65\0\0\0\x03\0\0\0\x04\0\0\0\0\0\0\0\0";
 /// STAT of `/` with the id 7, and its ATTRS.
 const STAT: &[u8] = b"C\0\0\0\x0a\x11\0\0\0\x07\0\0\0\x01/";
 
-const ATTRS: &[u8] = b"S\0\0\0\x1d\x69\0\0\0\x07\0\0\0\x07\0\0\0\0\0\0\0\0\0\0\0\0\0\0\0\0\0\0\x41\xed";
+const ATTRS: &[u8] =
+    b"S\0\0\0\x1d\x69\0\0\0\x07\0\0\0\x07\0\0\0\0\0\0\0\0\0\0\0\0\0\0\0\0\0\0\x41\xed";
 
 /// The directories `/a` and `/a/b`.
-const TWO_DIRECTORIES: &[u8] = b"SFTREE01\0\0\0\x01/\0\0\0\0\0\0\0\0\0\0\0\x02\0\0\0\0\0\0\0\0\0\0\x01\xed\
+const TWO_DIRECTORIES: &[u8] =
+    b"SFTREE01\0\0\0\x01/\0\0\0\0\0\0\0\0\0\0\0\x02\0\0\0\0\0\0\0\0\0\0\x01\xed\
 \0\0\0\x02/aD\0\0\0\0\0\0\0\0\0\0\x01\xed\0\0\0\x04/a/bD\0\0\0\0\0\0\0\0\0\0\x01\xed";
 
 /// An auditor of a session that begins on the blank tree.
@@ -47,11 +49,7 @@ fn feed(alloc: Global, auditor: &mut Auditor, record: &[u8]) -> Result<Result<()
 }
 
 /// Whether each of the records is taken, with so many requests kept behind it.
-fn keeps(
-    alloc: Global,
-    auditor: &mut Auditor,
-    records: &[(&[u8], usize)],
-) -> Result<bool, Fail> {
+fn keeps(alloc: Global, auditor: &mut Auditor, records: &[(&[u8], usize)]) -> Result<bool, Fail> {
     for (record, kept) in records {
         if feed(alloc, auditor, record)?.is_err() || auditor.kept() != *kept {
             return Ok(false);
@@ -123,7 +121,12 @@ fn names_the_reply(alloc: Global) -> Result<bool, Fail> {
 fn takes_turns(alloc: Global) -> Result<bool, Fail> {
     let mut answered = auditor(alloc)?;
     let kept = keeps(alloc, &mut answered, &[(STAT, 1), (ATTRS, 0)])?;
-    let unknown = refuses(alloc, &mut answered, ATTRS, Refusal::UnknownReply { record: 5 })?;
+    let unknown = refuses(
+        alloc,
+        &mut answered,
+        ATTRS,
+        Refusal::UnknownReply { record: 5 },
+    )?;
     let mut again = auditor(alloc)?;
     let taken = keeps(alloc, &mut again, &[(STAT, 1), (ATTRS, 0), (STAT, 1)])?;
     let in_use = refuses(alloc, &mut again, STAT, Refusal::IdInUse { record: 6 })?;
@@ -136,10 +139,11 @@ fn misses_a_reply(alloc: Global) -> Result<bool, Fail> {
     let kept = keeps(alloc, &mut second, &[(MAKE_A, 1), (STAT, 2), (DONE, 1)])?;
     let mut both = auditor(alloc)?;
     let first = keeps(alloc, &mut both, &[(MAKE_A, 1), (STAT, 2), (ATTRS, 2)])?;
-    Ok(kept
-        && ends_refused(second, Refusal::Unanswered { record: 4 })
-        && first
-        && ends_refused(both, Refusal::Unanswered { record: 3 }))
+    Ok(
+        kept && ends_refused(second, Refusal::Unanswered { record: 4 })
+            && first
+            && ends_refused(both, Refusal::Unanswered { record: 3 }),
+    )
 }
 
 #[test]

@@ -153,63 +153,85 @@ fn changed_files(rt: HostRuntime) {
     }
 }
 
-/// A name, how many of the first bytes of `FILE` a file begins with, what follows them, and what is wrong with it.
-type Tail<'a> = (&'a str, usize, &'a [u8], TranscriptError);
+/// A name, how many of the first bytes of `FILE` a file begins with, what follows them, and the verdict.
+type Tail<'a> = (&'a str, usize, &'a [u8], Verdict<'a>);
 
 const TAILS: &[Tail] = &[
     // The direction is judged before the packet.
-    ("no side", 8, b"D", TranscriptError::Direction { record: 1 }),
+    (
+        "no side",
+        8,
+        b"D",
+        Verdict::Transcript(TranscriptError::Direction { record: 1 }),
+    ),
     // A session begins with the client, and begins once.
     (
         "VERSION first",
         8,
         b"S\0\0\0\x05\x02\0\0\0\x03",
-        TranscriptError::Start { record: 1 },
+        Verdict::Transcript(TranscriptError::Start { record: 1 }),
     ),
     (
         "INIT twice",
         28,
         b"C\0\0\0\x05\x01\0\0\0\x03",
-        TranscriptError::Start { record: 3 },
+        Verdict::Transcript(TranscriptError::Start { record: 3 }),
     ),
     // All kinds of requests and replies are read: OPEN and OPENDIR of "/a", CLOSE of the handle "h", and an extension
-    // named "x"; HANDLE, DATA, NAME, ATTRS and EXTENDED_REPLY.
+    // named "x"; HANDLE, DATA, NAME, ATTRS and EXTENDED_REPLY, to requests behind one that is not answered.
     (
         "no side behind requests",
         28,
         b"C\0\0\0\x13\x03\0\0\0\x01\0\0\0\x02/a\0\0\0\x01\0\0\0\0\
         C\0\0\0\x0b\x0b\0\0\0\x02\0\0\0\x02/aC\0\0\0\x0a\x04\0\0\0\x03\0\0\0\x01h\
         C\0\0\0\x0a\xc8\0\0\0\x04\0\0\0\x01xD",
-        TranscriptError::Direction { record: 7 },
+        Verdict::Transcript(TranscriptError::Direction { record: 7 }),
     ),
     (
         "no side behind replies",
         48,
-        b"S\0\0\0\x0a\x66\0\0\0\x01\0\0\0\x01hS\0\0\0\x0a\x67\0\0\0\x01\0\0\0\x01h\
-        S\0\0\0\x09\x68\0\0\0\x01\0\0\0\0S\0\0\0\x09\x69\0\0\0\x01\0\0\0\0S\0\0\0\x05\xc9\0\0\0\x01D",
-        TranscriptError::Direction { record: 9 },
+        b"C\0\0\0\x0b\x0b\0\0\0\x02\0\0\0\x02/aC\0\0\0\x0b\x0b\0\0\0\x03\0\0\0\x02/a\
+        C\0\0\0\x0b\x0b\0\0\0\x04\0\0\0\x02/aC\0\0\0\x0b\x0b\0\0\0\x05\0\0\0\x02/a\
+        C\0\0\0\x0b\x0b\0\0\0\x06\0\0\0\x02/a\
+        S\0\0\0\x0a\x66\0\0\0\x02\0\0\0\x01hS\0\0\0\x0a\x67\0\0\0\x03\0\0\0\x01h\
+        S\0\0\0\x09\x68\0\0\0\x04\0\0\0\0S\0\0\0\x09\x69\0\0\0\x05\0\0\0\0\
+        S\0\0\0\x05\xc9\0\0\0\x06D",
+        Verdict::Transcript(TranscriptError::Direction { record: 14 }),
+    ),
+    // What is wrong first counts: a reply that is not allowed, and one without a request, before a record that is none.
+    (
+        "HANDLE for MKDIR before no side",
+        48,
+        b"S\0\0\0\x0a\x66\0\0\0\x01\0\0\0\x01hD",
+        Verdict::Refused(Refusal::NotAllowed { record: 4 }),
+    ),
+    (
+        "a second reply before no side",
+        70,
+        b"S\0\0\0\x05\xc9\0\0\0\x01D",
+        Verdict::Refused(Refusal::UnknownReply { record: 5 }),
     ),
 ];
 
-/// Whether a file of so many bytes of `FILE` and these is refused for that.
+/// Whether the verdict on a file of so many bytes of `FILE` and these is this one.
 fn is_tailed(
     alloc: Global,
     end: usize,
     back: &[u8],
-    error: TranscriptError,
+    verdict: &Verdict,
 ) -> Result<bool, AllocError> {
     let Some(front) = FILE.get(..end) else {
         return Ok(false);
     };
     let mut file = Vec::from_slice(alloc, front)?;
     file.extend_from_slice(back)?;
-    Ok(is_judged(alloc, BLANK, file.as_slice(), &Verdict::Transcript(error)))
+    Ok(is_judged(alloc, BLANK, file.as_slice(), verdict))
 }
 
 #[test]
 fn longer_files(rt: HostRuntime) -> Result<(), Fail> {
-    for (name, end, back, error) in TAILS {
-        let holds = is_tailed(rt.alloc(), *end, back, *error)?;
+    for (name, end, back, verdict) in TAILS {
+        let holds = is_tailed(rt.alloc(), *end, back, verdict)?;
         assert!(rt; holds, "{name}");
     }
     Ok(())

@@ -40,7 +40,10 @@ fn sources_fail(rt: HostRuntime) -> Result<(), Fail> {
     for count in 0..=transcript.len() {
         let judged = torn(rt.alloc(), BLANK, &transcript.as_slice()[..count]);
         let record = failed_in(count);
-        assert!(rt; matches!(judged, Err(AuditError::Transcript(TranscriptError::Io { record: at })) if at == record), "{count}");
+        assert!(rt;
+            matches!(judged, Err(AuditError::Transcript(TranscriptError::Io { record: at })) if at == record),
+            "{count}"
+        );
     }
     Ok(())
 }
