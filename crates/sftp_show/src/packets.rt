@@ -34,10 +34,8 @@ fn ask_name(ask: &Ask) -> &'static str {
         Ask::Rename { .. } => "RENAME",
         Ask::Readlink { .. } => "READLINK",
         Ask::Symlink { .. } => "SYMLINK",
-        Ask::PosixRename { .. }
-        | Ask::Hardlink { .. }
-        | Ask::Fsync { .. }
-        | Ask::Unknown { .. } => "EXTENDED",
+        Ask::PosixRename { .. } | Ask::Hardlink { .. } | Ask::Fsync { .. } | Ask::Unknown { .. } =>
+            "EXTENDED",
     }
 }
 

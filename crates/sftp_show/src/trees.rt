@@ -2,9 +2,8 @@
 
 use crate::quoted::Quoted;
 use sftp_treefile::{Kind, Owner, Row, TreeFile};
-use std::fmt;
-use std::io;
 use std::io::Write;
+use std::{fmt, io};
 
 /// Who owns an entry, and its permissions in octal.
 #[derive(Clone, Copy)]

@@ -29,9 +29,11 @@ If the client breaks the protocol, the requests before that are answered, the tr
 
 const ABOUT_AUDIT: &str = "Checks every reply of a recorded session against a file tree";
 
-const ABOUT_SHOW: &str = "Prints what a transcript or a tree file holds, a line for each record or entry";
+const ABOUT_SHOW: &str =
+    "Prints what a transcript or a tree file holds, a line for each record or entry";
 
-const AFTER_SHOW: &str = "The line of a record has its number, C or S for the side that sent the packet, the packet's name, its id (the
+const AFTER_SHOW: &str =
+    "The line of a record has its number, C or S for the side that sent the packet, the packet's name, its id (the
 version of an INIT or a VERSION), and the bytes of the packet; then the code of a STATUS, or the paths of a request.
 
 The first line of a tree file has the home, the owner of new entries, and the number of entries. The line of an

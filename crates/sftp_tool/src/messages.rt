@@ -84,10 +84,8 @@ impl Failure<'_> {
     {
         match self {
             Failure::Session(_) => 1,
-            Failure::Usage(_)
-            | Failure::Tree(_)
-            | Failure::Transcript(_)
-            | Failure::UnknownFile => 2,
+            Failure::Usage(_) | Failure::Tree(_) | Failure::Transcript(_) | Failure::UnknownFile =>
+                2,
             Failure::CannotRead(_) | Failure::CannotWrite(_) | Failure::OutOfMemory => 3,
         }
     }
@@ -157,7 +155,6 @@ impl From<TreeError> for Failure<'_> {
         }
     }
 }
-
 
 /// Writes the reason of a failure. If the stream cannot be written, there is nothing left to do.
 pub(crate) fn report<E: Write>(errors: &mut E, failure: Failure<'_>) {

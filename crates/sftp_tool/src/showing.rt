@@ -47,7 +47,11 @@ fn show_file<'a, F: Read + Drop, O: Write>(
     output: &mut O,
 ) -> Result<(), Failure<'a>> {
     let mut start = Vec::new(alloc);
-    append(name, &mut file.by_ref().take(OPENING.len() as u64), &mut start)?;
+    append(
+        name,
+        &mut file.by_ref().take(OPENING.len() as u64),
+        &mut start,
+    )?;
     if start.as_slice() == OPENING.as_slice() {
         show_records(alloc, name, start.as_slice().chain(file), output)
     } else {
@@ -57,7 +61,11 @@ fn show_file<'a, F: Read + Drop, O: Write>(
 }
 
 /// Appends all that is left of the file `name` to the bytes.
-fn append<'a, F: Read>(name: &'a str, file: &mut F, bytes: &mut Vec<u8>) -> Result<(), Failure<'a>> {
+fn append<'a, F: Read>(
+    name: &'a str,
+    file: &mut F,
+    bytes: &mut Vec<u8>,
+) -> Result<(), Failure<'a>> {
     match file.read_to_end(bytes) {
         Ok(_) => Ok(()),
         Err(error) => Err(Failure::reading(name, &error)),

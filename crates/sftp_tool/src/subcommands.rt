@@ -28,7 +28,11 @@ pub(crate) fn audit<'a, R: Files + AllocGlobal, O: Write>(
 }
 
 /// Audits the session of a transcript that is read as a stream.
-fn judge<F: Read + Drop>(alloc: Global, tree: &[u8], transcript: F) -> Result<Accepted, AuditError> {
+fn judge<F: Read + Drop>(
+    alloc: Global,
+    tree: &[u8],
+    transcript: F,
+) -> Result<Accepted, AuditError> {
     let mut records = Reader::new(alloc, Tally::new(transcript))?;
     sftp_audit::audit_stream(alloc, tree, &mut records)
 }
