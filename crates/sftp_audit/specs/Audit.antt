@@ -61,7 +61,7 @@ error_of_session refusal = audit_errors.Refused refusal
 abbrev pub HasStart : List ℕ → Type 0
 HasStart tree = (start : Tree) × IsStart start tree
 
--- an event is refused behind events that are sound: the file records them, then this one, and then whatever it may
+-- an event is refused behind events that are sound: the file records them, then this one, and then anything
 pub record RefusedAt (start : State) (transcript : List ℕ) (refusal : Refusal) : Type 0 where
   pub events : List Event
   pub event : Event

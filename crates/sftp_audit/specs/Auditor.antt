@@ -46,7 +46,7 @@ pub record IsFirstWrong (start : State) (exchanges : List Exchange) (number : �
   pub run : Run Allowed start (leading_pairs (ledger_of before)) mid
   pub wrong : (end : State) → Allowed mid request reply end → ⊥
 
--- so many requests were asked from the first one without a reply on that there is no room for another
+-- from the oldest unanswered request on, as many were asked as the window allows
 abbrev pub IsWindowFull : List Event → Type 0
 IsWindowFull events = window ≤ length (unsettled (recorded_exchanges events))
 

@@ -70,7 +70,7 @@ impl Auditor {
     ///
     /// # Errors
     ///
-    /// A refusal is for good: each later call returns it again, and nothing is kept.
+    /// A refusal, `NoMemory` included, is final: each later call returns it again, and nothing is kept.
     ///
     /// - `UnknownReply` at the event's record if no request of the reply's id waits for its reply.
     /// - `IdInUse` at the event's record if a request of the same id waits.

@@ -1,4 +1,4 @@
-//! Audits, from bytes to bytes.
+//! Audits of bytes in memory, and of streams.
 ghost use Rattle.std.specs.Prelude.{◌≡◌, ◌≢◌, ℕ, [], List, None, false, IfOk, IfErr, MatchResult};
 ghost use Rattle.sftp_audit.specs.declared.errors.AuditError.TheVariants.{NoMemory};
 ghost use Rattle.sftp_tree.specs.Tree as values;

@@ -1,4 +1,4 @@
-//! The errors of the auditor: why it refuses a session, and of which file or session an error is.
+//! The errors of the auditor: why it refuses a session, and which file is malformed.
 ghost use Rattle.std.specs.Prelude.{◌≡◌};
 
 use sftp_transcript::TranscriptError;

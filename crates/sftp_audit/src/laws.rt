@@ -27,7 +27,7 @@ pub fn explained_when_none_waits()
         Explained Allowed start events end }
 {}
 
-/// Behind events that went before, an event is refused for one reason at most, unless memory runs out.
+/// After given events, an event is refused for one reason at most, unless memory runs out.
 pub fn one_refusal()
     ensures { (start : State) (events : List Event) (event : Event) (a b : Refusal) →
         Refuses start events event a → Refuses start events event b → a ≢ NoMemory → b ≢ NoMemory → a ≡ b }

@@ -14,7 +14,7 @@ use std::alloc::Global;
 use std::collections::VecDeque;
 use std::marker::Model;
 
-/// How many requests may be asked from an unanswered one on, itself included. This profile's own.
+/// How many requests may be asked from an unanswered one on, itself included. This limit is this profile's own.
 pub const WINDOW: usize = 1_024;
 
 /// The exchanges that are kept, in the order asked. No two requests of one id wait for their replies.
@@ -177,7 +177,7 @@ fn enter(
     Ok(())
 }
 
-/// The place of the exchange that has an ordinal, where the first one has the other.
+/// The position of the exchange with this ordinal, given the ordinal of the first one.
 fn place_of(ordinal: u64, first: u64) -> usize
     ensures { (place : ℕ) → place ≤ window → IsOrdinal first place ordinal → result ≡ place }
 {

@@ -40,8 +40,8 @@ fn letter(side: Side) -> char {
     }
 }
 
-/// Writes a line for each record of a transcript file, each with a line feed, up to the first fault. The reader has read
-/// nothing yet.
+/// Writes a line for each record of a transcript file, each with a line feed, up to the first fault. The reader has
+/// read nothing yet.
 ///
 /// # Errors
 ///

@@ -10,7 +10,7 @@ const ABOUT: &str =
 const STATUSES: &str = "Exit status:
   0  the session was served or is accepted, the file was written, or help or the version was shown
   1  the session is refused, or the client broke the protocol
-  2  bad usage, or a malformed input file
+  2  bad usage, or a malformed or unknown input file
   3  a file or a stream cannot be read or written, or memory ran out";
 
 const ABOUT_SERVE: &str =
@@ -34,14 +34,15 @@ const ABOUT_SHOW: &str =
 
 const AFTER_SHOW: &str =
     "The line of a record has its number, C or S for the side that sent the packet, the packet's name, its id (the
-version of an INIT or a VERSION), and the bytes of the packet; then the code of a STATUS, or the paths of a request.
+version of an INIT or a VERSION), and the packet's length in bytes; then the code of a STATUS, or the paths of a
+request.
 
 The first line of a tree file has the home, the owner of new entries, and the number of entries. The line of an
 entry has its number, its kind (D directory, F file, H further name of a file, L link) and its path; then the uid, gid
-and permissions of a directory or a file, the bytes of a file, the number of the entry that a further name belongs
-to, or the target of a link.
+and permissions of a directory or a file, the length of a file in bytes, the number of the entry that a further name
+belongs to, or the target of a link.
 
-Bytes that are not printable ASCII are shown as \\x and two hexadecimal digits.";
+Bytes other than printable ASCII, and \" and \\, are shown as \\x and two hexadecimal digits.";
 
 const ABOUT_BLANK: &str = "Writes the tree file of a tree that holds only the root directory";
 

@@ -171,8 +171,8 @@ fn asks(alloc: Global, auditor: &mut Auditor, first: u32, count: u32) -> Result<
     Ok(true)
 }
 
-/// From the oldest request without a reply on, 1,024 may be asked, also where the second one has its reply. The next one
-/// is `Window`, but `IdInUse` if a request of its id waits.
+/// From the oldest unanswered request on, 1,024 may be asked, also where the second one has its reply. The next one is
+/// `Window`, but `IdInUse` if a request of its id is unanswered.
 fn is_full(alloc: Global, next: u32, refusal: Refusal) -> Result<bool, Fail> {
     let mut auditor = auditor(alloc)?;
     let asked = asks(alloc, &mut auditor, 6, 1_024)?;

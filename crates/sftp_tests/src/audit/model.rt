@@ -1,5 +1,6 @@
-//! A plain model of the auditor, for sessions on directories alone. It looks for the reply to a request by going through
-//! all records behind it, and does the whole session anew at each record, on a list of the directories that there are.
+//! A plain model of the auditor, for sessions on directories alone. It looks for the reply to a request by going
+//! through all records after it, and does the whole session anew at each record, on a list of the directories that
+//! exist.
 use super::packets::{Row, number, row_at};
 use super::{BLANK, Verdict, is_judged};
 use sftp_audit::{AuditError, Auditor, Refusal, TranscriptError, audit};
