@@ -1,5 +1,6 @@
 //! Audits of files: verdicts, and files that are malformed or missing.
 use crate::runs::{BLANK, OPENING, Paths, has_bytes, run_words, start, write_parts};
+use std::alloc::{AllocError, Global};
 use std::fs::Files;
 use std::test::Fail;
 use std::{fs, io};
@@ -141,7 +142,7 @@ fn accepts_replies_out_of_order(rt: HostRuntime) -> Result<(), Fail> {
 #[test]
 fn refuses_sessions(rt: HostRuntime) -> Result<(), Fail> {
     let removed = [OPENING, MAKE_A, MAKE_A_B, REMOVE_A, DONE_3, DONE_2, DONE_1];
-    let unanswered = [OPENING, MAKE_A, MAKE_A_B, REMOVE_A, FAILED_3, DONE_2];
+    let unanswered = [OPENING, MAKE_A, MAKE_A_B, REMOVE_A, DONE_3, DONE_2];
     for session in [
         Session::refused(&removed, "refused record 6: NotAllowed\n"),
         Session::refused(&unanswered, "refused record 3: Unanswered\n"),
@@ -152,6 +153,29 @@ fn refuses_sessions(rt: HostRuntime) -> Result<(), Fail> {
             session.output
         );
     }
+    Ok(())
+}
+
+/// STAT of `/` with the id 7, and its ATTRS.
+const STAT_ROOT: &[u8] = b"C\0\0\0\x0a\x11\0\0\0\x07\0\0\0\x01/\
+S\0\0\0\x1d\x69\0\0\0\x07\0\0\0\x07\0\0\0\0\0\0\0\0\0\0\0\0\0\0\0\0\0\0\x41\xed";
+
+/// The opening, and 100,000 times STAT with its reply: 4,900,116 bytes.
+fn long_session(alloc: Global) -> Result<Vec<u8>, AllocError> {
+    let mut bytes = Vec::from_slice(alloc, OPENING)?;
+    for _ in 0..100_000 {
+        bytes.extend_from_slice(STAT_ROOT)?;
+    }
+    Ok(bytes)
+}
+
+#[test]
+fn accepts_a_long_session(rt: HostRuntime) -> Result<(), Fail> {
+    let bytes = long_session(rt.alloc())?;
+    assert!(rt; bytes.len() == 4_900_116);
+    let parts = [bytes.as_slice()];
+    let session = Session::accepted(&parts, "accepted 100000 requests\n", BLANK);
+    assert!(rt; ends(&rt, "test_long", BLANK, &session)?);
     Ok(())
 }
 
@@ -189,7 +213,18 @@ fn names_what_is_wrong_with_a_transcript(rt: HostRuntime) -> Result<(), Fail> {
     let cut = [&OPENING[..115]];
     let turned = [OPENING, DONE_BY_CLIENT];
     let trailing = [OPENING, REMOVE_A_AND_MORE];
+    // The reply that is not allowed would be found in record 8.
+    let in_reply = [
+        OPENING,
+        MAKE_A,
+        MAKE_A_B,
+        REMOVE_A,
+        DONE_3,
+        DONE_2,
+        &DONE_1[..7],
+    ];
     for session in [
+        Session::malformed(&in_reply, "sftpv3: transcript: record 8: Truncated\n"),
         Session::malformed(&cut, "sftpv3: transcript: record 2: Truncated\n"),
         Session::malformed(&turned, "sftpv3: transcript: record 3: Wire Type\n"),
         Session::malformed(&trailing, "sftpv3: transcript: record 3: Wire Trailing\n"),
@@ -220,7 +255,7 @@ fn names_what_is_wrong_with_a_tree(rt: HostRuntime) -> Result<(), Fail> {
     Ok(())
 }
 
-/// Both files are read before either is judged, the tree first.
+/// The tree file is read and the transcript opened before either is judged.
 #[test]
 fn reads_both_files_first(rt: HostRuntime) -> Result<(), Fail> {
     start(&rt, "test_missing")?;

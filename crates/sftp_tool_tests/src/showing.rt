@@ -12,6 +12,8 @@ const REMOVE_A: &[u8] = b"C\0\0\0\x0b\x0f\0\0\0\x03\0\0\0\x02/a";
 
 const FAILED_3: &[u8] = b"S\0\0\0\x11\x65\0\0\0\x03\0\0\0\x04\0\0\0\0\0\0\0\0";
 
+const DONE_3: &[u8] = b"S\0\0\0\x11\x65\0\0\0\x03\0\0\0\0\0\0\0\0\0\0\0\0";
+
 const DONE_2: &[u8] = b"S\0\0\0\x11\x65\0\0\0\x02\0\0\0\0\0\0\0\0\0\0\0\0";
 
 const DONE_1: &[u8] = b"S\0\0\0\x11\x65\0\0\0\x01\0\0\0\0\0\0\0\0\0\0\0\0";
@@ -32,6 +34,26 @@ const ODD_STAT: &[u8] = b"C\0\0\0\x0f\x11\0\0\0\x07\0\0\0\x06\"\\\n\xff~\x7f";
 /// READ of 10 bytes behind the handle `h`.
 const READ: &[u8] = b"C\0\0\0\x16\x05\0\0\0\x08\0\0\0\x01h\0\0\0\0\0\0\0\0\0\0\0\x0a";
 
+/// The other requests, each with the id 9: of `/f`, of the handle `h`, and of `/a` and `/b`.
+const OTHERS: &[&[u8]] = &[
+    OPENING,
+    b"C\0\0\0\x13\x03\0\0\0\x09\0\0\0\x02/f\0\0\0\0\0\0\0\0",
+    b"C\0\0\0\x0a\x04\0\0\0\x09\0\0\0\x01h",
+    b"C\0\0\0\x19\x06\0\0\0\x09\0\0\0\x01h\0\0\0\0\0\0\0\0\0\0\0\x03abc",
+    b"C\0\0\0\x0b\x07\0\0\0\x09\0\0\0\x02/f",
+    b"C\0\0\0\x0a\x08\0\0\0\x09\0\0\0\x01h",
+    b"C\0\0\0\x0f\x09\0\0\0\x09\0\0\0\x02/f\0\0\0\0",
+    b"C\0\0\0\x0e\x0a\0\0\0\x09\0\0\0\x01h\0\0\0\0",
+    b"C\0\0\0\x0b\x0b\0\0\0\x09\0\0\0\x02/f",
+    b"C\0\0\0\x0a\x0c\0\0\0\x09\0\0\0\x01h",
+    b"C\0\0\0\x0b\x0d\0\0\0\x09\0\0\0\x02/f",
+    b"C\0\0\0\x0b\x10\0\0\0\x09\0\0\0\x02/f",
+    b"C\0\0\0\x11\x12\0\0\0\x09\0\0\0\x02/a\0\0\0\x02/b",
+    b"C\0\0\0\x0b\x13\0\0\0\x09\0\0\0\x02/f",
+    b"C\0\0\0\x29\xc8\0\0\0\x09\0\0\0\x14hardlink@openssh.com\0\0\0\x02/a\0\0\0\x02/b",
+    b"C\0\0\0\x1f\xc8\0\0\0\x09\0\0\0\x11fsync@openssh.com\0\0\0\x01h",
+];
+
 /// The replies HANDLE `h`, DATA `abc`, NAME with no name, ATTRS with nothing, and EXTENDED_REPLY.
 const HANDLE: &[u8] = b"S\0\0\0\x0a\x66\0\0\0\x01\0\0\0\x01h";
 
@@ -44,11 +66,13 @@ const NO_ATTRS: &[u8] = b"S\0\0\0\x09\x69\0\0\0\x04\0\0\0\0";
 const EXTENDED_REPLY: &[u8] = b"S\0\0\0\x05\xc9\0\0\0\x05";
 
 /// The file `/f` of `abc`, and its second name `/g`.
-const TWO_NAMES: &[u8] = b"SFTREE01\0\0\0\x01/\0\0\0\0\0\0\0\0\0\0\0\x02\0\0\0\0\0\0\0\0\0\0\x01\xed\
+const TWO_NAMES: &[u8] =
+    b"SFTREE01\0\0\0\x01/\0\0\0\0\0\0\0\0\0\0\0\x02\0\0\0\0\0\0\0\0\0\0\x01\xed\
 \0\0\0\x02/fF\0\0\0\0\0\0\0\0\0\0\x01\xa4\0\0\0\x03abc\0\0\0\x02/gH\0\0\0\x01";
 
 /// The home `/h`, uid 1 and gid 2; the directory `/d` of uid 3 and gid 4 with permissions 0o7; the link `/l` to `x y`.
-const LINK_AND_DIRECTORY: &[u8] = b"SFTREE01\0\0\0\x02/h\0\0\0\x01\0\0\0\x02\0\0\0\x02\0\0\0\0\0\0\0\0\0\0\x01\xed\
+const LINK_AND_DIRECTORY: &[u8] =
+    b"SFTREE01\0\0\0\x02/h\0\0\0\x01\0\0\0\x02\0\0\0\x02\0\0\0\0\0\0\0\0\0\0\x01\xed\
 \0\0\0\x02/dD\0\0\0\x03\0\0\0\x04\0\0\0\x07\0\0\0\x02/lL\0\0\0\x03x y";
 
 /// What `show` prints of a file of these parts: its status, and what is on standard output and standard error.
@@ -73,14 +97,25 @@ const SEVEN_LINES: &str = "1 C INIT 3 9
 3 C MKDIR 1 19 \"/a\"
 4 C MKDIR 2 21 \"/a/b\"
 5 C RMDIR 3 15 \"/a\"
-6 S STATUS 3 21 code 4
+6 S STATUS 3 21 code 0
 7 S STATUS 2 21 code 0
 ";
 
 #[test]
 fn shows_records(rt: HostRuntime) -> Result<(), Fail> {
-    let parts = [OPENING, MAKE_A, MAKE_A_B, REMOVE_A, FAILED_3, DONE_2];
-    assert!(rt; shows(&rt, "test_show_records", &parts, 0, SEVEN_LINES, "")?);
+    let parts = [
+        OPENING, MAKE_A, MAKE_A_B, REMOVE_A, FAILED_3, DONE_2, DONE_1,
+    ];
+    let output = "1 C INIT 3 9
+2 S VERSION 3 97
+3 C MKDIR 1 19 \"/a\"
+4 C MKDIR 2 21 \"/a/b\"
+5 C RMDIR 3 15 \"/a\"
+6 S STATUS 3 21 code 4
+7 S STATUS 2 21 code 0
+8 S STATUS 1 21 code 0
+";
+    assert!(rt; shows(&rt, "test_show_records", &parts, 0, output, "")?);
     Ok(())
 }
 
@@ -93,7 +128,7 @@ fn shows_the_records_before_a_fault(rt: HostRuntime) -> Result<(), Fail> {
         MAKE_A,
         MAKE_A_B,
         REMOVE_A,
-        FAILED_3,
+        DONE_3,
         DONE_2,
         &DONE_1[..7],
     ];
@@ -117,6 +152,30 @@ fn shows_paths_of_requests(rt: HostRuntime) -> Result<(), Fail> {
 7 C READ 8 26
 ";
     assert!(rt; shows(&rt, "test_show_paths", &parts, 0, output, "")?);
+    Ok(())
+}
+
+#[test]
+fn shows_other_requests(rt: HostRuntime) -> Result<(), Fail> {
+    let output = "1 C INIT 3 9
+2 S VERSION 3 97
+3 C OPEN 9 23 \"/f\"
+4 C CLOSE 9 14
+5 C WRITE 9 29
+6 C LSTAT 9 15 \"/f\"
+7 C FSTAT 9 14
+8 C SETSTAT 9 19 \"/f\"
+9 C FSETSTAT 9 18
+10 C OPENDIR 9 15 \"/f\"
+11 C READDIR 9 14
+12 C REMOVE 9 15 \"/f\"
+13 C REALPATH 9 15 \"/f\"
+14 C RENAME 9 21 \"/a\" \"/b\"
+15 C READLINK 9 15 \"/f\"
+16 C EXTENDED 9 45 \"/a\" \"/b\"
+17 C EXTENDED 9 35
+";
+    assert!(rt; shows(&rt, "test_show_others", OTHERS, 0, output, "")?);
     Ok(())
 }
 
@@ -155,7 +214,7 @@ fn shows_tree_files(rt: HostRuntime) -> Result<(), Fail> {
     Ok(())
 }
 
-/// A malformed tree file prints no line on standard output, and so do files of other kinds and files that are missing.
+/// A malformed tree file prints no line on standard output, nor do files of other kinds or files that are missing.
 #[test]
 fn shows_nothing_of_other_files(rt: HostRuntime) -> Result<(), Fail> {
     let folder = "test_show_other";
