@@ -43,17 +43,6 @@ const EIGHT: &[Line] = &[
     (STATUS, 1, Some(0), TEXTS),
 ];
 
-/// STAT of `/` and its ATTRS.
-const STAT: &[Line] = &[
-    (b"C\0\0\0\x0a\x11", 4, None, b"\0\0\0\x01/"),
-    (
-        b"S\0\0\0\x1d\x69",
-        4,
-        None,
-        b"\0\0\0\x07\0\0\0\0\0\0\0\0\0\0\0\0\0\0\0\0\0\0\x41\xed",
-    ),
-];
-
 /// OPEN of `/f`, WRITE of `abc`, READ of it and CLOSE, each with its reply.
 const FILES: &[Line] = &[
     (
@@ -259,59 +248,6 @@ fn cut_sessions(rt: HostRuntime) -> Result<(), Fail> {
     assert!(rt; agrees_on_cuts(rt.alloc(), SIX)?);
     assert!(rt; agrees_on_cuts(rt.alloc(), EIGHT)?);
     assert!(rt; counts_cuts(rt.alloc())?);
-    Ok(())
-}
-
-/// Whether auditor and model agree on so many other bytes at a place.
-fn agrees_on_bytes(
-    alloc: Global,
-    transcript: &[u8],
-    place: usize,
-    last: u8,
-) -> Result<bool, AllocError> {
-    let mut changed = Vec::from_slice(alloc, transcript)?;
-    for byte in 0..=last {
-        if let Some(slot) = changed.as_mut_slice().get_mut(place) {
-            *slot = byte;
-        }
-        if !agrees(alloc, changed.as_slice())? {
-            return Ok(false);
-        }
-    }
-    Ok(true)
-}
-
-/// Whether they agree on each other direction and type of the record that begins there, and on other lengths: up to 255
-/// in the last byte, and each one with 1 or 2 in another byte.
-fn agrees_on_head(alloc: Global, transcript: &[u8], first: usize) -> Result<bool, AllocError> {
-    for (offset, last) in [255, 2, 2, 2, 255, 255].iter().enumerate() {
-        if !agrees_on_bytes(alloc, transcript, first.saturating_add(offset), *last)? {
-            return Ok(false);
-        }
-    }
-    Ok(true)
-}
-
-/// Whether they agree on each such change of each record, INIT and VERSION among them.
-fn agrees_on_heads(alloc: Global, lines: &'static [Line<'static>]) -> Result<bool, AllocError> {
-    let transcript = whole(alloc, lines)?;
-    let mut place: usize = 8;
-    for record in 1..=transcript.len() as u64 {
-        match row_at(transcript.as_slice(), place, record) {
-            Ok(Some(row)) if agrees_on_head(alloc, transcript.as_slice(), place)? => {
-                place = place.saturating_add(row.body.len()).saturating_add(6);
-            }
-            Ok(None) => return Ok(record == lines.len() as u64 + 3),
-            _ => return Ok(false),
-        }
-    }
-    Ok(false)
-}
-
-#[test]
-fn changed_heads(rt: HostRuntime) -> Result<(), Fail> {
-    assert!(rt; agrees_on_heads(rt.alloc(), SIX)?);
-    assert!(rt; agrees_on_heads(rt.alloc(), STAT)?);
     Ok(())
 }
 

@@ -163,8 +163,8 @@ fn stat(id: u32) -> [u8; 15] {
 
 /// Asks from this id on, so many times, and whether each request is taken.
 fn asks(alloc: Global, auditor: &mut Auditor, first: u32, count: u32) -> Result<bool, Fail> {
-    for id in first..first + count {
-        if feed(alloc, auditor, &stat(id))?.is_err() {
+    for step in 0..count {
+        if feed(alloc, auditor, &stat(first.wrapping_add(step)))?.is_err() {
             return Ok(false);
         }
     }
