@@ -3,15 +3,12 @@ use sftp_audit::{Accepted, AuditError, Refusal, TranscriptError, audit, blank_tr
 use std::alloc::{AllocError, Global};
 use std::test::Fail;
 
-mod changes;
 mod contents;
 mod fed;
 mod files;
 mod handle_codes;
 mod handles;
 mod links;
-mod model;
-mod packets;
 mod records;
 mod refusals;
 mod sessions;
