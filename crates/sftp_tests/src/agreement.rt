@@ -1,9 +1,9 @@
 //! Long seeded sessions: what a session answers, another session on an equal tree accepts, and both end with equal
 //! trees.
 use crate::answers::{MIXED, packet};
-use crate::generator::Generator;
 use sftp_handles::{GivenTable, Session, SlabTable};
 use sftp_path::NoMemory;
+use sftp_test_inputs::generator::Generator;
 use sftp_tree::Tree;
 use sftp_wire::{Answer, Packet, Reply, Request, Side, front};
 use std::alloc::{AllocError, Global};

@@ -1,7 +1,7 @@
 //! Transcript files that are written to streams, of which some fail. The bytes are worked out by hand.
 use std::alloc::Global;
 use std::io;
-use std::io::{ErrorKind, Read, Write};
+use std::io::{ErrorKind, Write};
 
 mod reading;
 mod streams;
@@ -45,25 +45,5 @@ impl Write for Narrow {
             return Err(io::Error::from(ErrorKind::BrokenPipe));
         }
         Ok(())
-    }
-}
-
-/// A reader that gives one byte a call, and fails at the end.
-#[derive(Debug, Drop)]
-pub(crate) struct Torn<'a> {
-    pub(crate) rest: &'a [u8],
-}
-
-impl Read for Torn<'_> {
-    fn read(&mut self, buf: &mut [u8]) -> io::Result<usize> {
-        let Some((byte, rest)) = self.rest.split_first() else {
-            return Err(io::Error::from(ErrorKind::BrokenPipe));
-        };
-        if buf.is_empty() {
-            return Ok(0);
-        }
-        buf[0] = *byte;
-        self.rest = rest;
-        Ok(1)
     }
 }

@@ -1,7 +1,7 @@
 //! What a session answers to OPEN with each set of flags.
 use super::{Client, HANDLE_FIRST, MIXED};
-use crate::open_flags::{ALL_FLAGS, are_good};
 use sftp_path::NoMemory;
+use sftp_test_inputs::open_flags::{ALL_FLAGS, are_good};
 use std::alloc::{AllocError, Global};
 use std::test::Fail;
 

@@ -1,7 +1,7 @@
 //! What a session gives of long listings and long files.
 use super::{BLANK, Client, DONE, ENDED, HANDLE_FIRST, OPENDIR_ROOT};
-use crate::long_files::{counted, with_content};
 use sftp_path::NoMemory;
+use sftp_test_inputs::long_files::{counted, with_content};
 use std::alloc::{AllocError, Global};
 use std::test::Fail;
 
@@ -72,7 +72,7 @@ const OPEN_F: &[u8] = b"\x03\0\0\0\x01f\0\0\0\x01\0\0\0\0";
 
 const READ_40000: &[u8] = b"\x05\0\0\0\x0c\0\0\0\0\0\0\0\0\0\0\0\0\0\0\0\0\0\0\0\x05\0\0\x9c\x40";
 
-/// Whether READ of a longer file gives its first 32,768 bytes behind the offset.
+/// Whether READ of a longer file gives its first 32,768 bytes after the offset.
 fn caps_a_read(alloc: Global) -> Result<bool, NoMemory> {
     let content = counted(alloc, 50_000)?;
     let tree = with_content(alloc, 50_000, content.as_slice())?;

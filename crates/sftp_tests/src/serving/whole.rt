@@ -50,7 +50,7 @@ fn is_accepted(alloc: Global, outcome: &Outcome, requests: u64) -> bool {
     accepted_requests(alloc, outcome) == Some(requests)
 }
 
-/// Whether the first 1,024 records behind the greeting are the client's, of 15 bytes each, and the next one is the
+/// Whether the first 1,024 records after the greeting are the client's, of 15 bytes each, and the next one is the
 /// server's.
 fn has_full_window(logged: &[u8]) -> bool {
     let mut rest = logged.get(116..).unwrap_or(&[]);
@@ -102,7 +102,7 @@ fn pairs(alloc: Global, count: u32) -> Result<Vec<u8>, Fail> {
     Ok(input)
 }
 
-/// The ids of the replies that were written behind VERSION, up to four.
+/// The ids of the replies that were written after VERSION, up to four.
 fn first_ids(outcome: &Outcome) -> [u32; 4] {
     let mut ids = [u32::MAX; 4];
     let mut rest = outcome.written.as_slice();

@@ -1,5 +1,5 @@
 //! Transcript files that are read: from sources that fail at each place or give one byte a call, and that end anywhere.
-use super::Torn;
+use sftp_test_inputs::torn::Torn;
 use sftp_transcript::{Event, Memory, Reader, Source, Tally, TranscriptError};
 use sftp_wire::Side;
 use std::alloc::Global;
@@ -56,7 +56,7 @@ fn events_then(place: usize, last: Given) -> [Given; 4] {
     }
 }
 
-/// What a file has to give that ends behind so many bytes.
+/// What a file has to give that ends after so many bytes.
 fn cut(place: usize) -> Given {
     let record = record_at(place);
     match place {

@@ -178,7 +178,7 @@ const TAILS: &[Tail] = &[
         Verdict::Transcript(TranscriptError::Start { record: 3 }),
     ),
     // All kinds of requests and replies are read: OPEN and OPENDIR of "/a", CLOSE of the handle "h", and an extension
-    // named "x"; HANDLE, DATA, NAME, ATTRS and EXTENDED_REPLY, to requests behind one that is not answered.
+    // named "x"; HANDLE, DATA, NAME, ATTRS and EXTENDED_REPLY, to requests after one that is not answered.
     (
         "no side behind requests",
         28,

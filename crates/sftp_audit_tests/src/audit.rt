@@ -93,7 +93,7 @@ fn recorded(alloc: Global, records: &[&[u8]]) -> Result<Vec<u8>, AllocError> {
     Ok(transcript)
 }
 
-/// A name, the tree that the session begins with, its records behind the opening, and the verdict.
+/// A name, the tree that the session begins with, its records after the opening, and the verdict.
 type Session<'a> = (&'a str, &'a [u8], &'a [&'a [u8]], Verdict<'a>);
 
 /// Whether the session of these records is judged so.

@@ -110,7 +110,7 @@ impl Reference {
         Ok(self.at(path))
     }
 
-    /// Whether a walk goes on behind a place.
+    /// Whether a walk goes on after a place.
     fn enter(&self, path: &[u8]) -> Result<(), Cause> {
         match self.at(path) {
             Some(Node::Dir(_)) => Ok(()),
@@ -403,7 +403,7 @@ impl Reference {
         Ok(out)
     }
 
-    /// Appends what stands behind the text of an entry with this number. The root, number 0, has an owner alone.
+    /// Appends the fields after the text of an entry with this number. The root, number 0, has an owner alone.
     fn put_node(
         &self,
         out: &mut Vec<u8>,
@@ -449,7 +449,7 @@ fn depth(path: &[u8]) -> usize {
     path.iter().filter(|byte| **byte == b'/').count()
 }
 
-/// What the text of a place has behind that of another at which it is, or below which.
+/// What the text of a place has after that of another at which it is, or below which.
 fn rest_of<'a>(path: &'a [u8], top: &[u8]) -> Option<&'a [u8]> {
     let rest = path.strip_prefix(top)?;
     match rest.first() {

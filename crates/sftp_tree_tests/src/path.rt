@@ -188,8 +188,8 @@ enum Step<'a> {
     /// It has this text and so many names.
     Is(&'a [u8], usize),
     /// The place of this text is before it, and is above it if this says so.
-    IsBehind(&'a [u8], bool),
-    /// The place of this text is behind it, and is below it if this says so.
+    IsAfter(&'a [u8], bool),
+    /// The place of this text is after it, and is below it if this says so.
     IsBefore(&'a [u8], bool),
 }
 
@@ -226,17 +226,12 @@ fn is_there(alloc: Global, place: &Place, text: &[u8], depth: usize) -> Result<b
 }
 
 /// Whether the place of a text is before another, and is above it if `lies_above` says so.
-fn is_behind(
-    alloc: Global,
-    place: &Place,
-    text: &[u8],
-    lies_above: bool,
-) -> Result<bool, NoMemory> {
+fn is_after(alloc: Global, place: &Place, text: &[u8], lies_above: bool) -> Result<bool, NoMemory> {
     let other = place_of(alloc, text)?;
     Ok(other < *place && place.starts_with(&other) == lies_above && !other.starts_with(place))
 }
 
-/// Whether the place of a text is behind another, and is below it if `lies_below` says so.
+/// Whether the place of a text is after another, and is below it if `lies_below` says so.
 fn is_before(
     alloc: Global,
     place: &Place,
@@ -278,7 +273,7 @@ fn holds(alloc: Global, place: &mut Place, step: &Step) -> Result<bool, NoMemory
         }
         Step::IsRoot => Ok(*place == Place::root(alloc)),
         Step::Is(text, depth) => is_there(alloc, place, text, *depth),
-        Step::IsBehind(text, lies_above) => is_behind(alloc, place, text, *lies_above),
+        Step::IsAfter(text, lies_above) => is_after(alloc, place, text, *lies_above),
         Step::IsBefore(text, lies_below) => is_before(alloc, place, text, *lies_below),
     }
 }
@@ -302,7 +297,7 @@ const WAY: &[Step] = &[
     Step::Is(b"/a", 1),
     Step::Enter(b"b"),
     Step::Is(b"/a/b", 2),
-    Step::IsBehind(b"/a", true),
+    Step::IsAfter(b"/a", true),
     Step::Leave,
     Step::Is(b"/a", 1),
     Step::EnterComponent(b"\xff"),

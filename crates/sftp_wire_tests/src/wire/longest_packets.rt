@@ -11,7 +11,7 @@ fn comes_again(alloc: Global, side: Side, bytes: &[u8]) -> Result<bool, AllocErr
     Ok(again.as_slice() == bytes)
 }
 
-/// The same of so many bytes behind these, and whether they are so many together.
+/// The same of so many bytes after these, and whether they are so many together.
 fn comes_again_long(
     alloc: Global,
     side: Side,

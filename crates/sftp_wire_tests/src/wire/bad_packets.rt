@@ -232,7 +232,7 @@ const ROWS: &[(Side, &[u8], Fault)] = &[
         b"\0\0\0\x0f\x0e\0\0\0\x01\0\0\0\x02/a\0\0\0\x10",
         Fault::Flags,
     ),
-    // In the second of two names, behind the first's.
+    // In the second of two names, after the first's.
     (
         Side::Server,
         b"\0\0\0\x21\x68\0\0\0\x01\0\0\0\x02\

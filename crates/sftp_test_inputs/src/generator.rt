@@ -2,17 +2,17 @@
 
 /// A linear congruential generator; the high half of its state counts.
 #[derive(Clone, Copy)]
-pub(crate) struct Generator {
+pub struct Generator {
     state: u32,
 }
 
 impl Generator {
-    pub(crate) fn new(seed: u32) -> Generator {
+    pub fn new(seed: u32) -> Generator {
         Generator { state: seed }
     }
 
     /// A number below this one, or 0 if there is none.
-    pub(crate) fn below(&mut self, bound: u32) -> u32 {
+    pub fn below(&mut self, bound: u32) -> u32 {
         let state = self.state.wrapping_mul(1_664_525);
         self.state = state.wrapping_add(1_013_904_223);
         (self.state >> 16) % bound.max(1)

@@ -1,7 +1,7 @@
 //! Which flags of OPEN are good (draft, section 6.3).
 
 /// The bits of all six flags, and one more than those.
-pub(crate) const ALL_FLAGS: u32 = 0x40;
+pub const ALL_FLAGS: u32 = 0x40;
 
 /// READ with CREAT, or with CREAT and EXCL.
 const TO_READ: &[u32] = &[0x01, 0x09, 0x29];
@@ -15,6 +15,6 @@ const TO_WRITE: &[u32] = &[
 ];
 
 /// Whether flags are good: with all others OPEN has bad flags.
-pub(crate) fn are_good(flags: u32) -> bool {
+pub fn are_good(flags: u32) -> bool {
     TO_READ.contains(&flags) || TO_WRITE.contains(&flags)
 }

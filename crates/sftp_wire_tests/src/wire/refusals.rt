@@ -85,7 +85,7 @@ fn is_hidden(
     Ok(is_refused(before, request(1, Ask::Unknown { name, rest }), expected))
 }
 
-/// Names of known extensions, so many bytes behind them, and the error. As an unknown one such a packet is not
+/// Names of known extensions, so many bytes after them, and the error. As an unknown one such a packet is not
 /// canonical, up to the longest packet. One byte more is too long first.
 const HIDDEN: &[(&[u8], usize, WireError)] = &[
     (b"posix-rename@openssh.com", 5, WireError::NotCanonical),

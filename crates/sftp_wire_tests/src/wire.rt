@@ -87,7 +87,7 @@ fn rows(rt: HostRuntime) -> Result<(), Fail> {
     Ok(())
 }
 
-/// What writing a packet behind these bytes says, and the bytes then.
+/// What writing a packet after these bytes says, and the bytes then.
 fn written(mut out: Vec<u8>, packet: Packet) -> (Result<(), WireError>, Vec<u8>) {
     let said = encode(&packet, &mut out);
     drop(packet);

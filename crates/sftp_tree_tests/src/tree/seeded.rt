@@ -1,7 +1,7 @@
 //! Seeded lists of a thousand requests, each done by the tree and by the reference.
 use super::reference::{Content, EXCL, OWNER, Reference};
 use super::{Call, Given, perform, shows, writes};
-use crate::generator::Generator;
+use sftp_test_inputs::generator::Generator;
 use sftp_tree::{Refused, Tree};
 use std::alloc::{AllocError, Global};
 use std::test::Fail;
@@ -18,7 +18,24 @@ const TRUNC: u32 = 0x10;
 /// How many requests a list has.
 const REQUESTS: u32 = 1000;
 
-impl Generator {
+/// Requests that a seed fixes.
+#[derive(Clone, Copy)]
+struct Requests {
+    generator: Generator,
+}
+
+impl Requests {
+    fn new(seed: u32) -> Requests {
+        Requests {
+            generator: Generator::new(seed),
+        }
+    }
+
+    /// A number below this one, or 0 if there is none.
+    fn below(&mut self, bound: u32) -> u32 {
+        self.generator.below(bound)
+    }
+
     /// One of four names.
     fn name(&mut self) -> u8 {
         match self.below(4) {
@@ -175,11 +192,11 @@ fn first_wrong(
     top: &[u8],
     seed: u32,
 ) -> Result<Option<u32>, AllocError> {
-    let mut generator = Generator::new(seed);
+    let mut requests = Requests::new(seed);
     for number in 0..REQUESTS {
-        let old = generator.path(alloc, top)?;
-        let new = generator.path(alloc, top)?;
-        let call = generator.call(old.as_slice(), new.as_slice());
+        let old = requests.path(alloc, top)?;
+        let new = requests.path(alloc, top)?;
+        let call = requests.call(old.as_slice(), new.as_slice());
         if !answers(alloc, tree, reference, &call)? {
             return Ok(Some(number));
         }

@@ -5,7 +5,7 @@ use super::handles::{
 };
 use super::refusals::allows_just;
 use super::{BLANK, DONE};
-use crate::open_flags::{ALL_FLAGS, are_good};
+use sftp_test_inputs::open_flags::{ALL_FLAGS, are_good};
 use std::alloc::{AllocError, Global};
 use std::test::Fail;
 

@@ -22,7 +22,7 @@ const PATHS: &[&[u8]] = &[
     b"\0\0\0\x03/a\0",
 ];
 
-/// The bytes behind the path of an only entry `/a`, which are out of range.
+/// The bytes after the path of an only entry `/a`, which are out of range.
 const KINDS: &[&[u8]] = &[
     b"d\0\0\0\0\0\0\0\0\0\0\x01\xed",
     b"f\0\0\0\0\0\0\0\0\0\0\x01\xed\0\0\0\0",

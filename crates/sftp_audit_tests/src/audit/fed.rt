@@ -48,7 +48,7 @@ fn feed(alloc: Global, auditor: &mut Auditor, record: &[u8]) -> Result<Result<()
     }
 }
 
-/// Whether each of the records is taken, with so many requests kept behind it.
+/// Whether each of the records is taken, with so many requests kept after it.
 fn keeps(alloc: Global, auditor: &mut Auditor, records: &[(&[u8], usize)]) -> Result<bool, Fail> {
     for (record, kept) in records {
         if feed(alloc, auditor, record)?.is_err() || auditor.kept() != *kept {

@@ -169,7 +169,7 @@ const UNKNOWN_EXTENSION_BEHIND_INIT: &[Call] = &[
     Call::Next(WAITING),
 ];
 
-/// The place is 0, then behind the 19 bytes of MKDIR, and stays at the first byte of a packet of no known type.
+/// The place is 0, then after the 19 bytes of MKDIR, and stays at the first byte of a packet of no known type.
 const PLACES: &[Call] = &[
     Call::Place(0),
     Call::Push(MKDIR, 19),
@@ -262,7 +262,7 @@ fn holds_no_more(alloc: Global, frames: &mut FrameBuf) -> Result<bool, AllocErro
     )
 }
 
-/// Whether CLOSE with that id comes out of the full buffer, and one with a later id goes in behind the others.
+/// Whether CLOSE with that id comes out of the full buffer, and one with a later id goes in after the others.
 fn passes_close(alloc: Global, frames: &mut FrameBuf, id: u32) -> Result<bool, AllocError> {
     Ok(
         is_close(alloc, frames, id)?
@@ -281,7 +281,7 @@ fn passes_all(alloc: Global, frames: &mut FrameBuf) -> Result<bool, AllocError> 
     Ok(true)
 }
 
-/// The fault is behind 22,615 packets of 13 bytes.
+/// The fault is after 22,615 packets of 13 bytes.
 const FAULT_BEHIND_ALL: &[Call] = &[
     Call::Room(34_000),
     Call::Push(b"\0\0\0\0", 4),

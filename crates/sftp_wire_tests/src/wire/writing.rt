@@ -21,7 +21,7 @@ fn writes_attributes(alloc: Global) -> Result<bool, AllocError> {
     Ok(is_written(alloc, request(7, Ask::Mkdir { path, attrs }), bytes))
 }
 
-/// RMDIR behind other bytes.
+/// RMDIR after other bytes.
 fn writes_behind(alloc: Global) -> Result<bool, AllocError> {
     let kept = Vec::from_slice(alloc, b"kept")?;
     let path = text(alloc, b"/a")?;

@@ -7,7 +7,7 @@ use std::test::Fail;
 /// Eight names.
 const EIGHT: &[u8] = b"/a/a/a/a/a/a/a/a";
 
-/// The blank tree's file, with a home of 64 names behind this front of its text.
+/// The blank tree's file, with a home of 64 names after this front of its text.
 fn with_home(alloc: Global, front: &[u8]) -> Result<Vec<u8>, AllocError> {
     let mut file = Vec::from_slice(alloc, b"SFTREE01")?;
     file.extend_from_slice(front)?;

@@ -2,8 +2,8 @@
 //! zeros before what is written past the end.
 use super::handles::{HANDLE_H, OPEN_BOTH, OPEN_READ, WITH_FILE};
 use super::{DONE, Verdict, is_judged, recorded};
-use crate::long_files::{counted, with_content};
 use sftp_audit::Refusal;
+use sftp_test_inputs::long_files::{counted, with_content};
 use std::alloc::{AllocError, Global};
 use std::test::Fail;
 
@@ -77,7 +77,7 @@ fn data(alloc: Global, length: u32, bytes: &[u8]) -> Result<Vec<u8>, AllocError>
 /// READ by `h` of 40,000 bytes at 5.
 const READ_40000: &[u8] = b"C\0\0\0\x16\x05\0\0\0\x01\0\0\0\x01h\0\0\0\0\0\0\0\x05\0\0\x9c\x40";
 
-/// Whether DATA with so many bytes is judged so as the reply to READ of 40,000, of a file with so many behind the
+/// Whether DATA with so many bytes is judged so as the reply to READ of 40,000, of a file with so many after the
 /// offset.
 fn is_given(alloc: Global, left: u32, length: u32, allowed: bool) -> Result<bool, AllocError> {
     let content = counted(alloc, left.saturating_add(5))?;
@@ -130,7 +130,7 @@ fn with_zeros(alloc: Global) -> Result<Vec<u8>, AllocError> {
     with_content(alloc, 1_000_002, content.as_slice())
 }
 
-/// Whether what follows the old end of a file, which was written to far behind that, is judged so if it is read as
+/// Whether what follows the old end of a file, which was written to far past that, is judged so if it is read as
 /// this byte again and again.
 fn is_filled(alloc: Global, byte: u8, verdict: &Verdict) -> Result<bool, AllocError> {
     let filling = vec![in alloc; byte; 32_768]?;
