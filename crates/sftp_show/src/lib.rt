@@ -8,5 +8,6 @@ mod records;
 mod trees;
 
 pub use errors::ShowError;
+pub use quoted::Quoted;
 pub use records::{RecordLine, show_transcript};
 pub use trees::show_tree;

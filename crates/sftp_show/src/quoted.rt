@@ -6,7 +6,7 @@ use std::fmt::Write;
 /// Bytes as a text in quotes. Printable ASCII stands for itself, but for `"` and `\`; every other byte is `\x` and two
 /// lower-case hexadecimal digits.
 #[derive(Clone, Copy)]
-pub(crate) struct Quoted<'a>(pub(crate) &'a [u8]);
+pub struct Quoted<'a>(pub &'a [u8]);
 
 /// Whether a byte stands for itself.
 fn is_plain(byte: u8) -> bool {

@@ -54,7 +54,12 @@ KIND is one of:
   IdInUse       an unanswered request has the id of this request
   Window        the 1,024th request before this one is still unanswered
   NotAllowed    the tree does not allow this reply
-  Unanswered    this request has no reply";
+  Unanswered    this request has no reply
+
+With --explain, standard error says more of a refusal: the lines of the request and of the reply, as 'show' prints them;
+for UnknownReply, the last request of the id, and its reply; for IdInUse and Window, the unanswered request; and for
+NotAllowed, the causes that refuse the request with the status codes that they allow, the reply that is expected, and
+how the reply found differs. For this the transcript is read again, so it cannot be a pipe.";
 
 /// What a command line asks for.
 #[derive(Drop)]
@@ -93,6 +98,8 @@ pub(crate) struct AuditFiles<'a> {
     pub(crate) transcript: &'a str,
     /// The file to write the final tree to.
     pub(crate) out: Option<&'a str>,
+    /// Whether a refusal is explained on standard error.
+    pub(crate) explains: bool,
 }
 
 /// Parses the command line, whose first word is the program's name. Asking for help or the version is not
@@ -151,6 +158,7 @@ fn audit_files<'a>(given: &ArgMatches<'a>) -> Option<AuditFiles<'a>> {
         tree: given.get_str("tree")?,
         transcript: given.get_str("transcript")?,
         out: given.get_str("out"),
+        explains: given.get_flag("explain"),
     })
 }
 
@@ -197,12 +205,17 @@ fn audit_command<'a>(alloc: Global) -> Result<Command<'a>, AllocError> {
     let out = file_option(alloc, "out").help(
         "The file to write the final tree to, if the session is accepted",
     );
+    let explain = Arg::new(alloc, "explain")
+        .long("explain")
+        .action(ArgAction::SetTrue)
+        .help("Print on standard error why the session is refused");
     Command::new(alloc, "audit")
         .about(ABOUT_AUDIT)
         .after_help(AFTER_AUDIT)
         .arg(tree)?
         .arg(transcript)?
-        .arg(out)
+        .arg(out)?
+        .arg(explain)
 }
 
 fn show_command<'a>(alloc: Global) -> Result<Command<'a>, AllocError> {

@@ -5,6 +5,7 @@
 ghost use Rattle.std.specs.Prelude.{◌≤◌};
 
 mod command_line;
+mod explaining;
 mod messages;
 mod serving;
 mod showing;
@@ -38,7 +39,7 @@ where
     E: Write,
     ensures { result ≤ 3 }
 {
-    match perform(rt, words, input, output) {
+    match perform(rt, words, input, output, errors) {
         Ok(ending) => ending.status(),
         Err(failure) => {
             let status = failure.status();
@@ -48,15 +49,16 @@ where
     }
 }
 
-fn perform<'a, R: Files + AllocGlobal, I: Read, O: Write>(
+fn perform<'a, R: Files + AllocGlobal, I: Read, O: Write, E: Write>(
     rt: &R,
     words: &'a [String],
     input: &mut I,
     output: &mut O,
+    errors: &mut E,
 ) -> Result<Ending, Failure<'a>> {
     match command_line::parse(rt.alloc(), words)? {
         Request::Serve(options) => serving::serve(rt, &options, input, output),
-        Request::Audit(files) => subcommands::audit(rt, &files, output),
+        Request::Audit(files) => subcommands::audit(rt, &files, output, errors),
         Request::Blank { file } => subcommands::blank(rt, file),
         Request::Show { file } => showing::show(rt, file, output),
         Request::Help(text) => subcommands::help(text.as_str(), output),

@@ -4,6 +4,7 @@ ghost use Rattle.sftp_tool.specs.declared.messages.Ending.TheVariants as endings
 ghost use Rattle.sftp_tool.specs.Failures.{IsOutcome, IsUnread, IsUnwritten};
 
 use crate::command_line::AuditFiles;
+use crate::explaining::explain;
 use crate::messages::{Ending, Failure, print};
 use sftp_audit::{Accepted, AuditError, Refusal};
 use sftp_transcript::{Reader, Tally};
@@ -14,16 +15,24 @@ use std::io::{Read, Write};
 
 /// Audits a session. The tree file is read and the transcript is opened before either is judged. The transcript is read
 /// as a stream.
-pub(crate) fn audit<'a, R: Files + AllocGlobal, O: Write>(
+pub(crate) fn audit<'a, R: Files + AllocGlobal, O: Write, E: Write>(
     rt: &R,
     files: &AuditFiles<'a>,
     output: &mut O,
+    errors: &mut E,
 ) -> Result<Ending, Failure<'a>> {
     let tree = read(rt, files.tree)?;
     let transcript = open(rt, files.transcript)?;
     match judge(rt.alloc(), tree.as_slice(), transcript) {
         Ok(accepted) => accept(rt, &accepted, files.out, output),
-        Err(error) => refuse(refusal_or_failure(error, files.transcript)?, output),
+        Err(error) => {
+            let refusal = refusal_or_failure(error, files.transcript)?;
+            let ending = refuse(refusal, output)?;
+            if files.explains {
+                explain(rt, files, tree.as_slice(), refusal, errors);
+            }
+            Ok(ending)
+        }
     }
 }
 

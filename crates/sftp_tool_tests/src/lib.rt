@@ -4,6 +4,8 @@
 #[cfg(test)]
 mod audits;
 #[cfg(test)]
+mod explaining;
+#[cfg(test)]
 mod runs;
 #[cfg(test)]
 mod serving;

@@ -31,7 +31,7 @@ const UNKNOWN: &[u8] = b"C\0\0\0\x0c\xc8\0\0\0\x06\0\0\0\x01xab";
 /// STAT of a path with a quote, a backslash, a line feed, a byte that is not ASCII, a tilde and a delete.
 const ODD_STAT: &[u8] = b"C\0\0\0\x0f\x11\0\0\0\x07\0\0\0\x06\"\\\n\xff~\x7f";
 
-/// READ of 10 bytes behind the handle `h`.
+/// READ of 10 bytes through the handle `h`.
 const READ: &[u8] = b"C\0\0\0\x16\x05\0\0\0\x08\0\0\0\x01h\0\0\0\0\0\0\0\0\0\0\0\x0a";
 
 /// The other requests, each with the id 9: of `/f`, of the handle `h`, and of `/a` and `/b`.
@@ -65,6 +65,18 @@ const NO_ATTRS: &[u8] = b"S\0\0\0\x09\x69\0\0\0\x04\0\0\0\0";
 
 const EXTENDED_REPLY: &[u8] = b"S\0\0\0\x05\xc9\0\0\0\x05";
 
+/// A transcript up to its first request, with INIT of version 4 and with no extensions.
+const VERSION_4: &[u8] = b"SFTPTR01C\0\0\0\x05\x01\0\0\0\x04S\0\0\0\x05\x02\0\0\0\x03";
+
+/// REMOVE of `/a` with the greatest id.
+const LAST_ID: &[u8] = b"C\0\0\0\x0b\x0d\xff\xff\xff\xff\0\0\0\x02/a";
+
+/// STATUS with the code 4,294,967,294 and the id 0x01020304.
+const GREAT_CODE: &[u8] = b"S\0\0\0\x11\x65\x01\x02\x03\x04\xff\xff\xff\xfe\0\0\0\0\0\0\0\0";
+
+/// DATA of 256 bytes, up to these bytes.
+const LONG_DATA: &[u8] = b"S\0\0\x01\x09\x67\0\0\0\x03\0\0\x01\0";
+
 /// The file `/f` of `abc`, and its second name `/g`.
 const TWO_NAMES: &[u8] =
     b"SFTREE01\0\0\0\x01/\0\0\0\0\0\0\0\0\0\0\0\x02\0\0\0\0\0\0\0\0\0\0\x01\xed\
@@ -74,6 +86,12 @@ const TWO_NAMES: &[u8] =
 const LINK_AND_DIRECTORY: &[u8] =
     b"SFTREE01\0\0\0\x02/h\0\0\0\x01\0\0\0\x02\0\0\0\x02\0\0\0\0\0\0\0\0\0\0\x01\xed\
 \0\0\0\x02/dD\0\0\0\x03\0\0\0\x04\0\0\0\x07\0\0\0\x02/lL\0\0\0\x03x y";
+
+/// The root of uid 5 and gid 6 with permissions 0o1777. A file `abc` of uid 3 and gid 4 with permissions 0o4755, whose
+/// name is the byte 1.
+const OWNED: &[u8] =
+    b"SFTREE01\0\0\0\x01/\0\0\0\0\0\0\0\0\0\0\0\x01\0\0\0\x05\0\0\0\x06\0\0\x03\xff\
+\0\0\0\x02/\x01F\0\0\0\x03\0\0\0\x04\0\0\x09\xed\0\0\0\x03abc";
 
 /// What `show` prints of a file of these parts: its status, and what is on standard output and standard error.
 fn shows<R: Files + AllocGlobal>(
@@ -194,6 +212,35 @@ fn shows_replies(rt: HostRuntime) -> Result<(), Fail> {
     Ok(())
 }
 
+/// Versions, ids, codes and lengths that need more than one byte.
+#[test]
+fn shows_great_numbers(rt: HostRuntime) -> Result<(), Fail> {
+    let parts = [VERSION_4, LAST_ID, GREAT_CODE, LONG_DATA, &[b'x'; 256]];
+    let output = "1 C INIT 4 9
+2 S VERSION 3 9
+3 C REMOVE 4294967295 15 \"/a\"
+4 S STATUS 16909060 21 code 4294967294
+5 S DATA 3 269
+";
+    assert!(rt; shows(&rt, "test_show_numbers", &parts, 0, output, "")?);
+    Ok(())
+}
+
+/// 10,000 replies, which are more bytes than a reader holds.
+#[test]
+fn shows_many_records(rt: HostRuntime) -> Result<(), Fail> {
+    let mut parts = Vec::new(rt.alloc());
+    let mut lines = String::from_str(rt.alloc(), "1 C INIT 3 9\n2 S VERSION 3 97\n")?;
+    parts.push(OPENING)?;
+    for record in 3..10_003 {
+        parts.push(NO_ATTRS)?;
+        write!(lines, "{record} S ATTRS 4 13\n")?;
+    }
+    let output = lines.as_str();
+    assert!(rt; shows(&rt, "test_show_many", parts.as_slice(), 0, output, "")?);
+    Ok(())
+}
+
 #[test]
 fn shows_tree_files(rt: HostRuntime) -> Result<(), Fail> {
     let folder = "test_show_tree";
@@ -208,9 +255,14 @@ fn shows_tree_files(rt: HostRuntime) -> Result<(), Fail> {
 1 D \"/d\" 3 4 0007
 2 L \"/l\" \"x y\"
 ";
+    let owned = "home \"/\" uid 0 gid 0 entries 1
+0 D \"/\" 5 6 1777
+1 F \"/\\x01\" 3 4 4755 3
+";
     assert!(rt; shows(&rt, folder, &[BLANK], 0, blank, "")?);
     assert!(rt; shows(&rt, folder, &[TWO_NAMES], 0, two_names, "")?);
     assert!(rt; shows(&rt, folder, &[LINK_AND_DIRECTORY], 0, link, "")?);
+    assert!(rt; shows(&rt, folder, &[OWNED], 0, owned, "")?);
     Ok(())
 }
 

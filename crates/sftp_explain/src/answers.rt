@@ -1,0 +1,109 @@
+//! Answers as text (draft, section 7).
+
+use crate::causes::Code;
+use sftp_show::Quoted;
+use sftp_wire::{Answer, Attrs, NameItem};
+use std::fmt;
+use std::fmt::Write;
+
+/// How many names a line has at most.
+const NAMES_IN_LINE: usize = 8;
+
+/// How many bytes of a DATA a line has at most.
+const BYTES_IN_LINE: usize = 16;
+
+/// What an answer says: its code, handle, names or attributes, or how many bytes it has.
+#[derive(Clone, Copy)]
+pub(crate) struct AnswerText<'a>(pub(crate) &'a Answer);
+
+impl fmt::Display for AnswerText<'_> {
+    fn fmt<W: fmt::Write>(&self, f: &mut fmt::Formatter<W>) -> fmt::Result {
+        match self.0 {
+            Answer::Status { code, .. } => {
+                let code = Code(*code);
+                write!(f, "STATUS with code {code}")
+            }
+            Answer::Handle(handle) => {
+                let handle = Quoted(handle.as_slice());
+                write!(f, "HANDLE {handle}")
+            }
+            Answer::Data(bytes) => put_data(bytes.as_slice(), f),
+            Answer::Name(names) => {
+                f.write_str("NAME with")?;
+                put_names(names.as_slice(), f)
+            }
+            Answer::Attrs(attrs) => {
+                let attrs = AttrsText(attrs);
+                write!(f, "ATTRS with {attrs}")
+            }
+            Answer::Extended(bytes) => {
+                let length = bytes.as_slice().len();
+                write!(f, "EXTENDED_REPLY of length {length}")
+            }
+        }
+    }
+}
+
+/// Writes the first `BYTES_IN_LINE` bytes of a DATA, in quotes, and its length.
+fn put_data<W: fmt::Write>(bytes: &[u8], f: &mut fmt::Formatter<W>) -> fmt::Result {
+    let length = bytes.len();
+    if length > BYTES_IN_LINE {
+        let start = Quoted(bytes.get(..BYTES_IN_LINE).unwrap_or(bytes));
+        write!(f, "DATA {start}... of length {length}")
+    } else {
+        let bytes = Quoted(bytes);
+        write!(f, "DATA {bytes} of length {length}")
+    }
+}
+
+/// Writes the first `NAMES_IN_LINE` names, each in quotes with a space before it.
+pub(crate) fn put_names<W: fmt::Write>(
+    names: &[NameItem],
+    f: &mut fmt::Formatter<W>,
+) -> fmt::Result {
+    for item in names.iter().take(NAMES_IN_LINE) {
+        let name = Quoted(item.filename.as_slice());
+        write!(f, " {name}")?;
+    }
+    if names.len() > NAMES_IN_LINE {
+        f.write_str(" ...")
+    } else {
+        Ok(())
+    }
+}
+
+/// Attributes: those that are compared.
+#[derive(Clone, Copy)]
+pub(crate) struct AttrsText<'a>(pub(crate) &'a Attrs);
+
+impl fmt::Display for AttrsText<'_> {
+    fn fmt<W: fmt::Write>(&self, f: &mut fmt::Formatter<W>) -> fmt::Result {
+        put_size(self.0.size, f)?;
+        put_owner(self.0.owner, f)?;
+        put_permissions(self.0.permissions, f)
+    }
+}
+
+fn put_size<W: fmt::Write>(size: Option<u64>, f: &mut fmt::Formatter<W>) -> fmt::Result {
+    match size {
+        Some(size) => write!(f, "size {size}"),
+        None => write!(f, "no size"),
+    }
+}
+
+fn put_owner<W: fmt::Write>(owner: Option<(u32, u32)>, f: &mut fmt::Formatter<W>) -> fmt::Result {
+    match owner {
+        Some((uid, gid)) => write!(f, ", uid {uid}, gid {gid}"),
+        None => write!(f, ", no owner"),
+    }
+}
+
+fn put_permissions<W: fmt::Write>(
+    permissions: Option<u32>,
+    f: &mut fmt::Formatter<W>,
+) -> fmt::Result {
+    match permissions {
+        Some(permissions) => write!(f, ", permissions {permissions:o}"),
+        None => write!(f, ", no permissions"),
+    }
+}

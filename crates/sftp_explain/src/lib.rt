@@ -1,0 +1,15 @@
+//! Why a recorded session is refused, as lines of text for the author of its server.
+#![tactic(auto)]
+
+mod answers;
+mod causes;
+mod differences;
+mod errors;
+mod records;
+mod replies;
+mod searches;
+
+pub use errors::ExplainError;
+pub use records::{Record, put_record};
+pub use replies::explain_reply;
+pub use searches::{Found, find_record, last_of_id, number_of_request};

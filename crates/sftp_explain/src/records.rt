@@ -1,0 +1,67 @@
+//! Records of a transcript with their numbers.
+
+use crate::errors::ExplainError;
+use sftp_show::RecordLine;
+use sftp_wire::{Packet, Side};
+use std::io::Write;
+
+/// Writes the line of a record after a label, with a line feed.
+///
+/// # Errors
+///
+/// `Output` if the line cannot be written.
+pub fn put_record<O: Write>(
+    label: &str,
+    record: &Record,
+    output: &mut O,
+) -> Result<(), ExplainError> {
+    let line = record.line();
+    writeln!(output, "{label}: {line}")?;
+    Ok(())
+}
+
+/// A record of a transcript.
+#[derive(Drop)]
+pub struct Record {
+    /// The records count from 1.
+    pub number: u64,
+    /// Who sent the packet.
+    pub side: Side,
+    pub packet: Packet,
+    /// How many bytes the packet has, its length field included.
+    pub length: usize,
+}
+
+impl Record {
+    /// The record's line, as `show` prints it.
+    pub fn line(&self) -> RecordLine<'_> {
+        RecordLine {
+            number: self.number,
+            side: self.side,
+            packet: &self.packet,
+            length: self.length,
+        }
+    }
+
+    /// The id of a request or a reply.
+    pub fn id(&self) -> Option<u32> {
+        match &self.packet {
+            Packet::Request(request) => Some(request.id),
+            Packet::Reply(reply) => Some(reply.id),
+            Packet::Init { .. } | Packet::Version { .. } => None,
+        }
+    }
+
+    /// Whether it is of this side, and has this id.
+    pub(crate) fn is_of(&self, side: Side, id: u32) -> bool {
+        self.side == side && self.id() == Some(id)
+    }
+
+    /// Whether it is a request.
+    pub(crate) fn is_request(&self) -> bool {
+        match &self.packet {
+            Packet::Request(_) => true,
+            Packet::Reply(_) | Packet::Init { .. } | Packet::Version { .. } => false,
+        }
+    }
+}

@@ -1,0 +1,185 @@
+//! Why a reply is not allowed, and which one is.
+
+use crate::answers::{AnswerText, put_names};
+use crate::causes::{AllowedCodes, CauseList};
+use crate::differences::{first_difference, first_wrong_name};
+use crate::errors::ExplainError;
+use sftp_handles::{HandleTable, Listing, Session};
+use sftp_tree::Causes;
+use sftp_wire::{Answer, Ask, Names};
+use std::alloc::Global;
+use std::fmt;
+use std::fmt::Write as _;
+use std::io::Write;
+
+/// Writes why the session does not allow an answer to a request, and what it allows instead: at most three lines, each
+/// with a line feed. The first has the causes that refuse the request, with the status codes that they allow.
+///
+/// # Errors
+///
+/// `Output` if a line cannot be written, and `NoMemory` if memory runs out.
+pub fn explain_reply<T: HandleTable, O: Write>(
+    alloc: Global,
+    session: &Session<T>,
+    ask: &Ask,
+    answer: &Answer,
+    output: &mut O,
+) -> Result<(), ExplainError> {
+    let causes = session.causes(ask)?;
+    if causes.has_any() {
+        put_refusal(causes, output)
+    } else {
+        writeln!(output, "causes: none")?;
+        put_allowed(alloc, session, ask, answer, output)
+    }
+}
+
+fn put_refusal<O: Write>(causes: Causes, output: &mut O) -> Result<(), ExplainError> {
+    let list = CauseList(causes);
+    let codes = AllowedCodes(causes);
+    writeln!(output, "causes: {list}")?;
+    writeln!(output, "expected: STATUS with code {codes}")?;
+    Ok(())
+}
+
+/// Writes what answer the session allows to a request that no cause refuses, and how the given one differs.
+fn put_allowed<T: HandleTable, O: Write>(
+    alloc: Global,
+    session: &Session<T>,
+    ask: &Ask,
+    answer: &Answer,
+    output: &mut O,
+) -> Result<(), ExplainError> {
+    match ask {
+        Ask::Open { .. } | Ask::Opendir { .. } => {
+            writeln!(output, "expected: HANDLE with a handle that is not open")?;
+            Ok(())
+        }
+        Ask::Readdir { handle } => put_listing(alloc, session, handle.as_slice(), answer, output),
+        other => put_exact(session, other, answer, output),
+    }
+}
+
+/// Writes the answer to any other request, of which only one is allowed.
+fn put_exact<T: HandleTable, O: Write>(
+    session: &Session<T>,
+    ask: &Ask,
+    answer: &Answer,
+    output: &mut O,
+) -> Result<(), ExplainError> {
+    match session.unchanging_answer(ask) {
+        Some(Ok(expected)) => put_expected(ask, &expected, answer, output),
+        Some(Err(_)) => Err(ExplainError::NoMemory),
+        None => {
+            writeln!(output, "expected: STATUS with code 0 (OK)")?;
+            Ok(())
+        }
+    }
+}
+
+/// Writes the answer that is allowed, and how the given one differs.
+fn put_expected<O: Write>(
+    ask: &Ask,
+    expected: &Answer,
+    answer: &Answer,
+    output: &mut O,
+) -> Result<(), ExplainError> {
+    let text = AnswerText(expected);
+    match (ask, expected) {
+        (Ask::Read { offset, .. }, Answer::Data(_)) => {
+            writeln!(output, "expected: {text} from offset {offset}")?;
+        }
+        _ => writeln!(output, "expected: {text}")?,
+    }
+    put_found(expected, answer, output)
+}
+
+/// Writes the answer that was given, and the first byte in which it differs.
+fn put_found<O: Write>(
+    expected: &Answer,
+    answer: &Answer,
+    output: &mut O,
+) -> Result<(), ExplainError> {
+    let given = AnswerText(answer);
+    match (expected, answer) {
+        (Answer::Data(wanted), Answer::Data(bytes)) => {
+            let difference = first_difference(bytes.as_slice(), wanted.as_slice());
+            writeln!(output, "found: {given}; {difference}")?;
+        }
+        _ => writeln!(output, "found: {given}")?,
+    }
+    Ok(())
+}
+
+/// Writes which names the listing of a handle still has to give, and the first name of the answer that is wrong.
+fn put_listing<T: HandleTable, O: Write>(
+    alloc: Global,
+    session: &Session<T>,
+    handle: &[u8],
+    answer: &Answer,
+    output: &mut O,
+) -> Result<(), ExplainError> {
+    let Some(left) = session.listing(handle) else {
+        return Ok(());
+    };
+    let count = left.len();
+    if count == 0 {
+        writeln!(output, "expected: STATUS with code 1 (EOF)")?;
+        return Ok(());
+    }
+    put_names_left(session, handle, count, output)?;
+    if let Answer::Name(names) = answer {
+        put_wrong_name(alloc, left, names, output)?;
+    }
+    Ok(())
+}
+
+/// Writes the first of the `count` names that a listing still has to give.
+fn put_names_left<T: HandleTable, O: Write>(
+    session: &Session<T>,
+    handle: &[u8],
+    count: usize,
+    output: &mut O,
+) -> Result<(), ExplainError> {
+    match session.first_names(handle) {
+        Ok(names) => {
+            let names = NamesLeft {
+                names: &names,
+                count,
+            };
+            writeln!(output, "expected: {names}")?;
+            Ok(())
+        }
+        Err(_) => Err(ExplainError::NoMemory),
+    }
+}
+
+/// Names that a listing still has to give, the first ones, and how many they all are.
+#[derive(Clone, Copy)]
+struct NamesLeft<'a> {
+    names: &'a Names,
+    count: usize,
+}
+
+impl fmt::Display for NamesLeft<'_> {
+    fn fmt<W: fmt::Write>(&self, f: &mut fmt::Formatter<W>) -> fmt::Result {
+        let count = self.count;
+        f.write_str("NAME with some of the names left:")?;
+        put_names(self.names.as_slice(), f)?;
+        write!(f, " ({count} in all)")
+    }
+}
+
+/// Writes why the first wrong name of an answer is wrong, if one is.
+fn put_wrong_name<O: Write>(
+    alloc: Global,
+    left: &Listing,
+    names: &Names,
+    output: &mut O,
+) -> Result<(), ExplainError> {
+    match first_wrong_name(alloc, left, names.as_slice())? {
+        Some(difference) => writeln!(output, "found: {difference}")?,
+        None => writeln!(output, "found: NAME with no names")?,
+    }
+    Ok(())
+}

@@ -1,0 +1,321 @@
+//! `audit --explain`: why a session is refused, as lines of text.
+use crate::command_line::AuditFiles;
+use crate::messages::write_flushed;
+use crate::subcommands::open;
+use sftp_audit::{AuditError, Auditor, NoMemory, Refusal, TreeError, feed_all};
+use sftp_explain::{
+    ExplainError, Found, Record, explain_reply, find_record, last_of_id, number_of_request,
+    put_record,
+};
+use sftp_transcript::{Reader, Tally, TranscriptError};
+use sftp_tree::Tree;
+use sftp_wire::{Packet, Side};
+use std::fs::Files;
+use std::io::Write;
+use thiserror::Error;
+
+/// How many requests may be asked from an unanswered one on, itself included.
+const WINDOW: u64 = 1_024;
+
+/// Why a refusal is not explained to its end.
+#[derive(Clone, Copy, Debug, Error)]
+enum Unexplained {
+    /// The transcript is not what it was when it was audited. It may be a pipe.
+    #[error("sftpv3: the transcript cannot be read again, so the refusal is not explained")]
+    OtherTranscript,
+    /// The lines cannot be written.
+    #[error("sftpv3: cannot write the explanation")]
+    Output,
+    /// Memory ran out.
+    #[error("sftpv3: out of memory")]
+    OutOfMemory,
+}
+
+impl From<TranscriptError> for Unexplained {
+    fn from(error: TranscriptError) -> Self {
+        match error {
+            TranscriptError::NoMemory => Unexplained::OutOfMemory,
+            _ => Unexplained::OtherTranscript,
+        }
+    }
+}
+
+impl From<ExplainError> for Unexplained {
+    fn from(error: ExplainError) -> Self {
+        match error {
+            ExplainError::NoMemory => Unexplained::OutOfMemory,
+            ExplainError::Output(_) => Unexplained::Output,
+        }
+    }
+}
+
+impl From<TreeError> for Unexplained {
+    fn from(_error: TreeError) -> Self {
+        Unexplained::OutOfMemory
+    }
+}
+
+impl From<NoMemory> for Unexplained {
+    fn from(_error: NoMemory) -> Self {
+        Unexplained::OutOfMemory
+    }
+}
+
+/// Writes why the session of these files is refused. The transcript is read again from its start, more than once. Where
+/// that fails, the last line says so.
+pub(crate) fn explain<'a, R: Files + AllocGlobal, E: Write>(
+    rt: &R,
+    files: &AuditFiles<'a>,
+    tree: &[u8],
+    refusal: Refusal,
+    errors: &mut E,
+) {
+    let _ = match put_explanation(rt, files, tree, refusal, errors) {
+        Ok(()) => errors.flush(),
+        Err(error) => write_flushed(errors, format_args!("{error}\n")),
+    };
+}
+
+fn put_explanation<'a, R: Files + AllocGlobal, E: Write>(
+    rt: &R,
+    files: &AuditFiles<'a>,
+    tree: &[u8],
+    refusal: Refusal,
+    errors: &mut E,
+) -> Result<(), Unexplained> {
+    match found(rt, files, record_of(refusal)) {
+        Ok(found) => put_reason(rt, files, tree, refusal, &found, errors),
+        Err(error) => Err(error),
+    }
+}
+
+/// The number of the record that a refusal names.
+fn record_of(refusal: Refusal) -> u64 {
+    match refusal {
+        Refusal::UnknownReply { record }
+        | Refusal::IdInUse { record }
+        | Refusal::Window { record }
+        | Refusal::NotAllowed { record }
+        | Refusal::Unanswered { record } => record,
+        Refusal::NoMemory => 0,
+    }
+}
+
+/// Writes the lines of a refusal that names this record.
+fn put_reason<'a, R: Files + AllocGlobal, E: Write>(
+    rt: &R,
+    files: &AuditFiles<'a>,
+    tree: &[u8],
+    refusal: Refusal,
+    found: &Found,
+    errors: &mut E,
+) -> Result<(), Unexplained> {
+    match refusal {
+        Refusal::UnknownReply { .. } => put_unknown_reply(rt, files, &found.record, errors),
+        Refusal::IdInUse { .. } => put_used_id(rt, files, &found.record, errors),
+        Refusal::Window { .. } => put_late_request(rt, files, found, errors),
+        Refusal::NotAllowed { .. } => put_wrong_reply(rt, files, tree, &found.record, errors),
+        Refusal::Unanswered { .. } | Refusal::NoMemory => Ok(put_record(
+            "request",
+            &found.record,
+            errors,
+        )?),
+    }
+}
+
+/// A reader of the transcript from its start.
+///
+/// # Errors
+///
+/// `OtherTranscript` if the file cannot be opened, and `OutOfMemory`.
+fn records<'a, R: Files + AllocGlobal>(
+    rt: &R,
+    files: &AuditFiles<'a>,
+) -> Result<Reader<Tally<R::File>>, Unexplained> {
+    match open(rt, files.transcript) {
+        Ok(file) => Ok(Reader::new(rt.alloc(), Tally::new(file))?),
+        Err(_) => Err(Unexplained::OtherTranscript),
+    }
+}
+
+/// The record with this number.
+///
+/// # Errors
+///
+/// `OtherTranscript` if there is none, and `OutOfMemory`.
+fn found<'a, R: Files + AllocGlobal>(
+    rt: &R,
+    files: &AuditFiles<'a>,
+    number: u64,
+) -> Result<Found, Unexplained> {
+    let mut records = records(rt, files)?;
+    match find_record(&mut records, number)? {
+        Some(found) => Ok(found),
+        None => Err(Unexplained::OtherTranscript),
+    }
+}
+
+/// The last record of a side before this one that has its id.
+///
+/// # Errors
+///
+/// `OtherTranscript` if this record has no id, and `OutOfMemory`.
+fn earlier<'a, R: Files + AllocGlobal>(
+    rt: &R,
+    files: &AuditFiles<'a>,
+    side: Side,
+    record: &Record,
+) -> Result<Option<Record>, Unexplained> {
+    match record.id() {
+        Some(id) => {
+            let mut records = records(rt, files)?;
+            match last_of_id(&mut records, side, id, record.number)? {
+                Some(number) => Ok(Some(found(rt, files, number)?.record)),
+                None => Ok(None),
+            }
+        }
+        None => Err(Unexplained::OtherTranscript),
+    }
+}
+
+/// `UnknownReply`: the reply, the last request of its id, and the reply to that.
+fn put_unknown_reply<'a, R: Files + AllocGlobal, E: Write>(
+    rt: &R,
+    files: &AuditFiles<'a>,
+    reply: &Record,
+    errors: &mut E,
+) -> Result<(), Unexplained> {
+    put_record("reply", reply, errors)?;
+    match earlier(rt, files, Side::Client, reply) {
+        Ok(Some(request)) => put_answered(rt, files, &request, reply, errors),
+        Ok(None) => put_unasked(errors),
+        Err(error) => Err(error),
+    }
+}
+
+/// The request that the reply is one too many for, and the reply that it has.
+fn put_answered<'a, R: Files + AllocGlobal, E: Write>(
+    rt: &R,
+    files: &AuditFiles<'a>,
+    request: &Record,
+    reply: &Record,
+    errors: &mut E,
+) -> Result<(), Unexplained> {
+    put_record("request", request, errors)?;
+    match earlier(rt, files, Side::Server, reply) {
+        Ok(Some(answer)) => Ok(put_record("answered", &answer, errors)?),
+        Ok(None) => Err(Unexplained::OtherTranscript),
+        Err(error) => Err(error),
+    }
+}
+
+/// That no request has the id of the reply.
+fn put_unasked<E: Write>(errors: &mut E) -> Result<(), Unexplained> {
+    match writeln!(errors, "request: none has this id") {
+        Ok(()) => Ok(()),
+        Err(_) => Err(Unexplained::Output),
+    }
+}
+
+/// `IdInUse`: the request, and the unanswered one of the same id.
+fn put_used_id<'a, R: Files + AllocGlobal, E: Write>(
+    rt: &R,
+    files: &AuditFiles<'a>,
+    request: &Record,
+    errors: &mut E,
+) -> Result<(), Unexplained> {
+    put_record("request", request, errors)?;
+    match earlier(rt, files, Side::Client, request) {
+        Ok(Some(unanswered)) => Ok(put_record("unanswered", &unanswered, errors)?),
+        Ok(None) => Err(Unexplained::OtherTranscript),
+        Err(error) => Err(error),
+    }
+}
+
+/// `Window`: the request, and the oldest unanswered one, which is the 1,024th before it.
+fn put_late_request<'a, R: Files + AllocGlobal, E: Write>(
+    rt: &R,
+    files: &AuditFiles<'a>,
+    found: &Found,
+    errors: &mut E,
+) -> Result<(), Unexplained> {
+    put_record("request", &found.record, errors)?;
+    let mut records = records(rt, files)?;
+    let before = found.requests.saturating_sub(WINDOW);
+    match number_of_request(&mut records, before, found.record.number)? {
+        Some(number) => put_unanswered(rt, files, number, errors),
+        None => Err(Unexplained::OtherTranscript),
+    }
+}
+
+/// The unanswered request in the record with this number.
+fn put_unanswered<'a, R: Files + AllocGlobal, E: Write>(
+    rt: &R,
+    files: &AuditFiles<'a>,
+    number: u64,
+    errors: &mut E,
+) -> Result<(), Unexplained> {
+    match found(rt, files, number) {
+        Ok(oldest) => Ok(put_record("unanswered", &oldest.record, errors)?),
+        Err(error) => Err(error),
+    }
+}
+
+/// `NotAllowed`: the request, its reply, why that is not allowed, and what is.
+fn put_wrong_reply<'a, R: Files + AllocGlobal, E: Write>(
+    rt: &R,
+    files: &AuditFiles<'a>,
+    tree: &[u8],
+    reply: &Record,
+    errors: &mut E,
+) -> Result<(), Unexplained> {
+    match earlier(rt, files, Side::Client, reply) {
+        Ok(Some(request)) => put_exchange(rt, files, tree, &request, reply, errors),
+        Ok(None) => Err(Unexplained::OtherTranscript),
+        Err(error) => Err(error),
+    }
+}
+
+fn put_exchange<'a, R: Files + AllocGlobal, E: Write>(
+    rt: &R,
+    files: &AuditFiles<'a>,
+    tree: &[u8],
+    request: &Record,
+    reply: &Record,
+    errors: &mut E,
+) -> Result<(), Unexplained> {
+    put_record("request", request, errors)?;
+    put_record("reply", reply, errors)?;
+    match (&request.packet, &reply.packet) {
+        (Packet::Request(request), Packet::Reply(reply)) => {
+            let auditor = refused_auditor(rt, files, tree)?;
+            explain_reply(
+                rt.alloc(),
+                auditor.session(),
+                &request.ask,
+                &reply.answer,
+                errors,
+            )?;
+            Ok(())
+        }
+        _ => Err(Unexplained::OtherTranscript),
+    }
+}
+
+/// An auditor that has refused the session. Its session is the one in which the wrong reply came.
+///
+/// # Errors
+///
+/// `OtherTranscript` if the session is not refused any more, and `OutOfMemory`.
+fn refused_auditor<'a, R: Files + AllocGlobal>(
+    rt: &R,
+    files: &AuditFiles<'a>,
+    tree: &[u8],
+) -> Result<Auditor, Unexplained> {
+    let mut auditor = Auditor::new(Tree::read(rt.alloc(), tree)?)?;
+    let mut records = records(rt, files)?;
+    match feed_all(&mut auditor, &mut records) {
+        Err(AuditError::Refused(_)) => Ok(auditor),
+        _ => Err(Unexplained::OtherTranscript),
+    }
+}
