@@ -1,0 +1,7 @@
+use Rattle.sftp_handles.specs.Clash.{clash, touched}
+use Rattle.sftp_handles.proofs.Touches.{share-mutual}
+use Rattle.sftp_handles.proofs.order_laws.clash_is_mutual.Goals as goal
+
+pub returns : goal.returns
+unfolding clash
+returns c s request other = share-mutual (touched s request.ask) (touched s other.ask)

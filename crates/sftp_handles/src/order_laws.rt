@@ -1,0 +1,38 @@
+//! Laws of requests that do not clash, as theorems on the definitions of steps. The functions do nothing; each promise
+//! is in the contract.
+ghost use Rattle.std.specs.Prelude.{◌≡◌, false};
+ghost use Rattle.sftp_wire.specs.declared.packets.Ask.{Ask};
+ghost use Rattle.sftp_wire.specs.declared.packets.Request.{Request};
+ghost use Rattle.sftp_wire.specs.declared.packets.Reply.{Reply};
+ghost use Rattle.sftp_tree.specs.AskValues.{IsAsk};
+ghost use Rattle.sftp_handles.specs.State.{State, Good};
+ghost use Rattle.sftp_handles.specs.Allowed.{Allowed};
+ghost use Rattle.sftp_handles.specs.Clash.{touched, clash, ComesFirst};
+
+use crate::laws::good_stays_good;
+
+/// In a good state, two requests that do not clash there may change places: the same replies are allowed, and the end
+/// is the same (draft-ietf-secsh-filexfer-02, section 6.1).
+pub fn requests_change_places()
+    ensures { (s mid end : State) (request other : Request) (reply other_reply : Reply) → Good s →
+        IsAsk request.ask → IsAsk other.ask → clash s request other ≡ false → Allowed s other other_reply mid →
+        Allowed mid request reply end → ComesFirst s request other reply other_reply end }
+{
+    good_stays_good();
+}
+
+/// After a request that does not clash with some other one, every request touches what it touched before, and so the
+/// same requests clash.
+pub fn touched_stays()
+    ensures touched { (s end : State) (request other : Request) (reply : Reply) (ask : Ask) → Good s →
+        IsAsk request.ask → clash s request other ≡ false → Allowed s request reply end →
+        touched end ask ≡ touched s ask }
+    ensures clash { (s end : State) (request other first second : Request) (reply : Reply) → Good s →
+        IsAsk request.ask → clash s request other ≡ false → Allowed s request reply end →
+        clash end first second ≡ clash s first second }
+{}
+
+/// Whether two requests clash does not depend on their order.
+pub fn clash_is_mutual()
+    ensures { (s : State) (request other : Request) → clash s request other ≡ clash s other request }
+{}
