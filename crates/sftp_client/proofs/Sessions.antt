@@ -16,7 +16,7 @@ use Rattle.sftp_wire.specs.declared.packets.Request.{Request}
 use Rattle.sftp_wire.specs.declared.packets.Reply.{Reply}
 use Rattle.sftp_client.specs.declared.announced.Announced.{Announced}
 use Rattle.sftp_client.specs.Announced.{may_be_sent}
-use Rattle.sftp_client.specs.Client.{Client, new_client, session_with, OpenRequests, open_limit, id_behind, IsFirstFree}
+use Rattle.sftp_client.specs.Client.{Client, new_client, session_with, OpenRequests, open_limit, id_after, IsFirstFree}
 use Rattle.sftp_client.specs.Client.{send_error_of, IsKept, IsStarted, IsSent, IsPaired}
 use Rattle.sftp_client.specs.Runs.{Call, Started, Sent, Paired, Refused, Takes, Runs, sent, paired, unanswered}
 use Rattle.sftp_client.proofs.OpenRequests.{still_apart_with, still_apart_without, fewer_without, taken_and_others}
@@ -40,13 +40,13 @@ pub sent_with_id : (announced : Announced) (next id : ℕ) (requests entries : O
     → length requests < open_limit → may_be_sent announced ask ≡ true → IsFirstFree requests next id
     → entries ≡ requests ++ (id, ask) ∷ []
     → IsSent (session_with (Some announced) next requests) (record { id = id; ask = ask })
-    (session_with (Some announced) (id_behind id 1) entries)
+    (session_with (Some announced) (id_after id 1) entries)
 sent_with_id announced next id requests entries ask few may free added =
     let room : nat_lt (length requests) open_limit ≡ true = grind arith in
     record {
       free = rw (room, may) refl;
       id_is = free;
-      new_is = ap (session_with (Some announced) (id_behind id 1)) added;
+      new_is = ap (session_with (Some announced) (id_after id 1)) added;
     }
 
 pub kept_started : (old : Client) (packet : Packet) (new : Client) → IsKept old → IsStarted old packet new → IsKept new

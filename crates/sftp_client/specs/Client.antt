@@ -50,16 +50,16 @@ pub record IsKept (client : Client) : Type 0 where
 
 -- ---- ids
 
--- the id that is so many places behind another: after 2^32 - 1 comes 0
-abbrev pub id_behind : ℕ → ℕ → ℕ
-id_behind id places = (id + places) % 2 ^ 32
+-- the id `places` places after `id`: after 2^32 - 1 comes 0
+abbrev pub id_after : ℕ → ℕ → ℕ
+id_after id places = (id + places) % 2 ^ 32
 
 -- the first id from `next` on that no open request has: those before it are skipped, since open requests have them
 pub record IsFirstFree (requests : OpenRequests) (next id : ℕ) : Type 0 where
   pub skipped : ℕ
-  pub behind : id ≡ id_behind next skipped
+  pub behind : id ≡ id_after next skipped
   pub free : open_at requests id ≡ None
-  pub taken : (places : ℕ) → places < skipped → IsSome (open_at requests (id_behind next places))
+  pub taken : (places : ℕ) → places < skipped → IsSome (open_at requests (id_after next places))
 
 -- ---- why a call is refused, memory aside: the first reason that holds
 
@@ -96,12 +96,12 @@ pub record IsStarted (old : Client) (packet : Packet) (new : Client) : Type 0 wh
   pub free : version_error old packet ≡ None
   pub new_is : new ≡ record old { announced = announced_by packet }
 
--- A request was sent, with the first free id. It is then open, and the next id is looked for behind its own.
+-- A request was sent, with the first free id. It is then open, and the next id is looked for after its own.
 pub record IsSent (old : Client) (request : Request) (new : Client) : Type 0 where
   pub free : send_error old request.ask ≡ None
   pub id_is : IsFirstFree old.open_requests old.next request.id
   pub new_is : new ≡ record old {
-    next = id_behind request.id 1;
+    next = id_after request.id 1;
     open_requests = old.open_requests ++ (request.id, request.ask) ∷ [];
   }
 

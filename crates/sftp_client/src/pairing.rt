@@ -88,7 +88,7 @@ impl Pairing {
         Ok(())
     }
 
-    /// Gives a request its id. The first request gets 0; each further one gets the first id behind that of the request
+    /// Gives a request its id. The first request gets 0; each further one gets the first id after that of the request
     /// before it, modulo 2^32, that no open request has. The request is then open until its reply comes. The caller
     /// encodes and sends what is returned.
     ///

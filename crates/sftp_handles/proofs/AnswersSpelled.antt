@@ -30,7 +30,7 @@ pub record FitsTwice (text : List ℕ) : Type 0 where
   pub string : FitsString text
   pub short : length text ≤ 16641
 
--- the fields behind the count, and behind the length of the name
+-- the fields after the count, and after the length of the name
 behind : (text : List ℕ)
     → length ((text ++ (string text ++ attributes no_attributes)) ++ []) ≡ length text + (length text + 8)
 behind text = grind (arith, length-append)

@@ -124,7 +124,7 @@ listing-fits t kept place =
 
 -- ---- a listing made item by item
 
--- an entry behind all others is put at the end
+-- an entry after all others is put at the end
 put-last : (es : Left) (e : Name × Attrs) (es-left : Left) → InOrder name_cmp (es ++ e ∷ es-left)
     → put name_cmp es e.0 e.1 ≡ es ++ e ∷ []
 put-last es e es-left order =

@@ -86,7 +86,7 @@ found-first name attrs left =
 apart : (first name : Name) → name_cmp first name ≡ Less → same_bytes first name ≡ false
 apart first name less = texts_ties first name ∙ ap is_eq less
 
--- behind another entry
+-- after another entry
 found-behind : (e : Name × Attrs) (left : Left) (name : Name) → name_cmp e.0 name ≡ Less
     → get name_cmp (e ∷ left) name ≡ get name_cmp left name
 found-behind e left name less =

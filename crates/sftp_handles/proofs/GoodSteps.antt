@@ -57,7 +57,7 @@ written-bytes false offset new bytes fit h =
     (bytes-dropped (offset + length new) bytes h)
 
 -- what comes after a request is the content of a file
-next-content : (ask : Ask) (flags : OpenFlags) (before next : Content) → IsAsk ask → IsContent before
+pub next-content : (ask : Ask) (flags : OpenFlags) (before next : Content) → IsAsk ask → IsContent before
     → (row_of ask).content flags before ≡ Some next → IsContent next
 next-content (Write handle offset bytes) flags before next fit is e =
     subst IsContent (same_Some (written_content (start_of flags offset before) bytes before) next e) (
@@ -87,7 +87,7 @@ room-of set room free =
     (none, room-from (is_none set) room (set NoRoom) (each NoRoom) none)
 
 -- a file that no cause keeps from changing has room
-room-left : (bounds : TreeLimits) (set : CauseSet) (next : Content)
+pub room-left : (bounds : TreeLimits) (set : CauseSet) (next : Content)
     → is_none (with_file_room bounds set (Some next)) ≡ true → content_fits bounds next ≡ true
 room-left bounds set next free = (room-of set (content_fits bounds next) free).1
 

@@ -36,3 +36,5 @@ pub mod AnswersShown
 pub mod AnswersSteps
 pub mod NameReplies
 pub mod OpenReplies
+pub mod Touches
+pub mod Exchanges

@@ -1,7 +1,7 @@
 -- Items in rising order of their names, with marks: what of them is left, looked up, struck out and put.
 use Rattle.std.proofs.Common.{◌≡◌, ◌≢◌, ℕ, zero, suc, ◌+◌, ◌<◌, ◌≤◌, Bool, true, false, cond, List, [], ◌∷◌, ◌++◌, map}
 use Rattle.std.proofs.Common.{take, drop, length, get_or, Option, Some, None, refl, sym, ap, subst, ◌∙◌, arith, nat_lt}
-use Rattle.std.proofs.Common.{◌-◌, ◌↔◌, Bor, IsSome, IfSome, IfOk, IfErr, option_copied, Result, Ok, Err}
+use Rattle.std.proofs.Common.{nat_eq, ◌-◌, ◌↔◌, Bor, IsSome, IfSome, IfOk, IfErr, option_copied, Result, Ok, Err}
 use Rattle.std.proofs.Math.ListN.{set, replicate}
 use Rattle.std.specs.List.{AllByRecursion, insert}
 use Rattle.std.specs.List.Sorted.{IsStrictlySortedBy, IsNonDecreasingBy, IsBinarySearchResult, IsSearchInRange}
@@ -11,7 +11,7 @@ use Rattle.std.specs.declared.cmp.Ordering.{Ordering}
 use Rattle.std.specs.BTreeMap.{is_at, insert_entry}
 use Rattle.std.specs.Map.{keys_of, lookup, remove_entry}
 use Rattle.std.specs.Option.{option_map, option_to_list}
-use Rattle.std.specs.Cmp.Lexicographic.{nat_list_cmp_total}
+use Rattle.std.specs.Cmp.Lexicographic.{nat_list_cmp_total, pointwise, bytes_decides}
 use Rattle.std.proofs.lemmas.Cmp.{tied_itself}
 use Rattle.std.proofs.lemmas.List.{length-set, length-replicate, length-map}
 use Rattle.std.proofs.lemmas.Bool.{ltb-true, ltb-false, lt-ltb}
@@ -515,6 +515,15 @@ named-from [] name place within tied = absurd (omega (arith, within))
 named-from (x ∷ xs) name zero within tied = bytes_cmp-same x.name name (tied x)
 named-from (x ∷ xs) name (suc place) within tied = named-from xs name place (omega (arith, within)) tied
 
+-- the item that was got at a place has a name if its name is that one
+pub named-got : (items : List Item) (name : Name) (place : ℕ) (item : Item) → place < length items
+    → item ≡ get_or items place item → pointwise nat_eq item.name name ≡ true → IsNamed items name place
+named-got [] name place item within there same = absurd (omega (arith, within))
+named-got (x ∷ xs) name zero item within there same =
+    ap (λ (i : Item). i.name) (sym there) ∙ (bytes_decides item.name name).0 same
+named-got (x ∷ xs) name (suc place) item within there same =
+    named-got xs name place item (omega (arith, within)) there same
+
 gap-from : (items : List Item) (name : Name) (place : ℕ) → place ≤ length items
     → ((k : ℕ) (d : Item) → 0 ≤ k → k < place → name_cmp (get_or items k d).name name ≡ Less)
     → ((k : ℕ) (d : Item) → place ≤ k → k < length items → name_cmp (get_or items k d).name name ≡ Greater)
@@ -561,7 +570,7 @@ found-gap items name len (Err place) size within found order =
     let point = found (searchable items name order) in
     gap-from items name place (omega (arith, size, within)) point.0 point.1
 
--- ---- a place behind all marks
+-- ---- a place after all marks
 
 pub at-none : (items : List Item) (marks : List Bool) (place len : ℕ) → len ≡ length marks
     → (place < len → false ≡ true) → unmarked_at items marks place ≡ None

@@ -52,7 +52,7 @@ with_pins_of t pins = record t { pins = pins }
 -- ---- trees with the pins of what is open
 
 -- a tree that is kept, with the pins of the handles, is settled with them
-settled-already : (t : Tree) (handles : Handles) → IsKept t → t.pins ≡ pins_of handles
+pub settled-already : (t : Tree) (handles : Handles) → IsKept t → t.pins ≡ pins_of handles
     → settled t handles ≡ state_of t handles
 unfolding with_pins_of
 settled-already t handles kept same =

@@ -1,4 +1,4 @@
--- What the code answers to a request. Words of private contracts.
+-- What this program's own sessions answer to a request.
 use Rattle.std.specs.Prelude.{ℕ, ◌<◌, ◌^◌, Bool, true, false, List, [], ◌∷◌}
 use Rattle.sftp_wire.specs.declared.packets.Ask.{Ask}
 use Rattle.sftp_wire.specs.declared.packets.Ask.TheVariants as asks

@@ -20,7 +20,7 @@ use Rattle.sftp_handles.specs.State.{State}
 abbrev pub closed : Tree → State
 closed t = record { tree = t; handles = [] }
 
--- the blank tree after so many files were made
+-- the blank tree after `made` files were made
 abbrev pub emptied : ℕ → Tree
 emptied made = record blank { made = made }
 
@@ -79,7 +79,7 @@ done ask = (ask, code 0)
 abbrev pub item : Attrs → List ℕ → NameItem
 item attrs name = record { filename = name; longname = []; attrs = attrs }
 
--- the attributes of a directory, and of a file of so many bytes
+-- the attributes of a directory, and of a file of `size` bytes
 abbrev pub of_directory : Attrs
 of_directory = said 0 0 0 0o040755
 

@@ -11,7 +11,7 @@ use Rattle.sftp_handles.specs.Handles.{Left}
 abbrev pub item_of : Name × Attrs → NameItem
 item_of e = record { filename = e.0; longname = e.0; attrs = e.1 }
 
--- the first names of a listing, as items: so many, or all if these are fewer
+-- the first `most` names of a listing, as items, or all if there are fewer
 abbrev pub first_items : ℕ → Left → List NameItem
 first_items most left = map item_of (take most left)
 

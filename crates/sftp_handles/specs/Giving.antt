@@ -1,5 +1,6 @@
 -- Names that a reply to READDIR gives. Words of private contracts.
 use Rattle.std.specs.Prelude.{ℕ, Bool, false, List, Option, Some, None}
+use Rattle.sftp_wire.specs.declared.attributes.Attrs.{Attrs}
 use Rattle.sftp_wire.specs.declared.names.NameItem.{NameItem}
 use Rattle.sftp_path.specs.Place.{Name, name_cmp}
 use Rattle.sftp_path.specs.Table.{InOrder}
@@ -13,6 +14,12 @@ abbrev pub gives_names : Option Open → List NameItem → Bool
 gives_names (Some (Listing left)) items = are_some_left left items
 gives_names (Some (File number flags)) items = false
 gives_names None items = false
+
+-- what a listing still has to give, if one is open
+abbrev pub listing_in : Option Open → Option (List (Name × Attrs))
+listing_in (Some (Listing left)) = Some left
+listing_in (Some (File number flags)) = None
+listing_in None = None
 
 -- what is open is a listing, and its names are in order
 abbrev pub IsListing : Option Open → Type 0

@@ -6,7 +6,9 @@ pub mod HandleRequests
 pub mod Requests
 pub mod Allowed
 pub mod Laws
+pub mod Clash
 pub mod Examples
+pub mod ClashExamples
 pub mod Given
 pub mod Giving
 pub mod Slots

@@ -37,7 +37,7 @@ pub record ArePaired (items : List Item) (marks : List Bool) : Type 0 where
   pub same : length marks ≡ length items
   pub ordered : InOrder name_cmp (map entry_of items)
 
--- and so many items have no mark
+-- and `left` items have no mark
 pub record IsMarked (items : List Item) (marks : List Bool) (left : ℕ) : Type 0 where
   pub paired : ArePaired items marks
   pub counted : left ≡ length (unmarked items marks)

@@ -61,7 +61,7 @@ pub fn attributes_of_the_opening()
         ∷ (Readdir (codes "l"), Name (item (of_file 3) (codes "f") ∷ [])) ∷ []) ≡ None }
 {}
 
-/// A WRITE without data leaves the file as it is. One that starts behind the end fills the gap with zeros. Through a
+/// A WRITE without data leaves the file as it is. One that starts past the end fills the gap with zeros. Through a
 /// handle opened with SSH_FXF_APPEND, data is added to the file; the offset is ignored.
 pub fn written_bytes()
     ensures no_data { steps (closed (with_text [])) (opened (codes "/f") 0x2 (codes "h")

@@ -4,6 +4,7 @@ ghost use Rattle.sftp_path.specs.Place.{name_cmp};
 ghost use Rattle.sftp_path.specs.Table.{InOrder};
 ghost use Rattle.sftp_tree.specs.Items.{entry_of};
 
+use crate::hints::Hints;
 use crate::listings::Listing;
 use sftp_path::NoMemory;
 use sftp_tree::Item;
@@ -19,11 +20,13 @@ pub(crate) fn listing_of(items: Vec<Item>) -> Result<Listing, NoMemory>
     ensures { IfOk result (λ left. left ≡ map entry_of items.items) }
 {
     let left = items.len();
+    let hints = Hints::none(*items.allocator());
     let mut marks = VecDeque::new(*items.allocator());
     marks.resize(left, false)?;
     Ok(Listing {
         items: VecDeque::from_vec(items),
         marks,
         left,
+        hints,
     })
 }

@@ -115,7 +115,7 @@ impl<T: HandleTable> Session<T> {
     }
 }
 
-/// Strikes names from the listing that is open under a handle. It takes no memory.
+/// Strikes names from the listing that is open under a handle. It takes memory for hints, if there is some.
 pub(crate) fn strike_names<T: HandleTable>(
     table: &mut T,
     alloc: Global,
@@ -127,6 +127,7 @@ pub(crate) fn strike_names<T: HandleTable>(
         ≡ with_struck (T.handles table.old) handle.now given.now (open_at (T.handles table.old) handle.now) }
 {
     let mut left = take_listing(table, alloc, handle);
+    left.make_hints();
     left.strike_all(given);
     put_listing(table, handle, left);
 }

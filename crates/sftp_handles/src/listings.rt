@@ -1,9 +1,10 @@
 //! What a listing of a directory still has to give.
-ghost use Rattle.std.specs.Prelude.{◌≡◌, [], drop, IsTrue, ◌↔◌, OnOk, OnErr, option_copied};
+ghost use Rattle.std.specs.Prelude.{◌≡◌, [], drop, length, IsTrue, ◌↔◌, OnOk, OnErr, option_copied};
 ghost use Rattle.sftp_path.specs.Place.{name_cmp};
 ghost use Rattle.sftp_path.specs.Table.{InOrder, get, put, without};
 
-use crate::marked::{drop_unmarked, item_at, place_of, put_item, set_mark};
+use crate::hints::{Hints, find_place};
+use crate::marked::{drop_unmarked, item_at, put_item, set_mark};
 use sftp_path::{Name, NoMemory};
 use sftp_tree::Item;
 use sftp_wire::Attrs;
@@ -11,9 +12,12 @@ use std::alloc::Global;
 use std::collections::VecDeque;
 use std::marker::Model;
 
+/// How many items are many, so that hints are worth their memory.
+const MANY: usize = 512;
+
 /// The names that a listing still has to give, in rising order of their bytes, with their attributes. Finding a name
-/// and striking it out cost a logarithm of how many there were, and dropping the first one a constant. None of these
-/// takes memory.
+/// and striking it out cost a logarithm of how many there were, or about the same for any number of them once there are
+/// hints, and dropping the first one a constant. None of these takes memory.
 #[derive(Debug, Drop)]
 pub struct Listing {
     // in rising order of their names
@@ -22,6 +26,8 @@ pub struct Listing {
     pub(crate) marks: VecDeque<bool>,
     // how many names are not struck out
     pub(crate) left: usize,
+    // where items may be, or none
+    pub(crate) hints: Hints,
 }
 
 impl Model for Listing {
@@ -45,6 +51,7 @@ impl Listing {
             items: VecDeque::new(alloc),
             marks: VecDeque::new(alloc),
             left: 0,
+            hints: Hints::none(alloc),
         }
     }
 
@@ -54,6 +61,13 @@ impl Listing {
         ensures ordered { InOrder name_cmp self.now }
     {
         self.left == 0
+    }
+
+    /// How many names are left.
+    pub fn len(&self) -> usize
+        ensures { result ≡ length self.now }
+    {
+        self.left
     }
 
     /// Lets the listing give a name, with its attributes.
@@ -75,7 +89,7 @@ impl Listing {
     pub fn find(&self, name: &Name) -> Option<&Attrs>
         ensures { option_copied result ≡ get name_cmp self.now name.now }
     {
-        match place_of(&self.items, name) {
+        match find_place(&self.items, &self.hints, name) {
             Ok(place) => match item_at(&self.items, &self.marks, place) {
                 Some(item) => Some(&item.attrs),
                 None => None,
@@ -89,7 +103,7 @@ impl Listing {
         ensures struck { self.new ≡ without name_cmp self.old name.now }
         ensures ordered { InOrder name_cmp self.new }
     {
-        match place_of(&self.items, name) {
+        match find_place(&self.items, &self.hints, name) {
             Ok(place) => {
                 if !set_mark(&mut self.marks, place, true) {
                     self.left -= 1;
@@ -99,7 +113,22 @@ impl Listing {
         }
     }
 
-    /// Drops the first names: so many, or all if these are fewer. It takes no memory.
+    /// Makes hints, if the listing has many items and no hints yet. Finding a name then costs about the same however
+    /// many there are. If there is no memory for hints, the listing goes without.
+    pub(crate) fn make_hints(&mut self)
+        ensures { self.new ≡ self.old }
+    {
+        if self.items.len() < MANY || !self.hints.are_none() {
+            return;
+        }
+        let alloc = *self.items.allocator();
+        match Hints::of(alloc, &self.items) {
+            Ok(hints) => self.hints = hints,
+            Err(_) => {}
+        }
+    }
+
+    /// Drops the first `count` names, or all if there are fewer. It takes no memory.
     pub(crate) fn drop_first(&mut self, count: usize)
         ensures { self.new ≡ drop count self.old }
     {

@@ -109,12 +109,13 @@ impl<T: HandleTable> Session<T> {
         Ok(Answer::Name(names))
     }
 
-    /// The items of the reply that gives the first names of a listing.
+    /// The items of the reply that gives the first names of a listing: `NAMES_IN_REPLY` or fewer, in rising order of
+    /// their bytes. None of them is struck out.
     ///
     /// # Errors
     ///
     /// `BadHandle` if the handle is not open, `WrongKind` if it is a file's. `NoMemory` if memory runs out.
-    fn first_names(&self, handle: &[u8]) -> Result<Names, Refused>
+    pub fn first_names(&self, handle: &[u8]) -> Result<Names, Refused>
         ensures first { IfOk result (AreFirst (open_at self.now.handles handle.now)) }
         ensures refused { IfErr result (IsRefusal self.now (asks.Readdir handle.now)) }
     {

@@ -1,8 +1,12 @@
 //! Sessions: a tree, and what is open.
-ghost use Rattle.std.specs.Prelude.{◌≡◌, [], Ok};
+ghost use Rattle.std.specs.Prelude.{◌≡◌, [], Ok, option_copied};
 ghost use Rattle.sftp_tree.specs.Tree.{trim};
+ghost use Rattle.sftp_handles.specs.Handles.{open_at};
+ghost use Rattle.sftp_handles.specs.Giving.{listing_in};
 ghost use Rattle.sftp_handles.specs.State.{settled};
 
+use crate::listings::Listing;
+use crate::opens::Open;
 use crate::tables::HandleTable;
 use sftp_tree::{NoMemory, Tree};
 use std::marker::Model;
@@ -40,6 +44,17 @@ impl<T: HandleTable> Session<T> {
             tree,
             table: T::empty(alloc),
         })
+    }
+
+    /// The listing that is open under a handle, if it is a directory's.
+    pub fn listing(&self, handle: &[u8]) -> Option<&Listing>
+        ensures { option_copied result ≡ listing_in (open_at self.now.handles handle.now) }
+    {
+        match self.table.find(handle) {
+            Some(Open::Listing { left }) => Some(left),
+            Some(Open::File { .. }) => None,
+            None => None,
+        }
     }
 
     /// The tree of the session, without any pins. It takes no memory.

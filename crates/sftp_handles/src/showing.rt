@@ -1,5 +1,5 @@
 //! The answers to requests that change nothing: attributes, texts and bytes (draft, sections 6.4, 6.8, 6.10 and 6.11).
-ghost use Rattle.std.specs.Prelude.{◌≡◌, ◌^◌, ◌<◌, IfOk, IfErr};
+ghost use Rattle.std.specs.Prelude.{◌≡◌, ◌^◌, ◌<◌, IfOk, IfErr, IfSome};
 ghost use Rattle.sftp_wire.specs.declared.packets.Ask.TheVariants.{Fstat, Read, Readlink, Realpath};
 ghost use Rattle.sftp_tree.specs.Refusals.{stat_ask};
 ghost use Rattle.sftp_handles.specs.Judged.{IsRefusal};
@@ -10,7 +10,7 @@ use crate::sessions::Session;
 use crate::tables::HandleTable;
 use sftp_tree::laws::walks_give_places;
 use sftp_tree::{NoMemory, Refused};
-use sftp_wire::{Answer, Attrs, ByteString, NameItem, Names};
+use sftp_wire::{Answer, Ask, Attrs, ByteString, NameItem, Names};
 use std::alloc::Global;
 
 impl<T: HandleTable> Session<T> {
@@ -92,6 +92,48 @@ impl<T: HandleTable> Session<T> {
             }
             Ok(None) => Ok(status(self.tree.allocator(), 1)),
             Err(cause) => Err(Refused::Cause(cause)),
+        }
+    }
+}
+
+impl<T: HandleTable> Session<T> {
+    /// The answer to a request that changes nothing: to STAT, LSTAT, FSTAT, READ, REALPATH and READLINK. It is `None`
+    /// for any other request.
+    ///
+    /// # Errors
+    ///
+    /// `Cause` with a cause that refuses the request. `NoMemory` if memory runs out.
+    pub fn unchanging_answer(&self, ask: &Ask) -> Option<Result<Answer, Refused>>
+        ensures done { IfSome result (λ r. IfOk r (λ answer. IsAnswered self.now ask.now answer self.now)) }
+        ensures refused { IfSome result (λ r. IfErr r (IsRefusal self.now ask.now)) }
+    {
+        match ask {
+            Ask::Stat { path } => Some(self.answer_stat(path.as_slice(), true)),
+            Ask::Lstat { path } => Some(self.answer_stat(path.as_slice(), false)),
+            Ask::Fstat { handle } => Some(self.answer_fstat(handle.as_slice())),
+            Ask::Read {
+                handle,
+                offset,
+                len,
+            } => Some(self.answer_read(handle.as_slice(), *offset, *len)),
+            Ask::Realpath { path } => Some(self.answer_real_path(path.as_slice())),
+            Ask::Readlink { path } => Some(self.answer_read_link(path.as_slice())),
+            Ask::Open { .. }
+            | Ask::Close { .. }
+            | Ask::Write { .. }
+            | Ask::Setstat { .. }
+            | Ask::Fsetstat { .. }
+            | Ask::Opendir { .. }
+            | Ask::Readdir { .. }
+            | Ask::Remove { .. }
+            | Ask::Mkdir { .. }
+            | Ask::Rmdir { .. }
+            | Ask::Rename { .. }
+            | Ask::Symlink { .. }
+            | Ask::PosixRename { .. }
+            | Ask::Hardlink { .. }
+            | Ask::Fsync { .. }
+            | Ask::Unknown { .. } => None,
         }
     }
 }

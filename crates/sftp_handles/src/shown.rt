@@ -5,7 +5,7 @@ ghost use Rattle.sftp_handles.specs.Replies as spec;
 use sftp_wire::Attrs;
 
 /// Whether the attributes have the size, the owner and the permissions of those shown. The rest is free.
-pub(crate) fn same_attributes(shown: &Attrs, attrs: &Attrs) -> bool
+pub fn same_attributes(shown: &Attrs, attrs: &Attrs) -> bool
     ensures { result ≡ spec.same_attributes shown.now attrs.now }
 {
     same_sizes(shown.size, attrs.size)

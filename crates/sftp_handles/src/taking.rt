@@ -13,7 +13,7 @@ use sftp_wire::{Attrs, ByteString, NameItem, Names};
 use std::alloc::Global;
 
 impl Listing {
-    /// The items of the reply that gives the first names that are left: so many, or all if these are fewer.
+    /// The items of the reply that gives the first `most` names that are left, or all if there are fewer.
     ///
     /// # Errors
     ///

@@ -8,6 +8,6 @@ begins_at_slash [] = true
 begins_at_slash (b ∷ bytes) = b == 47
 
 -- the parts after the first `/`, and none of no bytes
-abbrev pub parts_behind : List ℕ → List (List ℕ)
-parts_behind [] = []
-parts_behind (b ∷ bytes) = parts bytes
+abbrev pub parts_after : List ℕ → List (List ℕ)
+parts_after [] = []
+parts_after (b ∷ bytes) = parts bytes

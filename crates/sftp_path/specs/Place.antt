@@ -34,7 +34,9 @@ name_limit = 255
 
 -- a name has 1 to 255 bytes, and is neither `.` nor `..`
 abbrev pub is_name : List ℕ → Bool
-is_name name = (nat_lt 0 (length name) && nat_le (length name) name_limit) && (list_all is_name_byte name && (not (is_dot name) && not (is_dot_dot name)))
+is_name name =
+    (nat_lt 0 (length name) && nat_le (length name) name_limit)
+    && (list_all is_name_byte name && (not (is_dot name) && not (is_dot_dot name)))
 
 -- what a walk may look at: `.`, `..` or a name
 abbrev pub is_step : List ℕ → Bool
@@ -121,4 +123,6 @@ path_limit = 4096
 
 -- a path has no byte 0, at most 4,096 bytes, and no component of more than 255
 unfoldable pub is_good_path : List ℕ → Bool
-is_good_path path = nat_le (length path) path_limit && (list_all (λ b. not (b == 0)) path && list_all (λ part. nat_le (length part) name_limit) (components path))
+is_good_path path =
+    nat_le (length path) path_limit
+    && (list_all (λ b. not (b == 0)) path && list_all (λ part. nat_le (length part) name_limit) (components path))

@@ -2,7 +2,7 @@
 ghost use Rattle.std.specs.Prelude.{⊤, ◌≡◌, ◌==◌, ◌++◌, ◌∷◌, not, length, IsTrue};
 ghost use Rattle.std.specs.List.{position};
 ghost use Rattle.std.specs.Iterator.{YieldsFirstRef, MakesProgress, item_count};
-ghost use Rattle.sftp_path.specs.Cut.{begins_at_slash, parts_behind};
+ghost use Rattle.sftp_path.specs.Cut.{begins_at_slash, parts_after};
 ghost use Rattle.sftp_path.specs.Place as spec;
 
 use bstr::ByteSlice;
@@ -80,7 +80,7 @@ fn first_inner(path: &[u8]) -> Option<usize>
 /// The bytes before the first `/`, and the bytes from that `/` on; without a `/`, all bytes and none.
 pub(crate) fn cut(bytes: &[u8]) -> (&[u8], &[u8])
     ensures whole { bytes.now ≡ result.0.now ++ result.1.now }
-    ensures parts { spec.parts bytes.now ≡ result.0.now ∷ parts_behind result.1.now }
+    ensures parts { spec.parts bytes.now ≡ result.0.now ∷ parts_after result.1.now }
     ensures behind { IsTrue (begins_at_slash result.1.now) }
 {
     let end = bytes.find_byte(b'/').unwrap_or(bytes.len());

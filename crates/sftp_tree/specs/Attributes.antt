@@ -31,7 +31,7 @@ changed_owner attrs owner = record {
 abbrev pub file_owner : Tree → Attrs → Owner
 file_owner t attrs = changed_owner attrs (record { uid = t.uid; gid = t.gid; permissions = 0o644 })
 
--- so many bytes: the first of these, and zeros where they end
+-- `size` bytes: the first of these, and zeros where they end
 abbrev pub resized : ℕ → List ℕ → List ℕ
 resized size bytes = take size bytes ++ replicate (size - length bytes) 0
 
@@ -41,14 +41,24 @@ changed_bytes attrs bytes = unwrap_or (option_map (λ size. resized size bytes) 
 
 -- a file whose attributes are set
 abbrev pub changed_content : Attrs → Content → Content
-changed_content attrs content = record { owner = changed_owner attrs content.owner; bytes = changed_bytes attrs content.bytes }
+changed_content attrs content = record {
+  owner = changed_owner attrs content.owner;
+  bytes = changed_bytes attrs content.bytes;
+}
 
 -- size, owner and permissions, and nothing else
 abbrev pub said : ℕ → ℕ → ℕ → ℕ → Attrs
-said size uid gid permissions = record { size = Some size; owner = Some (uid, gid); permissions = Some permissions; times = None; extended = None }
+said size uid gid permissions = record {
+  size = Some size;
+  owner = Some (uid, gid);
+  permissions = Some permissions;
+  times = None;
+  extended = None;
+}
 
 abbrev pub shown_content : Content → Attrs
-shown_content content = said (length content.bytes) content.owner.uid content.owner.gid (0o100000 + content.owner.permissions)
+shown_content content =
+    said (length content.bytes) content.owner.uid content.owner.gid (0o100000 + content.owner.permissions)
 
 -- the attributes shown of an entry: of a directory the size 0, of a file its bytes' count, of a link its target's
 -- length and the tree's owner; the permissions with the bits of the type

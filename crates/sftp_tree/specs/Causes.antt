@@ -1,5 +1,5 @@
--- The causes of refusals as sets, and the status codes that each cause allows (draft-ietf-secsh-filexfer-02, section 7).
--- The causes and their codes are this profile's own.
+-- The causes of refusals as sets, and the status codes that each cause allows (draft-ietf-secsh-filexfer-02,
+-- section 7). The causes and their codes are this profile's own.
 use Rattle.std.specs.Prelude.{◌==◌, ◌&&◌, ◌||◌, not, ℕ, Bool, false, List, [], ◌∷◌}
 use Rattle.std.specs.List.{list_any}
 use Rattle.sftp_tree.specs.declared.causes.Cause.{Cause}

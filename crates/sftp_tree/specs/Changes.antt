@@ -15,13 +15,15 @@ use Rattle.sftp_tree.specs.PlaceCauses.{are_one}
 -- the attributes of a file are set
 abbrev pub with_changed_file : Tree → Attrs → ℕ → Option Content → Tree
 with_changed_file t attrs number None = t
-with_changed_file t attrs number (Some content) = record t { files = with_content t.files number (changed_content attrs content) }
+with_changed_file t attrs number (Some content) =
+    record t { files = with_content t.files number (changed_content attrs content) }
 
 -- the attributes of the node at a place are set; those of a link stay, and no request sets them, since SETSTAT follows
 -- links
 abbrev pub with_attributes : Tree → Attrs → Place → Option Node → Tree
 with_attributes t attrs place None = t
-with_attributes t attrs place (Some (Dir owner)) = record t { names = with_node t.names place (Dir (changed_owner attrs owner)) }
+with_attributes t attrs place (Some (Dir owner)) =
+    record t { names = with_node t.names place (Dir (changed_owner attrs owner)) }
 with_attributes t attrs place (Some (File number)) = with_changed_file t attrs number (content_at t.files number)
 with_attributes t attrs place (Some (Link target)) = t
 

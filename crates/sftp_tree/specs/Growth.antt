@@ -26,8 +26,8 @@ names_in g = names_from g.above.items g.top
 abbrev pub place_in : Growth → Place
 place_in g = place_from g.above.items
 
--- the directory that is open behind an entry: the entry itself, or where it is
-abbrev pub open_behind : Place → Node → Place
-open_behind place (Dir owner) = place
-open_behind place (File number) = parent place
-open_behind place (Link target) = parent place
+-- the directory that is open after an entry: the entry itself, or where it is
+abbrev pub open_after : Place → Node → Place
+open_after place (Dir owner) = place
+open_after place (File number) = parent place
+open_after place (Link target) = parent place

@@ -81,6 +81,6 @@ pub record IsFilled (place : Place) (before after : Names) (was_taken : Bool) : 
   pub same : IsTrue was_taken → after ≡ before
   pub elsewhere : (other : Place) → begins place other ≡ false → node_at after other ≡ node_at before other
 
--- whether each place has at most so many names
+-- whether each place has at most `room` names
 unfoldable pub have_at_most : ℕ → Names → Bool
 have_at_most room names = list_all (λ e. nat_le (length e.0) room) names

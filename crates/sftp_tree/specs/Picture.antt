@@ -34,7 +34,7 @@ naming (Some entry) content = kinds.Further entry
 naming None (Some content) = kinds.First content.owner content.bytes
 naming None None = kinds.First no_owner []
 
--- behind these entries, the root among them
+-- after these entries, the root among them
 abbrev pub kind_of : Files → Names → Node → Kind
 kind_of files earlier (Dir owner) = kinds.Dir owner
 kind_of files earlier (File number) = naming (entry_naming number earlier) (content_at files number)
@@ -43,12 +43,13 @@ kind_of files earlier (Link target) = kinds.Link target
 -- the rows of an entry: the root has none, since its owner is in the head
 abbrev pub rows_of : Files → Names → Place × Node → List Row
 rows_of files earlier ([], standing) = []
-rows_of files earlier (n ∷ ns, standing) = record { path = absolute (n ∷ ns); kind = kind_of files earlier standing } ∷ []
+rows_of files earlier (n ∷ ns, standing) =
+    record { path = absolute (n ∷ ns); kind = kind_of files earlier standing } ∷ []
 
--- the rows of entries behind others
-abbrev pub rows_behind : Files → Names → Names → List Row
-rows_behind files earlier [] = []
-rows_behind files earlier (e ∷ es) = rows_of files earlier e ++ rows_behind files (earlier ++ e ∷ []) es
+-- the rows of entries after others
+abbrev pub rows_after : Files → Names → Names → List Row
+rows_after files earlier [] = []
+rows_after files earlier (e ∷ es) = rows_of files earlier e ++ rows_after files (earlier ++ e ∷ []) es
 
 -- the owner of the root, which is a directory in every tree
 abbrev pub root_owner : Option Node → Owner
@@ -65,7 +66,7 @@ file_of t = record {
   uid = t.uid;
   gid = t.gid;
   root = root_owner (node_at t.names []);
-  rows = rows_behind t.files [] t.names;
+  rows = rows_after t.files [] t.names;
 }
 
 -- the tree file of a tree
@@ -74,7 +75,7 @@ picture t = spelled (file_of t)
 
 -- ---- the tree of a tree file
 
--- whether a name's number is one of so many that were given to files, or the next
+-- whether a name's number is one of the `given` that were given to files, or the next
 abbrev pub is_given_or_next : Node → ℕ → Bool
 is_given_or_next (Dir owner) given = true
 is_given_or_next (File number) given = nat_le number given
@@ -106,4 +107,13 @@ GivesTree result t = MatchResult result (λ u. u ≡ t) (λ error. error ≡ NoM
 
 -- the root alone, with permissions 0o755, which is the home; the user 0 and the group 0 own everything
 abbrev pub blank : Tree
-blank = record { names = ([], Dir (record { uid = 0; gid = 0; permissions = 0o755 })) ∷ []; files = []; made = 0; pins = []; limits = usual_limits; home = []; uid = 0; gid = 0 }
+blank = record {
+  names = ([], Dir (record { uid = 0; gid = 0; permissions = 0o755 })) ∷ [];
+  files = [];
+  made = 0;
+  pins = [];
+  limits = usual_limits;
+  home = [];
+  uid = 0;
+  gid = 0;
+}

@@ -12,7 +12,9 @@ user_owner = record { uid = 1000; gid = 100; permissions = 0o750 }
 -- the home is `/d`, a directory; `/l` is a link to `d`
 abbrev pub linked : Tree
 linked = record {
-  names = ([], Dir (record { uid = 0; gid = 5; permissions = 0o755 })) ∷ (codes "d" ∷ [], Dir user_owner) ∷ (codes "l" ∷ [], Link (codes "d")) ∷ [];
+  names = ([], Dir (record { uid = 0; gid = 5; permissions = 0o755 }))
+      ∷ (codes "d" ∷ [], Dir user_owner)
+      ∷ (codes "l" ∷ [], Link (codes "d")) ∷ [];
   files = [];
   made = 0;
   pins = [];
@@ -24,15 +26,23 @@ linked = record {
 
 -- its home, user and group
 abbrev pub linked_front : List ℕ
-linked_front = 0x53 ∷ 0x46 ∷ 0x54 ∷ 0x52 ∷ 0x45 ∷ 0x45 ∷ 0x30 ∷ 0x31 ∷ 0x00 ∷ 0x00 ∷ 0x00 ∷ 0x02 ∷ 0x2f ∷ 0x64 ∷ 0x00 ∷ 0x00 ∷ 0x03 ∷ 0xe8 ∷ 0x00 ∷ 0x00 ∷ 0x00 ∷ 0x64 ∷ []
+linked_front =
+    0x53 ∷ 0x46 ∷ 0x54 ∷ 0x52 ∷ 0x45 ∷ 0x45 ∷ 0x30 ∷ 0x31
+    ∷ 0x00 ∷ 0x00 ∷ 0x00 ∷ 0x02 ∷ 0x2f ∷ 0x64
+    ∷ 0x00 ∷ 0x00 ∷ 0x03 ∷ 0xe8
+    ∷ 0x00 ∷ 0x00 ∷ 0x00 ∷ 0x64 ∷ []
 
 -- how many entries, and the root's owner
 abbrev pub linked_root : List ℕ
-linked_root = 0x00 ∷ 0x00 ∷ 0x00 ∷ 0x02 ∷ 0x00 ∷ 0x00 ∷ 0x00 ∷ 0x00 ∷ 0x00 ∷ 0x00 ∷ 0x00 ∷ 0x05 ∷ 0x00 ∷ 0x00 ∷ 0x01 ∷ 0xed ∷ []
+linked_root =
+    0x00 ∷ 0x00 ∷ 0x00 ∷ 0x02
+    ∷ 0x00 ∷ 0x00 ∷ 0x00 ∷ 0x00 ∷ 0x00 ∷ 0x00 ∷ 0x00 ∷ 0x05 ∷ 0x00 ∷ 0x00 ∷ 0x01 ∷ 0xed ∷ []
 
 -- `/d`, `D` and its owner
 abbrev pub linked_directory : List ℕ
-linked_directory = 0x00 ∷ 0x00 ∷ 0x00 ∷ 0x02 ∷ 0x2f ∷ 0x64 ∷ 0x44 ∷ 0x00 ∷ 0x00 ∷ 0x03 ∷ 0xe8 ∷ 0x00 ∷ 0x00 ∷ 0x00 ∷ 0x64 ∷ 0x00 ∷ 0x00 ∷ 0x01 ∷ 0xe8 ∷ []
+linked_directory =
+    0x00 ∷ 0x00 ∷ 0x00 ∷ 0x02 ∷ 0x2f ∷ 0x64
+    ∷ 0x44 ∷ 0x00 ∷ 0x00 ∷ 0x03 ∷ 0xe8 ∷ 0x00 ∷ 0x00 ∷ 0x00 ∷ 0x64 ∷ 0x00 ∷ 0x00 ∷ 0x01 ∷ 0xe8 ∷ []
 
 -- `/l`, `L` and its target
 abbrev pub linked_link : List ℕ
@@ -41,7 +51,8 @@ linked_link = 0x00 ∷ 0x00 ∷ 0x00 ∷ 0x02 ∷ 0x2f ∷ 0x6c ∷ 0x4c ∷ 0x0
 -- the blank tree with a file `/f` of the bytes `abc`, whose second name is `/g`
 abbrev pub two_names : Tree
 two_names = record {
-  names = ([], Dir (record { uid = 0; gid = 0; permissions = 0o755 })) ∷ (codes "f" ∷ [], File 0) ∷ (codes "g" ∷ [], File 0) ∷ [];
+  names = ([], Dir (record { uid = 0; gid = 0; permissions = 0o755 }))
+      ∷ (codes "f" ∷ [], File 0) ∷ (codes "g" ∷ [], File 0) ∷ [];
   files = (0, record { owner = record { uid = 0; gid = 0; permissions = 0o644 }; bytes = codes "abc" }) ∷ [];
   made = 1;
   pins = [];

@@ -31,7 +31,7 @@ content_of (kinds.Link target) = []
 abbrev pub contents_of : List Row → List Content
 contents_of rows = flat_map (λ (r : Row). content_of r.kind) rows
 
--- the entry behind these; a further name is of the file of the first name whose number it has
+-- the entry after these; a further name is of the file of the first name whose number it has
 abbrev pub node_of : List Row → Kind → Node
 node_of earlier (kinds.Dir owner) = Dir owner
 node_of earlier (kinds.First owner bytes) = File (length (contents_of earlier))
@@ -41,16 +41,16 @@ node_of earlier (kinds.Link target) = Link target
 abbrev pub entry_of : List Row → Row → Place × Node
 entry_of earlier row = (place_of row.path, node_of earlier row.kind)
 
-abbrev pub entries_behind : List Row → List Row → Names
-entries_behind earlier [] = []
-entries_behind earlier (row ∷ rows) = entry_of earlier row ∷ entries_behind (earlier ++ row ∷ []) rows
+abbrev pub entries_after : List Row → List Row → Names
+entries_after earlier [] = []
+entries_after earlier (row ∷ rows) = entry_of earlier row ∷ entries_after (earlier ++ row ∷ []) rows
 
 abbrev pub only_root : Owner → Names
 only_root root = ([], Dir root) ∷ []
 
 -- the root, and the entries below it
 abbrev pub names_of : Owner → List Row → Names
-names_of root rows = only_root root ++ entries_behind [] rows
+names_of root rows = only_root root ++ entries_after [] rows
 
 -- files with the numbers from this one on
 abbrev pub numbered_from : ℕ → List Content → Files
@@ -99,7 +99,7 @@ IsKnown numbers (kinds.Link target) = Unit {0}
 abbrev pub Stores : Type 0
 Stores = Table ℕ Stored
 
--- so many names that there is room for one more
+-- each file has room for one more name
 abbrev pub HaveRoom : Stores → Type 0
 HaveRoom stores = AllByRecursion (λ e. e.1.names + 1 < 2 ^ 32) stores
 
@@ -108,7 +108,8 @@ abbrev pub AreWithEntry : List ℕ → ℕ → Kind → Stores → Stores → Ty
 AreWithEntry numbers next (kinds.Dir owner) before after = after ≡ before
 AreWithEntry numbers next (kinds.First owner bytes) before after =
     after ≡ put nat_cmp before next (record { content = record { owner = owner; bytes = bytes }; names = 1; pins = 0 })
-AreWithEntry numbers next (kinds.Further entry) before after = IsChanged with_a_name (known_number numbers entry) before after
+AreWithEntry numbers next (kinds.Further entry) before after =
+    IsChanged with_a_name (known_number numbers entry) before after
 AreWithEntry numbers next (kinds.Link target) before after = after ≡ before
 
 -- these are the entries and the files of a tree file with these rows
@@ -122,7 +123,14 @@ pub record IsGrown (root : Owner) (rows : List Row) (names : Names) (stores : St
 
 -- what comes before the entries
 abbrev pub head_of : Tree → Head
-head_of t = record { limits = t.limits; home = absolute t.home; uid = t.uid; gid = t.gid; count = length t.names - 1; root = root_owner (node_at t.names []) }
+head_of t = record {
+  limits = t.limits;
+  home = absolute t.home;
+  uid = t.uid;
+  gid = t.gid;
+  count = length t.names - 1;
+  root = root_owner (node_at t.names []);
+}
 
 -- for each file that was met the number of the entry that is its first name
 abbrev pub Firsts : Type 0
@@ -139,7 +147,7 @@ firsts_with firsts entry (Dir owner) = firsts
 firsts_with firsts entry (File number) = with_first firsts entry number (get nat_cmp firsts number)
 firsts_with firsts entry (Link target) = firsts
 
--- the entry behind those that were met
+-- the entry after those that were met
 abbrev pub known_kind : Files → Firsts → Node → Kind
 known_kind files firsts (Dir owner) = kinds.Dir owner
 known_kind files firsts (File number) = naming (get nat_cmp firsts number) (content_at files number)

@@ -32,12 +32,16 @@ file_causes standing = when (needing_causes standing) NotFile (is_taken standing
 
 -- of a node that is to get these attributes: only a file has a size that can be set
 abbrev pub setting_causes : Attrs → Option Node → CauseSet
-setting_causes attrs standing = when (needing_causes standing) NotFile (is_some attrs.size && (is_taken standing && not (is_file standing)))
+setting_causes attrs standing =
+    when (needing_causes standing) NotFile (is_some attrs.size && (is_taken standing && not (is_file standing)))
 
 -- of a directory that is to be removed
 abbrev pub removing_causes : Names → Place → CauseSet
 removing_causes names place =
-    when (when (when (needing_causes (node_at names place)) NotDir (is_taken (node_at names place) && not (is_directory (node_at names place)))) NotEmpty (is_directory (node_at names place) && has_entries names place)) Root (is_root place)
+    when (when (when (needing_causes (node_at names place))
+    NotDir (is_taken (node_at names place) && not (is_directory (node_at names place))))
+    NotEmpty (is_directory (node_at names place) && has_entries names place))
+    Root (is_root place)
 
 -- of a name that is to be removed, and must not be a directory
 abbrev pub unlinking_causes : Option Node → CauseSet
@@ -54,8 +58,10 @@ giving_causes place = when no_causes Root (is_root place)
 -- of a node that is to be opened as a file
 abbrev pub opening_causes : ℕ → Option Node → CauseSet
 opening_causes flags standing =
-    when (when (when no_causes NoEntry (not (is_taken standing) && not (creates flags))) Exists
-    (is_taken standing && excludes flags)) IsDir (is_directory standing && not (excludes flags))
+    when (when (when no_causes
+    NoEntry (not (is_taken standing) && not (creates flags)))
+    Exists (is_taken standing && excludes flags))
+    IsDir (is_directory standing && not (excludes flags))
 
 -- of a node that must be a directory
 abbrev pub directory_causes : Option Node → CauseSet
@@ -92,11 +98,16 @@ moving_causes names old new = when no_causes Inside (goes_inside names old new)
 -- directory
 abbrev pub clashing_causes : Option Node → Option Node → Bool → CauseSet
 clashing_causes goes stays entries =
-    when (when (when no_causes NotDir (is_directory goes && (is_taken stays && not (is_directory stays)))) IsDir ((is_taken goes && not (is_directory goes)) && is_directory stays)) NotEmpty (is_directory goes && (is_directory stays && entries))
+    when (when (when no_causes
+    NotDir (is_directory goes && (is_taken stays && not (is_directory stays))))
+    IsDir ((is_taken goes && not (is_directory goes)) && is_directory stays))
+    NotEmpty (is_directory goes && (is_directory stays && entries))
 
 -- of a move that replaces the node at the new place, if there is one
 abbrev pub replacing_causes : Names → Place → Place → CauseSet
-replacing_causes names old new = when (clashing_causes (node_at names old) (node_at names new) (has_entries names new)) Inside (goes_inside names old new)
+replacing_causes names old new =
+    when (clashing_causes (node_at names old) (node_at names new) (has_entries names new))
+    Inside (goes_inside names old new)
 
 -- nothing moves if both are the same place, or names of one file
 abbrev pub exchanging_causes : Names → Place → Place → CauseSet

@@ -122,7 +122,8 @@ IsNaming (Some node) new plan = plan ≡ Put new node
 -- with the two places that its paths lead to
 abbrev pub IsPlanBetween : Tree → Ask → Place → Place → Plan → Type 0
 IsPlanBetween t (Rename oldpath newpath) old new plan = plan ≡ Move old new
-IsPlanBetween t (PosixRename oldpath newpath) old new plan = plan ≡ (if are_one t.names old new then Nothing else Move old new)
+IsPlanBetween t (PosixRename oldpath newpath) old new plan =
+    plan ≡ (if are_one t.names old new then Nothing else Move old new)
 IsPlanBetween t (Hardlink oldpath newpath) old new plan = IsNaming (node_at t.names old) new plan
 IsPlanBetween t other old new plan = plan ≡ Nothing
 

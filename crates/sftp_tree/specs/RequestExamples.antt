@@ -68,7 +68,9 @@ open_attributes = record no_attributes { permissions = Some 0o100777 }
 
 -- the file with those permissions
 abbrev pub with_open_file : Tree
-with_open_file = holding ((codes "f" ∷ [], File 0) ∷ []) (record hello { owner = record { uid = 1000; gid = 100; permissions = 0o777 } })
+with_open_file =
+    holding ((codes "f" ∷ [], File 0) ∷ [])
+    (record hello { owner = record { uid = 1000; gid = 100; permissions = 0o777 } })
 
 -- attributes that ask for a size
 abbrev pub size_attributes : ℕ → Attrs
@@ -80,7 +82,9 @@ sized_attributes = record no_attributes { size = Some 0; owner = Some (1000, 100
 
 -- `/g` is the name of another file, which is empty
 abbrev pub with_two_files : Tree
-with_two_files = record (tree_of ((codes "f" ∷ [], File 0) ∷ (codes "g" ∷ [], File 1) ∷ [])) { files = (0, hello) ∷ (1, empty_file) ∷ []; made = 2 }
+with_two_files =
+    record (tree_of ((codes "f" ∷ [], File 0) ∷ (codes "g" ∷ [], File 1) ∷ []))
+    { files = (0, hello) ∷ (1, empty_file) ∷ []; made = 2 }
 
 -- `/g` is the name of the first, and the other does not exist any more
 abbrev pub with_moved_file : Tree
@@ -117,15 +121,26 @@ with_no_number = record (tree_of []) { made = 0xffffffff }
 
 -- the directories `/d` and `/d/e`, the file `/d/e/f`, and the directory `/t`
 abbrev pub before_move : Tree
-before_move = holding ((codes "d" ∷ [], directory) ∷ (codes "d" ∷ codes "e" ∷ [], directory) ∷ (codes "d" ∷ codes "e" ∷ codes "f" ∷ [], File 0) ∷ (codes "t" ∷ [], directory) ∷ []) hello
+before_move =
+    holding
+    ((codes "d" ∷ [], directory) ∷ (codes "d" ∷ codes "e" ∷ [], directory)
+    ∷ (codes "d" ∷ codes "e" ∷ codes "f" ∷ [], File 0) ∷ (codes "t" ∷ [], directory) ∷ [])
+    hello
 
 -- `/x` with all below it in place of `/d`
 abbrev pub after_move : Tree
-after_move = holding ((codes "t" ∷ [], directory) ∷ (codes "x" ∷ [], directory) ∷ (codes "x" ∷ codes "e" ∷ [], directory) ∷ (codes "x" ∷ codes "e" ∷ codes "f" ∷ [], File 0) ∷ []) hello
+after_move =
+    holding
+    ((codes "t" ∷ [], directory) ∷ (codes "x" ∷ [], directory)
+    ∷ (codes "x" ∷ codes "e" ∷ [], directory) ∷ (codes "x" ∷ codes "e" ∷ codes "f" ∷ [], File 0) ∷ [])
+    hello
 
 -- the file `/f`, and the directories `/x` and `/x/e`
 abbrev pub with_directories : Tree
-with_directories = holding ((codes "f" ∷ [], File 0) ∷ (codes "x" ∷ [], directory) ∷ (codes "x" ∷ codes "e" ∷ [], directory) ∷ []) hello
+with_directories =
+    holding
+    ((codes "f" ∷ [], File 0) ∷ (codes "x" ∷ [], directory) ∷ (codes "x" ∷ codes "e" ∷ [], directory) ∷ [])
+    hello
 
 -- ---- listings
 
@@ -133,8 +148,8 @@ with_directories = holding ((codes "f" ∷ [], File 0) ∷ (codes "x" ∷ [], di
 abbrev pub with_listing : Tree
 with_listing =
     holding
-    ((codes "d" ∷ [], directory) ∷ (codes "d" ∷ codes "f" ∷ [], File 0) ∷ (codes "d" ∷ codes "g" ∷ [], directory) ∷
-    (codes "d" ∷ codes "g" ∷ codes "e" ∷ [], directory) ∷ (codes "d" ∷ codes "l" ∷ [], Link (codes "g")) ∷ [])
+    ((codes "d" ∷ [], directory) ∷ (codes "d" ∷ codes "f" ∷ [], File 0) ∷ (codes "d" ∷ codes "g" ∷ [], directory)
+    ∷ (codes "d" ∷ codes "g" ∷ codes "e" ∷ [], directory) ∷ (codes "d" ∷ codes "l" ∷ [], Link (codes "g")) ∷ [])
     hello
 
 -- the attributes shown of the directory `/d/g`, and of the link `/d/l`

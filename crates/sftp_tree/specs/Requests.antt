@@ -114,10 +114,23 @@ abbrev pub pair_row : List ℕ → List ℕ → Row
 pair_row oldpath newpath = record no_step { path = Some oldpath; new_path = Some newpath }
 
 abbrev pub row_of : Ask → Row
-row_of (Mkdir path attrs) = record (making_row path) { change = λ t place. with_entry t place (Dir (directory_owner t attrs)) }
-row_of (Symlink target link) = record (making_row link) { own = target_bytes_causes target; change = λ t place. with_entry t place (Link target) }
-row_of (Rmdir path) = record no_step { path = Some path; here = λ t place. removing_causes t.names place; change = without_entry }
-row_of (Remove path) = record no_step { path = Some path; here = λ t place. unlinking_causes (node_at t.names place); change = without_entry }
+row_of (Mkdir path attrs) = record (making_row path) {
+  change = λ t place. with_entry t place (Dir (directory_owner t attrs));
+}
+row_of (Symlink target link) = record (making_row link) {
+  own = target_bytes_causes target;
+  change = λ t place. with_entry t place (Link target);
+}
+row_of (Rmdir path) = record no_step {
+  path = Some path;
+  here = λ t place. removing_causes t.names place;
+  change = without_entry;
+}
+row_of (Remove path) = record no_step {
+  path = Some path;
+  here = λ t place. unlinking_causes (node_at t.names place);
+  change = without_entry;
+}
 row_of (Setstat path attrs) = record no_step {
   path = Some path;
   follows = true;
@@ -126,7 +139,11 @@ row_of (Setstat path attrs) = record no_step {
 }
 row_of (Stat path) = record (showing_row path) { follows = true }
 row_of (Lstat path) = showing_row path
-row_of (Realpath path) = record no_step { path = Some path; follows = true; told = λ t place. name (Some (absolute place)) }
+row_of (Realpath path) = record no_step {
+  path = Some path;
+  follows = true;
+  told = λ t place. name (Some (absolute place));
+}
 row_of (Readlink path) = record no_step {
   path = Some path;
   here = λ t place. link_causes (node_at t.names place);
@@ -220,14 +237,18 @@ led_causes (Some (Ok place)) at = at place
 led_causes (Some (Err failed)) at = when no_causes failed true
 
 -- causes of two places hold if each path leads to one
-abbrev pub both_causes : Option (Result Place Cause) → Option (Result Place Cause) → (Place → Place → CauseSet) → CauseSet
+abbrev pub both_causes : Option (Result Place Cause) → Option (Result Place Cause)
+    → (Place → Place → CauseSet) → CauseSet
 both_causes (Some (Ok old)) (Some (Ok new)) between = between old new
 both_causes _ _ between = no_causes
 
 -- the causes other than `NoRoom`, by where the paths lead
 abbrev pub plain_of : Tree → Ask → Option (Result Place Cause) → Option (Result Place Cause) → CauseSet
 plain_of t ask end new_end =
-    joined (joined (joined (own_causes ask) (led_causes end (causes_at t ask))) (led_causes new_end (new_causes_at t ask))) (both_causes end new_end (causes_between t ask))
+    joined (joined (joined (own_causes ask)
+    (led_causes end (causes_at t ask)))
+    (led_causes new_end (new_causes_at t ask)))
+    (both_causes end new_end (causes_between t ask))
 
 unfoldable pub plain_causes : Tree → Ask → CauseSet
 plain_causes t ask = plain_of t ask (led t ask) (new_led t ask)

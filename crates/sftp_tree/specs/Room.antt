@@ -34,7 +34,7 @@ abbrev pub has_room_to_open : Tree → Place → Option Node → Bool
 has_room_to_open t place None = has_room_for_file t place
 has_room_to_open t place (Some standing) = true
 
--- whether each place that begins with the first has at most so many names behind it
+-- whether each place that begins with `top` has at most `room` names after it
 abbrev pub reaches_at_most : Names → Place → ℕ → Bool
 reaches_at_most names top room = list_all (λ e. not (begins top e.0) || nat_le (length e.0 - length top) room) names
 

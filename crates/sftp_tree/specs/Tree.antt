@@ -164,7 +164,8 @@ pub record WellFormed (t : Tree) : Type 0 where
   pub named : AllByRecursion (λ e. IsTrue (are_names e.0)) t.names
   pub nodes : AllByRecursion (λ e. IsNode t.files e.1) t.names
   pub root : IsTrue (is_directory (node_at t.names []))
-  pub parents : (place : Place) → IsTrue (is_taken (node_at t.names place)) → IsTrue (is_directory (node_at t.names (parent place)))
+  pub parents : (place : Place) → IsTrue (is_taken (node_at t.names place))
+      → IsTrue (is_directory (node_at t.names (parent place)))
   pub numbered : InOrder nat_cmp t.files
   pub contents : AllByRecursion (λ e. IsContent e.1) t.files
   pub given : AllByRecursion (λ e. e.0 < t.made) t.files

@@ -69,16 +69,20 @@ going_on (fails cause) rest behind ended failed = failed cause
 going_on (through target) rest behind ended failed = behind target
 
 -- the walk over components, with what it comes to behind a link at a place with a target and a rest
-unfoldable pub walk_parts : (Place → List ℕ → List Name → Result Place Cause) → Names → Bool → Place → List Name → Result Place Cause
+unfoldable pub walk_parts : (Place → List ℕ → List Name → Result Place Cause) → Names → Bool → Place → List Name
+    → Result Place Cause
 walk_parts behind names follow at [] = Ok at
 walk_parts behind names follow at (component ∷ rest) =
-    going_on (meets names follow at component (is_last rest)) (λ place. walk_parts behind names follow place rest) (λ target. behind at target rest) Ok Err
+    going_on (meets names follow at component (is_last rest))
+    (λ place. walk_parts behind names follow place rest) (λ target. behind at target rest) Ok Err
 
--- The place to which the components lead from a directory, or why they lead nowhere. So many links are followed;
--- one more is a loop. Behind a link, the target's components come first, and then the rest.
+-- The place to which the components lead from a directory, or why they lead nowhere. The number is that of the links
+-- that are followed; one more is a loop. Behind a link, the target's components come first, and then the rest.
 unfoldable pub walk : Names → Bool → ℕ → Place → List Name → Result Place Cause
 walk names follow zero at path = walk_parts (λ at target rest. Err Loop) names follow at path
-walk names follow (suc left) at path = walk_parts (λ at target rest. walk names follow left (start_of at target) (components target ++ rest)) names follow at path
+walk names follow (suc left) at path =
+    walk_parts (λ at target rest. walk names follow left (start_of at target) (components target ++ rest))
+    names follow at path
 
 -- the most links of one walk
 abbrev pub link_limit : ℕ
@@ -98,11 +102,14 @@ reached t follow path = if is_good_path path then walk t.names follow link_limit
 unfoldable pub looked_parts : (Place → List ℕ → List Name → ℕ) → Names → Bool → Place → List Name → ℕ
 looked_parts behind names follow at [] = 0
 looked_parts behind names follow at (component ∷ rest) =
-    suc (going_on (meets names follow at component (is_last rest)) (λ place. looked_parts behind names follow place rest) (λ target. behind at target rest) (λ place. 0) (λ cause. 0))
+    suc (going_on (meets names follow at component (is_last rest))
+    (λ place. looked_parts behind names follow place rest) (λ target. behind at target rest) (λ place. 0) (λ cause. 0))
 
 unfoldable pub looked : Names → Bool → ℕ → Place → List Name → ℕ
 looked names follow zero at path = looked_parts (λ at target rest. 0) names follow at path
-looked names follow (suc left) at path = looked_parts (λ at target rest. looked names follow left (start_of at target) (components target ++ rest)) names follow at path
+looked names follow (suc left) at path =
+    looked_parts (λ at target rest. looked names follow left (start_of at target) (components target ++ rest))
+    names follow at path
 
 -- the most components of a good path: each but the last takes two bytes at least
 abbrev pub component_limit : ℕ

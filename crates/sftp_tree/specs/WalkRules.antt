@@ -18,7 +18,7 @@ pub data GoesThrough (follow : Bool) : List Name → Type 0 where
   not_last : (name : Name) (rest : List Name) → GoesThrough follow (name ∷ rest)
   followed : IsTrue follow → GoesThrough follow []
 
--- with so many links left, the components lead from a directory to an answer
+-- with the given number of links left, the components lead from a directory to an answer
 pub data Leads (names : Names) (follow : Bool) : ℕ → Place → List Name → Result Place Cause → Type 0 where
   -- with no component left, the answer is the place of the walk
   done : (left : ℕ) (at : Place) → Leads names follow left at [] (Ok at)
@@ -27,7 +27,8 @@ pub data Leads (names : Names) (follow : Bool) : ℕ → Place → List Name →
       IsTrue (is_dot name) → Leads names follow left at rest answer → Leads names follow left at (name ∷ rest) answer
   -- `..` goes to the parent
   goes_up : (left : ℕ) (at : Place) (name : Name) (rest : List Name) (answer : Result Place Cause) →
-      IsTrue (is_dot_dot name) → Leads names follow left (parent at) rest answer → Leads names follow left at (name ∷ rest) answer
+      IsTrue (is_dot_dot name) → Leads names follow left (parent at) rest answer →
+      Leads names follow left at (name ∷ rest) answer
   -- a free place is the answer if its name is last
   is_absent : (left : ℕ) (at : Place) (name : Name) → IsPlain name →
       node_at names (at ++ name ∷ []) ≡ None → Leads names follow left at (name ∷ []) (Ok (at ++ name ∷ []))
@@ -35,21 +36,28 @@ pub data Leads (names : Names) (follow : Bool) : ℕ → Place → List Name →
   is_lost : (left : ℕ) (at : Place) (name next : Name) (rest : List Name) → IsPlain name →
       node_at names (at ++ name ∷ []) ≡ None → Leads names follow left at (name ∷ next ∷ rest) (Err NoEntry)
   -- a directory is entered
-  enters : (left : ℕ) (at : Place) (name : Name) (rest : List Name) (answer : Result Place Cause) (owner : Owner) → IsPlain name →
-      node_at names (at ++ name ∷ []) ≡ Some (Dir owner) → Leads names follow left (at ++ name ∷ []) rest answer → Leads names follow left at (name ∷ rest) answer
+  enters : (left : ℕ) (at : Place) (name : Name) (rest : List Name) (answer : Result Place Cause) (owner : Owner) →
+      IsPlain name → node_at names (at ++ name ∷ []) ≡ Some (Dir owner) →
+      Leads names follow left (at ++ name ∷ []) rest answer → Leads names follow left at (name ∷ rest) answer
   -- a file that is last is the answer
   finds_file : (left : ℕ) (at : Place) (name : Name) (number : ℕ) → IsPlain name →
-      node_at names (at ++ name ∷ []) ≡ Some (File number) → Leads names follow left at (name ∷ []) (Ok (at ++ name ∷ []))
+      node_at names (at ++ name ∷ []) ≡ Some (File number) →
+      Leads names follow left at (name ∷ []) (Ok (at ++ name ∷ []))
   -- and leads nowhere if it is not
   stops_at_file : (left : ℕ) (at : Place) (name next : Name) (rest : List Name) (number : ℕ) → IsPlain name →
-      node_at names (at ++ name ∷ []) ≡ Some (File number) → Leads names follow left at (name ∷ next ∷ rest) (Err NotDir)
+      node_at names (at ++ name ∷ []) ≡ Some (File number) →
+      Leads names follow left at (name ∷ next ∷ rest) (Err NotDir)
   -- a last link is the answer of a walk that does not follow it
   finds_link : (left : ℕ) (at : Place) (name : Name) (target : List ℕ) → IsPlain name →
-      follow ≡ false → node_at names (at ++ name ∷ []) ≡ Some (Link target) → Leads names follow left at (name ∷ []) (Ok (at ++ name ∷ []))
+      follow ≡ false → node_at names (at ++ name ∷ []) ≡ Some (Link target) →
+      Leads names follow left at (name ∷ []) (Ok (at ++ name ∷ []))
   -- behind any other link, the target's components come first, and then the rest
-  goes_through : (left : ℕ) (at : Place) (name : Name) (rest : List Name) (answer : Result Place Cause) (target : List ℕ) → IsPlain name →
-      GoesThrough follow rest → node_at names (at ++ name ∷ []) ≡ Some (Link target) →
-      Leads names follow left (start_of at target) (components target ++ rest) answer → Leads names follow (suc left) at (name ∷ rest) answer
+  goes_through : (left : ℕ) (at : Place) (name : Name) (rest : List Name) (answer : Result Place Cause)
+      (target : List ℕ) → IsPlain name → GoesThrough follow rest →
+      node_at names (at ++ name ∷ []) ≡ Some (Link target) →
+      Leads names follow left (start_of at target) (components target ++ rest) answer →
+      Leads names follow (suc left) at (name ∷ rest) answer
   -- but for a link with none left, which is a loop
   loops : (at : Place) (name : Name) (rest : List Name) (target : List ℕ) → IsPlain name →
-      GoesThrough follow rest → node_at names (at ++ name ∷ []) ≡ Some (Link target) → Leads names follow zero at (name ∷ rest) (Err Loop)
+      GoesThrough follow rest → node_at names (at ++ name ∷ []) ≡ Some (Link target) →
+      Leads names follow zero at (name ∷ rest) (Err Loop)

@@ -1,4 +1,4 @@
--- How the entries of directories are written: each behind those before it, with the text of the place where the writing
+-- How the entries of directories are written: each after those before it, with the text of the place where the writing
 -- stands, the number of the next entry, and the first name of each file that was met.
 use Rattle.std.specs.Prelude.{ℕ, suc, ◌<◌, ◌^◌, List, [], ◌∷◌, ◌++◌, length}
 use Rattle.std.specs.List.{flat_map, AllByRecursion}

@@ -66,8 +66,8 @@ pub enum Cause {
     Unknown,
 }
 
-/// The rows of the status table.
-const EVERY_CAUSE: [Cause; 17] = [
+/// Every cause, in the order of the status table.
+pub const EVERY_CAUSE: [Cause; 17] = [
     Cause::BadFlags,
     Cause::BadPath,
     Cause::NoEntry,

@@ -61,7 +61,7 @@ impl Entries {
         }
     }
 
-    /// A root with all below it, where so many places are taken.
+    /// A root with all below it, where `len` places are taken.
     pub(crate) fn of(root: Dir, len: usize) -> Entries
         requires ordered { InOrder place_cmp root }
         requires directory { IsTrue (tree.is_directory (tree.node_at root [])) }

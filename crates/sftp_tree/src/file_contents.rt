@@ -73,7 +73,7 @@ impl FileBytes {
     }
 }
 
-/// Writes bytes over those from the offset on, and appends what goes past the end, behind zeros up to the offset.
+/// Writes bytes over those from the offset on, and appends what goes past the end, after zeros up to the offset.
 ///
 /// # Errors
 ///
@@ -95,7 +95,7 @@ fn write_over(bytes: &mut Vec<u8>, offset: usize, new: &[u8]) -> Result<(), NoMe
     }
 }
 
-/// Appends bytes behind zeros up to the offset, where nothing is past the offset.
+/// Appends bytes after zeros up to the offset, where nothing is past the offset.
 ///
 /// # Errors
 ///

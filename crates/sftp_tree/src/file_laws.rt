@@ -43,7 +43,7 @@ pub fn open_files_keep()
 {}
 
 /// After a WRITE of some bytes a file has them at their offset; before them it has what it had, with zeros where that
-/// ends, and behind them what it had there.
+/// ends, and after them what it had there.
 pub fn writes_are_read()
     ensures before { (offset : ℕ) (new bytes : List ℕ) → 0 < length new →
         take offset (written offset new bytes) ≡ resized offset bytes }

@@ -74,7 +74,7 @@ impl<'a> Found<'a> {
         }
     }
 
-    /// Whether each place that begins with this one has at most `room` names behind it.
+    /// Whether each place that begins with this one has at most `room` names after it.
     pub(crate) fn reaches_at_most(&self, room: usize) -> bool
         ensures { (t : kept_tree) → IsFoundIn t self.now →
             result ≡ rooms.reaches_at_most t.names self.now.place room }

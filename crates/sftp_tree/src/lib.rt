@@ -33,7 +33,7 @@ mod trees;
 pub mod walk_examples;
 mod walking;
 
-pub use causes::{Cause, Causes, Refused};
+pub use causes::{Cause, Causes, EVERY_CAUSE, Refused};
 pub use file_numbers::FileNo;
 pub use listings::Item;
 pub use sftp_treefile::{NoMemory, TreeError, TreeLimits};

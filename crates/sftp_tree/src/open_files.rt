@@ -108,7 +108,7 @@ impl Tree {
     }
 }
 
-/// The bytes from an offset on, at most so many of them.
+/// At most `most` bytes, from `offset` on.
 fn bytes_at(bytes: &[u8], offset: u64, most: usize) -> &[u8]
     ensures { result.now ≡ take most (drop offset bytes.now) }
 {

@@ -71,7 +71,7 @@ pub fn targets()
     ensures absolute { reached with_both_targets true (codes "/d/s") ≡ Ok (codes "e" ∷ []) }
 {}
 
-/// A walk may end at a file, and a slash behind its name changes nothing. With a component behind the file it leads
+/// A walk may end at a file, and a slash after its name changes nothing. With a component after the file it leads
 /// nowhere, even with `.` or `..`.
 pub fn files()
     ensures last { (follow : Bool) → reached with_file follow (codes "/f") ≡ Ok (codes "f" ∷ []) }

@@ -7,7 +7,14 @@ use Rattle.sftp_treefile.specs.Limits.{usual_limits}
 
 -- the root alone, which is the home
 abbrev pub blank : TreeFile
-blank = record { limits = usual_limits; home = codes "/"; uid = 0; gid = 0; root = record { uid = 0; gid = 0; permissions = 0o755 }; rows = [] }
+blank = record {
+  limits = usual_limits;
+  home = codes "/";
+  uid = 0;
+  gid = 0;
+  root = record { uid = 0; gid = 0; permissions = 0o755 };
+  rows = [];
+}
 
 abbrev pub blank_bytes : List ℕ
 blank_bytes = hex (codes "5346545245453031 00000001 2f 00000000 00000000 00000000 00000000 00000000 000001ed")

@@ -25,8 +25,8 @@ tree_opening = codes "SFTREE01"
 abbrev pub owner_text : Owner → List ℕ
 owner_text owner = uint32 owner.uid ++ (uint32 owner.gid ++ uint32 owner.permissions)
 
--- the kind's letter, and what it says: `D` and the owner, `F` with the owner and the bytes of a file, `H` and the number of the
--- entry that has its file, `L` and the target
+-- the kind's letter, and what it says: `D` and the owner, `F` with the owner and the bytes of a file, `H` and the
+-- number of the entry that has its file, `L` and the target
 abbrev pub kind_text : Kind → List ℕ
 kind_text (Dir owner) = 68 ∷ owner_text owner
 kind_text (First owner bytes) = 70 ∷ (owner_text owner ++ string bytes)
@@ -42,7 +42,8 @@ rows_text root rows = uint32 (length rows) ++ (owner_text root ++ flat_map row_t
 
 -- the bytes of a tree file
 unfoldable pub spelled : TreeFile → List ℕ
-spelled file = tree_opening ++ (string file.home ++ (uint32 file.uid ++ (uint32 file.gid ++ rows_text file.root file.rows)))
+spelled file =
+    tree_opening ++ (string file.home ++ (uint32 file.uid ++ (uint32 file.gid ++ rows_text file.root file.rows)))
 
 -- ---- which rows a tree file may have
 
@@ -86,7 +87,8 @@ entry_at rows (suc n) = slice_get rows n
 -- what an entry after these may be: a further name is that of a file whose first name is among them
 abbrev pub IsKind : TreeLimits → List Row → Kind → Type 0
 IsKind limits earlier (Dir owner) = IsOwner owner
-IsKind limits earlier (First owner bytes) = IsOwner owner × (length bytes ≤ limits.file_bytes) × IsTrue (are_bytes bytes)
+IsKind limits earlier (First owner bytes) =
+    IsOwner owner × (length bytes ≤ limits.file_bytes) × IsTrue (are_bytes bytes)
 IsKind limits earlier (Further number) = (number < 2 ^ 32) × IsTrue (is_first_row (entry_at earlier number))
 IsKind limits earlier (Link target) = IsTrue (is_target target) × IsTrue (are_bytes target)
 

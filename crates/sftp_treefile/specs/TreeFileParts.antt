@@ -42,7 +42,7 @@ IsAt entry (Order n) = n ≡ entry
 IsAt entry (Parent n) = n ≡ entry
 IsAt entry NoMemory = Unit {0}
 
--- the fault is in one of so many entries, unless memory ran out
+-- the fault is in one of `count` entries, unless memory ran out
 abbrev pub IsAmong : ℕ → TreeError → Type 0
 IsAmong count error = (n : ℕ) × (1 ≤ n) × (n ≤ count) × IsAt n error
 
@@ -77,7 +77,9 @@ IsFirstAmong rows number = (number < 2 ^ 32) × IsTrue (is_first_row (entry_at r
 -- ---- the head
 
 abbrev pub head_bytes : Head → List ℕ
-head_bytes head = tree_opening ++ (string head.home ++ (uint32 head.uid ++ (uint32 head.gid ++ (uint32 head.count ++ owner_text head.root))))
+head_bytes head =
+    tree_opening ++ (string head.home ++ (uint32 head.uid ++ (uint32 head.gid
+    ++ (uint32 head.count ++ owner_text head.root))))
 
 -- the opening, the home, and who owns what is made with no owner given
 abbrev pub front_text : List ℕ → ℕ → ℕ → List ℕ
@@ -123,18 +125,21 @@ pub record Follows (earlier : List Row) (path : List ℕ) : Type 0 where
 -- what the place of the last entry, and whether that is a directory, say of all entries so far
 pub record IsLast (rows : List Row) (last : Place) (is_dir : Bool) : Type 0 where
   -- what comes after the last comes after each
-  pub later : (place : Place) → 0 < length place → (place_cmp last place ≡ Less) ↔ AllByRecursion (λ (r : Row). place_cmp (place_of r.path) place ≡ Less) rows
+  pub later : (place : Place) → 0 < length place
+      → (place_cmp last place ≡ Less) ↔ AllByRecursion (λ (r : Row). place_cmp (place_of r.path) place ≡ Less) rows
   -- each place above the last is a directory
   pub above : (depth : ℕ) → depth < length last → IsTrue (has_dir rows (take depth last))
   -- whether the last is
   pub itself : has_dir rows last ≡ is_dir
 
--- so many entries are read, and the rest of the bytes is not
+-- `count` entries are read, and the rest of the bytes is not
 pub record AreRead (limits : TreeLimits) (bytes : List ℕ) (rows : List Row) (count : ℕ) (rest : List ℕ) : Type 0 where
   pub rows_fit : AreRows limits [] rows
   pub count_is : length rows ≡ count
   pub bytes_are : bytes ≡ flat_map row_text rows ++ rest
 
--- the bytes do not start with so many entries
+-- the bytes do not start with `count` entries
 abbrev pub AreNone : TreeLimits → ℕ → List ℕ → Type 0
-AreNone limits count bytes = (rows : List Row) (rest : List ℕ) → AreRows limits [] rows → length rows ≡ count → bytes ≡ flat_map row_text rows ++ rest → ⊥
+AreNone limits count bytes =
+    (rows : List Row) (rest : List ℕ) → AreRows limits [] rows → length rows ≡ count
+    → bytes ≡ flat_map row_text rows ++ rest → ⊥

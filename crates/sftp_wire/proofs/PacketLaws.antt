@@ -1,4 +1,4 @@
--- Packets behind their length: what is read is spelled so, and what is spelled so is read again.
+-- Packets after their length: what is read is spelled so, and what is spelled so is read again.
 pub mod Rows
 pub mod Extensions
 pub mod Spelled

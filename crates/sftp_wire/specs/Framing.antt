@@ -70,8 +70,8 @@ pub record IsRefused (s : Frames) (given : Result (Option Packet) WireError) (t 
   pub no_fault : s.fault ≡ None
   pub unchanged : t ≡ s
 
--- a call and what it returns: `push` with these bytes, which takes so many of them, or `next` for a packet of this
--- side, which returns that
+-- a call and what it returns: `push` with these bytes, and how many of them it takes, or `next` for a packet of this
+-- side, and its result
 pub data Step : Type 0 where
   Push : List ℕ → ℕ → Step
   Next : Side → Result (Option Packet) WireError → Step

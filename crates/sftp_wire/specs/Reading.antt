@@ -68,7 +68,7 @@ many_at read (suc count) bytes = do
   others ← many_at read count first.1
   Ok (first.0 ∷ others.0, others.1)
 
--- values up to the end of the bytes, at most so many
+-- values up to the end of the bytes, at most the given number of them
 abbrev pub up_to_end : {A : Type 0} → Reader A → ℕ → Reader (List A)
 up_to_end read zero bytes = Ok ([], bytes)
 up_to_end read (suc most) [] = Ok ([], [])
@@ -119,7 +119,7 @@ pair_at = two string_at string_at (λ name text. (name, text))
 unfoldable pub pairs_at : Reader (List (List ℕ × List ℕ))
 pairs_at bytes = up_to_end pair_at (length bytes) bytes
 
--- pairs behind their count (draft, section 5)
+-- pairs after their count (draft, section 5)
 unfoldable pub counted_pairs_at : Reader (List (List ℕ × List ℕ))
 counted_pairs_at bytes = do
   n ← uint32_at bytes
@@ -154,7 +154,7 @@ attribute_fields_at flags bytes = do
     extended.1,
   )
 
--- an unknown flag is a fault before any field behind the flags
+-- an unknown flag is a fault before any field after the flags
 unfoldable pub attributes_at : Reader Attrs
 attributes_at bytes = do
   flags ← uint32_at bytes
@@ -167,7 +167,7 @@ name_item_at =
     three string_at string_at attributes_at
     (λ filename longname attrs. record { filename = filename; longname = longname; attrs = attrs })
 
--- names behind their count
+-- names after their count
 unfoldable pub names_at : Reader (List NameItem)
 names_at bytes = do
   n ← uint32_at bytes
@@ -197,7 +197,7 @@ extension_at bytes = do
   name ← string_at bytes
   extension_data_at name.0 name.1
 
--- the fields behind the type of a client's packet (draft, sections 4, 6 and 8)
+-- the fields after the type of a client's packet (draft, sections 4, 6 and 8)
 unfoldable pub client_packet_at : ℕ → Reader Packet
 client_packet_at kind =
     if kind == 1 then two uint32_at pairs_at Init else
@@ -222,7 +222,7 @@ client_packet_at kind =
     if kind == 200 then request_at extension_at else
     refuse WrongType
 
--- the fields behind the type of a server's packet (draft, sections 4, 7 and 8)
+-- the fields after the type of a server's packet (draft, sections 4, 7 and 8)
 unfoldable pub server_packet_at : ℕ → Reader Packet
 server_packet_at kind =
     if kind == 2 then two uint32_at pairs_at Version else
@@ -239,7 +239,7 @@ abbrev pub packet_at : Side → ℕ → Reader Packet
 packet_at Client kind = client_packet_at kind
 packet_at Server kind = server_packet_at kind
 
--- the packet behind a length: its type, its fields, and nothing else
+-- the packet after a length: its type, its fields, and nothing else
 unfoldable pub packet_of : Side → List ℕ → Result Packet Fault
 packet_of side [] = Err Short
 packet_of side (kind ∷ body) = do
@@ -278,7 +278,7 @@ IsReading (Err wires.NoMemory) read = Unit {0}
 IsReading (Err wires.TooLong) read = ⊥
 IsReading (Err wires.NotCanonical) read = ⊥
 
--- the bytes begin with the spelling of a packet of that side, which takes so many of them
+-- the bytes begin with the spelling of a packet of that side, which takes `taken` of them
 pub record StandsInFront (side : Side) (bytes : List ℕ) (packet : Packet) (taken : ℕ) : Type 0 where
   pub has_spelling : HasSpelling packet
   pub is_sent : side_of packet ≡ side

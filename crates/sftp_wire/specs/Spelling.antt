@@ -97,7 +97,7 @@ is_known_extension name = list_any (bytes_eq name) (posix_rename_name ∷ hardli
 
 -- ---- packets
 
--- The type of a request's packet, and the fields behind its id (draft, sections 6 and 8; OpenSSH's PROTOCOL, section 4,
+-- The type of a request's packet, and the fields after its id (draft, sections 6 and 8; OpenSSH's PROTOCOL, section 4,
 -- for the order of SYMLINK's fields and for the data of the known extensions).
 abbrev pub ask_parts : Ask → ℕ × List ℕ
 ask_parts (asks.Open path pflags attrs) = (3, string path ++ (uint32 pflags ++ attributes attrs))
@@ -123,7 +123,7 @@ ask_parts (asks.Hardlink oldpath newpath) = (200, string hardlink_name ++ (strin
 ask_parts (asks.Fsync handle) = (200, string fsync_name ++ string handle)
 ask_parts (asks.Unknown name rest) = (200, string name ++ rest)
 
--- the type of a reply's packet, and the fields behind its id (draft, sections 7 and 8)
+-- the type of a reply's packet, and the fields after its id (draft, sections 7 and 8)
 abbrev pub answer_parts : Answer → ℕ × List ℕ
 answer_parts (answers.Status code message language) = (101, uint32 code ++ (string message ++ string language))
 answer_parts (answers.Handle handle) = (102, string handle)
@@ -136,7 +136,7 @@ answer_parts (answers.Extended bytes) = (201, bytes)
 abbrev pub with_id : ℕ → ℕ × List ℕ → List ℕ
 with_id id row = row.0 ∷ uint32 id ++ row.1
 
--- The bytes behind a packet's length (draft, sections 3 and 4). A request has an id of its own, and a reply has that of
+-- The bytes after a packet's length (draft, sections 3 and 4). A request has an id of its own, and a reply has that of
 -- its request.
 abbrev pub contents : Packet → List ℕ
 contents (Init version extensions) = 1 ∷ uint32 version ++ pairs extensions

@@ -115,7 +115,7 @@ fn pairs(alloc: Global, count: u32, body: &mut &[u8]) -> Result<Pairs, ReadError
     Ok(Pairs::new(pairs))
 }
 
-/// Pairs behind their count.
+/// Pairs after their count.
 #[tactic(auto, unfolding(crate::specs::Reading::counted_pairs_at))]
 fn counted_pairs(alloc: Global, body: &mut &[u8]) -> Result<Pairs, ReadError>
     ensures { Reads result body.new.now (counted_pairs_at body.old.now) }
@@ -154,7 +154,7 @@ fn optional_two_numbers(there: bool, body: &mut &[u8]) -> Result<Option<(u32, u3
     Ok(Some(two_numbers(body)?))
 }
 
-/// Optional pairs behind their count.
+/// Optional pairs after their count.
 fn optional_counted_pairs(
     alloc: Global,
     there: bool,
@@ -226,7 +226,7 @@ fn name_items(alloc: Global, count: u32, body: &mut &[u8]) -> Result<Names, Read
     Ok(Names::new(items))
 }
 
-/// Names behind their count.
+/// Names after their count.
 #[tactic(auto, unfolding(crate::specs::Reading::names_at))]
 pub(crate) fn names(alloc: Global, body: &mut &[u8]) -> Result<Names, ReadError>
     ensures { Reads result body.new.now (names_at body.old.now) }

@@ -59,7 +59,7 @@ fn remove_front(store: &mut Vec<u8>, count: usize)
 }
 
 /// Appends to the bytes from `start` on, without taking memory, and returns where they start then. They move only where
-/// the room behind them is too short, and so more than half of the capacity is free before them: each byte moves at
+/// the room after them is too short, and so more than half of the capacity is free before them: each byte moves at
 /// most once.
 fn append(store: &mut Vec<u8>, start: usize, more: &[u8]) -> usize
     requires starts_within { start ≤ vec_len store.old }

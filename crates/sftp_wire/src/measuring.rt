@@ -161,7 +161,7 @@ fn names_length(items: &Names) -> usize
     name_items_length(items).saturating_add(4)
 }
 
-/// The bytes of the fields behind the id of a request.
+/// The bytes of the fields after the id of a request.
 fn asked_length(ask: &Ask) -> usize
     ensures exact { result ≡ min (length ((ask_parts ask.now).1)) (2 ^ 64 - 1) }
     ensures fits { length ((ask_parts ask.now).1) < 2 ^ 32 → FitsAsk ask.now }
@@ -216,7 +216,7 @@ fn asked_length(ask: &Ask) -> usize
     }
 }
 
-/// The bytes of the fields behind the id of a reply.
+/// The bytes of the fields after the id of a reply.
 fn answered_length(answer: &Answer) -> usize
     ensures exact { result ≡ min (length ((answer_parts answer.now).1)) (2 ^ 64 - 1) }
     ensures fits { length ((answer_parts answer.now).1) < 2 ^ 32 → FitsAnswer answer.now }
@@ -235,7 +235,7 @@ fn answered_length(answer: &Answer) -> usize
     }
 }
 
-/// The bytes behind the packet's length.
+/// The bytes after the packet's length.
 pub(crate) fn contents_length(packet: &Packet) -> usize
     ensures exact { result ≡ min (length (contents packet.now)) (2 ^ 64 - 1) }
     ensures fits { length (contents packet.now) < 2 ^ 32 → FitsFields packet.now }

@@ -174,7 +174,7 @@ pub enum Ask {
     Fsync {
         handle: ByteString,
     },
-    /// Any other extension: its name, and the bytes behind it (draft, section 8).
+    /// Any other extension: its name, and the bytes after it (draft, section 8).
     Unknown {
         name: ByteString,
         rest: ByteString,

@@ -350,7 +350,7 @@ fn extended_reply(alloc: Global, body: &mut &[u8]) -> Result<Packet, ReadError>
     Ok(reply(id, Answer::Extended(bytes)))
 }
 
-/// The fields behind the type of a client's packet. Inlined, it would have each caller above it copy the packet field
+/// The fields after the type of a client's packet. Inlined, it would have each caller above it copy the packet field
 /// by field.
 #[tactic(auto, unfolding(crate::specs::Reading::client_packet_at))]
 #[inline(never)]
@@ -382,7 +382,7 @@ fn client_packet(alloc: Global, kind: u8, body: &mut &[u8]) -> Result<Packet, Re
     }
 }
 
-/// The fields behind the type of a server's packet. It is not inlined either.
+/// The fields after the type of a server's packet. It is not inlined either.
 #[tactic(auto, unfolding(crate::specs::Reading::server_packet_at))]
 #[inline(never)]
 fn server_packet(alloc: Global, kind: u8, body: &mut &[u8]) -> Result<Packet, ReadError>
@@ -400,7 +400,7 @@ fn server_packet(alloc: Global, kind: u8, body: &mut &[u8]) -> Result<Packet, Re
     }
 }
 
-/// The fields behind the type of a packet of that side.
+/// The fields after the type of a packet of that side.
 fn packet(alloc: Global, side: Side, kind: u8, body: &mut &[u8]) -> Result<Packet, ReadError>
     ensures { Reads result body.new.now (packet_at side kind body.old.now) }
 {
@@ -410,7 +410,7 @@ fn packet(alloc: Global, side: Side, kind: u8, body: &mut &[u8]) -> Result<Packe
     }
 }
 
-/// The packet behind a length.
+/// The packet after a length.
 #[tactic(auto, unfolding(crate::specs::Reading::packet_of))]
 fn whole_packet(alloc: Global, side: Side, bytes: &[u8]) -> Result<Packet, ReadError>
     ensures { Gives result (packet_of side bytes.now) }

@@ -184,7 +184,7 @@ fn put_attributes(out: &mut Vec<u8>, attrs: &Attrs) -> Result<(), AllocError>
     Ok(())
 }
 
-/// The type of a packet, and the number behind it: a version or an id.
+/// The type of a packet, and the number after it: a version or an id.
 fn put_type_and_number(out: &mut Vec<u8>, kind: u8, number: u32) -> Result<(), AllocError>
     ensures ok { OnOk result (out.new.items ≡ out.old.items ++ (kind ∷ uint32 number)) }
     ensures err { OnErr result (Extends out.old.items out.new.items) }
@@ -410,7 +410,7 @@ fn asked_type(ask: &Ask) -> u8
     }
 }
 
-/// The fields behind the id of a request.
+/// The fields after the id of a request.
 fn put_ask_fields(out: &mut Vec<u8>, ask: &Ask) -> Result<(), AllocError>
     requires { length ((ask_parts ask.now).1) < 2 ^ 32 }
     ensures ok { OnOk result (out.new.items ≡ out.old.items ++ (ask_parts ask.now).1) }
@@ -488,7 +488,7 @@ fn answered_type(answer: &Answer) -> u8
     }
 }
 
-/// The fields behind the id of a reply.
+/// The fields after the id of a reply.
 fn put_answer_fields(out: &mut Vec<u8>, answer: &Answer) -> Result<(), AllocError>
     requires { length ((answer_parts answer.now).1) < 2 ^ 32 }
     ensures ok { OnOk result (out.new.items ≡ out.old.items ++ (answer_parts answer.now).1) }

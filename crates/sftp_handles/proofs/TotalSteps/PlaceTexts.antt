@@ -33,7 +33,7 @@ name-bytes (b ∷ name) is =
     let byte = and_parts (nat_lt b 256) (not (b == 0) && not (b == 47)) parts.0 in
     (ltb-true b 256 byte.0, name-bytes name parts.1)
 
--- ---- names, each behind a `/`
+-- ---- names, each after a `/`
 
 pub name-parts : (name : Name) → is_name name ≡ true → (length name ≤ 255) × AreBytes name
 name-parts name is = grind (arith, and_parts, leb-true, name-bytes)

@@ -121,7 +121,7 @@ item_of text attrs = record { filename = text; longname = []; attrs = attrs }
 abbrev name_of : List ℕ → Attrs → Answer
 name_of text attrs = replies.Name (item_of text attrs ∷ [])
 
--- the fields behind the name
+-- the fields after the name
 behind : (text : List ℕ) → length ((text ++ (string [] ++ attributes no_attributes)) ++ []) ≡ length text + 8
 behind text = grind (arith, length-append)
 
@@ -150,7 +150,7 @@ name-sayable id text small fits short = record {
 
 -- ---- the first name of a listing
 
--- the fields behind the name, with attributes
+-- the fields after the name, with attributes
 behind_said : (text : List ℕ) (size uid gid permissions : ℕ)
     → length ((text ++ (string [] ++ attributes (said size uid gid permissions))) ++ []) ≡ length text + 28
 behind_said text size uid gid permissions = grind (arith, length-append)

@@ -72,7 +72,7 @@ module _ {X : Type 0} (old new : Place) where
   unfolding rekeyed from_entries
   rekeyed-empty = refl
 
-  -- no entry in front comes to the place of one behind
+  -- no entry in front comes to the place of one after
   last-alone : (before : Table Place X) (e : Place × X) (rest : Table Place X)
       → InOrder place_cmp (before ++ e ∷ rest) → NothingFrom (before ++ e ∷ rest) new
       → get place_cmp (map (renamed_entry old new) before) (renamed old new e.0) ≡ None

@@ -8,7 +8,7 @@ use Rattle.std.proofs.lemmas.List.{append-nil}
 use Rattle.sftp_path.specs.Place.{is_inner, is_name, are_names, absolute, parts, components, is_nonempty, is_absolute}
 use Rattle.sftp_path.specs.Place.{Name, Place}
 use Rattle.sftp_path.specs.Text.{IsTextOf}
-use Rattle.sftp_path.specs.Cut.{begins_at_slash, parts_behind}
+use Rattle.sftp_path.specs.Cut.{begins_at_slash, parts_after}
 use Rattle.sftp_path.proofs.PathTexts.Splitting.{parts-whole, parts-append, parts-from_slash, parts-slash}
 use Rattle.sftp_path.proofs.PathTexts.Splitting.{components-slash, components-nil, components-are}
 use Rattle.sftp_path.proofs.PathTexts.GoodPaths.{list_all-weaker, list_all-between, filter_all}
@@ -42,7 +42,7 @@ is_absolute-absolute (n ∷ ns) = refl
 
 -- what a text that starts at the root begins with
 pub is_absolute-begins : (text : List ℕ) → is_absolute text ≡ true
-    → (begins_at_slash text ≡ true) × (parts text ≡ [] ∷ parts_behind text) × (0 < length text)
+    → (begins_at_slash text ≡ true) × (parts text ≡ [] ∷ parts_after text) × (0 < length text)
 is_absolute-begins [] h = absurd (false≢true h)
 is_absolute-begins (b ∷ bs) h = (h, parts-slash b bs h, omega arith)
 

@@ -11,7 +11,7 @@ use Rattle.std.proofs.lemmas.List.{drop_all, length-drop, take_rest}
 use Rattle.std.proofs.lemmas.Option.{cond_some, none-some}
 use Rattle.sftp_path.specs.Place.{is_inner, name_limit, with_first, parts, components, is_nonempty}
 use Rattle.sftp_path.specs.Text.{with_slashes}
-use Rattle.sftp_path.specs.Cut.{begins_at_slash, parts_behind}
+use Rattle.sftp_path.specs.Cut.{begins_at_slash, parts_after}
 
 -- ---- parts
 
@@ -40,17 +40,17 @@ parts-from_slash bs = parts-slash 47 bs refl
 
 -- the first part ends before the first `/`
 pub parts-cut : (bs : List ℕ) (n : ℕ) → ((k : ℕ) → k < n → slice_index bs k ≢ 47)
-    → (n < length bs → slice_index bs n ≡ 47) → parts bs ≡ take n bs ∷ parts_behind (drop n bs)
+    → (n < length bs → slice_index bs n ≡ 47) → parts bs ≡ take n bs ∷ parts_after (drop n bs)
 parts-cut [] zero before at = parts-nil
 parts-cut [] (suc n) before at = parts-nil
 parts-cut (b ∷ bs) zero before at = parts-slash b bs (eq-eqb b 47 (at (omega arith)))
 parts-cut (b ∷ bs) (suc n) before at = parts-inner b bs (ne_eqb b 47 (before 0 (omega arith)))
     ∙ ap (with_first b) (parts-cut bs n (λ k h. before (suc k) (omega arith)) (λ h. at (omega arith)))
 
--- the parts behind the first byte
-pub parts_behind-first : (bs : List ℕ) → 1 ≤ length bs → parts (take (length bs - 1) (drop 1 bs)) ≡ parts_behind bs
-parts_behind-first [] h = absurd (omega arith)
-parts_behind-first (b ∷ bs) h = ap parts (take_rest (b ∷ bs) 1)
+-- the parts after the first byte
+pub parts_after-first : (bs : List ℕ) → 1 ≤ length bs → parts (take (length bs - 1) (drop 1 bs)) ≡ parts_after bs
+parts_after-first [] h = absurd (omega arith)
+parts_after-first (b ∷ bs) h = ap parts (take_rest (b ∷ bs) 1)
 
 -- what has no `/` is the first part of whatever a `/` follows
 pub parts-append : (w r : List ℕ) → list_all is_inner w ≡ true → parts (w ++ 47 ∷ r) ≡ w ∷ parts r
@@ -86,7 +86,7 @@ pub components-slash : (bs : List ℕ) → components (47 ∷ bs) ≡ components
 components-slash bs = components-are (47 ∷ bs) ∙ ap (filter is_nonempty) (parts-from_slash bs) ∙ sym (components-are bs)
 
 -- what follows a part gives the components that are left
-pub components-behind : (bs : List ℕ) → begins_at_slash bs ≡ true → components bs ≡ filter is_nonempty (parts_behind bs)
+pub components-behind : (bs : List ℕ) → begins_at_slash bs ≡ true → components bs ≡ filter is_nonempty (parts_after bs)
 components-behind [] h = components-nil
 components-behind (b ∷ bs) h = components-are (b ∷ bs) ∙ ap (filter is_nonempty) (parts-slash b bs h)
 
@@ -96,7 +96,7 @@ filter-nonempty [] ws h = absurd (omega arith)
 filter-nonempty (b ∷ w) ws h = grind (arith, cond-true, lt-ltb)
 
 -- the first slash-less part of what a `/` or nothing follows, where that part is not empty
-pub components-cut : (bs w r : List ℕ) → parts bs ≡ w ∷ parts_behind r → begins_at_slash r ≡ true → 0 < length w
+pub components-cut : (bs w r : List ℕ) → parts bs ≡ w ∷ parts_after r → begins_at_slash r ≡ true → 0 < length w
     → components bs ≡ w ∷ components r
 components-cut bs w r cut behind some = grind (arith, components-are, filter-nonempty, components-behind)
 
@@ -125,7 +125,7 @@ position-some bs n h = grind (arith, cond_some, ltb-true)
 
 -- from the first byte on that is no `/`, the first part is the first component
 pub components-next : (bs w r : List ℕ) (n : ℕ) → position is_inner bs ≡ Some n
-    → take (length bs - n) (drop n bs) ≡ w ++ r → parts (take (length bs - n) (drop n bs)) ≡ w ∷ parts_behind r
+    → take (length bs - n) (drop n bs) ≡ w ++ r → parts (take (length bs - n) (drop n bs)) ≡ w ∷ parts_after r
     → begins_at_slash r ≡ true → components bs ≡ w ∷ components r
 components-next bs w r n found whole cut behind =
     let p = position-some bs n found in
@@ -182,7 +182,7 @@ components-none_left bs (Some n) false e h = grind (arith, components-there, pos
 
 -- the first place of a `/`, or the end, cuts the first part off
 pub parts-found : (bs : List ℕ) (r : Option ℕ) → IsFirstByte (is_byte 47) bs r
-    → parts bs ≡ take (unwrap_or r (length bs)) bs ∷ parts_behind (drop (unwrap_or r (length bs)) bs)
+    → parts bs ≡ take (unwrap_or r (length bs)) bs ∷ parts_after (drop (unwrap_or r (length bs)) bs)
 parts-found bs None h = grind (arith, parts-cut, eq-eqb)
 parts-found bs (Some n) h = grind (arith, parts-cut, eq-eqb, eqb-true)
 

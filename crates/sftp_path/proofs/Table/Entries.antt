@@ -55,7 +55,7 @@ module _ {K X : Type 0} (cmp : K → K → Ordering) where
       → (is_eq (cmp key e.0) ≡ false) × (get cmp es key ≡ None)
   get-none e es key h = none-parts (is_eq (cmp key e.0)) e.1 (get cmp es key) (sym (get-cons cmp e es key) ∙ h)
 
-  -- a key has no value: neither in front, nor behind
+  -- a key has no value: neither in front, nor after
   pub get-none_front : (es fs : Table K X) (key : K) → get cmp (es ++ fs) key ≡ None → get cmp es key ≡ None
   get-none_front [] fs key h = get-empty cmp key
   get-none_front (x ∷ xs) fs key h = grind (arith, get-none, get-cons, get-none_front xs fs key)
@@ -70,7 +70,7 @@ module _ {K X : Type 0} (cmp : K → K → Ordering) where
   InOrder-front (x ∷ xs) fs h = (all-front (λ k. cmp x.0 k ≡ Less) xs fs h.0, InOrder-front xs fs h.1)
 
   module _ (total : IsTotalOrder cmp) (same : IsAntisymmetric cmp) where
-    -- in a table in order no entry in front has the key of one behind
+    -- in a table in order no entry in front has the key of one after
     pub get-front : (es : Table K X) (e : K × X) (fs : Table K X) → InOrder cmp (es ++ e ∷ fs) → get cmp es e.0 ≡ None
     unfolding IsStrictlySortedBy
     get-front [] e fs h = get-empty cmp e.0

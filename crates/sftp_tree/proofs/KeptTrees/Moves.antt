@@ -40,7 +40,7 @@ parent-append p n ns =
     let less : length (p ++ n ∷ ns) - 1 ≡ length p + (length (n ∷ ns) - 1) = omega (arith, length-append p (n ∷ ns)) in
     ap (λ k. take k (p ++ n ∷ ns)) less ∙ take-append-add p (n ∷ ns) (length (n ∷ ns) - 1)
 
--- of other names in front, those behind stay names
+-- of other names in front, those after stay names
 names-behind : (old new rest : Place) → IsTrue (are_names new) → IsTrue (are_names (old ++ rest)) → IsTrue (are_names (new ++ rest))
 names-behind old new rest named h =
     let parts = and_parts (are_names old) (are_names rest) (sym (list_all-append is_name old rest) ∙ h) in

@@ -93,7 +93,7 @@ renamed-depth old new place fit before = by (begins old place) refl
     by true begun = deeper depth_limit (length (renamed old new place)) (length old) (length place) (length new) (length-renamed old new place begun) (begins-length old place begun) fit
     by false apart = ap depth_fits (renamed-outside old new place apart) ∙ before
 
--- all places are not too deep after the move where the new one is not, and none that moves reaches too far behind the old one
+-- all places are not too deep after the move where the new one is not, and none that moves reaches too far after the old one
 pub depths-moved : (names : Names) (old new : Place) → list_all (λ e. depth_fits e.0) names ≡ true → is_taken (node_at names old) ≡ true → list_all (λ e. depth_fits (renamed old new e.0)) names ≡ move_fits names old new
 depths-moved names old new all taken = by (nat_le (length new) depth_limit) refl
   where

@@ -28,7 +28,7 @@ use Rattle.sftp_tree.proofs.Nesting.Tables.{sorted-flat_of}
 use Rattle.sftp_tree.proofs.PlaceTables.Rising.{all_both, insert_last, keys_append, sorted_push, sorted_right, sorted_before}
 use Rattle.sftp_tree.proofs.TreeFiles.Tables.{root_first}
 
--- ---- a child behind all others
+-- ---- a child after all others
 
 -- a child has an entry of its own, which comes first
 pub record Starts (names : Names) : Type 0 where
@@ -183,7 +183,7 @@ pub dir_branch : (owner : Owner) (cs : Children) → AreChildren cs → IsBranch
 unfolding get
 dir_branch owner cs are = (sorted-flat_of owner cs are, refl)
 
--- ---- an entry behind all others
+-- ---- an entry after all others
 
 -- a place whose parent an open one begins with
 pub front_open : (place front above : Place) (name : Name) → place ≡ front ++ name ∷ []

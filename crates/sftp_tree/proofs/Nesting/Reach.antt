@@ -107,7 +107,7 @@ both-ways true b to from = sym (to refl)
 both-ways false true to from = from refl
 both-ways false false to from = refl
 
--- a test of the places at or below another is a test of what is behind it
+-- a test of the places at or below another is a test of what is after it
 behind : (top rest : Place) (room : ℕ)
     → (not (begins top (top ++ rest)) || nat_le (length (top ++ rest) - length top) room) ≡ nat_le (length rest) room
 behind top rest room =
@@ -132,7 +132,7 @@ keys-pass test (e ∷ es) passes = and_from (test e.0) (list_all (λ e. test e.0
     behind : (q : Place) → is_taken (node_at es q) ≡ true → is_taken (node_at (e ∷ es) q) ≡ true
     behind q taken = ap is_taken (get-cons place_cmp e es q) ∙ by q (is_eq (place_cmp q e.0)) taken
 
--- whether a place that begins with the top has at most so many names behind it
+-- whether a place that begins with the top has at most so many names after it
 few : Place → ℕ → Place → Bool
 few top room q = not (begins top q) || nat_le (length q - length top) room
 
@@ -162,7 +162,7 @@ reach-alike names below top room alike =
     from all = keys-pass (λ place. nat_le (length place) room) below (λ q taken. sym (behind top q room)
         ∙ place-passes (few top room) (top ++ q) names all (ap is_taken (sym (alike q)) ∙ taken))
 
--- where nothing is below a place, no names are behind it
+-- where nothing is below a place, no names are after it
 pub reach-leaf : (names : Names) (top : Place) (room : ℕ) → has_entries names top ≡ false
     → reaches_at_most names top room ≡ true
 unfolding few

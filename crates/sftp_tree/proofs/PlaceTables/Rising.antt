@@ -92,7 +92,7 @@ pub lookup_found : {K X : Type 0} (test : K → Bool) (xs : List (K × X)) (y : 
 lookup_found test [] y ys h = (y.1, rw h refl)
 lookup_found test (x ∷ xs) y ys h = cond_found (test x.0) x.1 (lookup test (xs ++ y ∷ ys)) (lookup_found test xs y ys h)
 
--- an entry behind all others
+-- an entry after all others
 pub insert_last : {K X : Type 0} {R : K → K → Ordering} → IsTotalOrder R → (es : List (K × X)) (k : K) (v : X) → AllByRecursion (λ q. R q k ≡ Less) (keys_of es) → insert_entry R es k v ≡ es ++ (k, v) ∷ []
 insert_last o [] k v below = refl
 insert_last {R = R} o (e ∷ es) k v below =

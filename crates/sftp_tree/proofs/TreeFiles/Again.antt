@@ -16,8 +16,8 @@ use Rattle.sftp_tree.specs.declared.file_contents.Content.{Content}
 use Rattle.sftp_tree.specs.declared.nodes.Node.{Node}
 use Rattle.sftp_tree.specs.declared.nodes.Node.TheVariants.{File}
 use Rattle.sftp_tree.specs.Tree.{Names, Files, IsNode, content_at}
-use Rattle.sftp_tree.specs.Picture.{entry_naming, naming, kind_of, rows_behind, is_given_or_next, given_with, is_numbered}
-use Rattle.sftp_tree.specs.PictureParts.{content_of, contents_of, node_of, entry_of, entries_behind, names_of}
+use Rattle.sftp_tree.specs.Picture.{entry_naming, naming, kind_of, rows_after, is_given_or_next, given_with, is_numbered}
+use Rattle.sftp_tree.specs.PictureParts.{content_of, contents_of, node_of, entry_of, entries_after, names_of}
 use Rattle.sftp_tree.proofs.TreeFiles.Numbers.{made_by, made_push, first_at, made_front, front_taken, first_of_number, rows_join, names_push, all_below, none_named, first_is_named}
 use Rattle.sftp_tree.proofs.TreeFiles.Contents.{AreContents, contents_behind}
 use Rattle.sftp_tree.proofs.TreeFiles.Named.{row_of, rows_cons, IsBelowRoot}
@@ -36,7 +36,7 @@ kind_again root files earlier (kinds.Further entry) more front fits there =
 kind_again root files earlier other more front fits there = refl
 
 pub rows_again : (root : Owner) (files : Files) (earlier rows : List Row) → AreRows usual_limits [] earlier → AreRows usual_limits earlier rows → AreContents files (made_by earlier) (contents_of rows)
-    → rows_behind files (names_of root earlier) (entries_behind earlier rows) ≡ rows
+    → rows_after files (names_of root earlier) (entries_after earlier rows) ≡ rows
 rows_again root files earlier [] front fit there = refl
 rows_again root files earlier (row ∷ rows) front fit there =
     let more = earlier ++ row ∷ [] in
@@ -45,8 +45,8 @@ rows_again root files earlier (row ∷ rows) front fit there =
     let behind : AreContents files (made_by more) (contents_of rows) =
     subst (λ n. AreContents files n (contents_of rows)) (sym (made_push earlier row)) (contents_behind files (made_by earlier) (content_of row.kind) (contents_of rows) there) in
     let rest = rows_again root files more rows (rows_join [] earlier (row ∷ []) front (fit.0, tt)) fit.1 behind in
-    rows_cons files (names_of root earlier) (entry_of earlier row) (entries_behind more rows) fit.0.below_root
-    ∙ (λ i. same i ∷ rows_behind files (sym (names_push root earlier row) i) (entries_behind more rows))
+    rows_cons files (names_of root earlier) (entry_of earlier row) (entries_after more rows) fit.0.below_root
+    ∙ (λ i. same i ∷ rows_after files (sym (names_push root earlier row) i) (entries_after more rows))
     ∙ ap (λ (rs : List Row). row ∷ rs) rest
 
 -- ---- rows number their files in the order of their first names
@@ -68,11 +68,11 @@ given_is earlier (kinds.Further entry) fits =
     cond-false (number == made_by earlier) (suc (made_by earlier)) (made_by earlier) (ne_eqb number (made_by earlier) other) ∙ omega arith
 given_is earlier other fits = omega arith
 
-pub rows_numbered : (earlier rows : List Row) → AreRows usual_limits earlier rows → IsTrue (is_numbered (made_by earlier) (entries_behind earlier rows) (made_by (earlier ++ rows)))
+pub rows_numbered : (earlier rows : List Row) → AreRows usual_limits earlier rows → IsTrue (is_numbered (made_by earlier) (entries_after earlier rows) (made_by (earlier ++ rows)))
 rows_numbered earlier [] fit = eq-eqb (made_by earlier) (made_by (earlier ++ [])) (ap made_by (sym (append-nil earlier)))
 rows_numbered earlier (row ∷ rows) fit =
     let more = earlier ++ row ∷ [] in
-    let entries = entries_behind more rows in
+    let entries = entries_after more rows in
     let made = made_by (earlier ++ row ∷ rows) in
     let given = given_with (node_of earlier row.kind) (made_by earlier) in
     let same : made_by more ≡ given = made_push earlier row ∙ sym (given_is earlier row.kind fit.0.kind) in
@@ -81,7 +81,7 @@ rows_numbered earlier (row ∷ rows) fit =
 
 -- ---- entries, from their rows
 
--- what the row of an entry behind rows says
+-- what the row of an entry after rows says
 pub record Comes (root : Owner) (files : Files) (rows : List Row) (standing : Node) (kind : Kind) : Type 0 where
   pub again : node_of rows kind ≡ standing
   pub given : given_with standing (made_by rows) ≡ made_by rows + length (content_of kind)
@@ -126,9 +126,9 @@ contents_join files number (x ∷ xs) ys a b =
     let same : number + length (x ∷ xs) ≡ suc number + length xs = omega arith in
     (a.0, contents_join files (suc number) xs ys a.1 (subst (λ n. AreContents files n ys) same b))
 
--- entries behind rows, whose own rows come behind them
+-- entries after rows, whose own rows come after them
 pub record Again (files : Files) (earlier rows : List Row) (entries : Names) (made : ℕ) : Type 0 where
-  pub entries_are : entries_behind earlier rows ≡ entries
+  pub entries_are : entries_after earlier rows ≡ entries
   pub made_is : made_by (earlier ++ rows) ≡ made
   pub contents : AreContents files (made_by earlier) (contents_of rows)
 
@@ -140,13 +140,13 @@ again_behind root files earlier e row rows es made same there more = record {
   contents = contents_join files (made_by earlier) (content_of row.kind) (contents_of rows) there (subst (λ n. AreContents files n (contents_of rows)) (made_push earlier row) more.contents);
 }
 
-pub entries_again : (root : Owner) (files : Files) (earlier : List Row) (front es : Names) (made : ℕ) → names_of root earlier ≡ front → AreRows usual_limits [] earlier → AreRows usual_limits earlier (rows_behind files front es)
-    → AllByRecursion IsBelowRoot es → AllByRecursion (λ e. IsNode files e.1) es → IsTrue (is_numbered (made_by earlier) es made) → Again files earlier (rows_behind files front es) es made
+pub entries_again : (root : Owner) (files : Files) (earlier : List Row) (front es : Names) (made : ℕ) → names_of root earlier ≡ front → AreRows usual_limits [] earlier → AreRows usual_limits earlier (rows_after files front es)
+    → AllByRecursion IsBelowRoot es → AllByRecursion (λ e. IsNode files e.1) es → IsTrue (is_numbered (made_by earlier) es made) → Again files earlier (rows_after files front es) es made
 entries_again root files earlier front [] made same before fit below there numbered =
     record { entries_are = refl; made_is = ap made_by (append-nil earlier) ∙ eqb-true (made_by earlier) made numbered; contents = tt }
 entries_again root files earlier front (e ∷ es) made same before fit below there numbered =
     let row = row_of files front e in
-    let rows = rows_behind files (front ++ e ∷ []) es in
+    let rows = rows_after files (front ++ e ∷ []) es in
     let rows-are = rows_cons files front e es below.0.1 in
     let fits : AreRows usual_limits earlier (row ∷ rows) = subst (AreRows usual_limits earlier) rows-are fit in
     let n = and_parts (is_given_or_next e.1 (made_by earlier)) (is_numbered (given_with e.1 (made_by earlier)) es made) numbered in

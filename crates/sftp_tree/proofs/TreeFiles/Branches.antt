@@ -19,7 +19,7 @@ use Rattle.sftp_tree.specs.declared.nodes.Node.TheVariants.{Dir}
 use Rattle.sftp_tree.specs.declared.pictures.branches.Progress.{Progress}
 use Rattle.sftp_tree.specs.Tree.{Names, Files, Tree, IsKept, node_at, is_directory}
 use Rattle.sftp_tree.specs.Nesting.{Children, branch, placed, flat, IsBranch, AreBranches}
-use Rattle.sftp_tree.specs.Picture.{rows_behind}
+use Rattle.sftp_tree.specs.Picture.{rows_after}
 use Rattle.sftp_tree.specs.PictureParts.{only_root, Firsts, firsts_with, known_kind}
 use Rattle.sftp_tree.specs.Written.{text_of, rows_from, firsts_from, AreWritable}
 use Rattle.sftp_tree.proofs.Limits.Tests.{stands-of}
@@ -29,7 +29,7 @@ use Rattle.sftp_tree.proofs.TreeFiles.Named.{rows_cons, IsBelowRoot}
 use Rattle.sftp_tree.proofs.TreeFiles.Tables.{IsFitNode, root_first, root_at}
 use Rattle.sftp_tree.proofs.TreeFiles.Written.{AreFirsts, firsts_push, known, path_short, node_short, names_count}
 
--- ---- one table behind another
+-- ---- one table after another
 
 pub rows_both : (files : Files) (firsts : Firsts) (next : ℕ) (text : List ℕ) (xs ys : Names)
     → rows_from files firsts next text (xs ++ ys)
@@ -185,7 +185,7 @@ text_absolute [] below = absurd (omega arith)
 text_absolute (n ∷ ns) below = refl
 
 rows_are : (files : Files) (firsts : Firsts) (front es : Names) → AreFirsts firsts front → AllByRecursion IsBelowRoot es
-    → rows_from files firsts (length front) [] es ≡ rows_behind files front es
+    → rows_from files firsts (length front) [] es ≡ rows_after files front es
 rows_are files firsts front [] are below = refl
 rows_are files firsts front (e ∷ es) are below =
     let more = firsts_push firsts front e are in
@@ -215,15 +215,15 @@ tree_few t kept =
     let s = split_tree t (stands-of t kept) in
     omega (arith, ap length (ap (drop 1) s.names_are), ap length s.names_are, (names_count t kept).1)
 
--- and they are written behind the root, which has none
+-- and they are written after the root, which has none
 pub tree_written : (t : Tree) → IsKept t → (firsts : Firsts) → firsts ≡ []
-    → rows_from t.files firsts 1 [] (drop 1 t.names) ≡ rows_behind t.files [] t.names
+    → rows_from t.files firsts 1 [] (drop 1 t.names) ≡ rows_after t.files [] t.names
 tree_written t kept firsts none =
     let s = split_tree t (stands-of t kept) in
     let are : AreFirsts firsts (only_root s.root) =
     λ number. ap (λ (f : Firsts). get nat_cmp f number) none ∙ get-empty nat_cmp number in
     ap (rows_from t.files firsts 1 []) (ap (drop 1) s.names_are)
-    ∙ rows_are t.files firsts (only_root s.root) s.entries are s.below ∙ ap (rows_behind t.files []) (sym s.names_are)
+    ∙ rows_are t.files firsts (only_root s.root) s.entries are s.below ∙ ap (rows_after t.files []) (sym s.names_are)
 
 -- ---- a directory, and then what is below it
 

@@ -23,8 +23,8 @@ use Rattle.sftp_tree.specs.declared.file_contents.Content.{Content}
 use Rattle.sftp_tree.specs.declared.nodes.Node.{Node}
 use Rattle.sftp_tree.specs.declared.nodes.Node.TheVariants.{Dir, File, Link}
 use Rattle.sftp_tree.specs.Tree.{Names, Files, Tree, WellFormed, IsKept, IsNode, IsContent, limits, node_at, content_at, names_file, times_named, is_named, is_pinned, fits, depths_fit, depth_fits, home_fits, links_fit, link_fits, files_fit, content_fits}
-use Rattle.sftp_tree.specs.Picture.{rows_behind, root_owner, is_numbered, file_of, picture, IsStart, blank}
-use Rattle.sftp_tree.specs.PictureParts.{content_of, contents_of, node_of, entry_of, entries_behind, only_root, names_of, numbered_from, tree_of}
+use Rattle.sftp_tree.specs.Picture.{rows_after, root_owner, is_numbered, file_of, picture, IsStart, blank}
+use Rattle.sftp_tree.specs.PictureParts.{content_of, contents_of, node_of, entry_of, entries_after, only_root, names_of, numbered_from, tree_of}
 use Rattle.sftp_tree.proofs.PlaceTables.Rising.{all_both, all_together, all_right}
 use Rattle.sftp_tree.proofs.TreeFiles.Tables.{IsPlace, IsFitNode, IsTable, bare_names, text_place, root_table, table_of_rows, rows_of_table, root_first, root_at, entries_below}
 use Rattle.sftp_tree.proofs.TreeFiles.Shapes.{table_bare, table_from_bare, names_bare}
@@ -94,8 +94,8 @@ names_each : (root : Owner) (rows : List Row) (number : ℕ) → number < made_b
 names_each root rows number below =
     let f = first_of_number rows number below in
     let here : IsTrue (names_file number (node_of f.at.front f.at.row.kind)) = subst (λ n. IsTrue (names_file n (node_of f.at.front f.at.row.kind))) f.number_is (first_names f.at.front f.at.row.kind f.at.first) in
-    let many = named_between number (names_of root f.at.front) (entry_of f.at.front f.at.row) (entries_behind (f.at.front ++ f.at.row ∷ []) f.at.rest) here in
-    subst (λ (names : Names). IsTrue (is_named names number)) (sym (ap (names_of root) f.at.rows_are ∙ names_split root f.at.front (f.at.row ∷ f.at.rest))) (lt-ltb 0 (times_named (names_of root f.at.front ++ entries_behind f.at.front (f.at.row ∷ f.at.rest)) number) many)
+    let many = named_between number (names_of root f.at.front) (entry_of f.at.front f.at.row) (entries_after (f.at.front ++ f.at.row ∷ []) f.at.rest) here in
+    subst (λ (names : Names). IsTrue (is_named names number)) (sym (ap (names_of root) f.at.rows_are ∙ names_split root f.at.front (f.at.row ∷ f.at.rest))) (lt-ltb 0 (times_named (names_of root f.at.front ++ entries_after f.at.front (f.at.row ∷ f.at.rest)) number) many)
 
 -- ---- from a tree file to its tree
 
@@ -150,8 +150,8 @@ numbered_of_file file is = rows_numbered [] file.rows (rows_fit file is)
 
 pub file_again : (file : TreeFile) → IsTreeFile file → file_of (tree_of file) ≡ file
 file_again file is =
-    let root : root_owner (node_at (names_of file.root file.rows) []) ≡ file.root = ap root_owner (root_at file.root (entries_behind [] file.rows)) in
-    let rows : rows_behind (numbered_from 0 (contents_of file.rows)) (only_root file.root) (entries_behind [] file.rows) ≡ file.rows =
+    let root : root_owner (node_at (names_of file.root file.rows) []) ≡ file.root = ap root_owner (root_at file.root (entries_after [] file.rows)) in
+    let rows : rows_after (numbered_from 0 (contents_of file.rows)) (only_root file.root) (entries_after [] file.rows) ≡ file.rows =
     rows_again file.root (numbered_from 0 (contents_of file.rows)) [] file.rows tt (rows_fit file is) (numbered_contents (contents_of file.rows)) in
     λ i. record { limits = file.limits; home = sym is.home.one i; uid = file.uid; gid = file.gid; root = root i; rows = rows i }
 
@@ -217,9 +217,9 @@ fit_files t kept =
     let fit = each-all (λ (e : ℕ × Content). content_fits (limits t) e.1) t.files (limits_from t kept.within_limits).files in
     content_fit t.files kept.well_formed.contents (subst (λ (bounds : TreeLimits). AllByRecursion (λ (e : ℕ × Content). IsTrue (content_fits bounds e.1)) t.files) kept.well_formed.limits fit)
 
-rows_of_split : (t : Tree) → Stands t → (s : Split t) → AreRows usual_limits [] (rows_behind t.files (only_root s.root) s.entries)
+rows_of_split : (t : Tree) → Stands t → (s : Split t) → AreRows usual_limits [] (rows_after t.files (only_root s.root) s.entries)
 rows_of_split t kept s =
-    let rows = rows_behind t.files (only_root s.root) s.entries in
+    let rows = rows_after t.files (only_root s.root) s.entries in
     let table : IsTable s.root (bare_names s.root rows) =
     subst (IsTable s.root) (ap (λ (es : Names). only_root s.root ++ es) (sym (rows_bare t.files (only_root s.root) s.entries s.below))) (table_bare s.root (only_root s.root ++ s.entries) s.table) in
     let fit = all_right (λ (e : Place × Node). IsFitNode e.1) (only_root s.root) s.entries s.table.nodes in
@@ -230,7 +230,7 @@ pub file_of_tree : (t : Tree) → Stands t → IsTreeFile (file_of t)
 file_of_tree t kept =
     let s = split_tree t kept in
     let l = limits_from t kept.within_limits in
-    let rows : rows_behind t.files [] t.names ≡ rows_behind t.files (only_root s.root) s.entries = ap (rows_behind t.files []) s.names_are in
+    let rows : rows_after t.files [] t.names ≡ rows_after t.files (only_root s.root) s.entries = ap (rows_after t.files []) s.names_are in
     record {
       limits = kept.well_formed.limits;
       home = place_text t.home (kept.well_formed.home, l.home);
@@ -238,21 +238,21 @@ file_of_tree t kept =
       gid = kept.well_formed.gid;
       count = omega (arith, ap length rows, length-rows t.files (only_root s.root) s.entries s.below, s.few);
       root = subst IsOwner (sym (root_of_split t s)) s.table.nodes.0;
-      rows = subst (λ (bounds : TreeLimits). AreRows bounds [] (rows_behind t.files [] t.names)) (sym kept.well_formed.limits) (subst (AreRows usual_limits []) (sym rows) (rows_of_split t kept s));
+      rows = subst (λ (bounds : TreeLimits). AreRows bounds [] (rows_after t.files [] t.names)) (sym kept.well_formed.limits) (subst (AreRows usual_limits []) (sym rows) (rows_of_split t kept s));
     }
 
 pub tree_again : (t : Tree) → Stands t → t.pins ≡ [] → IsTrue (is_numbered 0 t.names t.made) → tree_of (file_of t) ≡ t
 tree_again t kept unpinned numbered =
     let s = split_tree t kept in
     let fit = rows_of_split t kept s in
-    let rows : rows_behind t.files [] t.names ≡ rows_behind t.files (only_root s.root) s.entries = ap (rows_behind t.files []) s.names_are in
+    let rows : rows_after t.files [] t.names ≡ rows_after t.files (only_root s.root) s.entries = ap (rows_after t.files []) s.names_are in
     let a = entries_again s.root t.files [] (only_root s.root) s.entries t.made refl tt fit s.below s.nodes (subst (λ (names : Names). IsTrue (is_numbered 0 names t.made)) s.names_are numbered) in
-    let names : names_of (root_owner (node_at t.names [])) (rows_behind t.files [] t.names) ≡ t.names =
+    let names : names_of (root_owner (node_at t.names [])) (rows_after t.files [] t.names) ≡ t.names =
     (λ i. names_of (root_of_split t s i) (rows i)) ∙ ap (λ (es : Names). only_root s.root ++ es) a.entries_are ∙ sym s.names_are in
-    let made : made_by (rows_behind t.files [] t.names) ≡ t.made = ap made_by rows ∙ a.made_is in
-    let files : numbered_from 0 (contents_of (rows_behind t.files [] t.names)) ≡ t.files =
+    let made : made_by (rows_after t.files [] t.names) ≡ t.made = ap made_by rows ∙ a.made_is in
+    let files : numbered_from 0 (contents_of (rows_after t.files [] t.names)) ≡ t.files =
     ap (λ (rs : List Row). numbered_from 0 (contents_of rs)) rows
-    ∙ numbered_again t.files (contents_of (rows_behind t.files (only_root s.root) s.entries)) kept.well_formed.numbered (subst (λ n. AllByRecursion (λ e. e.0 < n) t.files) (sym a.made_is) kept.well_formed.given) a.contents in
+    ∙ numbered_again t.files (contents_of (rows_after t.files (only_root s.root) s.entries)) kept.well_formed.numbered (subst (λ n. AllByRecursion (λ e. e.0 < n) t.files) (sym a.made_is) kept.well_formed.given) a.contents in
     λ i. record { names = names i; files = files i; made = made i; pins = sym unpinned i; limits = t.limits; home = components-absolute t.home kept.well_formed.home i; uid = t.uid; gid = t.gid }
 
 -- the place that a text was found to be of

@@ -19,14 +19,14 @@ use Rattle.sftp_treefile.specs.TreeFileParts.{IsLast, Follows}
 use Rattle.sftp_treefile.proofs.Order.LastEntry.{no_last, last_more, begins_last, begun_whole}
 use Rattle.sftp_tree.specs.declared.nodes.Node.{Node}
 use Rattle.sftp_tree.specs.Tree.{Names, with_node}
-use Rattle.sftp_tree.specs.Growth.{open_behind}
+use Rattle.sftp_tree.specs.Growth.{open_after}
 use Rattle.sftp_tree.specs.PictureParts.{names_of, known_node}
 use Rattle.sftp_tree.proofs.Nesting.Growth.{front_open}
 use Rattle.sftp_tree.proofs.PlaceTables.Rising.{insert_last}
 use Rattle.sftp_tree.proofs.TreeFiles.Files.{table_of_file}
 use Rattle.sftp_tree.proofs.TreeFiles.Stores.{keys_before}
 
--- ---- the entries are put behind all others
+-- ---- the entries are put after all others
 
 pub entries_order : (root : Owner) (rows : List Row) (names : Names) → IsOwner root → AreRows usual_limits [] rows
     → names ≡ names_of root rows → InOrder place_cmp names
@@ -65,7 +65,7 @@ follows rows row next = record
     { text = next.path; below_root = next.below_root; later = next.later; parent = next.parent }
 
 behind_known : (numbers : List ℕ) (next : ℕ) (kind : Kind) (place : Place)
-    → open_behind place (known_node numbers next kind) ≡ (if is_dir kind then place else parent place)
+    → open_after place (known_node numbers next kind) ≡ (if is_dir kind then place else parent place)
 behind_known numbers next (kinds.Dir owner) place = refl
 behind_known numbers next (kinds.First owner bytes) place = refl
 behind_known numbers next (kinds.Further number) place = refl
@@ -73,12 +73,12 @@ behind_known numbers next (kinds.Link target) place = refl
 
 pub open_more : (rows : List Row) (row : Row) (numbers : List ℕ) (next : ℕ) (place old new : Place) (node : Node)
     → IsOpen rows old → IsNext usual_limits rows row → place ≡ place_of row.path
-    → node ≡ known_node numbers next row.kind → new ≡ open_behind place node → IsOpen (rows ++ row ∷ []) new
+    → node ≡ known_node numbers next row.kind → new ≡ open_after place node → IsOpen (rows ++ row ∷ []) new
 open_more rows row numbers next place old new node was is-next place-is node-is new-is = record {
   last = place_of row.path;
   last_is = is_dir row.kind;
   fits = last_more rows was.last was.last_is row was.fits (follows rows row is-next);
-  place_is = new-is ∙ (λ i. open_behind (place-is i) (node-is i))
+  place_is = new-is ∙ (λ i. open_after (place-is i) (node-is i))
       ∙ behind_known numbers next row.kind (place_of row.path);
 }
 

@@ -18,7 +18,7 @@ use Rattle.sftp_tree.specs.declared.file_contents.Content.{Content}
 use Rattle.sftp_tree.specs.declared.nodes.Node.{Node}
 use Rattle.sftp_tree.specs.declared.nodes.Node.TheVariants.{Dir, File, Link}
 use Rattle.sftp_tree.specs.Tree.{Names, Files, IsNode, content_at, names_file}
-use Rattle.sftp_tree.specs.Picture.{entry_naming, naming, kind_of, rows_of, rows_behind}
+use Rattle.sftp_tree.specs.Picture.{entry_naming, naming, kind_of, rows_of, rows_after}
 use Rattle.sftp_tree.specs.PictureParts.{only_root}
 use Rattle.sftp_tree.proofs.PlaceTables.Rising.{all_both}
 use Rattle.sftp_tree.proofs.TreeFiles.Tables.{IsPlace, IsFitNode, AreKinds, bare_kind, bare_entry}
@@ -37,19 +37,19 @@ one_row files front (n ∷ ns, standing) below = refl
 abbrev pub IsBelowRoot : Place × Node → Type 0
 IsBelowRoot e = IsPlace e.0 × (0 < length e.0)
 
-pub rows_cons : (files : Files) (front : Names) (e : Place × Node) (es : Names) → 0 < length e.0 → rows_behind files front (e ∷ es) ≡ row_of files front e ∷ rows_behind files (front ++ e ∷ []) es
-rows_cons files front e es below = ap (λ (rs : List Row). rs ++ rows_behind files (front ++ e ∷ []) es) (one_row files front e below)
+pub rows_cons : (files : Files) (front : Names) (e : Place × Node) (es : Names) → 0 < length e.0 → rows_after files front (e ∷ es) ≡ row_of files front e ∷ rows_after files (front ++ e ∷ []) es
+rows_cons files front e es below = ap (λ (rs : List Row). rs ++ rows_after files (front ++ e ∷ []) es) (one_row files front e below)
 
-pub length-rows : (files : Files) (front es : Names) → AllByRecursion IsBelowRoot es → length (rows_behind files front es) ≡ length es
+pub length-rows : (files : Files) (front es : Names) → AllByRecursion IsBelowRoot es → length (rows_after files front es) ≡ length es
 length-rows files front [] below = refl
 length-rows files front (e ∷ es) below = ap length (rows_cons files front e es below.0.1) ∙ ap suc (length-rows files (front ++ e ∷ []) es below.1)
 
-pub rows_push : (files : Files) (front es : Names) (e : Place × Node) → rows_behind files front (es ++ e ∷ []) ≡ rows_behind files front es ++ rows_of files (front ++ es) e
+pub rows_push : (files : Files) (front es : Names) (e : Place × Node) → rows_after files front (es ++ e ∷ []) ≡ rows_after files front es ++ rows_of files (front ++ es) e
 rows_push files front [] e = append-nil (rows_of files front e) ∙ ap (λ (ns : Names). rows_of files ns e) (sym (append-nil front))
 rows_push files front (x ∷ es) e =
     ap (λ (rs : List Row). rows_of files front x ++ rs) (rows_push files (front ++ x ∷ []) es e)
-    ∙ sym (append_assoc (rows_of files front x) (rows_behind files (front ++ x ∷ []) es) (rows_of files ((front ++ x ∷ []) ++ es) e))
-    ∙ ap (λ (ns : Names). rows_behind files front (x ∷ es) ++ rows_of files ns e) (append_assoc front (x ∷ []) es)
+    ∙ sym (append_assoc (rows_of files front x) (rows_after files (front ++ x ∷ []) es) (rows_of files ((front ++ x ∷ []) ++ es) e))
+    ∙ ap (λ (ns : Names). rows_after files front (x ∷ es) ++ rows_of files ns e) (append_assoc front (x ∷ []) es)
 
 pub place_text : (place : Place) → IsPlace place → IsPlaceText (absolute place)
 place_text place is =
@@ -60,7 +60,7 @@ place_text place is =
       one = ap absolute (sym same);
     }
 
-pub entry_texts : (files : Files) (front es : Names) → AllByRecursion IsBelowRoot es → AllByRecursion (λ (r : Row). IsPlaceText r.path) (rows_behind files front es)
+pub entry_texts : (files : Files) (front es : Names) → AllByRecursion IsBelowRoot es → AllByRecursion (λ (r : Row). IsPlaceText r.path) (rows_after files front es)
 entry_texts files front [] below = tt
 entry_texts files front (e ∷ es) below =
     subst (λ (rs : List Row). AllByRecursion (λ (r : Row). IsPlaceText r.path) rs) (sym (rows_cons files front e es below.0.1)) (place_text e.0 below.0.0, entry_texts files (front ++ e ∷ []) es below.1)
@@ -73,7 +73,7 @@ kind_bare : (files : Files) (front : Names) (standing : Node) → bare_kind (kin
 kind_bare files front (File number) = naming_bare (entry_naming number front) (content_at files number)
 kind_bare files front other = refl
 
-pub rows_bare : (files : Files) (front es : Names) → AllByRecursion IsBelowRoot es → map bare_entry (rows_behind files front es) ≡ bared es
+pub rows_bare : (files : Files) (front es : Names) → AllByRecursion IsBelowRoot es → map bare_entry (rows_after files front es) ≡ bared es
 rows_bare files front [] below = refl
 rows_bare files front (e ∷ es) below = ap (map bare_entry) (rows_cons files front e es below.0.1)
     ∙ (λ i. (components-absolute e.0 below.0.0.0 i, kind_bare files front e.1 i) ∷ rows_bare files (front ++ e ∷ []) es below.1 i)
@@ -105,8 +105,8 @@ none_push number (x ∷ front) e none other = by (names_file number x.1) (entry_
 
 first_there : (files : Files) (front : Names) (e : Place × Node) (es : Names) (number m : ℕ) (names : Bool) (behind : Option ℕ) → names_file number e.1 ≡ names → entry_naming number es ≡ behind
     → entry_naming number front ≡ None → (if names then Some 0 else option_map suc behind) ≡ Some m
-    → ((k : ℕ) → entry_naming number (front ++ e ∷ []) ≡ None → entry_naming number es ≡ Some k → IsTrue (is_first_row (slice_get (rows_behind files (front ++ e ∷ []) es) k)))
-    → IsTrue (is_first_row (slice_get (row_of files front e ∷ rows_behind files (front ++ e ∷ []) es) m))
+    → ((k : ℕ) → entry_naming number (front ++ e ∷ []) ≡ None → entry_naming number es ≡ Some k → IsTrue (is_first_row (slice_get (rows_after files (front ++ e ∷ []) es) k)))
+    → IsTrue (is_first_row (slice_get (row_of files front e ∷ rows_after files (front ++ e ∷ []) es) m))
 first_there files front e es number zero true behind names-is behind-is none is more = first_kind files front e.1 number names-is none
 first_there files front e es number zero false (Some k) names-is behind-is none is more = absurd (let e : suc k ≡ 0 = cc in omega arith)
 first_there files front e es number (suc m) false (Some k) names-is behind-is none is more =
@@ -114,7 +114,7 @@ first_there files front e es number (suc m) false (Some k) names-is behind-is no
     more m (none_push number front e none names-is) (behind-is ∙ ap (λ n. Some n) same)
 first_there files front e es number m names behind names-is behind-is none is more = absurd cc
 
-pub named_is_first : (files : Files) (front es : Names) (number m : ℕ) → AllByRecursion IsBelowRoot es → entry_naming number front ≡ None → entry_naming number es ≡ Some m → IsTrue (is_first_row (slice_get (rows_behind files front es) m))
+pub named_is_first : (files : Files) (front es : Names) (number m : ℕ) → AllByRecursion IsBelowRoot es → entry_naming number front ≡ None → entry_naming number es ≡ Some m → IsTrue (is_first_row (slice_get (rows_after files front es) m))
 named_is_first files front [] number m below none is = absurd cc
 named_is_first files front (e ∷ es) number m below none is =
     subst (λ (rs : List Row). IsTrue (is_first_row (slice_get rs m))) (sym (rows_cons files front e es below.0.1))
@@ -138,9 +138,9 @@ IsFitContent content = IsOwner content.owner × (length content.bytes ≤ usual_
 pub all_at : (P : Content → Type 0) (files : Files) (number : ℕ) (content : Content) → AllByRecursion (λ e. P e.1) files → content_at files number ≡ Some content → P content
 all_at P files number content all is = each-get nat_cmp nat_cmp-IsAntisymmetric (λ e. P e.1) files number content all is
 
--- the rows of the entries behind the root
+-- the rows of the entries after the root
 abbrev pub rows_below : Files → Owner → Names → List Row
-rows_below files root fs = rows_behind files (only_root root) fs
+rows_below files root fs = rows_after files (only_root root) fs
 
 naming_fits : (files : Files) (root : Owner) (fs : Names) (number : ℕ) (entry : Option ℕ) (content : Option Content) → entry_naming number fs ≡ entry → content_at files number ≡ content
     → IsTrue (is_some (content_at files number)) → AllByRecursion (λ e. IsFitContent e.1) files → AllByRecursion IsBelowRoot fs → length fs < 2 ^ 32
@@ -157,11 +157,11 @@ kind_fits files root fs (File number) fits there fit below few = naming_fits fil
 kind_fits files root fs (Link target) fits there fit below few = (fits.1, fits.0)
 
 pub kinds_fit : (files : Files) (root : Owner) (fs es : Names) → AllByRecursion (λ e. IsFitNode e.1) es → AllByRecursion (λ e. IsNode files e.1) es → AllByRecursion (λ e. IsFitContent e.1) files
-    → AllByRecursion IsBelowRoot fs → AllByRecursion IsBelowRoot es → length fs + length es < 2 ^ 32 → AreKinds (rows_below files root fs) (rows_behind files (only_root root ++ fs) es)
+    → AllByRecursion IsBelowRoot fs → AllByRecursion IsBelowRoot es → length fs + length es < 2 ^ 32 → AreKinds (rows_below files root fs) (rows_after files (only_root root ++ fs) es)
 kinds_fit files root fs [] fits there fit front below few = tt
 kinds_fit files root fs (e ∷ es) fits there fit front below few =
     let more : rows_below files root (fs ++ e ∷ []) ≡ rows_below files root fs ++ row_of files (only_root root ++ fs) e ∷ [] =
     rows_push files (only_root root) fs e ∙ ap (λ (rs : List Row). rows_below files root fs ++ rs) (one_row files (only_root root ++ fs) e below.0.1) in
     let rest = kinds_fit files root (fs ++ e ∷ []) es fits.1 there.1 fit (all_both IsBelowRoot fs (e ∷ []) front (below.0, tt)) below.1 (omega (arith, length-append fs (e ∷ []))) in
     subst (AreKinds (rows_below files root fs)) (sym (rows_cons files (only_root root ++ fs) e es below.0.1))
-    (kind_fits files root fs e.1 fits.0 there.0 fit front (omega arith), subst (λ (rs : List Row). AreKinds rs (rows_behind files (only_root root ++ (fs ++ e ∷ [])) es)) more rest)
+    (kind_fits files root fs e.1 fits.0 there.0 fit front (omega arith), subst (λ (rs : List Row). AreKinds rs (rows_after files (only_root root ++ (fs ++ e ∷ [])) es)) more rest)

@@ -18,7 +18,7 @@ use Rattle.sftp_tree.specs.declared.nodes.Node.{Node}
 use Rattle.sftp_tree.specs.declared.nodes.Node.TheVariants.{Dir, File, Link}
 use Rattle.sftp_tree.specs.Tree.{Names, names_file}
 use Rattle.sftp_tree.specs.Picture.{entry_naming}
-use Rattle.sftp_tree.specs.PictureParts.{content_of, contents_of, node_of, entry_of, entries_behind, names_of}
+use Rattle.sftp_tree.specs.PictureParts.{content_of, contents_of, node_of, entry_of, entries_after, names_of}
 use Rattle.sftp_tree.proofs.PlaceTables.Rising.{all_both}
 use Rattle.sftp_tree.proofs.PlaceTables.Each.{each-weaker}
 
@@ -118,19 +118,19 @@ pub rows_join : (earlier xs ys : List Row) → AreRows usual_limits earlier xs �
 rows_join earlier [] ys a b = rw append-nil at b
 rows_join earlier (x ∷ xs) ys a b = (a.0, rows_join (earlier ++ x ∷ []) xs ys a.1 (subst (λ (front : List Row). AreRows usual_limits front ys) (sym (append_assoc earlier (x ∷ []) xs)) b))
 
-pub entries_split : (earlier xs ys : List Row) → entries_behind earlier (xs ++ ys) ≡ entries_behind earlier xs ++ entries_behind (earlier ++ xs) ys
+pub entries_split : (earlier xs ys : List Row) → entries_after earlier (xs ++ ys) ≡ entries_after earlier xs ++ entries_after (earlier ++ xs) ys
 entries_split earlier [] ys = rw append-nil refl
 entries_split earlier (x ∷ xs) ys =
-    ap (λ (es : Names). entry_of earlier x ∷ es) (entries_split (earlier ++ x ∷ []) xs ys ∙ ap (λ (front : List Row). entries_behind (earlier ++ x ∷ []) xs ++ entries_behind front ys) (append_assoc earlier (x ∷ []) xs))
+    ap (λ (es : Names). entry_of earlier x ∷ es) (entries_split (earlier ++ x ∷ []) xs ys ∙ ap (λ (front : List Row). entries_after (earlier ++ x ∷ []) xs ++ entries_after front ys) (append_assoc earlier (x ∷ []) xs))
 
-pub names_split : (root : Owner) (earlier rows : List Row) → names_of root (earlier ++ rows) ≡ names_of root earlier ++ entries_behind earlier rows
+pub names_split : (root : Owner) (earlier rows : List Row) → names_of root (earlier ++ rows) ≡ names_of root earlier ++ entries_after earlier rows
 names_split root earlier rows = ap (λ (es : Names). ([], Dir root) ∷ es) (entries_split [] earlier rows)
 
 -- one row more
 pub names_push : (root : Owner) (earlier : List Row) (row : Row) → names_of root (earlier ++ row ∷ []) ≡ names_of root earlier ++ entry_of earlier row ∷ []
 names_push root earlier row = names_split root earlier (row ∷ [])
 
-pub length-entries : (earlier rows : List Row) → length (entries_behind earlier rows) ≡ length rows
+pub length-entries : (earlier rows : List Row) → length (entries_after earlier rows) ≡ length rows
 length-entries earlier [] = refl
 length-entries earlier (row ∷ rows) = ap suc (length-entries (earlier ++ row ∷ []) rows)
 
@@ -195,7 +195,7 @@ named_here : (names : Bool) (behind : Option ℕ) → names ≡ true → (if nam
 named_here true behind is = refl
 named_here false behind is = absurd cc
 
--- behind entries that are no names of the file
+-- after entries that are no names of the file
 pub named_at : (number : ℕ) (xs : Names) (e : Place × Node) (ys : Names) → entry_naming number xs ≡ None → names_file number e.1 ≡ true → entry_naming number (xs ++ e ∷ ys) ≡ Some (length xs)
 named_at number [] e ys none is = named_here (names_file number e.1) (entry_naming number ys) is
 named_at number (x ∷ xs) e ys none is =
@@ -205,13 +205,13 @@ pub first_names : (earlier : List Row) (kind : Kind) → IsTrue (is_first kind) 
 first_names earlier (kinds.First owner bytes) first = eq-eqb (made_by earlier) (made_by earlier) refl
 first_names earlier other first = absurd cc
 
-names_at : (root : Owner) (rows : List Row) (entry : ℕ) (f : FirstAt rows entry) → names_of root rows ≡ names_of root f.front ++ entry_of f.front f.row ∷ entries_behind (f.front ++ f.row ∷ []) f.rest
+names_at : (root : Owner) (rows : List Row) (entry : ℕ) (f : FirstAt rows entry) → names_of root rows ≡ names_of root f.front ++ entry_of f.front f.row ∷ entries_after (f.front ++ f.row ∷ []) f.rest
 names_at root rows entry f = ap (names_of root) f.rows_are ∙ names_split root f.front (f.row ∷ f.rest)
 
 pub first_is_named : (root : Owner) (rows : List Row) (entry : ℕ) (f : FirstAt rows entry) → AreRows usual_limits [] rows → entry_naming (made_by f.front) (names_of root rows) ≡ Some entry
 first_is_named root rows entry f fit =
     let front = (rows_split [] f.front (f.row ∷ f.rest) (subst (AreRows usual_limits []) f.rows_are fit)).0 in
     let none = none_named (made_by f.front) (names_of root f.front) (all_below root f.front front) in
-    let here = named_at (made_by f.front) (names_of root f.front) (entry_of f.front f.row) (entries_behind (f.front ++ f.row ∷ []) f.rest) none (first_names f.front f.row.kind f.first) in
+    let here = named_at (made_by f.front) (names_of root f.front) (entry_of f.front f.row) (entries_after (f.front ++ f.row ∷ []) f.rest) none (first_names f.front f.row.kind f.first) in
     let count : length (names_of root f.front) ≡ entry = omega (arith, length-entries [] f.front, f.entry_is) in
     ap (entry_naming (made_by f.front)) (names_at root rows entry f) ∙ here ∙ ap (λ n. Some n) count

@@ -14,7 +14,7 @@ use Rattle.sftp_treefile.specs.declared.files.Row.{Row}
 use Rattle.sftp_tree.specs.declared.nodes.Node.{Node}
 use Rattle.sftp_tree.specs.declared.nodes.Node.TheVariants.{Dir, File, Link}
 use Rattle.sftp_tree.specs.Tree.{Names, node_at, is_directory, is_taken}
-use Rattle.sftp_tree.specs.PictureParts.{node_of, entry_of, entries_behind, only_root, names_of}
+use Rattle.sftp_tree.specs.PictureParts.{node_of, entry_of, entries_after, only_root, names_of}
 use Rattle.sftp_tree.proofs.TreeFiles.Tables.{IsPlace, IsFitNode, IsTable, bare_kind, bare_entry, bare_names}
 
 -- ---- without numbers
@@ -97,7 +97,7 @@ node_bare : (earlier : List Row) (kind : Kind) → bare (node_of earlier kind) �
 node_bare earlier (kinds.Dir owner) = refl
 node_bare earlier other = refl
 
-entries_bare : (earlier rows : List Row) → bared (entries_behind earlier rows) ≡ map bare_entry rows
+entries_bare : (earlier rows : List Row) → bared (entries_after earlier rows) ≡ map bare_entry rows
 entries_bare earlier [] = refl
 entries_bare earlier (row ∷ rows) = λ i. ((entry_of earlier row).0, node_bare earlier row.kind i) ∷ entries_bare (earlier ++ row ∷ []) rows i
 

@@ -1,4 +1,4 @@
--- The table of a root and of rows, each of which may come behind those before it, is the table of a tree, and the rows
+-- The table of a root and of rows, each of which may come after those before it, is the table of a tree, and the rows
 -- of each tree's table are such. Here all names of files are of the file 0: which places have entries of which kind
 -- does not depend on the file.
 use Rattle.std.proofs.Common.{◌≡◌, ℕ, ◌<◌, Bool, true, false, ◌&&◌, ◌||◌, cond, List, [], ◌∷◌, ◌++◌, length, map, Option, Some, None, refl, sym, ap, subst, ◌∙◌, append_assoc, arith}
@@ -59,7 +59,7 @@ bare_entry row = (place_of row.path, bare_kind row.kind)
 abbrev pub bare_names : Owner → List Row → Names
 bare_names root rows = only_root root ++ map bare_entry rows
 
--- each kind may come behind the rows before it
+-- each kind may come after the rows before it
 abbrev pub AreKinds : List Row → List Row → Type 0
 AreKinds earlier [] = Unit {0}
 AreKinds earlier (row ∷ rows) = IsKind usual_limits earlier row.kind × AreKinds (earlier ++ row ∷ []) rows
@@ -93,7 +93,7 @@ directory_is_some other h = absurd cc
 directory_left : (xs ys : Names) (p : Place) → IsTrue (is_directory (node_at xs p)) → IsTrue (is_directory (node_at (xs ++ ys) p))
 directory_left xs ys p h = let d = directory_is_some (node_at xs p) h in rw (at_left xs ys p (Dir d.0) d.1) refl
 
--- what is not behind is in front
+-- what is not after is in front
 directory_in_front : (xs ys : Names) (p : Place) (o : Option Node) → node_at xs p ≡ o → node_at ys p ≡ None → IsTrue (is_directory (node_at (xs ++ ys) p)) → IsTrue (is_directory (node_at xs p))
 directory_in_front xs ys p None e none h = absurd (let b : is_directory None ≡ true = subst (λ (o : Option Node). is_directory o ≡ true) (at_right xs ys p e ∙ none) h in cc)
 directory_in_front xs ys p (Some v) e none h = subst (λ (o : Option Node). IsTrue (is_directory o)) (at_left xs ys p v e ∙ sym e) h

@@ -18,7 +18,7 @@ use Rattle.sftp_tree.specs.declared.file_contents.Content.{Content}
 use Rattle.sftp_tree.specs.declared.nodes.Node.{Node}
 use Rattle.sftp_tree.specs.declared.nodes.Node.TheVariants.{Dir, File, Link}
 use Rattle.sftp_tree.specs.Tree.{Names, Files, Tree, IsKept, node_at, content_at, names_file}
-use Rattle.sftp_tree.specs.Picture.{entry_naming, naming, kind_of, rows_behind, root_owner, file_of, picture}
+use Rattle.sftp_tree.specs.Picture.{entry_naming, naming, kind_of, rows_after, root_owner, file_of, picture}
 use Rattle.sftp_tree.specs.PictureParts.{only_root, head_of, Firsts, with_first, firsts_with, known_kind, IsShort}
 use Rattle.sftp_tree.proofs.TreeFiles.Tables.{IsPlace, IsFitNode}
 use Rattle.sftp_tree.proofs.TreeFiles.Contents.{number_is}
@@ -109,9 +109,9 @@ known files firsts front other are = refl
 
 -- ---- the loop
 
--- what is written behind the earlier bytes, of so many entries
+-- what is written after the earlier bytes, of so many entries
 pub record Written (t : Tree) (start out : List ℕ) (firsts : Firsts) (entry : ℕ) : Type 0 where
-  pub out_is : out ≡ start ++ flat_map row_text (rows_behind t.files [] (take entry t.names))
+  pub out_is : out ≡ start ++ flat_map row_text (rows_after t.files [] (take entry t.names))
   pub firsts_are : AreFirsts firsts (take entry t.names)
 
 -- ---- the head
@@ -125,11 +125,11 @@ names_count t kept =
 pub home_short : (t : Tree) → IsKept t → length (absolute t.home) < 2 ^ 32
 home_short t kept = path_short t.home (kept.well_formed.home, (limits_from t kept.within_limits).home)
 
-pub picture_written : (t : Tree) → IsKept t → picture t ≡ head_bytes (head_of t) ++ flat_map row_text (rows_behind t.files [] t.names)
+pub picture_written : (t : Tree) → IsKept t → picture t ≡ head_bytes (head_of t) ++ flat_map row_text (rows_after t.files [] t.names)
 unfolding picture
 picture_written t kept =
     let s = split_tree t (stands-of t kept) in
-    let count : length (rows_behind t.files [] t.names) ≡ length t.names - 1 =
-    omega (arith, ap length (ap (rows_behind t.files []) s.names_are), length-rows t.files (only_root s.root) s.entries s.below, ap length s.names_are) in
+    let count : length (rows_after t.files [] t.names) ≡ length t.names - 1 =
+    omega (arith, ap length (ap (rows_after t.files []) s.names_are), length-rows t.files (only_root s.root) s.entries s.below, ap length s.names_are) in
     spelled_head (file_of t)
-    ∙ ap (λ n. head_bytes (record { limits = t.limits; home = absolute t.home; uid = t.uid; gid = t.gid; count = n; root = root_owner (node_at t.names []) }) ++ flat_map row_text (rows_behind t.files [] t.names)) count
+    ∙ ap (λ n. head_bytes (record { limits = t.limits; home = absolute t.home; uid = t.uid; gid = t.gid; count = n; root = root_owner (node_at t.names []) }) ++ flat_map row_text (rows_after t.files [] t.names)) count

@@ -61,7 +61,7 @@ good_path-count path good =
 
 -- ---- what a walk looks at
 
--- as many components as there are, and these many more behind links
+-- as many components as there are, and these many more after links
 abbrev Within : Tree → Bool → ℕ → ℕ → Place → List Name → Type 0
 Within t follow left more at path = looked t.names follow left at path ≤ length path + more
 

@@ -73,7 +73,7 @@ found-met t follow left at name rest m kept stands step further behind (by_last_
 found-met t follow left at name rest m kept stands step further behind (by_last_absent plain there) = entered-found t at name stands (plain-is_name name step plain)
 found-met t follow left at name rest m kept stands step further behind other = tt
 
--- over components, where it leads as said from behind each link
+-- over components, where it leads as said from after each link
 abbrev Behind : Tree → Bool → ℕ → Type 0
 Behind t follow left = (at : Place) (name : Name) (target : List ℕ) (rest : List Name) → Stands t at → node_at t.names (at ++ name ∷ []) ≡ Some (Link target) → list_all is_step rest ≡ true → FoundBy t (behind_link t.names follow left at target rest)
 

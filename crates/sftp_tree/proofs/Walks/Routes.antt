@@ -32,7 +32,7 @@ is_last-left_of [] = refl
 is_last-left_of (t ∷ ts) = is_last-append (left_of ts) t.left ∙ and-swap (is_last (left_of ts)) (is_last t.left)
     ∙ ap (λ b. b && is_last (left_of ts)) (is_last-length t.left) ∙ ap (λ b. is_done t && b) (is_last-left_of ts)
 
--- nothing is left of targets where nothing is left of the first, nor of those behind it
+-- nothing is left of targets where nothing is left of the first, nor of those after it
 pub is_last-targets : (front : Split) (behind : List Split) → is_last (front.left ++ left_of behind) ≡ (is_done front && list_all is_done behind)
 is_last-targets front behind = is_last-append front.left (left_of behind)
     ∙ ap (λ b. b && is_last (left_of behind)) (is_last-length front.left) ∙ ap (λ b. is_done front && b) (is_last-left_of behind)

@@ -11,7 +11,7 @@ use Rattle.sftp_tree.proofs.Walks.Meetings.{MetBy, by_dot, by_dot_dot, by_direct
 
 -- ---- a walk is by the rules
 
--- behind each link
+-- after each link
 abbrev Behind : Names → Bool → ℕ → Type 0
 Behind names follow left = (at : Place) (name : Name) (rest : List Name) (target : List ℕ) → IsPlain name → GoesThrough follow rest → node_at names (at ++ name ∷ []) ≡ Some (Link target) → Leads names follow left at (name ∷ rest) (behind_link names follow left at target rest)
 

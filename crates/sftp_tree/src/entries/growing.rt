@@ -7,7 +7,7 @@ ghost use Rattle.std.specs.declared.cmp.Ordering.TheVariants.{Less};
 ghost use Rattle.sftp_path.specs.Place.{place_cmp, parent};
 ghost use Rattle.sftp_path.specs.Table.{InOrder};
 ghost use Rattle.sftp_tree.specs.declared.nodes.Node.TheVariants.{Dir as dir_node};
-ghost use Rattle.sftp_tree.specs.Growth.{names_in, place_in, open_behind};
+ghost use Rattle.sftp_tree.specs.Growth.{names_in, place_in, open_after};
 ghost use Rattle.sftp_tree.specs.PictureParts.{only_root};
 
 use super::directories::{Child, Dir};
@@ -59,7 +59,7 @@ impl Growth {
         Ok(())
     }
 
-    /// Goes up to the directory of so many names.
+    /// Goes up to the open directory whose place has `depth` names.
     fn close_below(&mut self, depth: usize) -> Result<(), NoMemory>
         requires depth { depth ≤ length (place_in self.old) }
         requires ordered { InOrder place_cmp (names_in self.old) }
@@ -84,13 +84,13 @@ impl Growth {
         Ok(())
     }
 
-    /// Puts an entry behind all others, with this name, into the directory that gets the next entries.
+    /// Puts an entry after all others, with this name, into the directory that gets the next entries.
     fn add(&mut self, name: Name, node: Node) -> Result<(), NoMemory>
         requires last { AllByRecursion
             (λ other. place_cmp other (place_in self.old ++ name ∷ []) ≡ Less) (keys_of (names_in self.old)) }
         ensures names { OnOk result
             (names_in self.new ≡ names_in self.old ++ (place_in self.old ++ name ∷ [], node) ∷ []) }
-        ensures place { OnOk result (place_in self.new ≡ open_behind (place_in self.old ++ name ∷ []) node) }
+        ensures place { OnOk result (place_in self.new ≡ open_after (place_in self.old ++ name ∷ []) node) }
     {
         match node {
             Node::Dir(owner) => self.open(name, owner)?,
@@ -100,7 +100,7 @@ impl Growth {
         Ok(())
     }
 
-    /// Puts an entry with this name behind all others, into the open directory of so many names.
+    /// Puts an entry with this name after all others, into the open directory whose place has `depth` names.
     ///
     /// # Errors
     ///
@@ -113,7 +113,7 @@ impl Growth {
         ensures names { OnOk result
             (names_in self.new ≡ names_in self.old ++ (take depth (place_in self.old) ++ name ∷ [], node) ∷ []) }
         ensures place { OnOk result
-            (place_in self.new ≡ open_behind (take depth (place_in self.old) ++ name ∷ []) node) }
+            (place_in self.new ≡ open_after (take depth (place_in self.old) ++ name ∷ []) node) }
     {
         self.close_below(depth)?;
         self.add(name, node)?;

@@ -3,7 +3,7 @@ ghost use Rattle.std.specs.Prelude.{◌≡◌, [], ◌++◌, ◌∷◌, ◌+◌,
 ghost use Rattle.std.specs.List.{flat_map};
 ghost use Rattle.sftp_treefile.specs.TreeFile.{row_text};
 ghost use Rattle.sftp_tree.specs.Nesting.{branch};
-ghost use Rattle.sftp_tree.specs.Picture.{rows_behind};
+ghost use Rattle.sftp_tree.specs.Picture.{rows_after};
 ghost use Rattle.sftp_tree.specs.Tree.{IsKept};
 ghost use Rattle.sftp_tree.specs.Written.{rows_from, firsts_from, AreWritable};
 
@@ -103,7 +103,7 @@ pub(super) fn put_entries(out: &mut Vec<u8>, tree: &Tree, root: &Dir) -> Result<
     requires root { root.now ≡ tree.now.names }
     ensures kept { IsKept tree.now }
     ensures out { OnOk result (out.new.items
-        ≡ out.old.items ++ flat_map row_text (rows_behind tree.now.files [] tree.now.names)) }
+        ≡ out.old.items ++ flat_map row_text (rows_after tree.now.files [] tree.now.names)) }
 {
     let alloc = tree.home().allocator();
     let path = Vec::new(alloc);

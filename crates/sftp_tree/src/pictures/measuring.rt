@@ -22,7 +22,7 @@ fn path_size(place: &Place) -> usize {
     size
 }
 
-/// The size of the entries of a child, whose place has a text of so many bytes, and of all below it, without the bytes
+/// The size of the entries of a child, whose place has a text of `path` bytes, and of all below it, without the bytes
 /// of files.
 #[cycle(measuring)]
 fn child_size(child: &Child, path: usize) -> usize {
@@ -38,7 +38,7 @@ fn child_size(child: &Child, path: usize) -> usize {
     }
 }
 
-/// The size of the entries below a directory, whose place has a text of so many bytes, without the bytes of files. The
+/// The size of the entries below a directory, whose place has a text of `path` bytes, without the bytes of files. The
 /// text of the root is empty here.
 #[cycle(measuring)]
 fn size_below(dir: &Dir, path: usize) -> usize {

@@ -68,7 +68,10 @@ pub(super) fn put_name(
     requires path { length path.now < 2 ^ 32 }
     requires file { IfSome (content_at tree.now.files number) (λ (c : content). length c.bytes < 2 ^ 32) }
     ensures out { OnOk result (out.new.items ≡ out.old.items
-        ++ row_text (record { path = path.now; kind = spec.naming (get nat_cmp firsts.old.entries number) (content_at tree.now.files number) })) }
+        ++ row_text (record {
+          path = path.now;
+          kind = spec.naming (get nat_cmp firsts.old.entries number) (content_at tree.now.files number);
+        })) }
     ensures firsts { OnOk result
         (firsts.new.entries
         ≡ parts.with_first firsts.old.entries entry number (get nat_cmp firsts.old.entries number)) }

@@ -67,11 +67,11 @@ one_file f g bytes f-is g-is =
 -- ---- where no tree file is
 
 -- the entries of a file, after the head that is read
-entries_behind : (file : TreeFile) (bytes rest : List ℕ) (head : Head) → Reads IsHead head_bytes bytes head rest
+entries_after : (file : TreeFile) (bytes rest : List ℕ) (head : Head) → Reads IsHead head_bytes bytes head rest
     → IsSpelled file bytes
     → (length file.rows ≡ head.count) × (rest ≡ flat_map row_text file.rows) × AreRows head.limits [] file.rows
 unfolding head_of
-entries_behind file bytes rest head read is =
+entries_after file bytes rest head read is =
     let heads = head_front head (head_of file) rest (flat_map row_text file.rows) read.0 (head_fits file is.may_be)
     (sym read.1 ∙ bytes_parts file bytes is) in
     (sym (ap (λ (x : Head). x.count) heads.0), heads.1, subst (λ (l : TreeLimits). AreRows l [] file.rows) (sym (ap (λ (x : Head). x.limits) heads.0)) is.may_be.rows)
@@ -83,14 +83,14 @@ no_file_head bytes none file is =
 pub no_file_entries : (bytes rest : List ℕ) (head : Head) → Reads IsHead head_bytes bytes head rest
     → AreNone head.limits head.count rest → (file : TreeFile) → IsSpelled file bytes → ⊥
 no_file_entries bytes rest head read none file is =
-    let e = entries_behind file bytes rest head read is in
+    let e = entries_after file bytes rest head read is in
     none file.rows [] e.2 e.0 (e.1 ∙ sym (append-nil (flat_map row_text file.rows)))
 
 pub no_file_trailing : (bytes rest more : List ℕ) (head : Head) (rows : List Row)
     → Reads IsHead head_bytes bytes head rest → AreRead head.limits rest rows head.count more → 0 < length more
     → (file : TreeFile) → IsSpelled file bytes → ⊥
 no_file_trailing bytes rest more head rows read all left file is =
-    let e = entries_behind file bytes rest head read is in
+    let e = entries_after file bytes rest head read is in
     let same =
     entries_are_one head.limits (usual_file_bytes head.limits read.0.limits) [] rows file.rows more [] all.rows_fit
     e.2 (all.count_is ∙ sym e.0) (sym all.bytes_are ∙ e.1 ∙ sym (append-nil (flat_map row_text file.rows))) in

@@ -1,4 +1,4 @@
--- Values behind their count: what is read is spelled so, and what is spelled so is read again.
+-- Values after their count: what is read is spelled so, and what is spelled so is read again.
 use Rattle.std.proofs.Common.{ℕ, ◌^◌, ◌<◌, List, ◌++◌, length, sym, ap, subst, ◌∙◌, append_assoc, arith}
 use Rattle.std.specs.List.{flat_map, AllByRecursion}
 use Rattle.sftp_wire.specs.Spelling.{uint32}
@@ -7,7 +7,7 @@ use Rattle.sftp_wire.proofs.Readers.Steps.{bind_ok, Takes, Takes-then}
 use Rattle.sftp_wire.proofs.Readers.Combined.{TakesAs, AgainAs, many_takes, many_again}
 use Rattle.sftp_wire.proofs.FieldLaws.Strings.{uint32_takes, uint32_again}
 
--- values behind their count
+-- values after their count
 abbrev pub counted_at : {A : Type 0} → Reader A → Reader (List A)
 counted_at read bytes = uint32_at bytes >>= λ n. many_at read n.0 n.1
 

@@ -1,4 +1,4 @@
--- Lists of pairs, up to the end and behind their number: what is read is spelled so, and what is spelled so is
+-- Lists of pairs, up to the end and after their number: what is read is spelled so, and what is spelled so is
 -- read again.
 use Rattle.std.proofs.Common.{◌≡◌, ℕ, List, [], ◌++◌, length, Ok, arith}
 use Rattle.std.proofs.lemmas.List.{length-append}

@@ -54,11 +54,11 @@ two_uint32_again rest p fits = two_again uint32_at uint32_at (λ a b. (a, b)) ui
 
 -- ---- strings
 
--- the bytes behind a length
+-- the bytes after a length
 abbrev text_behind : ℕ × List ℕ → Result (List ℕ × List ℕ) Fault
 text_behind n = bytes_at n.0 n.1
 
--- the bytes behind a length are taken where there are enough
+-- the bytes after a length are taken where there are enough
 text_takes : (bytes : List ℕ) (n : ℕ × List ℕ) (text rest : List ℕ) → Takes bytes (uint32 n.0) n.1 → n.0 < 2 ^ 32 → text_behind n ≡ Ok (text, rest) → Takes bytes (string text) rest × FitsString text × (length text ≡ n.0)
 text_takes bytes n text rest taken lt e =
     let g = guard_ok (ltb (length n.1) n.0) Short (Ok (take n.0 n.1, drop n.0 n.1)) (text, rest) e in

@@ -1,4 +1,4 @@
--- Packets behind their length: what is spelled so is read again. One more row of the packet table is one more line.
+-- Packets after their length: what is spelled so is read again. One more row of the packet table is one more line.
 use Rattle.std.proofs.Common.{◌≡◌, ℕ, ◌^◌, ◌<◌, false, List, [], ◌∷◌, ◌++◌, Ok, Err, refl, sym, ap, ◌∙◌}
 use Rattle.std.specs.Prelude.{IfSome}
 use Rattle.std.proofs.lemmas.List.{append-nil}
@@ -33,7 +33,7 @@ first_again make version extensions lt fits =
     ap (two uint32_at pairs_at make) (sym (append-nil (uint32 version ++ pairs extensions)))
     ∙ two_again uint32_at pairs_at make uint32 pairs version extensions [] (uint32_again (pairs extensions ++ []) version lt) (pairs_again extensions fits)
 
--- ---- what a request has behind its id, with nothing behind it
+-- ---- what a request has after its id, with nothing after it
 
 path_again : (make : List ℕ → Ask) (path : List ℕ) → FitsString path → one string_at make (string path ++ []) ≡ Ok (make path, [])
 path_again make path fits = one_again string_at make (string path) path [] (string_again [] path fits)
@@ -95,7 +95,7 @@ answered_again id (answers.Name items) lt fits small = ends Server 104 _ _ (repl
 answered_again id (answers.Attrs attrs) lt fits small = ends Server 105 _ _ (reply_again (one attributes_at answers.Attrs) id _ lt (one_again attributes_at answers.Attrs (attributes attrs) attrs [] (attributes_again [] attrs fits)))
 answered_again id (answers.Extended bytes) lt fits small = ends Server 201 _ _ (reply_again (one rest_at answers.Extended) id _ lt (one_again rest_at answers.Extended bytes bytes [] (rest_again bytes)))
 
--- what a packet is spelled with behind its length is read as that packet
+-- what a packet is spelled with after its length is read as that packet
 pub packet_of_again : (packet : Packet) → HasSpelling packet → packet_of (side_of packet) (contents packet) ≡ Ok packet
 unfolding client_packet_at server_packet_at
 packet_of_again (Init version extensions) has = ends Client 1 _ _ (first_again Init version extensions has.fields.0 has.fields.1)

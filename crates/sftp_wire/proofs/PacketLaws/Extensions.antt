@@ -1,4 +1,4 @@
--- Extensions: the name decides what is read behind it. What is read is spelled so, and what is spelled so is read
+-- Extensions: the name decides what is read after it. What is read is spelled so, and what is spelled so is read
 -- again.
 use Rattle.std.proofs.Common.{◌≡◌, ℕ, ◌^◌, ◌<◌, Bool, true, false, cond, List, [], ◌∷◌, ◌++◌, length, Ok, refl, sym, ap, subst, ◌∙◌, append_assoc, arith}
 use Rattle.std.specs.Prelude.{◌||◌, bytes_eq}
@@ -16,7 +16,7 @@ use Rattle.sftp_wire.proofs.PacketLaws.Rows.{ask_fields, FitsAskOf}
 
 -- ---- what is read is spelled so
 
--- what an extension has behind its name
+-- what an extension has after its name
 abbrev data_of : Ask → List ℕ
 data_of (asks.PosixRename oldpath newpath) = string oldpath ++ string newpath
 data_of (asks.Hardlink oldpath newpath) = string oldpath ++ string newpath
@@ -67,7 +67,7 @@ extension_takes bytes ask rest is_bytes e =
 
 -- ---- what is spelled so is read again
 
--- the name decides what is read behind it
+-- the name decides what is read after it
 named_again : (name fields : List ℕ) → FitsString name → extension_at ((string name ++ fields) ++ []) ≡ extension_data_at name (fields ++ [])
 unfolding extension_at
 named_again name fields fits = ap extension_at (append_assoc (string name) fields []) ∙ rw (string_again (fields ++ []) name fits) refl
@@ -108,7 +108,7 @@ none_held true b c x y z others e = absurd cc
 none_held false true c x y z others e = absurd cc
 none_held false false true x y z others e = absurd cc
 
--- behind any other name all that is left is read
+-- after any other name all that is left is read
 unknown_data_again : (name : List ℕ) → is_known_extension name ≡ false → extension_data_at name ≡ one rest_at (asks.Unknown name)
 unfolding extension_data_at
 unknown_data_again name unknown =

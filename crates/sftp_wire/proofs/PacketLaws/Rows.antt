@@ -1,4 +1,4 @@
--- What a row of the packet table says of a packet: its type, the fields behind it, and what they fit.
+-- What a row of the packet table says of a packet: its type, the fields after it, and what they fit.
 use Rattle.std.proofs.Common.{◌≡◌, ℕ, ◌≤◌, false, List, [], ◌∷◌, length, refl}
 use Rattle.std.specs.Prelude.{IfSome}
 use Rattle.sftp_wire.specs.declared.packets.Ask.{Ask}
@@ -18,11 +18,11 @@ abbrev pub tail : List ℕ → List ℕ
 tail [] = []
 tail (b ∷ bytes) = bytes
 
--- the fields behind the type
+-- the fields after the type
 abbrev pub fields_of : Packet → List ℕ
 fields_of packet = tail (contents packet)
 
--- what a request has behind its id, and an answer behind that of its request
+-- what a request has after its id, and an answer after that of its request
 abbrev pub ask_fields : Ask → List ℕ
 ask_fields ask = (ask_parts ask).1
 
@@ -35,7 +35,7 @@ contents-parts (Version version extensions) = refl
 contents-parts (Request request) = refl
 contents-parts (Reply reply) = refl
 
--- ---- what is read behind a type fits
+-- ---- what is read after a type fits
 
 abbrev pub IsSmall : List ℕ → Type 0
 IsSmall handle = length handle ≤ handle_limit

@@ -1,4 +1,4 @@
--- Packets behind their length: what is read is spelled so. One more row of the packet table is one more line.
+-- Packets after their length: what is read is spelled so. One more row of the packet table is one more line.
 use Rattle.std.proofs.Common.{◌≡◌, ℕ, cond, eqb, List, [], ◌∷◌, ◌++◌, length, Ok, Err, refl, sym, ap, subst, ◌∙◌}
 use Rattle.std.proofs.lemmas.Bool.{eqb-true, cond_both}
 use Rattle.std.proofs.lemmas.List.{append-nil, nil_from_length}
@@ -25,7 +25,7 @@ use Rattle.sftp_wire.proofs.FieldLaws.Names.{names_takes}
 use Rattle.sftp_wire.proofs.PacketLaws.Rows.{head, fields_of, ask_fields, answer_fields, contents-parts, FitsAskOf, FitsAnswerOf, FitsRow}
 use Rattle.sftp_wire.proofs.PacketLaws.Extensions.{extension_takes}
 
--- a row of the packet table: what is read behind a type is a packet of that type and that side
+-- a row of the packet table: what is read after a type is a packet of that type and that side
 abbrev TakesRow : Side → ℕ → Reader Packet → Type 0
 TakesRow side kind read = TakesAs read fields_of (FitsRow side kind)
 
@@ -41,7 +41,7 @@ version_takes =
     two_takes uint32_at pairs_at Version uint32 pairs fields_of Is32 FitsPairs (FitsRow Server 2) uint32_takes pairs_takes (λ a b. refl)
     (λ a b f g. record { fields = (f, g); handle = tt; canonical = refl; kind_is = refl; is_sent = refl })
 
--- ---- requests, by what they have behind their id
+-- ---- requests, by what they have after their id
 
 request_takes : (kind : ℕ) (ask : Reader Ask) → TakesAs ask ask_fields (FitsAskOf kind) → TakesRow Client kind (request_at ask)
 request_takes kind ask takes =
@@ -152,7 +152,7 @@ packet_takes Server kind = server_packet_takes kind
 
 -- ---- a packet whole
 
--- what is read of the bytes behind a length is spelled so
+-- what is read of the bytes after a length is spelled so
 pub packet_of_takes : (side : Side) (bytes : List ℕ) (packet : Packet) → IsBytes bytes → packet_of side bytes ≡ Ok packet → (bytes ≡ contents packet) × FitsRow side (head bytes) packet
 unfolding packet_of
 packet_of_takes side [] packet is_bytes e = absurd cc

@@ -99,7 +99,7 @@ begins_with packet rest has =
       whole = ap (λ (k : ℕ). take k bytes) (sym total) ∙ take_at (spelling packet) rest (length (spelling packet)) refl;
     }
 
--- a spelling in front is read as the contents behind its length are
+-- a spelling in front is read as the contents after its length are
 front_of-spelling : (side : Side) (packet : Packet) (rest : List ℕ) → HasSpelling packet
     → front_of side (spelling packet ++ rest) ≡ (packet_of side (contents packet) >>= λ p. Ok (Some (p, length (spelling packet))))
 unfolding front_of

@@ -1,5 +1,7 @@
-use Rattle.std.proofs.Common.{[]}
+use Rattle.std.proofs.Common.{[], ap, ◌∙◌}
 use Rattle.sftp_handles.specs.declared.opens.Open.TheVariants.{Listing}
+use Rattle.sftp_handles.specs.Handles.{Left}
+use Rattle.sftp_handles.specs.Replies.{struck}
 use Rattle.sftp_handles.proofs.Swaps.{opened-open, struck-apart}
 use Rattle.sftp_handles.proofs.giving.strike_names.Goals as goal
 
@@ -13,4 +15,6 @@ returns g c =
     struck-apart (g.T.HandleTable.handles c.args.table.now) (g.T.HandleTable.handles c.take_listing-left.new.table)
     (g.T.HandleTable.handles c.put_listing.new.table) c.args.handle.now c.args.given.now (Listing [])
     c.take_listing-left.result c.strike_all.new.self (g.met.T.HandleTable.ordered c.args.table.now)
-    c.take_listing-left.ensures.taken c.take_listing-left.ensures.empty c.strike_all.ensures c.put_listing.ensures
+    c.take_listing-left.ensures.taken c.take_listing-left.ensures.empty
+    (c.strike_all.ensures ∙ ap (λ (left : Left). struck left c.args.given.now) c.make_hints.ensures)
+    c.put_listing.ensures

@@ -1,7 +1,7 @@
 use Rattle.std.proofs.Common.{sym, refl, arith}
 use Rattle.std.proofs.lemmas.Bool.{false≢true}
 use Rattle.sftp_path.proofs.PathTexts.AbsoluteTexts.{is_absolute-begins, not_absolute}
-use Rattle.sftp_path.proofs.PathTexts.Splitting.{parts_behind-first}
+use Rattle.sftp_path.proofs.PathTexts.Splitting.{parts_after-first}
 use Rattle.sftp_path.proofs.texts.place_of_text.Goals as goal
 
 pub loop-rest-init : goal.loop-rest-init
@@ -10,4 +10,4 @@ loop-rest-init c =
     rw c.root-place.ensures record { names = refl; read = refl; cut = h.1; behind = h.0; some = omega (arith, h.2) }
 
 pub returns-then-not-is_name-clause-none : goal.returns-then-not-is_name-clause-none
-returns-then-not-is_name-clause-none c place is = grind (arith, not_absolute, false≢true, parts_behind-first)
+returns-then-not-is_name-clause-none c place is = grind (arith, not_absolute, false≢true, parts_after-first)

@@ -1,4 +1,4 @@
-//! Directories that get children behind all others.
+//! Directories that get children after all others.
 ghost use Rattle.std.specs.Prelude.{◌≡◌, ◌++◌, [], ◌∷◌, OnOk};
 ghost use Rattle.std.specs.List.{AllByRecursion};
 ghost use Rattle.std.specs.Map.{keys_of};
@@ -11,7 +11,7 @@ use super::{Child, Dir};
 use sftp_path::{Name, NoMemory};
 
 impl Dir {
-    /// Puts a child behind all others.
+    /// Puts a child after all others.
     ///
     /// # Errors
     ///

@@ -6,7 +6,7 @@ use Rattle.sftp_client.specs.Client.{open_limit}
 use Rattle.sftp_client.proofs.Sessions.{sent_with_id}
 use Rattle.sftp_client.proofs.pairing.Pairing.enter.Goals as goal
 
--- The request is entered with the first free id, behind those that are open.
+-- The request is entered with the first free id, after those that are open.
 pub returns-clause-entered : goal.returns-clause-entered
 returns-clause-entered c =
     let old = c.self.inside in

@@ -1,4 +1,4 @@
--- Each row's entry comes behind all others.
+-- Each row's entry comes after all others.
 use Rattle.std.proofs.Common.{◌≡◌, [], ◌∷◌, ◌<◌, ◌++◌, length, take, ap, sym, subst, ◌∙◌, append_assoc, append-nil, arith, refl}
 use Rattle.std.specs.Vec.Iter.{into_iter_items}
 use Rattle.std.proofs.lemmas.List.{nil_from_length, length-append}

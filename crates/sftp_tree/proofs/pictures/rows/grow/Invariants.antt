@@ -1,4 +1,4 @@
--- The entries so far are what the rows so far say, and the others may come behind them.
+-- The entries so far are what the rows so far say, and the others may come after them.
 use Rattle.std.proofs.Common.{◌≡◌, ◌≤◌, [], ◌++◌, length}
 use Rattle.std.specs.Vec.Iter.{into_iter_items, into_iter_len}
 use Rattle.sftp_treefile.specs.Limits.{usual_limits}

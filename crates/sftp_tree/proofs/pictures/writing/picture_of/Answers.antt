@@ -3,7 +3,7 @@ use Rattle.std.proofs.Common.{[], ◌++◌, sym, ap, ◌∙◌, List, ℕ}
 use Rattle.std.specs.List.{flat_map}
 use Rattle.sftp_treefile.specs.TreeFile.{row_text}
 use Rattle.sftp_treefile.specs.TreeFileParts.{head_bytes}
-use Rattle.sftp_tree.specs.Picture.{rows_behind}
+use Rattle.sftp_tree.specs.Picture.{rows_after}
 use Rattle.sftp_tree.specs.PictureParts.{head_of}
 use Rattle.sftp_tree.proofs.TreeFiles.Written.{picture_written}
 use Rattle.sftp_tree.proofs.pictures.writing.picture_of.Goals as goal
@@ -12,4 +12,4 @@ pub returns : goal.returns
 returns c =
     let t = c.args.tree.now in
     let head = c.in_ok-put_front.ensures ∙ ap (λ (xs : List ℕ). xs ++ head_bytes (head_of t)) c.in_ok-out.ensures.items in
-    c.in_ok-put_entries.ensures.out ∙ ap (λ (xs : List ℕ). xs ++ flat_map row_text (rows_behind t.files [] t.names)) head ∙ sym (picture_written t c.put_entries.ensures.kept)
+    c.in_ok-put_entries.ensures.out ∙ ap (λ (xs : List ℕ). xs ++ flat_map row_text (rows_after t.files [] t.names)) head ∙ sym (picture_written t c.put_entries.ensures.kept)

@@ -4,7 +4,7 @@ use Rattle.std.specs.List.{AllByRecursion}
 use Rattle.std.specs.Map.{keys_of}
 use Rattle.std.specs.declared.cmp.Ordering.TheVariants.{Less}
 use Rattle.sftp_path.specs.Place.{Place, place_cmp}
-use Rattle.sftp_tree.specs.Growth.{names_in, place_in, open_behind}
+use Rattle.sftp_tree.specs.Growth.{names_in, place_in, open_after}
 use Rattle.sftp_tree.specs.Tree.{Names}
 use Rattle.sftp_tree.proofs.entries.growing.Growth.put.Goals as goal
 
@@ -27,4 +27,4 @@ returns-clause-names c =
 
 pub returns-clause-place : goal.returns-clause-place
 returns-clause-place c = c.in_ok-add.ensures.place
-    ∙ ap (λ (top : Place). open_behind (top ++ c.args.name ∷ []) c.args.node) c.in_ok-close_below.ensures.place
+    ∙ ap (λ (top : Place). open_after (top ++ c.args.name ∷ []) c.args.node) c.in_ok-close_below.ensures.place
