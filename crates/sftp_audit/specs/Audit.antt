@@ -18,7 +18,7 @@ use Rattle.sftp_transcript.specs.Transcript.{IsRecord}
 use Rattle.sftp_transcript.specs.Explained.{Explained, exchanges_of}
 use Rattle.sftp_transcript.specs.Sound.{Sound}
 use Rattle.sftp_transcript.specs.Streams.{one_more}
-use Rattle.sftp_transcript.specs.Begun.{BeginsRecord, FaultBehind, HasGiven}
+use Rattle.sftp_transcript.specs.Begun.{BeginsRecord, FaultAfter, HasGiven}
 use Rattle.sftp_transcript.specs.Recorded.{Reading}
 use Rattle.sftp_transcript.specs.declared.stage.Stage.TheVariants as stages
 use Rattle.sftp_audit.specs.Auditor.{Audited, StandsFor, Refuses, LacksReply}
@@ -61,7 +61,7 @@ error_of_session refusal = audit_errors.Refused refusal
 abbrev pub HasStart : List ℕ → Type 0
 HasStart tree = (start : Tree) × IsStart start tree
 
--- an event is refused behind events that are sound: the file records them, then this one, and then anything
+-- an event is refused after events that are sound: the file records them, then this one, and then anything
 pub record RefusedAt (start : State) (transcript : List ℕ) (refusal : Refusal) : Type 0 where
   pub events : List Event
   pub event : Event
@@ -79,12 +79,12 @@ pub record RefusedAtEnd (start : State) (transcript : List ℕ) (refusal : Refus
   pub sound : Sound Allowed start events end
   pub lacks : LacksReply events refusal
 
--- the file has a fault behind events that are sound
+-- the file has a fault after events that are sound
 pub record FaultAt (start : State) (transcript : List ℕ) (error : TranscriptError) : Type 0 where
   pub events : List Event
   pub end : State
   pub sound : Sound Allowed start events end
-  pub fault : FaultBehind transcript events error
+  pub fault : FaultAfter transcript events error
 
 -- What an audit meets first: the bytes are no tree; or, record by record, the fault of a record or the refusal of its
 -- event; or, at the end, a request without a reply.
@@ -96,6 +96,17 @@ IsFirstFault tree transcript (audit_errors.Refused refusal) =
     (start : Tree) × IsStart start tree
     × (RefusedAt (started start) transcript refusal ⊎ RefusedAtEnd (started start) transcript refusal)
 IsFirstFault tree transcript audit_errors.NoMemory = ⊤
+
+-- the error says that the bytes are no tree
+abbrev pub IsTreeError : AuditError → Type 0
+IsTreeError (audit_errors.Tree error) = ⊤
+IsTreeError other = ⊥
+
+-- what an error says of the tree file: it is malformed, or it is that of a tree; nothing if memory ran out
+abbrev pub JudgesTree : List ℕ → AuditError → Type 0
+JudgesTree tree (audit_errors.Tree error) = HasStart tree → ⊥
+JudgesTree tree audit_errors.NoMemory = ⊤
+JudgesTree tree other = HasStart tree
 
 -- memory ran out, or the source failed
 abbrev pub IsNoJudgement : AuditError → Type 0
@@ -117,7 +128,7 @@ IsExcusedBy may_fail other = ⊤
 abbrev pub IsNew : List ℕ → Reading → Type 0
 IsNew bytes s = HasGiven bytes [] bytes s × (s.stage ≡ stages.Opening)
 
--- the bytes record some events; the auditor stands for these, and so many of them are requests
+-- the bytes record some events; the auditor stands for these, and `requests` of them are requests
 pub record WasFed (start : State) (transcript : List ℕ) (requests : ℕ) (auditor : Audited) : Type 0 where
   pub events : List Event
   pub recorded : IsRecord events transcript

@@ -7,7 +7,7 @@ use Rattle.sftp_handles.specs.State.{State}
 use Rattle.sftp_handles.specs.Allowed.{Allowed}
 use Rattle.sftp_transcript.specs.declared.events.Event.{Event}
 use Rattle.sftp_transcript.specs.declared.events.Event.TheVariants.{Asked, Replied}
-use Rattle.sftp_transcript.specs.Begun.{number_behind}
+use Rattle.sftp_transcript.specs.Begun.{number_after_events}
 use Rattle.sftp_transcript.specs.Explained.{Run, leading_pairs, window, turn_after, closed}
 use Rattle.sftp_transcript.specs.Sound.{Sound, IsWaiting}
 use Rattle.sftp_audit.specs.declared.errors.Refusal.{Refusal}
@@ -27,7 +27,7 @@ pub record Audited : Type 0 where
 pub record StandsFor (start : State) (events : List Event) (a : Audited) : Type 0 where
   pub sound : Sound Allowed start events a.state
   pub kept : a.kept ≡ unsettled (recorded_exchanges events)
-  pub number : a.number ≡ number_behind events
+  pub number : a.number ≡ number_after_events events
   pub unrefused : a.refusal ≡ None
 
 -- The reply in the record of this number is the first in the order asked that is not allowed: all requests before its
@@ -46,18 +46,24 @@ pub record IsFirstWrong (start : State) (exchanges : List Exchange) (number : �
   pub run : Run Allowed start (leading_pairs (ledger_of before)) mid
   pub wrong : (end : State) → Allowed mid request reply end → ⊥
 
+-- where the refusal is `NotAllowed`, this is the state in which the reply is not allowed
+abbrev pub IsWrongIn : State → List Exchange → State → Refusal → Type 0
+IsWrongIn start exchanges state (refusals.NotAllowed number) =
+    (wrong : IsFirstWrong start exchanges number) × (wrong.mid ≡ state)
+IsWrongIn start exchanges state other = ⊤
+
 -- from the oldest unanswered request on, as many were asked as the window allows
 abbrev pub IsWindowFull : List Event → Type 0
 IsWindowFull events = window ≤ length (unsettled (recorded_exchanges events))
 
--- why an event is refused behind others that are sound from the start
+-- why an event is refused after others that are sound from the start
 abbrev pub Refuses : State → List Event → Event → Refusal → Type 0
 Refuses start events (Replied reply) (refusals.UnknownReply number) =
-    (number ≡ number_behind events) × (turn_after reply.id closed events ≡ closed)
+    (number ≡ number_after_events events) × (turn_after reply.id closed events ≡ closed)
 Refuses start events (Asked request) (refusals.IdInUse number) =
-    (number ≡ number_behind events) × IsWaiting events request.id
+    (number ≡ number_after_events events) × IsWaiting events request.id
 Refuses start events (Asked request) (refusals.Window number) =
-    (number ≡ number_behind events) × (turn_after request.id closed events ≡ closed) × IsWindowFull events
+    (number ≡ number_after_events events) × (turn_after request.id closed events ≡ closed) × IsWindowFull events
 Refuses start events (Replied reply) (refusals.NotAllowed number) =
     IsWaiting events reply.id × IsFirstWrong start (recorded_exchanges (events ++ Replied reply ∷ [])) number
 Refuses start events event refusals.NoMemory = ⊤
@@ -80,7 +86,7 @@ RefusesToSettle start exchanges (refusals.NotAllowed number) = IsFirstWrong star
 RefusesToSettle start exchanges refusals.NoMemory = ⊤
 RefusesToSettle start exchanges other = ⊥
 
--- the events are sound from the start, and this is kept of them; the number is still that of the last event's record
+-- the events are sound from the start, and this is kept of them, whatever the number
 pub record IsNoted (start : State) (events : List Event) (a : Audited) : Type 0 where
   pub sound : Sound Allowed start events a.state
   pub kept : a.kept ≡ unsettled (recorded_exchanges events)

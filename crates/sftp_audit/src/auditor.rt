@@ -8,7 +8,8 @@ ghost use Rattle.sftp_transcript.specs.Begun.{first_number};
 ghost use Rattle.sftp_transcript.specs.Explained.{Explained, window};
 ghost use Rattle.sftp_audit.specs.declared.errors.Refusal.{Refusal};
 ghost use Rattle.sftp_audit.specs.Audit.{started};
-ghost use Rattle.sftp_audit.specs.Auditor.{StandsFor, Refuses, LacksReply, IsNoted};
+ghost use Rattle.sftp_audit.specs.Exchanges.{recorded_exchanges};
+ghost use Rattle.sftp_audit.specs.Auditor.{StandsFor, Refuses, LacksReply, IsWrongIn, IsNoted};
 
 use crate::errors::Refusal;
 use crate::exchanges::RecordedReply;
@@ -70,10 +71,10 @@ impl Auditor {
     ///
     /// # Errors
     ///
-    /// A refusal, `NoMemory` included, is final: each later call returns it again, and nothing is kept.
+    /// A refusal, `NoMemory` included, is final: each later call returns it again, and no request is kept.
     ///
-    /// - `UnknownReply` at the event's record if no request of the reply's id waits for its reply.
-    /// - `IdInUse` at the event's record if a request of the same id waits.
+    /// - `UnknownReply` at the event's record if no unanswered request has the reply's id.
+    /// - `IdInUse` at the event's record if an unanswered request has the same id.
     /// - `Window` at the event's record if 1,024 requests were asked from the oldest unanswered one on.
     /// - `NotAllowed` at the record of the first reply, in the order asked, that is not allowed. It is returned once
     ///   all requests before its own have their replies.
@@ -85,7 +86,11 @@ impl Auditor {
         // A refusal has its reason.
         ensures refused { IfErr result (λ refusal. (start : State) (events : List Event) →
             StandsFor start events self.old → Refuses start events event refusal) }
-        // It is for good, and nothing is kept.
+        // After `NotAllowed` the session is the one in which the reply is not allowed.
+        ensures wrong { IfErr result (λ refusal. (start : State) (events : List Event) →
+            StandsFor start events self.old
+            → IsWrongIn start (recorded_exchanges (events ++ event ∷ [])) self.new.state refusal) }
+        // It is for good, and no request is kept.
         ensures for_good { IfErr result (λ refusal. (self.new.refusal ≡ Some refusal) × (self.new.kept ≡ [])) }
         ensures again { (refusal : Refusal) → self.old.refusal ≡ Some refusal → result ≡ Err refusal }
     {
@@ -117,6 +122,9 @@ impl Auditor {
             StandsFor start events self.old → IsNoted start (events ++ event ∷ []) self.new) }
         ensures refused { IfErr result (λ refusal. (start : State) (events : List Event) →
             StandsFor start events self.old → Refuses start events event refusal) }
+        ensures wrong { IfErr result (λ refusal. (start : State) (events : List Event) →
+            StandsFor start events self.old
+            → IsWrongIn start (recorded_exchanges (events ++ event ∷ [])) self.new.state refusal) }
     {
         match event {
             Event::Asked(request) => self.ledger.ask(request, self.number),
@@ -128,6 +136,14 @@ impl Auditor {
                 settle(&mut self.ledger, &mut self.session)
             }
         }
+    }
+
+    /// The session after the requests that are done. After `NotAllowed` it is the one in which the reply is not
+    /// allowed.
+    pub fn session(&self) -> &Session<GivenTable>
+        ensures { result.now ≡ self.now.state }
+    {
+        &self.session
     }
 
     /// The tree where the session ends, as if what is still open were closed. It takes no memory.
@@ -157,7 +173,7 @@ impl Auditor {
     }
 
     /// How many requests are kept with their replies: those from the oldest unanswered one on, at most 1,024; 0 where
-    /// none waits, and after a refusal. It takes no memory.
+    /// all are answered, and after a refusal. It takes no memory.
     pub fn kept(&self) -> usize
         ensures count { result ≡ length self.now.kept }
         ensures few { result ≤ window }

@@ -6,6 +6,7 @@ ghost use Rattle.sftp_tree.specs.Picture.{picture};
 ghost use Rattle.sftp_handles.specs.State.{State};
 ghost use Rattle.sftp_audit.specs.Auditor.{StandsFor};
 ghost use Rattle.sftp_audit.specs.Audit.{Accounts, IsFirstFault, IsNoJudgement, CountsFailure, IsExcusedBy, IsNew};
+ghost use Rattle.sftp_audit.specs.Audit.{HasStart, IsTreeError, JudgesTree};
 ghost use Rattle.sftp_audit.specs.Audit.{IsPlain, WasFed, StopsFeed, request_count, is_request};
 
 use crate::auditor::Auditor;
@@ -42,8 +43,9 @@ pub struct Accepted {
 /// - `Tree` if the bytes are not a tree file; the fault is the first one from left to right.
 /// - `Transcript` if a record has a fault, with its number; the events before it are not refused.
 /// - `Refused` if the tree does not explain the session, whatever else would follow, with the number of a record: of a
-///   reply that no request waits for; of a request whose id one that waits has, or which comes too late for one that
-///   waits; of the first reply, in the order asked, that is not allowed; or of the oldest request without a reply.
+///   reply whose id no unanswered request has; of a request whose id an unanswered one has, or which comes too late for
+///   an unanswered one; of the first reply, in the order asked, that is not allowed; or of the oldest request without a
+///   reply.
 /// - `NoMemory` if memory ran out. The other errors never have `NoMemory` inside.
 pub fn audit(alloc: Global, tree: &[u8], transcript: &[u8]) -> Result<Accepted, AuditError>
     // An accepted session accounts for a run, and the result is the tree where it ends.
@@ -86,6 +88,8 @@ pub fn audit_stream<R: Source>(
         → Accounts tree.now transcript start events end → ⊥) }
     ensures first { IfErr result (λ e. (IsNoJudgement e → ⊥) → (transcript : List ℕ) → IsNew transcript records.old →
         IsFirstFault tree.now transcript e) }
+    // The tree file is judged first, whatever the reader did before.
+    ensures judged { MatchResult result (λ _. HasStart tree.now) (JudgesTree tree.now) }
     // The source failed once where the error is `Io`, and otherwise never.
     ensures counts { records.old.fault ≡ None → MatchResult result
         (λ _. records.new.ahead.failures ≡ records.old.ahead.failures)
@@ -106,12 +110,16 @@ pub fn audit_stream<R: Source>(
 ///
 /// The first error: `Refused` if an event is refused, `Transcript` if the next record has a fault or the source fails,
 /// and `NoMemory` if memory runs out.
-fn feed_all<R: Source>(auditor: &mut Auditor, records: &mut Reader<R>) -> Result<u64, AuditError>
+pub fn feed_all<R: Source>(
+    auditor: &mut Auditor,
+    records: &mut Reader<R>,
+) -> Result<u64, AuditError>
     // Of a reader that has read nothing yet, and an auditor that stands for no events, from any start.
     ensures fed { IfOk result (λ requests. (start : State) (transcript : List ℕ) → IsNew transcript records.old
         → StandsFor start [] auditor.old → WasFed start transcript requests auditor.new) }
     ensures stopped { IfErr result (λ e. (IsNoJudgement e → ⊥) → (start : State) (transcript : List ℕ)
         → IsNew transcript records.old → StandsFor start [] auditor.old → StopsFeed start transcript e) }
+    ensures treeless { IfErr result (λ e. IsTreeError e → ⊥) }
     ensures counts { records.old.fault ≡ None → MatchResult result
         (λ _. records.new.ahead.failures ≡ records.old.ahead.failures)
         (λ e. CountsFailure e records.old.ahead.failures records.new.ahead.failures) }

@@ -101,8 +101,8 @@ pub fn wrong_byte()
 {}
 
 /// The auditor judges replies in the order in which their requests were asked. In the session whose replies come
-/// backwards, where that to the removal says OK, it keeps all three requests as long as the first one waits. The last
-/// reply, in record 8, settles them, and the one that is refused is that to the removal, in record 6.
+/// backwards, where that to the removal says OK, it keeps all three requests as long as the first one is unanswered.
+/// The last reply, in record 8, settles them, and the one that is refused is that to the removal, in record 6.
 pub fn refused_in_order_asked()
     ensures nothing_settled { StandsFor (started blank) (two_backward_replies 0)
         (auditor_with blank (recorded_exchanges (two_backward_replies 0)) 8) }
@@ -111,8 +111,8 @@ pub fn refused_in_order_asked()
     ensures in_bytes { RefusedAt (started blank) removal_done_bytes (NotAllowed 6) }
 {}
 
-/// A second reply to one request is refused, and so is a second request with the id of one that waits. Once a request
-/// has its reply, its id may come again.
+/// A second reply to one request is refused, and so is a second request with the id of an unanswered one. Once a
+/// request has its reply, its id may come again.
 pub fn ids_in_use()
     ensures answered_twice { Refuses (started blank) last_answered (status 3 4) (UnknownReply 7) }
     ensures asked_twice { Refuses (started blank) three_requests (mkdir 1 (codes "/c")) (IdInUse 6) }
@@ -121,8 +121,8 @@ pub fn ids_in_use()
         (auditor_with blank (recorded_exchanges id_used_again) 8) }
 {}
 
-/// Two requests are asked, and the first one is answered: it is settled, and the second one, in record 4, waits. If the
-/// session ends there, that is the request without a reply.
+/// Two requests are asked, and the first one is answered: it is settled, and the second one, in record 4, is not. If
+/// the session ends there, that is the request without a reply.
 pub fn oldest_waits()
     ensures settled { StandsFor (started blank) first_answered (auditor_with with_a second_waits 6) }
     ensures unanswered { LacksReply first_answered (Unanswered 4) }

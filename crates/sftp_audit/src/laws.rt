@@ -1,14 +1,17 @@
 //! Laws of sessions, as theorems on the definitions that the auditor's contract names. The functions do nothing; each
 //! promise is in the contract.
-ghost use Rattle.std.specs.Prelude.{◌≡◌, ◌≢◌, ℕ, List};
+ghost use Rattle.std.specs.Prelude.{◌≡◌, ◌≢◌, ◌⊎◌, ℕ, List};
 ghost use Rattle.sftp_transcript.specs.declared.events.Event.{Event};
 ghost use Rattle.sftp_handles.specs.State.{State};
 ghost use Rattle.sftp_handles.specs.Allowed.{Allowed};
 ghost use Rattle.sftp_transcript.specs.Explained.{Explained};
 ghost use Rattle.sftp_transcript.specs.Sound.{Sound, IsWaiting};
+ghost use Rattle.sftp_audit.specs.declared.errors.AuditError.{AuditError};
+ghost use Rattle.sftp_audit.specs.declared.errors.AuditError.TheVariants as audit_errors;
 ghost use Rattle.sftp_audit.specs.declared.errors.Refusal.{Refusal};
 ghost use Rattle.sftp_audit.specs.declared.errors.Refusal.TheVariants.{NoMemory};
 ghost use Rattle.sftp_audit.specs.Auditor.{Refuses};
+ghost use Rattle.sftp_audit.specs.Audit.{IsFirstFault, IsTreeError, IsPlain};
 
 /// A start and the events of a session fix the end, since each reply fixes the state after it.
 pub fn one_end()
@@ -16,7 +19,7 @@ pub fn one_end()
         Explained Allowed s events a → Explained Allowed s events b → a ≡ b }
 {}
 
-/// A session is explained exactly if its events are sound and no request waits for its reply.
+/// A session is explained exactly if its events are sound and each request is answered.
 pub fn explained_when_none_waits()
     ensures sound { (start : State) (events : List Event) (end : State) →
         Explained Allowed start events end → Sound Allowed start events end }
@@ -31,4 +34,12 @@ pub fn explained_when_none_waits()
 pub fn one_refusal()
     ensures { (start : State) (events : List Event) (event : Event) (a b : Refusal) →
         Refuses start events event a → Refuses start events event b → a ≢ NoMemory → b ≢ NoMemory → a ≡ b }
+{}
+
+/// An audit of given bytes has one first fault at most, unless memory runs out. Where the bytes are no tree file, it is
+/// `Tree`, and the law does not say with which fault.
+pub fn one_first_fault()
+    ensures { (tree transcript : List ℕ) (a b : AuditError) →
+        IsFirstFault tree transcript a → IsFirstFault tree transcript b → IsPlain a → IsPlain b →
+        a ≢ audit_errors.NoMemory → b ≢ audit_errors.NoMemory → (IsTreeError a × IsTreeError b) ⊎ (a ≡ b) }
 {}

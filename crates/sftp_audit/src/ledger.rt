@@ -17,7 +17,7 @@ use std::marker::Model;
 /// How many requests may be asked from an unanswered one on, itself included. This limit is this profile's own.
 pub const WINDOW: usize = 1_024;
 
-/// The exchanges that are kept, in the order asked. No two requests of one id wait for their replies.
+/// The exchanges that are kept, in the order asked. No two unanswered requests have one id.
 #[derive(Drop)]
 pub(crate) struct Ledger {
     exchanges: VecDeque<Exchange>,
@@ -59,12 +59,12 @@ impl Ledger {
         self.exchanges.len()
     }
 
-    /// Notes a request, which waits for its reply. The number is that of its record.
+    /// Notes a request, which is unanswered. The number is that of its record.
     ///
     /// # Errors
     ///
-    /// `IdInUse` if a request of the same id waits, `Window` if `WINDOW` exchanges are kept, and `NoMemory` if memory
-    /// runs out.
+    /// `IdInUse` if an unanswered request has the same id, `Window` if `WINDOW` exchanges are kept, and `NoMemory` if
+    /// memory runs out.
     pub(crate) fn ask(&mut self, request: Request, number: u64) -> Result<(), Refusal>
         ensures noted { OnOk result
             (self.new ≡ self.old ++ record { request = request; number = number; reply = None } ∷ []) }
@@ -91,11 +91,11 @@ impl Ledger {
         }
     }
 
-    /// Notes a reply: the request of its id that waits gets it.
+    /// Notes a reply to the unanswered request of its id.
     ///
     /// # Errors
     ///
-    /// `UnknownReply` if no request of its id waits.
+    /// `UnknownReply` if no unanswered request has its id.
     pub(crate) fn answer(&mut self, recorded: RecordedReply) -> Result<(), Refusal>
         ensures noted { OnOk result (self.new ≡ with_reply recorded self.old) }
         ensures waited { OnOk result (is_open recorded.reply.id self.old ≡ true) }
@@ -106,8 +106,8 @@ impl Ledger {
                 record: recorded.number,
             });
         };
-        let place = place_of(ordinal, self.first);
-        match self.exchanges.get_mut(place) {
+        let position = position_of(ordinal, self.first);
+        match self.exchanges.get_mut(position) {
             Some(exchange) => {
                 exchange.reply = Some(recorded);
                 Ok(())
@@ -145,8 +145,8 @@ impl Ledger {
 ///
 /// # Errors
 ///
-/// `IdInUse` if a request of the same id waits, `Window` if `WINDOW` exchanges are kept, and `NoMemory` if memory
-/// runs out.
+/// `IdInUse` if an unanswered request has the same id, `Window` if `WINDOW` exchanges are kept, and `NoMemory` if
+/// memory runs out.
 fn enter(
     exchanges: &mut VecDeque<Exchange>,
     unanswered: &mut IndexMap<u32, u64>,
@@ -178,8 +178,8 @@ fn enter(
 }
 
 /// The position of the exchange with this ordinal, given the ordinal of the first one.
-fn place_of(ordinal: u64, first: u64) -> usize
-    ensures { (place : ℕ) → place ≤ window → IsOrdinal first place ordinal → result ≡ place }
+fn position_of(ordinal: u64, first: u64) -> usize
+    ensures { (position : ℕ) → position ≤ window → IsOrdinal first position ordinal → result ≡ position }
 {
     ordinal.wrapping_sub(first) as usize
 }

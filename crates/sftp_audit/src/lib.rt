@@ -13,7 +13,7 @@ mod ledger;
 mod settling;
 
 pub use auditor::Auditor;
-pub use audits::{Accepted, audit, audit_stream};
+pub use audits::{Accepted, audit, audit_stream, feed_all};
 pub use blank::{blank_tree, blank_tree_is_a_start};
 pub use errors::{AuditError, Refusal};
 pub use sftp_transcript::{Event, TranscriptError};

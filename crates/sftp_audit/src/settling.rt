@@ -3,7 +3,7 @@ ghost use Rattle.std.specs.Prelude.{◌≡◌, OnOk, IfErr};
 ghost use Rattle.sftp_handles.specs.Allowed.{Allowed};
 ghost use Rattle.sftp_transcript.specs.Explained.{Run, leading_pairs};
 ghost use Rattle.sftp_audit.specs.Exchanges.{ledger_of, unsettled};
-ghost use Rattle.sftp_audit.specs.Auditor.{RefusesToSettle};
+ghost use Rattle.sftp_audit.specs.Auditor.{RefusesToSettle, IsWrongIn};
 
 use crate::errors::Refusal;
 use crate::ledger::Ledger;
@@ -18,6 +18,7 @@ pub(crate) fn settle(ledger: &mut Ledger, session: &mut Session<GivenTable>) -> 
     ensures kept { OnOk result (ledger.new ≡ unsettled ledger.old) }
     ensures ran { OnOk result (Run Allowed session.old (leading_pairs (ledger_of ledger.old)) session.new) }
     ensures refused { IfErr result (RefusesToSettle session.old ledger.old) }
+    ensures wrong { IfErr result (IsWrongIn session.old ledger.old session.new) }
 {
     'settle: while let Some(exchange) = ledger.first() {
         let Some(recorded) = &exchange.reply else {

@@ -249,7 +249,7 @@ first-pending Pending rest pending = refl
 first-pending (Done reply) rest pending = absurd (true≢false (sym pending))
 first-pending Sent rest pending = absurd (true≢false (sym pending))
 
--- the acts behind the first request
+-- the acts after the first request
 acts-behind : (s : State) (entry : Entry) (queue : List Entry) → server_acts s (entry ∷ queue)
     ≡ act_at (is_pending entry.progress && true) (is_some (reply_of entry.progress)) 0
     ++ map later (acts_from (λ j. ready_in server_clash s (entry ∷ take j queue) (slice_get queue j)) (λ j. is_some
@@ -261,7 +261,7 @@ acts-behind s entry queue =
     (acts-later (λ j. ready_in server_clash s (take j (entry ∷ queue)) (slice_get (entry ∷ queue) j)) (λ j. is_some
     (reply_at (entry ∷ queue) j)) 0 (length queue))
 
--- behind a first request that is done or sent, the acts are those of the rest
+-- after a first request that is done or sent, the acts are those of the rest
 acts-worked : (s : State) (entry : Entry) (queue : List Entry) → is_pending entry.progress ≡ false
     → server_acts s queue ≡ acts_of queue → server_acts s (entry ∷ queue) ≡ acts_of (entry ∷ queue)
 unfolding acts_of

@@ -39,7 +39,7 @@ eqb-zero n = grind (arith, cases_Bool, eqb-true)
 zero-eqb : (k : ℕ) → (0 == suc k) ≡ false
 zero-eqb k = grind (arith, cases_Bool, eqb-true)
 
--- behind a pending request nothing is ready
+-- after a pending request nothing is ready
 pub behind_pending : (s : State) (first : Entry) (earlier : List Entry) (found : Option Entry)
     → is_pending first.progress ≡ true
     → ready_in server_clash s (first ∷ earlier) found ≡ false
@@ -119,7 +119,7 @@ ready-none s (entry ∷ queue) (suc k) is =
 
 -- ---- a request at its position
 
--- the queue is cut at the request: what is before it, and what is behind it
+-- the queue is cut at the request: what is before it, and what is after it
 pub record IsAt (queue : List Entry) (k : ℕ) (request : Request) (progress : Progress) : Type 0 where
   pub front : List Entry
   pub back : List Entry

@@ -95,7 +95,9 @@ can_take machine request = nat_lt (length machine.queue) machine.window && not (
 
 -- the request is last in the queue, and pending
 abbrev pub taken : {S : Type 0} → Machine S → Request → Machine S
-taken machine request = record machine { queue = machine.queue ++ record { request = request; progress = Pending } ∷ [] }
+taken machine request = record machine {
+  queue = machine.queue ++ record { request = request; progress = Pending } ∷ [];
+}
 
 -- the request at the position was done: its reply is allowed in the state, and can be encoded
 pub record IsWorked {S : Type 0} (step : StepOf S) (before : Machine S) (k : ℕ) (after : Machine S) : Type 0 where
@@ -117,7 +119,8 @@ pub record IsSent {S : Type 0} (before : Machine S) (k : ℕ) (reply : Reply) (a
   pub back : List Entry
   pub queue_is : before.queue ≡ front ++ record { request = request; progress = Done reply } ∷ back
   pub position : length front ≡ k
-  pub marked : after ≡ record before { queue = from_unsent (front ++ record { request = request; progress = Sent } ∷ back) }
+  pub marked : after
+      ≡ record before { queue = from_unsent (front ++ record { request = request; progress = Sent } ∷ back) }
 
 -- the machine is as before, and no event is made
 pub record IsIdle {S : Type 0} (before : Machine S) (events : List Event) (after : Machine S) : Type 0 where

@@ -21,12 +21,12 @@ abbrev pub IsFirst : List ℕ → Type 0 → First → Type 0
 IsFirst bytes over (Init count) = BeginsWithGreeting bytes count
 IsFirst bytes over (Fault fault) = IsUnopenedBy bytes over fault
 
--- the same of bytes behind which more may come: nothing is known while neither a packet nor a fault is in front
+-- the same of bytes after which more may come: nothing is known while neither a packet nor a fault is in front
 abbrev pub IsInFront : List ℕ → Option First → Type 0
 IsInFront bytes None = front_of Client bytes ≡ Ok None
 IsInFront bytes (Some first) = IsFirst bytes ⊥ first
 
--- what a first packet of so many bytes is
+-- what a first packet of `count` bytes is
 abbrev pub IsGreetingOf : Packet → ℕ → First → Type 0
 IsGreetingOf packet count (Init taken) = IsInit packet × (taken ≡ count)
 IsGreetingOf packet count (Fault faults.BadInit) = IsInit packet → ⊥

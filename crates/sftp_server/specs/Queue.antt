@@ -76,7 +76,7 @@ AreUnsentApart [] = Unit {0}
 AreUnsentApart (entry ∷ queue) =
     (is_sent entry.progress ≡ false → is_unsent entry.request.id queue ≡ false) × AreUnsentApart queue
 
--- so many requests are done or sent, and those behind them are pending
+-- the given number of requests are done or sent, and those after them are pending
 unfoldable pub IsSplit : ℕ → List Entry → Type 0
 IsSplit zero queue = AllByRecursion IsPendingEntry queue
 IsSplit (suc n) [] = ⊥

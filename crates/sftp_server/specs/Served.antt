@@ -58,7 +58,7 @@ abbrev pub recorded : List Packet → List ℕ
 recorded [] = []
 recorded (packet ∷ packets) = transcript_opening ++ flat_map record_text (packet ∷ packets)
 
--- the record of a packet behind others, with the opening if there are none
+-- the record of a packet after others, with the opening if there are none
 abbrev pub opened_record : List Packet → Packet → List ℕ
 opened_record [] packet = transcript_opening ++ record_text packet
 opened_record (first ∷ others) packet = record_text packet
@@ -136,7 +136,8 @@ pub record IsFaulty (start : Tree) (input : List ℕ) (over : Type 0) (output lo
   pub rest : List ℕ
   pub opened : IsOpened input output log init events rest
   pub served : IsServed start events end
-  pub broken : EndsSession events rest (place_after 0 (length (sent_by Client (session_packets init events)))) over fault
+  pub broken : EndsSession events rest
+      (place_after 0 (length (sent_by Client (session_packets init events)))) over fault
 
 -- ---- a session that was not opened
 
@@ -192,7 +193,8 @@ IsWrittenSoFar start packets output log (ends.Io streams.Writer) =
     × ((output ≡ sent_by Server packets)
     ⊎ ((packet : Packet) × (cut : List ℕ) × (side_of packet ≡ Server) × IsListed start (packets ++ packet ∷ [])
     × IsBeginning cut (spelling packet) × (output ≡ sent_by Server packets ++ cut)))
-IsWrittenSoFar start packets output log (ends.Io streams.Log) = (output ≡ sent_by Server packets) × IsCutInLast packets log
+IsWrittenSoFar start packets output log (ends.Io streams.Log) =
+    (output ≡ sent_by Server packets) × IsCutInLast packets log
 IsWrittenSoFar start packets output log ends.NoMemory = (output ≡ sent_by Server packets) × IsCutInLast packets log
 IsWrittenSoFar start packets output log other = ⊥
 

@@ -148,7 +148,7 @@ pub record IsRunning (start : Tree) (past now : StreamBytes) (ahead : Ahead) (co
 abbrev pub IsUnopenedYet : StreamBytes → StreamBytes → Ahead → Type 0
 IsUnopenedYet past now ahead = Passed past now ahead.held [] [] × (ahead.place ≡ 0)
 
--- the bytes begin with an INIT of version 3 or more, which takes so many of them
+-- the bytes begin with an INIT of version 3 or more, which takes `count` of them
 pub record BeginsWithGreeting (bytes : List ℕ) (count : ℕ) : Type 0 where
   pub init : Packet
   pub greeting : IsGreeting init

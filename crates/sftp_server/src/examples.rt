@@ -29,9 +29,9 @@ pub fn nothing_asked()
     ensures logged { length handshake_bytes ≡ 116 }
 {}
 
-/// A request with a byte after its last field, behind an INIT: VERSION is written, and the session ends with the fault
-/// `Trailing` at the request's place, although more input may come. It ends with no other wire fault, and at no other
-/// place.
+/// An INIT, and then a request with a byte after its last field: VERSION is written, and the session ends with the
+/// fault `Trailing` at the request's place, although more input may come. It ends with no other wire fault, and at no
+/// other place.
 pub fn byte_after_a_request()
     ensures served { EndsAfterVersion remove_and_byte ⊥
         (Ended.Fault blank (SessionFault.Wire (WireError.Unreadable Fault.Trailing 9))) }
@@ -48,8 +48,8 @@ pub fn same_id_twice()
         (handshake_bytes ++ (67 ∷ stat_bytes) ++ 83 ∷ attrs_bytes) (Ended.Fault blank (SessionFault.IdInUse 7)) }
 {}
 
-/// The input ends in a request, behind an INIT: VERSION is written, and the session ends with `Cut` at the request's
-/// place. It ends at no other place, and not as if the input had ended after a whole packet.
+/// An INIT, and then a request in which the input ends: VERSION is written, and the session ends with `Cut` at the
+/// request's place. It ends at no other place, and not as if the input had ended after a whole packet.
 pub fn cut_in_a_request()
     ensures served { EndsAfterVersion mkdir_beginning (Unit {0}) (Ended.Fault blank (SessionFault.Cut 9)) }
     ensures only { (end : Tree) (place : ℕ) → EndsAfterVersion mkdir_beginning (Unit {0})

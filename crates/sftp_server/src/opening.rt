@@ -24,7 +24,7 @@ use std::alloc::Global;
 /// What the input begins with.
 #[derive(Clone, Copy, Debug, PartialEq, Eq)]
 pub(crate) enum First {
-    /// An INIT of version 3 or more, of so many bytes.
+    /// An INIT of version 3 or more, and its length in bytes.
     Init(usize),
     /// Something else, or the input ended.
     Fault(SessionFault),
@@ -73,7 +73,7 @@ fn first_packet(alloc: Global, input: &Input) -> Result<Option<First>, Stop>
     }
 }
 
-/// What a first packet of so many bytes is.
+/// What a first packet of `count` bytes is.
 fn greeting(packet: &Packet, count: usize) -> First
     ensures { IsGreetingOf packet.now count result }
 {
@@ -87,7 +87,7 @@ fn greeting(packet: &Packet, count: usize) -> First
     }
 }
 
-/// Logs the INIT in front, of so many bytes, and takes these.
+/// Logs the INIT in front, `count` bytes long, and takes it.
 fn log_init<L: Sink>(input: &mut Input, count: usize, log: &mut Writer<L>) -> Result<(), Stop>
     requires unused { IsUnused log.old }
     requires whole { BeginsWithGreeting input.old.held count }
@@ -109,7 +109,8 @@ fn log_init<L: Sink>(input: &mut Input, count: usize, log: &mut Writer<L>) -> Re
     }
 }
 
-/// Opens the session by the INIT in front, of so many bytes: logs it, and sends VERSION. `output` is room for a packet.
+/// Opens the session by the INIT in front, `count` bytes long: logs it, and sends VERSION. `output` is room for a
+/// packet.
 ///
 /// # Errors
 ///

@@ -38,7 +38,7 @@ pub struct Entry {
     pub progress: Progress,
 }
 
-/// The requests of a core, in the order asked. All that are pending are behind all that are done or sent, and the first
+/// The requests of a core, in the order asked. All that are pending come after all that are done or sent, and the first
 /// is not sent.
 #[derive(Drop)]
 pub(crate) struct Queue {
@@ -249,7 +249,7 @@ fn strike(positions: &mut Vec<usize>, k: usize)
     }
 }
 
-/// Moves each position forward by so many, at most to the front.
+/// Moves each position forward by `count`, at most to the front.
 fn move_forward(positions: &mut Vec<usize>, count: usize)
     ensures moved { positions.new.items ≡ map (λ k. k - count) positions.old.items }
     ensures capacity { vec_capacity positions.new ≡ vec_capacity positions.old }

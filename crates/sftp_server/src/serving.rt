@@ -93,7 +93,7 @@ fn run<R: Source, W: Sink, L: Sink, S: Schedule>(
     }
 }
 
-/// Serves the session whose INIT, of so many bytes, is in front of the input, to its end.
+/// Serves the session whose INIT, `count` bytes long, is in front of the input, to its end.
 fn serve_from<R: Source, W: Sink, L: Sink, S: Schedule>(
     tree: Tree,
     input: &mut Input,

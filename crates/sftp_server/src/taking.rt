@@ -94,7 +94,7 @@ fn take_one<L: Sink>(
     }
 }
 
-/// Takes the packet in front, of so many bytes, if it is a request and the core has room.
+/// Takes the packet in front, `count` bytes long, if it is a request and the core has room.
 fn take_packet<L: Sink>(
     packet: Packet,
     count: usize,
@@ -120,7 +120,7 @@ fn take_packet<L: Sink>(
     }
 }
 
-/// Takes the request in front, of so many bytes, if the core has room.
+/// Takes the request in front, `count` bytes long, if the core has room.
 fn take_request<L: Sink>(
     request: Request,
     count: usize,
@@ -155,7 +155,7 @@ fn refused(id: u32, refuse: Refuse) -> Result<Front, Stop>
     }
 }
 
-/// Takes the request in front, of so many bytes, for which the core has room: logs it, and delivers it.
+/// Takes the request in front, `count` bytes long, for which the core has room: logs it, and delivers it.
 fn log_request<L: Sink>(
     request: Request,
     count: usize,
@@ -180,7 +180,7 @@ fn log_request<L: Sink>(
     }
 }
 
-/// Delivers the request in front, of so many bytes, which then counts as taken.
+/// Delivers the request in front, `count` bytes long, which then counts as taken.
 fn deliver(
     request: Request,
     count: usize,

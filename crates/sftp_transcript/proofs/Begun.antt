@@ -5,14 +5,17 @@ use Rattle.std.proofs.lemmas.List.{length-append}
 use Rattle.std.proofs.lemmas.List.Concat.{flat_map-cons}
 use Rattle.std.proofs.lemmas.Grind.{flat_map-append}
 use Rattle.sftp_transcript.specs.declared.errors.TranscriptError.{TranscriptError}
+use Rattle.sftp_transcript.specs.declared.errors.TranscriptError.TheVariants.{NoMemory}
 use Rattle.sftp_transcript.specs.declared.events.Event.{Event}
 use Rattle.sftp_transcript.specs.declared.stage.Stage.{Stage}
 use Rattle.sftp_transcript.specs.declared.stage.Stage.TheVariants as stages
-use Rattle.sftp_transcript.specs.Begun.{number_behind, BeginsRecord, ReadUpTo, HasGiven, HasGivenOf, FaultAhead, FaultOf, GaveFrom}
+use Rattle.sftp_transcript.specs.Ahead.{IsSameAhead, bytes_ahead}
+use Rattle.sftp_transcript.specs.Begun.{number_after_events, BeginsRecord, ReadUpTo, HasGiven, HasGivenOf, FaultAhead, FaultOf, GaveFrom, HasStillGiven}
 use Rattle.sftp_transcript.specs.Records.{BeginsInit, BeginsVersion}
-use Rattle.sftp_transcript.specs.Recorded.{Reading, number_after}
+use Rattle.sftp_transcript.specs.Recorded.{Reading, number_after, reported}
 use Rattle.sftp_transcript.specs.Steps.{HasAhead, IsExcuse, IsOpened, Took, BeginsEvent, TookEvent}
 use Rattle.sftp_transcript.specs.Transcript.{event_record, IsEvent}
+use Rattle.sftp_transcript.proofs.Taking.{known_kept}
 use Rattle.sftp_transcript.proofs.transcripts.Reading.{handshake_by}
 
 -- ---- a part in front is taken
@@ -77,8 +80,8 @@ event_read event bytes events before after read is = record {
 
 -- ---- an event is given, or a fault comes next
 
-pub number_more : (events : List Event) (event : Event) (number : ℕ) → number ≡ number_behind events
-    → number_after number (Some event) ≡ number_behind (events ++ event ∷ [])
+pub number_more : (events : List Event) (event : Event) (number : ℕ) → number ≡ number_after_events events
+    → number_after number (Some event) ≡ number_after_events (events ++ event ∷ [])
 number_more events event number is = omega (arith, is, length-append events (event ∷ []))
 
 pub gave_from : (old new : Reading) (given : Option Event) → old.stage ≡ stages.Events → new.stage ≡ stages.Events
@@ -119,3 +122,27 @@ fault_from s old error from bytes ahead events given (inr fault) = inr (record {
   read = subst (λ (u : Stage). ReadUpTo u bytes events ahead) from given.read;
   fault = subst (λ (n : ℕ). FaultAhead s n ahead error) given.number fault;
 })
+
+-- ---- with an error nothing is given
+
+pub given_kept : (old new : Reading) → IsSameAhead old.ahead new.ahead → new.stage ≡ old.stage → new.number ≡ old.number
+    → new.fault ≡ old.fault → (bytes ahead : List ℕ) (events : List Event) → HasGiven bytes events ahead old
+    → HasGivenOf bytes events new
+given_kept old new same stage number fault bytes ahead events given = (
+  ahead,
+  record {
+    ahead_are = known_kept (bytes_ahead old.ahead) (bytes_ahead new.ahead) ahead same.bytes given.ahead_are;
+    read = subst (λ (u : Stage). ReadUpTo u bytes events ahead) (sym stage) given.read;
+    number = number ∙ given.number;
+    faultless = fault ∙ given.faultless;
+  },
+)
+
+-- the error is reported
+pub still_given : (bytes : List ℕ) (events : List Event) (error : TranscriptError) (s : Reading) → HasGivenOf bytes events s
+    → HasStillGiven bytes events error (reported error s)
+still_given bytes events NoMemory s given = given
+still_given bytes events other s given = (
+  given.0,
+  record { ahead_are = given.1.ahead_are; read = given.1.read; number = given.1.number; faultless = refl },
+)

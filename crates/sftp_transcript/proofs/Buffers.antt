@@ -13,7 +13,7 @@ taken start end count room held e ordered some =
     ap (λ (l : List ℕ). take rest l) (sym (drop-drop count start room)) ∙ sym (drop-take count rest (drop start room))
     ∙ ap (λ (n : ℕ). drop count (take n (drop start room))) whole ∙ ap (λ (l : List ℕ). drop count l) (sym e)
 
--- the bytes that are read behind the front ones
+-- the bytes that are read after the front ones
 pub read_behind : (front more rest : List ℕ) (end count : ℕ) → length front ≡ end → count ≤ length more
     → take (end + count) (front ++ (more ++ rest)) ≡ front ++ take count more
 read_behind front more rest end count here within =

@@ -25,7 +25,7 @@ tested short out part read = cond short (Ok None) (cond out (Err Length) (cond p
 abbrev read_body : Side → ℕ → List ℕ → Front
 read_body side size body = packet_of side body >>= λ packet. Ok (Some (packet, size + 4))
 
--- the front of bytes of that length, with that number in front and that body behind it
+-- the front of bytes of that length, with that number in front and that body after it
 abbrev sized : Side → ℕ → ℕ → List ℕ → Front
 sized side size len body =
     tested (ltb len 4) (eqb size 0 || ltb packet_limit (size + 4)) (ltb len (size + 4)) (read_body side size body)
@@ -100,7 +100,7 @@ part_in_front side size after fits e =
 second_of : (a b : ℕ) (x y : List ℕ) → a ∷ x ≡ b ∷ y → x ≡ y
 second_of a b x y e = cc
 
--- the number behind the direction says how many bytes are missing
+-- the number after the direction says how many bytes are missing
 pub part_is_short : (side : Side) (held : List ℕ) (direction size : ℕ) (after : List ℕ) → held ≡ direction ∷ (uint32 size ++ after)
     → size < 2 ^ 32 → CutsPacket held side → (size + 4 ≤ packet_limit) × (length held < size + 5)
 part_is_short side held direction size after is fits part =

@@ -71,7 +71,7 @@ same_number a b x y p q e =
 second : (a b : ℕ) (x y : List ℕ) → a ∷ x ≡ b ∷ y → x ≡ y
 second a b x y e = cc
 
--- the number behind the direction is the length of what follows it in the record
+-- the number after the direction is the length of what follows it in the record
 pub record_length : (packet : Packet) (direction size : ℕ) (after more rest : List ℕ) → HasSpelling packet → size < 2 ^ 32
     → (direction ∷ (uint32 size ++ after)) ++ more ≡ record_text packet ++ rest
     → (length (record_text packet) ≡ size + 5) × (size + 4 ≤ packet_limit)

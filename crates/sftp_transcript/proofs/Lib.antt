@@ -6,6 +6,7 @@ pub mod Inputs
 pub mod Fronts
 pub mod Taking
 pub mod Faults
+pub mod Numbers
 pub mod Recorded
 pub mod Begun
 pub mod Packets

@@ -11,14 +11,14 @@ use Rattle.sftp_transcript.specs.declared.events.Event.TheVariants.{Asked, Repli
 use Rattle.sftp_transcript.specs.declared.stage.Stage.{Stage}
 use Rattle.sftp_transcript.specs.declared.stage.Stage.TheVariants as stages
 use Rattle.sftp_transcript.specs.Ahead.{Ahead, CutsAtEnd, ahead_without}
-use Rattle.sftp_transcript.specs.Begun.{FaultAhead, ReadUpTo, HasGiven, HasGivenOf, number_behind, with_given}
-use Rattle.sftp_transcript.specs.Packets.{MayCome, record_number, stage_opened, stage_behind, IsBehindOpening, BeginsNext, FaultNext, GivenRecord, GivesPacket, GivesNext, event_from, event_in, number_past, number_then}
+use Rattle.sftp_transcript.specs.Begun.{FaultAhead, ReadUpTo, HasGiven, HasGivenOf, number_after_events, with_given}
+use Rattle.sftp_transcript.specs.Packets.{MayCome, record_number, stage_opened, stage_after, IsAfterOpening, BeginsNext, FaultNext, GivenRecord, GivesPacket, GivesNext, event_from, event_in, number_past, number_then, IsStageThen, TookNoRecord}
 use Rattle.sftp_transcript.specs.Records.{Begins, IsInit, IsVersion}
 use Rattle.sftp_transcript.specs.Recorded.{Reading, rank}
 use Rattle.sftp_transcript.specs.Refused.{KindFault, IsEventPacket}
-use Rattle.sftp_transcript.specs.Steps.{HasAhead, IsExcuse, Took}
+use Rattle.sftp_transcript.specs.Steps.{HasAhead, IsExcuse, IsOpened, Took}
 use Rattle.sftp_transcript.specs.Transcript.{transcript_opening, record_text, packet_of}
-use Rattle.sftp_transcript.proofs.Begun.{opening_read, init_read, version_read, event_read, number_more}
+use Rattle.sftp_transcript.proofs.Begun.{opening_read, init_read, version_read, event_read, number_more, given_kept, given_passed}
 use Rattle.sftp_transcript.proofs.Faults.{init_fault, version_fault, event_fault}
 use Rattle.sftp_transcript.proofs.Inputs.{ahead_parts}
 use Rattle.sftp_transcript.proofs.Taking.{FrontHeld, front_taken}
@@ -44,9 +44,9 @@ record_took m packet rest before known begins =
     p.bytes_are ∙ ap (λ (l : List ℕ). l ++ p.left) begins.bytes_are ∙ append_assoc (record_text packet) rest p.left in
     (rest ++ p.left, front_taken m (record_text packet) (rest ++ p.left) rest front refl, record { spelled = begins.spelled; bytes_are = bytes })
 
--- ---- behind the opening
+-- ---- after the opening
 
-pub at_front : (stage : Stage) (before : List ℕ) → 1 ≤ rank stage → IsBehindOpening stage before before
+pub at_front : (stage : Stage) (before : List ℕ) → 1 ≤ rank stage → IsAfterOpening stage before before
 at_front stages.Opening before begun = absurd (omega (arith, begun))
 at_front stages.Init before begun = refl
 at_front stages.Version before begun = refl
@@ -58,8 +58,8 @@ pub next_given : (stage : Stage) (before : List ℕ) (packet : Packet) (new : Ah
 next_given stage before packet new begun took =
     (took.1.0, took.1.1, record { records = before; opened = at_front stage before begun; may_come = took.0; begins = took.1.2 })
 
--- what is next behind the opening is next before it
-next_opened : (old : Stage) (before records : List ℕ) (packet : Packet) (rest : List ℕ) → IsBehindOpening old before records
+-- what is next after the opening is next before it
+next_opened : (old : Stage) (before records : List ℕ) (packet : Packet) (rest : List ℕ) → IsAfterOpening old before records
     → BeginsNext (stage_opened old) records packet rest → BeginsNext old before packet rest
 next_opened stages.Opening before records packet rest is n = record {
   records = n.records;
@@ -71,20 +71,36 @@ next_opened stages.Init before records packet rest is n = record { records = n.r
 next_opened stages.Version before records packet rest is n = record { records = n.records; opened = n.opened ∙ is; may_come = n.may_come; begins = n.begins }
 next_opened stages.Events before records packet rest is n = record { records = n.records; opened = n.opened ∙ is; may_come = n.may_come; begins = n.begins }
 
-behind_opened : (old : Stage) → stage_behind (stage_opened old) ≡ stage_behind old
+behind_opened : (old : Stage) → stage_after (stage_opened old) ≡ stage_after old
 behind_opened stages.Opening = refl
 behind_opened stages.Init = refl
 behind_opened stages.Version = refl
 behind_opened stages.Events = refl
 
-none_opened : (old : Stage) (before records : List ℕ) → IsBehindOpening old before records → stage_opened old ≡ stages.Events → records ≡ []
+events_opened : (old : Stage) → stage_opened old ≡ stages.Events → old ≡ stages.Events
+events_opened stages.Opening e = absurd cc
+events_opened stages.Init e = absurd cc
+events_opened stages.Version e = absurd cc
+events_opened stages.Events e = refl
+
+stage_then : (old : Stage) (given : Option GivenRecord) (new : Stage) → IsStageThen (stage_opened old) given new
+    → IsStageThen old given new
+stage_then old (Some g) new is = is ∙ behind_opened old
+stage_then old None new is = (events_opened old is.0, is.1)
+
+pub stage_then_opened : (old mid : Stage) (given : Option GivenRecord) (new : Stage) → mid ≡ stage_opened old
+    → IsStageThen mid given new → IsStageThen old given new
+stage_then_opened old mid given new e is =
+    stage_then old given new (subst (λ (s : Stage). IsStageThen s given new) e is)
+
+none_opened : (old : Stage) (before records : List ℕ) → IsAfterOpening old before records → stage_opened old ≡ stages.Events → records ≡ []
     → (old ≡ stages.Events) × (before ≡ [])
 none_opened stages.Opening before records is e none = absurd cc
 none_opened stages.Init before records is e none = absurd cc
 none_opened stages.Version before records is e none = absurd cc
 none_opened stages.Events before records is e none = (refl, sym is ∙ none)
 
-given_opened : (old : Stage) (before records : List ℕ) (given : Option GivenRecord) (new : Reading) → IsBehindOpening old before records
+given_opened : (old : Stage) (before records : List ℕ) (given : Option GivenRecord) (new : Reading) → IsAfterOpening old before records
     → GivesNext (stage_opened old) records given new → GivesNext old before given new
 given_opened old before records (Some g) new is gives =
     (gives.0 ∙ behind_opened old, (gives.1.0, gives.1.1, next_opened old before records g.1 gives.1.0 is gives.1.2))
@@ -93,11 +109,11 @@ given_opened old before records None new is gives =
     (p.0, gives.1, p.1, gives.3)
 
 pub gives_opened : (old mid : Stage) (before records : List ℕ) (given : Option GivenRecord) (new : Reading) → mid ≡ stage_opened old
-    → IsBehindOpening old before records → GivesNext mid records given new → GivesNext old before given new
+    → IsAfterOpening old before records → GivesNext mid records given new → GivesNext old before given new
 gives_opened old mid before records given new e is gives =
     given_opened old before records given new is (subst (λ (s : Stage). GivesNext s records given new) e gives)
 
-fault_behind : (old : Stage) (number : ℕ) (before records : List ℕ) (error : TranscriptError) → IsBehindOpening old before records
+fault_behind : (old : Stage) (number : ℕ) (before records : List ℕ) (error : TranscriptError) → IsAfterOpening old before records
     → FaultAhead (stage_opened old) number records error → FaultNext old number before error
 fault_behind stages.Opening number before records error is fault = inr (records, is, fault)
 fault_behind stages.Init number before records error is fault = subst (λ (l : List ℕ). FaultAhead stages.Init number l error) is fault
@@ -105,7 +121,7 @@ fault_behind stages.Version number before records error is fault = subst (λ (l 
 fault_behind stages.Events number before records error is fault = subst (λ (l : List ℕ). FaultAhead stages.Events number l error) is fault
 
 pub fault_opened : (old mid : Stage) (number now : ℕ) (before records : List ℕ) (error : TranscriptError) → mid ≡ stage_opened old
-    → now ≡ number → IsBehindOpening old before records → IsExcuse error ⊎ FaultAhead mid now records error
+    → now ≡ number → IsAfterOpening old before records → IsExcuse error ⊎ FaultAhead mid now records error
     → IsExcuse error ⊎ FaultNext old number before error
 fault_opened old mid number now before records error e same is (inl excuse) = inl excuse
 fault_opened old mid number now before records error e same is (inr fault) =
@@ -119,8 +135,8 @@ on_err_both F (Err error) f p q = f p q
 
 -- ---- one record is next at most, and none where a fault comes next
 
-one_opened : (stage : Stage) (before records others : List ℕ) → IsBehindOpening stage before records
-    → IsBehindOpening stage before others → records ≡ others
+one_opened : (stage : Stage) (before records others : List ℕ) → IsAfterOpening stage before records
+    → IsAfterOpening stage before others → records ≡ others
 one_opened stages.Opening before records others one other = append_cancel_left transcript_opening records others (sym one ∙ other)
 one_opened stages.Init before records others one other = one ∙ sym other
 one_opened stages.Version before records others one other = one ∙ sym other
@@ -194,11 +210,11 @@ event_back (Replied reply) = refl
 
 -- what a reader has given with the next record, and up to what
 record GivenUpTo (stage : Stage) (bytes : List ℕ) (events : List Event) (number : ℕ) (packet : Packet) (rest : List ℕ) : Type 0 where
-  pub read : ReadUpTo (stage_behind stage) bytes (with_given events (event_from packet)) rest
-  pub behind : number_past stage number ≡ number_behind (with_given events (event_from packet))
+  pub read : ReadUpTo (stage_after stage) bytes (with_given events (event_from packet)) rest
+  pub behind : number_past stage number ≡ number_after_events (with_given events (event_from packet))
 
 given_up_to : (stage : Stage) (bytes : List ℕ) (events : List Event) (number : ℕ) (before : List ℕ) (packet : Packet) (rest : List ℕ)
-    → number ≡ number_behind events → ReadUpTo stage bytes events before → BeginsNext stage before packet rest
+    → number ≡ number_after_events events → ReadUpTo stage bytes events before → BeginsNext stage before packet rest
     → GivenUpTo stage bytes events number packet rest
 given_up_to stages.Opening bytes events number before packet rest is read n =
     let opened = opening_read bytes events before n.records read n.opened in
@@ -206,7 +222,7 @@ given_up_to stages.Opening bytes events number before packet rest is read n =
     let none : event_from packet ≡ None = event_of_init packet n.may_come in
     record {
       read = subst (λ (o : Option Event). ReadUpTo stages.Version bytes (with_given events o) rest) (sym none) init;
-      behind = is ∙ ap (λ (o : Option Event). number_behind (with_given events o)) (sym none);
+      behind = is ∙ ap (λ (o : Option Event). number_after_events (with_given events o)) (sym none);
     }
 given_up_to stages.Init bytes events number before packet rest is read n =
     let begins : Begins before packet rest = subst (λ (l : List ℕ). Begins l packet rest) n.opened n.begins in
@@ -214,7 +230,7 @@ given_up_to stages.Init bytes events number before packet rest is read n =
     let none : event_from packet ≡ None = event_of_init packet n.may_come in
     record {
       read = subst (λ (o : Option Event). ReadUpTo stages.Version bytes (with_given events o) rest) (sym none) init;
-      behind = is ∙ ap (λ (o : Option Event). number_behind (with_given events o)) (sym none);
+      behind = is ∙ ap (λ (o : Option Event). number_after_events (with_given events o)) (sym none);
     }
 given_up_to stages.Version bytes events number before packet rest is read n =
     let begins : Begins before packet rest = subst (λ (l : List ℕ). Begins l packet rest) n.opened n.begins in
@@ -222,7 +238,7 @@ given_up_to stages.Version bytes events number before packet rest is read n =
     let none : event_from packet ≡ None = event_of_version packet n.may_come in
     record {
       read = subst (λ (o : Option Event). ReadUpTo stages.Events bytes (with_given events o) rest) (sym none) version;
-      behind = is ∙ ap (λ (o : Option Event). number_behind (with_given events o)) (sym none);
+      behind = is ∙ ap (λ (o : Option Event). number_after_events (with_given events o)) (sym none);
     }
 given_up_to stages.Events bytes events number before packet rest is read n =
     let event = n.may_come.0 in
@@ -232,7 +248,7 @@ given_up_to stages.Events bytes events number before packet rest is read n =
     let some : event_from packet ≡ Some event = ap event_from n.may_come.1 ∙ event_back event in
     record {
       read = subst (λ (o : Option Event). ReadUpTo stages.Events bytes (with_given events o) rest) (sym some) more;
-      behind = number_more events event number is ∙ ap (λ (o : Option Event). number_behind (with_given events o)) (sym some);
+      behind = number_more events event number is ∙ ap (λ (o : Option Event). number_after_events (with_given events o)) (sym some);
     }
 
 pub given_next : (old new : Reading) (given : Option GivenRecord) → new.number ≡ number_then old.stage old.number given
@@ -262,3 +278,12 @@ given_next old new None number fault found bytes ahead events given =
         faultless = fault ∙ given.faultless;
       },
     )
+
+-- ---- with an error no record is given
+
+pub given_untaken : (old new : Reading) → TookNoRecord old new → new.number ≡ old.number → new.fault ≡ old.fault
+    → (bytes ahead : List ℕ) (events : List Event) → HasGiven bytes events ahead old → HasGivenOf bytes events new
+given_untaken old new (inl kept) number fault bytes ahead events given =
+    given_kept old new kept.0 kept.1 number fault bytes ahead events given
+given_untaken old new (inr opened) number fault bytes ahead events given =
+    given_passed IsOpened stages.Opening stages.Init opening_read old new opened.0 opened.1 number fault opened.2 bytes ahead events given

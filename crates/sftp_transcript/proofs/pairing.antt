@@ -1,5 +1,4 @@
 pub mod Turns
 pub mod Standing
-pub mod Index
 pub mod Settled
 pub mod Soundness

@@ -1,3 +1,4 @@
 pub mod Reading
 pub mod OneRecord
 pub mod Beginnings
+pub mod FirstFaults

@@ -1,9 +1,9 @@
--- A transcript file that is read in part: the events read so far, the bytes behind them, and the first fault in these.
+-- A transcript file that is read in part: the events read so far, the bytes after them, and the first fault in these.
 -- This profile's own.
 use Rattle.std.specs.Prelude.{◌≡◌, ◌≢◌, ◌⊎◌, ℕ, ◌+◌, min, List, [], ◌∷◌, ◌++◌, length, Option, Some, None}
 use Rattle.std.specs.List.{flat_map, AllByRecursion}
 use Rattle.sftp_transcript.specs.declared.errors.TranscriptError.{TranscriptError}
-use Rattle.sftp_transcript.specs.declared.errors.TranscriptError.TheVariants.{Magic}
+use Rattle.sftp_transcript.specs.declared.errors.TranscriptError.TheVariants.{Magic, NoMemory}
 use Rattle.sftp_transcript.specs.declared.events.Event.{Event}
 use Rattle.sftp_transcript.specs.declared.stage.Stage.{Stage}
 use Rattle.sftp_transcript.specs.declared.stage.Stage.TheVariants as stages
@@ -18,9 +18,9 @@ use Rattle.sftp_transcript.specs.Transcript.{transcript_opening, event_record, I
 abbrev pub first_number : ℕ
 first_number = 3
 
--- the number of the record behind these events, capped at 2^64 - 1
-abbrev pub number_behind : List Event → ℕ
-number_behind events = min (first_number + length events) largest_count
+-- the number of the record after these events, capped at 2^64 - 1
+abbrev pub number_after_events : List Event → ℕ
+number_after_events events = min (first_number + length events) largest_count
 
 -- the bytes begin with a transcript file of these events, and the rest follows
 pub record BeginsRecord (events : List Event) (bytes rest : List ℕ) : Type 0 where
@@ -31,7 +31,7 @@ pub record BeginsRecord (events : List Event) (bytes rest : List ℕ) : Type 0 w
   pub spelled : AllByRecursion IsEvent events
   pub records_are : records ≡ flat_map event_record events ++ rest
 
--- the opening and the client's INIT come first, and these bytes behind them
+-- the opening and the client's INIT come first, and then these bytes
 pub record BeginsWithInit (bytes rest : List ℕ) : Type 0 where
   pub opened : List ℕ
   pub opening : bytes ≡ transcript_opening ++ opened
@@ -48,7 +48,7 @@ ReadUpTo stages.Events bytes events ahead = BeginsRecord events bytes ahead
 pub record HasGiven (bytes : List ℕ) (events : List Event) (ahead : List ℕ) (s : Reading) : Type 0 where
   pub ahead_are : HasAhead s.ahead ahead
   pub read : ReadUpTo s.stage bytes events ahead
-  pub number : s.number ≡ number_behind events
+  pub number : s.number ≡ number_after_events events
   pub faultless : s.fault ≡ None
 
 -- why the bytes are not a transcript file, where this comes next in the bytes ahead, a record of this number
@@ -59,20 +59,20 @@ FaultAhead stages.Init number ahead error = InitFault ahead error
 FaultAhead stages.Version number ahead error = VersionFault ahead error
 FaultAhead stages.Events number ahead error = (ahead ≢ []) × EventFault number ahead error
 
--- the first fault of the bytes comes behind these events
-pub record FaultBehind (bytes : List ℕ) (events : List Event) (error : TranscriptError) : Type 0 where
+-- the first fault of the bytes comes after these events
+pub record FaultAfter (bytes : List ℕ) (events : List Event) (error : TranscriptError) : Type 0 where
   pub stage : Stage
   pub ahead : List ℕ
   pub read : ReadUpTo stage bytes events ahead
-  pub fault : FaultAhead stage (number_behind events) ahead error
+  pub fault : FaultAhead stage (number_after_events events) ahead error
 
 -- the reader has given these events of the bytes
 abbrev pub HasGivenOf : List ℕ → List Event → Reading → Type 0
 HasGivenOf bytes events s = (ahead : List ℕ) × HasGiven bytes events ahead s
 
--- the first fault of the bytes comes behind these events, unless memory ran out or the source failed
+-- the first fault of the bytes comes after these events, unless memory ran out or the source failed
 abbrev pub FaultOf : List ℕ → List Event → TranscriptError → Type 0
-FaultOf bytes events error = IsExcuse error ⊎ FaultBehind bytes events error
+FaultOf bytes events error = IsExcuse error ⊎ FaultAfter bytes events error
 
 -- the events with one that is given, if any
 abbrev pub with_given : List Event → Option Event → List Event
@@ -83,3 +83,12 @@ with_given events (Some event) = events ++ event ∷ []
 abbrev pub GaveFrom : List ℕ → List Event → Option Event → Reading → Type 0
 GaveFrom bytes events (Some event) new = HasGivenOf bytes (events ++ event ∷ []) new
 GaveFrom bytes events None new = HasGiven bytes events [] new × (new.stage ≡ stages.Events)
+
+-- the same, without the fault that was reported
+abbrev pub unreported : Reading → Reading
+unreported s = record { ahead = s.ahead; stage = s.stage; number = s.number; fault = None }
+
+-- with this error the reader has given the events of before, and no more: it may go on after `NoMemory` alone
+abbrev pub HasStillGiven : List ℕ → List Event → TranscriptError → Reading → Type 0
+HasStillGiven bytes events NoMemory new = HasGivenOf bytes events new
+HasStillGiven bytes events error new = HasGivenOf bytes events (unreported new)

@@ -39,7 +39,7 @@ symlink id linktarget link = Asked (record { id = id; ask = Symlink linktarget l
 abbrev pub open_to_read : ℕ → List ℕ → Event
 open_to_read id path = Asked (record { id = id; ask = Open path 1 no_attributes })
 
--- a request for so many bytes behind a handle, from an offset on
+-- a request for `len` bytes of the file that a handle names, from an offset on
 abbrev pub read : ℕ → List ℕ → ℕ → ℕ → Event
 read id handle offset len = Asked (record { id = id; ask = Read handle offset len })
 
@@ -70,7 +70,7 @@ name_reply id names = Replied (record { id = id; answer = Name (map bare_name na
 abbrev pub attributes_reply : ℕ → Attrs → Event
 attributes_reply id attrs = Replied (record { id = id; answer = attributes attrs })
 
--- those of a link of user 0 and group 0, whose target has so many bytes
+-- those of a link of user 0 and group 0, whose target has `size` bytes
 abbrev pub of_link : ℕ → Attrs
 of_link size = record no_attributes { size = Some size; owner = Some (0, 0); permissions = Some 0o120777 }
 

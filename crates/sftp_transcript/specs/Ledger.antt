@@ -1,9 +1,7 @@
 -- The ledger of a session: each request so far in the order asked, with its reply if there is one. It says all of the
 -- events so far that matters for what comes later.
-use Rattle.std.specs.Prelude.{◌≡◌, ◌==◌, ◌&&◌, ◌||◌, nat_lt, ℕ, ◌+◌, ◌<◌, ◌≤◌, Bool, true, false, if◌then◌else◌, List}
-use Rattle.std.specs.Prelude.{[], ◌∷◌, ◌++◌, Option, Some, None, IsTrue, length, take, slice_get, nat_eq}
-use Rattle.std.specs.List.{AllByRecursion}
-use Rattle.std.specs.Map.{lookup}
+use Rattle.std.specs.Prelude.{◌≡◌, ◌==◌, ◌&&◌, ◌||◌, nat_lt, ℕ, ◌+◌, Bool, true, false, if◌then◌else◌, List}
+use Rattle.std.specs.Prelude.{[], ◌∷◌, ◌++◌, Option, Some, None, IsTrue, length}
 use Rattle.sftp_wire.specs.declared.packets.Request.{Request}
 use Rattle.sftp_wire.specs.declared.packets.Reply.{Reply}
 use Rattle.sftp_transcript.specs.declared.events.Event.{Event}
@@ -62,26 +60,3 @@ pub record IsComplete (ledger : List Exchange) (events : List Event) : Type 0 wh
   pub matching : Matching events
   pub within_window : IsTrue (in_window events)
   pub exchanges_are : exchanges_of events ≡ ledger
-
--- the reply answers a request that waits: the old ledger has the request without it, and the new one with it
-pub record HasAnswer (old : List Exchange) (reply : Reply) (new : List Exchange) : Type 0 where
-  pub front : List Exchange
-  pub request : Request
-  pub back : List Exchange
-  pub old_is : old ≡ front ++ (request, None) ∷ back
-  pub same_id : request.id ≡ reply.id
-  pub new_is : new ≡ front ++ (request, Some reply) ∷ back
-
--- The index of a ledger: the place of each request that waits, by its id; and the place of the oldest one.
-pub record IsIndexed (ledger : List Exchange) (index : List (ℕ × ℕ)) (oldest : ℕ) : Type 0 where
-  -- what the index finds is a request of that id that waits
-  pub found : (id place : ℕ) → lookup (nat_eq id) index ≡ Some place
-      → (request : Request) × (slice_get ledger place ≡ Some (request, None)) × (request.id ≡ id)
-  -- where it finds none, none waits
-  pub absent : (id : ℕ) → lookup (nat_eq id) index ≡ None → is_open id ledger ≡ false
-  pub apart : AreApart ledger
-  -- all before the oldest are answered
-  pub answered : AllByRecursion IsAnswered (take oldest ledger)
-  pub within : oldest ≤ length ledger
-  -- the oldest waits, unless there is none
-  pub waits : oldest < length ledger → (request : Request) × (slice_get ledger oldest ≡ Some (request, None))

@@ -26,7 +26,7 @@ next_number log = one_more log.records
 abbrev pub opening_before : ℕ → List ℕ
 opening_before records = if records == 0 then transcript_opening else []
 
--- the bytes of a record, behind the opening if the record is the first
+-- the bytes of a record, and before those of the first one the opening
 abbrev pub opened_text : ℕ → List ℕ → List ℕ
 opened_text records text = opening_before records ++ text
 
@@ -95,7 +95,7 @@ abbrev pub FailedBefore : Log → TranscriptError → Type 0
 FailedBefore log (Io place) = log.broken ≡ Some place
 FailedBefore log other = ⊥
 
--- the same with so many records
+-- the same with `number` records
 abbrev pub counted : Log → ℕ → Log
 counted log number = record { bytes = log.bytes; failures = log.failures; records = number; broken = log.broken }
 

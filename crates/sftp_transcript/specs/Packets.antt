@@ -24,19 +24,19 @@ MayCome stages.Init packet = IsInit packet
 MayCome stages.Version packet = IsVersion packet
 MayCome stages.Events packet = IsEventPacket packet
 
--- the stage behind the opening, if that is next
+-- the stage after the opening, if that is next
 abbrev pub stage_opened : Stage → Stage
 stage_opened stages.Opening = stages.Init
 stage_opened stages.Init = stages.Init
 stage_opened stages.Version = stages.Version
 stage_opened stages.Events = stages.Events
 
--- the stage behind the next record
-abbrev pub stage_behind : Stage → Stage
-stage_behind stages.Opening = stages.Version
-stage_behind stages.Init = stages.Version
-stage_behind stages.Version = stages.Events
-stage_behind stages.Events = stages.Events
+-- the stage after the next record
+abbrev pub stage_after : Stage → Stage
+stage_after stages.Opening = stages.Version
+stage_after stages.Init = stages.Version
+stage_after stages.Version = stages.Events
+stage_after stages.Events = stages.Events
 
 -- the number of the next record, given that of the next event's record
 abbrev pub record_number : Stage → ℕ → ℕ
@@ -45,24 +45,24 @@ record_number stages.Init number = 1
 record_number stages.Version number = 2
 record_number stages.Events number = number
 
--- the number of the next event's record, behind the next record
+-- the number of the next event's record, after the next record
 abbrev pub number_past : Stage → ℕ → ℕ
 number_past stages.Opening number = number
 number_past stages.Init number = number
 number_past stages.Version number = number
 number_past stages.Events number = one_more number
 
--- the bytes behind the opening, if that is next
-abbrev pub IsBehindOpening : Stage → List ℕ → List ℕ → Type 0
-IsBehindOpening stages.Opening ahead records = IsOpened ahead records
-IsBehindOpening stages.Init ahead records = records ≡ ahead
-IsBehindOpening stages.Version ahead records = records ≡ ahead
-IsBehindOpening stages.Events ahead records = records ≡ ahead
+-- the bytes after the opening, if that is next
+abbrev pub IsAfterOpening : Stage → List ℕ → List ℕ → Type 0
+IsAfterOpening stages.Opening ahead records = IsOpened ahead records
+IsAfterOpening stages.Init ahead records = records ≡ ahead
+IsAfterOpening stages.Version ahead records = records ≡ ahead
+IsAfterOpening stages.Events ahead records = records ≡ ahead
 
--- the record of the packet is next in the bytes ahead, behind the opening if that is next, and the rest follows
+-- the record of the packet is next in the bytes ahead, after the opening if that is next, and the rest follows
 pub record BeginsNext (stage : Stage) (ahead : List ℕ) (packet : Packet) (rest : List ℕ) : Type 0 where
   pub records : List ℕ
-  pub opened : IsBehindOpening stage ahead records
+  pub opened : IsAfterOpening stage ahead records
   pub may_come : MayCome stage packet
   pub begins : Begins records packet rest
 
@@ -97,12 +97,17 @@ TookPacket stage before None new = (stage ≡ stages.Events) × (before ≡ []) 
 -- the next record is given, or none at the end
 abbrev pub GivesNext : Stage → List ℕ → Option GivenRecord → Reading → Type 0
 GivesNext stage before (Some given) new =
-    (new.stage ≡ stage_behind stage)
+    (new.stage ≡ stage_after stage)
     × ((rest : List ℕ) × HasAhead new.ahead rest × BeginsNext stage before given.1 rest)
 GivesNext stage before None new =
     (stage ≡ stages.Events) × (new.stage ≡ stages.Events) × (before ≡ []) × HasAhead new.ahead []
 
--- the number of the next event's record, behind a record or where there is none
+-- the stage after a record, or where there is none: only where an event may come next
+abbrev pub IsStageThen : Stage → Option GivenRecord → Stage → Type 0
+IsStageThen stage (Some given) new = new ≡ stage_after stage
+IsStageThen stage None new = (stage ≡ stages.Events) × (new ≡ stages.Events)
+
+-- the number of the next event's record, after a record or where there is none
 abbrev pub number_then : Stage → ℕ → Option GivenRecord → ℕ
 number_then stage number (Some given) = number_past stage number
 number_then stage number None = number

@@ -67,7 +67,7 @@ abbrev pub Gives : Option Event → List Event → Reading → Type 0
 Gives (Some event) events new = (others : List Event) × (events ≡ event ∷ others) × Records new others
 Gives None events new = events ≡ []
 
--- the number of the record behind an event, or where there is none
+-- the number of the record after an event, or where there is none
 abbrev pub number_after : ℕ → Option Event → ℕ
 number_after number (Some event) = one_more number
 number_after number None = number

@@ -12,14 +12,14 @@ use Rattle.sftp_transcript.specs.declared.stage.Stage.TheVariants as stages
 use Rattle.sftp_transcript.specs.Transcript.{packet_of}
 use Rattle.sftp_transcript.specs.Records.{side_of_direction, Begins, IsInit, IsVersion}
 
--- why the bytes behind a direction begin with no packet of that side: they hold no whole one, or one with a fault
+-- why the bytes after a direction begin with no packet of that side: they hold no whole one, or one with a fault
 abbrev pub PacketFault : ℕ → Side → List ℕ → TranscriptError → Type 0
 PacketFault number side bytes (Truncated place) = (place ≡ number) × (front_of side bytes ≡ Ok None)
 PacketFault number side bytes (Wire fault place) = (place ≡ number) × (front_of side bytes ≡ Err fault)
 PacketFault number side bytes NoMemory = ⊤
 PacketFault number side bytes other = ⊥
 
--- the same behind any byte, which names a side or none
+-- the same after any byte, which names a side or none
 abbrev pub DirectedFault : ℕ → Option Side → List ℕ → TranscriptError → Type 0
 DirectedFault number None bytes error = error ≡ Direction number
 DirectedFault number (Some side) bytes error = PacketFault number side bytes error
@@ -63,3 +63,21 @@ FaultIn stages.Opening number held error = (error ≡ Io 0) ⊎ (error ≡ Magic
 FaultIn stages.Init number held error = (error ≡ Io 1) ⊎ InitFault held error
 FaultIn stages.Version number held error = (error ≡ Io 2) ⊎ VersionFault held error
 FaultIn stages.Events number held error = (error ≡ Io number) ⊎ EventFault number held error
+
+-- the error is that of the record of this number; `NoMemory` is of none
+abbrev pub NamesRecord : ℕ → TranscriptError → Type 0
+NamesRecord number (Magic place) = place ≡ number
+NamesRecord number (Direction place) = place ≡ number
+NamesRecord number (Start place) = place ≡ number
+NamesRecord number (Wire fault place) = place ≡ number
+NamesRecord number (Truncated place) = place ≡ number
+NamesRecord number (Io place) = place ≡ number
+NamesRecord number NoMemory = ⊤
+
+-- The number of what comes next: the opening has 0, INIT and VERSION have 1 and 2. The last argument is the number of
+-- the next event's record.
+abbrev pub number_in_hand : Stage → ℕ → ℕ
+number_in_hand stages.Opening number = 0
+number_in_hand stages.Init number = 1
+number_in_hand stages.Version number = 2
+number_in_hand stages.Events number = number

@@ -30,7 +30,7 @@ CountsError may_fail result old new = MatchResult result (λ _. new ≡ old) (λ
 abbrev pub IsOpened : List ℕ → List ℕ → Type 0
 IsOpened before after = before ≡ transcript_opening ++ after
 
--- some bytes are ahead, and behind what the bytes before begin with
+-- some bytes are ahead: those that follow what the bytes before begin with
 abbrev pub Took : (List ℕ → List ℕ → Type 0) → List ℕ → Ahead → Type 0
 Took P before new = (after : List ℕ) × HasAhead new after × P before after
 

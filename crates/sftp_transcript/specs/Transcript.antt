@@ -1,7 +1,6 @@
 -- Recorded sessions as bytes: the transcript file. This profile's own; the packets are those of
 -- draft-ietf-secsh-filexfer-02, section 4 on.
-use Rattle.std.specs.Prelude.{◌≡◌, ℕ, ◌≤◌, List, ◌∷◌, ◌++◌, codes, Result, MatchResult}
-use Rattle.std.specs.Global.{Vec}
+use Rattle.std.specs.Prelude.{◌≡◌, ℕ, ◌≤◌, List, ◌∷◌, ◌++◌, codes}
 use Rattle.std.specs.List.{flat_map, AllByRecursion}
 use Rattle.sftp_wire.specs.declared.packets.Packet.{Packet}
 use Rattle.sftp_wire.specs.declared.packets.Packet.TheVariants.{Init, Version, Request as request_packet}
@@ -9,8 +8,6 @@ use Rattle.sftp_wire.specs.declared.packets.Packet.TheVariants.{Reply as reply_p
 use Rattle.sftp_wire.specs.declared.packets.Side.{Side}
 use Rattle.sftp_wire.specs.declared.packets.Side.TheVariants.{Client, Server}
 use Rattle.sftp_wire.specs.Spelling.{spelling, HasSpelling, side_of}
-use Rattle.sftp_transcript.specs.declared.errors.TranscriptError.{TranscriptError}
-use Rattle.sftp_transcript.specs.declared.errors.TranscriptError.TheVariants.{NoMemory}
 use Rattle.sftp_transcript.specs.declared.events.Event.{Event}
 use Rattle.sftp_transcript.specs.declared.events.Event.TheVariants.{Asked, Replied}
 
@@ -63,8 +60,3 @@ pub record IsRecord (events : List Event) (bytes : List ℕ) : Type 0 where
   pub opening : bytes ≡ transcript_opening ++ opened
   pub handshake : IsHandshake opened records
   pub recorded : AreRecords events records
-
--- where the bytes record events, these are the result, unless memory ran out
-abbrev pub GivesRecorded : Result (Vec Event) TranscriptError → List ℕ → Type 0
-GivesRecorded result bytes =
-    (events : List Event) → IsRecord events bytes → MatchResult result (λ v. v.items ≡ events) (λ e. e ≡ NoMemory)

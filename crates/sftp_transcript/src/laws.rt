@@ -1,6 +1,9 @@
 //! Laws of sessions, as theorems on the definitions. The functions do nothing; each promise is in the contract.
-ghost use Rattle.std.specs.Prelude.{◌≡◌, ◌↔◌, ℕ, List, length};
+ghost use Rattle.std.specs.Prelude.{◌≡◌, ◌≢◌, ◌↔◌, ℕ, List, length};
+ghost use Rattle.sftp_transcript.specs.declared.errors.TranscriptError.{TranscriptError};
+ghost use Rattle.sftp_transcript.specs.declared.errors.TranscriptError.TheVariants.{NoMemory};
 ghost use Rattle.sftp_transcript.specs.declared.events.Event.{Event};
+ghost use Rattle.sftp_transcript.specs.Begun.{FaultAfter};
 ghost use Rattle.sftp_transcript.specs.Explained.{Matching, exchanges_of, leading_pairs};
 ghost use Rattle.sftp_transcript.specs.Sound.{InTurn, IsWaiting};
 
@@ -16,4 +19,11 @@ pub fn each_request_runs()
 pub fn sound_and_settled_is_explained()
     ensures { (events : List Event) →
         Matching events ↔ (InTurn events × ((id : ℕ) → IsWaiting events id → ⊥)) }
+{}
+
+/// Bytes have one first fault at most, unless memory runs out: it comes after one list of events, and it is one error.
+pub fn one_fault()
+    ensures { (bytes : List ℕ) (events others : List Event) (a b : TranscriptError) →
+        FaultAfter bytes events a → FaultAfter bytes others b → a ≢ NoMemory → b ≢ NoMemory →
+        (events ≡ others) × (a ≡ b) }
 {}

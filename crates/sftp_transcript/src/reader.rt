@@ -7,13 +7,14 @@ ghost use Rattle.sftp_transcript.specs.declared.errors.TranscriptError.{Transcri
 ghost use Rattle.sftp_transcript.specs.declared.events.Event.{Event};
 ghost use Rattle.sftp_transcript.specs.Ahead.{IsSameAhead, size_of};
 ghost use Rattle.sftp_transcript.specs.Steps.{HasAhead, Took, CountsError, IsExcuse};
-ghost use Rattle.sftp_transcript.specs.Refused.{FaultIn};
+ghost use Rattle.sftp_transcript.specs.Refused.{FaultIn, NamesRecord, number_in_hand};
 ghost use Rattle.sftp_transcript.specs.Recorded.{Reading, IsKnown, Records, RecordsSame, Gave, Gives};
 ghost use Rattle.sftp_transcript.specs.Recorded.{rank, reported, number_after};
 ghost use Rattle.sftp_transcript.specs.Begun.{HasGiven, HasGivenOf, GaveFrom, FaultOf, FaultAhead, with_given};
-ghost use Rattle.sftp_transcript.specs.Packets.{IsBehindOpening, BeginsNext, FaultNext, IsMeasured, GivesPacket};
-ghost use Rattle.sftp_transcript.specs.Packets.{GivesNext, TookNoRecord, stage_opened, stage_behind, number_past};
-ghost use Rattle.sftp_transcript.specs.Packets.{number_then, event_in};
+ghost use Rattle.sftp_transcript.specs.Begun.{HasStillGiven};
+ghost use Rattle.sftp_transcript.specs.Packets.{IsAfterOpening, BeginsNext, FaultNext, IsMeasured, GivesPacket};
+ghost use Rattle.sftp_transcript.specs.Packets.{GivesNext, TookNoRecord, stage_opened, stage_after, number_past};
+ghost use Rattle.sftp_transcript.specs.Packets.{IsStageThen, number_then, event_in};
 
 use crate::buffer::Buffer;
 use crate::errors::TranscriptError;
@@ -27,7 +28,7 @@ use sftp_wire::{Packet, Side};
 use std::alloc::Global;
 use std::marker::Model;
 
-/// The number of the record behind an event, or where there is none.
+/// The number of the record after an event, or where there is none.
 fn number_after(number: u64, given: &Option<Event>) -> u64
     ensures { result ≡ number_after number given.now }
 {
@@ -37,7 +38,7 @@ fn number_after(number: u64, given: &Option<Event>) -> u64
     }
 }
 
-/// The number of the next event's record, behind the record at this stage.
+/// The number of the next event's record, after the record at this stage.
 fn number_past(stage: Stage, number: u64) -> u64
     ensures { result ≡ number_past stage number }
 {
@@ -49,9 +50,9 @@ fn number_past(stage: Stage, number: u64) -> u64
     }
 }
 
-/// The stage behind the record at this one.
-fn stage_behind(stage: Stage) -> Stage
-    ensures { result ≡ stage_behind stage }
+/// The stage after the record at this one.
+fn stage_after(stage: Stage) -> Stage
+    ensures { result ≡ stage_after stage }
 {
     match stage {
         Stage::Opening => Stage::Version,
@@ -122,7 +123,7 @@ impl<R: Source> Reader<R> {
         ensures next { OnOk result (1 ≤ rank self.new.stage) }
         ensures stage { OnOk result (self.new.stage ≡ stage_opened self.old.stage) }
         ensures opened { OnOk result ((before : List ℕ) → HasAhead self.old.ahead before
-            → Took (IsBehindOpening self.old.stage) before self.new.ahead) }
+            → Took (IsAfterOpening self.old.stage) before self.new.ahead) }
         ensures kept { MatchResult result (λ _. TookNoRecord self.old self.new)
             (λ _. IsSameAhead self.old.ahead self.new.ahead × (self.new.stage ≡ self.old.stage)) }
         ensures unopened { (before : List ℕ) → HasAhead self.old.ahead before
@@ -130,6 +131,9 @@ impl<R: Source> Reader<R> {
         ensures refused { IfErr result (FaultIn self.new.stage self.new.number self.new.ahead.held) }
         ensures first { (bytes ahead : List ℕ) (events : List Event) → HasGiven bytes events ahead self.old
             → MatchResult result (λ _. HasGivenOf bytes events self.new) (FaultOf bytes events) }
+        ensures onward { rank self.old.stage ≤ rank self.new.stage }
+        ensures still { (bytes ahead : List ℕ) (events : List Event) → HasGiven bytes events ahead self.old
+            → OnErr result (HasGivenOf bytes events self.new) }
         ensures counts { CountsError R.may_fail result self.old.ahead.failures self.new.ahead.failures }
     {
         match self.stage {
@@ -153,6 +157,9 @@ impl<R: Source> Reader<R> {
         ensures refused { IfErr result (FaultIn self.new.stage self.new.number self.new.ahead.held) }
         ensures first { (bytes ahead : List ℕ) (events : List Event) → HasGiven bytes events ahead self.old
             → MatchResult result (λ _. HasGivenOf bytes events self.new) (FaultOf bytes events) }
+        ensures onward { rank self.old.stage ≤ rank self.new.stage }
+        ensures still { (bytes ahead : List ℕ) (events : List Event) → HasGiven bytes events ahead self.old
+            → OnErr result (HasGivenOf bytes events self.new) }
         ensures counts { CountsError R.may_fail result self.old.ahead.failures self.new.ahead.failures }
     {
         match self.stage {
@@ -176,6 +183,9 @@ impl<R: Source> Reader<R> {
         ensures refused { IfErr result (FaultIn self.new.stage self.new.number self.new.ahead.held) }
         ensures first { (bytes ahead : List ℕ) (events : List Event) → HasGiven bytes events ahead self.old
             → MatchResult result (λ _. HasGivenOf bytes events self.new) (FaultOf bytes events) }
+        ensures onward { rank self.old.stage ≤ rank self.new.stage }
+        ensures still { (bytes ahead : List ℕ) (events : List Event) → HasGiven bytes events ahead self.old
+            → OnErr result (HasGivenOf bytes events self.new) }
         ensures counts { CountsError R.may_fail result self.old.ahead.failures self.new.ahead.failures }
     {
         match self.stage {
@@ -198,6 +208,9 @@ impl<R: Source> Reader<R> {
         ensures refused { IfErr result (FaultIn self.new.stage self.new.number self.new.ahead.held) }
         ensures first { (bytes ahead : List ℕ) (events : List Event) → HasGiven bytes events ahead self.old
             → MatchResult result (λ _. HasGivenOf bytes events self.new) (FaultOf bytes events) }
+        ensures onward { rank self.old.stage ≤ rank self.new.stage }
+        ensures still { (bytes ahead : List ℕ) (events : List Event) → HasGiven bytes events ahead self.old
+            → OnErr result (HasGivenOf bytes events self.new) }
         ensures counts { CountsError R.may_fail result self.old.ahead.failures self.new.ahead.failures }
     {
         self.take_opening()?;
@@ -215,12 +228,15 @@ impl<R: Source> Reader<R> {
             → MatchResult result (λ given. Gives given events self.new) IsExcuse }
         ensures same { OnErr result (RecordsSame self.old self.new) }
         ensures fault { self.new.fault ≡ self.old.fault }
+        ensures stage { self.new.stage ≡ Stage.Events }
         ensures number { IfOk result (λ given. self.new.number ≡ number_after self.old.number given) }
         ensures falls { IfOk result (λ given. IfSome given (λ _. size_of self.new.ahead < size_of self.old.ahead)) }
         ensures never_rises { size_of self.new.ahead ≤ size_of self.old.ahead }
         ensures refused { IfErr result (FaultIn self.new.stage self.new.number self.new.ahead.held) }
         ensures first { (bytes ahead : List ℕ) (events : List Event) → HasGiven bytes events ahead self.old
             → MatchResult result (λ given. GaveFrom bytes events given self.new) (FaultOf bytes events) }
+        ensures still { (bytes ahead : List ℕ) (events : List Event) → HasGiven bytes events ahead self.old
+            → OnErr result (HasGivenOf bytes events self.new) }
         ensures counts { CountsError R.may_fail result self.old.ahead.failures self.new.ahead.failures }
     {
         let given = pass_event(self.alloc, &mut self.input, self.number)?;
@@ -236,18 +252,22 @@ impl<R: Source> Reader<R> {
             → MatchResult result (λ given. Gives given events self.new) IsExcuse }
         ensures same { OnErr result (RecordsSame self.old self.new) }
         ensures fault { self.new.fault ≡ self.old.fault }
+        ensures stage { MatchResult result (λ _. self.new.stage ≡ Stage.Events)
+            (λ _. rank self.old.stage ≤ rank self.new.stage) }
         ensures number { IfOk result (λ given. self.new.number ≡ number_after self.old.number given) }
         ensures falls { IfOk result (λ given. IfSome given (λ _. size_of self.new.ahead < size_of self.old.ahead)) }
         ensures refused { IfErr result (FaultIn self.new.stage self.new.number self.new.ahead.held) }
         ensures first { (bytes ahead : List ℕ) (events : List Event) → HasGiven bytes events ahead self.old
             → MatchResult result (λ given. GaveFrom bytes events given self.new) (FaultOf bytes events) }
+        ensures still { (bytes ahead : List ℕ) (events : List Event) → HasGiven bytes events ahead self.old
+            → OnErr result (HasGivenOf bytes events self.new) }
         ensures counts { CountsError R.may_fail result self.old.ahead.failures self.new.ahead.failures }
     {
         self.take_start()?;
         self.take_event()
     }
 
-    /// Takes the record in front, behind the opening.
+    /// Takes the record in front. The opening was taken before.
     fn take_record(&mut self) -> Result<Option<(Side, Packet, usize)>, TranscriptError>
         requires { 1 ≤ rank self.old.stage }
         ensures found { IfOk result (λ given. (before : List ℕ) → HasAhead self.old.ahead before
@@ -258,6 +278,7 @@ impl<R: Source> Reader<R> {
         ensures number { MatchResult result
             (λ given. self.new.number ≡ number_then self.old.stage self.old.number given)
             (λ _. self.new.number ≡ self.old.number) }
+        ensures stage { IfOk result (λ given. IsStageThen self.old.stage given self.new.stage) }
         ensures falls { IfOk result (λ given. IfSome given (λ _. size_of self.new.ahead < size_of self.old.ahead)) }
         ensures refused { IfErr result (FaultIn self.new.stage self.new.number self.new.ahead.held) }
         ensures first { (before : List ℕ) → HasAhead self.old.ahead before
@@ -267,14 +288,14 @@ impl<R: Source> Reader<R> {
         match pass_record(self.alloc, &mut self.input, self.stage, self.number)? {
             Some((packet, length)) => {
                 self.number = number_past(self.stage, self.number);
-                self.stage = stage_behind(self.stage);
+                self.stage = stage_after(self.stage);
                 Ok(Some((sender(&packet), packet, length)))
             }
             None => Ok(None),
         }
     }
 
-    /// Takes the next record, behind the opening if that is next.
+    /// Takes the next record, and before it the opening if that is next.
     fn take_next_record(&mut self) -> Result<Option<(Side, Packet, usize)>, TranscriptError>
         ensures found { IfOk result (λ given. (before : List ℕ) → HasAhead self.old.ahead before
             → GivesNext self.old.stage before given self.new) }
@@ -284,6 +305,7 @@ impl<R: Source> Reader<R> {
         ensures fault { self.new.fault ≡ self.old.fault }
         ensures number { IfOk result
             (λ given. self.new.number ≡ number_then self.old.stage self.old.number given) }
+        ensures stage { IfOk result (λ given. IsStageThen self.old.stage given self.new.stage) }
         ensures falls { IfOk result (λ given. IfSome given (λ _. size_of self.new.ahead < size_of self.old.ahead)) }
         ensures refused { IfErr result (FaultIn self.new.stage self.new.number self.new.ahead.held) }
         ensures first { (before : List ℕ) → HasAhead self.old.ahead before
@@ -296,7 +318,9 @@ impl<R: Source> Reader<R> {
 
     /// Reports an error: for good, unless memory ran out.
     fn report(&mut self, error: TranscriptError)
-        ensures { self.new ≡ reported error self.old }
+        ensures becomes { self.new ≡ reported error self.old }
+        ensures stage { self.new.stage ≡ self.old.stage }
+        ensures number { self.new.number ≡ self.old.number }
     {
         match error {
             TranscriptError::NoMemory => {}
@@ -331,13 +355,23 @@ impl<R: Source> Reader<R> {
         // Of known bytes it returns the event that is next, or the first fault.
         ensures first { (bytes ahead : List ℕ) (events : List Event) → HasGiven bytes events ahead self.old
             → MatchResult result (λ given. GaveFrom bytes events given self.new) (FaultOf bytes events) }
+        // With an error it gives no event: after `NoMemory` a further call returns the same event or the same fault.
+        ensures still { (bytes ahead : List ℕ) (events : List Event) → HasGiven bytes events ahead self.old
+            → IfErr result (λ error. HasStillGiven bytes events error self.new) }
         ensures known { IsKnown self.old → IsKnown self.new }
         // Where memory ran out, the same events are to come.
         ensures no_memory { result ≡ Err TranscriptError.NoMemory → RecordsSame self.old self.new }
         ensures fault { OnOk result (self.new.fault ≡ None) }
         // An error is for good, unless memory ran out.
         ensures stays { IfErr result (λ error. error ≢ TranscriptError.NoMemory → self.new.fault ≡ Some error) }
-        ensures number { IfOk result (λ given. self.new.number ≡ number_after self.old.number given) }
+        // After an event the next one has the next number; with an error the numbers are as before.
+        ensures number { MatchResult result (λ given. self.new.number ≡ number_after self.old.number given)
+            (λ _. self.new.number ≡ self.old.number) }
+        ensures stage { MatchResult result (λ _. self.new.stage ≡ Stage.Events)
+            (λ _. rank self.old.stage ≤ rank self.new.stage) }
+        // An error names the record in hand, `Io` too.
+        ensures names { self.old.fault ≡ None
+            → IfErr result (NamesRecord (number_in_hand self.new.stage self.old.number)) }
         // An error is of the record in hand.
         ensures refused { self.old.fault ≡ None
             → IfErr result (FaultIn self.new.stage self.new.number self.new.ahead.held) }
@@ -381,15 +415,23 @@ impl<R: Source> Reader<R> {
         // The events among its records are given as those of `next` are.
         ensures given { (bytes ahead : List ℕ) (events : List Event) → HasGiven bytes events ahead self.old
             → IfOk result (λ given. HasGivenOf bytes (with_given events (event_in given)) self.new) }
-        // With an error it takes no record.
+        // With an error it takes no record, and after `NoMemory` a further call returns the same.
         ensures kept { OnErr result (TookNoRecord self.old self.new) }
+        ensures still { (bytes ahead : List ℕ) (events : List Event) → HasGiven bytes events ahead self.old
+            → IfErr result (λ error. HasStillGiven bytes events error self.new) }
         // Where memory ran out, the same events are to come.
         ensures no_memory { result ≡ Err TranscriptError.NoMemory → RecordsSame self.old self.new }
         ensures fault { OnOk result (self.new.fault ≡ None) }
         // An error is for good, unless memory ran out.
         ensures stays { IfErr result (λ error. error ≢ TranscriptError.NoMemory → self.new.fault ≡ Some error) }
-        ensures number { IfOk result
-            (λ given. self.new.number ≡ number_then self.old.stage self.old.number given) }
+        // After a record of an event the next one has the next number; with an error the numbers are as before.
+        ensures number { MatchResult result
+            (λ given. self.new.number ≡ number_then self.old.stage self.old.number given)
+            (λ _. self.new.number ≡ self.old.number) }
+        ensures stage { IfOk result (λ given. IsStageThen self.old.stage given self.new.stage) }
+        // An error names the record in hand, `Io` too.
+        ensures names { self.old.fault ≡ None
+            → IfErr result (NamesRecord (number_in_hand self.new.stage self.old.number)) }
         // An error is of the record in hand.
         ensures refused { self.old.fault ≡ None
             → IfErr result (FaultIn self.new.stage self.new.number self.new.ahead.held) }

@@ -23,7 +23,7 @@ pub const OPENING: [u8; 8] = *b"SFTPTR01";
 /// The version of the protocol (draft, section 4).
 const PROTOCOL_VERSION: u32 = 3;
 
-/// The bytes behind the opening.
+/// The bytes after the opening.
 pub(crate) fn take_opening(bytes: &[u8]) -> Result<&[u8], TranscriptError>
     ensures found { IfOk result (λ rest. bytes.now ≡ transcript_opening ++ rest.now) }
     ensures only { (rest : List ℕ) → bytes.now ≡ transcript_opening ++ rest → GivesOnly (λ r. r.now ≡ rest) result }
@@ -34,7 +34,7 @@ pub(crate) fn take_opening(bytes: &[u8]) -> Result<&[u8], TranscriptError>
         .ok_or(TranscriptError::Magic { record: 0 })
 }
 
-/// The bytes behind the client's INIT, which is the first record.
+/// The bytes after the client's INIT, which is the first record.
 pub(crate) fn take_init(alloc: Global, bytes: &[u8]) -> Result<&[u8], TranscriptError>
     ensures found { IfOk result (λ rest. BeginsInit bytes.now rest.now) }
     ensures only { (rest : List ℕ) → BeginsInit bytes.now rest → GivesOnly (λ r. r.now ≡ rest) result }
@@ -48,7 +48,7 @@ pub(crate) fn take_init(alloc: Global, bytes: &[u8]) -> Result<&[u8], Transcript
     }
 }
 
-/// The bytes behind the server's VERSION, which is the second record.
+/// The bytes after the server's VERSION, which is the second record.
 pub(crate) fn take_version(alloc: Global, bytes: &[u8]) -> Result<&[u8], TranscriptError>
     ensures found { IfOk result (λ rest. BeginsVersion bytes.now rest.now) }
     ensures only { (rest : List ℕ) → BeginsVersion bytes.now rest → GivesOnly (λ r. r.now ≡ rest) result }
@@ -62,7 +62,7 @@ pub(crate) fn take_version(alloc: Global, bytes: &[u8]) -> Result<&[u8], Transcr
     }
 }
 
-/// The event of the record in front, and the bytes behind it.
+/// The event of the record in front, and the bytes after it.
 pub(crate) fn take_event(
     alloc: Global,
     bytes: &[u8],
@@ -93,7 +93,7 @@ fn event_of(packet: Packet, number: u64) -> Result<Event, TranscriptError>
     }
 }
 
-/// The packet of the record in front, if it may come at this stage, and the bytes behind it. `Start` if no byte is left
+/// The packet of the record in front, if it may come at this stage, and the bytes after it. `Start` if no byte is left
 /// or the packet may not come.
 pub(crate) fn take_next(
     alloc: Global,
@@ -179,7 +179,7 @@ fn is_event(packet: &Packet) -> bool
     }
 }
 
-/// The packet of the record in front, and the bytes behind it. `Start` if no byte is left.
+/// The packet of the record in front, and the bytes after it. `Start` if no byte is left.
 fn take_record(alloc: Global, bytes: &[u8], number: u64) -> Result<(Packet, &[u8]), TranscriptError>
     ensures found { IfOk result (λ taken. Begins bytes.now taken.0 taken.1.now) }
     ensures only { (packet : Packet) (rest : List ℕ) → Begins bytes.now packet rest →
@@ -195,7 +195,7 @@ fn take_record(alloc: Global, bytes: &[u8], number: u64) -> Result<(Packet, &[u8
     }
 }
 
-/// The side that sent the packet behind this byte.
+/// The side that sent the packet that follows this byte.
 fn side_of_direction(direction: u8) -> Option<Side>
     ensures { result ≡ side_of_direction direction }
 {
@@ -206,7 +206,7 @@ fn side_of_direction(direction: u8) -> Option<Side>
     }
 }
 
-/// The packet in front, and the bytes behind it.
+/// The packet in front, and the bytes after it.
 fn take_packet(
     alloc: Global,
     bytes: &[u8],

@@ -134,8 +134,8 @@ fn is_end(held: &[u8], stage: Stage) -> bool
     }
 }
 
-/// Takes the record in front, behind the opening, and returns its packet and the number of the packet's bytes; `None`
-/// at the end. The number is that of the next event's record.
+/// Takes the record in front, and returns its packet and the number of the packet's bytes; `None` at the end. The
+/// opening was taken before. The number is that of the next event's record.
 pub(crate) fn pass_record<R: Source>(
     alloc: Global,
     input: &mut Input<R>,
@@ -146,6 +146,7 @@ pub(crate) fn pass_record<R: Source>(
     ensures found { IfOk result (λ given. (before : List ℕ) → HasAhead input.old before
         → TookPacket stage before given input.new) }
     ensures measured { IfOk result (λ given. IfSome given (λ taken. taken.1 ≡ length (spelling taken.0))) }
+    ensures end { IfOk result (λ given. given ≡ None → stage ≡ Stage.Events) }
     ensures same { OnErr result (IsSameAhead input.old input.new) }
     ensures never_rises { size_of input.new ≤ size_of input.old }
     ensures falls { IfOk result (λ given. IfSome given (λ _. size_of input.new < size_of input.old)) }

@@ -53,7 +53,7 @@ fn opening(records: u64) -> &'static [u8]
     if records == 0 { &OPENING } else { &[] }
 }
 
-/// Writes a record, behind the opening if it is the first.
+/// Writes a record, and before the first one the opening.
 fn put_record<L: Sink>(sink: &mut L, records: u64, side: Side, spelled: &[u8]) -> Result<(), Failed>
     ensures ok { OnOk result (Appends (L.written sink.old) (L.written sink.new)
         (opened_text records (direction_of side ∷ spelled.now))) }
@@ -232,7 +232,7 @@ impl<L: Sink> Writer<L> {
         Ok(Writer { records, spelled })
     }
 
-    /// Writes the record of a packet of that side, behind the opening if it is the first.
+    /// Writes the record of a packet of that side, and before the first record the opening.
     ///
     /// # Errors
     ///

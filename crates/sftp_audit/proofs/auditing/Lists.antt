@@ -9,7 +9,7 @@ use Rattle.sftp_wire.specs.declared.packets.Request.{Request}
 use Rattle.sftp_wire.specs.declared.packets.Reply.{Reply}
 use Rattle.sftp_transcript.specs.declared.events.Event.{Event}
 use Rattle.sftp_transcript.specs.declared.events.Event.TheVariants.{Asked, Replied}
-use Rattle.sftp_transcript.specs.Begun.{first_number, number_behind}
+use Rattle.sftp_transcript.specs.Begun.{first_number, number_after_events}
 use Rattle.sftp_transcript.specs.Explained.{next_reply, exchanges_of, leading_pairs}
 use Rattle.sftp_transcript.specs.Ledger as ledgers
 use Rattle.sftp_transcript.specs.Streams.{one_more, largest_count}
@@ -40,7 +40,7 @@ min-at_most n most = omega arith
 min-next : (n k m most : ℕ) → m ≡ k + 1 → min (n + m) most ≡ min (min (n + k) most + 1) most
 min-next n k m most next = omega arith
 
--- the number behind the events, where the first one's record has a number
+-- the number after the events, where the first one's record has a number
 abbrev number_from : ℕ → List Event → ℕ
 number_from number [] = number
 number_from number (event ∷ events) = number_from (one_more number) events
@@ -52,12 +52,12 @@ number_from-min number (event ∷ events) within =
     number_from-min (one_more number) events (min-at_most (number + 1) largest_count)
     ∙ min-once number (length events) largest_count
 
-number_from-first : (events : List Event) → number_from first_number events ≡ number_behind events
+number_from-first : (events : List Event) → number_from first_number events ≡ number_after_events events
 number_from-first events = number_from-min first_number events (omega arith)
 
-pub number_behind-next : (events : List Event) (event : Event)
-    → number_behind (events ++ event ∷ []) ≡ one_more (number_behind events)
-number_behind-next events event =
+pub number_after_events-next : (events : List Event) (event : Event)
+    → number_after_events (events ++ event ∷ []) ≡ one_more (number_after_events events)
+number_after_events-next events event =
     min-next first_number (length events) (length (events ++ event ∷ [])) largest_count
     (length-append events (event ∷ []))
 
@@ -116,7 +116,7 @@ exchanges_from-asked number (Replied reply ∷ events) request = exchanges_from-
 
 pub recorded-asked : (events : List Event) (request : Request)
     → recorded_exchanges (events ++ Asked request ∷ []) ≡ recorded_exchanges events
-    ++ record { request = request; number = number_behind events; reply = None } ∷ []
+    ++ record { request = request; number = number_after_events events; reply = None } ∷ []
 recorded-asked events request = rw (← number_from-first events) (exchanges_from-asked first_number events request)
 
 -- ---- one reply more
@@ -181,7 +181,7 @@ exchanges_from-replied number (Replied given ∷ events) reply = exchanges_from-
 
 pub recorded-replied : (events : List Event) (reply : Reply)
     → recorded_exchanges (events ++ Replied reply ∷ []) ≡ with_reply
-    (record { reply = reply; number = number_behind events }) (recorded_exchanges events)
+    (record { reply = reply; number = number_after_events events }) (recorded_exchanges events)
 recorded-replied events reply = rw (← number_from-first events) (exchanges_from-replied first_number events reply)
 
 -- ---- settled and unsettled

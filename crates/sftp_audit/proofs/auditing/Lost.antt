@@ -1,5 +1,5 @@
 -- What an auditor refuses is lost: whatever else comes, the tree explains no such session.
-use Rattle.std.proofs.Common.{◌≡◌, ◌==◌, nat_lt, ℕ, ◌<◌, ◌≤◌, Bool, true, false, List, [], ◌∷◌, ◌++◌}
+use Rattle.std.proofs.Common.{◌≡◌, ◌≢◌, ◌==◌, nat_lt, ℕ, ◌<◌, ◌≤◌, Bool, true, false, List, [], ◌∷◌, ◌++◌}
 use Rattle.std.proofs.Common.{Option, Some, None, if◌then◌else◌, refl, sym, ap, ◌∙◌, subst, append_assoc, arith}
 use Rattle.std.proofs.lemmas.Bool.{and_parts, and_from, ltb-true, lt-ltb, eq-eqb}
 use Rattle.sftp_wire.specs.declared.packets.Request.{Request}
@@ -8,12 +8,13 @@ use Rattle.sftp_handles.specs.State.{State}
 use Rattle.sftp_handles.specs.Allowed.{Allowed}
 use Rattle.sftp_transcript.specs.declared.events.Event.{Event}
 use Rattle.sftp_transcript.specs.declared.events.Event.TheVariants.{Asked, Replied}
-use Rattle.sftp_transcript.specs.Explained.{Turn, closed, waiting, broken, after_event, turn_after, Matching}
+use Rattle.sftp_transcript.specs.Explained.{Turn, closed, waiting, broken, after_event, turn_after}
 use Rattle.sftp_transcript.specs.Explained.{next_reply}
 use Rattle.sftp_transcript.specs.Explained.{exchanges_of, leading_pairs, requests_before_reply, in_window, window, Run}
 use Rattle.sftp_transcript.specs.Explained.{Explained}
 use Rattle.sftp_transcript.specs.Ledger as ledgers
-use Rattle.sftp_transcript.specs.Sound.{Sound}
+use Rattle.sftp_transcript.specs.Sound.{InTurn, Sound}
+use Rattle.sftp_transcript.proofs.pairing.Soundness.{in_turn_by, sound_by}
 use Rattle.sftp_audit.specs.declared.errors.Refusal.{Refusal}
 use Rattle.sftp_audit.specs.declared.errors.Refusal.TheVariants as refusals
 use Rattle.sftp_audit.specs.declared.exchanges.Exchange.{Exchange}
@@ -22,20 +23,15 @@ use Rattle.sftp_audit.specs.Auditor.{Refuses, LacksReply, IsFirstWrong}
 use Rattle.sftp_audit.proofs.steps.RunEnds.{run_end, run_end-of_run}
 use Rattle.sftp_audit.proofs.auditing.Lists.{ledger_of-recorded, is_open-unsettled, leading_pairs-settled}
 use Rattle.sftp_audit.proofs.auditing.Lists.{first_unsettled}
-use Rattle.sftp_audit.proofs.auditing.Turns.{waits_if_open, window-full, run-split, turn_after-append, broken_stays}
+use Rattle.sftp_audit.proofs.auditing.Turns.{waits_if_open, window-full, run-split, turn_after-append, in_turn-front}
 
 -- ---- out of turn
 
--- no session goes on behind an event that comes out of turn
-out_of_turn : (id : ℕ) (events more : List Event) → turn_after id closed events ≡ broken → Matching (events ++ more) → ⊥
-out_of_turn id events more turn matching =
-    let end : turn_after id closed (events ++ more) ≡ closed = matching id in
-    let ends : turn_after id closed (events ++ more) ≡ broken =
-    turn_after-append id closed events more ∙ ap (λ (t : Turn). turn_after id t more) turn ∙ broken_stays id more in
-    let same : broken ≡ closed = sym ends ∙ end in
-    absurd cc
+-- no session goes on after an event that comes out of turn
+out_of_turn : (id : ℕ) (events more : List Event) → turn_after id closed events ≡ broken → InTurn (events ++ more) → ⊥
+out_of_turn id events more turn in_turn = in_turn-front events more in_turn id turn
 
--- the turn behind one event more
+-- the turn after one event more
 turn_behind : (id : ℕ) (events : List Event) (event : Event) (turn : Turn) → turn_after id closed events ≡ turn
     → turn_after id closed (events ++ event ∷ []) ≡ after_event id event turn
 unfolding turn_after
@@ -48,24 +44,24 @@ one_more_event events event more = append_assoc events (event ∷ []) more
 
 -- a request of an id that waits
 second_request : (events : List Event) (request : Request) (more : List Event)
-    → turn_after request.id closed events ≡ waiting → Matching (events ++ Asked request ∷ more) → ⊥
-second_request events request more waits matching =
+    → turn_after request.id closed events ≡ waiting → InTurn (events ++ Asked request ∷ more) → ⊥
+second_request events request more waits in_turn =
     let same : (request.id == request.id) ≡ true = eq-eqb request.id request.id refl in
     let turn : turn_after request.id closed (events ++ Asked request ∷ []) ≡ broken =
     turn_behind request.id events (Asked request) waiting waits
     ∙ ap (λ (b : Bool). if b then broken else waiting) same in
     out_of_turn request.id (events ++ Asked request ∷ []) more turn
-    (subst Matching (sym (one_more_event events (Asked request) more)) matching)
+    (subst InTurn (sym (one_more_event events (Asked request) more)) in_turn)
 
 -- a reply of an id that does not wait
 reply_unasked : (events : List Event) (reply : Reply) (more : List Event) → turn_after reply.id closed events ≡ closed
-    → Matching (events ++ Replied reply ∷ more) → ⊥
-reply_unasked events reply more shut matching =
+    → InTurn (events ++ Replied reply ∷ more) → ⊥
+reply_unasked events reply more shut in_turn =
     let same : (reply.id == reply.id) ≡ true = eq-eqb reply.id reply.id refl in
     let turn : turn_after reply.id closed (events ++ Replied reply ∷ []) ≡ broken =
     turn_behind reply.id events (Replied reply) closed shut ∙ ap (λ (b : Bool). if b then broken else closed) same in
     out_of_turn reply.id (events ++ Replied reply ∷ []) more turn
-    (subst Matching (sym (one_more_event events (Replied reply) more)) matching)
+    (subst InTurn (sym (one_more_event events (Replied reply) more)) in_turn)
 
 -- ---- replies that are still to come
 
@@ -93,7 +89,7 @@ unfolding ledgers.with_replies
 with_replies-first request None others more = refl
 with_replies-first request (Some reply) others more = refl
 
--- the exchanges of events, and of more events behind them
+-- the exchanges of events, and of more events after them
 exchanges_of-append : (xs ys : List Event)
     → exchanges_of (xs ++ ys) ≡ ledgers.with_replies (exchanges_of xs) ys ++ exchanges_of ys
 unfolding exchanges_of ledgers.with_replies
@@ -176,7 +172,7 @@ sound_prefix start events more last explained =
     let found = run_before start events more last explained.run in (
       found.0,
       record {
-        in_turn = λ id broke. out_of_turn id events more broke explained.matching;
+        in_turn = in_turn-front events more (in_turn_by (events ++ more) explained.matching);
         within_window = window_before events more explained.within_window;
         run = found.1;
       },
@@ -224,34 +220,42 @@ wrong_reply start events number more last first run =
 
 -- ---- what is refused is lost
 
--- No session that begins with an event that is refused is explained.
-pub refuses_lost : (start : State) (events : List Event) (event : Event) (refusal : Refusal) (end : State)
-    → Sound Allowed start events end → Refuses start events event refusal → (refusal ≡ refusals.NoMemory → ⊥)
-    → (more : List Event) (last : State) → Explained Allowed start (events ++ event ∷ more) last → ⊥
-refuses_lost start events (Asked request) (refusals.UnknownReply number) end sound refuses memory more last explained =
+-- No sound session begins with an event that is refused.
+pub refuses_unsound : (start : State) (events : List Event) (event : Event) (refusal : Refusal) (end : State)
+    → Sound Allowed start events end → Refuses start events event refusal → refusal ≢ refusals.NoMemory
+    → (more : List Event) (last : State) → Sound Allowed start (events ++ event ∷ more) last → ⊥
+refuses_unsound start events (Asked request) (refusals.UnknownReply number) end sound refuses memory more last whole =
     absurd refuses
-refuses_lost start events (Asked request) (refusals.IdInUse number) end sound refuses memory more last explained =
-    second_request events request more refuses.1 explained.matching
-refuses_lost start events (Asked request) (refusals.Window number) end sound refuses memory more last explained =
-    window-full events request sound.in_turn sound.within_window refuses.1 refuses.2 more explained.within_window
-refuses_lost start events (Asked request) (refusals.NotAllowed number) end sound refuses memory more last explained =
+refuses_unsound start events (Asked request) (refusals.IdInUse number) end sound refuses memory more last whole =
+    second_request events request more refuses.1 whole.in_turn
+refuses_unsound start events (Asked request) (refusals.Window number) end sound refuses memory more last whole =
+    window-full events request sound.in_turn sound.within_window refuses.1 refuses.2 more whole.within_window
+refuses_unsound start events (Asked request) (refusals.NotAllowed number) end sound refuses memory more last whole =
     absurd refuses
-refuses_lost start events (Asked request) (refusals.Unanswered number) end sound refuses memory more last explained =
+refuses_unsound start events (Asked request) (refusals.Unanswered number) end sound refuses memory more last whole =
     absurd refuses
-refuses_lost start events (Asked request) refusals.NoMemory end sound refuses memory more last explained = memory refl
-refuses_lost start events (Replied reply) (refusals.UnknownReply number) end sound refuses memory more last explained =
-    reply_unasked events reply more refuses.1 explained.matching
-refuses_lost start events (Replied reply) (refusals.IdInUse number) end sound refuses memory more last explained =
+refuses_unsound start events (Asked request) refusals.NoMemory end sound refuses memory more last whole = memory refl
+refuses_unsound start events (Replied reply) (refusals.UnknownReply number) end sound refuses memory more last whole =
+    reply_unasked events reply more refuses.1 whole.in_turn
+refuses_unsound start events (Replied reply) (refusals.IdInUse number) end sound refuses memory more last whole =
     absurd refuses
-refuses_lost start events (Replied reply) (refusals.Window number) end sound refuses memory more last explained =
+refuses_unsound start events (Replied reply) (refusals.Window number) end sound refuses memory more last whole =
     absurd refuses
-refuses_lost start events (Replied reply) (refusals.NotAllowed number) end sound refuses memory more last explained =
+refuses_unsound start events (Replied reply) (refusals.NotAllowed number) end sound refuses memory more last whole =
     wrong_reply start (events ++ Replied reply ∷ []) number more last refuses.1
     (subst (λ (all : List Event). Run Allowed start (leading_pairs (exchanges_of all)) last)
-    (sym (one_more_event events (Replied reply) more)) explained.run)
-refuses_lost start events (Replied reply) (refusals.Unanswered number) end sound refuses memory more last explained =
+    (sym (one_more_event events (Replied reply) more)) whole.run)
+refuses_unsound start events (Replied reply) (refusals.Unanswered number) end sound refuses memory more last whole =
     absurd refuses
-refuses_lost start events (Replied reply) refusals.NoMemory end sound refuses memory more last explained = memory refl
+refuses_unsound start events (Replied reply) refusals.NoMemory end sound refuses memory more last whole = memory refl
+
+-- No session that begins with an event that is refused is explained.
+pub refuses_lost : (start : State) (events : List Event) (event : Event) (refusal : Refusal) (end : State)
+    → Sound Allowed start events end → Refuses start events event refusal → refusal ≢ refusals.NoMemory
+    → (more : List Event) (last : State) → Explained Allowed start (events ++ event ∷ more) last → ⊥
+refuses_lost start events event refusal end sound refuses memory more last explained =
+    refuses_unsound start events event refusal end sound refuses memory more last
+    (sound_by Allowed start (events ++ event ∷ more) last explained)
 
 first_is_open : (x : Exchange) (others : List Exchange) → is_answered x ≡ false
     → is_open x.request.id (x ∷ others) ≡ true

@@ -9,7 +9,7 @@ use Rattle.sftp_handles.specs.State.{State}
 use Rattle.sftp_handles.specs.Allowed.{Allowed}
 use Rattle.sftp_transcript.specs.declared.events.Event.{Event}
 use Rattle.sftp_transcript.specs.declared.events.Event.TheVariants.{Asked, Replied}
-use Rattle.sftp_transcript.specs.Begun.{number_behind}
+use Rattle.sftp_transcript.specs.Begun.{number_after_events}
 use Rattle.sftp_transcript.specs.Explained.{Turn, closed, waiting, turn_after, leading_pairs, Run}
 use Rattle.sftp_transcript.specs.Sound.{IsWaiting}
 use Rattle.sftp_audit.specs.declared.errors.Refusal.{Refusal}
@@ -128,8 +128,8 @@ one_first_wrong start xs m n a b =
 
 abbrev WhyAsked : List Event → Request → Refusal → Type 0
 WhyAsked events request refusal =
-    ((refusal ≡ refusals.IdInUse (number_behind events)) × (turn_after request.id closed events ≡ waiting))
-    ⊎ ((refusal ≡ refusals.Window (number_behind events)) × (turn_after request.id closed events ≡ closed))
+    ((refusal ≡ refusals.IdInUse (number_after_events events)) × (turn_after request.id closed events ≡ waiting))
+    ⊎ ((refusal ≡ refusals.Window (number_after_events events)) × (turn_after request.id closed events ≡ closed))
 
 why_asked : (start : State) (events : List Event) (request : Request) (refusal : Refusal)
     → Refuses start events (Asked request) refusal → refusal ≢ refusals.NoMemory → WhyAsked events request refusal
@@ -153,7 +153,7 @@ one_of_two turn a b in_use late (inr first) (inr second) = first.0 ∙ sym secon
 
 abbrev WhyReplied : State → List Event → Reply → Refusal → Type 0
 WhyReplied start events reply refusal =
-    ((refusal ≡ refusals.UnknownReply (number_behind events)) × (turn_after reply.id closed events ≡ closed))
+    ((refusal ≡ refusals.UnknownReply (number_after_events events)) × (turn_after reply.id closed events ≡ closed))
     ⊎ ((number : ℕ) × (refusal ≡ refusals.NotAllowed number) × IsWaiting events reply.id
     × IsFirstWrong start (recorded_exchanges (events ++ Replied reply ∷ [])) number)
 
@@ -183,8 +183,8 @@ pub one_refusal : (start : State) (events : List Event) (event : Event) (a b : R
     → Refuses start events event a → Refuses start events event b → a ≢ refusals.NoMemory → b ≢ refusals.NoMemory
     → a ≡ b
 one_refusal start events (Asked request) a b for_a for_b not_a not_b =
-    one_of_two (turn_after request.id closed events) a b (refusals.IdInUse (number_behind events))
-    (refusals.Window (number_behind events)) (why_asked start events request a for_a not_a)
+    one_of_two (turn_after request.id closed events) a b (refusals.IdInUse (number_after_events events))
+    (refusals.Window (number_after_events events)) (why_asked start events request a for_a not_a)
     (why_asked start events request b for_b not_b)
 one_refusal start events (Replied reply) a b for_a for_b not_a not_b =
     one_of_replies start events reply a b (why_replied start events reply a for_a not_a)

@@ -72,6 +72,16 @@ done-wrong start mid old (y ∷ rest) x r done at is wrong = record {
   wrong = wrong;
 }
 
+-- and it is not allowed in the state after those before it
+pub done-wrong_in : (start mid end : State) (old now : List Exchange) (x : Exchange) (r : RecordedReply)
+    → IsDoneTo start old now mid → Some x ≡ slice_get now 0 → x.reply ≡ Some r
+    → ((end : State) → Allowed mid x.request r.reply end → ⊥) → end ≡ mid
+    → (wrong : IsFirstWrong start old r.number) × (wrong.mid ≡ end)
+unfolding done-wrong
+done-wrong_in start mid end old [] x r done at is wrong same = absurd (none-some x (sym at))
+done-wrong_in start mid end old (y ∷ rest) x r done at is wrong same =
+    (done-wrong start mid old (y ∷ rest) x r done at is wrong, sym same)
+
 -- ---- the end: what is left begins with a request without a reply, or is nothing
 
 pub unsettled-waits : (now : List Exchange) (x : Exchange) → Some x ≡ slice_get now 0 → x.reply ≡ None

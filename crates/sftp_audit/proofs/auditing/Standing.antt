@@ -9,7 +9,7 @@ use Rattle.sftp_handles.specs.State.{State}
 use Rattle.sftp_handles.specs.Allowed.{Allowed}
 use Rattle.sftp_transcript.specs.declared.events.Event.{Event}
 use Rattle.sftp_transcript.specs.declared.events.Event.TheVariants.{Asked, Replied}
-use Rattle.sftp_transcript.specs.Begun.{first_number, number_behind}
+use Rattle.sftp_transcript.specs.Begun.{first_number, number_after_events}
 use Rattle.sftp_transcript.specs.Explained.{Run, Explained, exchanges_of, leading_pairs, window, turn_after, closed}
 use Rattle.sftp_transcript.specs.Explained.{broken}
 use Rattle.sftp_transcript.specs.Explained.{in_window}
@@ -22,12 +22,12 @@ use Rattle.sftp_audit.specs.declared.exchanges.RecordedReply.{RecordedReply}
 use Rattle.sftp_audit.specs.Exchanges.{recorded_exchanges, exchanges_from, unsettled, AreAnswered, is_open}
 use Rattle.sftp_audit.specs.Exchanges.{with_reply, ledger_of}
 use Rattle.sftp_audit.specs.Ledger.{RefusesRequest, RefusesReply}
-use Rattle.sftp_audit.specs.Auditor.{Audited, StandsFor, IsNoted, Refuses, RefusesToSettle, LacksReply}
+use Rattle.sftp_audit.specs.Auditor.{Audited, StandsFor, IsNoted, Refuses, RefusesToSettle, LacksReply, IsWrongIn}
 use Rattle.sftp_audit.proofs.auditing.Lists.{ledger_of-recorded, recorded-asked, recorded-replied, settled_parts}
 use Rattle.sftp_audit.proofs.auditing.Lists.{unsettled-answered, unsettled-asked, with_reply-answered}
 use Rattle.sftp_audit.proofs.auditing.Lists.{with_reply-append}
 use Rattle.sftp_audit.proofs.auditing.Lists.{is_open-unsettled, leading_pairs-settled, leading_pairs-unsettled}
-use Rattle.sftp_audit.proofs.auditing.Lists.{leading_pairs-asked, number_behind-next}
+use Rattle.sftp_audit.proofs.auditing.Lists.{leading_pairs-asked, number_after_events-next}
 use Rattle.sftp_audit.proofs.auditing.Turns.{waits_if_open, closed_if_none, in_turn-asked, in_turn-replied}
 use Rattle.sftp_audit.proofs.auditing.Turns.{window-asked}
 use Rattle.sftp_audit.proofs.auditing.Turns.{window-replied, run-append}
@@ -74,7 +74,7 @@ asked_pairs : (events : List Event) (request : Request)
     → leading_pairs (exchanges_of (events ++ Asked request ∷ [])) ≡ leading_pairs (exchanges_of events)
 asked_pairs events request =
     let after : List Event = events ++ Asked request ∷ [] in
-    let one : Exchange = record { request = request; number = number_behind events; reply = None } in
+    let one : Exchange = record { request = request; number = number_after_events events; reply = None } in
     ap leading_pairs (sym (ledger_of-recorded after))
     ∙ ap (λ (xs : List Exchange). leading_pairs (ledger_of xs)) (recorded-asked events request)
     ∙ leading_pairs-asked (recorded_exchanges events) one refl
@@ -94,7 +94,7 @@ noted-asked start events request old new stands none room kept same =
     let are : new.kept ≡ unsettled (recorded_exchanges (events ++ Asked request ∷ [])) =
     kept ∙ ap (λ (xs : List Exchange). xs ++ one old.number ∷ []) stands.kept
     ∙ ap (λ (n : ℕ). unsettled (recorded_exchanges events) ++ one n ∷ []) stands.number
-    ∙ sym (unsettled-asked (recorded_exchanges events) (one (number_behind events)) refl)
+    ∙ sym (unsettled-asked (recorded_exchanges events) (one (number_after_events events)) refl)
     ∙ ap unsettled (sym (recorded-asked events request)) in
     record {
       sound = record {
@@ -238,6 +238,42 @@ refused-settling start events reply old kept (refusals.NotAllowed number) stands
 refused-settling start events reply old kept (refusals.Unanswered number) stands waits replied r = absurd r
 refused-settling start events reply old kept refusals.NoMemory stands waits replied r = r
 
+-- an event that is not taken has no wrong reply
+pub wrong-asked : (start state : State) (events : List Event) (request : Request) (kept : List Exchange) (number : ℕ)
+    (refusal : Refusal) → RefusesRequest kept request number refusal
+    → IsWrongIn start (recorded_exchanges events) state refusal
+wrong-asked start state events request kept number (refusals.UnknownReply n) r = absurd r
+wrong-asked start state events request kept number (refusals.IdInUse n) r = tt
+wrong-asked start state events request kept number (refusals.Window n) r = tt
+wrong-asked start state events request kept number (refusals.NotAllowed n) r = absurd r
+wrong-asked start state events request kept number (refusals.Unanswered n) r = tt
+wrong-asked start state events request kept number refusals.NoMemory r = tt
+
+pub wrong-replied : (start state : State) (events : List Event) (kept : List Exchange) (recorded : RecordedReply)
+    (refusal : Refusal) → RefusesReply kept recorded refusal
+    → IsWrongIn start (recorded_exchanges events) state refusal
+wrong-replied start state events kept recorded (refusals.UnknownReply n) r = tt
+wrong-replied start state events kept recorded (refusals.IdInUse n) r = tt
+wrong-replied start state events kept recorded (refusals.Window n) r = tt
+wrong-replied start state events kept recorded (refusals.NotAllowed n) r = absurd r
+wrong-replied start state events kept recorded (refusals.Unanswered n) r = tt
+wrong-replied start state events kept recorded refusals.NoMemory r = tt
+
+-- what settling finds wrong in a state is wrong in that state
+pub wrong-settling : (start state : State) (events : List Event) (reply : Reply) (old : Audited) (kept : List Exchange)
+    (refusal : Refusal) → StandsFor start events old → is_open reply.id old.kept ≡ true
+    → kept ≡ with_reply (record { reply = reply; number = old.number }) old.kept
+    → IsWrongIn old.state kept state refusal
+    → IsWrongIn start (recorded_exchanges (events ++ Replied reply ∷ [])) state refusal
+unfolding refused-settling
+wrong-settling start state events reply old kept (refusals.UnknownReply number) stands waits replied r = tt
+wrong-settling start state events reply old kept (refusals.IdInUse number) stands waits replied r = tt
+wrong-settling start state events reply old kept (refusals.Window number) stands waits replied r = tt
+wrong-settling start state events reply old kept (refusals.NotAllowed number) stands waits replied r =
+    ((refused-settling start events reply old kept (refusals.NotAllowed number) stands waits replied r.0).1, r.1)
+wrong-settling start state events reply old kept (refusals.Unanswered number) stands waits replied r = tt
+wrong-settling start state events reply old kept refusals.NoMemory stands waits replied r = tt
+
 -- ---- the same, of what a call returns
 
 -- the auditor is as it was seen
@@ -298,6 +334,33 @@ refusal-settled (Err refusal) event reply seen old kept is view waits replied re
     (let at = at_view start events seen old view stands in
     refused-settling start events reply old kept refusal at waits replied refused)
 
+pub state-asked : {T : Type 0} (result : Result T Refusal) (event : Event) (request : Request) (seen : Audited)
+    (kept : List Exchange) (number : ℕ) (state : State) → IfErr result (RefusesRequest kept request number)
+    → IfErr result (λ refusal. (start : State) (events : List Event) → StandsFor start events seen
+    → IsWrongIn start (recorded_exchanges (events ++ event ∷ [])) state refusal)
+state-asked (Ok x) event request seen kept number state refused = tt
+state-asked (Err refusal) event request seen kept number state refused = λ start events stands.
+    wrong-asked start state (events ++ event ∷ []) request kept number refusal refused
+
+pub state-replied : (event : Event) (reply : Reply) (seen : Audited) (kept : List Exchange) (number : ℕ) (state : State)
+    (refusal : Refusal) → RefusesReply kept (record { reply = reply; number = number }) refusal → (start : State)
+    (events : List Event) → StandsFor start events seen
+    → IsWrongIn start (recorded_exchanges (events ++ event ∷ [])) state refusal
+state-replied event reply seen kept number state refusal refused start events stands =
+    wrong-replied start state (events ++ event ∷ []) kept (record { reply = reply; number = number }) refusal refused
+
+pub state-settled : {T : Type 0} (result : Result T Refusal) (event : Event) (reply : Reply)
+    (seen old : Audited) (kept : List Exchange) (state : State) → event ≡ Replied reply → old ≡ seen
+    → is_open reply.id old.kept ≡ true → kept ≡ with_reply (record { reply = reply; number = old.number }) old.kept
+    → IfErr result (IsWrongIn old.state kept state)
+    → IfErr result (λ refusal. (start : State) (events : List Event) → StandsFor start events seen
+    → IsWrongIn start (recorded_exchanges (events ++ event ∷ [])) state refusal)
+state-settled (Ok x) event reply seen old kept state is view waits replied wrong = tt
+state-settled (Err refusal) event reply seen old kept state is view waits replied wrong = λ start events stands.
+    subst (λ (e : Event). IsWrongIn start (recorded_exchanges (events ++ e ∷ [])) state refusal) (sym is)
+    (let at = at_view start events seen old view stands in
+    wrong-settling start state events reply old kept refusal at waits replied wrong)
+
 -- ---- the number of the next record
 
 -- what is noted is kept, once the number is one more
@@ -307,7 +370,7 @@ pub stands-noted : (start : State) (events : List Event) (event : Event) (old ne
 stands-noted start events event old new stands noted number same = record {
   sound = noted.sound;
   kept = noted.kept;
-  number = number ∙ ap one_more stands.number ∙ sym (number_behind-next events event);
+  number = number ∙ ap one_more stands.number ∙ sym (number_after_events-next events event);
   unrefused = same ∙ stands.unrefused;
 }
 

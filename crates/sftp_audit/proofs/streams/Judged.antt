@@ -21,6 +21,7 @@ use Rattle.sftp_audit.specs.declared.errors.Refusal.{Refusal}
 use Rattle.sftp_audit.specs.declared.errors.Refusal.TheVariants as refusals
 use Rattle.sftp_audit.specs.Auditor.{Audited, LacksReply}
 use Rattle.sftp_audit.specs.Audit.{started, Accounts, FaultAt, RefusedAt, IsFirstFault, IsNoJudgement}
+use Rattle.sftp_audit.specs.Audit.{IsTreeError, JudgesTree}
 use Rattle.sftp_audit.specs.Audit.{IsExcusedBy, IsNew, IsPlain, WasFed, StopsFeed, error_of_session}
 use Rattle.sftp_audit.proofs.auditing.Lost.{refuses_lost, lacks_lost}
 
@@ -80,6 +81,20 @@ feed-first start tree transcript (audit_errors.Tree error) is stops = absurd sto
 feed-first start tree transcript audit_errors.NoMemory is stops = tt
 feed-first start tree transcript (audit_errors.Transcript error) is stops = (start, is, stops)
 feed-first start tree transcript (audit_errors.Refused refusal) is stops = (start, is, inl stops)
+
+-- ---- the tree
+
+pub judged-feed : (start : Tree) (tree : List ℕ) (error : AuditError) → IsStart start tree → (IsTreeError error → ⊥)
+    → JudgesTree tree error
+judged-feed start tree (audit_errors.Tree error) is treeless = absurd (treeless tt)
+judged-feed start tree audit_errors.NoMemory is treeless = tt
+judged-feed start tree (audit_errors.Transcript error) is treeless = (start, is)
+judged-feed start tree (audit_errors.Refused refusal) is treeless = (start, is)
+
+pub judged-end : (start : Tree) (tree : List ℕ) (refusal : Refusal) → IsStart start tree
+    → JudgesTree tree (error_of_session refusal)
+judged-end start tree refusals.NoMemory is = tt
+judged-end start tree other is = (start, is)
 
 -- ---- the end
 

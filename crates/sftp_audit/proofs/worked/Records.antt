@@ -92,7 +92,7 @@ success_spelled = status_spelled 3 0 (lit< tt) (lit< tt) (lit≤ tt)
 
 -- ---- the bytes
 
--- the bytes behind the opening
+-- the bytes after the opening
 abbrev opened_with : List ℕ → List ℕ
 opened_with records = (67 ∷ spelling (Init 3 [])) ++ ((83 ∷ spelling (Version 3 server_extensions)) ++ records)
 

@@ -154,7 +154,7 @@ init-silent init is =
 pub init-recorded : (init : Packet) → recorded (init ∷ []) ≡ opened_text 0 (record_text init)
 init-recorded init = ap (λ (text : List ℕ). transcript_opening ++ text) (append-nil (record_text init))
 
--- the bytes of INIT, and those behind it
+-- the bytes of INIT, and those after it
 pub init-taken : (bytes : List ℕ) (count : ℕ) → (greets : BeginsWithGreeting bytes count)
     → (take count bytes ≡ spelling greets.init) × (drop count bytes ≡ greets.rest) × (count ≤ length bytes)
 init-taken bytes count greets =
@@ -228,7 +228,7 @@ init-unlogged start past left written logged0 logged1 ahead count greets unopene
       };
     }
 
--- memory runs out behind it
+-- memory runs out after it
 pub init-no_memory : (start : Tree) (init : Packet) (past now : StreamBytes) (ahead : Ahead)
     → IsInitLogged init past now ahead → Serves start past now ends.NoMemory
 init-no_memory start init past now ahead logged = record {

@@ -60,7 +60,7 @@ some_bytes packet more none =
     absurd (omega (arith, ap length none, length-append (spelling packet) more, length-spelling packet))
 
 -- The first packet is the INIT in front; what the server wrote is VERSION alone, so that it replied to nothing; and no
--- request is in front of what comes behind, so that nothing was asked.
+-- request is in front of what comes after, so that nothing was asked.
 pub record OnlyOpens (more : List ℕ) (init : Packet) (events : List Event) (rest : List ℕ) : Type 0 where
   pub init_is : init ≡ Init 3 []
   pub no_events : events ≡ []
@@ -107,7 +107,7 @@ pub version_written : version_bytes ≡ [] → ⊥
 version_written none =
     some_bytes our_version [] (append-nil (spelling our_version) ∙ sym version_is ∙ none)
 
--- the place behind the INIT
+-- the place after the INIT
 pub place_is : (init : Packet) (events : List Event) → init ≡ Init 3 [] → events ≡ []
     → place_after 0 (length (sent_by Client (session_packets init events))) ≡ 9
 unfolding sent_by spelling

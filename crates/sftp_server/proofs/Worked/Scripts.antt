@@ -170,7 +170,7 @@ second_works = record {
   marked = refl;
 }
 
--- the second reply is sent, and its request stays behind the first
+-- the second reply is sent, and its request stays after the first
 second_sends : IsSent (machine (started blank) (both (Done (success 1)) (Done (success 2)))) 1 (success 2)
     (machine (started blank) (both (Done (success 1)) Sent))
 unfolding from_unsent

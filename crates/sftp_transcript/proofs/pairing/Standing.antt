@@ -10,7 +10,7 @@ use Rattle.sftp_wire.specs.declared.packets.Request.{Request}
 use Rattle.sftp_wire.specs.declared.packets.Reply.{Reply}
 use Rattle.sftp_transcript.specs.declared.events.Event.{Event}
 use Rattle.sftp_transcript.specs.declared.events.Event.TheVariants.{Asked, Replied}
-use Rattle.sftp_transcript.specs.Explained.{closed, waiting, broken, after_event, turn_after, Matching, next_reply}
+use Rattle.sftp_transcript.specs.Explained.{closed, waiting, broken, after_event, turn_after, next_reply}
 use Rattle.sftp_transcript.specs.Explained.{exchanges_of, requests_before_reply, in_window, window}
 use Rattle.sftp_transcript.specs.Ledger.{Exchange, with_replies, is_open, turn_of, AreApart, keeps_window, StandsFor}
 use Rattle.sftp_transcript.specs.Ledger.{IsAnswered, IsComplete}
@@ -275,51 +275,6 @@ stands_replied front request reply back seen stands same =
 
 -- ---- what ends every explanation
 
-stays_broken : (id : ℕ) (events : List Event) → turn_after id broken events ≡ broken
-unfolding turn_after
-stays_broken id [] = refl
-stays_broken id (Asked request ∷ events) = rw (broken_after id (Asked request)) (stays_broken id events)
-stays_broken id (Replied reply ∷ events) = rw (broken_after id (Replied reply)) (stays_broken id events)
-
--- a request of an id that waits
-pub no_second_request : (ledger : List Exchange) (seen : List Event) (request : Request) (more : List Event)
-    → StandsFor ledger seen → is_open request.id ledger ≡ true → Matching (seen ++ Asked request ∷ more) → ⊥
-unfolding turn_after
-no_second_request ledger seen request more stands opened matching =
-    let turn : turn_of ledger request.id ≡ waiting = turn_of-open ledger request.id opened in
-    let hit : (request.id == request.id) ≡ true = eq-eqb request.id request.id refl in
-    let all : turn_after request.id closed (seen ++ Asked request ∷ more) ≡ closed = matching request.id in
-    let rest : turn_after request.id (turn_of ledger request.id) (Asked request ∷ more) ≡ closed =
-    sym (stands.turns_are request.id (Asked request ∷ more)) ∙ all in
-    let ends : turn_after request.id broken more ≡ closed = rw (turn, hit) at rest in
-    let same : broken ≡ closed = sym (stays_broken request.id more) ∙ ends in
-    absurd cc
-
--- a reply of an id that does not wait
-pub no_reply_unasked : (ledger : List Exchange) (seen : List Event) (reply : Reply) (more : List Event)
-    → StandsFor ledger seen → is_open reply.id ledger ≡ false → Matching (seen ++ Replied reply ∷ more) → ⊥
-unfolding turn_after
-no_reply_unasked ledger seen reply more stands none matching =
-    let turn : turn_of ledger reply.id ≡ closed = turn_of-closed ledger reply.id none in
-    let hit : (reply.id == reply.id) ≡ true = eq-eqb reply.id reply.id refl in
-    let all : turn_after reply.id closed (seen ++ Replied reply ∷ more) ≡ closed = matching reply.id in
-    let rest : turn_after reply.id (turn_of ledger reply.id) (Replied reply ∷ more) ≡ closed =
-    sym (stands.turns_are reply.id (Replied reply ∷ more)) ∙ all in
-    let ends : turn_after reply.id broken more ≡ closed = rw (turn, hit) at rest in
-    let same : broken ≡ closed = sym (stays_broken reply.id more) ∙ ends in
-    absurd cc
-
--- a request that waits at the end
-pub no_end_unanswered : (ledger : List Exchange) (seen : List Event) (id : ℕ) → StandsFor ledger seen
-    → is_open id ledger ≡ true → Matching seen → ⊥
-unfolding turn_after
-no_end_unanswered ledger seen id stands opened matching =
-    let turn : turn_of ledger id ≡ waiting = turn_of-open ledger id opened in
-    let ends : turn_after id (turn_of ledger id) [] ≡ closed =
-    sym (stands.turns_are id []) ∙ ap (turn_after id closed) (append-nil seen) ∙ matching id in
-    let same : waiting ≡ closed = sym turn ∙ ends in
-    absurd cc
-
 -- what was in time with a request to come is in time with that request
 keeps_window-later : (ledger : List Exchange) (request : Request) (more : List Event)
     → keeps_window ledger (Asked request ∷ more) ≡ true → keeps_window (ledger ++ (request, None) ∷ []) [] ≡ true
@@ -380,7 +335,7 @@ keeps_window-few [] few = refl
 keeps_window-few ((first, None) ∷ ledger) few = grind (arith, and_from, lt-ltb, keeps_window-few ledger (omega arith))
 keeps_window-few ((first, Some given) ∷ ledger) few = keeps_window-few ledger (omega arith)
 
--- one that waits has too many behind it
+-- one that waits has too many after it
 pub keeps_window-many : (first : Request) (ledger : List Exchange) → window ≤ length ledger
     → keeps_window ((first, None) ∷ ledger) [] ≡ false
 unfolding keeps_window requests_before_reply

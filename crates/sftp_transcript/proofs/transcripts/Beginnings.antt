@@ -16,7 +16,7 @@ use Rattle.sftp_transcript.specs.declared.errors.TranscriptError.TheVariants.{Ma
 use Rattle.sftp_transcript.specs.declared.events.Event.{Event}
 use Rattle.sftp_transcript.specs.declared.stage.Stage.{Stage}
 use Rattle.sftp_transcript.specs.declared.stage.Stage.TheVariants as stages
-use Rattle.sftp_transcript.specs.Begun.{BeginsRecord, ReadUpTo, FaultAhead, FaultBehind, number_behind}
+use Rattle.sftp_transcript.specs.Begun.{BeginsRecord, ReadUpTo, FaultAhead, FaultAfter, number_after_events}
 use Rattle.sftp_transcript.specs.Records.{side_of_direction, Begins, IsInit, IsVersion}
 use Rattle.sftp_transcript.specs.Refused.{KindFault, PacketFault, DirectedFault, RecordFault, IsEventPacket, EventFault}
 use Rattle.sftp_transcript.specs.Transcript.{transcript_opening, direction_of, record_text, packet_of, event_record, IsEvent, AreRecords, IsHandshake, IsRecord}
@@ -55,7 +55,7 @@ pub record GoesOn (events others : List Event) (rest : List ℕ) : Type 0 where
   pub others_are : others ≡ events ++ more
   pub recorded : AreRecords more rest
 
-first_record : (event : Event) (events : List Event) (rest bytes : List ℕ) → IsEvent event
+pub first_record : (event : Event) (events : List Event) (rest bytes : List ℕ) → IsEvent event
     → bytes ≡ flat_map event_record (event ∷ events) ++ rest → Begins bytes (packet_of event) (flat_map event_record events ++ rest)
 first_record event events rest bytes is e = record {
   spelled = is;
@@ -78,8 +78,8 @@ goes_on (event ∷ events) (other ∷ others) bytes rest all e are =
     let head = event_from_packet event other one.0 in
     record { more = behind.more; others_are = cc; recorded = behind.recorded }
 
--- the records behind a handshake are fixed
-same_records : (opened records others : List ℕ) → IsHandshake opened records → IsHandshake opened others → records ≡ others
+-- the records after a handshake are fixed
+pub same_records : (opened records others : List ℕ) → IsHandshake opened records → IsHandshake opened others → records ≡ others
 same_records opened records others one other =
     let init = begins_one opened (Init one.version one.asked) (Init other.version other.asked)
     (record_text (Version 3 one.told) ++ records) (record_text (Version 3 other.told) ++ others)
@@ -120,7 +120,7 @@ whole_packet packet number rest (Direction place) apart is fault = absurd fault
 whole_packet packet number rest (Start place) apart is fault = absurd fault
 whole_packet packet number rest (Io place) apart is fault = absurd fault
 
-whole_record : (packet : Packet) (number : ℕ) (bytes rest : List ℕ) (error : TranscriptError) → error ≢ NoMemory → Begins bytes packet rest
+pub whole_record : (packet : Packet) (number : ℕ) (bytes rest : List ℕ) (error : TranscriptError) → error ≢ NoMemory → Begins bytes packet rest
     → RecordFault number bytes error → ⊥
 whole_record packet number bytes rest error apart begins fault =
     let behind = spelling packet ++ rest in
@@ -161,8 +161,8 @@ not_recorded stages.Events events others bytes ahead number error apart read fau
     let on = begins_each events others bytes ahead read is in
     none_behind on.more ahead number error apart on.recorded fault.0 fault.1
 
--- bytes whose first fault comes behind some events record none
+-- bytes whose first fault comes after some events record none
 pub faulty_records_none : (bytes : List ℕ) (events others : List Event) (error : TranscriptError) → error ≢ NoMemory
-    → FaultBehind bytes events error → IsRecord others bytes → ⊥
+    → FaultAfter bytes events error → IsRecord others bytes → ⊥
 faulty_records_none bytes events others error apart fault is =
-    not_recorded fault.stage events others bytes fault.ahead (number_behind events) error apart fault.read fault.fault is
+    not_recorded fault.stage events others bytes fault.ahead (number_after_events events) error apart fault.read fault.fault is

@@ -13,7 +13,7 @@ no_events (e ∷ es) bytes none are = cc
 
 -- ---- the records before the events
 
--- the steps by which events are recorded behind the opening
+-- the steps by which events are recorded after the opening
 pub record RecordParts (events : List Event) (opened : List ℕ) : Type 0 where
   pub middle : List ℕ
   pub records : List ℕ

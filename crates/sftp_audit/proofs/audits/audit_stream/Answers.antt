@@ -1,7 +1,8 @@
 -- The events are fed to an auditor from the tree that was read, and the end is the tree where their run ends.
 use Rattle.std.proofs.lemmas.Result.{err_from_is_err_and}
 use Rattle.sftp_audit.specs.Audit.{started}
-use Rattle.sftp_audit.proofs.streams.Judged.{feed-lost, feed-first, end-lost, end-first, accounts-fed}
+use Rattle.sftp_audit.proofs.streams.Judged.{feed-lost, feed-first, judged-feed, judged-end}
+use Rattle.sftp_audit.proofs.streams.Judged.{end-lost, end-first, accounts-fed}
 use Rattle.sftp_audit.proofs.audits.audit_stream.Goals as goal
 
 pub returns-in_err-requests-clause-refused : goal.returns-in_err-requests-clause-refused
@@ -55,3 +56,20 @@ returns-clause-accepted g c = λ transcript new.
       c.in_ok-tree.ensures,
       was.counted,
     )
+
+pub returns-in_err-requests-clause-judged : goal.returns-in_err-requests-clause-judged
+returns-in_err-requests-clause-judged g c =
+    let p =
+    err_from_is_err_and c.from_residual-in_err-requests.result c.from_residual-in_err-requests.ensures.1 in
+    rw (p.1, p.2)
+    (judged-feed c.in_ok-read.field-0 c.args.tree.now c.in_err-requests.field-0.0 c.in_ok-read.ensures.found
+    c.in_err-requests.ensures.treeless)
+
+pub returns-in_err-end-clause-judged : goal.returns-in_err-end-clause-judged
+returns-in_err-end-clause-judged g c =
+    let p = err_from_is_err_and c.from_residual-in_err-end.result c.from_residual-in_err-end.ensures.1 in
+    rw (p.1, p.2)
+    (judged-end c.in_ok-read.field-0 c.args.tree.now c.in_err-end.field-0.0 c.in_ok-read.ensures.found)
+
+pub returns-clause-judged : goal.returns-clause-judged
+returns-clause-judged g c = (c.in_ok-read.field-0, c.in_ok-read.ensures.found)

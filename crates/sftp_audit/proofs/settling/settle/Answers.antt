@@ -1,4 +1,5 @@
-use Rattle.sftp_audit.proofs.auditing.Settled.{done-start, done-more, done-wrong, done-kept, done-ran}
+use Rattle.sftp_audit.proofs.auditing.Settled.{done-start, done-more, done-wrong, done-wrong_in}
+use Rattle.sftp_audit.proofs.auditing.Settled.{done-kept, done-ran}
 use Rattle.sftp_audit.proofs.auditing.Settled.{unsettled-waits, unsettled-none}
 use Rattle.sftp_audit.proofs.settling.settle.Goals as goal
 
@@ -17,6 +18,12 @@ returns-then-not-branch-clause-refused c =
     done-wrong c.args.session.now c.settle.session c.args.ledger.now c.settle.ledger c.in-Some.exchange.now
     c.in-Some-reply.recorded c.settle.invariant c.in-Some.ensures c.in-Some-reply.is
     (c.in_ok-accept.ensures.refused c.if-not-branch.true)
+
+pub returns-then-not-branch-clause-wrong : goal.returns-then-not-branch-clause-wrong
+returns-then-not-branch-clause-wrong c =
+    done-wrong_in c.args.session.now c.settle.session c.accept.new.self c.args.ledger.now c.settle.ledger
+    c.in-Some.exchange.now c.in-Some-reply.recorded c.settle.invariant c.in-Some.ensures c.in-Some-reply.is
+    (c.in_ok-accept.ensures.refused c.if-not-branch.true) (c.in_ok-accept.ensures.kept c.if-not-branch.true)
 
 pub returns-in_default-reply-clause-kept : goal.returns-in_default-reply-clause-kept
 returns-in_default-reply-clause-kept c =

@@ -1,4 +1,4 @@
--- The number behind the direction says how long the record is.
+-- The number after the direction says how long the record is.
 use Rattle.std.proofs.Common.{◌≡◌, ℕ, ◌<◌, ◌^◌, List, ◌∷◌, ◌++◌, rules, arith, sym, ap, ◌∙◌}
 use Rattle.sftp_wire.specs.Spelling.{uint32}
 use Rattle.sftp_transcript.proofs.Inputs.{record_length}

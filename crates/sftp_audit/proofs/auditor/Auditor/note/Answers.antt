@@ -2,7 +2,7 @@
 use Rattle.std.proofs.Common.{refl}
 use Rattle.std.proofs.lemmas.Result.{err_from_is_err_and}
 use Rattle.sftp_audit.proofs.auditing.Standing.{result-asked, refusal-asked, refusal-replied, result-settled}
-use Rattle.sftp_audit.proofs.auditing.Standing.{refusal-settled}
+use Rattle.sftp_audit.proofs.auditing.Standing.{refusal-settled, state-asked, state-settled, state-replied}
 use Rattle.sftp_audit.proofs.auditor.Auditor.note.Goals as goal
 
 pub returns-in-Asked-clause-stands : goal.returns-in-Asked-clause-stands
@@ -14,6 +14,25 @@ pub returns-in-Asked-clause-refused : goal.returns-in-Asked-clause-refused
 returns-in-Asked-clause-refused c =
     refusal-asked c.ask.result c.args.event c.in-Asked.request c.args.self.now _ c.in-Asked.is c.self.view_is
     c.ask.ensures.refused
+
+pub returns-in-Asked-clause-wrong : goal.returns-in-Asked-clause-wrong
+returns-in-Asked-clause-wrong c =
+    state-asked c.ask.result c.args.event c.in-Asked.request c.args.self.now _ _ _
+    c.ask.ensures.refused
+
+pub returns-in_err-answer-in-Replied-clause-wrong : goal.returns-in_err-answer-in-Replied-clause-wrong
+returns-in_err-answer-in-Replied-clause-wrong c =
+    let p = err_from_is_err_and c.from_residual.result c.from_residual.ensures.1 in
+    let e = c.in_err-answer-in-Replied in
+    let wrong = state-replied c.args.event c.in-Replied.reply c.args.self.now _ _ _ e.field-0.0
+    e.ensures.refused in
+    rw (p.1, p.2) wrong
+
+pub returns-in_ok-answer-in-Replied-clause-wrong : goal.returns-in_ok-answer-in-Replied-clause-wrong
+returns-in_ok-answer-in-Replied-clause-wrong c =
+    state-settled c.settle.result c.args.event c.in-Replied.reply c.args.self.now _ c.answer.new.self _ c.in-Replied.is
+    c.self.view_is c.in_ok-answer-in-Replied.ensures.waited c.in_ok-answer-in-Replied.ensures.noted
+    c.settle.ensures.wrong
 
 pub returns-in_err-answer-in-Replied-clause-refused : goal.returns-in_err-answer-in-Replied-clause-refused
 returns-in_err-answer-in-Replied-clause-refused c =

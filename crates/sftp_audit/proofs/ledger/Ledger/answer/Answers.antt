@@ -8,8 +8,8 @@ pub unreachable-requires : goal.unreachable-requires
 unreachable-requires c =
     let old = c.self.inside in
     let w = held old.exchanges.items old.unanswered.entries old.first c.args.recorded.reply.id c.in-Some.ordinal
-    c.place_of-place.result c.self.invariant (sym c.in-Some.ensures.value) c.place_of-place.ensures in
-    let within = held-within old.exchanges.items c.place_of-place.result c.args.recorded.reply.id w in
+    c.position_of-position.result c.self.invariant (sym c.in-Some.ensures.value) c.position_of-position.ensures in
+    let within = held-within old.exchanges.items c.position_of-position.result c.args.recorded.reply.id w in
     true≢false (sym (c.in-None.ensures.variant.1 (omega (arith, within, old.exchanges.ok.0))))
 
 pub invariant_of-self-2 : goal.invariant_of-self-2
@@ -17,10 +17,10 @@ invariant_of-self-2 c =
     let old = c.self.inside in
     let x = c.in-Some-get_mut.exchange.now in
     let w = held old.exchanges.items old.unanswered.entries old.first c.args.recorded.reply.id c.in-Some.ordinal
-    c.place_of-place.result c.self.invariant (sym c.in-Some.ensures.value) c.place_of-place.ensures in
-    let at = slice_get_read old.exchanges.items old.exchanges.len c.place_of-place.result x old.exchanges.ok.0
+    c.position_of-position.result c.self.invariant (sym c.in-Some.ensures.value) c.position_of-position.ensures in
+    let at = slice_get_read old.exchanges.items old.exchanges.len c.position_of-position.result x old.exchanges.ok.0
     (c.in-Some-get_mut.ensures.variant.0 refl) c.in-Some-get_mut.ensures.value in
-    rw (held-stored c.args.recorded old.exchanges.items c.place_of-place.result x c.self.invariant.apart w at)
+    rw (held-stored c.args.recorded old.exchanges.items c.position_of-position.result x c.self.invariant.apart w at)
     (indexed-replied old.exchanges.items old.unanswered.entries c.swap_remove.new.self.entries old.first
     c.args.recorded c.self.invariant (λ id. c.in-Some.ensures.updates.0 id))
 
@@ -29,15 +29,15 @@ returns-clause-noted c =
     let old = c.self.inside in
     let x = c.in-Some-get_mut.exchange.now in
     let w = held old.exchanges.items old.unanswered.entries old.first c.args.recorded.reply.id c.in-Some.ordinal
-    c.place_of-place.result c.self.invariant (sym c.in-Some.ensures.value) c.place_of-place.ensures in
-    let at = slice_get_read old.exchanges.items old.exchanges.len c.place_of-place.result x old.exchanges.ok.0
+    c.position_of-position.result c.self.invariant (sym c.in-Some.ensures.value) c.position_of-position.ensures in
+    let at = slice_get_read old.exchanges.items old.exchanges.len c.position_of-position.result x old.exchanges.ok.0
     (c.in-Some-get_mut.ensures.variant.0 refl) c.in-Some-get_mut.ensures.value in
     rw (← c.self.view_is)
-    (held-stored c.args.recorded old.exchanges.items c.place_of-place.result x c.self.invariant.apart w at)
+    (held-stored c.args.recorded old.exchanges.items c.position_of-position.result x c.self.invariant.apart w at)
 
 pub returns-clause-waited : goal.returns-clause-waited
 returns-clause-waited c =
     let old = c.self.inside in
     let w = held old.exchanges.items old.unanswered.entries old.first c.args.recorded.reply.id c.in-Some.ordinal
-    c.place_of-place.result c.self.invariant (sym c.in-Some.ensures.value) c.place_of-place.ensures in
-    rw (← c.self.view_is) (held-open old.exchanges.items c.place_of-place.result c.args.recorded.reply.id w)
+    c.position_of-position.result c.self.invariant (sym c.in-Some.ensures.value) c.position_of-position.ensures in
+    rw (← c.self.view_is) (held-open old.exchanges.items c.position_of-position.result c.args.recorded.reply.id w)

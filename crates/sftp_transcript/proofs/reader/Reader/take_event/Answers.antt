@@ -6,7 +6,7 @@ use Rattle.sftp_transcript.specs.declared.stage.Stage.TheVariants as stages
 use Rattle.sftp_transcript.specs.Begun.{HasGiven}
 use Rattle.sftp_transcript.specs.Recorded.{Reading, IsKnown, Records, Gave, Gives}
 use Rattle.sftp_transcript.proofs.Recorded.{gave, gives, known_after, excused_events}
-use Rattle.sftp_transcript.proofs.Begun.{gave_from, fault_from}
+use Rattle.sftp_transcript.proofs.Begun.{given_kept, gave_from, fault_from}
 use Rattle.sftp_transcript.proofs.reader.Reader.take_event.Goals as goal
 
 pub returns-in_err-given-clause-only : goal.returns-in_err-given-clause-only
@@ -68,3 +68,13 @@ returns-clause-first g c = λ bytes ahead events given.
     record { ahead = c.pass_event.new.input; stage = c.self.inside.stage; number = c.number_after-self-inside.result; fault = c.self.inside.fault } in
     let at : HasGiven bytes events ahead old = subst (λ (s : Reading). HasGiven bytes events ahead s) (sym c.self.view_is) given in
     gave_from old new c.in_ok-given.given from from c.number_after-self-inside.ensures refl c.in_ok-given.ensures.found bytes ahead events at
+
+pub returns-in_err-given-clause-still : goal.returns-in_err-given-clause-still
+returns-in_err-given-clause-still g c = λ bytes ahead events given.
+    let old : Reading =
+    record { ahead = c.self.inside.input; stage = c.self.inside.stage; number = c.self.inside.number; fault = c.self.inside.fault } in
+    let new : Reading =
+    record { ahead = c.pass_event.new.input; stage = c.self.inside.stage; number = c.self.inside.number; fault = c.self.inside.fault } in
+    let p = err_from_is_err_and c.from_residual.result c.from_residual.ensures.1 in
+    let at : HasGiven bytes events ahead old = subst (λ (s : Reading). HasGiven bytes events ahead s) (sym c.self.view_is) given in
+    rw p.1 (given_kept old new c.in_err-given.ensures.same refl refl refl bytes ahead events at)

@@ -9,7 +9,7 @@ use Rattle.sftp_transcript.specs.Records.{BeginsInit}
 use Rattle.sftp_transcript.specs.Recorded.{Reading, Records, RecordsSame}
 use Rattle.sftp_transcript.specs.Steps.{IsExcuse}
 use Rattle.sftp_transcript.proofs.Recorded.{passed_excuse, RecordsSame-passed, init_sound, init_split}
-use Rattle.sftp_transcript.proofs.Begun.{given_passed, init_read, fault_from}
+use Rattle.sftp_transcript.proofs.Begun.{given_kept, given_passed, init_read, fault_from}
 use Rattle.sftp_transcript.proofs.reader.Reader.take_init.Goals as goal
 
 pub returns-in_err-pass_init-in-Init-clause-only : goal.returns-in_err-pass_init-in-Init-clause-only
@@ -46,3 +46,13 @@ returns-in_ok-pass_init-in-Init-clause-first g c = λ bytes ahead events given.
     record { ahead = c.pass_init.new.input; stage = stages.Version; number = c.self.inside.number; fault = c.self.inside.fault } in
     let at : HasGiven bytes events ahead old = subst (λ (s : Reading). HasGiven bytes events ahead s) (sym c.self.view_is) given in
     given_passed BeginsInit stages.Init stages.Version init_read old new c.in-Init.is refl refl refl c.in_ok-pass_init-in-Init.ensures.found bytes ahead events at
+
+pub returns-in_err-pass_init-in-Init-clause-still : goal.returns-in_err-pass_init-in-Init-clause-still
+returns-in_err-pass_init-in-Init-clause-still g c = λ bytes ahead events given.
+    let old : Reading =
+    record { ahead = c.self.inside.input; stage = c.self.inside.stage; number = c.self.inside.number; fault = c.self.inside.fault } in
+    let new : Reading =
+    record { ahead = c.pass_init.new.input; stage = c.self.inside.stage; number = c.self.inside.number; fault = c.self.inside.fault } in
+    let p = err_from_is_err_and c.from_residual.result c.from_residual.ensures.1 in
+    let at : HasGiven bytes events ahead old = subst (λ (s : Reading). HasGiven bytes events ahead s) (sym c.self.view_is) given in
+    rw p.1 (given_kept old new c.in_err-pass_init-in-Init.ensures.same refl refl refl bytes ahead events at)

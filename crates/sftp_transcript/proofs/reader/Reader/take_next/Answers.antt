@@ -32,3 +32,13 @@ pub returns-clause-first : goal.returns-clause-first
 returns-clause-first g c = λ bytes ahead events given.
     let begun = c.in_ok-take_start.ensures.first bytes ahead events given in
     c.take_event.ensures.first bytes begun.0 events begun.1
+
+pub returns-in_err-take_start-clause-still : goal.returns-in_err-take_start-clause-still
+returns-in_err-take_start-clause-still g c = λ bytes ahead events given.
+    let p = err_from_is_err_and c.from_residual.result c.from_residual.ensures.1 in
+    rw p.1 (c.in_err-take_start.ensures.still bytes ahead events given)
+
+pub returns-clause-still : goal.returns-clause-still
+returns-clause-still g c = λ bytes ahead events given.
+    let begun = c.in_ok-take_start.ensures.first bytes ahead events given in
+    c.take_event.ensures.still bytes begun.0 events begun.1

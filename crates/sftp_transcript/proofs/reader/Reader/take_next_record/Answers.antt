@@ -2,9 +2,9 @@
 use Rattle.std.proofs.Common.{◌≡◌, List, ℕ, ◌⊎◌}
 use Rattle.std.proofs.lemmas.Result.{IfOk-weaker, IfErr-weaker}
 use Rattle.sftp_transcript.specs.Begun.{FaultAhead}
-use Rattle.sftp_transcript.specs.Packets.{GivesNext, FaultNext, number_then}
+use Rattle.sftp_transcript.specs.Packets.{GivesNext, FaultNext, IsStageThen, number_then}
 use Rattle.sftp_transcript.specs.Steps.{HasAhead, IsExcuse}
-use Rattle.sftp_transcript.proofs.Packets.{gives_opened, fault_opened, on_err_both}
+use Rattle.sftp_transcript.proofs.Packets.{gives_opened, fault_opened, stage_then_opened, on_err_both}
 use Rattle.sftp_transcript.proofs.Recorded.{RecordsSame-kept, RecordsSame-then}
 use Rattle.sftp_transcript.proofs.reader.Reader.take_next_record.Goals as goal
 
@@ -38,3 +38,13 @@ returns-clause-first g c = λ before known.
     (λ error. IsExcuse error ⊎ FaultNext old.stage old.number before error)
     (λ error fault. fault_opened old.stage mid.stage old.number mid.number before opened.0 error c.in_ok-take_opening.ensures.stage c.take_opening.ensures.same.number opened.2 fault)
     (c.take_record.ensures.first opened.0 opened.1)
+
+pub returns-clause-stage : goal.returns-clause-stage
+returns-clause-stage g c =
+    let old = c.args.self.now in
+    let mid = c.take_opening.new.self in
+    let new = c.take_record.new.self in
+    IfOk-weaker c.take_record.result (λ given. IsStageThen mid.stage given new.stage)
+    (λ given. IsStageThen old.stage given new.stage)
+    (λ given is. stage_then_opened old.stage mid.stage given new.stage c.in_ok-take_opening.ensures.stage is)
+    c.take_record.ensures.stage

@@ -1,7 +1,7 @@
 -- The record in front is the next one.
 use Rattle.std.proofs.Common.{◌≡◌, ◌≤◌, List, ℕ, [], sym, subst}
 use Rattle.sftp_transcript.specs.declared.stage.Stage.TheVariants as stages
-use Rattle.sftp_transcript.specs.Packets.{BeginsNext, stage_behind}
+use Rattle.sftp_transcript.specs.Packets.{BeginsNext, stage_after}
 use Rattle.sftp_transcript.specs.Recorded.{Reading, rank}
 use Rattle.sftp_transcript.specs.Steps.{HasAhead}
 use Rattle.sftp_transcript.proofs.Packets.{next_given}
@@ -15,9 +15,9 @@ returns-in-Some-clause-found g c =
     let packet = c.in-Some.packet in
     let new = c.pass_record.new.input in
     subst
-    (λ (s : Reading). (before : List ℕ) → HasAhead s.ahead before → (c.stage_behind-self-inside.result ≡ stage_behind s.stage) × ((x : List ℕ) × HasAhead new x × BeginsNext s.stage before packet x))
+    (λ (s : Reading). (before : List ℕ) → HasAhead s.ahead before → (c.stage_after-self-inside.result ≡ stage_after s.stage) × ((x : List ℕ) × HasAhead new x × BeginsNext s.stage before packet x))
     c.self.view_is
-    (λ before known. (c.stage_behind-self-inside.ensures, next_given old.stage before packet new begun (rw c.in-Some.is at (c.in_ok-packet.ensures.found before known))))
+    (λ before known. (c.stage_after-self-inside.ensures, next_given old.stage before packet new begun (rw c.in-Some.is at (c.in_ok-packet.ensures.found before known))))
 
 pub returns-in-None-clause-found : goal.returns-in-None-clause-found
 returns-in-None-clause-found g c =

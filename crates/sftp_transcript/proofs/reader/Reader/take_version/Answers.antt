@@ -9,7 +9,7 @@ use Rattle.sftp_transcript.specs.Records.{BeginsVersion}
 use Rattle.sftp_transcript.specs.Recorded.{Reading, Records, RecordsSame}
 use Rattle.sftp_transcript.specs.Steps.{IsExcuse}
 use Rattle.sftp_transcript.proofs.Recorded.{passed_excuse, RecordsSame-passed, version_sound, version_split}
-use Rattle.sftp_transcript.proofs.Begun.{given_passed, version_read, fault_from}
+use Rattle.sftp_transcript.proofs.Begun.{given_kept, given_passed, version_read, fault_from}
 use Rattle.sftp_transcript.proofs.reader.Reader.take_version.Goals as goal
 
 pub returns-in_err-pass_version-in-Version-clause-only : goal.returns-in_err-pass_version-in-Version-clause-only
@@ -46,3 +46,13 @@ returns-in_ok-pass_version-in-Version-clause-first g c = λ bytes ahead events g
     record { ahead = c.pass_version.new.input; stage = stages.Events; number = c.self.inside.number; fault = c.self.inside.fault } in
     let at : HasGiven bytes events ahead old = subst (λ (s : Reading). HasGiven bytes events ahead s) (sym c.self.view_is) given in
     given_passed BeginsVersion stages.Version stages.Events version_read old new c.in-Version.is refl refl refl c.in_ok-pass_version-in-Version.ensures.found bytes ahead events at
+
+pub returns-in_err-pass_version-in-Version-clause-still : goal.returns-in_err-pass_version-in-Version-clause-still
+returns-in_err-pass_version-in-Version-clause-still g c = λ bytes ahead events given.
+    let old : Reading =
+    record { ahead = c.self.inside.input; stage = c.self.inside.stage; number = c.self.inside.number; fault = c.self.inside.fault } in
+    let new : Reading =
+    record { ahead = c.pass_version.new.input; stage = c.self.inside.stage; number = c.self.inside.number; fault = c.self.inside.fault } in
+    let p = err_from_is_err_and c.from_residual.result c.from_residual.ensures.1 in
+    let at : HasGiven bytes events ahead old = subst (λ (s : Reading). HasGiven bytes events ahead s) (sym c.self.view_is) given in
+    rw p.1 (given_kept old new c.in_err-pass_version-in-Version.ensures.same refl refl refl bytes ahead events at)

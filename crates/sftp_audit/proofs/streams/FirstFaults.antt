@@ -1,0 +1,206 @@
+-- An audit meets one fault first.
+use Rattle.std.proofs.Common.{◌≡◌, ◌≢◌, ◌⊎◌, inl, inr, ℕ, List, [], ◌∷◌, ◌++◌, length, refl, sym, ap, ◌∙◌, subst}
+use Rattle.std.proofs.Common.{append_assoc, arith}
+use Rattle.std.proofs.lemmas.List.{length-append}
+use Rattle.sftp_wire.proofs.StreamLaws.Front.{spellings-apart}
+use Rattle.sftp_tree.specs.Tree.{Tree}
+use Rattle.sftp_tree.specs.Picture.{IsStart}
+use Rattle.sftp_tree.proofs.TreeFiles.Files.{one_start}
+use Rattle.sftp_handles.specs.State.{State}
+use Rattle.sftp_handles.specs.Allowed.{Allowed}
+use Rattle.sftp_transcript.specs.declared.errors.TranscriptError.{TranscriptError}
+use Rattle.sftp_transcript.specs.declared.errors.TranscriptError.TheVariants as transcript_errors
+use Rattle.sftp_transcript.specs.declared.events.Event.{Event}
+use Rattle.sftp_transcript.specs.Sound.{Sound}
+use Rattle.sftp_transcript.proofs.transcripts.Beginnings.{begins_each, faulty_records_none}
+use Rattle.sftp_transcript.proofs.transcripts.FirstFaults.{Extends, beginnings_compared, one_fault, first_before_fault}
+use Rattle.sftp_transcript.proofs.transcripts.OneRecord.{records_are_one_lem}
+use Rattle.sftp_audit.specs.declared.errors.AuditError.{AuditError}
+use Rattle.sftp_audit.specs.declared.errors.AuditError.TheVariants as audit_errors
+use Rattle.sftp_audit.specs.declared.errors.Refusal.{Refusal}
+use Rattle.sftp_audit.specs.declared.errors.Refusal.TheVariants as refusals
+use Rattle.sftp_audit.specs.declared.exchanges.Exchange.{Exchange}
+use Rattle.sftp_audit.specs.Auditor.{Refuses, LacksReply, IsOldestOpen}
+use Rattle.sftp_audit.specs.Audit.{started, RefusedAt, RefusedAtEnd, FaultAt, IsFirstFault, IsTreeError, IsPlain}
+use Rattle.sftp_audit.proofs.auditing.Lost.{refuses_unsound}
+use Rattle.sftp_audit.proofs.auditing.Refusals.{one_refusal}
+
+-- ---- two refusals of events
+
+same_head : (x y : Event) (xs ys : List Event) → x ∷ xs ≡ y ∷ ys → x ≡ y
+same_head x y xs ys same = cc
+
+same_tail : (x y : Event) (xs ys : List Event) → x ∷ xs ≡ y ∷ ys → xs ≡ ys
+same_tail x y xs ys same = cc
+
+none_left : (ws more : List Event) (x : Event) → [] ≡ (ws ++ x ∷ []) ++ more → ⊥
+none_left ws more x same =
+    absurd (omega (arith, ap length same, length-append (ws ++ x ∷ []) more, length-append ws (x ∷ [])))
+
+-- the last event of the longer list is that of the other one, or this one comes before it
+record Before (xs : List Event) (x : Event) (ys : List Event) : Type 0 where
+  between : List Event
+  are : ys ≡ xs ++ x ∷ between
+
+last_or_before : (xs ys more : List Event) (x y : Event) → ys ++ y ∷ [] ≡ (xs ++ x ∷ []) ++ more
+    → ((xs ≡ ys) × (x ≡ y)) ⊎ Before xs x ys
+last_or_before [] [] more x y same = inl (refl, sym (same_head y x [] more same))
+last_or_before [] (z ∷ zs) more x y same =
+    inr (record { between = zs; are = ap (λ (e : Event). e ∷ zs) (same_head z x (zs ++ y ∷ []) more same) })
+last_or_before (w ∷ ws) [] more x y same = absurd (none_left ws more x (same_tail y w [] ((ws ++ x ∷ []) ++ more) same))
+last_or_before (w ∷ ws) (z ∷ zs) more x y same =
+    let head : z ≡ w = same_head z w (zs ++ y ∷ []) ((ws ++ x ∷ []) ++ more) same in
+    elim (last_or_before ws zs more x y (same_tail z w (zs ++ y ∷ []) ((ws ++ x ∷ []) ++ more) same)) [
+      | inl both ↦
+          inl (ap (λ (l : List Event). w ∷ l) both.0 ∙ ap (λ (e : Event). e ∷ zs) (sym head), both.1)
+      | inr before ↦ inr (record {
+        between = before.between;
+        are = ap (λ (e : Event). e ∷ zs) head ∙ ap (λ (l : List Event). w ∷ l) before.are;
+      })
+    ]
+
+-- a session that is sound goes past no event that is refused
+not_before : (start : State) (transcript : List ℕ) (refusal : Refusal) (events : List Event) (end : State)
+    → refusal ≢ refusals.NoMemory → (at : RefusedAt start transcript refusal) → Sound Allowed start events end
+    → Before at.events at.event events → ⊥
+not_before start transcript refusal events end apart at sound before =
+    refuses_unsound start at.events at.event refusal at.end at.sound at.refuses apart before.between end
+    (subst (λ (l : List Event). Sound Allowed start l end) before.are sound)
+
+at_one : (start : State) (transcript : List ℕ) (a b : Refusal) → a ≢ refusals.NoMemory → b ≢ refusals.NoMemory
+    → (one : RefusedAt start transcript a) (other : RefusedAt start transcript b)
+    → Extends (one.events ++ one.event ∷ []) one.rest (other.events ++ other.event ∷ []) other.rest → a ≡ b
+at_one start transcript a b not_a not_b one other on =
+    elim (last_or_before one.events other.events on.more one.event other.event on.others_are) [
+      | inl both ↦
+          let here : Refuses start other.events one.event a =
+          subst (λ (l : List Event). Refuses start l one.event a) both.0 one.refuses in
+          one_refusal start other.events other.event a b (subst (λ (e : Event). Refuses start other.events e a) both.1 here)
+          other.refuses not_a not_b
+      | inr before ↦
+          absurd (not_before start transcript a other.events other.end not_a one other.sound before)
+    ]
+
+two_refused : (start : State) (transcript : List ℕ) (a b : Refusal) → a ≢ refusals.NoMemory → b ≢ refusals.NoMemory
+    → RefusedAt start transcript a → RefusedAt start transcript b → a ≡ b
+two_refused start transcript a b not_a not_b one other =
+    elim (beginnings_compared transcript (one.events ++ one.event ∷ []) (other.events ++ other.event ∷ []) one.rest other.rest
+    one.begins other.begins) [
+      | inl on ↦ at_one start transcript a b not_a not_b one other on
+      | inr on ↦ sym (at_one start transcript b a not_b not_a other one on)
+    ]
+
+-- ---- an event is refused, or a request has no reply
+
+one_lack_by : (events : List Event) (m n : ℕ) → IsOldestOpen events m → IsOldestOpen events n → m ≡ n
+one_lack_by events m n one other =
+    let same : one.0 ∷ one.1 ≡ other.0 ∷ other.1 = sym one.2 ∙ other.2 in
+    let exchange : one.0 ≡ other.0 = first_of one.0 other.0 one.1 other.1 same in
+    one.3 ∙ ap (λ (x : Exchange). x.number) exchange ∙ sym other.3
+  where
+    first_of : (x y : Exchange) (xs ys : List Exchange) → x ∷ xs ≡ y ∷ ys → x ≡ y
+    first_of x y xs ys same = cc
+
+why_lacks : (events : List Event) (refusal : Refusal) → LacksReply events refusal
+    → (number : ℕ) × (refusal ≡ refusals.Unanswered number) × IsOldestOpen events number
+why_lacks events (refusals.Unanswered number) lacks = (number, refl, lacks)
+why_lacks events (refusals.UnknownReply number) lacks = absurd lacks
+why_lacks events (refusals.IdInUse number) lacks = absurd lacks
+why_lacks events (refusals.Window number) lacks = absurd lacks
+why_lacks events (refusals.NotAllowed number) lacks = absurd lacks
+why_lacks events refusals.NoMemory lacks = absurd lacks
+
+one_lack : (events : List Event) (a b : Refusal) → LacksReply events a → LacksReply events b → a ≡ b
+one_lack events a b for_a for_b =
+    let one = why_lacks events a for_a in
+    let other = why_lacks events b for_b in
+    one.1 ∙ ap (λ (n : ℕ). refusals.Unanswered n) (one_lack_by events one.0 other.0 one.2 other.2) ∙ sym other.1
+
+two_ends : (start : State) (transcript : List ℕ) (a b : Refusal) → RefusedAtEnd start transcript a
+    → RefusedAtEnd start transcript b → a ≡ b
+two_ends start transcript a b one other =
+    let same : other.events ≡ one.events =
+    records_are_one_lem spellings-apart other.events one.events transcript other.recorded one.recorded in
+    one_lack one.events a b one.lacks (subst (λ (l : List Event). LacksReply l b) same other.lacks)
+
+refused_before_end : (start : State) (transcript : List ℕ) (a b : Refusal) → a ≢ refusals.NoMemory
+    → RefusedAt start transcript a → RefusedAtEnd start transcript b → ⊥
+refused_before_end start transcript a b not_a at atend =
+    let on = begins_each (at.events ++ at.event ∷ []) atend.events transcript at.rest at.begins atend.recorded in
+    not_before start transcript a atend.events atend.end not_a at atend.sound (record {
+      between = on.more;
+      are = on.others_are ∙ append_assoc at.events (at.event ∷ []) on.more;
+    })
+
+abbrev IsRefused : State → List ℕ → Refusal → Type 0
+IsRefused start transcript refusal = RefusedAt start transcript refusal ⊎ RefusedAtEnd start transcript refusal
+
+one_refused : (start : State) (transcript : List ℕ) (a b : Refusal) → a ≢ refusals.NoMemory → b ≢ refusals.NoMemory
+    → IsRefused start transcript a → IsRefused start transcript b → a ≡ b
+one_refused start transcript a b not_a not_b (inl one) (inl other) = two_refused start transcript a b not_a not_b one other
+one_refused start transcript a b not_a not_b (inl one) (inr other) =
+    absurd (refused_before_end start transcript a b not_a one other)
+one_refused start transcript a b not_a not_b (inr one) (inl other) =
+    absurd (refused_before_end start transcript b a not_b other one)
+one_refused start transcript a b not_a not_b (inr one) (inr other) = two_ends start transcript a b one other
+
+-- ---- a record has a fault, or an event is refused
+
+fault_alone : (start : State) (transcript : List ℕ) (error : TranscriptError) (refusal : Refusal)
+    → error ≢ transcript_errors.NoMemory → refusal ≢ refusals.NoMemory → FaultAt start transcript error
+    → IsRefused start transcript refusal → ⊥
+fault_alone start transcript error refusal apart not_memory at (inl refused) =
+    let first = first_before_fault transcript at.events (refused.events ++ refused.event ∷ []) refused.rest error apart
+    at.fault refused.begins in
+    not_before start transcript refusal at.events at.end not_memory refused at.sound (record {
+      between = first.more;
+      are = first.events_are ∙ append_assoc refused.events (refused.event ∷ []) first.more;
+    })
+fault_alone start transcript error refusal apart not_memory at (inr atend) =
+    faulty_records_none transcript at.events atend.events error apart at.fault atend.recorded
+
+-- ---- the first fault
+
+unlike_fault : (error : TranscriptError) → IsPlain (audit_errors.Transcript error) → error ≢ transcript_errors.NoMemory
+unlike_fault transcript_errors.NoMemory plain same = plain
+unlike_fault other plain same = absurd cc
+
+unlike_refusal : (refusal : Refusal) → IsPlain (audit_errors.Refused refusal) → refusal ≢ refusals.NoMemory
+unlike_refusal refusals.NoMemory plain same = plain
+unlike_refusal other plain same = absurd cc
+
+same_start : (tree : List ℕ) (t u : Tree) → IsStart t tree → IsStart u tree → u ≡ t
+same_start tree t u of_t of_u = one_start u t tree of_u of_t
+
+pub one_first_fault : (tree transcript : List ℕ) (a b : AuditError) → IsFirstFault tree transcript a
+    → IsFirstFault tree transcript b → IsPlain a → IsPlain b → a ≢ audit_errors.NoMemory → b ≢ audit_errors.NoMemory
+    → (IsTreeError a × IsTreeError b) ⊎ (a ≡ b)
+one_first_fault tree transcript audit_errors.NoMemory b for_a for_b plain_a plain_b not_a not_b = absurd (not_a refl)
+one_first_fault tree transcript a audit_errors.NoMemory for_a for_b plain_a plain_b not_a not_b = absurd (not_b refl)
+one_first_fault tree transcript (audit_errors.Tree e) (audit_errors.Tree f) for_a for_b plain_a plain_b not_a not_b =
+    inl (tt, tt)
+one_first_fault tree transcript (audit_errors.Tree e) (audit_errors.Transcript f) for_a for_b plain_a plain_b not_a not_b =
+    absurd (for_a (for_b.0, for_b.1))
+one_first_fault tree transcript (audit_errors.Tree e) (audit_errors.Refused f) for_a for_b plain_a plain_b not_a not_b =
+    absurd (for_a (for_b.0, for_b.1))
+one_first_fault tree transcript (audit_errors.Transcript e) (audit_errors.Tree f) for_a for_b plain_a plain_b not_a not_b =
+    absurd (for_b (for_a.0, for_a.1))
+one_first_fault tree transcript (audit_errors.Transcript e) (audit_errors.Transcript f) for_a for_b plain_a plain_b not_a not_b =
+    let same = one_fault transcript for_a.2.events for_b.2.events e f for_a.2.fault for_b.2.fault (unlike_fault e plain_a)
+    (unlike_fault f plain_b) in
+    inr (ap (λ (x : TranscriptError). audit_errors.Transcript x) same.1)
+one_first_fault tree transcript (audit_errors.Transcript e) (audit_errors.Refused f) for_a for_b plain_a plain_b not_a not_b =
+    let start : for_b.0 ≡ for_a.0 = same_start tree for_a.0 for_b.0 for_a.1 for_b.1 in
+    absurd (fault_alone (started for_a.0) transcript e f (unlike_fault e plain_a) (unlike_refusal f plain_b) for_a.2
+    (subst (λ (t : Tree). IsRefused (started t) transcript f) start for_b.2))
+one_first_fault tree transcript (audit_errors.Refused e) (audit_errors.Tree f) for_a for_b plain_a plain_b not_a not_b =
+    absurd (for_b (for_a.0, for_a.1))
+one_first_fault tree transcript (audit_errors.Refused e) (audit_errors.Transcript f) for_a for_b plain_a plain_b not_a not_b =
+    let start : for_a.0 ≡ for_b.0 = same_start tree for_b.0 for_a.0 for_b.1 for_a.1 in
+    absurd (fault_alone (started for_b.0) transcript f e (unlike_fault f plain_b) (unlike_refusal e plain_a) for_b.2
+    (subst (λ (t : Tree). IsRefused (started t) transcript e) start for_a.2))
+one_first_fault tree transcript (audit_errors.Refused e) (audit_errors.Refused f) for_a for_b plain_a plain_b not_a not_b =
+    let start : for_b.0 ≡ for_a.0 = same_start tree for_a.0 for_b.0 for_a.1 for_b.1 in
+    inr (ap (λ (x : Refusal). audit_errors.Refused x)
+    (one_refused (started for_a.0) transcript e f (unlike_refusal e plain_a) (unlike_refusal f plain_b) for_a.2
+    (subst (λ (t : Tree). IsRefused (started t) transcript f) start for_b.2)))

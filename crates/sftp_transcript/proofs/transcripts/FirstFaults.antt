@@ -1,0 +1,320 @@
+-- Bytes have one first fault, and what begins them agrees with it.
+use Rattle.std.proofs.Common.{◌≡◌, ◌≢◌, ◌<◌, ◌≤◌, ◌⊎◌, inl, inr, ℕ, List, [], ◌∷◌, ◌++◌, Option, Some, None, Result, Ok, Err, refl, sym, ap, ◌∙◌, subst, append-nil, arith}
+use Rattle.std.specs.List.{flat_map, AllByRecursion}
+use Rattle.std.proofs.lemmas.List.{append_cancel_left}
+use Rattle.sftp_wire.specs.declared.errors.Fault.{Fault}
+use Rattle.sftp_wire.specs.declared.packets.Packet.{Packet}
+use Rattle.sftp_wire.specs.declared.packets.Packet.TheVariants.{Init, Version}
+use Rattle.sftp_wire.specs.declared.packets.Side.{Side}
+use Rattle.sftp_wire.specs.Reading.{front_of}
+use Rattle.sftp_transcript.specs.declared.errors.TranscriptError.{TranscriptError}
+use Rattle.sftp_transcript.specs.declared.errors.TranscriptError.TheVariants.{Magic, Direction, Start, Wire, Truncated, Io, NoMemory}
+use Rattle.sftp_transcript.specs.declared.events.Event.{Event}
+use Rattle.sftp_transcript.specs.declared.stage.Stage.{Stage}
+use Rattle.sftp_transcript.specs.declared.stage.Stage.TheVariants as stages
+use Rattle.sftp_transcript.specs.Begun.{BeginsRecord, BeginsWithInit, ReadUpTo, FaultAhead, FaultAfter, number_after_events}
+use Rattle.sftp_transcript.specs.Records.{side_of_direction, Begins, IsInit, IsVersion, BeginsVersion}
+use Rattle.sftp_transcript.specs.Recorded.{rank}
+use Rattle.sftp_transcript.specs.Refused.{KindFault, PacketFault, DirectedFault, RecordFault, IsEventPacket, EventFault}
+use Rattle.sftp_transcript.specs.Transcript.{transcript_opening, record_text, packet_of, event_record, IsEvent}
+use Rattle.sftp_transcript.proofs.transcripts.Beginnings.{begins_one, first_record, same_records, whole_record, not_both}
+use Rattle.sftp_transcript.proofs.transcripts.OneRecord.{event_from_packet}
+
+-- ---- a record has one fault
+
+abbrev Front : Type 0
+Front = Result (Option (Packet × ℕ)) Fault
+
+same_fault : (read : Front) (f g : Fault) → read ≡ Err f → read ≡ Err g → f ≡ g
+same_fault read f g p q = cc
+
+part_or_fault : (read : Front) (f : Fault) → read ≡ Ok None → read ≡ Err f → ⊥
+part_or_fault read f p q = absurd cc
+
+abbrev WhyUnread : ℕ → Front → TranscriptError → Type 0
+WhyUnread number read error =
+    ((error ≡ Truncated number) × (read ≡ Ok None)) ⊎ ((f : Fault) × (error ≡ Wire f number) × (read ≡ Err f))
+
+why_unread : (number : ℕ) (side : Side) (bytes : List ℕ) (error : TranscriptError) → error ≢ NoMemory
+    → PacketFault number side bytes error → WhyUnread number (front_of side bytes) error
+why_unread number side bytes (Truncated place) apart fault = inl (ap (λ (n : ℕ). Truncated n) fault.0, fault.1)
+why_unread number side bytes (Wire f place) apart fault = inr (f, ap (λ (n : ℕ). Wire f n) fault.0, fault.1)
+why_unread number side bytes NoMemory apart fault = absurd (apart refl)
+why_unread number side bytes (Magic place) apart fault = absurd fault
+why_unread number side bytes (Direction place) apart fault = absurd fault
+why_unread number side bytes (Start place) apart fault = absurd fault
+why_unread number side bytes (Io place) apart fault = absurd fault
+
+one_unread : (number : ℕ) (read : Front) (a b : TranscriptError) → WhyUnread number read a → WhyUnread number read b → a ≡ b
+one_unread number read a b (inl p) (inl q) = p.0 ∙ sym q.0
+one_unread number read a b (inl p) (inr q) = absurd (part_or_fault read q.0 p.1 q.2)
+one_unread number read a b (inr p) (inl q) = absurd (part_or_fault read p.0 q.1 p.2)
+one_unread number read a b (inr p) (inr q) =
+    p.1 ∙ ap (λ (f : Fault). Wire f number) (same_fault read p.0 q.0 p.2 q.2) ∙ sym q.1
+
+directed_one : (number : ℕ) (side : Option Side) (bytes : List ℕ) (a b : TranscriptError) → a ≢ NoMemory → b ≢ NoMemory
+    → DirectedFault number side bytes a → DirectedFault number side bytes b → a ≡ b
+directed_one number None bytes a b not_a not_b for_a for_b = for_a ∙ sym for_b
+directed_one number (Some side) bytes a b not_a not_b for_a for_b =
+    one_unread number (front_of side bytes) a b (why_unread number side bytes a not_a for_a)
+    (why_unread number side bytes b not_b for_b)
+
+record_one : (number : ℕ) (bytes : List ℕ) (a b : TranscriptError) → a ≢ NoMemory → b ≢ NoMemory
+    → RecordFault number bytes a → RecordFault number bytes b → a ≡ b
+record_one number [] a b not_a not_b for_a for_b = for_a ∙ sym for_b
+record_one number (direction ∷ bytes) a b not_a not_b for_a for_b =
+    directed_one number (side_of_direction direction) bytes a b not_a not_b for_a for_b
+
+kind_one : (P : Packet → Type 0) (number : ℕ) (bytes : List ℕ) (a b : TranscriptError) → a ≢ NoMemory → b ≢ NoMemory
+    → KindFault P number bytes a → KindFault P number bytes b → a ≡ b
+kind_one P number bytes a b not_a not_b (inl p) (inl q) = record_one number bytes a b not_a not_b p q
+kind_one P number bytes a b not_a not_b (inl p) (inr q) =
+    absurd (whole_record q.1.packet number bytes q.1.rest a not_a q.1.begins p)
+kind_one P number bytes a b not_a not_b (inr p) (inl q) =
+    absurd (whole_record p.1.packet number bytes p.1.rest b not_b p.1.begins q)
+kind_one P number bytes a b not_a not_b (inr p) (inr q) = p.0 ∙ sym q.0
+
+-- ---- two beginnings of the same bytes
+
+-- the second list begins with the first, and what is ahead of the first begins with the others
+pub record Extends (events : List Event) (ahead : List ℕ) (others : List Event) (rest : List ℕ) : Type 0 where
+  pub more : List Event
+  pub spelled : AllByRecursion IsEvent more
+  pub others_are : others ≡ events ++ more
+  pub ahead_is : ahead ≡ flat_map event_record more ++ rest
+
+both_heads : (x y : Event) (xs ys zs : List Event) → x ≡ y → ys ≡ xs ++ zs → y ∷ ys ≡ (x ∷ xs) ++ zs
+both_heads x y xs ys zs head tail = ap (λ (l : List Event). y ∷ l) tail ∙ ap (λ (e : Event). e ∷ (xs ++ zs)) (sym head)
+
+compared : (events others : List Event) (records ahead rest : List ℕ) → AllByRecursion IsEvent events
+    → AllByRecursion IsEvent others → records ≡ flat_map event_record events ++ ahead
+    → records ≡ flat_map event_record others ++ rest → Extends events ahead others rest ⊎ Extends others rest events ahead
+compared [] others records ahead rest all each one other =
+    inl (record { more = others; spelled = each; others_are = refl; ahead_is = sym one ∙ other })
+compared (x ∷ xs) [] records ahead rest all each one other =
+    inr (record { more = x ∷ xs; spelled = all; others_are = refl; ahead_is = sym other ∙ one })
+compared (x ∷ xs) (y ∷ ys) records ahead rest all each one other =
+    let same = begins_one records (packet_of x) (packet_of y) (flat_map event_record xs ++ ahead) (flat_map event_record ys ++ rest)
+    (first_record x xs ahead records all.0 one) (first_record y ys rest records each.0 other) in
+    let head : x ≡ y = event_from_packet x y same.0 in
+    elim (compared xs ys (flat_map event_record xs ++ ahead) ahead rest all.1 each.1 refl same.1) [
+      | inl on ↦ inl (record {
+        more = on.more;
+        spelled = on.spelled;
+        others_are = both_heads x y xs ys on.more head on.others_are;
+        ahead_is = on.ahead_is;
+      })
+      | inr on ↦ inr (record {
+        more = on.more;
+        spelled = on.spelled;
+        others_are = both_heads y x ys xs on.more (sym head) on.others_are;
+        ahead_is = on.ahead_is;
+      })
+    ]
+
+same_opened : (bytes opened others : List ℕ) → bytes ≡ transcript_opening ++ opened → bytes ≡ transcript_opening ++ others
+    → opened ≡ others
+same_opened bytes opened others one other = append_cancel_left transcript_opening opened others (sym one ∙ other)
+
+pub beginnings_compared : (bytes : List ℕ) (events others : List Event) (ahead rest : List ℕ) → BeginsRecord events bytes ahead
+    → BeginsRecord others bytes rest → Extends events ahead others rest ⊎ Extends others rest events ahead
+beginnings_compared bytes events others ahead rest one other =
+    let opened : other.opened ≡ one.opened = same_opened bytes other.opened one.opened other.opening one.opening in
+    let records : other.records ≡ one.records =
+    same_records one.opened other.records one.records (rw opened at other.handshake) one.handshake in
+    compared events others one.records ahead rest one.spelled other.spelled one.records_are (sym records ∙ other.records_are)
+
+-- ---- a fault in front ends what begins the bytes
+
+ended_by : (events others more : List Event) (ahead rest : List ℕ) (number : ℕ) (error : TranscriptError) → error ≢ NoMemory
+    → EventFault number ahead error → AllByRecursion IsEvent more → others ≡ events ++ more
+    → ahead ≡ flat_map event_record more ++ rest → (events ≡ others) × (ahead ≡ rest)
+ended_by events others [] ahead rest number error apart fault all others_are ahead_is =
+    (sym (others_are ∙ append-nil events), ahead_is)
+ended_by events others (event ∷ more) ahead rest number error apart fault all others_are ahead_is =
+    absurd (not_both IsEventPacket (packet_of event) number ahead (flat_map event_record more ++ rest) error apart (event, refl)
+    (first_record event more rest ahead all.0 ahead_is) fault)
+
+fault_ends : (events others : List Event) (ahead rest : List ℕ) (number : ℕ) (error : TranscriptError) → error ≢ NoMemory
+    → EventFault number ahead error → Extends events ahead others rest → (events ≡ others) × (ahead ≡ rest)
+fault_ends events others ahead rest number error apart fault on =
+    ended_by events others on.more ahead rest number error apart fault on.spelled on.others_are on.ahead_is
+
+-- ---- what is read up to a stage has all that comes before
+
+init_of : (events : List Event) (bytes rest : List ℕ) (begins : BeginsRecord events bytes rest)
+    → BeginsWithInit bytes (record_text (Version 3 begins.handshake.told) ++ begins.records)
+init_of events bytes rest begins =
+    let shake = begins.handshake in
+    record {
+      opened = begins.opened;
+      opening = begins.opening;
+      init = record {
+        packet = Init shake.version shake.asked;
+        is_init = shake.high_enough;
+        begins = record { spelled = shake.init; bytes_are = shake.bytes_are };
+      };
+    }
+
+version_of : (events : List Event) (bytes rest : List ℕ) (begins : BeginsRecord events bytes rest)
+    → BeginsVersion (record_text (Version 3 begins.handshake.told) ++ begins.records) begins.records
+version_of events bytes rest begins = record {
+  packet = Version 3 begins.handshake.told;
+  is_version = refl;
+  begins = record { spelled = begins.handshake.answer; bytes_are = refl };
+}
+
+opens : (stage : Stage) (bytes : List ℕ) (events : List Event) (ahead : List ℕ) → 1 ≤ rank stage
+    → ReadUpTo stage bytes events ahead → (opened : List ℕ) × (bytes ≡ transcript_opening ++ opened)
+opens stages.Opening bytes events ahead far read = absurd (omega (arith, far))
+opens stages.Init bytes events ahead far read = (ahead, read.1)
+opens stages.Version bytes events ahead far read = (read.1.opened, read.1.opening)
+opens stages.Events bytes events ahead far read = (read.opened, read.opening)
+
+inits : (stage : Stage) (bytes : List ℕ) (events : List Event) (ahead : List ℕ) → 2 ≤ rank stage
+    → ReadUpTo stage bytes events ahead → (rest : List ℕ) × BeginsWithInit bytes rest
+inits stages.Opening bytes events ahead far read = absurd (omega (arith, far))
+inits stages.Init bytes events ahead far read = absurd (omega (arith, far))
+inits stages.Version bytes events ahead far read = (ahead, read.1)
+inits stages.Events bytes events ahead far read =
+    (record_text (Version 3 read.handshake.told) ++ read.records, init_of events bytes ahead read)
+
+versions : (stage : Stage) (bytes : List ℕ) (events : List Event) (ahead : List ℕ) → 3 ≤ rank stage
+    → ReadUpTo stage bytes events ahead → (middle rest : List ℕ) × BeginsWithInit bytes middle × BeginsVersion middle rest
+versions stages.Opening bytes events ahead far read = absurd (omega (arith, far))
+versions stages.Init bytes events ahead far read = absurd (omega (arith, far))
+versions stages.Version bytes events ahead far read = absurd (omega (arith, far))
+versions stages.Events bytes events ahead far read = (
+  record_text (Version 3 read.handshake.told) ++ read.records,
+  read.records,
+  init_of events bytes ahead read,
+  version_of events bytes ahead read,
+)
+
+one_init : (bytes ahead rest : List ℕ) → BeginsWithInit bytes ahead → BeginsWithInit bytes rest → ahead ≡ rest
+one_init bytes ahead rest one other =
+    let opened : other.opened ≡ one.opened = same_opened bytes other.opened one.opened other.opening one.opening in
+    let begins : Begins one.opened other.init.packet rest =
+    subst (λ (l : List ℕ). Begins l other.init.packet rest) opened other.init.begins in
+    (begins_one one.opened one.init.packet other.init.packet ahead rest one.init.begins begins).1
+
+rank_most : (stage : Stage) → rank stage ≤ 3
+rank_most stages.Opening = omega arith
+rank_most stages.Init = omega arith
+rank_most stages.Version = omega arith
+rank_most stages.Events = omega arith
+
+-- after a fault nothing is read
+none_later : (s t : Stage) (bytes : List ℕ) (events others : List Event) (ahead rest : List ℕ) (number : ℕ) (error : TranscriptError)
+    → error ≢ NoMemory → rank s < rank t → ReadUpTo s bytes events ahead → FaultAhead s number ahead error
+    → ReadUpTo t bytes others rest → ⊥
+none_later stages.Opening t bytes events others ahead rest number error apart less read fault other =
+    let opened = opens t bytes others rest (omega (arith, less)) other in
+    fault.1 opened.0 (sym read.1 ∙ opened.1)
+none_later stages.Init t bytes events others ahead rest number error apart less read fault other =
+    let with_init = inits t bytes others rest (omega (arith, less)) other in
+    let opened : with_init.1.opened ≡ ahead = same_opened bytes with_init.1.opened ahead with_init.1.opening read.1 in
+    let init = with_init.1.init in
+    not_both IsInit init.packet 1 ahead with_init.0 error apart init.is_init
+    (subst (λ (l : List ℕ). Begins l init.packet with_init.0) opened init.begins) fault
+none_later stages.Version t bytes events others ahead rest number error apart less read fault other =
+    let both = versions t bytes others rest (omega (arith, less)) other in
+    let middle : both.0 ≡ ahead = one_init bytes both.0 ahead both.2 read.1 in
+    let version = both.3 in
+    not_both IsVersion version.packet 2 ahead both.1 error apart version.is_version
+    (subst (λ (l : List ℕ). Begins l version.packet both.1) middle version.begins) fault
+none_later stages.Events t bytes events others ahead rest number error apart less read fault other =
+    absurd (omega (arith, less, rank_most t))
+
+-- ---- one fault
+
+same_stage : (s : Stage) (bytes : List ℕ) (events others : List Event) (ahead rest : List ℕ) (a b : TranscriptError)
+    → a ≢ NoMemory → b ≢ NoMemory → ReadUpTo s bytes events ahead → ReadUpTo s bytes others rest
+    → FaultAhead s (number_after_events events) ahead a → FaultAhead s (number_after_events others) rest b → (events ≡ others) × (a ≡ b)
+same_stage stages.Opening bytes events others ahead rest a b not_a not_b one other for_a for_b =
+    (one.0 ∙ sym other.0, for_a.0 ∙ sym for_b.0)
+same_stage stages.Init bytes events others ahead rest a b not_a not_b one other for_a for_b =
+    let same : rest ≡ ahead = same_opened bytes rest ahead other.1 one.1 in
+    (one.0 ∙ sym other.0, kind_one IsInit 1 ahead a b not_a not_b for_a (subst (λ (l : List ℕ). KindFault IsInit 1 l b) same for_b))
+same_stage stages.Version bytes events others ahead rest a b not_a not_b one other for_a for_b =
+    let same : rest ≡ ahead = one_init bytes rest ahead other.1 one.1 in
+    (one.0 ∙ sym other.0, kind_one IsVersion 2 ahead a b not_a not_b for_a (subst (λ (l : List ℕ). KindFault IsVersion 2 l b) same for_b))
+same_stage stages.Events bytes events others ahead rest a b not_a not_b one other for_a for_b =
+    let same : (others ≡ events) × (rest ≡ ahead) =
+    elim (beginnings_compared bytes events others ahead rest one other) [
+      | inl on ↦
+          let ended = fault_ends events others ahead rest (number_after_events events) a not_a for_a.1 on in
+          (sym ended.0, sym ended.1)
+      | inr on ↦ fault_ends others events rest ahead (number_after_events others) b not_b for_b.1 on
+    ] in
+    let number : number_after_events others ≡ number_after_events events = ap number_after_events same.0 in
+    let here : EventFault (number_after_events others) ahead b =
+    subst (λ (l : List ℕ). EventFault (number_after_events others) l b) same.1 for_b.1 in
+    let there : EventFault (number_after_events events) ahead b = subst (λ (n : ℕ). EventFault n ahead b) number here in
+    (sym same.0, kind_one IsEventPacket (number_after_events events) ahead a b not_a not_b for_a.1 there)
+
+in_order : (s t : Stage) → (rank s < rank t) ⊎ ((t ≡ s) ⊎ (rank t < rank s))
+in_order stages.Opening stages.Opening = inr (inl refl)
+in_order stages.Opening stages.Init = inl (omega arith)
+in_order stages.Opening stages.Version = inl (omega arith)
+in_order stages.Opening stages.Events = inl (omega arith)
+in_order stages.Init stages.Opening = inr (inr (omega arith))
+in_order stages.Init stages.Init = inr (inl refl)
+in_order stages.Init stages.Version = inl (omega arith)
+in_order stages.Init stages.Events = inl (omega arith)
+in_order stages.Version stages.Opening = inr (inr (omega arith))
+in_order stages.Version stages.Init = inr (inr (omega arith))
+in_order stages.Version stages.Version = inr (inl refl)
+in_order stages.Version stages.Events = inl (omega arith)
+in_order stages.Events stages.Opening = inr (inr (omega arith))
+in_order stages.Events stages.Init = inr (inr (omega arith))
+in_order stages.Events stages.Version = inr (inr (omega arith))
+in_order stages.Events stages.Events = inr (inl refl)
+
+pub one_fault : (bytes : List ℕ) (events others : List Event) (a b : TranscriptError) → FaultAfter bytes events a
+    → FaultAfter bytes others b → a ≢ NoMemory → b ≢ NoMemory → (events ≡ others) × (a ≡ b)
+one_fault bytes events others a b one other not_a not_b = elim (in_order one.stage other.stage) [
+  | inl less ↦
+      absurd (none_later one.stage other.stage bytes events others one.ahead other.ahead (number_after_events events) a not_a less one.read one.fault other.read)
+  | inr (inl same) ↦
+      same_stage one.stage bytes events others one.ahead other.ahead a b not_a not_b one.read
+      (subst (λ (s : Stage). ReadUpTo s bytes others other.ahead) same other.read) one.fault
+      (subst (λ (s : Stage). FaultAhead s (number_after_events others) other.ahead b) same other.fault)
+  | inr (inr more) ↦
+      absurd (none_later other.stage one.stage bytes others events other.ahead one.ahead (number_after_events others) b not_b more other.read other.fault one.read)
+]
+
+-- ---- a fault, and a beginning of the same bytes
+
+-- the events of a beginning come first in those before a fault
+pub record ComeFirst (others events : List Event) : Type 0 where
+  pub more : List Event
+  pub events_are : events ≡ others ++ more
+
+first_at_events : (bytes : List ℕ) (events others : List Event) (ahead rest : List ℕ) (number : ℕ) (error : TranscriptError)
+    → error ≢ NoMemory → BeginsRecord events bytes ahead → EventFault number ahead error → BeginsRecord others bytes rest
+    → ComeFirst others events
+first_at_events bytes events others ahead rest number error apart read fault begins =
+    elim (beginnings_compared bytes events others ahead rest read begins) [
+      | inl on ↦
+          let ended = fault_ends events others ahead rest number error apart fault on in
+          record { more = []; events_are = ended.0 ∙ sym (append-nil others) }
+      | inr on ↦ record { more = on.more; events_are = on.others_are }
+    ]
+
+first_at : (stage : Stage) (bytes : List ℕ) (events others : List Event) (ahead rest : List ℕ) (number : ℕ) (error : TranscriptError)
+    → error ≢ NoMemory → ReadUpTo stage bytes events ahead → FaultAhead stage number ahead error → BeginsRecord others bytes rest
+    → ComeFirst others events
+first_at stages.Opening bytes events others ahead rest number error apart read fault begins =
+    absurd (none_later stages.Opening stages.Events bytes events others ahead rest number error apart (omega arith) read fault begins)
+first_at stages.Init bytes events others ahead rest number error apart read fault begins =
+    absurd (none_later stages.Init stages.Events bytes events others ahead rest number error apart (omega arith) read fault begins)
+first_at stages.Version bytes events others ahead rest number error apart read fault begins =
+    absurd (none_later stages.Version stages.Events bytes events others ahead rest number error apart (omega arith) read fault begins)
+first_at stages.Events bytes events others ahead rest number error apart read fault begins =
+    first_at_events bytes events others ahead rest number error apart read fault.1 begins
+
+pub first_before_fault : (bytes : List ℕ) (events others : List Event) (rest : List ℕ) (error : TranscriptError) → error ≢ NoMemory
+    → FaultAfter bytes events error → BeginsRecord others bytes rest → ComeFirst others events
+first_before_fault bytes events others rest error apart fault begins =
+    first_at fault.stage bytes events others fault.ahead rest (number_after_events events) error apart fault.read fault.fault begins
