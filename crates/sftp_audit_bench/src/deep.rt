@@ -45,7 +45,8 @@ fn member_path(alloc: Global, top: &[u8], member: u32) -> Result<Vec<u8>, AllocE
     Ok(path)
 }
 
-/// The file of the tree with this home and a chain of so many directories, the last of which has so many empty ones.
+/// The file of the tree with this home and a chain of `levels` directories, the last of which has `members` empty
+/// ones.
 fn chain_file(
     alloc: Global,
     home: &[u8],
@@ -92,7 +93,7 @@ fn put_directory(out: &mut Vec<u8>, path: &[u8]) -> Result<(), AllocError> {
     out.extend_from_slice(OWNER)
 }
 
-/// The tree file of such a chain, and a session of so many LSTATs of the entries of its last directory.
+/// The tree file of such a chain, and a session of `requests` LSTATs of the entries of its last directory.
 fn session(alloc: Global, levels: u32, members: u32, requests: u32) -> Result<Session, AllocError> {
     Ok(Session {
         tree: chain_file(alloc, b"/", levels, members)?,
@@ -138,7 +139,7 @@ fn long_path(alloc: Global, front: &[u8; 4], last: &[u8; 2]) -> Result<Vec<u8>, 
     Ok(path)
 }
 
-/// The tree with a chain of 64 directories, of which the last one is the home, and beside the home so many links, each
+/// The tree with a chain of 64 directories, of which the last one is the home, and beside the home 40 links, each
 /// with a target of 4,096 bytes that leads to the next one, and the last one to the home.
 fn linked_tree(alloc: Global) -> Result<Tree, BenchError> {
     let home = chain(alloc, HOME)?;

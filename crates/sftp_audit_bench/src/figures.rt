@@ -45,8 +45,8 @@ pub(crate) fn print_figures<R: AllocGlobal + Clock + Print>(rt: &R) -> Result<()
     Ok(())
 }
 
-/// Audits a session over a tree of so many entries, and prints how many requests a second that were. Its paths have so
-/// many names.
+/// Audits a session over a tree of `entries` entries, and prints how many requests a second that were. Its paths have
+/// `depth` names.
 pub(crate) fn print_speed<R: AllocGlobal + Clock + Print>(
     rt: &R,
     entries: u32,

@@ -68,7 +68,7 @@ const OPEN_F: &[u8] = b"\0\0\0\x02/f\0\0\0\x03\0\0\0\0";
 /// The attributes of an empty file: the size 0, the owner 0 and 0, and the permissions 0o100644 (draft, section 5).
 const EMPTY_FILE: &[u8] = b"\0\0\0\x07\0\0\0\0\0\0\0\0\0\0\0\0\0\0\0\0\0\0\x81\xa4";
 
-/// The tree file with the file `/f`, which has these bytes so many times.
+/// The tree file with the file `/f`, whose bytes are `block`, `blocks` times.
 fn tree_with_file(alloc: Global, block: &[u8], blocks: u32) -> Result<Vec<u8>, AllocError> {
     let mut out = Vec::from_slice(alloc, b"SFTREE01\0\0\0\x01/\0\0\0\0\0\0\0\0\0\0\0\x01")?;
     out.extend_from_slice(
@@ -93,7 +93,7 @@ fn block(alloc: Global, length: u32) -> Result<Vec<u8>, AllocError> {
     Ok(out)
 }
 
-/// The offset of a block, where so many are in a file.
+/// The offset of the block `number` in a file of `blocks` blocks. Further numbers start again at the first one.
 fn offset(number: u32, length: u32, blocks: u32) -> [u8; 8] {
     u64::from(number % blocks.max(1))
         .saturating_mul(u64::from(length))
@@ -130,7 +130,7 @@ fn put_write(out: &mut Vec<u8>, id: u32, offset: [u8; 8], block: &[u8]) -> Resul
     put_packet(out, b'S', STATUS, id, OK, b"")
 }
 
-/// A session that reads so many blocks of a file, one after the other and again from its start.
+/// A session of `reads` READs, each of a block of a file, one after the other and again from its start.
 fn reading(alloc: Global, length: u32, blocks: u32, reads: u32) -> Result<Session, AllocError> {
     let block = block(alloc, length)?;
     let tree = tree_with_file(alloc, block.as_slice(), blocks)?;
@@ -149,7 +149,8 @@ fn reading(alloc: Global, length: u32, blocks: u32, reads: u32) -> Result<Sessio
     Ok(Session { tree, transcript })
 }
 
-/// A session that writes so many blocks to a file that is empty at first, one after the other and again from its start.
+/// A session of `writes` WRITEs, each of a block of a file that is empty at first, one after the other and again from
+/// its start.
 fn writing(alloc: Global, length: u32, blocks: u32, writes: u32) -> Result<Session, AllocError> {
     let block = block(alloc, length)?;
     let tree = tree_with_file(alloc, b"", 0)?;
@@ -176,7 +177,7 @@ fn put_cycle(out: &mut Vec<u8>, id: u32) -> Result<(), AllocError> {
     put_packet(out, b'S', STATUS, id, OK, b"")
 }
 
-/// Records that the root is listed under so many handles of four bytes.
+/// Records `others` OPENDIRs of the root, each of which gets a handle of four bytes.
 fn put_others(out: &mut Vec<u8>, others: u32) -> Result<(), AllocError> {
     for id in 0..others {
         let [a, b, c, d] = id.to_be_bytes();
@@ -186,7 +187,7 @@ fn put_others(out: &mut Vec<u8>, others: u32) -> Result<(), AllocError> {
     Ok(())
 }
 
-/// A session that opens, shows and closes a file so many times, while other handles are open.
+/// A session that opens, shows and closes a file `opens` times, while `others` further handles are open.
 fn opening(alloc: Global, others: u32, opens: u32) -> Result<Session, AllocError> {
     let tree = tree_with_file(alloc, b"", 0)?;
     let mut transcript = Vec::from_slice(alloc, OPENING)?;
@@ -203,7 +204,7 @@ fn put_name(alloc: Global, out: &mut Vec<u8>, number: u32) -> Result<(), AllocEr
     put_string(out, name.as_bytes())
 }
 
-/// The tree file of so many directories in the root.
+/// The tree file with `names` directories in the root.
 fn tree_with_names(alloc: Global, names: u32) -> Result<Vec<u8>, AllocError> {
     let mut out = Vec::from_slice(alloc, b"SFTREE01\0\0\0\x01/\0\0\0\0\0\0\0\0")?;
     out.extend_from_slice(&names.to_be_bytes())?;
@@ -216,7 +217,7 @@ fn tree_with_names(alloc: Global, names: u32) -> Result<Vec<u8>, AllocError> {
     Ok(out)
 }
 
-/// The items of a reply that gives so many names, from the `first`-th on in an order that jumps.
+/// Appends the items of a reply that gives `count` of `names` names, from the `first`-th on in an order that jumps.
 fn put_items(
     alloc: Global,
     items: &mut Vec<u8>,
@@ -232,7 +233,7 @@ fn put_items(
     Ok(())
 }
 
-/// Records a READDIR, and a reply that gives so many names.
+/// Records a READDIR, and a reply that gives `count` names.
 fn put_listed(
     alloc: Global,
     out: &mut Vec<u8>,
@@ -246,7 +247,7 @@ fn put_listed(
     put_packet(out, b'S', NAME, id, &count.to_be_bytes(), items.as_slice())
 }
 
-/// A session that lists a root of so many directories, with so many names in each reply, and then reads to the end.
+/// A session that lists the root in `replies` replies of `count` names each, and then reads to the end.
 fn listing(alloc: Global, replies: u32, count: u32) -> Result<Session, AllocError> {
     let names = replies.saturating_mul(count);
     let tree = tree_with_names(alloc, names)?;

@@ -39,8 +39,8 @@ pub(crate) struct Session {
 }
 
 impl Session {
-    /// A tree with so many directories in its root, each with 99 directories and 10 links to some of them, and a
-    /// session of so many requests about it.
+    /// A tree with `groups` directories in its root, each with 99 directories and 10 links to some of them, and a
+    /// session of `requests` requests about it.
     pub(crate) fn new(alloc: Global, groups: u32, requests: u32) -> Result<Session, BenchError> {
         let groups = groups.max(1);
         Ok(Session {
@@ -50,14 +50,14 @@ impl Session {
     }
 }
 
-/// The tree file of the tree with so many directories in its root.
+/// The tree file of the tree with `groups` directories in its root.
 fn tree_file(alloc: Global, groups: u32) -> Result<Vec<u8>, BenchError> {
     let mut tree = Tree::blank(alloc)?;
     grow(alloc, &mut tree, groups)?;
     Ok(tree.write()?)
 }
 
-/// Makes so many directories in the root, and the entries of each.
+/// Makes `groups` directories in the root, and the entries of each.
 fn grow(alloc: Global, tree: &mut Tree, groups: u32) -> Result<(), BenchError> {
     for group in 0..groups {
         make(tree, format!(in alloc; "/d{group}")?.as_bytes())?;
@@ -100,7 +100,7 @@ fn no_attributes() -> Attrs {
     }
 }
 
-/// The transcript file of a session of so many requests.
+/// The transcript file of a session of `requests` requests.
 fn transcript(alloc: Global, groups: u32, requests: u32) -> Result<Vec<u8>, AllocError> {
     let mut out = Vec::from_slice(alloc, OPENING)?;
     for id in 0..requests {
@@ -180,7 +180,7 @@ fn put_target(out: &mut Vec<u8>, id: u32, target: &[u8]) -> Result<(), AllocErro
     out.extend_from_slice(b"\0\0\0\0\0\0\0\0")
 }
 
-/// Appends the length of a packet, its type and its id, behind which it has so many further bytes.
+/// Appends the length, the type and the id of a packet that has `further` bytes after its id.
 fn put_head(out: &mut Vec<u8>, packet: u8, id: u32, further: usize) -> Result<(), AllocError> {
     put_length(out, further.saturating_add(5))?;
     out.push(packet)?;

@@ -35,7 +35,7 @@ fn digit(number: u32) -> u8 {
     b'0' + (number % 10) as u8
 }
 
-/// The tree file of so many directories in the root, each with so many files of so many bytes.
+/// The tree file with `groups` directories in the root, each with `members` files of these bytes.
 fn tree_file(alloc: Global, groups: u32, members: u32, bytes: &[u8]) -> Result<Vec<u8>, BenchError>
     requires { length bytes.now < 2 ^ 32 }
 {
@@ -92,7 +92,7 @@ pub(crate) fn print_figures<R: AllocGlobal + Clock + Print>(rt: &R) -> Result<()
     print_move(rt, &mut tree)
 }
 
-/// Prints how long the file of a tree of so many entries takes to copy and to read, and the tree to write.
+/// Prints how long the file of a tree of `entries` entries takes to copy and to read, and the tree to write.
 pub(crate) fn print_times<R: AllocGlobal + Clock + Print>(
     rt: &R,
     entries: u32,

@@ -6,7 +6,7 @@ use crate::errors::BenchError;
 pub(crate) enum Task {
     /// A small round, of which counts are printed.
     Count,
-    /// Times, each taken over about so many megabytes.
+    /// Times, each taken over about `megabytes` megabytes.
     Measure { megabytes: u32 },
 }
 

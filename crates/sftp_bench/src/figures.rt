@@ -25,7 +25,7 @@ pub(crate) fn print_counts<R: AllocGlobal + Print>(
     Ok(())
 }
 
-/// Does each work in so many rounds, and prints how many megabytes a second it did.
+/// Does each work in `rounds` rounds, and prints how many megabytes a second it did.
 pub(crate) fn print_figures<R: AllocGlobal + Clock + Print>(
     rt: &R,
     workload: &Workload,
@@ -42,7 +42,7 @@ pub(crate) fn print_figures<R: AllocGlobal + Clock + Print>(
     Ok(())
 }
 
-/// How many megabytes a second the work does in so many rounds, after one that is not counted.
+/// How many megabytes a second the work does in `rounds` rounds, after one that is not counted.
 fn speed<R: Clock>(
     rt: &R,
     bench: &mut Bench<'_>,

@@ -1,4 +1,4 @@
-//! What is measured, in rounds over so many packets of one workload.
+//! What is measured, in rounds over a given number of packets of one workload.
 ghost use Rattle.std.specs.Prelude.{◌≡◌, ◌+◌, ◌*◌, ◌^◌, ◌<◌, ◌≤◌, ◌++◌, length, IsTrue, IfOk, OnOk};
 ghost use Rattle.sftp_wire.specs.Spelling.{spelling};
 
@@ -31,7 +31,7 @@ pub(crate) struct Bench<'a> {
 }
 
 impl<'a> Bench<'a> {
-    /// Rounds of so many packets.
+    /// Rounds of `packets` packets.
     pub(crate) fn new(
         alloc: Global,
         workload: &'a Workload,
@@ -94,7 +94,7 @@ fn copy(out: &mut Vec<u8>, bytes: &[u8], size: usize) -> Result<(), AllocError>
     Ok(())
 }
 
-/// Appends the packet so many times.
+/// Appends the packet `times` times.
 fn write(out: &mut Vec<u8>, packet: &Packet, times: usize) -> Result<(), WireError>
     ensures { OnOk result (length out.new.items ≡ length out.old.items + times * length (spelling packet.now)) }
 {

@@ -9,7 +9,7 @@ fn put(out: &mut Vec<Request>, ask: Ask) -> Result<(), AllocError> {
     Ok(())
 }
 
-/// The handle of the slot 0 that was opened after so many others: the slot as 8 bytes, and the number as 4.
+/// The handle of the slot 0 that was opened after `opened` others: the slot as 8 bytes, and `opened` as 4.
 fn handle(alloc: Global, opened: u32) -> Result<ByteString, AllocError> {
     let [a, b, c, d] = opened.to_be_bytes();
     ByteString::from_slice(alloc, &[0, 0, 0, 0, 0, 0, 0, 0, a, b, c, d])

@@ -31,7 +31,7 @@ pub(crate) enum Kind {
 pub(crate) struct Workload {
     pub(crate) kind: Kind,
     pub(crate) name: &'static str,
-    /// What a round has so many of: paths, blocks or names.
+    /// What `count` counts in a round: paths, blocks or names.
     pub(crate) unit: &'static str,
     pub(crate) count: u32,
     /// How many paths or names the tree has, or how many bytes a block.
@@ -51,7 +51,7 @@ impl Workload {
         Ok(out)
     }
 
-    /// The requests of a round, before which so many handles were opened.
+    /// The requests of a round, before which `opened` handles were opened.
     pub(crate) fn round(self, alloc: Global, opened: u32) -> Result<Vec<Request>, AllocError> {
         let mut out = Vec::new(alloc);
         match self.kind {
@@ -89,7 +89,7 @@ fn leaf(alloc: Global, file: u32) -> Result<String, AllocError> {
     format!(in alloc; "/d{}/e{}/f{}", file / 90, file / 10 % 9, file % 10)
 }
 
-/// Makes so many files, each below two directories: 1,000 entries for 900 files.
+/// Makes `files` files, each below two directories: 1,000 entries for 900 files.
 fn put_tree(out: &mut Vec<Request>, files: u32) -> Result<(), AllocError> {
     for file in 0..files {
         put_directories(out, file)?;
@@ -177,7 +177,7 @@ fn offset(number: u32, length: u32) -> u64 {
     u64::from(number).saturating_mul(u64::from(length))
 }
 
-/// Makes so many directories in the root. All names have five digits.
+/// Makes `names` directories in the root. All names have five digits.
 fn put_names(out: &mut Vec<Request>, names: u32) -> Result<(), AllocError> {
     for number in 0..names {
         let path = format!(in *out.allocator(); "/{}", number.saturating_add(10_000))?;
@@ -186,7 +186,7 @@ fn put_names(out: &mut Vec<Request>, names: u32) -> Result<(), AllocError> {
     Ok(())
 }
 
-/// Lists the root, which has so many names, and asks for more until there are none.
+/// Lists the root, which has `names` names, and asks for more until there are none.
 fn put_listing(out: &mut Vec<Request>, opened: u32, names: u32) -> Result<(), AllocError> {
     put_opendir(out, b"/")?;
     for _ in 0..names.div_ceil(NAMES_IN_REPLY).saturating_add(1) {
