@@ -310,11 +310,14 @@ impl Pair {
     fn ends_alike(self) -> bool {
         let ours = self.ours.into_tree();
         let theirs = self.theirs.into_tree();
-        match (ours.write(), theirs.write()) {
-            (Ok(ours), Ok(theirs)) => ours.as_slice() == theirs.as_slice(),
-            _ => false,
-        }
+        matches!(are_alike(&ours, &theirs), Ok(true))
     }
+}
+
+/// Whether two trees have one tree file.
+fn are_alike(ours: &Tree, theirs: &Tree) -> Result<bool, NoMemory> {
+    let file = ours.write()?;
+    Ok(theirs.write()?.as_slice() == file.as_slice())
 }
 
 /// Whether a seeded session agrees, in which each kind of request is done and is refused.
@@ -326,7 +329,8 @@ fn agrees(alloc: Global, seed: u32) -> Result<bool, NoMemory> {
     let mut pair = Pair::on(alloc, MIXED)?;
     let wrong = pair.first_wrong(alloc, &mut asker)?;
     let has_all = pair.done == CAN_BE_DONE && pair.refused == ALL;
-    Ok(wrong.is_none() && has_all && pair.ends_alike())
+    let alike = pair.ends_alike();
+    Ok(wrong.is_none() && has_all && alike)
 }
 
 #[test]

@@ -64,8 +64,8 @@ fn gives(alloc: Global, session: &mut Session<SlabTable>, request: &Request, rep
 
 /// Whether a session answers a packet by these bytes.
 fn answers(alloc: Global, session: &mut Session<SlabTable>, asked: &[u8], reply: &[u8]) -> bool {
-    match front(alloc, asked, Side::Client) {
-        Ok(Some((Packet::Request(request), _))) => gives(alloc, session, &request, reply),
+    match &front(alloc, asked, Side::Client) {
+        Ok(Some((Packet::Request(request), _))) => gives(alloc, session, request, reply),
         _ => false,
     }
 }
@@ -141,6 +141,20 @@ fn handle(number: u32) -> [u8; 17] {
     [b'f', 0, 0, 0, 12, 0, 0, 0, 0, a, b, c, d, a, b, c, d]
 }
 
+/// The name of the first row that a new session on a tree, with so many handles open, does not answer as it has to.
+fn first_wrong<'a>(
+    alloc: Global,
+    tree: &[u8],
+    handles: u32,
+    rows: &[Row<'a>],
+) -> Result<Option<&'a str>, NoMemory> {
+    let mut client = Client::on(alloc, tree)?;
+    if !client.fills(alloc, handles)? {
+        return Ok(Some("opening the handles"));
+    }
+    Ok(client.first_wrong(alloc, rows)?)
+}
+
 #[test]
 fn choices_of_sessions(rt: HostRuntime) -> Result<(), Fail> {
     for (tree, rows) in [
@@ -149,8 +163,7 @@ fn choices_of_sessions(rt: HostRuntime) -> Result<(), Fail> {
         (MIXED, OPENED),
         (MIXED, SHOWN),
     ] {
-        let mut client = Client::on(rt.alloc(), tree)?;
-        let wrong = client.first_wrong(rt.alloc(), rows)?;
+        let wrong = first_wrong(rt.alloc(), tree, 0, rows)?;
         assert!(rt; wrong.is_none(), "{wrong:?}");
     }
     Ok(())
@@ -159,9 +172,7 @@ fn choices_of_sessions(rt: HostRuntime) -> Result<(), Fail> {
 /// With 256 handles open none is opened, and other causes come first.
 #[test]
 fn choices_with_all_handles_open(rt: HostRuntime) -> Result<(), Fail> {
-    let mut client = Client::on(rt.alloc(), MIXED)?;
-    assert!(rt; client.fills(rt.alloc(), 256)?);
-    let wrong = client.first_wrong(rt.alloc(), FULL)?;
+    let wrong = first_wrong(rt.alloc(), MIXED, 256, FULL)?;
     assert!(rt; wrong.is_none(), "{wrong:?}");
     Ok(())
 }

@@ -78,8 +78,8 @@ fn refused(alloc: Global, pairing: &mut Pairing, id: u32, kind: u8) -> Option<Cl
 
 /// Why a session refuses a packet as the server's first; `None` if it takes it.
 fn started(alloc: Global, pairing: &mut Pairing, packet: &[u8], side: Side) -> Option<ClientError> {
-    match front(alloc, packet, side) {
-        Ok(Some((packet, _))) => pairing.on_version(&packet).err(),
+    match &front(alloc, packet, side) {
+        Ok(Some((packet, _))) => pairing.on_version(packet).err(),
         _ => Some(ClientError::NoMemory),
     }
 }
@@ -168,9 +168,7 @@ fn waits_for_version(alloc: Global, pairing: &mut Pairing) -> bool {
 
 /// Whether the client's first packet is INIT 3 without extensions.
 fn starts_with_init(alloc: Global, pairing: &Pairing) -> bool {
-    let mut out = Vec::new(alloc);
-    encode(&pairing.start(), &mut out).is_ok()
-        && out.as_slice() == b"\0\0\0\x05\x01\0\0\0\x03".as_slice()
+    written(alloc, &pairing.start()).as_slice() == b"\0\0\0\x05\x01\0\0\0\x03".as_slice()
 }
 
 #[test]
@@ -393,17 +391,22 @@ fn paired(
     pairing: &mut Pairing,
     reply: Option<Reply>,
 ) -> Option<(Vec<u8>, Vec<u8>)> {
-    let Ok((request, reply)) = pairing.on_reply(reply?) else {
-        return None;
-    };
-    let mut asked = Vec::new(alloc);
-    let mut given = Vec::new(alloc);
-    if encode(&Packet::Request(request), &mut asked).is_err()
-        || encode(&Packet::Reply(reply), &mut given).is_err()
-    {
-        return None;
+    match pairing.on_reply(reply?) {
+        Ok((request, reply)) => Some((
+            written(alloc, &Packet::Request(request)),
+            written(alloc, &Packet::Reply(reply)),
+        )),
+        Err(_) => None,
     }
-    Some((asked, given))
+}
+
+/// A packet's bytes, or none if memory runs out.
+fn written(alloc: Global, packet: &Packet) -> Vec<u8> {
+    let mut bytes = Vec::new(alloc);
+    match encode(packet, &mut bytes) {
+        Ok(()) => bytes,
+        Err(_) => Vec::new(alloc),
+    }
 }
 
 /// Whether a pair consists of these packets.
@@ -428,16 +431,26 @@ const SHOWN_A: &[u8] = b"\0\0\0\x1di\0\0\0\x01\0\0\0\x07\0\0\0\0\0\0\0\0\0\0\0\0
 
 const ABSENT_B: &[u8] = b"\0\0\0\x11e\0\0\0\x02\0\0\0\x02\0\0\0\0\0\0\0\0";
 
+/// Whether three replies that arrive in reverse order are paired with their requests.
+fn pairs_in_reverse(
+    alloc: Global,
+    pairing: &mut Pairing,
+    session: &mut Session<SlabTable>,
+) -> bool {
+    let first = exchanged(alloc, pairing, session, MKDIR_A);
+    let second = exchanged(alloc, pairing, session, STAT_A);
+    let third = exchanged(alloc, pairing, session, STAT_B);
+    let is_third = is_pair(paired(alloc, pairing, third), STAT_B, ABSENT_B);
+    let is_second = is_pair(paired(alloc, pairing, second), STAT_A, SHOWN_A);
+    let is_first = is_pair(paired(alloc, pairing, first), MKDIR_A, MADE_A);
+    is_third && is_second && is_first
+}
+
 #[test]
 fn replies_in_reverse_order(rt: HostRuntime) -> Result<(), Fail> {
     let mut pairing = Pairing::new(rt.alloc())?;
     let mut session: Session<SlabTable> = Session::new(Tree::blank(rt.alloc())?)?;
     assert!(rt; started(rt.alloc(), &mut pairing, VERSION, Side::Server).is_none());
-    let first = exchanged(rt.alloc(), &mut pairing, &mut session, MKDIR_A);
-    let second = exchanged(rt.alloc(), &mut pairing, &mut session, STAT_A);
-    let third = exchanged(rt.alloc(), &mut pairing, &mut session, STAT_B);
-    assert!(rt; is_pair(paired(rt.alloc(), &mut pairing, third), STAT_B, ABSENT_B));
-    assert!(rt; is_pair(paired(rt.alloc(), &mut pairing, second), STAT_A, SHOWN_A));
-    assert!(rt; is_pair(paired(rt.alloc(), &mut pairing, first), MKDIR_A, MADE_A));
+    assert!(rt; pairs_in_reverse(rt.alloc(), &mut pairing, &mut session));
     Ok(())
 }

@@ -123,7 +123,8 @@ fn takes(alloc: Global, core: &mut Core, count: u32) -> Result<bool, NoMemory> {
 fn finishes(alloc: Global, calls: &[Call]) -> Result<bool, NoMemory> {
     let mut core = Core::new(Tree::blank(alloc)?, 1)?;
     let wrong = first_wrong(alloc, &mut core, calls)?;
-    Ok(wrong.is_none() && core.finish().is_ok())
+    let finished = core.finish().is_ok();
+    Ok(wrong.is_none() && finished)
 }
 
 #[test]

@@ -75,6 +75,11 @@ fn open_given(alloc: Global, table: &mut SlabTable) -> Vec<u8> {
     }
 }
 
+/// Whether an opening gets this name next.
+fn gives_next(alloc: Global, table: &mut SlabTable, name: &[u8]) -> bool {
+    open_given(alloc, table).as_slice() == name
+}
+
 // The names of the first openings: the number of a slot in 8 bytes, and a serial in 4.
 const FIRST: &[u8] = b"\0\0\0\0\0\0\0\0\0\0\0\0";
 
@@ -90,36 +95,31 @@ const SIXTH: &[u8] = b"\0\0\0\0\0\0\0\x01\0\0\0\x05";
 
 /// Whether the first openings get slots and serials from 0 on.
 fn counts_openings(alloc: Global, table: &mut SlabTable) -> bool {
-    let first = open_given(alloc, table);
-    let second = open_given(alloc, table);
-    first.as_slice() == FIRST && second.as_slice() == SECOND && table.len() == 2
+    gives_next(alloc, table, FIRST) && gives_next(alloc, table, SECOND) && table.len() == 2
 }
 
 /// Whether a slot that was freed is used with the next serial, and the name that it had is not open.
 fn uses_freed_slots(alloc: Global, table: &mut SlabTable) -> bool {
-    let was_open = table.take(FIRST).is_some();
-    let third = open_given(alloc, table);
-    was_open
-        && third.as_slice() == THIRD
+    table.take(FIRST).is_some()
+        && gives_next(alloc, table, THIRD)
         && table.find(THIRD).is_some()
         && table.find(FIRST).is_none()
 }
 
 /// Whether of two slots that were freed the last is used first.
 fn uses_the_last_freed(alloc: Global, table: &mut SlabTable) -> bool {
-    let was_open = table.take(THIRD).is_some() && table.take(SECOND).is_some();
-    let fourth = open_given(alloc, table);
-    let fifth = open_given(alloc, table);
-    was_open && fourth.as_slice() == FOURTH && fifth.as_slice() == FIFTH
+    table.take(THIRD).is_some()
+        && table.take(SECOND).is_some()
+        && gives_next(alloc, table, FOURTH)
+        && gives_next(alloc, table, FIFTH)
 }
 
 /// Whether the newest name is given again once it is given back, and an older one is not.
 fn gives_back_the_newest(alloc: Global, table: &mut SlabTable) -> bool {
-    let was_open = table.give_back(FIFTH).is_some();
-    let again = open_given(alloc, table);
-    let older_was_open = table.give_back(FOURTH).is_some();
-    let sixth = open_given(alloc, table);
-    was_open && again.as_slice() == FIFTH && older_was_open && sixth.as_slice() == SIXTH
+    table.give_back(FIFTH).is_some()
+        && gives_next(alloc, table, FIFTH)
+        && table.give_back(FOURTH).is_some()
+        && gives_next(alloc, table, SIXTH)
 }
 
 #[test]
@@ -156,19 +156,32 @@ fn refuses_by(session: &Session<GivenTable>, ask: &Ask, cause: Cause) -> Result<
     Ok(causes.holds(cause) && !causes.holds(Cause::NoRoom) && causes.allow(4))
 }
 
-/// Whether a session in which nothing is open refuses requests on handles, and gives its tree back.
-fn refuses_closed_handles(alloc: Global) -> Result<bool, NoMemory> {
-    let tree = Tree::blank(alloc)?;
-    let bytes = tree.write()?;
-    let session: Session<GivenTable> = Session::new(tree)?;
+/// Whether a session in which nothing is open has a cause that refuses CLOSE.
+fn refuses_to_close(alloc: Global, session: &Session<GivenTable>) -> Result<bool, NoMemory> {
     let ask = Ask::Close {
         handle: ByteString::from_slice(alloc, b"h")?,
     };
-    let closed = refuses_by(&session, &ask, Cause::BadHandle)?;
-    let unread = session.read_open(b"h", 0, 1).err() == Some(Cause::BadHandle);
-    let unshown = session.stat_open(b"h").err() == Some(Cause::BadHandle);
-    let end = session.into_tree().write()?;
-    Ok(closed && unread && unshown && end.as_slice() == bytes.as_slice())
+    refuses_by(session, &ask, Cause::BadHandle)
+}
+
+/// Whether a session in which nothing is open refuses to read and to show a file.
+fn refuses_to_look(session: &Session<GivenTable>) -> bool {
+    session.read_open(b"h", 0, 1).err() == Some(Cause::BadHandle)
+        && session.stat_open(b"h").err() == Some(Cause::BadHandle)
+}
+
+/// Whether a tree has the file of the blank one.
+fn is_blank(alloc: Global, tree: &Tree) -> Result<bool, NoMemory> {
+    let blank = Tree::blank(alloc)?.write()?;
+    Ok(tree.write()?.as_slice() == blank.as_slice())
+}
+
+/// Whether a session in which nothing is open refuses requests on handles, and gives its tree back.
+fn refuses_closed_handles(alloc: Global) -> Result<bool, NoMemory> {
+    let session: Session<GivenTable> = Session::new(Tree::blank(alloc)?)?;
+    let refused = refuses_to_close(alloc, &session)? && refuses_to_look(&session);
+    let end = session.into_tree();
+    Ok(refused && is_blank(alloc, &end)?)
 }
 
 #[test]

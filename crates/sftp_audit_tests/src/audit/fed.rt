@@ -4,7 +4,6 @@ use sftp_audit::{Auditor, Refusal};
 use sftp_transcript::{Event, Memory, Reader};
 use sftp_tree::Tree;
 use std::alloc::Global;
-use std::test::Fail;
 
 /// MKDIR of `/a/b` with the id 2, RMDIR of `/a` with the id 3, and their replies.
 const MAKE_B: &[u8] = b"C\0\0\0\x11\x0e\0\0\0\x02\0\0\0\x04/a/b\0\0\0\0";
@@ -28,53 +27,54 @@ const TWO_DIRECTORIES: &[u8] =
     b"SFTREE01\0\0\0\x01/\0\0\0\0\0\0\0\0\0\0\0\x02\0\0\0\0\0\0\0\0\0\0\x01\xed\
 \0\0\0\x02/aD\0\0\0\0\0\0\0\0\0\0\x01\xed\0\0\0\x04/a/bD\0\0\0\0\0\0\0\0\0\0\x01\xed";
 
-/// An auditor of a session that begins on the blank tree.
-fn auditor(alloc: Global) -> Result<Auditor, Fail> {
-    Ok(Auditor::new(Tree::read(alloc, BLANK)?)?)
+/// An auditor of a session that begins on the blank tree; `None` if memory runs out.
+fn auditor(alloc: Global) -> Option<Auditor> {
+    Auditor::new(Tree::read(alloc, BLANK).ok()?).ok()
 }
 
-/// The event of a record.
-fn event_of(alloc: Global, record: &[u8]) -> Result<Option<Event>, Fail> {
-    let transcript = recorded(alloc, &[record])?;
-    let mut reader = Reader::new(alloc, Memory::new(transcript.as_slice()))?;
-    Ok(reader.next()?)
+/// The event of a record; `None` if it has none.
+fn event_of(alloc: Global, record: &[u8]) -> Option<Event> {
+    let transcript = recorded(alloc, &[record]).ok()?;
+    let mut reader = Reader::new(alloc, Memory::new(transcript.as_slice())).ok()?;
+    reader.next().ok()?
 }
 
-/// What feeding a record returns.
-fn feed(alloc: Global, auditor: &mut Auditor, record: &[u8]) -> Result<Result<(), Refusal>, Fail> {
-    match event_of(alloc, record)? {
-        Some(event) => Ok(auditor.feed(event)),
-        None => Err(Fail::new("no event")),
-    }
+/// What feeding a record returns; `None` if it has no event.
+fn feed(alloc: Global, auditor: &mut Auditor, record: &[u8]) -> Option<Result<(), Refusal>> {
+    let event = event_of(alloc, record)?;
+    Some(auditor.feed(event))
 }
 
 /// Whether each of the records is taken, with so many requests kept after it.
-fn keeps(alloc: Global, auditor: &mut Auditor, records: &[(&[u8], usize)]) -> Result<bool, Fail> {
+fn keeps(alloc: Global, auditor: &mut Auditor, records: &[(&[u8], usize)]) -> bool {
     for (record, kept) in records {
-        if feed(alloc, auditor, record)?.is_err() || auditor.kept() != *kept {
-            return Ok(false);
+        if feed(alloc, auditor, record) != Some(Ok(())) || auditor.kept() != *kept {
+            return false;
         }
     }
-    Ok(true)
+    true
 }
 
 /// Whether a record is refused so, and each later one too, and nothing is kept.
-fn refuses(
-    alloc: Global,
-    auditor: &mut Auditor,
-    record: &[u8],
-    refusal: Refusal,
-) -> Result<bool, Fail> {
-    let first = feed(alloc, auditor, record)? == Err(refusal) && auditor.kept() == 0;
-    let again = feed(alloc, auditor, STAT)? == Err(refusal) && auditor.kept() == 0;
-    Ok(first && again)
+fn refuses(alloc: Global, auditor: &mut Auditor, record: &[u8], refusal: Refusal) -> bool {
+    let first = feed(alloc, auditor, record) == Some(Err(refusal)) && auditor.kept() == 0;
+    let again = feed(alloc, auditor, STAT) == Some(Err(refusal)) && auditor.kept() == 0;
+    first && again
 }
 
-/// Whether the session ends with this tree.
-fn ends(auditor: Auditor, tree: &[u8]) -> Result<bool, Fail> {
+/// Whether a tree has this tree file.
+fn has_file(tree: &Tree, file: &[u8]) -> bool {
+    match tree.write() {
+        Ok(bytes) => bytes.as_slice() == file,
+        Err(_) => false,
+    }
+}
+
+/// Whether the session ends with the tree of this tree file.
+fn ends(auditor: Auditor, file: &[u8]) -> bool {
     match auditor.finish() {
-        Ok(end) => Ok(end.write()?.as_slice() == tree),
-        Err(_) => Ok(false),
+        Ok(end) => has_file(&end, file),
+        Err(_) => false,
     }
 }
 
@@ -86,9 +86,18 @@ fn ends_refused(auditor: Auditor, refusal: Refusal) -> bool {
     }
 }
 
+/// Whether each of the records is taken, with so many requests kept after it, and the session ends with this tree.
+fn is_taken(alloc: Global, records: &[(&[u8], usize)], file: &[u8]) -> bool {
+    let Some(mut auditor) = auditor(alloc) else {
+        return false;
+    };
+    let kept = keeps(alloc, &mut auditor, records);
+    let ended = ends(auditor, file);
+    kept && ended
+}
+
 /// What is kept is settled by the reply to the oldest request.
-fn settles(alloc: Global) -> Result<bool, Fail> {
-    let mut auditor = auditor(alloc)?;
+fn settles(alloc: Global) -> bool {
     let records: [(&[u8], usize); 6] = [
         (MAKE_A, 1),
         (MAKE_B, 2),
@@ -97,13 +106,14 @@ fn settles(alloc: Global) -> Result<bool, Fail> {
         (DONE_2, 3),
         (DONE, 0),
     ];
-    let kept = keeps(alloc, &mut auditor, &records)?;
-    Ok(kept && ends(auditor, TWO_DIRECTORIES)?)
+    is_taken(alloc, &records, TWO_DIRECTORIES)
 }
 
 /// A reply that is not allowed is found once all requests before its own are answered, and is named by its own record.
-fn names_the_reply(alloc: Global) -> Result<bool, Fail> {
-    let mut auditor = auditor(alloc)?;
+fn names_the_reply(alloc: Global) -> bool {
+    let Some(mut auditor) = auditor(alloc) else {
+        return false;
+    };
     let records: [(&[u8], usize); 5] = [
         (MAKE_A, 1),
         (MAKE_B, 2),
@@ -111,48 +121,61 @@ fn names_the_reply(alloc: Global) -> Result<bool, Fail> {
         (DONE_3, 3),
         (DONE_2, 3),
     ];
-    let kept = keeps(alloc, &mut auditor, &records)?;
+    let kept = keeps(alloc, &mut auditor, &records);
     let refusal = Refusal::NotAllowed { record: 6 };
-    let refused = refuses(alloc, &mut auditor, DONE, refusal)?;
-    Ok(kept && refused && ends_refused(auditor, refusal))
+    let refused = refuses(alloc, &mut auditor, DONE, refusal);
+    let ended = ends_refused(auditor, refusal);
+    kept && refused && ended
+}
+
+/// Whether each of the records is taken, with so many requests kept after it, and then this record is refused so.
+fn refuses_after(
+    alloc: Global,
+    records: &[(&[u8], usize)],
+    record: &[u8],
+    refusal: Refusal,
+) -> bool {
+    match auditor(alloc) {
+        Some(mut auditor) => {
+            keeps(alloc, &mut auditor, records) && refuses(alloc, &mut auditor, record, refusal)
+        }
+        None => false,
+    }
 }
 
 /// An id may be used again once its request is answered. A second reply, and a second request, are refused.
-fn takes_turns(alloc: Global) -> Result<bool, Fail> {
-    let mut answered = auditor(alloc)?;
-    let kept = keeps(alloc, &mut answered, &[(STAT, 1), (ATTRS, 0)])?;
-    let unknown = refuses(
-        alloc,
-        &mut answered,
-        ATTRS,
-        Refusal::UnknownReply { record: 5 },
-    )?;
-    let mut again = auditor(alloc)?;
-    let taken = keeps(alloc, &mut again, &[(STAT, 1), (ATTRS, 0), (STAT, 1)])?;
-    let in_use = refuses(alloc, &mut again, STAT, Refusal::IdInUse { record: 6 })?;
-    Ok(kept && unknown && taken && in_use)
+fn takes_turns(alloc: Global) -> bool {
+    let answered: [(&[u8], usize); 2] = [(STAT, 1), (ATTRS, 0)];
+    let again: [(&[u8], usize); 3] = [(STAT, 1), (ATTRS, 0), (STAT, 1)];
+    let unknown = Refusal::UnknownReply { record: 5 };
+    let in_use = Refusal::IdInUse { record: 6 };
+    refuses_after(alloc, &answered, ATTRS, unknown) && refuses_after(alloc, &again, STAT, in_use)
+}
+
+/// Whether a session of these records, each with the count that is kept after it, is refused so at its end.
+fn misses(alloc: Global, records: &[(&[u8], usize)], refusal: Refusal) -> bool {
+    let Some(mut auditor) = auditor(alloc) else {
+        return false;
+    };
+    let kept = keeps(alloc, &mut auditor, records);
+    let ended = ends_refused(auditor, refusal);
+    kept && ended
 }
 
 /// A request without a reply is named by its record: the oldest one.
-fn misses_a_reply(alloc: Global) -> Result<bool, Fail> {
-    let mut second = auditor(alloc)?;
-    let kept = keeps(alloc, &mut second, &[(MAKE_A, 1), (STAT, 2), (DONE, 1)])?;
-    let mut both = auditor(alloc)?;
-    let first = keeps(alloc, &mut both, &[(MAKE_A, 1), (STAT, 2), (ATTRS, 2)])?;
-    Ok(
-        kept && ends_refused(second, Refusal::Unanswered { record: 4 })
-            && first
-            && ends_refused(both, Refusal::Unanswered { record: 3 }),
-    )
+fn misses_a_reply(alloc: Global) -> bool {
+    let second: [(&[u8], usize); 3] = [(MAKE_A, 1), (STAT, 2), (DONE, 1)];
+    let both: [(&[u8], usize); 3] = [(MAKE_A, 1), (STAT, 2), (ATTRS, 2)];
+    misses(alloc, &second, Refusal::Unanswered { record: 4 })
+        && misses(alloc, &both, Refusal::Unanswered { record: 3 })
 }
 
 #[test]
-fn events(rt: HostRuntime) -> Result<(), Fail> {
-    assert!(rt; settles(rt.alloc())?);
-    assert!(rt; names_the_reply(rt.alloc())?);
-    assert!(rt; takes_turns(rt.alloc())?);
-    assert!(rt; misses_a_reply(rt.alloc())?);
-    Ok(())
+fn events(rt: HostRuntime) {
+    assert!(rt; settles(rt.alloc()));
+    assert!(rt; names_the_reply(rt.alloc()));
+    assert!(rt; takes_turns(rt.alloc()));
+    assert!(rt; misses_a_reply(rt.alloc()));
 }
 
 /// STAT of `/` with this id.
@@ -162,56 +185,63 @@ fn stat(id: u32) -> [u8; 15] {
 }
 
 /// Asks from this id on, so many times, and whether each request is taken.
-fn asks(alloc: Global, auditor: &mut Auditor, first: u32, count: u32) -> Result<bool, Fail> {
+fn asks(alloc: Global, auditor: &mut Auditor, first: u32, count: u32) -> bool {
     for step in 0..count {
-        if feed(alloc, auditor, &stat(first.wrapping_add(step)))?.is_err() {
-            return Ok(false);
+        if feed(alloc, auditor, &stat(first.wrapping_add(step))) != Some(Ok(())) {
+            return false;
         }
     }
-    Ok(true)
+    true
 }
 
 /// From the oldest unanswered request on, 1,024 may be asked, also where the second one has its reply. The next one is
 /// `Window`, but `IdInUse` if a request of its id is unanswered.
-fn is_full(alloc: Global, next: u32, refusal: Refusal) -> Result<bool, Fail> {
-    let mut auditor = auditor(alloc)?;
-    let asked = asks(alloc, &mut auditor, 6, 1_024)?;
-    let answered = keeps(alloc, &mut auditor, &[(ATTRS, 1_024)])?;
-    let refused = refuses(alloc, &mut auditor, &stat(next), refusal)?;
-    Ok(asked && answered && refused)
+fn is_full(alloc: Global, next: u32, refusal: Refusal) -> bool {
+    match auditor(alloc) {
+        Some(mut auditor) => {
+            asks(alloc, &mut auditor, 6, 1_024)
+                && keeps(alloc, &mut auditor, &[(ATTRS, 1_024)])
+                && refuses(alloc, &mut auditor, &stat(next), refusal)
+        }
+        None => false,
+    }
 }
 
 #[test]
-fn windows(rt: HostRuntime) -> Result<(), Fail> {
+fn windows(rt: HostRuntime) {
     let alloc = rt.alloc();
-    assert!(rt; is_full(alloc, 5_000, Refusal::Window { record: 1_028 })?);
-    assert!(rt; is_full(alloc, 7, Refusal::Window { record: 1_028 })?);
-    assert!(rt; is_full(alloc, 6, Refusal::IdInUse { record: 1_028 })?);
-    Ok(())
+    assert!(rt; is_full(alloc, 5_000, Refusal::Window { record: 1_028 }));
+    assert!(rt; is_full(alloc, 7, Refusal::Window { record: 1_028 }));
+    assert!(rt; is_full(alloc, 6, Refusal::IdInUse { record: 1_028 }));
+}
+
+/// Asks and answers so many times in turn, and whether each event is taken and leaves no more than one request.
+fn takes_pairs(alloc: Global, auditor: &mut Auditor, count: u32) -> bool {
+    for _ in 0..count {
+        if !keeps(alloc, auditor, &[(STAT, 1), (ATTRS, 0)]) {
+            return false;
+        }
+    }
+    true
 }
 
 /// Whether a session of many requests, each with its reply at once, keeps nothing.
-fn forgets(alloc: Global, count: u32) -> Result<bool, Fail> {
-    let mut auditor = auditor(alloc)?;
-    for _ in 0..count {
-        if !keeps(alloc, &mut auditor, &[(STAT, 1), (ATTRS, 0)])? {
-            return Ok(false);
-        }
-    }
-    ends(auditor, BLANK)
+fn forgets(alloc: Global, count: u32) -> bool {
+    let Some(mut auditor) = auditor(alloc) else {
+        return false;
+    };
+    let taken = takes_pairs(alloc, &mut auditor, count);
+    let ended = ends(auditor, BLANK);
+    taken && ended
 }
 
 #[test]
-fn long_sessions(rt: HostRuntime) -> Result<(), Fail> {
-    assert!(rt; forgets(rt.alloc(), 2_000)?);
-    Ok(())
+fn long_sessions(rt: HostRuntime) {
+    assert!(rt; forgets(rt.alloc(), 2_000));
 }
 
 /// What is open at the end is closed, and a directory that was made stays.
 #[test]
-fn ends_with_what_was_made(rt: HostRuntime) -> Result<(), Fail> {
-    let mut auditor = auditor(rt.alloc())?;
-    assert!(rt; keeps(rt.alloc(), &mut auditor, &[(MAKE_A, 1), (DONE, 0)])?);
-    assert!(rt; ends(auditor, WITH_A)?);
-    Ok(())
+fn ends_with_what_was_made(rt: HostRuntime) {
+    assert!(rt; is_taken(rt.alloc(), &[(MAKE_A, 1), (DONE, 0)], WITH_A));
 }

@@ -55,16 +55,20 @@ fn gives(alloc: Global, client: &mut Client, names: &[u8]) -> Result<bool, Alloc
     client.is_given(alloc, READDIR_FIRST, ENDED)
 }
 
+/// Whether a client makes these names in the root, and then gets them listed so.
+fn is_listed(alloc: Global, client: &mut Client, names: &[u8]) -> Result<bool, AllocError> {
+    Ok(
+        makes(alloc, client, names)?
+            && client.is_given(alloc, OPENDIR_ROOT, HANDLE_FIRST)?
+            && gives(alloc, client, names)?,
+    )
+}
+
 /// Whether a directory with so many names is listed so.
 fn lists(alloc: Global, count: usize) -> Result<bool, NoMemory> {
     let names = names(alloc, count)?;
     let mut client = Client::on(alloc, BLANK)?;
-    Ok(
-        names.len() == count
-            && makes(alloc, &mut client, names.as_slice())?
-            && client.is_given(alloc, OPENDIR_ROOT, HANDLE_FIRST)?
-            && gives(alloc, &mut client, names.as_slice())?,
-    )
+    Ok(names.len() == count && is_listed(alloc, &mut client, names.as_slice())?)
 }
 
 /// OPEN of `f` to read, and READ of 40,000 bytes at 5.
@@ -72,17 +76,27 @@ const OPEN_F: &[u8] = b"\x03\0\0\0\x01f\0\0\0\x01\0\0\0\0";
 
 const READ_40000: &[u8] = b"\x05\0\0\0\x0c\0\0\0\0\0\0\0\0\0\0\0\0\0\0\0\0\0\0\0\x05\0\0\x9c\x40";
 
-/// Whether READ of a longer file gives its first 32,768 bytes after the offset.
-fn caps_a_read(alloc: Global) -> Result<bool, NoMemory> {
+/// A client of a tree in which the file `/f` has 50,000 bytes.
+fn with_long_file(alloc: Global) -> Result<Client, NoMemory> {
     let content = counted(alloc, 50_000)?;
     let tree = with_content(alloc, 50_000, content.as_slice())?;
+    Client::on(alloc, tree.as_slice())
+}
+
+/// DATA of 32,768 bytes of that file, from 5 on.
+fn capped(alloc: Global) -> Result<Vec<u8>, AllocError> {
+    let content = counted(alloc, 50_000)?;
     let mut reply = Vec::from_slice(alloc, b"g\0\0\x80\0")?;
     reply.extend_from_slice(content.get(5..32_773).unwrap_or(&[]))?;
-    let mut client = Client::on(alloc, tree.as_slice())?;
-    Ok(
-        client.is_given(alloc, OPEN_F, HANDLE_FIRST)?
-            && client.is_given(alloc, READ_40000, reply.as_slice())?,
-    )
+    Ok(reply)
+}
+
+/// Whether READ of a longer file gives its first 32,768 bytes after the offset.
+fn caps_a_read(alloc: Global) -> Result<bool, NoMemory> {
+    let mut client = with_long_file(alloc)?;
+    let is_open = client.is_given(alloc, OPEN_F, HANDLE_FIRST)?;
+    let reply = capped(alloc)?;
+    Ok(is_open && client.is_given(alloc, READ_40000, reply.as_slice())?)
 }
 
 /// A listing gives 32 names in a reply, and a READ 32,768 bytes.
