@@ -64,8 +64,8 @@ fn gives(alloc: Global, session: &mut Session<SlabTable>, request: &Request, rep
 
 /// Whether a session answers a packet by these bytes.
 fn answers(alloc: Global, session: &mut Session<SlabTable>, asked: &[u8], reply: &[u8]) -> bool {
-    match &front(alloc, asked, Side::Client) {
-        Ok(Some((Packet::Request(request), _))) => gives(alloc, session, request, reply),
+    match front(alloc, asked, Side::Client) {
+        Ok(Some((Packet::Request(request), _))) => gives(alloc, session, &request, reply),
         _ => false,
     }
 }

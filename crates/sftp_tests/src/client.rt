@@ -78,8 +78,8 @@ fn refused(alloc: Global, pairing: &mut Pairing, id: u32, kind: u8) -> Option<Cl
 
 /// Why a session refuses a packet as the server's first; `None` if it takes it.
 fn started(alloc: Global, pairing: &mut Pairing, packet: &[u8], side: Side) -> Option<ClientError> {
-    match &front(alloc, packet, side) {
-        Ok(Some((packet, _))) => pairing.on_version(packet).err(),
+    match front(alloc, packet, side) {
+        Ok(Some((packet, _))) => pairing.on_version(&packet).err(),
         _ => Some(ClientError::NoMemory),
     }
 }
