@@ -1,5 +1,5 @@
-//! What the tests of several crates share: seeded numbers, flags of OPEN, tree files with a long file, and a source that
-//! fails.
+//! What the tests of several crates share: seeded numbers, flags of OPEN, tree files with a long file, and a source
+//! that fails.
 #![tactic(auto)]
 
 pub mod generator;
