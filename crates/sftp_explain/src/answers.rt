@@ -2,7 +2,7 @@
 
 use crate::causes::Code;
 use sftp_show::Quoted;
-use sftp_wire::{Answer, Attrs, NameItem};
+use sftp_wire::{Answer, Attrs, ByteString, NameItem};
 use std::fmt;
 use std::fmt::Write;
 
@@ -56,16 +56,33 @@ fn put_data<W: fmt::Write>(bytes: &[u8], f: &mut fmt::Formatter<W>) -> fmt::Resu
     }
 }
 
+/// Writes the names of the first `NAMES_IN_LINE` items, each in quotes with a space before it.
+fn put_names<W: fmt::Write>(items: &[NameItem], f: &mut fmt::Formatter<W>) -> fmt::Result {
+    for item in items.iter().take(NAMES_IN_LINE) {
+        put_name(&item.filename, f)?;
+    }
+    put_ellipsis(items.len(), f)
+}
+
 /// Writes the first `NAMES_IN_LINE` names, each in quotes with a space before it.
-pub(crate) fn put_names<W: fmt::Write>(
-    names: &[NameItem],
+pub(crate) fn put_first<W: fmt::Write>(
+    names: &[ByteString],
     f: &mut fmt::Formatter<W>,
 ) -> fmt::Result {
-    for item in names.iter().take(NAMES_IN_LINE) {
-        let name = Quoted(item.filename.as_slice());
-        write!(f, " {name}")?;
+    for name in names.iter().take(NAMES_IN_LINE) {
+        put_name(name, f)?;
     }
-    if names.len() > NAMES_IN_LINE {
+    put_ellipsis(names.len(), f)
+}
+
+fn put_name<W: fmt::Write>(name: &ByteString, f: &mut fmt::Formatter<W>) -> fmt::Result {
+    let name = Quoted(name.as_slice());
+    write!(f, " {name}")
+}
+
+/// Writes an ellipsis if so many names do not fit in a line.
+fn put_ellipsis<W: fmt::Write>(count: usize, f: &mut fmt::Formatter<W>) -> fmt::Result {
+    if count > NAMES_IN_LINE {
         f.write_str(" ...")
     } else {
         Ok(())

@@ -1,12 +1,12 @@
 //! Why a reply is not allowed, and which one is.
 
-use crate::answers::{AnswerText, put_names};
+use crate::answers::{AnswerText, put_first};
 use crate::causes::{AllowedCodes, CauseList};
 use crate::differences::{first_difference, first_wrong_name};
 use crate::errors::ExplainError;
 use sftp_handles::{HandleTable, Listing, Session};
 use sftp_tree::Causes;
-use sftp_wire::{Answer, Ask, Names};
+use sftp_wire::{Answer, Ask, ByteString, Names};
 use std::alloc::Global;
 use std::fmt;
 use std::fmt::Write as _;
@@ -144,7 +144,7 @@ fn put_names_left<T: HandleTable, O: Write>(
     match session.first_names(handle) {
         Ok(names) => {
             let names = NamesLeft {
-                names: &names,
+                names: names.as_slice(),
                 count,
             };
             writeln!(output, "expected: {names}")?;
@@ -157,7 +157,7 @@ fn put_names_left<T: HandleTable, O: Write>(
 /// Names that a listing still has to give, the first ones, and how many they all are.
 #[derive(Clone, Copy)]
 struct NamesLeft<'a> {
-    names: &'a Names,
+    names: &'a [ByteString],
     count: usize,
 }
 
@@ -165,7 +165,7 @@ impl fmt::Display for NamesLeft<'_> {
     fn fmt<W: fmt::Write>(&self, f: &mut fmt::Formatter<W>) -> fmt::Result {
         let count = self.count;
         f.write_str("NAME with some of the names left:")?;
-        put_names(self.names.as_slice(), f)?;
+        put_first(self.names, f)?;
         write!(f, " ({count} in all)")
     }
 }

@@ -1,6 +1,6 @@
--- The first names of a listing: as items they are some of the names that it still has to give.
+-- The first names of a listing, copied one by one: as items they are some of the names that it still has to give.
 use Rattle.std.proofs.Common.{◌≡◌, ◌==◌, ◌&&◌, not, nat_lt, ℕ, zero, suc, ◌≤◌, true, false, cond, List, []}
-use Rattle.std.proofs.Common.{◌∷◌, ◌++◌, length, map, Option, Some, None, refl, sym, ap, ◌∙◌, arith, eq-eqb}
+use Rattle.std.proofs.Common.{◌∷◌, ◌++◌, length, map, take, Option, Some, None, refl, sym, ap, ◌∙◌, arith, eq-eqb}
 use Rattle.std.specs.Ordering.{is_eq}
 use Rattle.std.specs.declared.cmp.Ordering.TheVariants.{Less}
 use Rattle.std.specs.List.{AllByRecursion, list_all}
@@ -8,7 +8,7 @@ use Rattle.std.specs.Map.{keys_of}
 use Rattle.std.specs.Cmp.Lexicographic.{nat_list_cmp_total, texts_ties}
 use Rattle.std.proofs.lemmas.Bool.{and_from}
 use Rattle.std.proofs.lemmas.Cmp.{tied_itself}
-use Rattle.std.proofs.lemmas.List.{take_all, length-map, append-nil}
+use Rattle.std.proofs.lemmas.List.{take_all, take_min, length-take, length-map, append-nil}
 use Rattle.std.proofs.lemmas.Map.Keys.{sorted_head, sorted_tail}
 use Rattle.sftp_wire.specs.declared.attributes.Attrs.{Attrs}
 use Rattle.sftp_wire.specs.declared.names.NameItem.{NameItem}
@@ -19,37 +19,63 @@ use Rattle.sftp_handles.specs.Handles.{Left}
 use Rattle.sftp_handles.specs.State.{IsLeft, IsItem, is_plain}
 use Rattle.sftp_handles.specs.Replies.{same_attributes, has_attributes, is_left, is_among, are_distinct, names_in}
 use Rattle.sftp_handles.specs.Replies.{are_some_left}
-use Rattle.sftp_handles.specs.FirstNames.{item_of, first_items}
+use Rattle.sftp_handles.specs.FirstNames.{name_of, first_names, item_of, first_items}
 use Rattle.sftp_handles.proofs.DistinctNames.{tie}
 
--- ---- the items that were made
+-- ---- the names that were copied
 
 -- of all that are left
-pub first-all : (items : List NameItem) (rest left : Left) (most : ℕ) → items ++ map item_of rest ≡ map item_of left
-    → length items ≤ most → rest ≡ [] → items ≡ first_items most left
-first-all items rest left most is few none =
-    let whole : items ≡ map item_of left =
-    sym (append-nil items) ∙ (ap (λ (r : Left). items ++ map item_of r) (sym none) ∙ is) in
+pub first-all : (names : List Name) (rest left : Left) (most : ℕ) → names ++ map name_of rest ≡ map name_of left
+    → length names ≤ most → rest ≡ [] → names ≡ first_names most left
+first-all names rest left most is few none =
+    let whole : names ≡ map name_of left =
+    sym (append-nil names) ∙ (ap (λ (r : Left). names ++ map name_of r) (sym none) ∙ is) in
     let short : length left ≤ most =
-    omega (arith, few, ap (λ (xs : List NameItem). length xs) whole, length-map left item_of) in
-    whole ∙ ap (λ (xs : Left). map item_of xs) (sym (take_all most left short))
+    omega (arith, few, ap (λ (xs : List Name). length xs) whole, length-map left name_of) in
+    whole ∙ ap (λ (xs : Left). map name_of xs) (sym (take_all most left short))
 
 -- the front of them
-front : (items : List NameItem) (rest : List NameItem) (left : Left) → items ++ rest ≡ map item_of left
-    → items ≡ first_items (length items) left
+front : (names rest : List Name) (left : Left) → names ++ rest ≡ map name_of left
+    → names ≡ first_names (length names) left
 front [] rest [] is = refl
 front [] rest (e ∷ es) is = refl
 front (x ∷ xs) rest [] is = absurd cc
 front (x ∷ xs) rest (e ∷ es) is =
-    let head : x ≡ item_of e = cc in
-    let tail : xs ++ rest ≡ map item_of es = cc in
+    let head : x ≡ name_of e = cc in
+    let tail : xs ++ rest ≡ map name_of es = cc in
     λ i. head i ∷ front xs rest es tail i
 
-pub first-front : (items : List NameItem) (rest left : Left) (most : ℕ) → items ++ map item_of rest ≡ map item_of left
-    → length items ≤ most → most ≤ length items → items ≡ first_items most left
-first-front items rest left most is few many =
-    let same : length items ≡ most = omega (arith, few, many) in
-    front items (map item_of rest) left is ∙ ap (λ n. first_items n left) same
+pub first-front : (names : List Name) (rest left : Left) (most : ℕ) → names ++ map name_of rest ≡ map name_of left
+    → length names ≤ most → most ≤ length names → names ≡ first_names most left
+first-front names rest left most is few many =
+    let same : length names ≡ most = omega (arith, few, many) in
+    front names (map name_of rest) left is ∙ ap (λ n. first_names n left) same
+
+-- ---- as many items as names
+
+-- as many as there are of the first names
+counted : (n : ℕ) (left : Left) → take (length (first_names n left)) left ≡ take n left
+counted n left =
+    ap (λ m. take m left) (length-map (take n left) name_of ∙ length-take n left) ∙ take_min n left
+
+pub first-again : (n : ℕ) (names : List Name) (left : Left) → names ≡ first_names n left
+    → names ≡ first_names (length names) left
+first-again n names left is =
+    is
+    ∙ (ap (λ (xs : Left). map name_of xs) (sym (counted n left))
+    ∙ ap (λ (xs : List Name). first_names (length xs) left) (sym is))
+
+pub as-many-items : (n : ℕ) (names : List Name) (left : Left) → names ≡ first_names n left
+    → first_items (length names) left ≡ first_items n left
+as-many-items n names left is =
+    ap (λ (xs : List Name). first_items (length xs) left) is
+    ∙ ap (λ (xs : Left). map item_of xs) (counted n left)
+
+pub items-counted : (n : ℕ) (names : List Name) (left : Left) → names ≡ first_names n left
+    → length (first_items n left) ≡ length names
+items-counted n names left is =
+    length-map (take n left) item_of
+    ∙ (sym (length-map (take n left) name_of) ∙ ap (λ (xs : List Name). length xs) (sym is))
 
 -- ---- each is left
 

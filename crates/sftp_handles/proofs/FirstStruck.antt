@@ -43,15 +43,3 @@ dropped-struck items left found there order first =
     let same : items ≡ first_items names_in_reply left = subst (λ o. AreFirst o items) there first in
     ap (λ xs. drop (length xs) left) same
     ∙ (sym (struck-first_items names_in_reply left ordered) ∙ ap (λ xs. struck left (names_in xs)) (sym same))
-
--- one more entry is dropped, if there is one
-pub next-dropped : (n : ℕ) (whole before next : Left) (popped : Option (Name × Attrs)) → before ≡ drop n whole
-    → IfSome popped (λ e. before ≡ e ∷ next) → IfNone popped (next ≡ before)
-    → (IsSome popped ↔ (0 < length before)) → next ≡ drop (n + 1) whole
-next-dropped n whole before next (Some e) is removed kept some =
-    ap (λ es. drop 1 es) (sym removed ∙ is) ∙ drop-drop 1 n whole
-next-dropped n whole [] next None is removed kept some =
-    kept ∙ (ap (λ es. drop 1 es) is ∙ drop-drop 1 n whole)
-next-dropped n whole (e ∷ es) next None is removed kept some =
-    let there : false ≡ true = some.1 (omega arith) in
-    absurd cc

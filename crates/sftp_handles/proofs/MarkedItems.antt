@@ -1,7 +1,7 @@
 -- Items in rising order of their names, with marks: what of them is left, looked up, struck out and put.
 use Rattle.std.proofs.Common.{◌≡◌, ◌≢◌, ℕ, zero, suc, ◌+◌, ◌<◌, ◌≤◌, Bool, true, false, cond, List, [], ◌∷◌, ◌++◌, map}
 use Rattle.std.proofs.Common.{take, drop, length, get_or, Option, Some, None, refl, sym, ap, subst, ◌∙◌, arith, nat_lt}
-use Rattle.std.proofs.Common.{nat_eq, ◌-◌, ◌↔◌, Bor, IsSome, IfSome, IfOk, IfErr, option_copied, Result, Ok, Err}
+use Rattle.std.proofs.Common.{nat_eq, is_some, ◌-◌, ◌↔◌, Bor, IsSome, IfSome, IfNone, IfOk, IfErr, option_copied, Result, Ok, Err}
 use Rattle.std.proofs.Math.ListN.{set, replicate}
 use Rattle.std.specs.List.{AllByRecursion, insert}
 use Rattle.std.specs.List.Sorted.{IsStrictlySortedBy, IsNonDecreasingBy, IsBinarySearchResult, IsSearchInRange}
@@ -493,19 +493,34 @@ struck-dropped (x ∷ xs) (true ∷ ms) paired struck =
     (record { same = omega (arith, paired.same); ordered = order-tail x xs paired.ordered }, refl, omega arith)
 struck-dropped (x ∷ xs) (false ∷ ms) paired struck = absurd cc
 
-pub first-dropped : (items : List Item) (marks : List Bool) → ArePaired items marks → is_struck_first marks ≡ false
+pub first-dropped : (items : List Item) (marks : List Bool) → ArePaired items marks
     → ArePaired (drop 1 items) (drop 1 marks)
-    × (unmarked (drop 1 items) (drop 1 marks) ≡ drop 1 (unmarked items marks))
-    × (nat_lt 0 (length items) ≡ nat_lt 0 (length (unmarked items marks)))
-first-dropped [] [] paired none = (paired, refl, refl)
-first-dropped [] (m ∷ ms) paired none = absurd (omega (arith, paired.same))
-first-dropped (x ∷ xs) [] paired none = absurd (omega (arith, paired.same))
-first-dropped (x ∷ xs) (true ∷ ms) paired none = absurd cc
-first-dropped (x ∷ xs) (false ∷ ms) paired none = (
-  record { same = omega (arith, paired.same); ordered = order-tail x xs paired.ordered },
-  refl,
-  lt-ltb 0 (length (x ∷ xs)) (omega arith) ∙ sym (lt-ltb 0 (length (entry_of x ∷ unmarked xs ms)) (omega arith)),
-)
+first-dropped [] [] paired = paired
+first-dropped [] (m ∷ ms) paired = absurd (omega (arith, paired.same))
+first-dropped (x ∷ xs) [] paired = absurd (omega (arith, paired.same))
+first-dropped (x ∷ xs) (m ∷ ms) paired =
+    record { same = omega (arith, paired.same); ordered = order-tail x xs paired.ordered }
+
+-- an item that was taken is the first one without a mark
+pub first-taken : (items : List Item) (marks : List Bool) (taken : Option Item) → ArePaired items marks
+    → is_struck_first marks ≡ false → items ≡ option_to_list taken ++ drop 1 items
+    → unmarked items marks
+    ≡ option_to_list (option_map entry_of taken) ++ unmarked (drop 1 items) (drop 1 marks)
+first-taken [] marks None paired none is = refl
+first-taken [] marks (Some item) paired none is = absurd cc
+first-taken (x ∷ xs) marks None paired none is = absurd (omega (arith, ap (λ (l : List Item). length l) is))
+first-taken (x ∷ xs) [] (Some item) paired none is = absurd (omega (arith, paired.same))
+first-taken (x ∷ xs) (true ∷ ms) (Some item) paired none is = absurd cc
+first-taken (x ∷ xs) (false ∷ ms) (Some item) paired none is =
+    let same : x ≡ item = cc in
+    ap (λ (i : Item). entry_of i ∷ unmarked xs ms) same
+
+-- and there is none left if none was taken
+pub none-taken : (items : List Item) (marks : List Bool) (taken : Option Item)
+    → items ≡ option_to_list taken ++ drop 1 items → IfNone taken (unmarked (drop 1 items) (drop 1 marks) ≡ [])
+none-taken [] marks None is = refl
+none-taken (x ∷ xs) marks None is = absurd (omega (arith, ap (λ (l : List Item). length l) is))
+none-taken items marks (Some item) is = tt
 
 -- ---- what a search finds
 
@@ -597,35 +612,26 @@ all-false items before marks len count empty none size is =
     ∙ (ap (λ (front : List Bool). front ++ replicate (count - len) false) (take-none count before empty)
     ∙ ap (λ n. replicate n false) whole)
 
--- ---- how many are left after a first one is dropped, and after one is put
+-- ---- how many are left after a first one is taken, and after one is put
 
-tail-shorter : (left : Left) → nat_lt 0 (length left) ≡ true → length (drop 1 left) + 1 ≡ length left
-tail-shorter [] some = absurd cc
-tail-shorter (e ∷ es) some = omega arith
-
-tail-none : (left : Left) → nat_lt 0 (length left) ≡ false → length (drop 1 left) ≡ length left
-tail-none [] none = refl
-tail-none (e ∷ es) none = absurd (omega (arith, ltb-false 0 (length (e ∷ es)) none))
-
-pub dropped-one : (items : List Item) (marks : List Bool) (next : List Item) (next-marks : List Bool) (left : ℕ)
-    → (some : Bool) → IsMarked items marks left → ArePaired next next-marks
-    → unmarked next next-marks ≡ drop 1 (unmarked items marks) → some ≡ nat_lt 0 (length (unmarked items marks))
-    → some ≡ true → (1 ≤ left) × IsMarked next next-marks (left - 1)
-dropped-one items marks next next-marks left some marked paired dropped is there =
-    let less = tail-shorter (unmarked items marks) (sym is ∙ there) in
-    let size = ap (λ (l : Left). length l) dropped in (
-      omega (arith, less, marked.counted),
-      record { paired = paired; counted = omega (arith, less, size, marked.counted) },
+pub taken-one : (items : List Item) (marks : List Bool) (next : List Item) (next-marks : List Bool) (left : ℕ)
+    → (taken : Option Item) → IsMarked items marks left → ArePaired next next-marks
+    → unmarked items marks ≡ option_to_list (option_map entry_of taken) ++ unmarked next next-marks
+    → is_some taken ≡ true → (1 ≤ left) × IsMarked next next-marks (left - 1)
+taken-one items marks next next-marks left None marked paired is some = absurd cc
+taken-one items marks next next-marks left (Some item) marked paired is some =
+    let size = ap (λ (l : Left). length l) is in (
+      omega (arith, size, marked.counted),
+      record { paired = paired; counted = omega (arith, size, marked.counted) },
     )
 
-pub dropped-none : (items : List Item) (marks : List Bool) (next : List Item) (next-marks : List Bool) (left : ℕ)
-    → (some : Bool) → IsMarked items marks left → ArePaired next next-marks
-    → unmarked next next-marks ≡ drop 1 (unmarked items marks) → some ≡ nat_lt 0 (length (unmarked items marks))
-    → some ≡ false → IsMarked next next-marks left
-dropped-none items marks next next-marks left some marked paired dropped is absent =
-    let same = tail-none (unmarked items marks) (sym is ∙ absent) in
-    let size = ap (λ (l : Left). length l) dropped in
-    record { paired = paired; counted = omega (arith, same, size, marked.counted) }
+pub taken-none : (items : List Item) (marks : List Bool) (next : List Item) (next-marks : List Bool) (left : ℕ)
+    → (taken : Option Item) → IsMarked items marks left → ArePaired next next-marks
+    → unmarked items marks ≡ option_to_list (option_map entry_of taken) ++ unmarked next next-marks
+    → is_some taken ≡ false → IsMarked next next-marks left
+taken-none items marks next next-marks left (Some item) marked paired is none = absurd cc
+taken-none items marks next next-marks left None marked paired is none =
+    record { paired = paired; counted = marked.counted ∙ ap (λ (l : Left). length l) is }
 
 pub put-one : (items : List Item) (marks : List Bool) (next : List Item) (next-marks : List Bool) (left : ℕ)
     → (more : Bool) → IsMarked items marks left → ArePaired next next-marks

@@ -28,8 +28,8 @@ use Rattle.sftp_handles.specs.Requests.{causes}
 use Rattle.sftp_handles.specs.Allowed.{Does}
 use Rattle.sftp_handles.specs.Judged.{IsJudged}
 use Rattle.sftp_handles.specs.Answered.{IsSpelledAnswer, IsAnswered}
-use Rattle.sftp_handles.specs.Giving.{gives_names, with_struck}
-use Rattle.sftp_handles.specs.FirstNames.{item_of, first_items, names_in_reply, AreFirst}
+use Rattle.sftp_handles.specs.Giving.{IsListing, gives_names, with_struck}
+use Rattle.sftp_handles.specs.FirstNames.{item_of, first_items, names_in_reply, AreFirst, AreFirstNames}
 use Rattle.sftp_handles.proofs.FirstNames.{Extended, attributes_of, first-some}
 use Rattle.sftp_handles.proofs.GivenNames.{has_none, listing-left, given-judged, readdir-ends}
 use Rattle.sftp_handles.proofs.Judgements.{allow-one}
@@ -109,12 +109,13 @@ end-spelled id small = status-spelled id 1 small (lit< tt)
 
 -- ---- whether there are names, as the code finds out
 
-pub some-items : (items : List NameItem) (empty : Bool) → empty ≡ (length items == 0) → empty ≡ false
+pub some-items : {X : Type 0} (items : List X) (empty : Bool) → empty ≡ (length items == 0) → empty ≡ false
     → nat_lt 0 (length items) ≡ true
 some-items [] empty test some = absurd (both_ways empty some test)
 some-items (item ∷ items) empty test some = lt-ltb 0 (length (item ∷ items)) (omega arith)
 
-pub no-items : (items : List NameItem) (empty : Bool) → empty ≡ (length items == 0) → empty ≡ true → length items ≡ 0
+pub no-items : {X : Type 0} (items : List X) (empty : Bool) → empty ≡ (length items == 0) → empty ≡ true
+    → length items ≡ 0
 no-items items empty test none = eqb-true (length items) 0 (sym test ∙ none)
 
 -- ---- what was judged to be allowed
@@ -131,13 +132,13 @@ judged-does s ask answer end unlike judged =
     ]
 
 -- a listing that gives no names has none
-none-in : (items : List NameItem) (found : Option Open) → AreFirst found items → length items ≡ 0
+none-in : (names : List Name) (found : Option Open) → AreFirstNames found names → length names ≡ 0
     → has_none found ≡ true
-none-in items None first none = absurd first
-none-in items (Some (File number flags)) first none = absurd first
-none-in items (Some (Listing [])) first none = refl
-none-in items (Some (Listing (e ∷ es))) first none =
-    absurd (omega (arith, none, ap (λ (xs : List NameItem). length xs) first))
+none-in names None first none = absurd first
+none-in names (Some (File number flags)) first none = absurd first
+none-in names (Some (Listing [])) first none = refl
+none-in names (Some (Listing (e ∷ es))) first none =
+    absurd (omega (arith, none, ap (λ (xs : List Name). length xs) first))
 
 -- ---- the listing that is open
 
@@ -155,6 +156,17 @@ module _ (s : State) (handle : List ℕ) (good : Good s) where
         subst (λ (xs : List NameItem). IsSpelledAnswer (replies.Name xs)) (sym first)
             (first-spelled left is_left.items),
       )
+
+  named-in : (names : List Name) (found : Option Open) → open_at s.handles handle ≡ found → AreFirstNames found names
+      → IsListing found
+  named-in names None there first = absurd first
+  named-in names (Some (File number flags)) there first = absurd first
+  named-in names (Some (Listing left)) there first = (listing-left s handle left good there).ordered
+
+  -- what has first names is a listing
+  pub first-listing : (names : List Name) → AreFirstNames (open_at s.handles handle) names
+      → IsListing (open_at s.handles handle)
+  first-listing names first = named-in names (open_at s.handles handle) refl first
 
   -- its names are given
   pub first-given : (items : List NameItem) → AreFirst (open_at s.handles handle) items
@@ -176,12 +188,12 @@ module _ (s : State) (handle : List ℕ) (good : Good s) where
       }
 
   -- it has nothing left
-  pub readdir-ended : (items : List NameItem) → AreFirst (open_at s.handles handle) items → length items ≡ 0
+  pub readdir-ended : (names : List Name) → AreFirstNames (open_at s.handles handle) names → length names ≡ 0
       → IsAnswered s (Readdir handle) (replies.Status 1 [] []) s
-  readdir-ended items first none = record {
+  readdir-ended names first none = record {
     does =
         judged-does s (Readdir handle) (replies.Status 1 [] []) s (allow-one (causes s (Readdir handle)))
-        (readdir-ends s handle true good (sym (none-in items (open_at s.handles handle) first none)) [] []);
+        (readdir-ends s handle true good (sym (none-in names (open_at s.handles handle) first none)) [] []);
     spelled = end-spelled;
   }
 

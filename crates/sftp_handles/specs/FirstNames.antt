@@ -7,6 +7,13 @@ use Rattle.sftp_handles.specs.declared.opens.Open.{Open}
 use Rattle.sftp_handles.specs.declared.opens.Open.TheVariants.{File, Listing}
 use Rattle.sftp_handles.specs.Handles.{Left}
 
+abbrev pub name_of : Name × Attrs → Name
+name_of e = e.0
+
+-- the first `most` names of a listing, or all if there are fewer
+abbrev pub first_names : ℕ → Left → List Name
+first_names most left = map name_of (take most left)
+
 -- an item with the attributes of a name, which is its long name too
 abbrev pub item_of : Name × Attrs → NameItem
 item_of e = record { filename = e.0; longname = e.0; attrs = e.1 }
@@ -20,6 +27,12 @@ abbrev pub names_in_reply : ℕ
 names_in_reply = 32
 
 -- what is open is a listing, and these are its first names
+abbrev pub AreFirstNames : Option Open → List Name → Type 0
+AreFirstNames (Some (Listing left)) names = names ≡ first_names names_in_reply left
+AreFirstNames (Some (File number flags)) names = ⊥
+AreFirstNames None names = ⊥
+
+-- what is open is a listing, and these are the items of its first names
 abbrev pub AreFirst : Option Open → List NameItem → Type 0
 AreFirst (Some (Listing left)) items = items ≡ first_items names_in_reply left
 AreFirst (Some (File number flags)) items = ⊥

@@ -1,9 +1,10 @@
 //! READDIR: the names that a listing gives, and its end (draft, section 6.7).
-ghost use Rattle.std.specs.Prelude.{◌≡◌, [], Some, is_some, IsTrue, IfOk, IfSome, OnErr};
+ghost use Rattle.std.specs.Prelude.{◌≡◌, ◌≤◌, [], Some, is_some, length, IsTrue, IfOk, IfSome, OnErr};
+ghost use Rattle.std.specs.Vec.{vec_capacity};
 ghost use Rattle.sftp_wire.specs.declared.packets.Ask.TheVariants.{Read, Readdir};
 ghost use Rattle.sftp_wire.specs.declared.packets.Answer.TheVariants as replies;
 ghost use Rattle.sftp_handles.specs.declared.opens.Open.TheVariants as opens;
-ghost use Rattle.sftp_handles.specs.FirstNames.{AreFirst};
+ghost use Rattle.sftp_handles.specs.FirstNames.{AreFirst, AreFirstNames};
 ghost use Rattle.sftp_handles.specs.Handles.{open_at, is_open, with_open};
 ghost use Rattle.sftp_handles.specs.Replies.{names_in};
 ghost use Rattle.sftp_handles.specs.Giving.{IsListing, gives_names, with_struck};
@@ -15,7 +16,7 @@ use crate::sessions::Session;
 use crate::tables::HandleTable;
 use sftp_path::Name;
 use sftp_tree::NoMemory;
-use sftp_wire::{Ask, Names};
+use sftp_wire::{Ask, ByteString, NameItem, Names};
 use std::alloc::Global;
 
 impl<T: HandleTable> Session<T> {
@@ -132,21 +133,28 @@ pub(crate) fn strike_names<T: HandleTable>(
     put_listing(table, handle, left);
 }
 
-/// Strikes the first names, those of a reply, from the listing that is open under a handle. It takes no memory.
-pub(crate) fn strike_first<T: HandleTable>(
+/// Takes the first names, of which these are copies, from the listing that is open under a handle, as the items of a
+/// reply. The copies become the long names. `room` has no items yet. It takes no memory.
+pub(crate) fn give_first<T: HandleTable>(
     table: &mut T,
     alloc: Global,
     handle: &[u8],
-    names: &Names,
-)
+    longnames: Vec<ByteString>,
+    room: Vec<NameItem>,
+) -> Names
     requires listing { IsListing (open_at (T.handles table.old) handle.now) }
-    requires first { AreFirst (open_at (T.handles table.old) handle.now) names.now }
-    ensures { T.handles table.new
-        ≡ with_struck (T.handles table.old) handle.now (names_in names.now) (open_at (T.handles table.old) handle.now) }
+    requires names { AreFirstNames (open_at (T.handles table.old) handle.now) longnames.items }
+    requires empty { room.items ≡ [] }
+    requires room { length longnames.items ≤ vec_capacity room }
+    ensures first { AreFirst (open_at (T.handles table.old) handle.now) result }
+    ensures count { length result ≡ length longnames.items }
+    ensures struck { T.handles table.new
+        ≡ with_struck (T.handles table.old) handle.now (names_in result) (open_at (T.handles table.old) handle.now) }
 {
     let mut left = take_listing(table, alloc, handle);
-    left.drop_first(names.as_slice().len());
+    let names = left.take_first(longnames, room);
     put_listing(table, handle, left);
+    names
 }
 
 /// Takes the listing that is open under a handle out of its table. An empty one is then open in its place.

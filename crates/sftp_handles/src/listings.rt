@@ -1,10 +1,12 @@
 //! What a listing of a directory still has to give.
-ghost use Rattle.std.specs.Prelude.{◌≡◌, [], drop, length, IsTrue, ◌↔◌, OnOk, OnErr, option_copied};
+ghost use Rattle.std.specs.Prelude.{◌≡◌, [], ◌++◌, length, IsTrue, ◌↔◌, IfNone, OnOk, OnErr, option_copied};
+ghost use Rattle.std.specs.Option.{option_map, option_to_list};
 ghost use Rattle.sftp_path.specs.Place.{name_cmp};
 ghost use Rattle.sftp_path.specs.Table.{InOrder, get, put, without};
+ghost use Rattle.sftp_tree.specs.Items.{entry_of};
 
 use crate::hints::{Hints, find_place};
-use crate::marked::{drop_unmarked, item_at, put_item, set_mark};
+use crate::marked::{item_at, put_item, set_mark, take_unmarked};
 use sftp_path::{Name, NoMemory};
 use sftp_tree::Item;
 use sftp_wire::Attrs;
@@ -128,21 +130,15 @@ impl Listing {
         }
     }
 
-    /// Drops the first `count` names, or all if there are fewer. It takes no memory.
-    pub(crate) fn drop_first(&mut self, count: usize)
-        ensures { self.new ≡ drop count self.old }
+    /// Takes the first name that is left, with its attributes. It takes no memory.
+    pub(crate) fn take_one(&mut self) -> Option<Item>
+        ensures taken { self.old ≡ option_to_list (option_map entry_of result) ++ self.new }
+        ensures none { IfNone result (self.new ≡ []) }
     {
-        for _ in 0..count {
-            self.drop_one();
-        }
-    }
-
-    /// Drops the first name, if there is one. It takes no memory.
-    fn drop_one(&mut self)
-        ensures { self.new ≡ drop 1 self.old }
-    {
-        if drop_unmarked(&mut self.items, &mut self.marks) {
+        let item = take_unmarked(&mut self.items, &mut self.marks);
+        if item.is_some() {
             self.left -= 1;
         }
+        item
     }
 }

@@ -1,8 +1,8 @@
 //! Items in rising order of their names, and of each a mark that says whether its name is struck out.
-ghost use Rattle.std.specs.Prelude.{◌≡◌, ◌<◌, ◌≤◌, ◌+◌, true, false, length, map, drop, nat_lt, cond, slice_set};
-ghost use Rattle.std.specs.Prelude.{IfOk, IfErr, OnOk, OnErr, option_copied, slice_index_or};
+ghost use Rattle.std.specs.Prelude.{◌≡◌, ◌<◌, ◌≤◌, ◌+◌, ◌++◌, [], true, false, length, map, cond, slice_set};
+ghost use Rattle.std.specs.Prelude.{IfOk, IfErr, IfNone, OnOk, OnErr, option_copied, slice_index_or};
 ghost use Rattle.std.specs.List.{insert};
-ghost use Rattle.std.specs.Option.{option_map};
+ghost use Rattle.std.specs.Option.{option_map, option_to_list};
 ghost use Rattle.sftp_path.specs.Place.{name_cmp};
 ghost use Rattle.sftp_path.specs.Table.{InOrder, put};
 ghost use Rattle.sftp_tree.specs.Items.{entry_of};
@@ -123,18 +123,17 @@ fn insert_item(
     }
 }
 
-/// Drops the items with a mark up to the first one without, and that one. Returns whether there was one. It takes no
-/// memory.
-pub(crate) fn drop_unmarked(items: &mut VecDeque<Item>, marks: &mut VecDeque<bool>) -> bool
+/// Takes the first item without a mark, and drops those before it. It takes no memory.
+pub(crate) fn take_unmarked(items: &mut VecDeque<Item>, marks: &mut VecDeque<bool>) -> Option<Item>
     requires { ArePaired items.old.items marks.old.items }
     ensures paired { ArePaired items.new.items marks.new.items }
-    ensures dropped { unmarked items.new.items marks.new.items
-        ≡ drop 1 (unmarked items.old.items marks.old.items) }
-    ensures some { result ≡ nat_lt 0 (length (unmarked items.old.items marks.old.items)) }
+    ensures taken { unmarked items.old.items marks.old.items
+        ≡ option_to_list (option_map entry_of result) ++ unmarked items.new.items marks.new.items }
+    ensures none { IfNone result (unmarked items.new.items marks.new.items ≡ []) }
 {
     drop_struck(items, marks);
     let _mark = marks.pop_front();
-    items.pop_front().is_some()
+    items.pop_front()
 }
 
 /// Drops the items with a mark up to the first one without. It takes no memory.

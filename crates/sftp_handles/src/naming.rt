@@ -5,18 +5,18 @@ ghost use Rattle.sftp_wire.specs.declared.packets.Answer.TheVariants as replies;
 ghost use Rattle.sftp_handles.specs.Handles.{open_at};
 ghost use Rattle.sftp_handles.specs.State as state;
 ghost use Rattle.sftp_handles.specs.Laws.{is_opening};
-ghost use Rattle.sftp_handles.specs.FirstNames.{AreFirst};
+ghost use Rattle.sftp_handles.specs.FirstNames.{AreFirstNames};
 ghost use Rattle.sftp_handles.specs.Judged.{IsRefusal};
 ghost use Rattle.sftp_handles.specs.Answered.{IsAnswered};
 
-use crate::giving::strike_first;
+use crate::giving::give_first;
 use crate::not_opened::NotOpened;
 use crate::opens::Open;
 use crate::sessions::Session;
 use crate::showing::status;
 use crate::tables::HandleTable;
 use sftp_tree::{Cause, Refused};
-use sftp_wire::{Answer, Ask, Attrs, ByteString, Names};
+use sftp_wire::{Answer, Ask, Attrs, ByteString};
 use std::alloc::Global;
 
 /// How many names a reply to READDIR gives at most.
@@ -100,23 +100,23 @@ impl<T: HandleTable> Session<T> {
         ensures refused { IfErr result (IsRefusal self.old (asks.Readdir handle.now)) }
         ensures kept { OnErr result (self.new ≡ self.old) }
     {
-        let names = self.first_names(handle)?;
+        let longnames = self.first_names(handle)?;
         let alloc = self.tree.allocator();
-        if names.as_slice().is_empty() {
+        if longnames.is_empty() {
             return Ok(status(alloc, 1));
         }
-        strike_first(&mut self.table, alloc, handle, &names);
+        let room = Vec::with_capacity(alloc, longnames.len())?;
+        let names = give_first(&mut self.table, alloc, handle, longnames, room);
         Ok(Answer::Name(names))
     }
 
-    /// The items of the reply that gives the first names of a listing: `NAMES_IN_REPLY` or fewer, in rising order of
-    /// their bytes. None of them is struck out.
+    /// The first names that a listing still has to give: `NAMES_IN_REPLY` or fewer, in rising order of their bytes.
     ///
     /// # Errors
     ///
     /// `BadHandle` if the handle is not open, `WrongKind` if it is a file's. `NoMemory` if memory runs out.
-    pub fn first_names(&self, handle: &[u8]) -> Result<Names, Refused>
-        ensures first { IfOk result (AreFirst (open_at self.now.handles handle.now)) }
+    pub fn first_names(&self, handle: &[u8]) -> Result<Vec<ByteString>, Refused>
+        ensures first { IfOk result (λ names. AreFirstNames (open_at self.now.handles handle.now) names.items) }
         ensures refused { IfErr result (IsRefusal self.now (asks.Readdir handle.now)) }
     {
         match self.table.find(handle) {

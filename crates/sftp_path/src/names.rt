@@ -73,6 +73,13 @@ impl Name {
         self.bytes.as_slice()
     }
 
+    /// The bytes of the name, without a copy.
+    pub fn into_vec(self) -> Vec<u8>
+        ensures { result.items ≡ self }
+    {
+        self.bytes
+    }
+
     /// A copy of the name.
     ///
     /// # Errors

@@ -62,8 +62,9 @@ impl Tree {
     {
         let alloc = found.place.allocator();
         let dir = directory_of(found);
-        let mut items = Vec::new(alloc);
-        for (name, child) in dir.children() {
+        let children = dir.children();
+        let mut items = Vec::with_capacity(alloc, children.len())?;
+        for (name, child) in children {
             items.push(self.item(alloc, name, child)?)?;
         }
         Ok(items)

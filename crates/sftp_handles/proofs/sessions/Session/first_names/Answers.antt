@@ -3,15 +3,9 @@ use Rattle.sftp_wire.specs.declared.packets.Ask.TheVariants.{Readdir}
 use Rattle.sftp_tree.specs.declared.causes.Cause.TheVariants.{BadHandle, WrongKind}
 use Rattle.sftp_handles.specs.State.{State}
 use Rattle.sftp_handles.specs.Requests.{causes}
-use Rattle.sftp_handles.proofs.GivenNames.{listing-left}
 use Rattle.sftp_handles.proofs.NameReplies.{readdir-of_file, readdir-of_none}
 use Rattle.sftp_handles.proofs.NewStates.{state_of}
 use Rattle.sftp_handles.proofs.sessions.Session.first_names.Goals as goal
-
-pub first-requires : goal.first-requires
-first-requires g c =
-    listing-left (state_of c.self.inside.tree (g.T.HandleTable.handles c.self.inside.table)) c.args.handle.now
-    c.in-Some-Listing.left c.self.invariant (sym c.in-Some-Listing.ensures ∙ ap Some c.in-Some-Listing.field-0-is)
 
 pub returns-in-Some-File-clause-refused : goal.returns-in-Some-File-clause-refused
 returns-in-Some-File-clause-refused g c =

@@ -21,17 +21,17 @@ loop-name-init c =
     let place = c.args.found.now.place in
     let dir = c.directory_of-dir.result.now in
     let left = c.into_iter-name-iterator.result in
-    let given : left ≡ c.children-name-items.result = c.into_iter-name-iterator.ensures.into_iter_gives in
-    let is : nodes_of left ≡ children t.names place = ap nodes_of given ∙ c.children-name-items.ensures.nodes
-    ∙ children-alike t.names dir place c.requires.kept.well_formed.ordered c.children-name-items.ensures.ordered
+    let given : left ≡ c.children-children.result = c.into_iter-name-iterator.ensures.into_iter_gives in
+    let is : nodes_of left ≡ children t.names place = ap nodes_of given ∙ c.children-children.ensures.nodes
+    ∙ children-alike t.names dir place c.requires.kept.well_formed.ordered c.children-children.ensures.ordered
     (c.directory_of-dir.ensures t.names c.requires.there) in
     record {
       listed =
-          ap (λ (xs : List Item). map entry_of xs ++ filter_map (shown_child t) (nodes_of left)) c.new-items.ensures.items
+          ap (λ (xs : List Item). map entry_of xs ++ filter_map (shown_child t) (nodes_of left)) c.in_ok-items.ensures.items
           ∙ listing-of t place t.names (nodes_of left) refl is;
       nodes = subst (AllByRecursion (λ e. IsNode t.files e.1)) (sym is)
           (children-kept t.files t.names place c.requires.kept.well_formed.nodes);
-      branches = subst AreBranches (sym given) c.children-name-items.ensures.children.1;
+      branches = subst AreBranches (sym given) c.children-children.ensures.children.1;
     }
 
 pub item-requires : goal.item-requires
