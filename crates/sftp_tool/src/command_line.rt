@@ -121,6 +121,10 @@ pub(crate) fn parse(alloc: Global, words: &[String]) -> Result<Request<'_>, Fail
 
 fn matched(alloc: Global, words: &[String]) -> Result<Request<'_>, Error> {
     let mut command = command(alloc)?;
+    matched_by(&mut command, words)
+}
+
+fn matched_by<'a>(command: &mut Command<'a>, words: &'a [String]) -> Result<Request<'a>, Error> {
     let matches = command.try_get_matches_from_mut(words)?;
     match requested(&matches) {
         Some(request) => Ok(request),
@@ -163,59 +167,80 @@ fn audit_files<'a>(given: &ArgMatches<'a>) -> Option<AuditFiles<'a>> {
 }
 
 fn command<'a>(alloc: Global) -> Result<Command<'a>, AllocError> {
-    Command::new(alloc, "sftpv3")
+    let command = Command::new(alloc, "sftpv3")
         .version("0.1.0")
         .about(ABOUT)
         .after_help(STATUSES)
-        .subcommand_required(true)
-        .subcommand(serve_command(alloc)?)?
-        .subcommand(audit_command(alloc)?)?
-        .subcommand(show_command(alloc)?)?
-        .subcommand(blank_command(alloc)?)
+        .subcommand_required(true);
+    let command = with_subcommand(command, serve_command(alloc))?;
+    let command = with_subcommand(command, audit_command(alloc))?;
+    let command = with_subcommand(command, show_command(alloc))?;
+    with_subcommand(command, blank_command(alloc))
+}
+
+/// The command with a further subcommand.
+fn with_subcommand<'a>(
+    command: Command<'a>,
+    subcommand: Result<Command<'a>, AllocError>,
+) -> Result<Command<'a>, AllocError> {
+    match subcommand {
+        Ok(subcommand) => command.subcommand(subcommand),
+        Err(error) => Err(error),
+    }
 }
 
 fn serve_command<'a>(alloc: Global) -> Result<Command<'a>, AllocError> {
-    let tree = file_option(alloc, "tree")
-        .required(true)
-        .help("The tree file: the tree at the start of the session");
-    let save = file_option(alloc, "save").help("The file to write the final tree to");
-    let record = file_option(alloc, "record").help("The file to record the session in, for audit");
-    let shuffle = Arg::new(alloc, "shuffle")
+    Command::new(alloc, "serve")
+        .about(ABOUT_SERVE)
+        .after_help(AFTER_SERVE)
+        .arg(tree_option(alloc))?
+        .arg(file_option(alloc, "save").help("The file to write the final tree to"))?
+        .arg(file_option(alloc, "record").help("The file to record the session in, for audit"))?
+        .arg(shuffle_option(alloc))
+}
+
+fn shuffle_option<'a>(alloc: Global) -> Arg<'a> {
+    Arg::new(alloc, "shuffle")
         .long("shuffle")
         .value_name("N")
         .value_parser(value_parser!(u64))
         .action(ArgAction::Set)
-        .help("Reply in a pseudorandom order that N fixes, not in the order asked");
-    Command::new(alloc, "serve")
-        .about(ABOUT_SERVE)
-        .after_help(AFTER_SERVE)
-        .arg(tree)?
-        .arg(save)?
-        .arg(record)?
-        .arg(shuffle)
+        .help("Reply in a pseudorandom order that N fixes, not in the order asked")
 }
 
 fn audit_command<'a>(alloc: Global) -> Result<Command<'a>, AllocError> {
-    let tree = file_option(alloc, "tree")
-        .required(true)
-        .help("The tree file: the tree at the start of the session");
-    let transcript = file_option(alloc, "transcript")
-        .required(true)
-        .help("The transcript: the recorded packets of the session");
-    let out = file_option(alloc, "out").help(
-        "The file to write the final tree to, if the session is accepted",
-    );
-    let explain = Arg::new(alloc, "explain")
-        .long("explain")
-        .action(ArgAction::SetTrue)
-        .help("Print on standard error why the session is refused");
     Command::new(alloc, "audit")
         .about(ABOUT_AUDIT)
         .after_help(AFTER_AUDIT)
-        .arg(tree)?
-        .arg(transcript)?
-        .arg(out)?
-        .arg(explain)
+        .arg(tree_option(alloc))?
+        .arg(transcript_option(alloc))?
+        .arg(out_option(alloc))?
+        .arg(explain_option(alloc))
+}
+
+fn tree_option<'a>(alloc: Global) -> Arg<'a> {
+    file_option(alloc, "tree")
+        .required(true)
+        .help("The tree file: the tree at the start of the session")
+}
+
+fn transcript_option<'a>(alloc: Global) -> Arg<'a> {
+    file_option(alloc, "transcript")
+        .required(true)
+        .help("The transcript: the recorded packets of the session")
+}
+
+fn out_option<'a>(alloc: Global) -> Arg<'a> {
+    file_option(alloc, "out").help(
+        "The file to write the final tree to, if the session is accepted",
+    )
+}
+
+fn explain_option<'a>(alloc: Global) -> Arg<'a> {
+    Arg::new(alloc, "explain")
+        .long("explain")
+        .action(ArgAction::SetTrue)
+        .help("Print on standard error why the session is refused")
 }
 
 fn show_command<'a>(alloc: Global) -> Result<Command<'a>, AllocError> {

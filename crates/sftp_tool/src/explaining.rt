@@ -155,7 +155,7 @@ fn found<'a, R: Files + AllocGlobal>(
     }
 }
 
-/// The last record of a side before this one that has its id.
+/// The number of the last record of a side before this one that has its id, if there is one.
 ///
 /// # Errors
 ///
@@ -165,15 +165,49 @@ fn earlier<'a, R: Files + AllocGlobal>(
     files: &AuditFiles<'a>,
     side: Side,
     record: &Record,
-) -> Result<Option<Record>, Unexplained> {
+) -> Result<Option<u64>, Unexplained> {
     match record.id() {
         Some(id) => {
             let mut records = records(rt, files)?;
-            match last_of_id(&mut records, side, id, record.number)? {
-                Some(number) => Ok(Some(found(rt, files, number)?.record)),
-                None => Ok(None),
-            }
+            Ok(last_of_id(&mut records, side, id, record.number)?)
         }
+        None => Err(Unexplained::OtherTranscript),
+    }
+}
+
+/// Writes the line of the record with this number.
+///
+/// # Errors
+///
+/// `OtherTranscript` if there is none, `Output` and `OutOfMemory`.
+fn put_numbered<'a, R: Files + AllocGlobal, E: Write>(
+    rt: &R,
+    files: &AuditFiles<'a>,
+    label: &str,
+    number: u64,
+    errors: &mut E,
+) -> Result<(), Unexplained> {
+    match found(rt, files, number) {
+        Ok(found) => Ok(put_record(label, &found.record, errors)?),
+        Err(error) => Err(error),
+    }
+}
+
+/// Writes the line of the last record of a side before this one that has its id.
+///
+/// # Errors
+///
+/// `OtherTranscript` if there is none, `Output` and `OutOfMemory`.
+fn put_earlier<'a, R: Files + AllocGlobal, E: Write>(
+    rt: &R,
+    files: &AuditFiles<'a>,
+    label: &str,
+    side: Side,
+    record: &Record,
+    errors: &mut E,
+) -> Result<(), Unexplained> {
+    match earlier(rt, files, side, record)? {
+        Some(number) => put_numbered(rt, files, label, number, errors),
         None => Err(Unexplained::OtherTranscript),
     }
 }
@@ -186,10 +220,9 @@ fn put_unknown_reply<'a, R: Files + AllocGlobal, E: Write>(
     errors: &mut E,
 ) -> Result<(), Unexplained> {
     put_record("reply", reply, errors)?;
-    match earlier(rt, files, Side::Client, reply) {
-        Ok(Some(request)) => put_answered(rt, files, &request, reply, errors),
-        Ok(None) => put_unasked(errors),
-        Err(error) => Err(error),
+    match earlier(rt, files, Side::Client, reply)? {
+        Some(request) => put_answered(rt, files, request, reply, errors),
+        None => put_unasked(errors),
     }
 }
 
@@ -197,16 +230,12 @@ fn put_unknown_reply<'a, R: Files + AllocGlobal, E: Write>(
 fn put_answered<'a, R: Files + AllocGlobal, E: Write>(
     rt: &R,
     files: &AuditFiles<'a>,
-    request: &Record,
+    request: u64,
     reply: &Record,
     errors: &mut E,
 ) -> Result<(), Unexplained> {
-    put_record("request", request, errors)?;
-    match earlier(rt, files, Side::Server, reply) {
-        Ok(Some(answer)) => Ok(put_record("answered", &answer, errors)?),
-        Ok(None) => Err(Unexplained::OtherTranscript),
-        Err(error) => Err(error),
-    }
+    put_numbered(rt, files, "request", request, errors)?;
+    put_earlier(rt, files, "answered", Side::Server, reply, errors)
 }
 
 /// That no request has the id of the reply.
@@ -225,11 +254,7 @@ fn put_used_id<'a, R: Files + AllocGlobal, E: Write>(
     errors: &mut E,
 ) -> Result<(), Unexplained> {
     put_record("request", request, errors)?;
-    match earlier(rt, files, Side::Client, request) {
-        Ok(Some(unanswered)) => Ok(put_record("unanswered", &unanswered, errors)?),
-        Ok(None) => Err(Unexplained::OtherTranscript),
-        Err(error) => Err(error),
-    }
+    put_earlier(rt, files, "unanswered", Side::Client, request, errors)
 }
 
 /// `Window`: the request, and the oldest unanswered one, which is the 1,024th before it.
@@ -240,25 +265,21 @@ fn put_late_request<'a, R: Files + AllocGlobal, E: Write>(
     errors: &mut E,
 ) -> Result<(), Unexplained> {
     put_record("request", &found.record, errors)?;
-    let mut records = records(rt, files)?;
-    let before = found.requests.saturating_sub(WINDOW);
-    match number_of_request(&mut records, before, found.record.number)? {
-        Some(number) => put_unanswered(rt, files, number, errors),
+    match oldest(rt, files, found)? {
+        Some(number) => put_numbered(rt, files, "unanswered", number, errors),
         None => Err(Unexplained::OtherTranscript),
     }
 }
 
-/// The unanswered request in the record with this number.
-fn put_unanswered<'a, R: Files + AllocGlobal, E: Write>(
+/// The number of the record of the 1,024th request before this one.
+fn oldest<'a, R: Files + AllocGlobal>(
     rt: &R,
     files: &AuditFiles<'a>,
-    number: u64,
-    errors: &mut E,
-) -> Result<(), Unexplained> {
-    match found(rt, files, number) {
-        Ok(oldest) => Ok(put_record("unanswered", &oldest.record, errors)?),
-        Err(error) => Err(error),
-    }
+    found: &Found,
+) -> Result<Option<u64>, Unexplained> {
+    let mut records = records(rt, files)?;
+    let before = found.requests.saturating_sub(WINDOW);
+    Ok(number_of_request(&mut records, before, found.record.number)?)
 }
 
 /// `NotAllowed`: the request, its reply, why that is not allowed, and what is.
@@ -269,9 +290,23 @@ fn put_wrong_reply<'a, R: Files + AllocGlobal, E: Write>(
     reply: &Record,
     errors: &mut E,
 ) -> Result<(), Unexplained> {
-    match earlier(rt, files, Side::Client, reply) {
-        Ok(Some(request)) => put_exchange(rt, files, tree, &request, reply, errors),
-        Ok(None) => Err(Unexplained::OtherTranscript),
+    match earlier(rt, files, Side::Client, reply)? {
+        Some(number) => put_exchange_of(rt, files, tree, number, reply, errors),
+        None => Err(Unexplained::OtherTranscript),
+    }
+}
+
+/// The request of the record with this number, and its reply.
+fn put_exchange_of<'a, R: Files + AllocGlobal, E: Write>(
+    rt: &R,
+    files: &AuditFiles<'a>,
+    tree: &[u8],
+    number: u64,
+    reply: &Record,
+    errors: &mut E,
+) -> Result<(), Unexplained> {
+    match found(rt, files, number) {
+        Ok(request) => put_exchange(rt, files, tree, &request.record, reply, errors),
         Err(error) => Err(error),
     }
 }
