@@ -9,6 +9,10 @@ use std::io::{BufWriter, ErrorKind};
 use std::process::ExitCode;
 use std::{env, io};
 
+/// The size of the output buffer in bytes. It holds the replies to some 20 READDIRs; a DATA of 32 KiB is written without
+/// a further copy.
+const OUTPUT_BUFFER: usize = 32 * 1024;
+
 fn main(rt: HostRuntime) -> ExitCode {
     let outcome = run(&rt);
     if let Err(error) = &outcome {
@@ -23,7 +27,7 @@ fn run(rt: &HostRuntime) -> io::Result<u8>
     ensures { IfOk result (λ status. status ≤ 3) }
 {
     let words: Vec<String> = env::args(rt)?.collect(rt.alloc())?;
-    let mut output = BufWriter::new(rt.alloc(), rt.stdout())?;
+    let mut output = BufWriter::with_capacity(rt.alloc(), OUTPUT_BUFFER, rt.stdout())?;
     let mut input = rt.stdin();
     let mut errors = rt.stderr();
     Ok(sftp_tool::run(rt, words.as_slice(), &mut input, &mut output, &mut errors))
