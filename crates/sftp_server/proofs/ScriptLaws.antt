@@ -1,9 +1,8 @@
 -- What comes of an act of a script, and of the acts so far.
-use Rattle.std.proofs.Common.{◌≡◌, ◌≢◌, ◌<◌, ◌≤◌, ◌+◌, ◌&&◌, ◌^◌, not, nat_lt, ℕ, zero, suc, Bool, true, false, List}
+use Rattle.std.proofs.Common.{◌≡◌, ◌≢◌, ◌<◌, ◌≤◌, ◌+◌, ◌^◌, ℕ, zero, suc, Bool, true, false, List}
 use Rattle.std.proofs.Common.{[], ◌∷◌, ◌++◌}
 use Rattle.std.proofs.Common.{Result, Ok, Err, IfSome, IsTrue, length, take, get_or, refl, sym, ap, subst, ◌∙◌, arith}
 use Rattle.std.proofs.Common.{append-nil, add-one}
-use Rattle.std.specs.List.{AllByRecursion}
 use Rattle.std.specs.Result.{OnOk}
 use Rattle.std.proofs.Math.Seq.{take-suc}
 use Rattle.std.proofs.lemmas.Bool.{le-ltb}
@@ -22,10 +21,10 @@ use Rattle.sftp_transcript.specs.declared.events.Event.{Event}
 use Rattle.sftp_transcript.specs.declared.events.Event.TheVariants.{Asked}
 use Rattle.sftp_transcript.specs.Explained.{Explained, BeginsFrom}
 use Rattle.sftp_server.specs.declared.acts.Act.{Act}
-use Rattle.sftp_server.specs.declared.acts.Act.TheVariants.{Deliver, Work, Send}
+use Rattle.sftp_server.specs.declared.acts.Act.TheVariants.{Deliver}
 use Rattle.sftp_server.specs.declared.refusals.Refuse.{Refuse}
 use Rattle.sftp_server.specs.declared.refusals.Refuse.TheVariants as refuses
-use Rattle.sftp_server.specs.Machine.{Machine, at_start, taken, can_take, is_unsent, IsDelivery, IsAct, AreActs}
+use Rattle.sftp_server.specs.Machine.{Machine, at_start, taken, can_take, IsDelivery, AreActs}
 use Rattle.sftp_server.specs.Machine.{Delivers}
 use Rattle.sftp_server.specs.Core.{server_clash, started, IsRefusedFor, IsValue, AreDeliverable}
 use Rattle.sftp_server.specs.Scripts.{IsPerformed}

@@ -1,7 +1,7 @@
 -- What a machine may do next.
-use Rattle.std.specs.Prelude.{◌<◌, ◌+◌, ℕ, zero, suc, Bool, true, false, List, [], ◌∷◌, ◌++◌, Option, Some, None}
+use Rattle.std.specs.Prelude.{◌+◌, ℕ, zero, suc, List, [], ◌∷◌, ◌++◌}
 use Rattle.std.specs.Prelude.{is_some}
-use Rattle.std.specs.Prelude.{if◌then◌else◌, IsTrue, length, slice_get}
+use Rattle.std.specs.Prelude.{if◌then◌else◌, IsTrue, length}
 use Rattle.sftp_server.specs.declared.cores.Choice.{Choice}
 use Rattle.sftp_server.specs.declared.cores.Choice.TheVariants.{Work, Send}
 use Rattle.sftp_server.specs.declared.queue.Entry.{Entry}

@@ -1,6 +1,5 @@
 -- How an open session goes on after a batch of requests, and how it ends.
 use Rattle.std.specs.Prelude.{◌≡◌, ◌<◌, ◌≤◌, ℕ, [], length, Option, Some, None, Result, MatchResult}
-use Rattle.sftp_wire.specs.Spelling.{packet_limit}
 use Rattle.sftp_tree.specs.Tree.{Tree}
 use Rattle.sftp_handles.specs.State.{State}
 use Rattle.sftp_server.specs.declared.ends.Ended.{Ended}
@@ -13,7 +12,7 @@ use Rattle.sftp_server.specs.declared.taking.Front.{Front}
 use Rattle.sftp_server.specs.declared.taking.Front.TheVariants.{Taken, Full, Waiting, Fault}
 use Rattle.sftp_server.specs.Machine.{Machine}
 use Rattle.sftp_server.specs.Served.{closed_tree}
-use Rattle.sftp_server.specs.Sessions.{StreamBytes, Ahead, IsRunning, IsEnding, Serves, ended_by}
+use Rattle.sftp_server.specs.Sessions.{StreamBytes, Ahead, input_limit, IsRunning, IsEnding, Serves, ended_by}
 use Rattle.sftp_server.specs.Fronts.{fault_of}
 
 -- how a session ended, by its last state and its fault, if it has one
@@ -60,5 +59,5 @@ RunsOut then now ahead core0 core1 result =
 abbrev pub GoesOn : Front → Ahead → Ahead → ℕ → ℕ → Type 0
 GoesOn Taken old new reads0 reads1 = ⊥
 GoesOn Full old new reads0 reads1 = (new ≡ old) × (reads1 ≡ reads0)
-GoesOn Waiting old new reads0 reads1 = (reads1 < reads0) × (length new.held ≤ packet_limit)
+GoesOn Waiting old new reads0 reads1 = (reads1 < reads0) × (length new.held ≤ input_limit)
 GoesOn (Fault fault) old new reads0 reads1 = ⊥

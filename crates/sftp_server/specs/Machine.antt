@@ -3,7 +3,7 @@
 -- (draft-ietf-secsh-filexfer-02, section 6.1). The states, which replies they allow, and which requests clash are
 -- parameters. That the queue is bounded is this profile's own.
 use Rattle.std.specs.Prelude.{◌≡◌, ◌==◌, ◌&&◌, ◌||◌, not, nat_lt, ℕ, Bool, true, false, List, [], ◌∷◌, ◌++◌}
-use Rattle.std.specs.Prelude.{length, take, slice_get, Option, Some, None, IsTrue, if◌then◌else◌}
+use Rattle.std.specs.Prelude.{length, take, slice_get, Option, Some, None, if◌then◌else◌}
 use Rattle.sftp_wire.specs.declared.packets.Packet.TheVariants.{Reply as reply_packet}
 use Rattle.sftp_wire.specs.declared.packets.Request.{Request}
 use Rattle.sftp_wire.specs.declared.packets.Reply.{Reply}

@@ -1,13 +1,13 @@
 -- A session of the server while it runs: what it read, wrote and logged since it began, and which requests it has
 -- (draft-ietf-secsh-filexfer-02, sections 3 to 7).
-use Rattle.std.specs.Prelude.{◌≡◌, ◌≢◌, ◌⊎◌, ◌<◌, ℕ, Bool, true, false, List, [], ◌++◌, length, if◌then◌else◌}
-use Rattle.std.specs.Prelude.{Option, Some, None, Result, Ok, Err, MatchResult, IfErr, IsTrue, take, drop}
+use Rattle.std.specs.Prelude.{◌≡◌, ◌≢◌, ◌⊎◌, ◌*◌, ℕ, Bool, true, false, List, [], ◌++◌, length}
+use Rattle.std.specs.Prelude.{Option, Some, None, Result, Err, MatchResult, IfErr, IsTrue, drop}
 use Rattle.std.specs.List.{AllByRecursion}
 use Rattle.std.specs.Io.KnownBytes.{Appends, Consumes, IsAtEnd, Keeps}
 use Rattle.sftp_wire.specs.declared.errors.WireError.TheVariants.{Unreadable}
 use Rattle.sftp_wire.specs.declared.packets.Packet.{Packet}
 use Rattle.sftp_wire.specs.declared.packets.Side.TheVariants.{Client, Server}
-use Rattle.sftp_wire.specs.Spelling.{spelling}
+use Rattle.sftp_wire.specs.Spelling.{packet_limit, spelling}
 use Rattle.sftp_wire.specs.Reading.{front_of}
 use Rattle.sftp_wire.specs.Framing.{place_after}
 use Rattle.sftp_transcript.specs.declared.events.Event.{Event}
@@ -28,9 +28,13 @@ use Rattle.sftp_server.specs.declared.queue.Entry.{Entry}
 use Rattle.sftp_server.specs.Machine.{Machine, is_unsent}
 use Rattle.sftp_server.specs.Core.{started, IsReached}
 use Rattle.sftp_server.specs.Served.{session_packets, sent_by, recorded, IsGreeting, answered_last, BeginsWithId}
-use Rattle.sftp_server.specs.Served.{BeginsWithInit, EndsSession, IsUnopenedBy, Served}
+use Rattle.sftp_server.specs.Served.{BeginsWithInit, EndsSession, Served}
 
 -- ---- the streams
+
+-- how many bytes are read ahead at most: three times as many as the longest packet has
+abbrev pub input_limit : ℕ
+input_limit = 3 * packet_limit
 
 -- the bytes that a session's input has left, those written, and those logged, each where they are known
 pub record StreamBytes : Type 0 where

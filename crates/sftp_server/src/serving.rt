@@ -6,9 +6,8 @@ ghost use Rattle.sftp_server.specs.declared.ends.Stream.TheVariants as streams;
 ghost use Rattle.sftp_server.specs.declared.taking.Front.TheVariants as fronts;
 ghost use Rattle.sftp_server.specs.declared.serving.Next.TheVariants as nexts;
 ghost use Rattle.sftp_server.specs.Sessions.{stream_bytes, IsUnused, IsLogging, Serves, CountsCall, CountsEnd};
-ghost use Rattle.sftp_server.specs.Sessions.{StreamBytes, IsUnopenedYet, BeginsWithGreeting, ServesOn};
+ghost use Rattle.sftp_server.specs.Sessions.{StreamBytes, input_limit, IsUnopenedYet, BeginsWithGreeting, ServesOn};
 ghost use Rattle.sftp_server.specs.Ending.{closed_end, IsClosed, EndsOn, ReadsOn, RunsOut, GoesOn};
-ghost use Rattle.sftp_wire.specs.Spelling.{packet_limit};
 
 use crate::cores::Core;
 use crate::ends::{Ended, SessionFault, Stop};
@@ -216,7 +215,7 @@ fn read_more<R: Source, W: Sink, L: Sink>(
     ensures counts_writer { CountsCall streams.Writer result (W.failures writer.old) (W.failures writer.new) }
     ensures counts_log { CountsCall streams.Log result log.old.failures log.new.failures }
     ensures falls { IfOk result (λ next. next ≡ nexts.Batch → R.reads_left reader.new < R.reads_left reader.old) }
-    ensures fits { IfOk result (λ next. next ≡ nexts.Batch → length input.new.held ≤ packet_limit) }
+    ensures fits { IfOk result (λ next. next ≡ nexts.Batch → length input.new.held ≤ input_limit) }
 {
     flush(writer)?;
     if input.read(reader)? > 0 {

@@ -8,7 +8,6 @@ use Rattle.std.proofs.KnownBytes.{Consumes-nil, Consumes-trans, Appends-nil, Kee
 use Rattle.sftp_wire.specs.declared.errors.WireError.TheVariants.{TooLong, NotCanonical, NoMemory, Unreadable}
 use Rattle.sftp_wire.specs.declared.packets.Side.TheVariants.{Client, Server}
 use Rattle.sftp_wire.specs.Reading.{front_of}
-use Rattle.sftp_wire.specs.Spelling.{packet_limit}
 use Rattle.sftp_transcript.specs.declared.events.Event.{Event}
 use Rattle.sftp_tree.specs.Tree.{Tree}
 use Rattle.sftp_handles.specs.State.{State}
@@ -24,7 +23,7 @@ use Rattle.sftp_server.specs.Core.{started}
 use Rattle.sftp_server.specs.Served.{session_packets, sent_by, recorded, EndsSession, IsUnopenedBy, IsOpened, IsServed}
 use Rattle.sftp_server.specs.Served.{closed_tree}
 use Rattle.sftp_server.specs.Sessions.{StreamBytes, stream_bytes, Passed, Serves, Ahead, IsRunning, IsEnding}
-use Rattle.sftp_server.specs.Sessions.{IsFaultAhead, IsUnopenedYet, ended_by}
+use Rattle.sftp_server.specs.Sessions.{input_limit, IsFaultAhead, IsUnopenedYet, ended_by}
 use Rattle.sftp_server.specs.Ending.{closed_end}
 use Rattle.sftp_server.proofs.Machines.InOrder.{explained}
 use Rattle.sftp_server.proofs.Sessions.Stops.{stays-good, each-answered, running-kept}
@@ -312,6 +311,6 @@ unopened-at_start now = (passed-nothing now, refl)
 
 -- ---- a batch takes bytes, or the next read gives some
 
--- how much is left to take: reads that give bytes, each of at most as many as the longest packet has, and what is held
+-- how much is left to take: reads that give bytes, each of at most as many as there is room for, and what is held
 abbrev pub bytes_left : ℕ → ℕ → ℕ
-bytes_left reads held = reads * (packet_limit + 1) + held
+bytes_left reads held = reads * (input_limit + 1) + held

@@ -1,6 +1,6 @@
 -- What the packets of a session and their records are with one event more, and what streams passed in two steps.
 use Rattle.std.proofs.Common.{◌≡◌, ℕ, List, [], ◌∷◌, ◌++◌, map, refl, sym, ap, ◌∙◌, append_assoc, append-nil}
-use Rattle.std.specs.List.{AllByRecursion, flat_map}
+use Rattle.std.specs.List.{AllByRecursion}
 use Rattle.std.proofs.KnownBytes.{Appends-trans, Consumes-trans}
 use Rattle.std.proofs.lemmas.List.{map-append, flat_map_more}
 use Rattle.sftp_wire.specs.declared.packets.Packet.{Packet}

@@ -1,5 +1,5 @@
 -- The log of a session is a transcript.
-use Rattle.std.proofs.Common.{◌≡◌, ℕ, ◌≤◌, List, [], ◌∷◌, ◌++◌, refl, sym, ap, ◌∙◌, subst, append_assoc}
+use Rattle.std.proofs.Common.{◌≡◌, ℕ, ◌≤◌, List, [], ◌∷◌, ◌++◌, refl, ap, ◌∙◌, subst}
 use Rattle.std.specs.Prelude.{map, codes}
 use Rattle.std.specs.List.{flat_map}
 use Rattle.sftp_wire.specs.declared.packets.Packet.{Packet}
@@ -7,9 +7,9 @@ use Rattle.sftp_wire.specs.declared.packets.Packet.TheVariants.{Init, Version, R
 use Rattle.sftp_wire.specs.declared.packets.Packet.TheVariants.{Reply as reply_packet}
 use Rattle.sftp_wire.specs.Spelling.{HasSpelling, posix_rename_name, hardlink_name, fsync_name}
 use Rattle.sftp_transcript.specs.declared.events.Event.{Event}
-use Rattle.sftp_transcript.specs.Transcript.{packet_of, record_text, event_record, transcript_opening, IsHandshake}
-use Rattle.sftp_transcript.specs.Transcript.{AreRecords, IsRecord}
-use Rattle.sftp_server.specs.Served.{our_version, session_packets, recorded, IsGreeting, IsOpened}
+use Rattle.sftp_transcript.specs.Transcript.{packet_of, record_text, event_record}
+use Rattle.sftp_transcript.specs.Transcript.{IsRecord}
+use Rattle.sftp_server.specs.Served.{our_version, IsGreeting, IsOpened}
 use Rattle.sftp_server.proofs.Sessions.Opened.{version-spelled}
 
 records-are : (events : List Event) → flat_map record_text (map packet_of events) ≡ flat_map event_record events

@@ -10,7 +10,7 @@ use Rattle.sftp_wire.specs.declared.packets.Packet.{Packet}
 use Rattle.sftp_wire.specs.declared.packets.Packet.TheVariants.{Init, Version, Request, Reply}
 use Rattle.sftp_wire.specs.declared.packets.Side.{Side}
 use Rattle.sftp_wire.specs.declared.packets.Side.TheVariants.{Client, Server}
-use Rattle.sftp_wire.specs.Spelling.{packet_limit, spelling, side_of, HasSpelling, FitsString}
+use Rattle.sftp_wire.specs.Spelling.{spelling, side_of, HasSpelling, FitsString}
 use Rattle.sftp_wire.specs.Spelling.{posix_rename_name, hardlink_name, fsync_name}
 use Rattle.sftp_wire.specs.Reading.{front_of, StandsInFront}
 use Rattle.sftp_wire.specs.Framing.{place_after}
@@ -35,7 +35,7 @@ use Rattle.sftp_server.specs.Machine.{at_start}
 use Rattle.sftp_server.specs.Core.{started}
 use Rattle.sftp_server.specs.Served.{our_version, sent_by, spelled_if, recorded, IsGreeting, IsNoGreeting, IsListed}
 use Rattle.sftp_server.specs.Sessions.{StreamBytes, stream_bytes, Passed, Serves, ended_by, IsLogging, Ahead}
-use Rattle.sftp_server.specs.Sessions.{ahead_without, IsRunning, IsUnopenedYet, BeginsWithGreeting, FailsToSend}
+use Rattle.sftp_server.specs.Sessions.{input_limit, ahead_without, IsRunning, IsUnopenedYet, BeginsWithGreeting, FailsToSend}
 use Rattle.sftp_server.specs.Opening.{IsFirst, IsInFront, IsGreetingOf}
 use Rattle.sftp_server.proofs.Machines.Reached.{reached-start}
 use Rattle.sftp_server.proofs.Sessions.Lists.{sent-one, recorded-more}
@@ -87,8 +87,8 @@ unopened-reader start past now ahead unopened = record {
 
 -- where no packet is in front yet there is room for more bytes
 pub waits-room : (bytes : List ℕ) (found : Option First) → IsInFront bytes found → found ≡ None
-    → length bytes < packet_limit
-waits-room bytes found waits is = none-leaves_room Client bytes (subst (IsInFront bytes) is waits)
+    → length bytes < input_limit
+waits-room bytes found waits is = omega (arith, none-leaves_room Client bytes (subst (IsInFront bytes) is waits))
 
 -- a call returns the stop of the call that it made
 pub stopped-so : {A : Type 0} (result : Result A Stop) (P : A → Type 0) (Q : Stop → Type 0) (stop : Stop)

@@ -19,7 +19,7 @@ returns-in_err-flush-clause-running g c =
     running c.flush.ensures.bytes c.in_err-flush.ensures.err)
 
 pub read-requires : goal.read-requires
-read-requires g c = none-leaves_room Client c.args.input.now.held c.requires.waits
+read-requires g c = omega (arith, none-leaves_room Client c.args.input.now.held c.requires.waits)
 
 pub returns-in_err-read-clause-running : goal.returns-in_err-read-clause-running
 returns-in_err-read-clause-running g c =

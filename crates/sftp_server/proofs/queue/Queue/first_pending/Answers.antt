@@ -1,4 +1,4 @@
-use Rattle.std.proofs.Common.{arith, sym, ◌∙◌}
+use Rattle.std.proofs.Common.{arith, sym}
 use Rattle.sftp_server.proofs.Queues.{first_some, first_none}
 use Rattle.sftp_server.proofs.queue.Queue.first_pending.Goals as goal
 
