@@ -1,6 +1,6 @@
 -- Requests that do not clash may change places.
 use Rattle.std.proofs.Common.{◌≡◌, ◌≢◌, ◌&&◌, ℕ, Bool, true, false, List, Option, Some, None, refl, sym, ap}
-use Rattle.std.proofs.Common.{subst, ◌∙◌, ◌↔◌, IsTrue}
+use Rattle.std.proofs.Common.{subst, ◌∙◌}
 use Rattle.std.specs.Option.{option_map}
 use Rattle.std.specs.Ordering.{nat_cmp}
 use Rattle.std.specs.FinMap.{nat_cmp-IsAntisymmetric}
@@ -15,26 +15,26 @@ use Rattle.sftp_treefile.specs.declared.limits.TreeLimits.{TreeLimits}
 use Rattle.sftp_tree.specs.AskValues.{IsAsk}
 use Rattle.sftp_tree.specs.declared.file_contents.Content.{Content}
 use Rattle.sftp_tree.specs.Tree.{IsContent, content_at, content_fits, with_content, limits}
-use Rattle.sftp_tree.specs.Causes.{CauseSet, is_none}
+use Rattle.sftp_tree.specs.Causes.{is_none}
 use Rattle.sftp_tree.proofs.PlaceTables.Each.{each-get}
 use Rattle.sftp_tree.proofs.KeptTrees.Values.{kept-content-within}
 use Rattle.sftp_handles.specs.declared.opens.Open.{Open}
 use Rattle.sftp_handles.specs.declared.opens.Open.TheVariants.{File, Listing}
-use Rattle.sftp_handles.specs.Handles.{Left, open_at, with_open}
-use Rattle.sftp_handles.specs.State.{State, Good, settled}
+use Rattle.sftp_handles.specs.Handles.{open_at, with_open}
+use Rattle.sftp_handles.specs.State.{State, Good}
 use Rattle.sftp_handles.specs.Seen.{Needed, anything, a_file, a_listing, Seen, seen_file, seen_among, seen}
 use Rattle.sftp_handles.specs.Replies.{refuses, says, struck, names_given}
 use Rattle.sftp_handles.specs.HandleRequests.{Row, row_of, causes_of, said_of, Change, nothing, rewrites, leaves, closes}
 use Rattle.sftp_handles.specs.HandleRequests.{change_of, change_file, with_file_room}
 use Rattle.sftp_handles.specs.Requests.{causes, causes_by, answers, said_to, after, after_by, changed}
 use Rattle.sftp_handles.specs.Allowed.{Allowed, stepped, step}
-use Rattle.sftp_handles.specs.Clash.{Touched, everything, touched_by, touched, share, clash, ComesFirst}
+use Rattle.sftp_handles.specs.Clash.{Touched, everything, touched_by, touched, share, ComesFirst}
 use Rattle.sftp_handles.proofs.GoodStates.{good-settled, content-room}
 use Rattle.sftp_handles.proofs.GoodSteps.{next-content, room-left}
 use Rattle.sftp_handles.proofs.OpenChanges.{settled-already}
 use Rattle.sftp_handles.proofs.Pins.{pins-listing_again}
 use Rattle.sftp_handles.proofs.Steps.{allowed-step, step-is_allowed}
-use Rattle.sftp_handles.proofs.Touches.{applied, IsChangeTo, change-touches, share-everything, share-mutual, seen-stays}
+use Rattle.sftp_handles.proofs.Touches.{applied, IsChangeTo, change-touches, share-mutual, seen-stays}
 use Rattle.sftp_handles.proofs.Touches.{touched-stays, applied-apart}
 
 -- ---- a change in a good state changes only that

@@ -1,15 +1,13 @@
 -- What a request changes of what it touches, and that this is all that another request sees of it.
-use Rattle.std.proofs.Common.{◌≡◌, ◌≢◌, ◌==◌, ◌&&◌, ℕ, Bool, true, false, List, Option, Some, None, cond}
-use Rattle.std.proofs.Common.{refl, sym, ap, subst, ◌∙◌, IsTrue}
-use Rattle.std.specs.Option.{option_map}
+use Rattle.std.proofs.Common.{◌≡◌, ◌≢◌, ◌==◌, ℕ, Bool, true, false, List, Option, Some, None, cond}
+use Rattle.std.proofs.Common.{refl, sym, ap, subst, ◌∙◌}
 use Rattle.std.specs.Ordering.{nat_cmp, is_eq}
 use Rattle.std.specs.Cmp.{IsTotalOrder, nat_cmp_total, nat_eq_equiv, Equal-is}
 use Rattle.std.specs.declared.cmp.Ordering.{Ordering}
 use Rattle.std.specs.declared.cmp.Ordering.TheVariants.{Equal}
 use Rattle.std.specs.Cmp.Lexicographic.{nat_list_cmp_total, nat_list_eq_equiv, bytes_decides}
 use Rattle.std.specs.FinMap.{IsAntisymmetric, nat_cmp-IsAntisymmetric}
-use Rattle.std.proofs.lemmas.Bool.{cases_Bool, eq-eqb}
-use Rattle.std.proofs.lemmas.Option.{same_Some}
+use Rattle.std.proofs.lemmas.Bool.{eq-eqb}
 use Rattle.sftp_wire.specs.declared.open_flags.OpenFlags.{OpenFlags}
 use Rattle.sftp_wire.specs.declared.packets.Ask.{Ask}
 use Rattle.sftp_wire.specs.declared.packets.Ask.TheVariants.{Write, Fsetstat}
@@ -19,15 +17,14 @@ use Rattle.sftp_path.specs.Place.{bytes_cmp, same_bytes}
 use Rattle.sftp_path.specs.Table.{Table, InOrder, get, put}
 use Rattle.sftp_path.proofs.Order.{bytes_cmp-same}
 use Rattle.sftp_path.proofs.Table.Laws.{get-put, get-put_here, get-put_elsewhere, InOrder-put, same_table}
-use Rattle.sftp_treefile.specs.declared.limits.TreeLimits.{TreeLimits}
 use Rattle.sftp_tree.specs.declared.file_contents.Content.{Content}
-use Rattle.sftp_tree.specs.Tree.{Files, content_at, with_content, limits}
+use Rattle.sftp_tree.specs.Tree.{Files, content_at, with_content}
 use Rattle.sftp_handles.specs.declared.opens.Open.{Open}
 use Rattle.sftp_handles.specs.declared.opens.Open.TheVariants.{File, Listing}
 use Rattle.sftp_handles.specs.Handles.{Left, Handles, open_at, with_open}
 use Rattle.sftp_handles.specs.State.{State}
-use Rattle.sftp_handles.specs.Seen.{Needed, anything, a_file, a_listing, Seen, seen_file, seen_among, seen}
-use Rattle.sftp_handles.specs.HandleRequests.{Row, row_of, Change, nothing, rewrites, leaves, closes, change_of}
+use Rattle.sftp_handles.specs.Seen.{Needed, anything, a_file, a_listing, seen_file, seen_among, seen}
+use Rattle.sftp_handles.specs.HandleRequests.{row_of, Change, nothing, rewrites, leaves, closes, change_of}
 use Rattle.sftp_handles.specs.HandleRequests.{change_file}
 use Rattle.sftp_handles.specs.Requests.{changed}
 use Rattle.sftp_handles.specs.Clash.{Touched, untouched, reads_file, writes_file, takes_names, everything, share}

@@ -1,9 +1,8 @@
-use Rattle.std.proofs.Common.{◌≡◌, [], List, length, drop, sym, ap, subst, ◌∙◌}
-use Rattle.sftp_wire.specs.declared.names.NameItem.{NameItem}
+use Rattle.std.proofs.Common.{[], length, drop, sym, ap, subst, ◌∙◌}
 use Rattle.sftp_handles.specs.declared.opens.Open.TheVariants.{Listing}
 use Rattle.sftp_handles.specs.Handles.{open_at}
 use Rattle.sftp_handles.specs.Replies.{names_in}
-use Rattle.sftp_handles.specs.FirstNames.{names_in_reply, first_names, AreFirst, AreFirstNames}
+use Rattle.sftp_handles.specs.FirstNames.{names_in_reply, AreFirst, AreFirstNames}
 use Rattle.sftp_handles.proofs.FirstNames.{first-again, as-many-items, items-counted}
 use Rattle.sftp_handles.proofs.FirstStruck.{dropped-struck}
 use Rattle.sftp_handles.proofs.Swaps.{opened-open, struck-apart}

@@ -1,4 +1,4 @@
-use Rattle.std.proofs.Common.{◌≡◌, List, ◌++◌, drop, sym, subst, ◌∙◌}
+use Rattle.std.proofs.Common.{◌≡◌, List, ◌++◌, subst}
 use Rattle.std.specs.Option.{option_to_list}
 use Rattle.sftp_tree.specs.declared.listings.Item.{Item}
 use Rattle.sftp_handles.proofs.MarkedItems.{first-dropped, first-taken, none-taken}
