@@ -31,8 +31,8 @@ impl Listing {
         Ok(names)
     }
 
-    /// Takes the first names that are left, one for each long name, as the items of a reply. `room` has no items yet. It
-    /// takes no memory.
+    /// Takes the first names that are left, one for each long name, as the items of a reply. `room` has no items yet.
+    /// It takes no memory.
     pub(crate) fn take_first(&mut self, longnames: Vec<ByteString>, room: Vec<NameItem>) -> Names
         requires names { longnames.items ≡ first.first_names (length longnames.items) self.old }
         requires empty { room.items ≡ [] }

@@ -9,8 +9,8 @@ use std::io::{BufWriter, ErrorKind};
 use std::process::ExitCode;
 use std::{env, io};
 
-/// The size of the output buffer in bytes. It holds the replies to some 20 READDIRs; a DATA of 32 KiB is written without
-/// a further copy.
+/// The size of the output buffer in bytes. It holds the replies to some 20 READDIRs; a DATA of 32 KiB is written
+/// without a further copy.
 const OUTPUT_BUFFER: usize = 32 * 1024;
 
 fn main(rt: HostRuntime) -> ExitCode {
