@@ -624,14 +624,6 @@ taken-one items marks next next-marks left (Some item) marked paired is some =
       record { paired = paired; counted = omega (arith, size, marked.counted) },
     )
 
-pub taken-none : (items : List Item) (marks : List Bool) (next : List Item) (next-marks : List Bool) (left : ℕ)
-    → (taken : Option Item) → IsMarked items marks left → ArePaired next next-marks
-    → unmarked items marks ≡ option_to_list (option_map entry_of taken) ++ unmarked next next-marks
-    → is_some taken ≡ false → IsMarked next next-marks left
-taken-none items marks next next-marks left (Some item) marked paired is none = absurd cc
-taken-none items marks next next-marks left None marked paired is none =
-    record { paired = paired; counted = marked.counted ∙ ap (λ (l : Left). length l) is }
-
 pub put-one : (items : List Item) (marks : List Bool) (next : List Item) (next-marks : List Bool) (left : ℕ)
     → (more : Bool) → IsMarked items marks left → ArePaired next next-marks
     → length (unmarked next next-marks) ≡ cond more 1 0 + length (unmarked items marks) → more ≡ true
