@@ -107,8 +107,13 @@ impl Pairing {
         ensures no_memory { IfErr result (λ e. e ≡ NoMemory → send_error self.old ask ≡ None) }
         ensures kept { OnErr result (self.new ≡ self.old) }
     {
-        let id = self.enter(&ask)?;
-        Ok(Request { id, ask })
+        match self.enter(&ask) {
+            Ok(id) => Ok(Request { id, ask }),
+            Err(error) => {
+                drop(ask);
+                Err(error)
+            }
+        }
     }
 
     /// Notes a copy of a request as open, and returns its id.
@@ -128,7 +133,7 @@ impl Pairing {
             return Err(ClientError::NotAnnounced);
         }
         let id = first_free(&self.open_requests, self.next);
-        self.open_requests.insert(id, ask.clone()?)?;
+        drop(self.open_requests.insert(id, ask.clone()?)?);
         self.next = id.wrapping_add(1);
         Ok(id)
     }
