@@ -119,6 +119,7 @@ fn next_packet(packet: Packet, stage: Stage, number: u64) -> Result<Packet, Tran
     if may_come(&packet, stage) {
         Ok(packet)
     } else {
+        drop(packet);
         Err(TranscriptError::Start { record: number })
     }
 }
@@ -128,7 +129,9 @@ fn is_next(packet: Packet, stage: Stage) -> bool
     ensures yes { IsTrue result → MayCome stage packet }
     ensures no { result ≡ false → MayCome stage packet → ⊥ }
 {
-    may_come(&packet, stage)
+    let comes = may_come(&packet, stage);
+    drop(packet);
+    comes
 }
 
 /// Whether the packet may come at this stage.
