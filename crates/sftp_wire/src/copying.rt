@@ -1,8 +1,11 @@
-//! Exact copies of requests: a copy takes memory, so it may fail.
-ghost use Rattle.std.specs.Prelude.{◌≡◌};
+//! Exact copies of requests: a copy takes memory, so it may fail. What takes memory is copied before the request is put
+//! together: a request that is taken apart while its parts may still fail is slow to prove.
+ghost use Rattle.std.specs.Prelude.{◌≡◌, IfOk, Some};
+ghost use Rattle.sftp_wire.specs.Copying.{one_string, string_and_attributes, two_strings};
 
 use crate::attributes::Attrs;
 use crate::packets::Ask;
+use crate::strings::ByteString;
 use std::alloc::AllocError;
 
 impl Clone for Attrs {
@@ -19,106 +22,167 @@ impl Clone for Attrs {
     }
 }
 
+/// Copies of a string and of attributes.
+fn copy_string_and_attributes(
+    text: &ByteString,
+    attrs: &Attrs,
+) -> Result<(ByteString, Attrs), AllocError>
+    ensures { IfOk result (λ copies. copies ≡ (text.now, attrs.now)) }
+{
+    Ok((text.clone()?, attrs.clone()?))
+}
+
+/// Copies of two strings.
+fn copy_two_strings(
+    first: &ByteString,
+    second: &ByteString,
+) -> Result<(ByteString, ByteString), AllocError>
+    ensures { IfOk result (λ copies. copies ≡ (first.now, second.now)) }
+{
+    Ok((first.clone()?, second.clone()?))
+}
+
+/// The request made of its one string.
+fn of_one_string(ask: &Ask, text: ByteString) -> Ask
+    requires { one_string ask.now ≡ Some text }
+    ensures { result ≡ ask.now }
+{
+    match ask {
+        Ask::Close { .. } => Ask::Close { handle: text },
+        Ask::Read { offset, len, .. } => Ask::Read {
+            handle: text,
+            offset: *offset,
+            len: *len,
+        },
+        Ask::Lstat { .. } => Ask::Lstat { path: text },
+        Ask::Fstat { .. } => Ask::Fstat { handle: text },
+        Ask::Opendir { .. } => Ask::Opendir { path: text },
+        Ask::Readdir { .. } => Ask::Readdir { handle: text },
+        Ask::Remove { .. } => Ask::Remove { path: text },
+        Ask::Rmdir { .. } => Ask::Rmdir { path: text },
+        Ask::Realpath { .. } => Ask::Realpath { path: text },
+        Ask::Stat { .. } => Ask::Stat { path: text },
+        Ask::Readlink { .. } => Ask::Readlink { path: text },
+        Ask::Fsync { .. } => Ask::Fsync { handle: text },
+        _ => unreachable!(),
+    }
+}
+
+/// The request made of its string and its attributes.
+fn of_string_and_attributes(ask: &Ask, text: ByteString, attrs: Attrs) -> Ask
+    requires { string_and_attributes ask.now ≡ Some (text, attrs) }
+    ensures { result ≡ ask.now }
+{
+    match ask {
+        Ask::Open { pflags, .. } => Ask::Open {
+            path: text,
+            pflags: *pflags,
+            attrs,
+        },
+        Ask::Setstat { .. } => Ask::Setstat { path: text, attrs },
+        Ask::Fsetstat { .. } => Ask::Fsetstat {
+            handle: text,
+            attrs,
+        },
+        Ask::Mkdir { .. } => Ask::Mkdir { path: text, attrs },
+        _ => unreachable!(),
+    }
+}
+
+/// The request made of its two strings.
+fn of_two_strings(ask: &Ask, first: ByteString, second: ByteString) -> Ask
+    requires { two_strings ask.now ≡ Some (first, second) }
+    ensures { result ≡ ask.now }
+{
+    match ask {
+        Ask::Write { offset, .. } => Ask::Write {
+            handle: first,
+            offset: *offset,
+            bytes: second,
+        },
+        Ask::Rename { .. } => Ask::Rename {
+            oldpath: first,
+            newpath: second,
+        },
+        Ask::Symlink { .. } => Ask::Symlink {
+            targetpath: first,
+            linkpath: second,
+        },
+        Ask::PosixRename { .. } => Ask::PosixRename {
+            oldpath: first,
+            newpath: second,
+        },
+        Ask::Hardlink { .. } => Ask::Hardlink {
+            oldpath: first,
+            newpath: second,
+        },
+        Ask::Unknown { .. } => Ask::Unknown {
+            name: first,
+            rest: second,
+        },
+        _ => unreachable!(),
+    }
+}
+
 impl Clone for Ask {
     ghost is_clone = { λ ask copy. copy ≡ ask };
 
     fn clone(&self) -> Result<Ask, AllocError> {
         match self {
+            Ask::Close { handle: text }
+            | Ask::Read { handle: text, .. }
+            | Ask::Fstat { handle: text }
+            | Ask::Readdir { handle: text }
+            | Ask::Fsync { handle: text }
+            | Ask::Lstat { path: text }
+            | Ask::Opendir { path: text }
+            | Ask::Remove { path: text }
+            | Ask::Rmdir { path: text }
+            | Ask::Realpath { path: text }
+            | Ask::Stat { path: text }
+            | Ask::Readlink { path: text } => Ok(of_one_string(self, text.clone()?)),
             Ask::Open {
-                path,
-                pflags,
+                path: text,
                 attrs,
-            } => Ok(Ask::Open {
-                path: path.clone()?,
-                pflags: *pflags,
-                attrs: attrs.clone()?,
-            }),
-            Ask::Close { handle } => Ok(Ask::Close {
-                handle: handle.clone()?,
-            }),
-            Ask::Read {
-                handle,
-                offset,
-                len,
-            } => Ok(Ask::Read {
-                handle: handle.clone()?,
-                offset: *offset,
-                len: *len,
-            }),
+                ..
+            }
+            | Ask::Setstat { path: text, attrs }
+            | Ask::Mkdir { path: text, attrs }
+            | Ask::Fsetstat {
+                handle: text,
+                attrs,
+            } => {
+                let (text, attrs) = copy_string_and_attributes(text, attrs)?;
+                Ok(of_string_and_attributes(self, text, attrs))
+            }
             Ask::Write {
-                handle,
-                offset,
-                bytes,
-            } => Ok(Ask::Write {
-                handle: handle.clone()?,
-                offset: *offset,
-                bytes: bytes.clone()?,
-            }),
-            Ask::Lstat { path } => Ok(Ask::Lstat {
-                path: path.clone()?,
-            }),
-            Ask::Fstat { handle } => Ok(Ask::Fstat {
-                handle: handle.clone()?,
-            }),
-            Ask::Setstat { path, attrs } => Ok(Ask::Setstat {
-                path: path.clone()?,
-                attrs: attrs.clone()?,
-            }),
-            Ask::Fsetstat { handle, attrs } => Ok(Ask::Fsetstat {
-                handle: handle.clone()?,
-                attrs: attrs.clone()?,
-            }),
-            Ask::Opendir { path } => Ok(Ask::Opendir {
-                path: path.clone()?,
-            }),
-            Ask::Readdir { handle } => Ok(Ask::Readdir {
-                handle: handle.clone()?,
-            }),
-            Ask::Remove { path } => Ok(Ask::Remove {
-                path: path.clone()?,
-            }),
-            Ask::Mkdir { path, attrs } => Ok(Ask::Mkdir {
-                path: path.clone()?,
-                attrs: attrs.clone()?,
-            }),
-            Ask::Rmdir { path } => Ok(Ask::Rmdir {
-                path: path.clone()?,
-            }),
-            Ask::Realpath { path } => Ok(Ask::Realpath {
-                path: path.clone()?,
-            }),
-            Ask::Stat { path } => Ok(Ask::Stat {
-                path: path.clone()?,
-            }),
-            Ask::Rename { oldpath, newpath } => Ok(Ask::Rename {
-                oldpath: oldpath.clone()?,
-                newpath: newpath.clone()?,
-            }),
-            Ask::Readlink { path } => Ok(Ask::Readlink {
-                path: path.clone()?,
-            }),
-            Ask::Symlink {
-                targetpath,
-                linkpath,
-            } => Ok(Ask::Symlink {
-                targetpath: targetpath.clone()?,
-                linkpath: linkpath.clone()?,
-            }),
-            Ask::PosixRename { oldpath, newpath } => Ok(Ask::PosixRename {
-                oldpath: oldpath.clone()?,
-                newpath: newpath.clone()?,
-            }),
-            Ask::Hardlink { oldpath, newpath } => Ok(Ask::Hardlink {
-                oldpath: oldpath.clone()?,
-                newpath: newpath.clone()?,
-            }),
-            Ask::Fsync { handle } => Ok(Ask::Fsync {
-                handle: handle.clone()?,
-            }),
-            Ask::Unknown { name, rest } => Ok(Ask::Unknown {
-                name: name.clone()?,
-                rest: rest.clone()?,
-            }),
+                handle: one,
+                bytes: other,
+                ..
+            }
+            | Ask::Rename {
+                oldpath: one,
+                newpath: other,
+            }
+            | Ask::Symlink {
+                targetpath: one,
+                linkpath: other,
+            }
+            | Ask::PosixRename {
+                oldpath: one,
+                newpath: other,
+            }
+            | Ask::Hardlink {
+                oldpath: one,
+                newpath: other,
+            }
+            | Ask::Unknown {
+                name: one,
+                rest: other,
+            } => {
+                let (one, other) = copy_two_strings(one, other)?;
+                Ok(of_two_strings(self, one, other))
+            }
         }
     }
 }

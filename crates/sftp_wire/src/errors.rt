@@ -65,7 +65,7 @@ impl<T: Drop> From<AllocFailed<T>> for WireError {
 }
 
 /// Why a field or a packet could not be read.
-#[derive(Debug, Drop)]
+#[derive(Drop)]
 pub(crate) enum ReadError {
     NoMemory,
     Fault(Fault),
