@@ -23,13 +23,22 @@ use bitflags::Flags;
 use bytes::BufMut;
 use std::alloc::AllocError;
 
+/// A length or a count in four bytes: its low ones, which are all that it has within the limit of a packet. So only
+/// `encode`, which judges the whole packet first, has to know how long it is.
+fn put_length(out: &mut Vec<u8>, length: usize) -> Result<(), AllocError>
+    ensures ok { OnOk result (out.new.items ≡ out.old.items ++ uint32 length) }
+    ensures err { OnErr result (Extends out.old.items out.new.items) }
+{
+    out.put_uint(length as u64, 4)?;
+    Ok(())
+}
+
 /// The length of a string, and its bytes.
 fn put_bytes(out: &mut Vec<u8>, bytes: &[u8]) -> Result<(), AllocError>
-    requires { length (string bytes.now) < 2 ^ 32 }
     ensures ok { OnOk result (out.new.items ≡ out.old.items ++ string bytes.now) }
     ensures err { OnErr result (Extends out.old.items out.new.items) }
 {
-    out.put_u32(bytes.len() as u32)?;
+    put_length(out, bytes.len())?;
     // A copy of no bytes would still be a call.
     if !bytes.is_empty() {
         out.put_slice(bytes)?;
@@ -38,7 +47,6 @@ fn put_bytes(out: &mut Vec<u8>, bytes: &[u8]) -> Result<(), AllocError>
 }
 
 fn put_string(out: &mut Vec<u8>, text: &ByteString) -> Result<(), AllocError>
-    requires { length (string text.now) < 2 ^ 32 }
     ensures ok { OnOk result (out.new.items ≡ out.old.items ++ string text.now) }
     ensures err { OnErr result (Extends out.old.items out.new.items) }
 {
@@ -50,7 +58,6 @@ fn put_two_strings(
     first: &ByteString,
     second: &ByteString,
 ) -> Result<(), AllocError>
-    requires { length (pair (first.now, second.now)) < 2 ^ 32 }
     ensures ok { OnOk result (out.new.items ≡ out.old.items ++ pair (first.now, second.now)) }
     ensures err { OnErr result (Extends out.old.items out.new.items) }
 {
@@ -60,7 +67,6 @@ fn put_two_strings(
 }
 
 fn put_pairs(out: &mut Vec<u8>, extensions: &Pairs) -> Result<(), AllocError>
-    requires { length (pairs extensions.now) < 2 ^ 32 }
     ensures ok { OnOk result (out.new.items ≡ out.old.items ++ pairs extensions.now) }
     ensures err { OnErr result (Extends out.old.items out.new.items) }
 {
@@ -70,13 +76,11 @@ fn put_pairs(out: &mut Vec<u8>, extensions: &Pairs) -> Result<(), AllocError>
     Ok(())
 }
 
-#[tactic(auto, using(crate::proofs::FieldLaws::Lengths::length_pairs))]
 fn put_counted_pairs(out: &mut Vec<u8>, extended: &Pairs) -> Result<(), AllocError>
-    requires { length (counted_pairs extended.now) < 2 ^ 32 }
     ensures ok { OnOk result (out.new.items ≡ out.old.items ++ counted_pairs extended.now) }
     ensures err { OnErr result (Extends out.old.items out.new.items) }
 {
-    out.put_u32(extended.as_slice().len() as u32)?;
+    put_length(out, extended.as_slice().len())?;
     put_pairs(out, extended)?;
     Ok(())
 }
@@ -121,7 +125,6 @@ fn put_optional_two(out: &mut Vec<u8>, numbers: Option<(u32, u32)>) -> Result<()
 }
 
 fn put_extended(out: &mut Vec<u8>, extended: &Option<Pairs>) -> Result<(), AllocError>
-    requires { length (optional counted_pairs extended.now) < 2 ^ 32 }
     ensures ok { OnOk result (out.new.items ≡ out.old.items ++ optional counted_pairs extended.now) }
     ensures err { OnErr result (Extends out.old.items out.new.items) }
 {
@@ -164,7 +167,6 @@ fn put_permissions_and_times(out: &mut Vec<u8>, attrs: &Attrs) -> Result<(), All
 }
 
 fn put_attribute_fields(out: &mut Vec<u8>, attrs: &Attrs) -> Result<(), AllocError>
-    requires { length (attribute_fields attrs.now) < 2 ^ 32 }
     ensures ok { OnOk result (out.new.items ≡ out.old.items ++ attribute_fields attrs.now) }
     ensures err { OnErr result (Extends out.old.items out.new.items) }
 {
@@ -175,7 +177,6 @@ fn put_attribute_fields(out: &mut Vec<u8>, attrs: &Attrs) -> Result<(), AllocErr
 }
 
 fn put_attributes(out: &mut Vec<u8>, attrs: &Attrs) -> Result<(), AllocError>
-    requires { length (attributes attrs.now) < 2 ^ 32 }
     ensures ok { OnOk result (out.new.items ≡ out.old.items ++ attributes attrs.now) }
     ensures err { OnErr result (Extends out.old.items out.new.items) }
 {
@@ -201,7 +202,6 @@ fn put_first_packet(
     version: u32,
     extensions: &Pairs,
 ) -> Result<(), AllocError>
-    requires { length (kind ∷ uint32 version ++ pairs extensions.now) < 2 ^ 32 }
     ensures ok { OnOk result (out.new.items
         ≡ out.old.items ++ (kind ∷ uint32 version ++ pairs extensions.now)) }
     ensures err { OnErr result (Extends out.old.items out.new.items) }
@@ -216,7 +216,6 @@ fn put_string_and_attributes(
     text: &ByteString,
     attrs: &Attrs,
 ) -> Result<(), AllocError>
-    requires { length (string text.now ++ attributes attrs.now) < 2 ^ 32 }
     ensures ok { OnOk result (out.new.items ≡ out.old.items ++ (string text.now ++ attributes attrs.now)) }
     ensures err { OnErr result (Extends out.old.items out.new.items) }
 {
@@ -231,7 +230,6 @@ fn put_open_fields(
     pflags: u32,
     attrs: &Attrs,
 ) -> Result<(), AllocError>
-    requires { length (string path.now ++ (uint32 pflags ++ attributes attrs.now)) < 2 ^ 32 }
     ensures ok { OnOk result (out.new.items
         ≡ out.old.items ++ (string path.now ++ (uint32 pflags ++ attributes attrs.now))) }
     ensures err { OnErr result (Extends out.old.items out.new.items) }
@@ -257,7 +255,6 @@ fn put_read_fields(
     offset: u64,
     len: u32,
 ) -> Result<(), AllocError>
-    requires { length (string handle.now) < 2 ^ 32 }
     ensures ok { OnOk result (out.new.items
         ≡ out.old.items ++ (string handle.now ++ (uint64 offset ++ uint32 len))) }
     ensures err { OnErr result (Extends out.old.items out.new.items) }
@@ -268,7 +265,6 @@ fn put_read_fields(
 }
 
 fn put_bytes_at(out: &mut Vec<u8>, offset: u64, bytes: &ByteString) -> Result<(), AllocError>
-    requires { length (uint64 offset ++ string bytes.now) < 2 ^ 32 }
     ensures ok { OnOk result (out.new.items ≡ out.old.items ++ (uint64 offset ++ string bytes.now)) }
     ensures err { OnErr result (Extends out.old.items out.new.items) }
 {
@@ -283,7 +279,6 @@ fn put_write_fields(
     offset: u64,
     bytes: &ByteString,
 ) -> Result<(), AllocError>
-    requires { length (string handle.now ++ (uint64 offset ++ string bytes.now)) < 2 ^ 32 }
     ensures ok { OnOk result (out.new.items
         ≡ out.old.items ++ (string handle.now ++ (uint64 offset ++ string bytes.now))) }
     ensures err { OnErr result (Extends out.old.items out.new.items) }
@@ -299,7 +294,6 @@ fn put_status_fields(
     message: &ByteString,
     language: &ByteString,
 ) -> Result<(), AllocError>
-    requires { length (uint32 code ++ (string message.now ++ string language.now)) < 2 ^ 32 }
     ensures ok { OnOk result (out.new.items
         ≡ out.old.items ++ (uint32 code ++ (string message.now ++ string language.now))) }
     ensures err { OnErr result (Extends out.old.items out.new.items) }
@@ -310,7 +304,6 @@ fn put_status_fields(
 }
 
 fn put_name_item(out: &mut Vec<u8>, item: &NameItem) -> Result<(), AllocError>
-    requires { length (name_item item.now) < 2 ^ 32 }
     ensures ok { OnOk result (out.new.items ≡ out.old.items ++ name_item item.now) }
     ensures err { OnErr result (Extends out.old.items out.new.items) }
 {
@@ -321,7 +314,6 @@ fn put_name_item(out: &mut Vec<u8>, item: &NameItem) -> Result<(), AllocError>
 }
 
 fn put_name_items(out: &mut Vec<u8>, items: &Names) -> Result<(), AllocError>
-    requires { length (flat_map name_item items.now) < 2 ^ 32 }
     ensures ok { OnOk result (out.new.items ≡ out.old.items ++ flat_map name_item items.now) }
     ensures err { OnErr result (Extends out.old.items out.new.items) }
 {
@@ -331,13 +323,11 @@ fn put_name_items(out: &mut Vec<u8>, items: &Names) -> Result<(), AllocError>
     Ok(())
 }
 
-#[tactic(auto, using(crate::proofs::FieldLaws::Lengths::length_names))]
 fn put_names(out: &mut Vec<u8>, items: &Names) -> Result<(), AllocError>
-    requires { length (names items.now) < 2 ^ 32 }
     ensures ok { OnOk result (out.new.items ≡ out.old.items ++ names items.now) }
     ensures err { OnErr result (Extends out.old.items out.new.items) }
 {
-    out.put_u32(items.as_slice().len() as u32)?;
+    put_length(out, items.as_slice().len())?;
     put_name_items(out, items)?;
     Ok(())
 }
@@ -348,7 +338,6 @@ fn put_two_paths_extension(
     oldpath: &ByteString,
     newpath: &ByteString,
 ) -> Result<(), AllocError>
-    requires { length (string name.now ++ pair (oldpath.now, newpath.now)) < 2 ^ 32 }
     ensures ok { OnOk result (out.new.items
         ≡ out.old.items ++ (string name.now ++ pair (oldpath.now, newpath.now))) }
     ensures err { OnErr result (Extends out.old.items out.new.items) }
@@ -363,7 +352,6 @@ fn put_handle_extension(
     name: &[u8],
     handle: &ByteString,
 ) -> Result<(), AllocError>
-    requires { length (string name.now ++ string handle.now) < 2 ^ 32 }
     ensures ok { OnOk result (out.new.items ≡ out.old.items ++ (string name.now ++ string handle.now)) }
     ensures err { OnErr result (Extends out.old.items out.new.items) }
 {
@@ -373,7 +361,6 @@ fn put_handle_extension(
 }
 
 fn put_unknown(out: &mut Vec<u8>, name: &ByteString, rest: &ByteString) -> Result<(), AllocError>
-    requires { length (string name.now ++ rest.now) < 2 ^ 32 }
     ensures ok { OnOk result (out.new.items ≡ out.old.items ++ (string name.now ++ rest.now)) }
     ensures err { OnErr result (Extends out.old.items out.new.items) }
 {
@@ -412,7 +399,6 @@ fn asked_type(ask: &Ask) -> u8
 
 /// The fields after the id of a request.
 fn put_ask_fields(out: &mut Vec<u8>, ask: &Ask) -> Result<(), AllocError>
-    requires { length ((ask_parts ask.now).1) < 2 ^ 32 }
     ensures ok { OnOk result (out.new.items ≡ out.old.items ++ (ask_parts ask.now).1) }
     ensures err { OnErr result (Extends out.old.items out.new.items) }
 {
@@ -465,7 +451,6 @@ fn put_ask_fields(out: &mut Vec<u8>, ask: &Ask) -> Result<(), AllocError>
 }
 
 fn put_asked(out: &mut Vec<u8>, id: u32, ask: &Ask) -> Result<(), AllocError>
-    requires { length (with_id id (ask_parts ask.now)) < 2 ^ 32 }
     ensures ok { OnOk result (out.new.items ≡ out.old.items ++ with_id id (ask_parts ask.now)) }
     ensures err { OnErr result (Extends out.old.items out.new.items) }
 {
@@ -490,7 +475,6 @@ fn answered_type(answer: &Answer) -> u8
 
 /// The fields after the id of a reply.
 fn put_answer_fields(out: &mut Vec<u8>, answer: &Answer) -> Result<(), AllocError>
-    requires { length ((answer_parts answer.now).1) < 2 ^ 32 }
     ensures ok { OnOk result (out.new.items ≡ out.old.items ++ (answer_parts answer.now).1) }
     ensures err { OnErr result (Extends out.old.items out.new.items) }
 {
@@ -512,7 +496,6 @@ fn put_answer_fields(out: &mut Vec<u8>, answer: &Answer) -> Result<(), AllocErro
 }
 
 fn put_answered(out: &mut Vec<u8>, id: u32, answer: &Answer) -> Result<(), AllocError>
-    requires { length (with_id id (answer_parts answer.now)) < 2 ^ 32 }
     ensures ok { OnOk result (out.new.items ≡ out.old.items ++ with_id id (answer_parts answer.now)) }
     ensures err { OnErr result (Extends out.old.items out.new.items) }
 {
@@ -522,7 +505,6 @@ fn put_answered(out: &mut Vec<u8>, id: u32, answer: &Answer) -> Result<(), Alloc
 }
 
 fn put_contents(out: &mut Vec<u8>, packet: &Packet) -> Result<(), AllocError>
-    requires { length (contents packet.now) < 2 ^ 32 }
     ensures ok { OnOk result (out.new.items ≡ out.old.items ++ contents packet.now) }
     ensures err { OnErr result (Extends out.old.items out.new.items) }
 {
