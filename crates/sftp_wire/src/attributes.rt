@@ -2,7 +2,7 @@
 ghost use Rattle.std.specs.Prelude.{⊤, [], ◌∷◌, codes};
 
 use crate::strings::Pairs;
-use bitflags::{Flag, Flags};
+use bitflags::{Flag, Flags, bitflag_items};
 
 /// The attributes of a file. A field that is `None` is absent.
 #[derive(Debug, Drop)]
@@ -20,43 +20,17 @@ pub struct Attrs {
 }
 
 /// Which fields of `Attrs` are present on the wire.
-#[derive(Clone, Copy)]
-pub(crate) struct AttrFlags(u32);
+#[derive(Clone, Copy, Debug, PartialEq, Eq)]
+pub struct AttrFlags(u32);
 
-// Without `bitflag_items!`, which writes fifteen operators and formats that nothing here needs: each is proved.
-impl AttrFlags {
-    pub(crate) const SIZE: AttrFlags = AttrFlags(0x0000_0001);
-
-    pub(crate) const OWNER: AttrFlags = AttrFlags(0x0000_0002);
-
-    pub(crate) const PERMISSIONS: AttrFlags = AttrFlags(0x0000_0004);
-
-    pub(crate) const TIMES: AttrFlags = AttrFlags(0x0000_0008);
-
-    pub(crate) const EXTENDED: AttrFlags = AttrFlags(0x8000_0000);
-
-    const FLAGS: &'static [Flag<AttrFlags>] = &[
-        Flag {
-            name: "SIZE",
-            value: AttrFlags::SIZE,
-        },
-        Flag {
-            name: "OWNER",
-            value: AttrFlags::OWNER,
-        },
-        Flag {
-            name: "PERMISSIONS",
-            value: AttrFlags::PERMISSIONS,
-        },
-        Flag {
-            name: "TIMES",
-            value: AttrFlags::TIMES,
-        },
-        Flag {
-            name: "EXTENDED",
-            value: AttrFlags::EXTENDED,
-        },
-    ];
+bitflag_items! {
+    impl AttrFlags: u32 {
+        const SIZE = 0x0000_0001;
+        const OWNER = 0x0000_0002;
+        const PERMISSIONS = 0x0000_0004;
+        const TIMES = 0x0000_0008;
+        const EXTENDED = 0x8000_0000;
+    }
 }
 
 impl Flags for AttrFlags {

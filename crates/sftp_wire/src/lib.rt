@@ -20,7 +20,7 @@ mod slices;
 mod strings;
 mod writing;
 
-pub use attributes::Attrs;
+pub use attributes::{AttrFlags, Attrs};
 pub use errors::{Fault, WireError};
 pub use extensions::{FSYNC, HARDLINK, POSIX_RENAME};
 pub use framing::{FrameBuf, streams};
