@@ -127,6 +127,7 @@ fn of_two_strings(ask: &Ask, first: ByteString, second: ByteString) -> Ask
 impl Clone for Ask {
     ghost is_clone = { λ ask copy. copy ≡ ask };
 
+    // Slow to prove, with 22 requests, though only three exits.
     fn clone(&self) -> Result<Ask, AllocError> {
         match self {
             Ask::Close { handle: text }

@@ -169,6 +169,7 @@ fn optional_counted_pairs(
 }
 
 /// The fields that the flags name.
+// Slow to prove, with five reads that may fail; fewer would need a definition for each part.
 #[tactic(auto, unfolding(crate::specs::Reading::attribute_fields_at))]
 fn attribute_fields(alloc: Global, flags: AttrFlags, body: &mut &[u8]) -> Result<Attrs, ReadError>
     ensures { Reads result body.new.now (attribute_fields_at flags.0 body.old.now) }

@@ -162,6 +162,7 @@ fn names_length(items: &Names) -> usize
 }
 
 /// The bytes of the fields after the id of a request.
+// Slow to prove, with an arm for each shape of a request and none to share.
 fn asked_length(ask: &Ask) -> usize
     ensures exact { result ≡ min (length ((ask_parts ask.now).1)) (2 ^ 64 - 1) }
     ensures fits { length ((ask_parts ask.now).1) < 2 ^ 32 → FitsAsk ask.now }

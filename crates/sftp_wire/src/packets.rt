@@ -74,6 +74,7 @@ pub enum Side {
 
 /// What a client asks for. A path is any bytes; a handle comes from a HANDLE reply and has at most `HANDLE_LIMIT`
 /// bytes; offsets and lengths are in bytes.
+// `Debug` is slow to prove, with an arm for each request. The tests of packets read its words.
 #[derive(Debug, Drop)]
 pub enum Ask {
     /// Open a file, or create it (draft, section 6.3). The flags are the bits of `OpenFlags`.

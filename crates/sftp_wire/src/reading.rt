@@ -352,6 +352,7 @@ fn extended_reply(alloc: Global, body: &mut &[u8]) -> Result<Packet, ReadError>
 
 /// The fields after the type of a client's packet. Inlined, it would have each caller above it copy the packet field
 /// by field.
+// Slow to prove, with an arm for each type of a packet.
 #[tactic(auto, unfolding(crate::specs::Reading::client_packet_at))]
 #[inline(never)]
 fn client_packet(alloc: Global, kind: u8, body: &mut &[u8]) -> Result<Packet, ReadError>

@@ -398,6 +398,7 @@ fn asked_type(ask: &Ask) -> u8
 }
 
 /// The fields after the id of a request.
+// Slow to prove, with an arm for each shape of a request and none to share.
 fn put_ask_fields(out: &mut Vec<u8>, ask: &Ask) -> Result<(), AllocError>
     ensures ok { OnOk result (out.new.items ≡ out.old.items ++ (ask_parts ask.now).1) }
     ensures err { OnErr result (Extends out.old.items out.new.items) }
