@@ -1,10 +1,10 @@
 //! The lines of a transcript file.
-ghost use Rattle.std.specs.Prelude.{◌<◌, IfOk, IsTrue};
+ghost use Rattle.std.specs.Prelude.{◌<◌, IfOk, IsSome, IsTrue, MatchResult};
 ghost use Rattle.sftp_transcript.specs.Ahead.{size_of};
 
 use crate::errors::ShowError;
 use crate::packets::{name, number, put_details};
-use sftp_transcript::{Reader, Source};
+use sftp_transcript::{Reader, Source, TranscriptError};
 use sftp_wire::{Packet, Side};
 use std::fmt;
 use std::io::Write;
@@ -65,13 +65,27 @@ fn show_record<R: Source, O: Write>(
 ) -> Result<bool, ShowError>
     ensures { IfOk result (λ shown. IsTrue shown → size_of records.new.ahead < size_of records.old.ahead) }
 {
-    match records.next_record() {
+    let next = records.next_record();
+    let shown = put_next(number, &next, output);
+    drop(next);
+    shown
+}
+
+/// Writes the line of what a reader gave next, a record of this number, and says whether it was one.
+fn put_next<O: Write>(
+    number: u64,
+    next: &Result<Option<(Side, Packet, usize)>, TranscriptError>,
+    output: &mut O,
+) -> Result<bool, ShowError>
+    ensures { IfOk result (λ shown. IsTrue shown → MatchResult next.now IsSome (λ _. ⊥)) }
+{
+    match next {
         Ok(Some((side, packet, length))) => {
             let line = RecordLine {
                 number,
-                side,
-                packet: &packet,
-                length,
+                side: *side,
+                packet,
+                length: *length,
             };
             match writeln!(output, "{line}") {
                 Ok(()) => Ok(true),
@@ -79,6 +93,6 @@ fn show_record<R: Source, O: Write>(
             }
         }
         Ok(None) => Ok(false),
-        Err(error) => Err(ShowError::Transcript(error)),
+        Err(error) => Err(ShowError::Transcript(*error)),
     }
 }

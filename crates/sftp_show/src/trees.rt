@@ -45,21 +45,39 @@ fn put_head<O: Write>(file: &TreeFile, output: &mut O) -> io::Result<()> {
 }
 
 fn put_row<O: Write>(number: u64, row: &Row, output: &mut O) -> io::Result<()> {
+    let kind = letter(&row.kind);
     let path = Quoted(row.path.as_slice());
-    match &row.kind {
-        Kind::Dir(owner) => {
-            let owner = Owned(*owner);
-            writeln!(output, "{number} D {path} {owner}")
-        }
-        Kind::First(owner, bytes) => {
-            let owner = Owned(*owner);
-            let length = bytes.as_slice().len();
-            writeln!(output, "{number} F {path} {owner} {length}")
-        }
-        Kind::Further(first) => writeln!(output, "{number} H {path} {first}"),
-        Kind::Link(link) => {
-            let link = Quoted(link.as_slice());
-            writeln!(output, "{number} L {path} {link}")
+    let details = Details(&row.kind);
+    writeln!(output, "{number} {kind} {path} {details}")
+}
+
+/// How a line names the kind of an entry.
+fn letter(kind: &Kind) -> char {
+    match kind {
+        Kind::Dir(_) => 'D',
+        Kind::First(..) => 'F',
+        Kind::Further(_) => 'H',
+        Kind::Link(_) => 'L',
+    }
+}
+
+/// What a line says of an entry behind its path.
+#[derive(Clone, Copy)]
+struct Details<'a>(&'a Kind);
+
+impl fmt::Display for Details<'_> {
+    fn fmt<W: fmt::Write>(&self, f: &mut fmt::Formatter<W>) -> fmt::Result {
+        match self.0 {
+            Kind::Dir(owner) => Owned(*owner).fmt(f),
+            Kind::First(owner, bytes) => put_file(*owner, bytes.as_slice().len(), f),
+            Kind::Further(first) => write!(f, "{first}"),
+            Kind::Link(link) => Quoted(link.as_slice()).fmt(f),
         }
     }
+}
+
+/// Writes who owns a file, and its length.
+fn put_file<W: fmt::Write>(owner: Owner, length: usize, f: &mut fmt::Formatter<W>) -> fmt::Result {
+    let owner = Owned(owner);
+    write!(f, "{owner} {length}")
 }
