@@ -38,7 +38,8 @@ returns-in-Some c = λ k is.
     let first = first_some old.first_pending old.entries.items c.self.invariant.0.split (omega
     (arith, some, old.entries.ok.0)) in
     let same = same_Some k old.first_pending (sym is ∙ rw (← c.self.view_is) first) in
-    rw (c.replace.ensures.after, same, ← c.self.view_is) (stored old.entries.items old.first_pending entry (Done c.args.reply) at)
+    rw (c.replace.ensures.after, same, ← c.self.view_is)
+    (stored old.entries.items old.first_pending entry (Done c.args.reply) at)
 
 pub returns-in-None : goal.returns-in-None
 returns-in-None c = absurd (
