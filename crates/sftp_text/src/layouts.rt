@@ -209,8 +209,11 @@ pub(crate) fn layout_of(packet: PacketType) -> Layout {
             b"\0\0\0\x18posix-rename@openssh.com",
             TWO_TEXTS,
         ),
-        PacketType::Hardlink =>
-            extension(b"HARDLINK", b"\0\0\0\x14hardlink@openssh.com", TWO_TEXTS),
+        PacketType::Hardlink => extension(
+            b"HARDLINK",
+            b"\0\0\0\x14hardlink@openssh.com",
+            TWO_TEXTS,
+        ),
         PacketType::Fsync => extension(b"FSYNC", b"\0\0\0\x11fsync@openssh.com", TEXT),
         PacketType::Extended => request(200, b"EXTENDED", TEXT, Tail::Rest),
         PacketType::Status => reply(101, b"STATUS", &[Field::Number], Tail::Message),
