@@ -1,0 +1,5 @@
+-- What a format shows, it reads back.
+pub mod Exact
+pub mod Repeats
+pub mod Numerals
+pub mod Strings
