@@ -4,9 +4,7 @@ use crate::attributes::{put_attributes, read_attributes};
 use crate::errors::{Expected, Stop};
 use crate::flags::{put_flags, read_flags};
 use crate::layouts::{Field, Tail};
-use crate::lists::{
-    put_message, put_names, put_pairs, read_message, read_names, read_pairs,
-};
+use crate::lists::{put_message, put_names, put_pairs, read_message, read_names, read_pairs};
 use crate::numbers::{put_long, put_number, read_long, read_number};
 use crate::quoted::{put_rest, put_string, read_quoted, read_string};
 use crate::words::read_word;

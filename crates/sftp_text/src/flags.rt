@@ -22,12 +22,7 @@ const EXCL: u32 = 0x20;
 const UNNAMED: u32 = 0x40;
 
 /// Writes the name of a flag if it is set, after `|` if a lower one is.
-fn put_flag(
-    flags: u32,
-    flag: u32,
-    name: &[u8],
-    text: &mut Vec<u8>,
-) -> Result<(), AllocError> {
+fn put_flag(flags: u32, flag: u32, name: &[u8], text: &mut Vec<u8>) -> Result<(), AllocError> {
     if flags & flag == 0 {
         return Ok(());
     }

@@ -3,7 +3,7 @@
 use sftp_wire::Side;
 
 /// What a packet is, by its type and, for an extension with a layout of its own, by the extension's name.
-#[derive(Clone, Copy, Debug)]
+#[derive(Clone, Copy)]
 pub enum PacketType {
     Init,
     Version,
@@ -72,7 +72,7 @@ pub(crate) const ALL: [PacketType; 30] = [
 ];
 
 /// A field: in the line it stands after a space.
-#[derive(Clone, Copy, Debug)]
+#[derive(Clone, Copy)]
 pub enum Field {
     /// A uint32.
     Number,
@@ -85,7 +85,7 @@ pub enum Field {
 }
 
 /// What comes after the fields.
-#[derive(Clone, Copy, Debug)]
+#[derive(Clone, Copy)]
 pub enum Tail {
     Nothing,
     /// Attributes.
@@ -101,7 +101,7 @@ pub enum Tail {
 }
 
 /// The layout of a packet's bytes and of its line.
-#[derive(Clone, Copy, Debug)]
+#[derive(Clone, Copy)]
 pub struct Layout {
     pub side: Side,
     /// The packet's type.
@@ -209,8 +209,11 @@ pub(crate) fn layout_of(packet: PacketType) -> Layout {
             b"\0\0\0\x18posix-rename@openssh.com",
             TWO_TEXTS,
         ),
-        PacketType::Hardlink =>
-            extension(b"HARDLINK", b"\0\0\0\x14hardlink@openssh.com", TWO_TEXTS),
+        PacketType::Hardlink => extension(
+            b"HARDLINK",
+            b"\0\0\0\x14hardlink@openssh.com",
+            TWO_TEXTS,
+        ),
         PacketType::Fsync => extension(b"FSYNC", b"\0\0\0\x11fsync@openssh.com", TEXT),
         PacketType::Extended => request(200, b"EXTENDED", TEXT, Tail::Rest),
         PacketType::Status => reply(101, b"STATUS", &[Field::Number], Tail::Message),

@@ -40,7 +40,11 @@ fn digit_of(base: u8, byte: u8) -> Option<u64> {
         return None;
     }
     let digit = byte - b'0';
-    if digit < base { Some(u64::from(digit)) } else { None }
+    if digit < base {
+        Some(u64::from(digit))
+    } else {
+        None
+    }
 }
 
 /// A number and one more digit, if that is at most `most`.

@@ -59,7 +59,11 @@ fn take_character(line: &[u8]) -> Option<(u8, &[u8])> {
     let (first, rest) = line.split_first()?;
     if *first == b'\\' {
         let (letter, rest) = rest.split_first()?;
-        if *letter == b'x' { take_octet(rest) } else { None }
+        if *letter == b'x' {
+            take_octet(rest)
+        } else {
+            None
+        }
     } else if is_plain(*first) {
         Some((*first, rest))
     } else {

@@ -32,11 +32,7 @@ fn record_length(bytes: &[u8]) -> usize {
 }
 
 /// Takes a record from the front of bytes that are not empty, and appends its line.
-fn put_next(
-    bytes: &mut &[u8],
-    line: &mut Vec<u8>,
-    text: &mut Vec<u8>,
-) -> Result<(), ShowFault> {
+fn put_next(bytes: &mut &[u8], line: &mut Vec<u8>, text: &mut Vec<u8>) -> Result<(), ShowFault> {
     let Some(side) = take_side(bytes) else {
         return Err(ShowFault::Unfit);
     };

@@ -3,11 +3,7 @@
 use crate::errors::{Expected, Stop};
 
 /// Takes these bytes from the front of a line, or of the bytes of a packet.
-pub(crate) fn read_word(
-    word: &[u8],
-    expected: Expected,
-    line: &mut &[u8],
-) -> Result<(), Stop> {
+pub(crate) fn read_word(word: &[u8], expected: Expected, line: &mut &[u8]) -> Result<(), Stop> {
     let Some(rest) = line.strip_prefix(word) else {
         return Err(Stop::Unfit(expected));
     };
