@@ -6,6 +6,7 @@ mod attributes;
 mod errors;
 mod fields;
 mod flags;
+mod laws;
 mod layouts;
 mod lines;
 mod lists;
@@ -18,11 +19,9 @@ mod trees;
 mod words;
 
 pub use errors::{Expected, Fault, ShowFault, TextFault};
+pub use laws::lines_are_read;
 pub use records::{put_record, read_record};
 pub use transcripts::{put_transcript, read_transcript};
 pub use trees::{
     put_entry, put_head, put_root, put_tree, read_entry, read_head, read_root, read_tree,
 };
-
-#[cfg(test)]
-mod tests;
