@@ -6,3 +6,4 @@ pub mod Fields
 pub mod Layouts
 pub mod Lines
 pub mod Trees
+pub mod Moves
