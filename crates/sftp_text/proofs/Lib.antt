@@ -3,3 +3,4 @@ pub mod Exact
 pub mod Repeats
 pub mod Numerals
 pub mod Strings
+pub mod Parts

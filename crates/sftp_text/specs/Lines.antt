@@ -36,27 +36,29 @@ raw_read text = option_and_then digits_read (strip (codes " raw") text)
 
 -- ---- records
 
--- the text of bytes after their length, by a format that has to take them all
-abbrev pub show_whole : Format → List ℕ → Option (List ℕ)
-show_whole format bytes = whole (format.show [] bytes)
-
--- the text of a packet with this layout, if its length is right
-abbrev pub show_packet : List ℕ → PacketType → Option (List ℕ)
-show_packet bytes packet =
-    option_and_then (λ front. if front.0 == length front.1 then show_whole (packet_text (row packet)) front.1 else None)
-    (front_uint32 bytes)
-
--- the text of a record by its layout, if it has one
-unfoldable pub named_text : Side → List ℕ → Option (List ℕ)
-named_text side bytes = option_and_then (show_packet bytes) (layout_of_bytes side bytes)
-
 abbrev pub side_letter : Side → ℕ
 side_letter Client = 67
 side_letter Server = 83
 
+-- the line of bytes after their length, by a format that has to take them all
+abbrev pub show_whole : Side → Format → List ℕ → Option (List ℕ)
+show_whole side format bytes = whole (format.show (side_letter side ∷ []) bytes)
+
+-- the line of a packet with this layout, if its length is right
+abbrev pub show_packet : Side → List ℕ → PacketType → Option (List ℕ)
+show_packet side bytes packet =
+    option_and_then
+    (λ front.
+      if front.0 == length front.1 then show_whole side (packet_text (row packet)) front.1 else None)
+    (front_uint32 bytes)
+
+-- the line of a record by its layout, if it has one
+unfoldable pub named_line : Side → List ℕ → Option (List ℕ)
+named_line side bytes = option_and_then (show_packet side bytes) (layout_of_bytes side bytes)
+
 -- The line of a record, without a line feed: `C` or `S`, and then its packet by name, or any bytes in hexadecimal.
 unfoldable pub line_of : Side → List ℕ → List ℕ
-line_of side bytes = side_letter side ∷ if_found (named_text side bytes) (λ text. text) (raw_text bytes)
+line_of side bytes = if_found (named_line side bytes) (λ line. line) (side_letter side ∷ raw_text bytes)
 
 abbrev pub side_of_letter : ℕ → Option Side
 side_of_letter c = if c == 67 then Some Client else (if c == 83 then Some Server else None)
