@@ -4,3 +4,6 @@ pub mod Repeats
 pub mod Numerals
 pub mod Strings
 pub mod Parts
+pub mod Tails
+pub mod Bodies
+pub mod Written

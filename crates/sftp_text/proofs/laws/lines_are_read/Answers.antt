@@ -2,7 +2,7 @@ use Rattle.std.proofs.Common.{rules}
 use Rattle.sftp_text.proofs.Exact.{then-exact, ahead-exact}
 use Rattle.sftp_text.proofs.Repeats.{listed-exact, to_end-exact}
 use Rattle.sftp_text.proofs.Numerals.{number-exact}
-use Rattle.sftp_text.proofs.Parts.{PartsShown}
+use Rattle.sftp_text.proofs.Tails.{fields_text-exact, tail_text-exact}
 use Rattle.sftp_text.proofs.laws.lines_are_read.Goals as goal
 
 pub returns : goal.returns
