@@ -45,10 +45,10 @@ strip-some (w ∷ text) [] rest e = none-some rest e
 strip-some (w ∷ text) (c ∷ list) rest e =
     elim (cases_Bool (w == c)) [
       | inl same ↦
-        let here : strip text list ≡ Some rest = sym (cond-true (w == c) (strip text list) None same) ∙ e in
-        let tail : list ≡ text ++ rest = strip-some text list rest here in
-        let head : c ≡ w = sym (eqb-true w c same) in
-        ap (λ x. x ∷ list) head ∙ ap (λ l. w ∷ l) tail
+          let here : strip text list ≡ Some rest = sym (cond-true (w == c) (strip text list) None same) ∙ e in
+          let tail : list ≡ text ++ rest = strip-some text list rest here in
+          let head : c ≡ w = sym (eqb-true w c same) in
+          ap (λ x. x ∷ list) head ∙ ap (λ l. w ∷ l) tail
       | inr other ↦ none-some rest (sym (cond-false (w == c) (strip text list) None other) ∙ e)
     ]
 
@@ -86,8 +86,8 @@ shown_nothing f B text bytes more left same_text same_bytes back = record {
 pub nothing-exact : (B : List ℕ → Type 0) → IsExact nothing B B
 nothing-exact B = record {
   exact = λ text bytes more left are e.
-    let both = some-inj (text, bytes) (more, left) e in
-    shown_nothing nothing B text bytes more left (ap (λ p. p.0) both) (ap (λ p. p.1) both) (λ done rest ok. refl);
+      let both = some-inj (text, bytes) (more, left) e in
+      shown_nothing nothing B text bytes more left (ap (λ p. p.0) both) (ap (λ p. p.1) both) (λ done rest ok. refl);
 }
 
 -- what stands in front is the word, and then what may follow it
@@ -99,24 +99,24 @@ pub record Behind (w : List ℕ) (B : List ℕ → Type 0) (list : List ℕ) : T
 pub word-exact : (w : List ℕ) (B : List ℕ → Type 0) → IsTrue (list_all is_printable w) → IsExact (word w) (Behind w B) B
 word-exact w B printable = record {
   exact = λ text bytes more left are e.
-    let both = some-inj (text ++ w, bytes) (more, left) e in
-    record {
-      shown = w;
-      taken = [];
-      text_is = sym (ap (λ p. p.0) both);
-      bytes_are = ap (λ p. p.1) both;
-      printable = printable;
-      back = λ done rest ok.
-        ap (option_and_then (λ r. Some (done, r))) (strip-same w rest)
-        ∙ ap (λ l. Some (l, rest)) (sym (append-nil done));
-      front = λ rest ok. record { rest = rest; parts = refl; follows = ok };
-    };
+      let both = some-inj (text ++ w, bytes) (more, left) e in
+      record {
+        shown = w;
+        taken = [];
+        text_is = sym (ap (λ p. p.0) both);
+        bytes_are = ap (λ p. p.1) both;
+        printable = printable;
+        back = λ done rest ok.
+            ap (option_and_then (λ r. Some (done, r))) (strip-same w rest)
+            ∙ ap (λ l. Some (l, rest)) (sym (append-nil done));
+        front = λ rest ok. record { rest = rest; parts = refl; follows = ok };
+      };
 }
 
 pub mark-exact : (b : List ℕ) (B : List ℕ → Type 0) → IsExact (mark b) B B
 mark-exact b B = record {
   exact = λ text bytes more left are e.
-    option_and_then_some (λ rest. Some (text, rest)) (strip b bytes) (more, left) e (λ rest found same.
+      option_and_then_some (λ rest. Some (text, rest)) (strip b bytes) (more, left) e (λ rest found same.
       let both = some-inj (text, rest) (more, left) same in
       record {
         shown = [];
@@ -132,7 +132,7 @@ mark-exact b B = record {
 pub then-exact : (f g : Format) (A B C : List ℕ → Type 0) → IsExact f A B → IsExact g B C → IsExact (f then g) A C
 then-exact f g A B C p q = record {
   exact = λ text bytes more left are e.
-    option_and_then_some (λ moved. g.show moved.0 moved.1) (f.show text bytes) (more, left) e (λ mid one_is two_is.
+      option_and_then_some (λ moved. g.show moved.0 moved.1) (f.show text bytes) (more, left) e (λ mid one_is two_is.
       let one = p.exact text bytes mid.0 mid.1 are one_is in
       let fit : AreBytes mid.1 = AreBytes-behind one.taken mid.1 (subst AreBytes one.bytes_are are) in
       let two = q.exact mid.0 mid.1 more left fit two_is in
@@ -143,15 +143,15 @@ then-exact f g A B C p q = record {
         taken = one.taken ++ two.taken;
         text_is = two.text_is ∙ ap (λ l. l ++ two.shown) one.text_is ∙ append_assoc text one.shown two.shown;
         bytes_are =
-          one.bytes_are ∙ ap (λ l. one.taken ++ l) two.bytes_are ∙ sym (append_assoc one.taken two.taken left);
+            one.bytes_are ∙ ap (λ l. one.taken ++ l) two.bytes_are ∙ sym (append_assoc one.taken two.taken left);
         printable = printable-append one.shown two.shown one.printable two.printable;
         back = λ done rest ok.
-          ap (read_both done) (append_assoc one.shown two.shown rest)
-          ∙ ap read_two (one.back done (two.shown ++ rest) (two.front rest ok))
-          ∙ two.back (done ++ one.taken) rest ok
-          ∙ ap (λ l. Some (l, rest)) (append_assoc done one.taken two.taken);
+            ap (read_both done) (append_assoc one.shown two.shown rest)
+            ∙ ap read_two (one.back done (two.shown ++ rest) (two.front rest ok))
+            ∙ two.back (done ++ one.taken) rest ok
+            ∙ ap (λ l. Some (l, rest)) (append_assoc done one.taken two.taken);
         front = λ rest ok.
-          subst A (sym (append_assoc one.shown two.shown rest)) (one.front (two.shown ++ rest) (two.front rest ok));
+            subst A (sym (append_assoc one.shown two.shown rest)) (one.front (two.shown ++ rest) (two.front rest ok));
       });
 }
 
@@ -159,16 +159,16 @@ pub IsExact-weaken : (f : Format) (A A' B B' : List ℕ → Type 0) → ((l : Li
     → ((l : List ℕ) → B' l → B l) → IsExact f A B → IsExact f A' B'
 IsExact-weaken f A A' B B' front behind p = record {
   exact = λ text bytes more left are e.
-    let s = p.exact text bytes more left are e in
-    record {
-      shown = s.shown;
-      taken = s.taken;
-      text_is = s.text_is;
-      bytes_are = s.bytes_are;
-      printable = s.printable;
-      back = λ done rest ok. s.back done rest (behind rest ok);
-      front = λ rest ok. front (s.shown ++ rest) (s.front rest (behind rest ok));
-    };
+      let s = p.exact text bytes more left are e in
+      record {
+        shown = s.shown;
+        taken = s.taken;
+        text_is = s.text_is;
+        bytes_are = s.bytes_are;
+        printable = s.printable;
+        back = λ done rest ok. s.back done rest (behind rest ok);
+        front = λ rest ok. front (s.shown ++ rest) (s.front rest (behind rest ok));
+      };
 }
 
 -- ---- parts behind their number
@@ -200,21 +200,21 @@ pub front_number-some : (w : Width) (size limit : ℕ) → IsWide w limit → si
 front_number-some w size limit wide size_is bytes n rest are e =
     elim (cases_Bool (nat_le size (length bytes))) [
       | inl enough ↦
-        let number = take size bytes in
-        let found : ℕ × List ℕ = (from_be_bytes w number, drop size bytes) in
-        let both = some-inj found (n, rest) (sym (cond-true (nat_le size (length bytes)) (Some found) None enough) ∙ e) in
-        let n_is : from_be_bytes w number ≡ n = ap (λ p. p.0) both in
-        let rest_is : drop size bytes ≡ rest = ap (λ p. p.1) both in
-        let fit = IsBytes-take size bytes (IsBytes-from_all bytes are) in
-        let len : length number ≡ byte_len w =
+          let number = take size bytes in
+          let found : ℕ × List ℕ = (from_be_bytes w number, drop size bytes) in
+          let both = some-inj found (n, rest) (sym (cond-true (nat_le size (length bytes)) (Some found) None enough) ∙ e) in
+          let n_is : from_be_bytes w number ≡ n = ap (λ p. p.0) both in
+          let rest_is : drop size bytes ≡ rest = ap (λ p. p.1) both in
+          let fit = IsBytes-take size bytes (IsBytes-from_all bytes are) in
+          let len : length number ≡ byte_len w =
           omega (arith, size_is, length-take size bytes, leb-true size (length bytes) enough)
-        in
-        record {
-          number = number;
-          parts = sym (take-append-drop size bytes) ∙ ap (λ l. number ++ l) rest_is;
-          again = ap (to_be_bytes w) (sym n_is) ∙ wide.back number len fit;
-          fits = let P : ℕ → Type 0 = λ m. m < limit in subst P n_is (wide.below number fit);
-        }
+          in
+          record {
+            number = number;
+            parts = sym (take-append-drop size bytes) ∙ ap (λ l. number ++ l) rest_is;
+            again = ap (to_be_bytes w) (sym n_is) ∙ wide.back number len fit;
+            fits = let P : ℕ → Type 0 = λ m. m < limit in subst P n_is (wide.below number fit);
+          }
       | inr short ↦ none-some (n, rest) (sym (cond-false (nat_le size (length bytes)) _ None short) ∙ e)
     ]
 
@@ -227,7 +227,7 @@ numbered-small done n four taken rest lt again =
 pub ahead-exact : (c : Counted) (A B : List ℕ → Type 0) → IsExactCounted c A B → IsExact (ahead c) A B
 ahead-exact c A B p = record {
   exact = λ text bytes more left are e.
-    option_and_then_some (λ front. c.show front.0 text front.1) (front_uint32 bytes) (more, left) e (λ front number_is part_is.
+      option_and_then_some (λ front. c.show front.0 text front.1) (front_uint32 bytes) (more, left) e (λ front number_is part_is.
       let number = front_number-some w32 4 (2 ^ 32) wide32 refl bytes front.0 front.1 are number_is in
       let fit : AreBytes front.1 = AreBytes-behind number.number front.1 (subst AreBytes number.parts are) in
       let s = p.exact front.0 text front.1 more left number.fits fit part_is in
@@ -236,11 +236,11 @@ ahead-exact c A B p = record {
         taken = number.number ++ s.taken;
         text_is = s.text_is;
         bytes_are =
-          number.parts ∙ ap (λ l. number.number ++ l) s.bytes_are ∙ sym (append_assoc number.number s.taken left);
+            number.parts ∙ ap (λ l. number.number ++ l) s.bytes_are ∙ sym (append_assoc number.number s.taken left);
         printable = s.printable;
         back = λ done rest ok.
-          ap (option_and_then (numbered done)) (s.back rest ok)
-          ∙ numbered-small done front.0 number.number s.taken rest number.fits number.again;
+            ap (option_and_then (numbered done)) (s.back rest ok)
+            ∙ numbered-small done front.0 number.number s.taken rest number.fits number.again;
         front = s.front;
       });
 }

@@ -7,3 +7,5 @@ pub mod Parts
 pub mod Tails
 pub mod Bodies
 pub mod Written
+pub mod Sessions
+pub mod TreeLines

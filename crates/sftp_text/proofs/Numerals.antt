@@ -60,15 +60,15 @@ Ends-from c rest ok =
         ]
       ]
     ]
-    where
-  nowhere : (c == 32) ≡ false → (c == 44) ≡ false → (c == 59) ≡ false → (c == 61) ≡ false
-      → (c == 32 || c == 44 || c == 59 || c == 61) ≡ true → ⊥
-  nowhere a b d f ok = cc
+  where
+    nowhere : (c == 32) ≡ false → (c == 44) ≡ false → (c == 59) ≡ false → (c == 61) ≡ false
+        → (c == 32 || c == 44 || c == 59 || c == 61) ≡ true → ⊥
+    nowhere a b d f ok = cc
 
 -- ---- digits
 
 -- a digit of a base of at most ten is read as its value
-is_digit-from_value : (base c : ℕ) → base ≤ 10 → digit_value c < base → (is_digit base c ≡ true) × (c - 48 ≡ digit_value c)
+pub is_digit-from_value : (base c : ℕ) → base ≤ 10 → digit_value c < base → (is_digit base c ≡ true) × (c - 48 ≡ digit_value c)
 is_digit-from_value base c small lt =
     let within : IsInRange 48 57 c = digit_from_value c (omega arith) in
     let value = digit_value_digit c within in
@@ -80,15 +80,15 @@ record NoDigit (base : ℕ) : Type 0 where
 
 no_digit10 : NoDigit 10
 no_digit10 = record { none = λ c rest ok. no10 c (Ends-from c rest ok) }
-    where
-  no10 : (c : ℕ) → Ends c → is_digit 10 c ≡ false
-  no10 c (ends a b d e) = a
+  where
+    no10 : (c : ℕ) → Ends c → is_digit 10 c ≡ false
+    no10 c (ends a b d e) = a
 
 no_digit8 : NoDigit 8
 no_digit8 = record { none = λ c rest ok. no8 c (Ends-from c rest ok) }
-    where
-  no8 : (c : ℕ) → Ends c → is_digit 8 c ≡ false
-  no8 c (ends a b d e) = b
+  where
+    no8 : (c : ℕ) → Ends c → is_digit 8 c ≡ false
+    no8 c (ends a b d e) = b
 
 digits_from-all : (base n : ℕ) (ds rest : List ℕ) → base ≤ 10 → NoDigit base → AllDigits base ds → EndsWord rest
     → digits_from base n (ds ++ rest) ≡ (digits_value_after base n ds, rest)
@@ -126,20 +126,20 @@ pub record IsRead (text_of : ℕ → List ℕ) (find_in : List ℕ → Option (�
 decimal-read : (limit : ℕ) → limit ≤ 2 ^ 64 → IsRead decimal decimal_in limit
 decimal-read limit small = record {
   back = λ n rest lt ok.
-    let numeral = decimal_is_IsNumeral n (omega arith) in
-    number_in-all 10 (decimal n) rest (omega arith) no_digit10 numeral.0 ok ∙ ap (λ v. Some (v, rest)) numeral.1;
+      let numeral = decimal_is_IsNumeral n (omega arith) in
+      number_in-all 10 (decimal n) rest (omega arith) no_digit10 numeral.0 ok ∙ ap (λ v. Some (v, rest)) numeral.1;
   printable = λ n lt.
-    let numeral = decimal_is_IsNumeral n (omega arith) in digits-printable 10 (decimal n) (omega arith) numeral.0.1;
+      let numeral = decimal_is_IsNumeral n (omega arith) in digits-printable 10 (decimal n) (omega arith) numeral.0.1;
 }
 
 octal-read : IsRead octal_text octal_in (2 ^ 32)
 octal-read = record {
   back = λ n rest lt ok.
-    let numeral = digits_is_IsNumeral 8 false (omega arith) (omega arith) n (omega arith) in
-    number_in-all 8 (digits 8 false n) rest (omega arith) no_digit8 numeral.0 ok ∙ ap (λ v. Some (v, rest)) numeral.1;
+      let numeral = digits_is_IsNumeral 8 false (omega arith) (omega arith) n (omega arith) in
+      number_in-all 8 (digits 8 false n) rest (omega arith) no_digit8 numeral.0 ok ∙ ap (λ v. Some (v, rest)) numeral.1;
   printable = λ n lt.
-    let numeral = digits_is_IsNumeral 8 false (omega arith) (omega arith) n (omega arith) in
-    digits-printable 8 (digits 8 false n) (omega arith) numeral.0.1;
+      let numeral = digits_is_IsNumeral 8 false (omega arith) (omega arith) n (omega arith) in
+      digits-printable 8 (digits 8 false n) (omega arith) numeral.0.1;
 }
 
 -- ---- flags
@@ -149,36 +149,36 @@ flags_from-more : (n : ℕ) (text rest : List ℕ) → EndsWord rest → (flags 
     → flags_from flags name text ≡ Some (n, []) → flags_from flags name (text ++ rest) ≡ Some (n, rest)
 flags_from-more n [] [] ok flags name e = e
 flags_from-more n [] (c ∷ rest) ok flags name e = stops (Ends-from c rest ok)
-    where
-  stops : Ends c → flags_from flags name (c ∷ rest) ≡ Some (n, c ∷ rest)
-  stops (ends ten eight letter bar) =
-      cond-false (is_letter c) _ _ letter ∙ cond-false (c == 124) _ _ bar
-      ∙ option_and_then_some (λ all. Some (all, [])) (with_flag flags name flag_names) (n, []) e (λ all found same.
+  where
+    stops : Ends c → flags_from flags name (c ∷ rest) ≡ Some (n, c ∷ rest)
+    stops (ends ten eight letter bar) =
+        cond-false (is_letter c) _ _ letter ∙ cond-false (c == 124) _ _ bar
+        ∙ option_and_then_some (λ all. Some (all, [])) (with_flag flags name flag_names) (n, []) e (λ all found same.
         ap (option_and_then (λ a. Some (a, c ∷ rest))) found
         ∙ ap (λ a. Some (a, c ∷ rest)) (ap (λ p. p.0) (some-inj (all, []) (n, []) same)))
 flags_from-more n (c ∷ text) rest ok flags name e =
     elim (cases_Bool (is_letter c)) [
       | inl letter ↦
-        cond-true (is_letter c) _ _ letter
-        ∙ flags_from-more n text rest ok flags (name ++ c ∷ []) (sym (cond-true (is_letter c) _ _ letter) ∙ e)
+          cond-true (is_letter c) _ _ letter
+          ∙ flags_from-more n text rest ok flags (name ++ c ∷ []) (sym (cond-true (is_letter c) _ _ letter) ∙ e)
       | inr other ↦
-        elim (cases_Bool (c == 124)) [
-          | inl bar ↦
-            cond-false (is_letter c) _ _ other ∙ cond-true (c == 124) _ _ bar
-            ∙ option_and_then_some (λ more. flags_from more [] text) (with_flag flags name flag_names) (n, [])
-              (sym (cond-true (c == 124) _ _ bar) ∙ sym (cond-false (is_letter c) _ _ other) ∙ e)
-              (λ more found here.
+          elim (cases_Bool (c == 124)) [
+            | inl bar ↦
+                cond-false (is_letter c) _ _ other ∙ cond-true (c == 124) _ _ bar
+                ∙ option_and_then_some (λ more. flags_from more [] text) (with_flag flags name flag_names) (n, [])
+                (sym (cond-true (c == 124) _ _ bar) ∙ sym (cond-false (is_letter c) _ _ other) ∙ e)
+                (λ more found here.
                 ap (option_and_then (λ m. flags_from m [] (text ++ rest))) found
                 ∙ flags_from-more n text rest ok more [] here)
-          | inr neither ↦
-            option_and_then_some (λ all. Some (all, c ∷ text)) (with_flag flags name flag_names) (n, [])
-            (sym (cond-false (c == 124) _ _ neither) ∙ sym (cond-false (is_letter c) _ _ other) ∙ e)
-            (λ all found here. absurd (cons-nil c text (ap (λ p. p.1) (some-inj (all, c ∷ text) (n, []) here))))
-        ]
+            | inr neither ↦
+                option_and_then_some (λ all. Some (all, c ∷ text)) (with_flag flags name flag_names) (n, [])
+                (sym (cond-false (c == 124) _ _ neither) ∙ sym (cond-false (is_letter c) _ _ other) ∙ e)
+                (λ all found here. absurd (cons-nil c text (ap (λ p. p.1) (some-inj (all, c ∷ text) (n, []) here))))
+          ]
     ]
-    where
-  cons-nil : (b : ℕ) (l : List ℕ) → b ∷ l ≡ [] → ⊥
-  cons-nil b l h = cc
+  where
+    cons-nil : (b : ℕ) (l : List ℕ) → b ∷ l ≡ [] → ⊥
+    cons-nil b l h = cc
 
 -- whether an answer is these flags and the end
 abbrev is_answer : ℕ → Option (ℕ × List ℕ) → Bool
@@ -211,21 +211,22 @@ record ByName (n : ℕ) : Type 0 where
 ByName-from : (n : ℕ) → 1 ≤ n → n < 64 → ByName n
 ByName-from n low high =
     let all : (is_answer n (flags_from 0 [] (flags_text n)) && not (starts_with_digit (flags_text n)) && list_all is_printable (flags_text n)) ≡ true =
-      or_else (nat_le 1 n) _ (le-leb 1 n low) (by_name n high)
+    or_else (nat_le 1 n) _ (le-leb 1 n low) (by_name n high)
     in
     let parts = and_parts _ _ all in
     let first = and_parts _ _ parts.0 in
     record { read = is_answer-true n _ first.0; letters = flip _ first.1; printable = parts.1 }
-    where
-  or_else : (b c : Bool) → b ≡ true → (not b || c) ≡ true → c ≡ true
-  or_else true c e h = h
-  or_else false c e h = absurd (absurdity e)
-    where
-    absurdity : false ≡ true → ⊥
-    absurdity x = cc
-  flip : (b : Bool) → not b ≡ true → b ≡ false
-  flip true h = cc
-  flip false h = refl
+  where
+    or_else : (b c : Bool) → b ≡ true → (not b || c) ≡ true → c ≡ true
+    or_else true c e h = h
+    or_else false c e h = absurd (absurdity e)
+      where
+        absurdity : false ≡ true → ⊥
+        absurdity x = cc
+
+    flip : (b : Bool) → not b ≡ true → b ≡ false
+    flip true h = cc
+    flip false h = refl
 
 flags_in-letters : (text rest : List ℕ) → starts_with_digit text ≡ false → flags_in (text ++ rest) ≡ flags_from 0 [] (text ++ rest)
 flags_in-letters [] rest e = cc
@@ -237,33 +238,35 @@ flags_in-decimal (c ∷ text) rest all = cond-true (is_digit 10 c) _ _ (is_digit
 
 flags-read : IsRead flags_text flags_in (2 ^ 32)
 flags-read = record { back = back; printable = printable }
-    where
-  named : (n : ℕ) → Bool
-  named n = nat_le 1 n && nat_lt n 64
-  back : (n : ℕ) (rest : List ℕ) → n < 2 ^ 32 → EndsWord rest → flags_in (flags_text n ++ rest) ≡ Some (n, rest)
-  back n rest lt ok =
-      elim (cases_Bool (nat_le 1 n && nat_lt n 64)) [
-        | inl flagged ↦
-          let parts = and_parts _ _ flagged in
-          let known = ByName-from n (leb-true 1 n parts.0) (ltb-true n 64 parts.1) in
-          flags_in-letters (flags_text n) rest known.letters
-          ∙ flags_from-more n (flags_text n) rest ok 0 [] known.read
-        | inr plain ↦
-          let is : flags_text n ≡ decimal n = cond-false (nat_le 1 n && nat_lt n 64) _ (decimal n) plain in
-          let numeral = decimal_is_IsNumeral n (omega arith) in
-          ap (λ l. flags_in (l ++ rest)) is ∙ flags_in-decimal (decimal n) rest numeral.0
-          ∙ (decimal-read (2 ^ 32) (omega arith)).back n rest lt ok
-      ]
-  printable : (n : ℕ) → n < 2 ^ 32 → IsTrue (list_all is_printable (flags_text n))
-  printable n lt =
-      elim (cases_Bool (nat_le 1 n && nat_lt n 64)) [
-        | inl flagged ↦
-          let parts = and_parts _ _ flagged in
-          (ByName-from n (leb-true 1 n parts.0) (ltb-true n 64 parts.1)).printable
-        | inr plain ↦
-          ap (list_all is_printable) (cond-false (nat_le 1 n && nat_lt n 64) _ (decimal n) plain)
-          ∙ (decimal-read (2 ^ 32) (omega arith)).printable n lt
-      ]
+  where
+    named : (n : ℕ) → Bool
+    named n = nat_le 1 n && nat_lt n 64
+
+    back : (n : ℕ) (rest : List ℕ) → n < 2 ^ 32 → EndsWord rest → flags_in (flags_text n ++ rest) ≡ Some (n, rest)
+    back n rest lt ok =
+        elim (cases_Bool (nat_le 1 n && nat_lt n 64)) [
+          | inl flagged ↦
+              let parts = and_parts _ _ flagged in
+              let known = ByName-from n (leb-true 1 n parts.0) (ltb-true n 64 parts.1) in
+              flags_in-letters (flags_text n) rest known.letters
+              ∙ flags_from-more n (flags_text n) rest ok 0 [] known.read
+          | inr plain ↦
+              let is : flags_text n ≡ decimal n = cond-false (nat_le 1 n && nat_lt n 64) _ (decimal n) plain in
+              let numeral = decimal_is_IsNumeral n (omega arith) in
+              ap (λ l. flags_in (l ++ rest)) is ∙ flags_in-decimal (decimal n) rest numeral.0
+              ∙ (decimal-read (2 ^ 32) (omega arith)).back n rest lt ok
+        ]
+
+    printable : (n : ℕ) → n < 2 ^ 32 → IsTrue (list_all is_printable (flags_text n))
+    printable n lt =
+        elim (cases_Bool (nat_le 1 n && nat_lt n 64)) [
+          | inl flagged ↦
+              let parts = and_parts _ _ flagged in
+              (ByName-from n (leb-true 1 n parts.0) (ltb-true n 64 parts.1)).printable
+          | inr plain ↦
+              ap (list_all is_printable) (cond-false (nat_le 1 n && nat_lt n 64) _ (decimal n) plain)
+              ∙ (decimal-read (2 ^ 32) (omega arith)).printable n lt
+        ]
 
 -- ---- formats
 
@@ -280,8 +283,8 @@ pub four_bytes-exact : (text_of : ℕ → List ℕ) (find_in : List ℕ → Opti
     → IsExact (four_bytes text_of find_in) (NumberFront text_of (2 ^ 32) B) B
 four_bytes-exact text_of find_in B reads ends_so = record {
   exact = λ text bytes more left are e.
-    option_and_then_some (λ front. Some (text ++ text_of front.0, front.1)) (front_number 4 (from_be_bytes w32) bytes)
-    (more, left) e (λ front number_is same.
+      option_and_then_some (λ front. Some (text ++ text_of front.0, front.1)) (front_number 4 (from_be_bytes w32) bytes)
+      (more, left) e (λ front number_is same.
       let found = front_number-some w32 4 (2 ^ 32) wide32 refl bytes front.0 front.1 are number_is in
       let both = some-inj (text ++ text_of front.0, front.1) (more, left) same in
       record {
@@ -291,13 +294,13 @@ four_bytes-exact text_of find_in B reads ends_so = record {
         bytes_are = found.parts ∙ ap (λ p. found.number ++ p.1) both;
         printable = reads.printable front.0 found.fits;
         back = λ done rest ok.
-          let next : ℕ × List ℕ → Option (List ℕ × List ℕ) =
+            let next : ℕ × List ℕ → Option (List ℕ × List ℕ) =
             λ f. cond (nat_lt f.0 (2 ^ 32)) (Some (done ++ to_be_bytes w32 f.0, f.1)) None
-          in
-          ap (option_and_then next) (reads.back front.0 rest found.fits (ends_so rest ok))
-          ∙ cond-true (nat_lt front.0 (2 ^ 32)) (Some (done ++ to_be_bytes w32 front.0, rest)) None
+            in
+            ap (option_and_then next) (reads.back front.0 rest found.fits (ends_so rest ok))
+            ∙ cond-true (nat_lt front.0 (2 ^ 32)) (Some (done ++ to_be_bytes w32 front.0, rest)) None
             (lt-ltb front.0 (2 ^ 32) found.fits)
-          ∙ ap (λ (l : List ℕ). Some (done ++ l, rest)) found.again;
+            ∙ ap (λ (l : List ℕ). Some (done ++ l, rest)) found.again;
         front = λ rest ok. record { value = front.0; fits = found.fits; rest = rest; parts = refl; follows = ok };
       });
 }
@@ -307,8 +310,8 @@ pub eight_bytes-exact : (text_of : ℕ → List ℕ) (find_in : List ℕ → Opt
     → IsExact (eight_bytes text_of find_in) (NumberFront text_of (2 ^ 64) B) B
 eight_bytes-exact text_of find_in B reads ends_so = record {
   exact = λ text bytes more left are e.
-    option_and_then_some (λ front. Some (text ++ text_of front.0, front.1)) (front_number 8 (from_be_bytes w64) bytes)
-    (more, left) e (λ front number_is same.
+      option_and_then_some (λ front. Some (text ++ text_of front.0, front.1)) (front_number 8 (from_be_bytes w64) bytes)
+      (more, left) e (λ front number_is same.
       let found = front_number-some w64 8 (2 ^ 64) wide64 refl bytes front.0 front.1 are number_is in
       let both = some-inj (text ++ text_of front.0, front.1) (more, left) same in
       record {
@@ -318,13 +321,13 @@ eight_bytes-exact text_of find_in B reads ends_so = record {
         bytes_are = found.parts ∙ ap (λ p. found.number ++ p.1) both;
         printable = reads.printable front.0 found.fits;
         back = λ done rest ok.
-          let next : ℕ × List ℕ → Option (List ℕ × List ℕ) =
+            let next : ℕ × List ℕ → Option (List ℕ × List ℕ) =
             λ f. cond (nat_lt f.0 (2 ^ 64)) (Some (done ++ to_be_bytes w64 f.0, f.1)) None
-          in
-          ap (option_and_then next) (reads.back front.0 rest found.fits (ends_so rest ok))
-          ∙ cond-true (nat_lt front.0 (2 ^ 64)) (Some (done ++ to_be_bytes w64 front.0, rest)) None
+            in
+            ap (option_and_then next) (reads.back front.0 rest found.fits (ends_so rest ok))
+            ∙ cond-true (nat_lt front.0 (2 ^ 64)) (Some (done ++ to_be_bytes w64 front.0, rest)) None
             (lt-ltb front.0 (2 ^ 64) found.fits)
-          ∙ ap (λ (l : List ℕ). Some (done ++ l, rest)) found.again;
+            ∙ ap (λ (l : List ℕ). Some (done ++ l, rest)) found.again;
         front = λ rest ok. record { value = front.0; fits = found.fits; rest = rest; parts = refl; follows = ok };
       });
 }

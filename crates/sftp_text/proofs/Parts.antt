@@ -126,16 +126,17 @@ absent-label i label initials (c ∷ d ∷ l) other e =
     let parts = and_parts _ _ e in
     subst (λ b. strip (32 ∷ i ∷ label) (b ∷ d ∷ l) ≡ None) (sym (eqb-true c 32 parts.0))
     (cond-false (i == d) (strip label l) None (differ parts.1))
-    where
-  clash : list_any (λ j. j == i) initials ≡ true → ⊥
-  clash some = true≢false (sym some ∙ other)
-  differ : list_any (λ j. j == d) initials ≡ true → (i == d) ≡ false
-  differ some =
-      elim (cases_Bool (i == d)) [
-        | inl same ↦
-          absurd (clash (subst (λ x. list_any (λ j. j == x) initials ≡ true) (sym (eqb-true i d same)) some))
-        | inr differs ↦ differs
-      ]
+  where
+    clash : list_any (λ j. j == i) initials ≡ true → ⊥
+    clash some = true≢false (sym some ∙ other)
+
+    differ : list_any (λ j. j == d) initials ≡ true → (i == d) ≡ false
+    differ some =
+        elim (cases_Bool (i == d)) [
+          | inl same ↦
+              absurd (clash (subst (λ x. list_any (λ j. j == x) initials ≡ true) (sym (eqb-true i d same)) some))
+          | inr differs ↦ differs
+        ]
 
 -- ---- parts of attributes
 
@@ -190,7 +191,6 @@ parts-exact : (B : List ℕ → Type 0) → ((l : List ℕ) → B l → EndsFiel
     → AreParts B parts initials → (present : ℕ) (text bytes more left : List ℕ) → AreBytes bytes
     → show_parts parts present text bytes ≡ Some (more, left)
     → PartsShown parts initials B (flags_sum parts present) text bytes more left
-
 parts-exact B ends [] [] all_parts present text bytes more left are e =
     let both = some-inj (text, bytes) (more, left) e in
     record {
@@ -207,84 +207,87 @@ parts-exact B ends (p ∷ parts) [] some present text bytes more left are e = el
 parts-exact B ends (p ∷ parts) (i ∷ initials) (one_part _ _ label _ _ part are_parts) present text bytes more left are e =
     option_and_then_some (λ m. show_parts parts present m.0 m.1) (show_part p present text bytes) (more, left) e
     (λ mid one_is others_are.
-      go mid one_is (λ fit. parts-exact B ends parts initials are_parts present mid.0 mid.1 more left fit others_are)
-      (has_flag present p.flag) refl)
-    where
-  absent : (l : List ℕ) → LabelFront initials B l → strip p.label l ≡ None
-  absent l (unlabelled ok) = ap (λ w. strip w l) part.label_is ∙ absent-end i label l (ends l ok)
-  absent l (labelled front) = ap (λ w. strip w l) part.label_is ∙ absent-label i label initials l part.other front
-  next : ℕ × (List ℕ × List ℕ) → Found
-  next found = and_flag found.0 (read_parts parts found.1.0 found.1.1)
-  add : ℕ → ℕ × (List ℕ × List ℕ) → Found
-  add bit found = Some (bit + found.0, found.1)
-  go : (mid : List ℕ × List ℕ) → show_part p present text bytes ≡ Some mid
-      → (AreBytes mid.1 → PartsShown parts initials B (flags_sum parts present) mid.0 mid.1 more left) → (has : Bool) → has_flag present p.flag ≡ has
-      → PartsShown (p ∷ parts) (i ∷ initials) B (flags_sum (p ∷ parts) present) text bytes more left
-  go mid one_is others_are true has =
-      let shows : (word p.label then p.format).show text bytes ≡ Some mid =
+    go mid one_is (λ fit. parts-exact B ends parts initials are_parts present mid.0 mid.1 more left fit others_are)
+    (has_flag present p.flag) refl)
+  where
+    absent : (l : List ℕ) → LabelFront initials B l → strip p.label l ≡ None
+    absent l (unlabelled ok) = ap (λ w. strip w l) part.label_is ∙ absent-end i label l (ends l ok)
+    absent l (labelled front) = ap (λ w. strip w l) part.label_is ∙ absent-label i label initials l part.other front
+
+    next : ℕ × (List ℕ × List ℕ) → Found
+    next found = and_flag found.0 (read_parts parts found.1.0 found.1.1)
+
+    add : ℕ → ℕ × (List ℕ × List ℕ) → Found
+    add bit found = Some (bit + found.0, found.1)
+
+    go : (mid : List ℕ × List ℕ) → show_part p present text bytes ≡ Some mid
+        → (AreBytes mid.1 → PartsShown parts initials B (flags_sum parts present) mid.0 mid.1 more left) → (has : Bool) → has_flag present p.flag ≡ has
+        → PartsShown (p ∷ parts) (i ∷ initials) B (flags_sum (p ∷ parts) present) text bytes more left
+    go mid one_is others_are true has =
+        let shows : (word p.label then p.format).show text bytes ≡ Some mid =
         sym (ap (λ f. f text bytes) (cond-true (has_flag present p.flag) (word p.label then p.format).show stay has)) ∙ one_is
-      in
-      let one = part.format_exact.exact (text ++ p.label) bytes mid.0 mid.1 are shows in
-      let fit : AreBytes mid.1 = AreBytes-behind one.taken mid.1 (subst AreBytes one.bytes_are are) in
-      let others = others_are fit in
-      let flag_is : p.flag ≡ flag_in present p.flag = sym (cond-true (has_flag present p.flag) p.flag 0 has) in
-      let grouped : (rest : List ℕ) → (p.label ++ (one.shown ++ others.shown)) ++ rest ≡ p.label ++ (one.shown ++ (others.shown ++ rest)) =
+        in
+        let one = part.format_exact.exact (text ++ p.label) bytes mid.0 mid.1 are shows in
+        let fit : AreBytes mid.1 = AreBytes-behind one.taken mid.1 (subst AreBytes one.bytes_are are) in
+        let others = others_are fit in
+        let flag_is : p.flag ≡ flag_in present p.flag = sym (cond-true (has_flag present p.flag) p.flag 0 has) in
+        let grouped : (rest : List ℕ) → (p.label ++ (one.shown ++ others.shown)) ++ rest ≡ p.label ++ (one.shown ++ (others.shown ++ rest)) =
         λ rest. append_assoc p.label (one.shown ++ others.shown) rest
         ∙ ap (λ l. p.label ++ l) (append_assoc one.shown others.shown rest)
-      in
-      record {
-        shown = p.label ++ (one.shown ++ others.shown);
-        taken = one.taken ++ others.taken;
-        text_is =
-          others.text_is ∙ ap (λ l. l ++ others.shown) one.text_is
-          ∙ append_assoc (text ++ p.label) one.shown others.shown
-          ∙ append_assoc text p.label (one.shown ++ others.shown);
-        bytes_are =
-          one.bytes_are ∙ ap (λ l. one.taken ++ l) others.bytes_are ∙ sym (append_assoc one.taken others.taken left);
-        printable =
-          printable-append p.label _ part.printable
-          (printable-append one.shown others.shown one.printable others.printable);
-        back = λ done rest ok.
-          let tail : List ℕ = one.shown ++ (others.shown ++ rest) in
-          let with : List ℕ × List ℕ → Found = λ moved. Some (p.flag, moved) in
-          let read : List ℕ → Found = λ r. option_and_then with (p.format.read done r) in
-          let part_is : read_part p done (p.label ++ tail) ≡ Some (p.flag, (done ++ one.taken, others.shown ++ rest)) =
-            ap (λ o. if_found o read (Some (0, (done, p.label ++ tail)))) (strip-same p.label tail)
-            ∙ ap (option_and_then with) (one.back done (others.shown ++ rest) (others.front rest ok))
-          in
-          ap (read_parts (p ∷ parts) done) (grouped rest) ∙ ap (option_and_then next) part_is
-          ∙ ap (option_and_then (add p.flag)) (others.back (done ++ one.taken) rest ok)
-          ∙ ap (λ f. Some (f + flags_sum parts present, ((done ++ one.taken) ++ others.taken, rest))) flag_is
-          ∙ ap (λ l. Some (flags_sum (p ∷ parts) present, (l, rest))) (append_assoc done one.taken others.taken);
-        front = λ rest ok.
-          subst (LabelFront (i ∷ initials) B)
-          (ap (λ w. w ++ (one.shown ++ (others.shown ++ rest))) (sym part.label_is) ∙ sym (grouped rest))
-          (label-in-front i label initials B (one.shown ++ (others.shown ++ rest)));
-      }
-  go mid one_is others_are false has =
-      let stays : Some (text, bytes) ≡ Some mid =
+        in
+        record {
+          shown = p.label ++ (one.shown ++ others.shown);
+          taken = one.taken ++ others.taken;
+          text_is =
+              others.text_is ∙ ap (λ l. l ++ others.shown) one.text_is
+              ∙ append_assoc (text ++ p.label) one.shown others.shown
+              ∙ append_assoc text p.label (one.shown ++ others.shown);
+          bytes_are =
+              one.bytes_are ∙ ap (λ l. one.taken ++ l) others.bytes_are ∙ sym (append_assoc one.taken others.taken left);
+          printable =
+              printable-append p.label _ part.printable
+              (printable-append one.shown others.shown one.printable others.printable);
+          back = λ done rest ok.
+              let tail : List ℕ = one.shown ++ (others.shown ++ rest) in
+              let with : List ℕ × List ℕ → Found = λ moved. Some (p.flag, moved) in
+              let read : List ℕ → Found = λ r. option_and_then with (p.format.read done r) in
+              let part_is : read_part p done (p.label ++ tail) ≡ Some (p.flag, (done ++ one.taken, others.shown ++ rest)) =
+              ap (λ o. if_found o read (Some (0, (done, p.label ++ tail)))) (strip-same p.label tail)
+              ∙ ap (option_and_then with) (one.back done (others.shown ++ rest) (others.front rest ok))
+              in
+              ap (read_parts (p ∷ parts) done) (grouped rest) ∙ ap (option_and_then next) part_is
+              ∙ ap (option_and_then (add p.flag)) (others.back (done ++ one.taken) rest ok)
+              ∙ ap (λ f. Some (f + flags_sum parts present, ((done ++ one.taken) ++ others.taken, rest))) flag_is
+              ∙ ap (λ l. Some (flags_sum (p ∷ parts) present, (l, rest))) (append_assoc done one.taken others.taken);
+          front = λ rest ok.
+              subst (LabelFront (i ∷ initials) B)
+              (ap (λ w. w ++ (one.shown ++ (others.shown ++ rest))) (sym part.label_is) ∙ sym (grouped rest))
+              (label-in-front i label initials B (one.shown ++ (others.shown ++ rest)));
+        }
+    go mid one_is others_are false has =
+        let stays : Some (text, bytes) ≡ Some mid =
         sym (ap (λ f. f text bytes) (cond-false (has_flag present p.flag) (word p.label then p.format).show stay has)) ∙ one_is
-      in
-      let same = some-inj (text, bytes) mid stays in
-      let fit : AreBytes mid.1 = subst AreBytes (ap (λ m. m.1) same) are in
-      let others = others_are fit in
-      let flag_is : 0 ≡ flag_in present p.flag = sym (cond-false (has_flag present p.flag) p.flag 0 has) in
-      record {
-        shown = others.shown;
-        taken = others.taken;
-        text_is = others.text_is ∙ ap (λ m. m.0 ++ others.shown) (sym same);
-        bytes_are = ap (λ m. m.1) same ∙ others.bytes_are;
-        printable = others.printable;
-        back = λ done rest ok.
-          let with : List ℕ × List ℕ → Found = λ moved. Some (p.flag, moved) in
-          let read : List ℕ → Found = λ r. option_and_then with (p.format.read done r) in
-          let part_is : read_part p done (others.shown ++ rest) ≡ Some (0, (done, others.shown ++ rest)) =
-            ap (λ o. if_found o read (Some (0, (done, others.shown ++ rest)))) (absent _ (others.front rest ok))
-          in
-          ap (option_and_then next) part_is ∙ ap (option_and_then (add 0)) (others.back done rest ok)
-          ∙ ap (λ f. Some (f + flags_sum parts present, (done ++ others.taken, rest))) flag_is;
-        front = λ rest ok. more-initials i initials B (others.shown ++ rest) (others.front rest ok);
-      }
+        in
+        let same = some-inj (text, bytes) mid stays in
+        let fit : AreBytes mid.1 = subst AreBytes (ap (λ m. m.1) same) are in
+        let others = others_are fit in
+        let flag_is : 0 ≡ flag_in present p.flag = sym (cond-false (has_flag present p.flag) p.flag 0 has) in
+        record {
+          shown = others.shown;
+          taken = others.taken;
+          text_is = others.text_is ∙ ap (λ m. m.0 ++ others.shown) (sym same);
+          bytes_are = ap (λ m. m.1) same ∙ others.bytes_are;
+          printable = others.printable;
+          back = λ done rest ok.
+              let with : List ℕ × List ℕ → Found = λ moved. Some (p.flag, moved) in
+              let read : List ℕ → Found = λ r. option_and_then with (p.format.read done r) in
+              let part_is : read_part p done (others.shown ++ rest) ≡ Some (0, (done, others.shown ++ rest)) =
+              ap (λ o. if_found o read (Some (0, (done, others.shown ++ rest)))) (absent _ (others.front rest ok))
+              in
+              ap (option_and_then next) part_is ∙ ap (option_and_then (add 0)) (others.back done rest ok)
+              ∙ ap (λ f. Some (f + flags_sum parts present, (done ++ others.taken, rest))) flag_is;
+          front = λ rest ok. more-initials i initials B (others.shown ++ rest) (others.front rest ok);
+        }
 
 -- ---- attributes
 
@@ -312,15 +315,15 @@ counted_pairs-exact : (B : List ℕ → Type 0) → ((l : List ℕ) → B l → 
 unfolding counted_pairs
 counted_pairs-exact B no_quote no_comma =
     let separates : Separates pair 34 (codes ",") Anything B =
-      record {
-        item_exact = pair-exact Anything;
-        printable = refl;
-        nonempty = omega arith;
-        after_item = λ l. tt;
-        after_last = λ l ok. tt;
-        no_separator = no_comma;
-        no_item = no_quote;
-      }
+    record {
+      item_exact = pair-exact Anything;
+      printable = refl;
+      nonempty = omega arith;
+      after_item = λ l. tt;
+      after_last = λ l ok. tt;
+      no_separator = no_comma;
+      no_item = no_quote;
+    }
     in
     IsExact-weaken _ _ Anything B B (λ l a. tt) (λ l b. b)
     (ahead-exact (listed pair 34 (codes ",")) (ListFront 34 B) B (listed-exact pair 34 (codes ",") Anything B separates))
@@ -332,7 +335,7 @@ attribute_parts-are B ends =
     let behind : List ℕ → List ℕ → Type 0 = λ initials l. LabelFront initials B l in
     let word_ends : (initials l : List ℕ) → LabelFront initials B l → EndsWord l = front-ends B ends in
     let any : (f : Format) (A C : List ℕ → Type 0) → IsExact f A C → IsExact f Anything C =
-      λ f A C p. IsExact-weaken f A Anything C C (λ l a. tt) (λ l b. b) p
+    λ f A C p. IsExact-weaken f A Anything C C (λ l a. tt) (λ l b. b) p
     in
     one_part _ 115 (codes "ize=") _ _ (record {
       label_is = refl;
@@ -379,51 +382,56 @@ sum-is : (n : ℕ) → n < 2 ^ 32 → are_known n ≡ true → flags_sum attribu
 unfolding attribute_parts
 sum-is n lt known =
     let a : WireAttrs =
-      record {
-        size = where_set (has_flag n 0x00000001) 0;
-        owner = where_set (has_flag n 0x00000002) (0, 0);
-        permissions = where_set (has_flag n 0x00000004) 0;
-        times = where_set (has_flag n 0x00000008) (0, 0);
-        extended = where_set (has_flag n 0x80000000) [];
-      }
+    record {
+      size = where_set (has_flag n 0x00000001) 0;
+      owner = where_set (has_flag n 0x00000002) (0, 0);
+      permissions = where_set (has_flag n 0x00000004) 0;
+      times = where_set (has_flag n 0x00000008) (0, 0);
+      extended = where_set (has_flag n 0x80000000) [];
+    }
     in
     let says : SaysFields n a =
-      record {
-        size = is_some-where_set (has_flag n 0x00000001) 0;
-        owner = is_some-where_set (has_flag n 0x00000002) (0, 0);
-        permissions = is_some-where_set (has_flag n 0x00000004) 0;
-        times = is_some-where_set (has_flag n 0x00000008) (0, 0);
-        extended = is_some-where_set (has_flag n 0x80000000) [];
-      }
+    record {
+      size = is_some-where_set (has_flag n 0x00000001) 0;
+      owner = is_some-where_set (has_flag n 0x00000002) (0, 0);
+      permissions = is_some-where_set (has_flag n 0x00000004) 0;
+      times = is_some-where_set (has_flag n 0x00000008) (0, 0);
+      extended = is_some-where_set (has_flag n 0x80000000) [];
+    }
     in
-    omega (arith, attribute_flags-are n a lt known says, flag-where_set {A = ℕ} 0x00000001 (has_flag n 0x00000001) 0,
-    flag-where_set {A = ℕ × ℕ} 0x00000002 (has_flag n 0x00000002) (0, 0), flag-where_set {A = ℕ} 0x00000004 (has_flag n 0x00000004) 0,
-    flag-where_set {A = ℕ × ℕ} 0x00000008 (has_flag n 0x00000008) (0, 0),
-    flag-where_set {A = List (List ℕ × List ℕ)} 0x80000000 (has_flag n 0x80000000) [])
+    omega (
+      arith,
+      attribute_flags-are n a lt known says,
+      flag-where_set {A = ℕ} 0x00000001 (has_flag n 0x00000001) 0,
+      flag-where_set {A = ℕ × ℕ} 0x00000002 (has_flag n 0x00000002) (0, 0),
+      flag-where_set {A = ℕ} 0x00000004 (has_flag n 0x00000004) 0,
+      flag-where_set {A = ℕ × ℕ} 0x00000008 (has_flag n 0x00000008) (0, 0),
+      flag-where_set {A = List (List ℕ × List ℕ)} 0x80000000 (has_flag n 0x80000000) [],
+    )
 
 known_parts-exact : (B : List ℕ → Type 0) → ((l : List ℕ) → B l → EndsFields l)
     → IsExactCounted known_parts (LabelFront attribute_initials B) B
 known_parts-exact B ends = record {
   exact = λ n text bytes more left lt are e.
-    elim (cases_Bool (are_known n)) [
-      | inl known ↦
-        let shows : show_parts attribute_parts n text bytes ≡ Some (more, left) =
-          sym (ap (λ f. f text bytes) (cond-true (are_known n) (show_parts attribute_parts n) (λ t b. None) known)) ∙ e
-        in
-        let s = parts-exact B ends attribute_parts attribute_initials (attribute_parts-are B ends) n text bytes more left are shows in
-        record {
-          shown = s.shown;
-          taken = s.taken;
-          text_is = s.text_is;
-          bytes_are = s.bytes_are;
-          printable = s.printable;
-          back = λ rest ok. s.back [] rest ok ∙ ap (λ k. Some (k, (s.taken, rest))) (sum-is n lt known);
-          front = s.front;
-        }
-      | inr unknown ↦
-        none-some (more, left)
-        (sym (ap (λ f. f text bytes) (cond-false (are_known n) (show_parts attribute_parts n) (λ t b. None) unknown)) ∙ e)
-    ];
+      elim (cases_Bool (are_known n)) [
+        | inl known ↦
+            let shows : show_parts attribute_parts n text bytes ≡ Some (more, left) =
+            sym (ap (λ f. f text bytes) (cond-true (are_known n) (show_parts attribute_parts n) (λ t b. None) known)) ∙ e
+            in
+            let s = parts-exact B ends attribute_parts attribute_initials (attribute_parts-are B ends) n text bytes more left are shows in
+            record {
+              shown = s.shown;
+              taken = s.taken;
+              text_is = s.text_is;
+              bytes_are = s.bytes_are;
+              printable = s.printable;
+              back = λ rest ok. s.back [] rest ok ∙ ap (λ k. Some (k, (s.taken, rest))) (sum-is n lt known);
+              front = s.front;
+            }
+        | inr unknown ↦
+            none-some (more, left)
+            (sym (ap (λ f. f text bytes) (cond-false (are_known n) (show_parts attribute_parts n) (λ t b. None) unknown)) ∙ e)
+      ];
 }
 
 pub attributes-exact : (B : List ℕ → Type 0) → ((l : List ℕ) → B l → EndsFields l)

@@ -66,13 +66,13 @@ hex_onto-text done (b ∷ bytes) are =
     let one : byte_of (hex_digit (b / 16)) (hex_digit (b % 16)) ≡ Some b = byte_of-digits (b / 16) (b % 16) b digits.high digits.low digits.sum in
     ap (option_and_then next) one ∙ hex_onto-text (done ++ b ∷ []) bytes are.1
     ∙ ap (λ l. Some l) (append_assoc done (b ∷ []) bytes)
-    where
-  byte_of-digits : (h l b : ℕ) → hex_value (hex_digit h) ≡ Some h → hex_value (hex_digit l) ≡ Some l → 16 * h + l ≡ b
-      → byte_of (hex_digit h) (hex_digit l) ≡ Some b
-  byte_of-digits h l b high low sum =
-      let inner : ℕ → Option ℕ = λ x. option_and_then (λ y. Some (16 * x + y)) (hex_value (hex_digit l)) in
-      let last : ℕ → Option ℕ = λ y. Some (16 * h + y) in
-      ap (option_and_then inner) high ∙ ap (option_and_then last) low ∙ ap (λ n. Some n) sum
+  where
+    byte_of-digits : (h l b : ℕ) → hex_value (hex_digit h) ≡ Some h → hex_value (hex_digit l) ≡ Some l → 16 * h + l ≡ b
+        → byte_of (hex_digit h) (hex_digit l) ≡ Some b
+    byte_of-digits h l b high low sum =
+        let inner : ℕ → Option ℕ = λ x. option_and_then (λ y. Some (16 * x + y)) (hex_value (hex_digit l)) in
+        let last : ℕ → Option ℕ = λ y. Some (16 * h + y) in
+        ap (option_and_then inner) high ∙ ap (option_and_then last) low ∙ ap (λ n. Some n) sum
 
 pub hex_text-printable : (bytes : List ℕ) → AreBytes bytes → IsTrue (list_all is_printable (hex_text bytes))
 unfolding hex_text
@@ -90,15 +90,15 @@ unquoted-plain done b rest plain =
     let no_slash = flip (b == 92) parts.1 in
     let no_quote = flip (b == 34) (and_parts _ _ parts.0).1 in
     let effect : effect_of Plain b ≡ Give b =
-      cond-false (b == 34) Close _ no_quote ∙ cond-false (b == 92) (Go Escape) _ no_slash
-      ∙ cond-true (is_plain b) (Give b) Refuse plain
+    cond-false (b == 34) Close _ no_quote ∙ cond-false (b == 92) (Go Escape) _ no_slash
+    ∙ cond-true (is_plain b) (Give b) Refuse plain
     in
     let more : Place → List ℕ → Option (List ℕ × List ℕ) = λ next d. unquoted next d rest in
     ap (λ f. with_effect f done rest more) effect
-    where
-  flip : (b : Bool) → not b ≡ true → b ≡ false
-  flip true h = cc
-  flip false h = refl
+  where
+    flip : (b : Bool) → not b ≡ true → b ≡ false
+    flip true h = cc
+    flip false h = refl
 
 -- an escape is read, and goes on
 unquoted-escape : (done : List ℕ) (b : ℕ) (rest : List ℕ) → DigitsOf b
@@ -113,10 +113,10 @@ unquoted-escape done b rest digits =
     let first : effect_of FirstDigit h ≡ Go (SecondDigit (b / 16)) = ap (or_refuse go_high) digits.high in
     let second : effect_of (SecondDigit (b / 16)) l ≡ Give (16 * (b / 16) + b % 16) = ap (or_refuse give_low) digits.low in
     let one : unquoted FirstDigit done (h ∷ l ∷ rest) ≡ unquoted (SecondDigit (b / 16)) done (l ∷ rest) =
-      ap (λ f. with_effect f done (l ∷ rest) more_high) first
+    ap (λ f. with_effect f done (l ∷ rest) more_high) first
     in
     let two : unquoted (SecondDigit (b / 16)) done (l ∷ rest) ≡ unquoted Plain (done ++ (16 * (b / 16) + b % 16) ∷ []) rest =
-      ap (λ f. with_effect f done rest more_low) second
+    ap (λ f. with_effect f done rest more_low) second
     in
     one ∙ two ∙ ap (λ n. unquoted Plain (done ++ n ∷ []) rest) digits.sum
 
@@ -126,11 +126,11 @@ unquoted-byte : (done : List ℕ) (b : ℕ) (rest : List ℕ) → b < 256
 unquoted-byte done b rest lt =
     elim (cases_Bool (is_plain b)) [
       | inl plain ↦
-        ap (λ l. unquoted Plain done (l ++ rest)) (cond-true (is_plain b) (b ∷ []) (92 ∷ 120 ∷ hex_byte b) plain)
-        ∙ unquoted-plain done b rest plain
+          ap (λ l. unquoted Plain done (l ++ rest)) (cond-true (is_plain b) (b ∷ []) (92 ∷ 120 ∷ hex_byte b) plain)
+          ∙ unquoted-plain done b rest plain
       | inr escaped ↦
-        ap (λ l. unquoted Plain done (l ++ rest)) (cond-false (is_plain b) (b ∷ []) (92 ∷ 120 ∷ hex_byte b) escaped)
-        ∙ unquoted-escape done b rest (digits_of b lt)
+          ap (λ l. unquoted Plain done (l ++ rest)) (cond-false (is_plain b) (b ∷ []) (92 ∷ 120 ∷ hex_byte b) escaped)
+          ∙ unquoted-escape done b rest (digits_of b lt)
     ]
 
 unquoted-bytes : (done bytes rest : List ℕ) → AreBytes bytes
@@ -168,45 +168,45 @@ pub rest_text-exact : (B : List ℕ → Type 0) → IsExact rest_text StartsQuot
 unfolding rest_text
 rest_text-exact B = record {
   exact = λ text bytes more left are e.
-    let both = some-inj (text ++ quoted bytes, []) (more, left) e in
-    record {
-      shown = quoted bytes;
-      taken = bytes;
-      text_is = sym (ap (λ p. p.0) both);
-      bytes_are = sym (append-nil bytes) ∙ ap (λ p. bytes ++ p.1) both;
-      printable = quoted-printable bytes are;
-      back = λ done rest ok. text_in-quoted done bytes rest are;
-      front = λ rest ok. quoted-starts bytes rest;
-    };
+      let both = some-inj (text ++ quoted bytes, []) (more, left) e in
+      record {
+        shown = quoted bytes;
+        taken = bytes;
+        text_is = sym (ap (λ p. p.0) both);
+        bytes_are = sym (append-nil bytes) ∙ ap (λ p. bytes ++ p.1) both;
+        printable = quoted-printable bytes are;
+        back = λ done rest ok. text_in-quoted done bytes rest are;
+        front = λ rest ok. quoted-starts bytes rest;
+      };
 }
 
 counted_text-exact : (B : List ℕ → Type 0) → IsExactCounted counted_text StartsQuoted B
 counted_text-exact B = record {
   exact = λ n text bytes more left lt are e.
-    elim (cases_Bool (nat_le n (length bytes))) [
-      | inl enough ↦
-        let string = take n bytes in
-        let both =
-          some-inj (text ++ quoted string, drop n bytes) (more, left)
-          (sym (cond-true (nat_le n (length bytes)) (Some (text ++ quoted string, drop n bytes)) None enough) ∙ e)
-        in
-        let parts : bytes ≡ string ++ drop n bytes = sym (take-append-drop n bytes) in
-        let fit : AreBytes string = AreBytes-front string (drop n bytes) (subst AreBytes parts are) in
-        let len : length string ≡ n = omega (arith, length-take n bytes, leb-true n (length bytes) enough) in
-        record {
-          shown = quoted string;
-          taken = string;
-          text_is = sym (ap (λ p. p.0) both);
-          bytes_are = parts ∙ ap (λ p. string ++ p.1) both;
-          printable = quoted-printable string fit;
-          back = λ rest ok.
-            let next : List ℕ × List ℕ → Option (ℕ × (List ℕ × List ℕ)) = λ moved. Some (length moved.0, moved) in
-            ap (option_and_then next) (text_in-quoted [] string rest fit) ∙ ap (λ k. Some (k, (string, rest))) len;
-          front = λ rest ok. quoted-starts string rest;
-        }
-      | inr short ↦
-        none-some (more, left) (sym (cond-false (nat_le n (length bytes)) (Some (text ++ quoted (take n bytes), drop n bytes)) None short) ∙ e)
-    ];
+      elim (cases_Bool (nat_le n (length bytes))) [
+        | inl enough ↦
+            let string = take n bytes in
+            let both =
+            some-inj (text ++ quoted string, drop n bytes) (more, left)
+            (sym (cond-true (nat_le n (length bytes)) (Some (text ++ quoted string, drop n bytes)) None enough) ∙ e)
+            in
+            let parts : bytes ≡ string ++ drop n bytes = sym (take-append-drop n bytes) in
+            let fit : AreBytes string = AreBytes-front string (drop n bytes) (subst AreBytes parts are) in
+            let len : length string ≡ n = omega (arith, length-take n bytes, leb-true n (length bytes) enough) in
+            record {
+              shown = quoted string;
+              taken = string;
+              text_is = sym (ap (λ p. p.0) both);
+              bytes_are = parts ∙ ap (λ p. string ++ p.1) both;
+              printable = quoted-printable string fit;
+              back = λ rest ok.
+                  let next : List ℕ × List ℕ → Option (ℕ × (List ℕ × List ℕ)) = λ moved. Some (length moved.0, moved) in
+                  ap (option_and_then next) (text_in-quoted [] string rest fit) ∙ ap (λ k. Some (k, (string, rest))) len;
+              front = λ rest ok. quoted-starts string rest;
+            }
+        | inr short ↦
+            none-some (more, left) (sym (cond-false (nat_le n (length bytes)) (Some (text ++ quoted (take n bytes), drop n bytes)) None short) ∙ e)
+      ];
 }
 
 pub string_text-exact : (B : List ℕ → Type 0) → IsExact string_text StartsQuoted B

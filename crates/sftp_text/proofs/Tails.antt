@@ -31,8 +31,8 @@ name_item-exact =
     let long_text = then-exact string_text attributes StartsQuoted _ EndsFields (string_text-exact _) last in
     let second = behind_word (codes " ") (string_text then attributes) StartsQuoted EndsFields refl long_text in
     let text =
-      then-exact string_text (word (codes " ") then string_text then attributes) StartsQuoted _ EndsFields
-      (string_text-exact _) second
+    then-exact string_text (word (codes " ") then string_text then attributes) StartsQuoted _ EndsFields
+    (string_text-exact _) second
     in
     let first = behind_word (codes " ") _ StartsQuoted EndsFields refl text in
     IsExact-weaken _ _ (λ l. IsTrue (begins_with 32 l)) EndsFields EndsFields
@@ -45,15 +45,15 @@ names-exact : IsExact names (ListFront 32 IsEnd) IsEnd
 unfolding names
 names-exact =
     let separates : Separates name_item 32 (codes ";") EndsFields IsEnd =
-      record {
-        item_exact = name_item-exact;
-        printable = refl;
-        nonempty = omega arith;
-        after_item = λ l. refl;
-        after_last = end-fields;
-        no_separator = λ l e. subst (λ x. strip (codes ";") x ≡ None) (sym e) refl;
-        no_item = λ l e. subst (λ x. IsFalse (begins_with 32 x)) (sym e) refl;
-      }
+    record {
+      item_exact = name_item-exact;
+      printable = refl;
+      nonempty = omega arith;
+      after_item = λ l. refl;
+      after_last = end-fields;
+      no_separator = λ l e. subst (λ x. strip (codes ";") x ≡ None) (sym e) refl;
+      no_item = λ l e. subst (λ x. IsFalse (begins_with 32 x)) (sym e) refl;
+    }
     in
     ahead-exact (listed name_item 32 (codes ";")) (ListFront 32 IsEnd) IsEnd
     (listed-exact name_item 32 (codes ";") EndsFields IsEnd separates)
@@ -74,50 +74,50 @@ two_texts-exact =
     let text = then-exact string_text (word (codes " ") then string_text) StartsQuoted _ IsEnd (string_text-exact _) last in
     behind_word (codes " ") _ StartsQuoted IsEnd refl text
 
-space-behind : (A : List ℕ → Type 0) (w l : List ℕ) → Behind (32 ∷ w) A l → SpaceFront l
+pub space-behind : (A : List ℕ → Type 0) (w l : List ℕ) → Behind (32 ∷ w) A l → SpaceFront l
 space-behind A w l b = subst SpaceFront (sym b.parts) refl
 
 message-exact : IsExact message SpaceFront IsEnd
 unfolding message
 message-exact = record { exact = λ text bytes more left are e. shows text bytes more left are (strip no_message bytes) refl e }
-    where
-  shows : (text bytes more left : List ℕ) → AreBytes bytes → (found : Option (List ℕ)) → strip no_message bytes ≡ found
-      → if_found (strip no_message bytes) (λ rest. Some (text, rest)) (two_texts.show text bytes) ≡ Some (more, left)
-      → Shown message SpaceFront IsEnd text bytes more left
-  shows text bytes more left are (Some rest) is e =
-      let keep : List ℕ → Option (List ℕ × List ℕ) = λ r. Some (text, r) in
-      let both =
+  where
+    shows : (text bytes more left : List ℕ) → AreBytes bytes → (found : Option (List ℕ)) → strip no_message bytes ≡ found
+        → if_found (strip no_message bytes) (λ rest. Some (text, rest)) (two_texts.show text bytes) ≡ Some (more, left)
+        → Shown message SpaceFront IsEnd text bytes more left
+    shows text bytes more left are (Some rest) is e =
+        let keep : List ℕ → Option (List ℕ × List ℕ) = λ r. Some (text, r) in
+        let both =
         some-inj (text, rest) (more, left) (sym (ap (λ o. if_found o keep (two_texts.show text bytes)) is) ∙ e)
-      in
-      record {
-        shown = [];
-        taken = no_message;
-        text_is = sym (ap (λ m. m.0) both) ∙ sym (append-nil text);
-        bytes_are = strip-some no_message bytes rest is ∙ ap (λ m. no_message ++ m.1) both;
-        printable = refl;
-        back = λ done r ok.
-          subst (λ l. message.read done l ≡ Some (done ++ no_message, l)) (sym ok) refl;
-        front = λ r ok. subst SpaceFront (sym ok) refl;
-      }
-  shows text bytes more left are None is e =
-      let keep : List ℕ → Option (List ℕ × List ℕ) = λ r. Some (text, r) in
-      let s =
+        in
+        record {
+          shown = [];
+          taken = no_message;
+          text_is = sym (ap (λ m. m.0) both) ∙ sym (append-nil text);
+          bytes_are = strip-some no_message bytes rest is ∙ ap (λ m. no_message ++ m.1) both;
+          printable = refl;
+          back = λ done r ok.
+              subst (λ l. message.read done l ≡ Some (done ++ no_message, l)) (sym ok) refl;
+          front = λ r ok. subst SpaceFront (sym ok) refl;
+        }
+    shows text bytes more left are None is e =
+        let keep : List ℕ → Option (List ℕ × List ℕ) = λ r. Some (text, r) in
+        let s =
         two_texts-exact.exact text bytes more left are
         (sym (ap (λ o. if_found o keep (two_texts.show text bytes)) is) ∙ e)
-      in
-      record {
-        shown = s.shown;
-        taken = s.taken;
-        text_is = s.text_is;
-        bytes_are = s.bytes_are;
-        printable = s.printable;
-        back = λ done r ok.
-          let front = s.front r ok in
-          let other : Option (List ℕ × List ℕ) = Some (done ++ no_message, s.shown ++ r) in
-          let read = two_texts.read done (s.shown ++ r) in
-          ap (λ l. if_any l read other) front.parts ∙ s.back done r ok;
-        front = λ r ok. space-behind StartsQuoted [] (s.shown ++ r) (s.front r ok);
-      }
+        in
+        record {
+          shown = s.shown;
+          taken = s.taken;
+          text_is = s.text_is;
+          bytes_are = s.bytes_are;
+          printable = s.printable;
+          back = λ done r ok.
+              let front = s.front r ok in
+              let other : Option (List ℕ × List ℕ) = Some (done ++ no_message, s.shown ++ r) in
+              let read = two_texts.read done (s.shown ++ r) in
+              ap (λ l. if_any l read other) front.parts ∙ s.back done r ok;
+          front = λ r ok. space-behind StartsQuoted [] (s.shown ++ r) (s.front r ok);
+        }
 
 -- ---- what comes after the fields
 
@@ -159,7 +159,7 @@ tail_text-exact Rest =
 
 -- ---- fields
 
-space-ends : (l : List ℕ) → SpaceFront l → EndsWord l
+pub space-ends : (l : List ℕ) → SpaceFront l → EndsWord l
 space-ends [] e = refl
 space-ends (c ∷ l) e = subst (λ b. EndsWord (b ∷ l)) (sym (eqb-true c 32 e)) refl
 
@@ -178,9 +178,9 @@ pub fields_text-exact : (fields : List Field) → IsExact (fields_text fields) S
 fields_text-exact [] = nothing-exact SpaceFront
 fields_text-exact (field ∷ fields) =
     let one =
-      IsExact-weaken (word (codes " ") then field_text field) _ SpaceFront SpaceFront SpaceFront
-      (space-behind Anything []) (λ l e. e)
-      (behind_word (codes " ") (field_text field) Anything SpaceFront refl (field_text-exact field))
+    IsExact-weaken (word (codes " ") then field_text field) _ SpaceFront SpaceFront SpaceFront
+    (space-behind Anything []) (λ l e. e)
+    (behind_word (codes " ") (field_text field) Anything SpaceFront refl (field_text-exact field))
     in
     then-exact (word (codes " ") then field_text field) (fields_text fields) SpaceFront SpaceFront SpaceFront one
     (fields_text-exact fields)

@@ -49,7 +49,7 @@ abbrev pub show_packet : Side → List ℕ → PacketType → Option (List ℕ)
 show_packet side bytes packet =
     option_and_then
     (λ front.
-      if front.0 == length front.1 then show_whole side (packet_text (row packet)) front.1 else None)
+    if front.0 == length front.1 then show_whole side (packet_text (row packet)) front.1 else None)
     (front_uint32 bytes)
 
 -- the line of a record by its layout, if it has one
