@@ -1,4 +1,8 @@
--- What a format shows, it reads back.
+-- Lemmas by subject, each citing those above it alone. Beside them each function of `src` has its own proof, at its
+-- module's path.
+pub mod Stripping
+pub mod DigitLaws
+pub mod QuotedLaws
 pub mod Exact
 pub mod Repeats
 pub mod Numerals
