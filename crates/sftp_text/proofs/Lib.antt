@@ -13,3 +13,5 @@ pub mod Bodies
 pub mod Written
 pub mod Sessions
 pub mod TreeLines
+pub mod Shows
+pub mod Named

@@ -1,10 +1,11 @@
 //! Theorems about lines of text, as contracts of functions with empty bodies.
-ghost use Rattle.std.specs.Prelude.{◌≡◌, List, [], ℕ, Some, IsTrue};
+ghost use Rattle.std.specs.Prelude.{◌≡◌, List, [], ℕ, Some, IsSome, IsTrue};
 ghost use Rattle.std.specs.List.{AllByRecursion, list_all};
 ghost use Rattle.sftp_wire.specs.declared.packets.Side.{Side};
-ghost use Rattle.sftp_wire.specs.Spelling.{AreBytes};
+ghost use Rattle.sftp_wire.specs.declared.packets.Packet.{Packet};
+ghost use Rattle.sftp_wire.specs.Spelling.{AreBytes, HasSpelling, side_of, spelling};
 ghost use Rattle.sftp_text.specs.Formats.{ReadsBack};
-ghost use Rattle.sftp_text.specs.Lines.{is_printable, line_of, line_read, text_of, text_read};
+ghost use Rattle.sftp_text.specs.Lines.{is_printable, line_of, line_read, named_line, text_of, text_read};
 ghost use Rattle.sftp_text.specs.Trees.{head_text, root_text, entry_text};
 
 /// The line of a record is read as its side and its bytes, whatever the bytes.
@@ -39,4 +40,9 @@ pub fn roots_are_read()
 pub fn entries_are_read()
     ensures { (bytes line left : List ℕ) → AreBytes bytes → entry_text.show [] bytes ≡ Some (line, left)
         → ReadsBack entry_text bytes line left }
+{}
+
+/// Each packet that has a spelling is shown by its name, and not in hexadecimal.
+pub fn packets_have_names()
+    ensures { (packet : Packet) → HasSpelling packet → IsSome (named_line (side_of packet) (spelling packet)) }
 {}

@@ -20,8 +20,8 @@ mod words;
 
 pub use errors::{Expected, Fault, ShowFault, TextFault};
 pub use laws::{
-    entries_are_read, heads_are_read, lines_are_printable, lines_are_read, roots_are_read,
-    sessions_are_read,
+    entries_are_read, heads_are_read, lines_are_printable, lines_are_read, packets_have_names,
+    roots_are_read, sessions_are_read,
 };
 pub use records::{put_record, read_record};
 pub use transcripts::{put_transcript, read_transcript};
