@@ -14,6 +14,10 @@ use Rattle.sftp_text.specs.declared.layouts.PacketType.{PacketType}
 abbrev pub whole : Option (List ℕ × List ℕ) → Option (List ℕ)
 whole moved = option_and_then (λ m. if_any m.1 None (Some m.0)) moved
 
+-- whether a character is printable ASCII
+abbrev pub is_printable : ℕ → Bool
+is_printable c = nat_le 32 c && nat_le c 126
+
 -- ---- any bytes in hexadecimal
 
 -- bytes in hexadecimal behind a space, if there are any

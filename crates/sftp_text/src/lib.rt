@@ -10,16 +10,19 @@ mod laws;
 mod layouts;
 mod lines;
 mod lists;
+mod names;
 mod numbers;
 mod octets;
 mod quoted;
 mod records;
+mod table;
 mod transcripts;
 mod trees;
 mod words;
 
 pub use errors::{Expected, Fault, ShowFault, TextFault};
 pub use laws::lines_are_read;
+pub use lines::{is_blank, take_line};
 pub use records::{put_record, read_record};
 pub use transcripts::{put_transcript, read_transcript};
 pub use trees::{

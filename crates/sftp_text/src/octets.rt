@@ -11,11 +11,7 @@ fn digit(value: u8) -> u8
     requires { value < 16 }
     ensures { result ≡ hex_digit value }
 {
-    if value < 10 {
-        b'0' + value
-    } else {
-        87 + value
-    }
+    if value < 10 { b'0' + value } else { 87 + value }
 }
 
 /// Writes a byte as two hexadecimal digits.

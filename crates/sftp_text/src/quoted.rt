@@ -80,7 +80,11 @@ fn take_escape(line: &[u8]) -> Option<(u8, &[u8])>
     ensures { MatchOption result (escape_in line.now ≡ None) (λ t. escape_in line.now ≡ Some (t.0, t.1.now)) }
 {
     let (letter, rest) = line.split_first()?;
-    if *letter == b'x' { take_octet(rest) } else { None }
+    if *letter == b'x' {
+        take_octet(rest)
+    } else {
+        None
+    }
 }
 
 /// Takes one character of a text in quotes from the front of a line, and returns the byte that it stands for. `None`
