@@ -25,5 +25,5 @@ pub flags_text_parts : (n : ℕ) → 1 ≤ n → n < 64 → lower_flags n ++ hig
 flags_text_parts zero some named = absurd (omega arith)
 flags_text_parts (suc n) some named =
     (Decides-below_and are_text parts_are_text all_are_text
-        (λ k. bytes_eq-Decides (lower_flags (suc k) ++ higher_flags (suc k)) (flags_text (suc k)))
-        refl (λ k. refl) 63).0 each_is_text n (omega arith)
+    (λ k. bytes_eq-Decides (lower_flags (suc k) ++ higher_flags (suc k)) (flags_text (suc k)))
+    refl (λ k. refl) 63).0 each_is_text n (omega arith)

@@ -10,19 +10,19 @@ show_each-step :
     → show_each item separator (suc left) text bytes ≡ show_each item separator left moved.0 moved.1
 show_each-step item separator left text bytes moved is = rw is
 
-pub show_each-goes_on :
+pub show_each_goes_on :
     (item : Format) (separator : List ℕ) (left : ℕ) (text bytes more rest : List ℕ) → 0 < left
     → item.show (text ++ separator) bytes ≡ Some (more, rest)
     → show_each item separator (left - 1) more rest ≡ show_each item separator left text bytes
-show_each-goes_on item separator left text bytes more rest some is =
+show_each_goes_on item separator left text bytes more rest some is =
     let same : left ≡ suc (left - 1) = omega arith in
     sym (rw (← same) at (show_each-step item separator (left - 1) text bytes (more, rest) is))
 
-pub show_each-fails :
+pub show_each_fails :
     (item : Format) (separator : List ℕ) (left : ℕ) (text bytes : List ℕ) → 0 < left
     → item.show (text ++ separator) bytes ≡ None → show_each item separator left text bytes ≡ None
-show_each-fails item separator zero text bytes some is = absurd (omega arith)
-show_each-fails item separator (suc left) text bytes some is = rw is
+show_each_fails item separator zero text bytes some is = absurd (omega arith)
+show_each_fails item separator (suc left) text bytes some is = rw is
 
 -- a list of items shows one and the others
 show_list-step :
@@ -31,19 +31,19 @@ show_list-step :
     → show_list item separator (suc left) text bytes ≡ show_each item separator left moved.0 moved.1
 show_list-step item separator left text bytes moved is = rw is
 
-pub show_list-goes_on :
+pub show_list_goes_on :
     (item : Format) (separator : List ℕ) (left : ℕ) (text bytes more rest : List ℕ) → left ≢ 0
     → item.show text bytes ≡ Some (more, rest)
     → show_each item separator (left - 1) more rest ≡ show_list item separator left text bytes
-show_list-goes_on item separator left text bytes more rest some is =
+show_list_goes_on item separator left text bytes more rest some is =
     let same : left ≡ suc (left - 1) = omega arith in
     sym (rw (← same) at (show_list-step item separator (left - 1) text bytes (more, rest) is))
 
-pub show_list-fails :
+pub show_list_fails :
     (item : Format) (separator : List ℕ) (left : ℕ) (text bytes : List ℕ) → left ≢ 0
     → item.show text bytes ≡ None → show_list item separator left text bytes ≡ None
-show_list-fails item separator zero text bytes some is = absurd (some refl)
-show_list-fails item separator (suc left) text bytes some is = rw is
+show_list_fails item separator zero text bytes some is = absurd (some refl)
+show_list_fails item separator (suc left) text bytes some is = rw is
 
 -- an item behind a separator leaves the others to be read
 read_each-step :
@@ -52,35 +52,35 @@ read_each-step :
     → read_each item separator (suc most) count bytes text ≡ read_each item separator most (count + 1) moved.0 moved.1
 read_each-step item separator most count bytes text rest moved found is = rw found (rw is)
 
-pub read_each-goes_on :
+pub read_each_goes_on :
     (item : Format) (separator : List ℕ) (most count : ℕ) (bytes text rest more after : List ℕ) → 0 < most
     → strip separator text ≡ Some rest → item.read bytes rest ≡ Some (more, after)
     → read_each item separator (most - 1) (count + 1) more after ≡ read_each item separator most count bytes text
-read_each-goes_on item separator most count bytes text rest more after some found is =
+read_each_goes_on item separator most count bytes text rest more after some found is =
     let same : most ≡ suc (most - 1) = omega arith in
     sym (rw (← same) at (read_each-step item separator (most - 1) count bytes text rest (more, after) found is))
 
-pub read_each-fails :
+pub read_each_fails :
     (item : Format) (separator : List ℕ) (most count : ℕ) (bytes text rest : List ℕ) → 0 < most
     → strip separator text ≡ Some rest → item.read bytes rest ≡ None
     → read_each item separator most count bytes text ≡ None
-read_each-fails item separator zero count bytes text rest some found is = absurd (omega arith)
-read_each-fails item separator (suc most) count bytes text rest some found is = rw found (rw is)
+read_each_fails item separator zero count bytes text rest some found is = absurd (omega arith)
+read_each_fails item separator (suc most) count bytes text rest some found is = rw found (rw is)
 
 -- where no separator is in front, the list ends
-pub read_each-ends :
+pub read_each_ends :
     (item : Format) (separator : List ℕ) (most count : ℕ) (bytes text : List ℕ)
     → strip separator text ≡ None → read_each item separator most count bytes text ≡ Some (count, (bytes, text))
-read_each-ends item separator zero count bytes text none = refl
-read_each-ends item separator (suc most) count bytes text none = rw none
+read_each_ends item separator zero count bytes text none = refl
+read_each_ends item separator (suc most) count bytes text none = rw none
 
 -- ---- steps up to the end
 
 -- where nothing is left, nothing more is done
-pub repeat-ends :
+pub repeat_ends :
     (step : Step) (most : ℕ) (done : List ℕ) → repeat step most done [] ≡ Some (done, [])
-repeat-ends step zero done = refl
-repeat-ends step (suc most) done = refl
+repeat_ends step zero done = refl
+repeat_ends step (suc most) done = refl
 
 repeat-step :
     (step : Step) (most : ℕ) (done : List ℕ) (c : ℕ) (left : List ℕ) (moved : List ℕ × List ℕ)
@@ -94,16 +94,16 @@ repeat-some :
 repeat-some step most done [] moved some is = absurd (some refl)
 repeat-some step most done (c ∷ left) moved some is = repeat-step step most done c left moved is
 
-pub repeat-goes_on :
+pub repeat_goes_on :
     (step : Step) (most : ℕ) (done left more rest : List ℕ) → 0 < most → left ≢ []
     → step done left ≡ Some (more, rest) → repeat step (most - 1) more rest ≡ repeat step most done left
-repeat-goes_on step most done left more rest some any is =
+repeat_goes_on step most done left more rest some any is =
     let same : most ≡ suc (most - 1) = omega arith in
     sym (rw (← same) at (repeat-some step (most - 1) done left (more, rest) any is))
 
-pub repeat-fails :
+pub repeat_fails :
     (step : Step) (most : ℕ) (done left : List ℕ) → 0 < most → left ≢ []
     → step done left ≡ None → repeat step most done left ≡ None
-repeat-fails step zero done left some any is = absurd (omega arith)
-repeat-fails step (suc most) done [] some any is = absurd (any refl)
-repeat-fails step (suc most) done (c ∷ left) some any is = rw is
+repeat_fails step zero done left some any is = absurd (omega arith)
+repeat_fails step (suc most) done [] some any is = absurd (any refl)
+repeat_fails step (suc most) done (c ∷ left) some any is = rw is

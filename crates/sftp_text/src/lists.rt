@@ -47,7 +47,7 @@ fn read_spaced_pair(line: &mut &[u8], bytes: &mut Vec<u8>) -> Result<(), Stop>
 }
 
 /// Shows pairs up to the end of the bytes, each after a space.
-#[tactic(auto, unfolding(crate::specs::Fields::pairs))]
+#[tactic(auto, using(crate::proofs::ListLaws::repeat_goes_on, crate::proofs::ListLaws::repeat_fails, crate::proofs::ListLaws::repeat_ends), unfolding(crate::specs::Fields::pairs))]
 pub(crate) fn put_pairs(bytes: &mut &[u8], text: &mut Vec<u8>) -> Result<(), Stop>
     ensures { Moves result text.new.items bytes.new.now (pairs.show text.old.items bytes.old.now) }
 {
@@ -63,7 +63,7 @@ pub(crate) fn put_pairs(bytes: &mut &[u8], text: &mut Vec<u8>) -> Result<(), Sto
 }
 
 /// Reads pairs up to the end of a line, each after a space.
-#[tactic(auto, unfolding(crate::specs::Fields::pairs))]
+#[tactic(auto, using(crate::proofs::ListLaws::repeat_goes_on, crate::proofs::ListLaws::repeat_fails, crate::proofs::ListLaws::repeat_ends), unfolding(crate::specs::Fields::pairs))]
 pub(crate) fn read_pairs(line: &mut &[u8], bytes: &mut Vec<u8>) -> Result<(), Stop>
     ensures { Moves result bytes.new.items line.new.now (pairs.read bytes.old.items line.old.now) }
 {
@@ -79,6 +79,7 @@ pub(crate) fn read_pairs(line: &mut &[u8], bytes: &mut Vec<u8>) -> Result<(), St
 }
 
 /// Shows `count` pairs, each after a comma.
+#[tactic(auto, using(crate::proofs::ListLaws::show_each_goes_on, crate::proofs::ListLaws::show_each_fails))]
 fn put_more_pairs(count: u32, bytes: &mut &[u8], text: &mut Vec<u8>) -> Result<(), Stop>
     ensures { Moves result text.new.items bytes.new.now (show_each pair (codes ",") count text.old.items bytes.old.now) }
 {
@@ -92,6 +93,7 @@ fn put_more_pairs(count: u32, bytes: &mut &[u8], text: &mut Vec<u8>) -> Result<(
 }
 
 /// Shows `count` pairs with a comma between.
+#[tactic(auto, using(crate::proofs::ListLaws::show_list_goes_on, crate::proofs::ListLaws::show_list_fails))]
 fn put_pair_list(count: u32, bytes: &mut &[u8], text: &mut Vec<u8>) -> Result<(), Stop>
     ensures { Moves result text.new.items bytes.new.now (show_list pair (codes ",") count text.old.items bytes.old.now) }
 {
@@ -122,6 +124,7 @@ fn begins(first: u8, line: &[u8]) -> bool
 }
 
 /// Reads pairs, each after a comma, up to where no comma follows. Returns how many there are and one more.
+#[tactic(auto, using(crate::proofs::ListLaws::read_each_goes_on, crate::proofs::ListLaws::read_each_fails, crate::proofs::ListLaws::read_each_ends))]
 fn read_more_pairs(line: &mut &[u8], bytes: &mut Vec<u8>) -> Result<usize, Stop>
     ensures { Counts result bytes.new.items line.new.now
         (read_each pair (codes ",") (length line.old.now) 1 bytes.old.items line.old.now) }
@@ -210,6 +213,7 @@ fn read_name(line: &mut &[u8], bytes: &mut Vec<u8>) -> Result<(), Stop>
 }
 
 /// Shows `count` names, each after `;`.
+#[tactic(auto, using(crate::proofs::ListLaws::show_each_goes_on, crate::proofs::ListLaws::show_each_fails))]
 fn put_more_names(count: u32, bytes: &mut &[u8], text: &mut Vec<u8>) -> Result<(), Stop>
     ensures { Moves result text.new.items bytes.new.now
         (show_each name_item (codes ";") count text.old.items bytes.old.now) }
@@ -224,6 +228,7 @@ fn put_more_names(count: u32, bytes: &mut &[u8], text: &mut Vec<u8>) -> Result<(
 }
 
 /// Shows `count` names with `;` between.
+#[tactic(auto, using(crate::proofs::ListLaws::show_list_goes_on, crate::proofs::ListLaws::show_list_fails))]
 fn put_name_list(count: u32, bytes: &mut &[u8], text: &mut Vec<u8>) -> Result<(), Stop>
     ensures { Moves result text.new.items bytes.new.now
         (show_list name_item (codes ";") count text.old.items bytes.old.now) }
@@ -245,6 +250,7 @@ pub(crate) fn put_names(bytes: &mut &[u8], text: &mut Vec<u8>) -> Result<(), Sto
 }
 
 /// Reads names, each after `;`, up to where no `;` follows. Returns how many there are and one more.
+#[tactic(auto, using(crate::proofs::ListLaws::read_each_goes_on, crate::proofs::ListLaws::read_each_fails, crate::proofs::ListLaws::read_each_ends))]
 fn read_more_names(line: &mut &[u8], bytes: &mut Vec<u8>) -> Result<usize, Stop>
     ensures { Counts result bytes.new.items line.new.now
         (read_each name_item (codes ";") (length line.old.now) 1 bytes.old.items line.old.now) }
