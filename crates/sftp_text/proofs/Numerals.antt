@@ -68,7 +68,7 @@ Ends-from c rest ok =
 -- ---- digits
 
 -- a digit of a base of at most ten is read as its value
-is_digit-from_value : (base c : ℕ) → base ≤ 10 → digit_value c < base → (is_digit base c ≡ true) × (c - 48 ≡ digit_value c)
+pub is_digit-from_value : (base c : ℕ) → base ≤ 10 → digit_value c < base → (is_digit base c ≡ true) × (c - 48 ≡ digit_value c)
 is_digit-from_value base c small lt =
     let within : IsInRange 48 57 c = digit_from_value c (omega arith) in
     let value = digit_value_digit c within in

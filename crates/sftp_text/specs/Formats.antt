@@ -146,3 +146,11 @@ to_end item separator = record {
   show = repeat_to_end (word separator then item).show;
   read = repeat_to_end (word separator then item).read;
 }
+
+-- ---- what a line says
+
+-- the line of what a format took from the front of bytes is read as just that
+pub record ReadsBack (format : Format) (bytes line left : List ℕ) : Type 0 where
+  pub taken : List ℕ
+  pub parts : bytes ≡ taken ++ left
+  pub back : format.read [] line ≡ Some (taken, [])

@@ -5,17 +5,15 @@ use Rattle.sftp_text.specs.declared.errors.Stop.{Stop}
 use Rattle.sftp_text.specs.declared.errors.Stop.TheVariants as stops
 use Rattle.sftp_text.specs.declared.errors.Fault.{Fault}
 use Rattle.sftp_text.specs.declared.errors.Fault.TheVariants as faults
-use Rattle.sftp_text.specs.Formats.{Format, front_uint32, if_found}
-use Rattle.sftp_text.specs.Lines.{show_whole, named_text, raw_text}
+use Rattle.sftp_text.specs.Formats.{Format, front_uint32}
+use Rattle.sftp_text.specs.Lines.{whole}
 
--- the text of a packet in a format, if its length is right
-abbrev pub show_with : Format → List ℕ → Option (List ℕ)
-show_with format bytes =
-    option_and_then (λ front. if front.0 == length front.1 then show_whole format front.1 else None) (front_uint32 bytes)
-
--- the line of a record after its side
-abbrev pub text_of_bytes : Side → List ℕ → List ℕ
-text_of_bytes side bytes = if_found (named_text side bytes) (λ text. text) (raw_text bytes)
+-- what is done with the text of a packet in a format, if its length is right
+abbrev pub show_with : Format → List ℕ → List ℕ → Option (List ℕ)
+show_with format text bytes =
+    option_and_then
+    (λ front. if front.0 == length front.1 then whole (format.show text front.1) else None)
+    (front_uint32 bytes)
 
 -- the side and the bytes are as read, unless memory runs out
 abbrev pub ReadsLine : Result Side Stop → List ℕ → Option (Side × List ℕ) → Type 0

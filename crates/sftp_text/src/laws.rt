@@ -1,11 +1,42 @@
 //! Theorems about lines of text, as contracts of functions with empty bodies.
-ghost use Rattle.std.specs.Prelude.{◌≡◌, List, ℕ, Some};
+ghost use Rattle.std.specs.Prelude.{◌≡◌, List, [], ℕ, Some, IsTrue};
+ghost use Rattle.std.specs.List.{AllByRecursion, list_all};
 ghost use Rattle.sftp_wire.specs.declared.packets.Side.{Side};
 ghost use Rattle.sftp_wire.specs.Spelling.{AreBytes};
-ghost use Rattle.sftp_text.specs.Lines.{line_of, line_read};
-ghost use Rattle.sftp_text.specs.Trees.{entry_text};
+ghost use Rattle.sftp_text.specs.Formats.{ReadsBack};
+ghost use Rattle.sftp_text.specs.Lines.{is_printable, line_of, line_read, text_of, text_read};
+ghost use Rattle.sftp_text.specs.Trees.{head_text, root_text, entry_text};
 
 /// The line of a record is read as its side and its bytes, whatever the bytes.
 pub fn lines_are_read()
     ensures { (side : Side) (bytes : List ℕ) → AreBytes bytes → line_read (line_of side bytes) ≡ Some (side, bytes) }
+{}
+
+/// The line of a record has printable ASCII alone, so no line feed.
+pub fn lines_are_printable()
+    ensures { (side : Side) (bytes : List ℕ) → AreBytes bytes → IsTrue (list_all is_printable (line_of side bytes)) }
+{}
+
+/// The text of a session, a line for each record, is read as that session.
+pub fn sessions_are_read()
+    ensures { (records : List (Side × List ℕ)) → AllByRecursion (λ r. AreBytes r.1) records
+        → text_read (text_of records) ≡ Some records }
+{}
+
+/// The line of a head that is in front of bytes is read as the bytes of the head.
+pub fn heads_are_read()
+    ensures { (bytes line left : List ℕ) → AreBytes bytes → head_text.show [] bytes ≡ Some (line, left)
+        → ReadsBack head_text bytes line left }
+{}
+
+/// The line of a root that is in front of bytes is read as the bytes of the root.
+pub fn roots_are_read()
+    ensures { (bytes line left : List ℕ) → AreBytes bytes → root_text.show [] bytes ≡ Some (line, left)
+        → ReadsBack root_text bytes line left }
+{}
+
+/// The line of an entry that is in front of bytes is read as the bytes of the entry.
+pub fn entries_are_read()
+    ensures { (bytes line left : List ℕ) → AreBytes bytes → entry_text.show [] bytes ≡ Some (line, left)
+        → ReadsBack entry_text bytes line left }
 {}

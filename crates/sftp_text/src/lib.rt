@@ -21,7 +21,10 @@ mod trees;
 mod words;
 
 pub use errors::{Expected, Fault, ShowFault, TextFault};
-pub use laws::lines_are_read;
+pub use laws::{
+    entries_are_read, heads_are_read, lines_are_printable, lines_are_read, roots_are_read,
+    sessions_are_read,
+};
 pub use lines::{is_blank, take_line};
 pub use records::{put_record, read_record};
 pub use transcripts::{put_transcript, read_transcript};

@@ -4,10 +4,10 @@ ghost use Rattle.std.specs.Prelude.{◌≡◌, [], ◌∷◌, ◌++◌, OnOk, op
 ghost use Rattle.sftp_text.specs.Formats.{◌then◌, mark, word, skip, strip};
 ghost use Rattle.sftp_text.specs.Fields.{fields_text, tail_text};
 ghost use Rattle.sftp_text.specs.Layouts.{id_text, packet_text};
-ghost use Rattle.sftp_text.specs.Lines.{side_letter, side_of_letter, show_whole, named_text, raw_text, digits_read};
+ghost use Rattle.sftp_text.specs.Lines.{side_letter, side_of_letter, named_line, raw_text, digits_read};
 ghost use Rattle.sftp_text.specs.Lines.{raw_read, whole, with_length, bytes_of_text, line_of, line_read};
 ghost use Rattle.sftp_text.specs.Moves.{Moves, MovesOver, Makes};
-ghost use Rattle.sftp_text.specs.Reads.{ReadsLine, GivesRecord, show_with, text_of_bytes};
+ghost use Rattle.sftp_text.specs.Reads.{ReadsLine, GivesRecord, show_with};
 ghost use Rattle.sftp_text.specs.Seen.{seen};
 
 use crate::errors::{Expected, Fault, Stop};
@@ -76,8 +76,7 @@ fn put_contents(layout: &Layout, bytes: &mut &[u8], text: &mut Vec<u8>) -> Resul
 
 /// Shows a packet after its length, which has to be all of these bytes.
 fn put_whole(layout: &Layout, bytes: &[u8], text: &mut Vec<u8>) -> Result<(), Stop>
-    requires { text.old.items ≡ [] }
-    ensures { Makes result text.new.items (show_whole (packet_text (seen layout.now)) bytes.now) }
+    ensures { Makes result text.new.items (whole ((packet_text (seen layout.now)).show text.old.items bytes.now)) }
 {
     let mut rest = bytes;
     put_contents(layout, &mut rest, text)?;
@@ -86,8 +85,7 @@ fn put_whole(layout: &Layout, bytes: &[u8], text: &mut Vec<u8>) -> Result<(), St
 
 /// Shows a packet with a layout.
 fn put_packet(layout: &Layout, bytes: &[u8], text: &mut Vec<u8>) -> Result<(), Stop>
-    requires { text.old.items ≡ [] }
-    ensures { Makes result text.new.items (show_with (packet_text (seen layout.now)) bytes.now) }
+    ensures { Makes result text.new.items (show_with (packet_text (seen layout.now)) text.old.items bytes.now) }
 {
     let mut rest = bytes;
     let length = rest.try_get_u32()?;
@@ -97,11 +95,11 @@ fn put_packet(layout: &Layout, bytes: &[u8], text: &mut Vec<u8>) -> Result<(), S
     put_whole(layout, rest, text)
 }
 
-/// Shows the bytes of a record by their layout.
-#[tactic(auto, unfolding(crate::specs::Lines::named_text))]
+/// Shows the bytes of a record by their layout, after the letter of its side.
+#[tactic(auto, unfolding(crate::specs::Lines::named_line))]
 fn put_named(side: Side, bytes: &[u8], text: &mut Vec<u8>) -> Result<(), Stop>
-    requires { text.old.items ≡ [] }
-    ensures { Makes result text.new.items (named_text side bytes.now) }
+    requires { text.old.items ≡ side_letter side ∷ [] }
+    ensures { Makes result text.new.items (named_line side bytes.now) }
 {
     match packet_shown(side, bytes) {
         Some(packet) => put_packet(&layout_of(packet), bytes, text),
@@ -121,19 +119,13 @@ fn put_raw(bytes: &[u8], text: &mut Vec<u8>) -> Result<(), AllocError>
     put_octets(bytes, text)
 }
 
-/// Writes the bytes of a record by name, or in hexadecimal.
-fn put_any(side: Side, bytes: &[u8], text: &mut Vec<u8>) -> Result<(), AllocError>
-    requires { text.old.items ≡ [] }
-    ensures { OnOk result (text.new.items ≡ text_of_bytes side bytes.now) }
+/// Writes the letter of a side in place of what `text` has.
+fn put_side(side: Side, text: &mut Vec<u8>) -> Result<(), AllocError>
+    ensures { OnOk result (text.new.items ≡ side_letter side ∷ []) }
 {
-    match put_named(side, bytes, text) {
-        Ok(()) => Ok(()),
-        Err(Stop::NoMemory) => Err(AllocError),
-        Err(Stop::Unfit(_)) => {
-            text.clear();
-            put_raw(bytes, text)
-        }
-    }
+    text.clear();
+    text.push(letter(side))?;
+    Ok(())
 }
 
 /// Writes the line of a record with these bytes, without a line feed, in place of what `text` has. Bytes that are not
@@ -147,10 +139,15 @@ fn put_any(side: Side, bytes: &[u8], text: &mut Vec<u8>) -> Result<(), AllocErro
 pub fn put_record(side: Side, bytes: &[u8], text: &mut Vec<u8>) -> Result<(), AllocError>
     ensures { OnOk result (text.new.items ≡ line_of side bytes.now) }
 {
-    text.clear();
-    put_any(side, bytes, text)?;
-    text.insert(0, letter(side))?;
-    Ok(())
+    put_side(side, text)?;
+    match put_named(side, bytes, text) {
+        Ok(()) => Ok(()),
+        Err(Stop::NoMemory) => Err(AllocError),
+        Err(Stop::Unfit(_)) => {
+            put_side(side, text)?;
+            put_raw(bytes, text)
+        }
+    }
 }
 
 /// Reads the id, if there is one, after a space.
