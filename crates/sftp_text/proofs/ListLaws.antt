@@ -1,5 +1,5 @@
 -- Lists and repeated steps, one item at a time.
-use Rattle.std.proofs.Common.{◌≡◌, ◌≢◌, ℕ, zero, suc, ◌+◌, ◌-◌, ◌<◌, List, [], ◌∷◌, ◌++◌, Option, Some, None, arith, refl, sym}
+use Rattle.std.proofs.Common.{◌≡◌, ◌≢◌, ℕ, zero, suc, ◌+◌, ◌-◌, ◌<◌, List, [], ◌∷◌, ◌++◌, Option, Some, None, arith, refl, sym, subst}
 use Rattle.std.specs.Prelude.{option_and_then}
 use Rattle.sftp_text.specs.Formats.{Step, Format, show_each, show_list, read_each, repeat, strip, if_found, if_any}
 
@@ -16,7 +16,8 @@ pub show_each_goes_on :
     → show_each item separator (left - 1) more rest ≡ show_each item separator left text bytes
 show_each_goes_on item separator left text bytes more rest some is =
     let same : left ≡ suc (left - 1) = omega arith in
-    sym (rw (← same) at (show_each-step item separator (left - 1) text bytes (more, rest) is))
+    let P : ℕ → Type 0 = λ n. show_each item separator (left - 1) more rest ≡ show_each item separator n text bytes in
+    subst P (sym same) (sym (show_each-step item separator (left - 1) text bytes (more, rest) is))
 
 pub show_each_fails :
     (item : Format) (separator : List ℕ) (left : ℕ) (text bytes : List ℕ) → 0 < left
@@ -37,7 +38,8 @@ pub show_list_goes_on :
     → show_each item separator (left - 1) more rest ≡ show_list item separator left text bytes
 show_list_goes_on item separator left text bytes more rest some is =
     let same : left ≡ suc (left - 1) = omega arith in
-    sym (rw (← same) at (show_list-step item separator (left - 1) text bytes (more, rest) is))
+    let P : ℕ → Type 0 = λ n. show_each item separator (left - 1) more rest ≡ show_list item separator n text bytes in
+    subst P (sym same) (sym (show_list-step item separator (left - 1) text bytes (more, rest) is))
 
 pub show_list_fails :
     (item : Format) (separator : List ℕ) (left : ℕ) (text bytes : List ℕ) → left ≢ 0
@@ -58,7 +60,9 @@ pub read_each_goes_on :
     → read_each item separator (most - 1) (count + 1) more after ≡ read_each item separator most count bytes text
 read_each_goes_on item separator most count bytes text rest more after some found is =
     let same : most ≡ suc (most - 1) = omega arith in
-    sym (rw (← same) at (read_each-step item separator (most - 1) count bytes text rest (more, after) found is))
+    let P : ℕ → Type 0 =
+    λ n. read_each item separator (most - 1) (count + 1) more after ≡ read_each item separator n count bytes text in
+    subst P (sym same) (sym (read_each-step item separator (most - 1) count bytes text rest (more, after) found is))
 
 pub read_each_fails :
     (item : Format) (separator : List ℕ) (most count : ℕ) (bytes text rest : List ℕ) → 0 < most
@@ -99,7 +103,8 @@ pub repeat_goes_on :
     → step done left ≡ Some (more, rest) → repeat step (most - 1) more rest ≡ repeat step most done left
 repeat_goes_on step most done left more rest some any is =
     let same : most ≡ suc (most - 1) = omega arith in
-    sym (rw (← same) at (repeat-some step (most - 1) done left (more, rest) any is))
+    let P : ℕ → Type 0 = λ n. repeat step (most - 1) more rest ≡ repeat step n done left in
+    subst P (sym same) (sym (repeat-some step (most - 1) done left (more, rest) any is))
 
 pub repeat_fails :
     (step : Step) (most : ℕ) (done left : List ℕ) → 0 < most → left ≢ []
