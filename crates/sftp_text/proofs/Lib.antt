@@ -3,6 +3,9 @@
 pub mod Stripping
 pub mod DigitLaws
 pub mod QuotedLaws
+pub mod FlagLaws
+pub mod ListLaws
+pub mod SpaceLaws
 pub mod Exact
 pub mod Repeats
 pub mod Numerals

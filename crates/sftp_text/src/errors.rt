@@ -140,8 +140,12 @@ impl<T: Drop> From<AllocFailed<T>> for ShowFault {
 }
 
 impl Stop {
+    ghost use Rattle.sftp_text.specs.Faults.{IsFaultOf};
+
     /// The fault of a line of `length` bytes, of which `left` were left where it stopped.
-    pub(crate) fn in_line(self, length: usize, left: usize) -> Fault {
+    pub(crate) fn in_line(self, length: usize, left: usize) -> Fault
+        ensures { IsFaultOf self result }
+    {
         match self {
             Stop::NoMemory => Fault::NoMemory,
             Stop::Unfit(expected) => Fault::Unread {

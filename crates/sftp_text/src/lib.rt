@@ -10,10 +10,12 @@ mod laws;
 mod layouts;
 mod lines;
 mod lists;
+mod names;
 mod numbers;
 mod octets;
 mod quoted;
 mod records;
+mod table;
 mod transcripts;
 mod trees;
 mod words;
@@ -23,6 +25,7 @@ pub use laws::{
     entries_are_read, heads_are_read, lines_are_printable, lines_are_read, packets_have_names,
     roots_are_read, sessions_are_read,
 };
+pub use lines::{is_blank, take_line};
 pub use records::{put_record, read_record};
 pub use transcripts::{put_transcript, read_transcript};
 pub use trees::{

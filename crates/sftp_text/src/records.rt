@@ -1,56 +1,42 @@
 //! The line of a record: its side, its id if it has one, its packet's name and its fields, or `raw` and its bytes in
 //! hexadecimal.
+ghost use Rattle.std.specs.Prelude.{◌≡◌, [], ◌∷◌, ◌++◌, OnOk, option_and_then};
+ghost use Rattle.sftp_text.specs.Formats.{◌then◌, mark, word, skip, strip};
+ghost use Rattle.sftp_text.specs.Fields.{fields_text, tail_text};
+ghost use Rattle.sftp_text.specs.Layouts.{id_text, packet_text};
+ghost use Rattle.sftp_text.specs.Lines.{side_letter, side_of_letter, named_line, raw_text, digits_read};
+ghost use Rattle.sftp_text.specs.Lines.{raw_read, whole, with_length, bytes_of_text, line_of, line_read};
+ghost use Rattle.sftp_text.specs.Moves.{Moves, MovesOver, Makes};
+ghost use Rattle.sftp_text.specs.Reads.{ReadsLine, GivesRecord, show_with};
+ghost use Rattle.sftp_text.specs.Seen.{seen};
 
 use crate::errors::{Expected, Fault, Stop};
 use crate::fields::{put_fields, put_tail, read_fields, read_tail};
-use crate::layouts::{ALL, Layout, PacketType, layout_of};
-use crate::numbers::{put_number, read_decimal};
+use crate::layouts::Layout;
+use crate::names::{behind, from_name, packet_named, packet_shown};
+use crate::numbers::{put_number, read_number};
 use crate::octets::{put_octets, read_octets};
 use crate::quoted::append_string;
-use crate::words::{read_end, read_label, read_word};
-use bytes::{Buf, BufMut};
+use crate::table::layout_of;
+use crate::words::{after_word, read_end, read_word};
+use bytes::Buf;
 use sftp_wire::Side;
-use std::alloc::{AllocError, Global};
+use std::alloc::AllocError;
 
 /// How a line names a side.
-fn letter(side: Side) -> u8 {
+fn letter(side: Side) -> u8
+    ensures { result ≡ side_letter side }
+{
     match side {
         Side::Client => b'C',
         Side::Server => b'S',
     }
 }
 
-fn is_same(a: Side, b: Side) -> bool {
-    letter(a) == letter(b)
-}
-
-/// Whether a packet with this type and this body is in the layout as far as its mark.
-fn begins_as(layout: &Layout, side: Side, kind: u8, body: &[u8]) -> bool {
-    if !is_same(layout.side, side) || layout.kind != kind {
-        return false;
-    }
-    if layout.mark.is_empty() {
-        return true;
-    }
-    match body.split_at_checked(4) {
-        Some((_, rest)) => rest.strip_prefix(layout.mark).is_some(),
-        None => false,
-    }
-}
-
-/// The first layout of the table that a packet of this side with this type and this body begins as.
-fn layout_shown(side: Side, kind: u8, body: &[u8]) -> Option<Layout> {
-    'layouts: for packet in &ALL {
-        let layout = layout_of(*packet);
-        if begins_as(&layout, side, kind, body) {
-            return Some(layout);
-        }
-    }
-    None
-}
-
-/// Shows the id, if the layout has one, after a space.
-fn put_id(has_id: bool, bytes: &mut &[u8], text: &mut Vec<u8>) -> Result<(), Stop> {
+/// Shows the id, if there is one, after a space.
+fn put_id(has_id: bool, bytes: &mut &[u8], text: &mut Vec<u8>) -> Result<(), Stop>
+    ensures { Moves result text.new.items bytes.new.now ((id_text has_id).show text.old.items bytes.old.now) }
+{
     if !has_id {
         return Ok(());
     }
@@ -59,51 +45,87 @@ fn put_id(has_id: bool, bytes: &mut &[u8], text: &mut Vec<u8>) -> Result<(), Sto
 }
 
 /// Shows the name, after a space, and takes the mark.
-fn put_name(layout: &Layout, bytes: &mut &[u8], text: &mut Vec<u8>) -> Result<(), Stop> {
+fn put_name(layout: &Layout, bytes: &mut &[u8], text: &mut Vec<u8>) -> Result<(), Stop>
+    ensures { Moves result text.new.items bytes.new.now
+        (skip layout.now.mark.now (text.old.items ++ (32 ∷ layout.now.name.now)) bytes.old.now) }
+{
     text.push(b' ')?;
     text.extend_from_slice(layout.name)?;
     read_word(layout.mark, Expected::Name, bytes)
 }
 
-/// Shows the body of a packet: what comes after its type.
-fn put_body(layout: &Layout, bytes: &mut &[u8], text: &mut Vec<u8>) -> Result<(), Stop> {
+/// Shows the fields and what comes after them.
+fn put_parts(layout: &Layout, bytes: &mut &[u8], text: &mut Vec<u8>) -> Result<(), Stop>
+    ensures { Moves result text.new.items bytes.new.now
+        ((fields_text layout.now.fields.now then tail_text layout.now.tail).show text.old.items bytes.old.now) }
+{
+    put_fields(layout.fields, bytes, text)?;
+    put_tail(layout.tail, bytes, text)
+}
+
+/// Shows a packet after its length.
+fn put_contents(layout: &Layout, bytes: &mut &[u8], text: &mut Vec<u8>) -> Result<(), Stop>
+    ensures { Moves result text.new.items bytes.new.now
+        ((packet_text (seen layout.now)).show text.old.items bytes.old.now) }
+{
+    read_word(&[layout.kind], Expected::Name, bytes)?;
     put_id(layout.has_id, bytes, text)?;
     put_name(layout, bytes, text)?;
-    put_fields(layout.fields, bytes, text)?;
-    put_tail(layout.tail, bytes, text)?;
-    read_end(bytes)
+    put_parts(layout, bytes, text)
 }
 
-/// Takes the length and the type of a packet that is whole.
-fn take_kind(bytes: &mut &[u8]) -> Result<u8, Stop> {
-    let length = bytes.try_get_u32()?;
-    if bytes.len() != length as usize {
+/// Shows a packet after its length, which has to be all of these bytes.
+fn put_whole(layout: &Layout, bytes: &[u8], text: &mut Vec<u8>) -> Result<(), Stop>
+    ensures { Makes result text.new.items (whole ((packet_text (seen layout.now)).show text.old.items bytes.now)) }
+{
+    let mut rest = bytes;
+    put_contents(layout, &mut rest, text)?;
+    read_end(rest)
+}
+
+/// Shows a packet with a layout.
+fn put_packet(layout: &Layout, bytes: &[u8], text: &mut Vec<u8>) -> Result<(), Stop>
+    ensures { Makes result text.new.items (show_with (packet_text (seen layout.now)) text.old.items bytes.now) }
+{
+    let mut rest = bytes;
+    let length = rest.try_get_u32()?;
+    if length as usize != rest.len() {
         return Err(Stop::Unfit(Expected::Fewer));
     }
-    let Some((kind, rest)) = bytes.split_first() else {
-        return Err(Stop::Unfit(Expected::Fewer));
-    };
-    *bytes = rest;
-    Ok(*kind)
+    put_whole(layout, rest, text)
 }
 
-/// Shows a packet in the first layout that it begins as.
-fn put_packet(side: Side, bytes: &mut &[u8], text: &mut Vec<u8>) -> Result<(), Stop> {
-    let kind = take_kind(bytes)?;
-    let Some(layout) = layout_shown(side, kind, bytes) else {
-        return Err(Stop::Unfit(Expected::Name));
-    };
-    put_body(&layout, bytes, text)
+/// Shows the bytes of a record by their layout, after the letter of its side.
+#[tactic(auto, unfolding(crate::specs::Lines::named_line))]
+fn put_named(side: Side, bytes: &[u8], text: &mut Vec<u8>) -> Result<(), Stop>
+    requires { text.old.items ≡ side_letter side ∷ [] }
+    ensures { Makes result text.new.items (named_line side bytes.now) }
+{
+    match packet_shown(side, bytes) {
+        Some(packet) => put_packet(&layout_of(packet), bytes, text),
+        None => Err(Stop::Unfit(Expected::Name)),
+    }
 }
 
 /// Writes bytes in hexadecimal, after `raw`.
-fn put_raw(bytes: &[u8], text: &mut Vec<u8>) -> Result<(), AllocError> {
+fn put_raw(bytes: &[u8], text: &mut Vec<u8>) -> Result<(), AllocError>
+    ensures { OnOk result (text.new.items ≡ text.old.items ++ raw_text bytes.now) }
+{
     text.extend_from_slice(b" raw")?;
     if bytes.is_empty() {
         return Ok(());
     }
     text.push(b' ')?;
     put_octets(bytes, text)
+}
+
+/// Writes the letter of a side in place of what `text` has.
+fn put_side(side: Side, text: &mut Vec<u8>) -> Result<(), AllocError>
+    ensures { OnOk result (text.new.items ≡ side_letter side ∷ []) }
+{
+    text.clear();
+    text.push(letter(side))?;
+    Ok(())
 }
 
 /// Writes the line of a record with these bytes, without a line feed, in place of what `text` has. Bytes that are not
@@ -113,124 +135,103 @@ fn put_raw(bytes: &[u8], text: &mut Vec<u8>) -> Result<(), AllocError> {
 /// # Errors
 ///
 /// `AllocError` if memory runs out. `text` then has any bytes.
-pub fn put_record(side: Side, bytes: &[u8], text: &mut Vec<u8>) -> Result<(), AllocError> {
-    let mut rest = bytes;
-    text.clear();
-    text.push(letter(side))?;
-    match put_packet(side, &mut rest, text) {
+#[tactic(auto, unfolding(crate::specs::Lines::line_of))]
+pub fn put_record(side: Side, bytes: &[u8], text: &mut Vec<u8>) -> Result<(), AllocError>
+    ensures { OnOk result (text.new.items ≡ line_of side bytes.now) }
+{
+    put_side(side, text)?;
+    match put_named(side, bytes, text) {
         Ok(()) => Ok(()),
         Err(Stop::NoMemory) => Err(AllocError),
         Err(Stop::Unfit(_)) => {
-            text.clear();
-            text.push(letter(side))?;
+            put_side(side, text)?;
             put_raw(bytes, text)
         }
     }
 }
 
-/// Takes the side from the front of a line.
-fn read_side(line: &mut &[u8]) -> Result<Side, Stop> {
-    if read_label(b"C", line) {
-        Ok(Side::Client)
-    } else if read_label(b"S", line) {
-        Ok(Side::Server)
-    } else {
-        Err(Stop::Unfit(Expected::Side))
+/// Reads the id, if there is one, after a space.
+fn read_id(has_id: bool, line: &mut &[u8], bytes: &mut Vec<u8>) -> Result<(), Stop>
+    ensures { Moves result bytes.new.items line.new.now ((id_text has_id).read bytes.old.items line.old.now) }
+{
+    if !has_id {
+        return Ok(());
     }
-}
-
-/// How many bytes are in front of the first space, or of the end.
-fn word_length(line: &[u8]) -> usize {
-    let mut length: usize = 0;
-    'bytes: for byte in line {
-        if *byte == b' ' {
-            return length;
-        }
-        length += 1;
-    }
-    length
-}
-
-/// Takes a word from the front of a line, up to a space or the end.
-fn take_word<'a>(line: &mut &'a [u8]) -> &'a [u8] {
-    let (word, rest) = line.split_at(word_length(line));
-    *line = rest;
-    word
-}
-
-/// Takes an id after a space from the front of a line, if a digit is there.
-fn read_id(line: &mut &[u8]) -> Result<Option<u32>, Stop> {
-    let Some(rest) = line.strip_prefix(b" ") else {
-        return Err(Stop::Unfit(Expected::Space));
-    };
-    match rest.first() {
-        Some(first) if first.is_ascii_digit() => {
-            *line = rest;
-            let id = read_decimal(line)?;
-            Ok(Some(id))
-        }
-        Some(_) => Ok(None),
-        None => Ok(None),
-    }
-}
-
-/// The layout of a side with this name, and with or without an id.
-fn layout_named(side: Side, has_id: bool, name: &[u8]) -> Option<Layout> {
-    'layouts: for packet in &ALL {
-        let layout = layout_of(*packet);
-        if is_same(layout.side, side) && layout.has_id == has_id && layout.name == name {
-            return Some(layout);
-        }
-    }
-    None
-}
-
-/// Takes the name of a packet after a space from the front of a line.
-fn read_name(side: Side, has_id: bool, line: &mut &[u8]) -> Result<Layout, Stop> {
     read_word(b" ", Expected::Space, line)?;
-    let mut rest = *line;
-    let name = take_word(&mut rest);
-    let Some(layout) = layout_named(side, has_id, name) else {
-        return Err(Stop::Unfit(Expected::Name));
-    };
-    *line = rest;
-    Ok(layout)
+    read_number(line, bytes)
 }
 
-/// Writes the type, the id if there is one, and the mark.
-fn put_start(layout: &Layout, id: Option<u32>, body: &mut Vec<u8>) -> Result<(), Stop> {
-    body.push(layout.kind)?;
-    if let Some(id) = id {
-        body.put_u32(id)?;
-    }
-    body.extend_from_slice(layout.mark)?;
+/// Reads the name, after a space, and writes the mark.
+fn read_name(layout: &Layout, line: &mut &[u8], bytes: &mut Vec<u8>) -> Result<(), Stop>
+    ensures { Moves result bytes.new.items line.new.now
+        ((word (32 ∷ layout.now.name.now) then mark layout.now.mark.now).read bytes.old.items line.old.now) }
+{
+    read_spaced(layout.name, line)?;
+    bytes.extend_from_slice(layout.mark)?;
     Ok(())
 }
 
-/// Reads a packet's fields, up to the end of the line.
-fn read_body(layout: &Layout, line: &mut &[u8], body: &mut Vec<u8>) -> Result<(), Stop> {
-    read_fields(layout.fields, line, body)?;
-    read_tail(layout.tail, line, body)?;
+/// Takes a space and a word from the front of a line.
+fn read_spaced(name: &[u8], line: &mut &[u8]) -> Result<(), Stop>
+    ensures { MovesOver result line.new.now (strip (32 ∷ name.now) line.old.now) }
+{
+    read_word(b" ", Expected::Space, line)?;
+    read_word(name, Expected::Name, line)
+}
+
+/// Reads the fields and what comes after them.
+fn read_parts(layout: &Layout, line: &mut &[u8], bytes: &mut Vec<u8>) -> Result<(), Stop>
+    ensures { Moves result bytes.new.items line.new.now
+        ((fields_text layout.now.fields.now then tail_text layout.now.tail).read bytes.old.items line.old.now) }
+{
+    read_fields(layout.fields, line, bytes)?;
+    read_tail(layout.tail, line, bytes)
+}
+
+/// Reads a packet without its length.
+fn read_contents(layout: &Layout, line: &mut &[u8], bytes: &mut Vec<u8>) -> Result<(), Stop>
+    ensures { Moves result bytes.new.items line.new.now
+        ((packet_text (seen layout.now)).read bytes.old.items line.old.now) }
+{
+    bytes.push(layout.kind)?;
+    read_id(layout.has_id, line, bytes)?;
+    read_name(layout, line, bytes)?;
+    read_parts(layout, line, bytes)
+}
+
+/// Reads a packet without its length, up to the end of the line.
+fn read_whole(layout: &Layout, line: &mut &[u8], bytes: &mut Vec<u8>) -> Result<(), Stop>
+    requires { bytes.old.items ≡ [] }
+    ensures { Makes result bytes.new.items (whole ((packet_text (seen layout.now)).read [] line.old.now)) }
+{
+    read_contents(layout, line, bytes)?;
     read_end(line)
 }
 
-/// Reads a packet without its length, from its id and its name on.
-fn read_packet(side: Side, line: &mut &[u8], body: &mut Vec<u8>) -> Result<(), Stop> {
-    let id = read_id(line)?;
-    let layout = read_name(side, id.is_some(), line)?;
-    put_start(&layout, id, body)?;
-    read_body(&layout, line, body)
+/// Writes the bytes of a packet after their length.
+fn append_packet(packet: &[u8], bytes: &mut Vec<u8>) -> Result<(), Stop>
+    requires { bytes.old.items ≡ [] }
+    ensures { Makes result bytes.new.items (with_length packet.now) }
+{
+    append_string(packet, bytes)
 }
 
 /// Reads a packet with its length.
-fn read_whole(side: Side, line: &mut &[u8], bytes: &mut Vec<u8>) -> Result<(), Stop> {
-    let mut body = Vec::new(*bytes.allocator());
-    read_packet(side, line, &mut body)?;
-    append_string(body.as_slice(), bytes)
+fn read_packet(layout: &Layout, line: &mut &[u8], bytes: &mut Vec<u8>) -> Result<(), Stop>
+    requires { bytes.old.items ≡ [] }
+    ensures { Makes result bytes.new.items (option_and_then with_length
+        (whole ((packet_text (seen layout.now)).read [] line.old.now))) }
+{
+    let mut packet = Vec::new(*bytes.allocator());
+    read_whole(layout, line, &mut packet)?;
+    append_packet(packet.as_slice(), bytes)
 }
 
 /// Reads what follows `raw`.
-fn read_raw(line: &mut &[u8], bytes: &mut Vec<u8>) -> Result<(), Stop> {
+fn read_digits(line: &mut &[u8], bytes: &mut Vec<u8>) -> Result<(), Stop>
+    requires { bytes.old.items ≡ [] }
+    ensures { Makes result bytes.new.items (digits_read line.old.now) }
+{
     if line.is_empty() {
         return Ok(());
     }
@@ -238,25 +239,69 @@ fn read_raw(line: &mut &[u8], bytes: &mut Vec<u8>) -> Result<(), Stop> {
     read_octets(line, bytes)
 }
 
-/// Reads a line from its side on.
-fn read_line(line: &mut &[u8], bytes: &mut Vec<u8>) -> Result<Side, Stop> {
-    let side = read_side(line)?;
-    if read_label(b" raw", line) {
-        read_raw(line, bytes)?;
-    } else {
-        read_whole(side, line, bytes)?;
+/// Reads bytes in hexadecimal, after `raw`.
+fn read_raw(line: &mut &[u8], bytes: &mut Vec<u8>) -> Result<(), Stop>
+    requires { bytes.old.items ≡ [] }
+    ensures { Makes result bytes.new.items (raw_read line.old.now) }
+{
+    let Some(rest) = after_word(b" raw", line) else {
+        *line = from_name(behind(1, line));
+        return Err(Stop::Unfit(Expected::Name));
+    };
+    *line = rest;
+    read_digits(line, bytes)
+}
+
+/// Reads a line after its side.
+#[tactic(auto, unfolding(crate::specs::Lines::bytes_of_text))]
+fn read_any(side: Side, line: &mut &[u8], bytes: &mut Vec<u8>) -> Result<(), Stop>
+    requires { bytes.old.items ≡ [] }
+    ensures { Makes result bytes.new.items (bytes_of_text side line.old.now) }
+{
+    match packet_named(side, line) {
+        Some(packet) => read_packet(&layout_of(packet), line, bytes),
+        None => read_raw(line, bytes),
     }
+}
+
+/// The side that a letter names.
+fn side_of(letter: u8) -> Option<Side>
+    ensures { result ≡ side_of_letter letter }
+{
+    match letter {
+        b'C' => Some(Side::Client),
+        b'S' => Some(Side::Server),
+        _ => None,
+    }
+}
+
+/// Reads a line from its side on.
+#[tactic(auto, unfolding(crate::specs::Lines::line_read))]
+fn read_line(line: &mut &[u8], bytes: &mut Vec<u8>) -> Result<Side, Stop>
+    requires { bytes.old.items ≡ [] }
+    ensures { ReadsLine result bytes.new.items (line_read line.old.now) }
+{
+    let Some((first, rest)) = line.split_first() else {
+        return Err(Stop::Unfit(Expected::Side));
+    };
+    let Some(side) = side_of(*first) else {
+        return Err(Stop::Unfit(Expected::Side));
+    };
+    *line = rest;
+    read_any(side, line, bytes)?;
     Ok(side)
 }
 
-/// Reads the line of a record, without a line feed, in any way of writing that the grammar allows. Returns the side of the
-/// record, and puts its bytes in place of what `bytes` has.
+/// Reads the line of a record, without a line feed, in any way of writing that the grammar allows. Returns the side of
+/// the record, and puts its bytes in place of what `bytes` has.
 ///
 /// # Errors
 ///
 /// `Unread` with the column where the line differs from the grammar, and what was expected there; `NoMemory` if memory
 /// runs out. `bytes` then has any bytes.
-pub fn read_record(line: &[u8], bytes: &mut Vec<u8>) -> Result<Side, Fault> {
+pub fn read_record(line: &[u8], bytes: &mut Vec<u8>) -> Result<Side, Fault>
+    ensures { GivesRecord result bytes.new.items (line_read line.now) }
+{
     let mut rest = line;
     bytes.clear();
     match read_line(&mut rest, bytes) {

@@ -1,6 +1,7 @@
 //! Whole transcripts as text, a line a record.
+ghost use Rattle.std.specs.Prelude.{◌≡◌, ◌+◌, ◌<◌, ◌≤◌, length, IfSome, OnOk};
 
-use crate::errors::{Expected, ShowFault, Stop, TextFault};
+use crate::errors::{Expected, Fault, ShowFault, TextFault};
 use crate::lines::{is_blank, take_line};
 use crate::records::{put_record, read_record};
 use crate::words::read_word;
@@ -11,7 +12,9 @@ use std::alloc::AllocError;
 const OPENING: &[u8] = b"SFTPTR01";
 
 /// Takes the side of a record.
-fn take_side(bytes: &mut &[u8]) -> Option<Side> {
+fn take_side(bytes: &mut &[u8]) -> Option<Side>
+    ensures { IfSome result (λ _. length bytes.new.now < length bytes.old.now) }
+{
     let (first, rest) = bytes.split_first()?;
     let side = match *first {
         b'C' => Side::Client,
@@ -23,7 +26,9 @@ fn take_side(bytes: &mut &[u8]) -> Option<Side> {
 }
 
 /// How many bytes a record has whose bytes are in front: as many as its length field says, or all if not all have come.
-fn record_length(bytes: &[u8]) -> usize {
+fn record_length(bytes: &[u8]) -> usize
+    ensures { result ≤ length bytes.now }
+{
     let mut rest = bytes;
     match rest.try_get_u32() {
         Ok(length) => bytes.len().min((length as usize).saturating_add(4)),
@@ -72,18 +77,14 @@ fn append_record(side: Side, record: &[u8], bytes: &mut Vec<u8>) -> Result<(), A
 }
 
 /// Reads a line, and appends its record if it has one.
-fn read_next(
-    line: &[u8],
-    record: &mut Vec<u8>,
-    bytes: &mut Vec<u8>,
-) -> Result<(), crate::errors::Fault> {
+fn read_next(line: &[u8], record: &mut Vec<u8>, bytes: &mut Vec<u8>) -> Result<(), Fault> {
     if is_blank(line) {
         return Ok(());
     }
     let side = read_record(line, record)?;
     match append_record(side, record.as_slice(), bytes) {
         Ok(()) => Ok(()),
-        Err(_) => Err(crate::errors::Fault::NoMemory),
+        Err(_) => Err(Fault::NoMemory),
     }
 }
 

@@ -1,27 +1,36 @@
 //! Tree files as text: a line for the head, one for the root, and one an entry.
+ghost use Rattle.std.specs.Prelude.{codes};
+ghost use Rattle.sftp_text.specs.Formats.{◌then◌, word};
+ghost use Rattle.sftp_text.specs.Digits.{number};
+ghost use Rattle.sftp_text.specs.Quoted.{string_text};
+ghost use Rattle.sftp_text.specs.Trees as trees;
+ghost use Rattle.sftp_text.specs.Moves.{Moves};
 
 use crate::errors::{Expected, Fault, ShowFault, Stop, TextFault};
 use crate::lines::{is_blank, take_line};
 use crate::numbers::{put_number, put_octal, read_number, read_octal};
 use crate::quoted::{put_string, read_string};
-use crate::words::{read_end, read_label, read_word};
-use std::alloc::AllocError;
-
-const OPENING: &[u8] = b"SFTREE01";
+use crate::words::{read_end, read_word};
 
 /// Shows a uint32 after a label.
-fn put_labelled(label: &[u8], bytes: &mut &[u8], text: &mut Vec<u8>) -> Result<(), Stop> {
+fn put_labelled(label: &[u8], bytes: &mut &[u8], text: &mut Vec<u8>) -> Result<(), Stop>
+    ensures { Moves result text.new.items bytes.new.now ((word label.now then number).show text.old.items bytes.old.now) }
+{
     text.extend_from_slice(label)?;
     put_number(bytes, text)
 }
 
-fn read_labelled(label: &[u8], line: &mut &[u8], bytes: &mut Vec<u8>) -> Result<(), Stop> {
+fn read_labelled(label: &[u8], line: &mut &[u8], bytes: &mut Vec<u8>) -> Result<(), Stop>
+    ensures { Moves result bytes.new.items line.new.now ((word label.now then number).read bytes.old.items line.old.now) }
+{
     read_word(label, Expected::Head, line)?;
     read_number(line, bytes)
 }
 
 /// Shows a text after a label.
-fn put_text(label: &[u8], bytes: &mut &[u8], text: &mut Vec<u8>) -> Result<(), Stop> {
+fn put_text(label: &[u8], bytes: &mut &[u8], text: &mut Vec<u8>) -> Result<(), Stop>
+    ensures { Moves result text.new.items bytes.new.now ((word label.now then string_text).show text.old.items bytes.old.now) }
+{
     text.extend_from_slice(label)?;
     put_string(bytes, text)
 }
@@ -31,56 +40,90 @@ fn read_text(
     expected: Expected,
     line: &mut &[u8],
     bytes: &mut Vec<u8>,
-) -> Result<(), Stop> {
+) -> Result<(), Stop>
+    ensures { Moves result bytes.new.items line.new.now ((word label.now then string_text).read bytes.old.items line.old.now) }
+{
     read_word(label, expected, line)?;
     read_string(line, bytes)
 }
 
 /// Shows the head of a tree file, from its opening up to its count of entries, as `home "/" uid 0 gid 0 entries 2`.
-fn put_head_parts(bytes: &mut &[u8], text: &mut Vec<u8>) -> Result<(), Stop> {
-    read_word(OPENING, Expected::Head, bytes)?;
+#[tactic(auto, unfolding(crate::specs::Trees::head_text))]
+fn put_head_parts(bytes: &mut &[u8], text: &mut Vec<u8>) -> Result<(), Stop>
+    ensures { Moves result text.new.items bytes.new.now (trees.head_text.show text.old.items bytes.old.now) }
+{
+    read_word(b"SFTREE01", Expected::Head, bytes)?;
     put_text(b"home ", bytes, text)?;
+    put_three(bytes, text)
+}
+
+/// Shows the user, the group and the number of entries.
+fn put_three(bytes: &mut &[u8], text: &mut Vec<u8>) -> Result<(), Stop>
+    ensures { Moves result text.new.items bytes.new.now
+        ((word (codes " uid ") then number then word (codes " gid ") then number
+        then word (codes " entries ") then number).show text.old.items bytes.old.now) }
+{
     put_labelled(b" uid ", bytes, text)?;
     put_labelled(b" gid ", bytes, text)?;
     put_labelled(b" entries ", bytes, text)
 }
 
-fn read_head_parts(line: &mut &[u8], bytes: &mut Vec<u8>) -> Result<(), Stop> {
-    bytes.extend_from_slice(OPENING)?;
-    read_text(b"home ", Expected::Head, line, bytes)?;
+/// Reads the user, the group and the number of entries.
+fn read_three(line: &mut &[u8], bytes: &mut Vec<u8>) -> Result<(), Stop>
+    ensures { Moves result bytes.new.items line.new.now
+        ((word (codes " uid ") then number then word (codes " gid ") then number
+        then word (codes " entries ") then number).read bytes.old.items line.old.now) }
+{
     read_labelled(b" uid ", line, bytes)?;
     read_labelled(b" gid ", line, bytes)?;
-    read_labelled(b" entries ", line, bytes)?;
-    read_end(line)
+    read_labelled(b" entries ", line, bytes)
+}
+
+#[tactic(auto, unfolding(crate::specs::Trees::head_text))]
+fn read_head_parts(line: &mut &[u8], bytes: &mut Vec<u8>) -> Result<(), Stop>
+    ensures { Moves result bytes.new.items line.new.now (trees.head_text.read bytes.old.items line.old.now) }
+{
+    bytes.extend_from_slice(b"SFTREE01")?;
+    read_text(b"home ", Expected::Head, line, bytes)?;
+    read_three(line, bytes)
 }
 
 /// Shows an owner: user and group in decimal, permissions in octal, each after a space.
-fn put_owner(bytes: &mut &[u8], text: &mut Vec<u8>) -> Result<(), Stop> {
+#[tactic(auto, unfolding(crate::specs::Trees::owner_text))]
+fn put_owner(bytes: &mut &[u8], text: &mut Vec<u8>) -> Result<(), Stop>
+    ensures { Moves result text.new.items bytes.new.now (trees.owner_text.show text.old.items bytes.old.now) }
+{
     put_labelled(b" ", bytes, text)?;
     put_labelled(b" ", bytes, text)?;
     text.push(b' ')?;
     put_octal(bytes, text)
 }
 
-fn read_owner(line: &mut &[u8], bytes: &mut Vec<u8>) -> Result<(), Stop> {
-    read_word(b" ", Expected::Space, line)?;
-    read_number(line, bytes)?;
-    read_word(b" ", Expected::Space, line)?;
-    read_number(line, bytes)?;
+#[tactic(auto, unfolding(crate::specs::Trees::owner_text))]
+fn read_owner(line: &mut &[u8], bytes: &mut Vec<u8>) -> Result<(), Stop>
+    ensures { Moves result bytes.new.items line.new.now (trees.owner_text.read bytes.old.items line.old.now) }
+{
+    read_labelled(b" ", line, bytes)?;
+    read_labelled(b" ", line, bytes)?;
     read_word(b" ", Expected::Space, line)?;
     read_octal(line, bytes)
 }
 
 /// Shows the root, as `D "/" 0 0 0755`.
-fn put_root_parts(bytes: &mut &[u8], text: &mut Vec<u8>) -> Result<(), Stop> {
+#[tactic(auto, unfolding(crate::specs::Trees::root_text))]
+fn put_root_parts(bytes: &mut &[u8], text: &mut Vec<u8>) -> Result<(), Stop>
+    ensures { Moves result text.new.items bytes.new.now (trees.root_text.show text.old.items bytes.old.now) }
+{
     text.extend_from_slice(b"D \"/\"")?;
     put_owner(bytes, text)
 }
 
-fn read_root_parts(line: &mut &[u8], bytes: &mut Vec<u8>) -> Result<(), Stop> {
+#[tactic(auto, unfolding(crate::specs::Trees::root_text))]
+fn read_root_parts(line: &mut &[u8], bytes: &mut Vec<u8>) -> Result<(), Stop>
+    ensures { Moves result bytes.new.items line.new.now (trees.root_text.read bytes.old.items line.old.now) }
+{
     read_word(b"D \"/\"", Expected::Root, line)?;
-    read_owner(line, bytes)?;
-    read_end(line)
+    read_owner(line, bytes)
 }
 
 /// The kind of an entry: the byte after its path.
@@ -186,6 +229,20 @@ pub fn put_entry(bytes: &mut &[u8], text: &mut Vec<u8>) -> Result<(), ShowFault>
     Ok(())
 }
 
+/// Appends the lines of entries up to the end. There are at most as many as bytes.
+fn put_entries(bytes: &mut &[u8], text: &mut Vec<u8>) -> Result<(), Stop> {
+    let mut most = bytes.len();
+    'entries: while most > 0 {
+        if bytes.is_empty() {
+            return Ok(());
+        }
+        put_entry_parts(bytes, text)?;
+        text.push(b'\n')?;
+        most -= 1;
+    }
+    Ok(())
+}
+
 /// Appends the lines of a tree file to a text, each with a line feed. The count in the head may differ from the
 /// number of entries that follow.
 ///
@@ -198,11 +255,16 @@ pub fn put_tree(bytes: &[u8], text: &mut Vec<u8>) -> Result<(), ShowFault> {
     text.push(b'\n')?;
     put_root(&mut rest, text)?;
     text.push(b'\n')?;
-    'entries: while !rest.is_empty() {
-        put_entry(&mut rest, text)?;
-        text.push(b'\n')?;
-    }
+    put_entries(&mut rest, text)?;
     Ok(())
+}
+
+/// Succeeds where nothing is left of a line.
+fn ended(line: &[u8], rest: &[u8]) -> Result<(), Fault> {
+    match read_end(rest) {
+        Ok(()) => Ok(()),
+        Err(stop) => Err(stop.in_line(line.len(), rest.len())),
+    }
 }
 
 /// Reads a line of a head, and appends its bytes: the opening, the home, the user, the group and the count of entries.
@@ -214,7 +276,7 @@ pub fn put_tree(bytes: &[u8], text: &mut Vec<u8>) -> Result<(), ShowFault> {
 pub fn read_head(line: &[u8], bytes: &mut Vec<u8>) -> Result<(), Fault> {
     let mut rest = line;
     match read_head_parts(&mut rest, bytes) {
-        Ok(()) => Ok(()),
+        Ok(()) => ended(line, rest),
         Err(stop) => Err(stop.in_line(line.len(), rest.len())),
     }
 }
@@ -227,7 +289,7 @@ pub fn read_head(line: &[u8], bytes: &mut Vec<u8>) -> Result<(), Fault> {
 pub fn read_root(line: &[u8], bytes: &mut Vec<u8>) -> Result<(), Fault> {
     let mut rest = line;
     match read_root_parts(&mut rest, bytes) {
-        Ok(()) => Ok(()),
+        Ok(()) => ended(line, rest),
         Err(stop) => Err(stop.in_line(line.len(), rest.len())),
     }
 }

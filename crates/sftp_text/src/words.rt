@@ -6,7 +6,7 @@ ghost use Rattle.sftp_text.specs.Moves.{MovesOver, IsStripped};
 use crate::errors::{Expected, Stop};
 
 /// What follows a word at the front of a line, or of bytes.
-fn after_word<'a>(word: &[u8], line: &'a [u8]) -> Option<&'a [u8]>
+pub(crate) fn after_word<'a>(word: &[u8], line: &'a [u8]) -> Option<&'a [u8]>
     ensures { MatchOption result (strip word.now line.now ≡ None) (λ rest. strip word.now line.now ≡ Some rest.now) }
 {
     line.strip_prefix(word)
