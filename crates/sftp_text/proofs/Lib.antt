@@ -16,5 +16,6 @@ pub mod Bodies
 pub mod Written
 pub mod Sessions
 pub mod TreeLines
+pub mod Files
 pub mod Shows
 pub mod Named

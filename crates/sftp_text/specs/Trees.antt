@@ -58,7 +58,8 @@ line_and line others = option_and_then (λ text. Some (line ++ 10 ∷ text)) oth
 
 -- the lines of entries up to the end of the bytes, at most the given number of them
 abbrev pub entry_lines : ℕ → List ℕ → Option (List ℕ)
-entry_lines zero bytes = Some []
+entry_lines zero [] = Some []
+entry_lines zero (b ∷ bytes) = None
 entry_lines (suc most) [] = Some []
 entry_lines (suc most) (b ∷ bytes) =
     option_and_then (λ shown. line_and shown.0 (entry_lines most shown.1)) (entry_text.show [] (b ∷ bytes))

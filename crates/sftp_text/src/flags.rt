@@ -92,17 +92,17 @@ fn added(flags: u32, flag: u32) -> Option<u32>
 fn with_flag(flags: u32, name: &[u8]) -> Option<u32>
     ensures { result ≡ digits.with_flag flags name.now flag_names }
 {
-    if name == b"READ" {
+    if name == b"READ".as_slice() {
         added(flags, READ)
-    } else if name == b"WRITE" {
+    } else if name == b"WRITE".as_slice() {
         added(flags, WRITE)
-    } else if name == b"APPEND" {
+    } else if name == b"APPEND".as_slice() {
         added(flags, APPEND)
-    } else if name == b"CREAT" {
+    } else if name == b"CREAT".as_slice() {
         added(flags, CREAT)
-    } else if name == b"TRUNC" {
+    } else if name == b"TRUNC".as_slice() {
         added(flags, TRUNC)
-    } else if name == b"EXCL" {
+    } else if name == b"EXCL".as_slice() {
         added(flags, EXCL)
     } else {
         None

@@ -5,8 +5,8 @@ ghost use Rattle.sftp_wire.specs.declared.packets.Side.{Side};
 ghost use Rattle.sftp_wire.specs.declared.packets.Packet.{Packet};
 ghost use Rattle.sftp_wire.specs.Spelling.{AreBytes, HasSpelling, side_of, spelling};
 ghost use Rattle.sftp_text.specs.Formats.{ReadsBack};
-ghost use Rattle.sftp_text.specs.Lines.{is_printable, line_of, line_read, named_line, text_of, text_read};
-ghost use Rattle.sftp_text.specs.Trees.{head_text, root_text, entry_text};
+ghost use Rattle.sftp_text.specs.Lines.{is_printable, line_of, line_read, named_line, records_of, text_of, text_read, transcript_of};
+ghost use Rattle.sftp_text.specs.Trees.{head_text, root_text, entry_text, tree_lines, tree_read};
 
 /// The line of a record is read as its side and its bytes, whatever the bytes.
 pub fn lines_are_read()
@@ -45,4 +45,15 @@ pub fn entries_are_read()
 /// Each packet that has a spelling is shown by its name, and not in hexadecimal.
 pub fn packets_have_names()
     ensures { (packet : Packet) → HasSpelling packet → IsSome (named_line (side_of packet) (spelling packet)) }
+{}
+
+/// The text of a transcript file is read as its records, which are the whole file.
+pub fn transcripts_are_read()
+    ensures { (bytes : List ℕ) (records : List (Side × List ℕ)) → AreBytes bytes → records_of bytes ≡ Some records
+        → (text_read (text_of records) ≡ Some records) × (transcript_of records ≡ bytes) }
+{}
+
+/// The text of a tree file is read as that file.
+pub fn trees_are_read()
+    ensures { (bytes text : List ℕ) → AreBytes bytes → tree_lines bytes ≡ Some text → tree_read text ≡ Some bytes }
 {}

@@ -23,7 +23,7 @@ mod words;
 pub use errors::{Expected, Fault, ShowFault, TextFault};
 pub use laws::{
     entries_are_read, heads_are_read, lines_are_printable, lines_are_read, packets_have_names,
-    roots_are_read, sessions_are_read,
+    roots_are_read, sessions_are_read, transcripts_are_read, trees_are_read,
 };
 pub use lines::{is_blank, take_line};
 pub use records::{put_record, read_record};
