@@ -1,0 +1,217 @@
+-- The lines of a tree file are read as the bytes that they show.
+use Rattle.std.proofs.Common.{◌≡◌, ℕ, ◌+◌, ◌^◌, ◌<◌, Bool, true, false, ◌&&◌, List, [], ◌∷◌, ◌++◌, length, drop}
+use Rattle.std.proofs.Common.{Option, Some, None, refl, sym, ap, subst, ◌∙◌, append_assoc, inl, inr, cond}
+use Rattle.std.specs.Prelude.{IsTrue, option_and_then, ◌==◌, codes, decimal}
+use Rattle.std.specs.List.{list_all}
+use Rattle.std.proofs.lemmas.Bool.{cond-true, cond-false, cases_Bool, eqb-true}
+use Rattle.std.proofs.lemmas.List.{append-nil}
+use Rattle.std.proofs.lemmas.Option.{option_and_then_some}
+use Rattle.sftp_wire.specs.Spelling.{AreBytes}
+use Rattle.sftp_text.specs.Formats.{Format, ◌then◌, word, mark, ReadsBack}
+use Rattle.sftp_text.specs.Digits.{number, octal}
+use Rattle.sftp_text.specs.Quoted.{string_text}
+use Rattle.sftp_text.specs.Trees.{owner_text, head_text, root_text, kind_text, entry_of, first_of, kind_behind, entry_text}
+use Rattle.sftp_text.specs.Lines.{is_printable, is_blank}
+use Rattle.sftp_text.proofs.Exact.{some-inj, none-some, Shown, IsExact, IsExact-weaken, then-exact, word-exact, mark-exact, Behind}
+use Rattle.sftp_text.proofs.Numerals.{EndsWord, NumberFront, number-exact, octal-exact}
+use Rattle.sftp_text.proofs.Strings.{StartsQuoted, string_text-exact}
+use Rattle.sftp_text.proofs.Repeats.{IsEnd}
+use Rattle.sftp_text.proofs.Parts.{Anything, behind_word}
+use Rattle.sftp_text.proofs.Tails.{SpaceFront, space-behind, space-ends}
+
+-- what is known of the line that a format shows of what is in front of bytes
+pub record LineShown (f : Format) (bytes line left : List ℕ) : Type 0 where
+  pub taken : List ℕ
+  pub parts : bytes ≡ taken ++ left
+  pub back : f.read [] line ≡ Some (taken, [])
+  pub printable : IsTrue (list_all is_printable line)
+  pub said : is_blank line ≡ false
+
+-- a line that says something
+abbrev pub IsSaid : List ℕ → Type 0
+IsSaid l = is_blank l ≡ false
+
+line_shown : (f : Format) → IsExact f IsSaid IsEnd → (bytes line left : List ℕ) → AreBytes bytes
+    → f.show [] bytes ≡ Some (line, left) → LineShown f bytes line left
+line_shown f p bytes line left are e =
+    let s = p.exact [] bytes line left are e in
+    let whole : line ≡ s.shown ++ [] = s.text_is ∙ sym (append-nil s.shown) in
+    record {
+      taken = s.taken;
+      parts = s.bytes_are;
+      back = ap (f.read []) whole ∙ s.back [] [] refl;
+      printable = ap (list_all is_printable) s.text_is ∙ s.printable;
+      said = ap is_blank whole ∙ s.front [] refl;
+    }
+
+ReadsBack-from : (f : Format) (bytes line left : List ℕ) → LineShown f bytes line left → ReadsBack f bytes line left
+ReadsBack-from f bytes line left s = record { taken = s.taken; parts = s.parts; back = s.back }
+
+end-space : (l : List ℕ) → IsEnd l → SpaceFront l
+end-space l e = subst SpaceFront (sym e) refl
+
+-- a number behind a word that begins with a space
+spaced_number : (w : List ℕ) (B : List ℕ → Type 0) → ((l : List ℕ) → B l → SpaceFront l)
+    → IsTrue (list_all is_printable (32 ∷ w)) → IsExact (word (32 ∷ w) then number) SpaceFront B
+spaced_number w B space printable =
+    IsExact-weaken _ _ SpaceFront B B (space-behind _ w) (λ l b. b)
+    (behind_word (32 ∷ w) number _ B printable (number-exact B (λ l b. space-ends l (space l b))))
+
+spaced_then : (w : List ℕ) (f : Format) (B : List ℕ → Type 0) → IsTrue (list_all is_printable (32 ∷ w))
+    → IsExact f SpaceFront B → IsExact (word (32 ∷ w) then number then f) SpaceFront B
+spaced_then w f B printable p =
+    IsExact-weaken _ _ SpaceFront B B (space-behind _ w) (λ l b. b)
+    (behind_word (32 ∷ w) (number then f) _ B printable
+    (then-exact number f _ SpaceFront B (number-exact SpaceFront space-ends) p))
+
+owner_text-exact : (B : List ℕ → Type 0) → ((l : List ℕ) → B l → SpaceFront l) → IsExact owner_text SpaceFront B
+unfolding owner_text
+owner_text-exact B space =
+    let last =
+    IsExact-weaken (word (codes " ") then octal) _ SpaceFront B B (space-behind _ []) (λ l b. b)
+    (behind_word (codes " ") octal _ B refl (octal-exact B (λ l b. space-ends l (space l b))))
+    in
+    spaced_then [] (word (codes " ") then number then word (codes " ") then octal) B refl
+    (spaced_then [] (word (codes " ") then octal) B refl last)
+
+head_text-exact : IsExact head_text IsSaid IsEnd
+unfolding head_text
+head_text-exact =
+    let entries = spaced_number (codes "entries ") IsEnd end-space refl in
+    let gid = spaced_then (codes "gid ") (word (codes " entries ") then number) IsEnd refl entries in
+    let uid =
+    spaced_then (codes "uid ") (word (codes " gid ") then number then word (codes " entries ") then number) IsEnd refl gid
+    in
+    let home = then-exact string_text _ StartsQuoted SpaceFront IsEnd (string_text-exact SpaceFront) uid in
+    let named =
+    IsExact-weaken _ _ IsSaid IsEnd IsEnd (λ l b. ap is_blank b.parts) (λ l e. e)
+    (behind_word (codes "home ") _ StartsQuoted IsEnd refl home)
+    in
+    then-exact (mark (codes "SFTREE01")) _ IsSaid IsSaid IsEnd (mark-exact (codes "SFTREE01") IsSaid) named
+
+root_text-exact : IsExact root_text IsSaid IsEnd
+unfolding root_text
+root_text-exact =
+    IsExact-weaken _ _ IsSaid IsEnd IsEnd (λ l b. ap is_blank b.parts) (λ l e. e)
+    (behind_word (codes "D \"/\"") owner_text SpaceFront IsEnd refl (owner_text-exact IsEnd end-space))
+
+-- ---- entries
+
+-- a kind of entry: its letter is printable, and its fields are read back
+record IsKind (kind : ℕ) (fields : Format) : Type 0 where
+  pub printable : IsTrue (is_printable kind)
+  pub said : (line : List ℕ) → is_blank (kind ∷ line) ≡ false
+  pub fields_exact : IsExact fields SpaceFront IsEnd
+
+spaced_string : IsExact (word (codes " ") then string_text) SpaceFront IsEnd
+spaced_string =
+    IsExact-weaken (word (codes " ") then string_text) _ SpaceFront IsEnd IsEnd (space-behind StartsQuoted []) (λ l e. e)
+    (behind_word (codes " ") string_text StartsQuoted IsEnd refl (string_text-exact IsEnd))
+
+IsKind-from : (b kind : ℕ) (fields found : Format) → (kind == b) ≡ true → IsTrue (is_printable b) → ((line : List ℕ) → is_blank (b ∷ line) ≡ false) → IsExact fields SpaceFront IsEnd
+    → Some fields ≡ Some found → IsKind kind found
+IsKind-from b kind fields found same printable said p e = record {
+  printable = subst (λ k. IsTrue (is_printable k)) (sym (eqb-true kind b same)) printable;
+  said = λ line. subst (λ k. is_blank (k ∷ line) ≡ false) (sym (eqb-true kind b same)) (said line);
+  fields_exact = subst (λ f. IsExact f SpaceFront IsEnd) (some-inj fields found e) p;
+}
+
+kind_text-some : (kind : ℕ) (fields : Format) → kind_text kind ≡ Some fields → IsKind kind fields
+unfolding kind_text
+kind_text-some kind fields e =
+    elim (cases_Bool (kind == 68)) [
+      | inl d ↦
+          IsKind-from 68 kind _ fields d refl (λ line. refl) (owner_text-exact IsEnd end-space)
+          (sym (cond-true (kind == 68) _ _ d) ∙ e)
+      | inr no_d ↦
+          let e1 = sym (cond-false (kind == 68) _ _ no_d) ∙ e in
+          elim (cases_Bool (kind == 70)) [
+            | inl f ↦
+                IsKind-from 70 kind _ fields f refl (λ line. refl)
+                (then-exact owner_text (word (codes " ") then string_text) SpaceFront SpaceFront IsEnd
+                (owner_text-exact SpaceFront (λ l s. s)) spaced_string)
+                (sym (cond-true (kind == 70) _ _ f) ∙ e1)
+            | inr no_f ↦
+                let e2 = sym (cond-false (kind == 70) _ _ no_f) ∙ e1 in
+                elim (cases_Bool (kind == 72)) [
+                  | inl h ↦
+                      IsKind-from 72 kind _ fields h refl (λ line. refl) (spaced_number [] IsEnd end-space refl)
+                      (sym (cond-true (kind == 72) _ _ h) ∙ e2)
+                  | inr no_h ↦
+                      let e3 = sym (cond-false (kind == 72) _ _ no_h) ∙ e2 in
+                      elim (cases_Bool (kind == 76)) [
+                        | inl l ↦ IsKind-from 76 kind _ fields l refl (λ line. refl) spaced_string (sym (cond-true (kind == 76) _ _ l) ∙ e3)
+                        | inr no_l ↦ none-some fields (sym (cond-false (kind == 76) _ _ no_l) ∙ e3)
+                      ]
+                ]
+          ]
+    ]
+
+entry_of-exact : (kind : ℕ) (fields : Format) → IsKind kind fields
+    → IsExact (entry_of kind fields) (λ l. first_of l ≡ Some kind) IsEnd
+entry_of-exact kind fields is =
+    let marked = then-exact (mark (kind ∷ [])) fields SpaceFront SpaceFront IsEnd (mark-exact (kind ∷ []) SpaceFront) is.fields_exact in
+    let path = then-exact string_text (mark (kind ∷ []) then fields) StartsQuoted SpaceFront IsEnd (string_text-exact SpaceFront) marked in
+    IsExact-weaken (entry_of kind fields) (Behind (kind ∷ codes " ") StartsQuoted) (λ l. first_of l ≡ Some kind) IsEnd IsEnd
+    (λ l b. ap first_of b.parts) (λ l e. e)
+    (behind_word (kind ∷ codes " ") (string_text then mark (kind ∷ []) then fields) StartsQuoted IsEnd (letter_printable is.printable) path)
+  where
+    letter_printable : IsTrue (is_printable kind) → IsTrue (list_all is_printable (kind ∷ codes " "))
+    letter_printable ok = ap (λ b. b && list_all is_printable (codes " ")) ok
+
+-- ---- the lines of a tree file
+
+pub head_shown : (bytes line left : List ℕ) → AreBytes bytes → head_text.show [] bytes ≡ Some (line, left)
+    → LineShown head_text bytes line left
+head_shown = line_shown head_text head_text-exact
+
+pub root_shown : (bytes line left : List ℕ) → AreBytes bytes → root_text.show [] bytes ≡ Some (line, left)
+    → LineShown root_text bytes line left
+root_shown = line_shown root_text root_text-exact
+
+-- the letter of a kind is first in a line that says something
+said-kind : (kind : ℕ) (fields : Format) (l : List ℕ) → IsKind kind fields → first_of l ≡ Some kind → is_blank l ≡ false
+said-kind kind fields [] is e = none-some kind e
+said-kind kind fields (c ∷ l) is e =
+    ap (λ b. is_blank (b ∷ l)) (some-inj c kind e) ∙ is.said l
+
+pub entry_shown : (bytes line left : List ℕ) → AreBytes bytes → entry_text.show [] bytes ≡ Some (line, left)
+    → LineShown entry_text bytes line left
+unfolding entry_text
+entry_shown bytes line left are e =
+    let with_kind : ℕ → Option (List ℕ × List ℕ) =
+    λ kind. option_and_then (λ fields. (entry_of kind fields).show [] bytes) (kind_text kind)
+    in
+    option_and_then_some with_kind (kind_behind bytes) (line, left) e (λ kind kind_is here.
+    option_and_then_some (λ fields. (entry_of kind fields).show [] bytes) (kind_text kind) (line, left) here
+    (λ fields fields_are shows.
+    let is = kind_text-some kind fields fields_are in
+    let s = (entry_of-exact kind fields is).exact [] bytes line left are shows in
+    let whole : line ≡ s.shown ++ [] = s.text_is ∙ sym (append-nil s.shown) in
+    let read_kind : ℕ → Option (List ℕ × List ℕ) =
+    λ k. option_and_then (λ f. (entry_of k f).read [] (s.shown ++ [])) (kind_text k)
+    in
+    let read_fields : Format → Option (List ℕ × List ℕ) = λ f. (entry_of kind f).read [] (s.shown ++ []) in
+    record {
+      taken = s.taken;
+      parts = s.bytes_are;
+      back =
+          ap (entry_text.read []) whole ∙ ap (option_and_then read_kind) (s.front [] refl)
+          ∙ ap (option_and_then read_fields) fields_are ∙ s.back [] [] refl;
+      printable = ap (list_all is_printable) s.text_is ∙ s.printable;
+      said = ap is_blank whole ∙ said-kind kind fields (s.shown ++ []) is (s.front [] refl);
+    }))
+
+-- ---- what is published
+
+pub heads_back : (bytes line left : List ℕ) → AreBytes bytes → head_text.show [] bytes ≡ Some (line, left)
+    → ReadsBack head_text bytes line left
+heads_back bytes line left are e = ReadsBack-from head_text bytes line left (head_shown bytes line left are e)
+
+pub roots_back : (bytes line left : List ℕ) → AreBytes bytes → root_text.show [] bytes ≡ Some (line, left)
+    → ReadsBack root_text bytes line left
+roots_back bytes line left are e = ReadsBack-from root_text bytes line left (root_shown bytes line left are e)
+
+pub entries_back : (bytes line left : List ℕ) → AreBytes bytes → entry_text.show [] bytes ≡ Some (line, left)
+    → ReadsBack entry_text bytes line left
+entries_back bytes line left are e = ReadsBack-from entry_text bytes line left (entry_shown bytes line left are e)

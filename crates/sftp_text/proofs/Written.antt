@@ -1,0 +1,161 @@
+-- The line of a record is read as its side and its bytes, and is printable.
+use Rattle.std.proofs.Common.{◌≡◌, ℕ, ◌+◌, ◌^◌, ◌<◌, ◌≤◌, Bool, true, false, List, [], ◌∷◌, ◌++◌, length}
+use Rattle.std.proofs.Common.{Option, Some, None, refl, sym, ap, subst, ◌∙◌, append_assoc, arith, inl, inr, cond}
+use Rattle.std.specs.Prelude.{IsTrue, option_and_then, ◌==◌, codes, nat_lt}
+use Rattle.std.specs.List.{list_all}
+use Rattle.std.specs.Int.{w32, to_be_bytes}
+use Rattle.std.proofs.lemmas.Bool.{cond-true, cond-false, cases_Bool, eqb-true, lt-ltb}
+use Rattle.std.proofs.lemmas.List.{append-nil}
+use Rattle.sftp_wire.specs.declared.packets.Side.{Side}
+use Rattle.sftp_wire.specs.declared.packets.Side.TheVariants.{Client, Server}
+use Rattle.sftp_wire.specs.Spelling.{AreBytes}
+use Rattle.sftp_wire.proofs.Bytes.Numbers.{wide32}
+use Rattle.sftp_text.specs.Formats.{Format, front_uint32, if_found, if_any}
+use Rattle.sftp_text.specs.Quoted.{hex_text}
+use Rattle.sftp_text.specs.Layouts.{Row, row, packet_text, layout_of_bytes, layout_of_text}
+use Rattle.sftp_text.specs.Lines.{is_printable, whole, digits_text, raw_text, digits_read, raw_read, side_letter, show_whole, show_packet, named_line, line_of}
+use Rattle.sftp_text.specs.Lines.{side_of_letter, with_length, read_packet, bytes_of_text, line_read}
+use Rattle.sftp_text.specs.declared.layouts.PacketType.{PacketType}
+use Rattle.sftp_text.proofs.Exact.{some-inj, none-some, AreBytes-behind, printable-append, Shown, IsExact, front_number-some}
+use Rattle.sftp_text.proofs.Strings.{hex_onto-text, hex_text-printable}
+use Rattle.sftp_text.proofs.Bodies.{packet_text-exact, layout-side, layout_of_text-named, named_packet, no_raw}
+
+-- what is known of the line of a record
+pub record IsLine (side : Side) (bytes line : List ℕ) : Type 0 where
+  pub back : line_read line ≡ Some (side, bytes)
+  pub printable : IsTrue (list_all is_printable line)
+
+letter-read : (side : Side) → side_of_letter (side_letter side) ≡ Some side
+letter-read Client = refl
+letter-read Server = refl
+
+letter-printable : (side : Side) (text : List ℕ) → IsTrue (list_all is_printable text)
+    → IsTrue (list_all is_printable (side_letter side ∷ text))
+letter-printable Client text ok = ok
+letter-printable Server text ok = ok
+
+-- a line whose text is read as the bytes
+line_read-text : (side : Side) (text bytes : List ℕ) → bytes_of_text side text ≡ Some bytes
+    → line_read (side_letter side ∷ text) ≡ Some (side, bytes)
+unfolding line_read
+line_read-text side text bytes is =
+    let pack : Side → List ℕ → Option (Side × List ℕ) = λ s b. Some (s, b) in
+    let next : Side → Option (Side × List ℕ) = λ s. option_and_then (pack s) (bytes_of_text s text) in
+    ap (option_and_then next) (letter-read side) ∙ ap (option_and_then (pack side)) is
+
+-- ---- lines in hexadecimal
+
+digits-back : (bytes : List ℕ) → AreBytes bytes → digits_read (digits_text bytes) ≡ Some bytes
+digits-back [] are = refl
+digits-back (b ∷ bytes) are = hex_onto-text [] (b ∷ bytes) are
+
+raw-name : (side : Side) (bytes : List ℕ) → layout_of_text side (raw_text bytes) ≡ None
+unfolding layout_of_text
+raw-name side [] = no_raw side
+raw-name side (b ∷ bytes) = no_raw side
+
+digits-printable : (bytes : List ℕ) → AreBytes bytes → IsTrue (list_all is_printable (digits_text bytes))
+digits-printable [] are = refl
+digits-printable (b ∷ bytes) are = hex_text-printable (b ∷ bytes) are
+
+raw-line : (side : Side) (bytes : List ℕ) → AreBytes bytes → IsLine side bytes (side_letter side ∷ raw_text bytes)
+unfolding bytes_of_text
+raw-line side bytes are = record {
+  back =
+      line_read-text side (raw_text bytes) bytes
+      (ap (λ o. if_found o (read_packet (raw_text bytes)) (raw_read (raw_text bytes))) (raw-name side bytes)
+      ∙ digits-back bytes are);
+  printable =
+      letter-printable side (raw_text bytes)
+      (printable-append (codes " raw") (digits_text bytes) refl (digits-printable bytes are));
+}
+
+-- ---- lines by name
+
+whole-some : (moved : Option (List ℕ × List ℕ)) (all : List ℕ) → whole moved ≡ Some all → moved ≡ Some (all, [])
+whole-some None all e = none-some all e
+whole-some (Some (done, [])) all e = ap (λ d. Some (d, [])) (some-inj done all e)
+whole-some (Some (done, b ∷ left)) all e = none-some all e
+
+-- the text of a packet is read as its length and its body
+bytes_of_text-named : (side : Side) (bytes : List ℕ) (packet : PacketType) (n : ℕ) (body shown : List ℕ) → n < 2 ^ 32
+    → to_be_bytes w32 n ++ body ≡ bytes → n ≡ length body → layout_of_text side shown ≡ Some packet
+    → (packet_text (row packet)).read [] shown ≡ Some (body, []) → bytes_of_text side shown ≡ Some bytes
+unfolding bytes_of_text
+bytes_of_text-named side bytes packet n body shown fits parts len named back =
+    let small : length body < 2 ^ 32 = omega (arith, fits, len) in
+    let read_whole : Option (List ℕ × List ℕ) → Option (List ℕ) = λ o. option_and_then with_length (whole o) in
+    ap (λ o. if_found o (read_packet shown) (raw_read shown)) named ∙ ap read_whole back
+    ∙ cond-true (nat_lt (length body) (2 ^ 32)) (Some (to_be_bytes w32 (length body) ++ body)) None
+    (lt-ltb (length body) (2 ^ 32) small)
+    ∙ ap (λ (k : ℕ). Some (to_be_bytes w32 k ++ body)) (sym len) ∙ ap (λ l. Some l) parts
+
+named-line : (side : Side) (bytes line : List ℕ) (packet : PacketType) → AreBytes bytes
+    → layout_of_bytes side bytes ≡ Some packet → show_packet side bytes packet ≡ Some line → IsLine side bytes line
+named-line side bytes line packet are layout_is shows = framed (front_uint32 bytes) refl shows
+  where
+    exact : (n : ℕ) (body : List ℕ) → n < 2 ^ 32 → to_be_bytes w32 n ++ body ≡ bytes → AreBytes body → n ≡ length body
+        → show_whole side (packet_text (row packet)) body ≡ Some line → IsLine side bytes line
+    exact n body fits parts fit len e =
+        let s =
+        (packet_text-exact packet).exact (side_letter side ∷ []) body line [] fit
+        (whole-some ((packet_text (row packet)).show (side_letter side ∷ []) body) line e)
+        in
+        let alone : s.shown ++ [] ≡ s.shown = append-nil s.shown in
+        let taken_is : s.taken ≡ body = sym (s.bytes_are ∙ append-nil s.taken) in
+        let named =
+        ap (layout_of_text side) (sym alone)
+        ∙ layout_of_text-named side (s.shown ++ []) packet (layout-side side bytes packet layout_is) (s.front [] refl)
+        in
+        let back =
+        ap ((packet_text (row packet)).read []) (sym alone) ∙ s.back [] [] refl ∙ ap (λ l. Some (l, [])) taken_is
+        in
+        record {
+          back =
+              ap line_read s.text_is
+              ∙ line_read-text side s.shown bytes (bytes_of_text-named side bytes packet n body s.shown fits parts len named back);
+          printable = ap (list_all is_printable) s.text_is ∙ letter-printable side s.shown s.printable;
+        }
+
+    framed : (front : Option (ℕ × List ℕ)) → front_uint32 bytes ≡ front
+        → show_packet side bytes packet ≡ Some line → IsLine side bytes line
+    framed None none e =
+        let next : ℕ × List ℕ → Option (List ℕ) =
+        λ f. cond (f.0 == length f.1) (show_whole side (packet_text (row packet)) f.1) None
+        in
+        none-some line (sym (ap (option_and_then next) none) ∙ e)
+    framed (Some (n, body)) some e =
+        let next : ℕ × List ℕ → Option (List ℕ) =
+        λ f. cond (f.0 == length f.1) (show_whole side (packet_text (row packet)) f.1) None
+        in
+        let here : next (n, body) ≡ Some line = sym (ap (option_and_then next) some) ∙ e in
+        let number = front_number-some w32 4 (2 ^ 32) wide32 refl bytes n body are some in
+        let parts : to_be_bytes w32 n ++ body ≡ bytes = ap (λ (l : List ℕ). l ++ body) number.again ∙ sym number.parts in
+        let fit : AreBytes body = AreBytes-behind number.number body (subst AreBytes number.parts are) in
+        elim (cases_Bool (n == length body)) [
+          | inl right ↦
+              exact n body number.fits parts fit (eqb-true n (length body) right)
+              (sym (cond-true (n == length body) (show_whole side (packet_text (row packet)) body) None right) ∙ here)
+          | inr wrong ↦
+              none-some line (sym (cond-false (n == length body) (show_whole side (packet_text (row packet)) body) None wrong) ∙ here)
+        ]
+
+-- ---- every line
+
+pub line-IsLine : (side : Side) (bytes : List ℕ) → AreBytes bytes → IsLine side bytes (line_of side bytes)
+unfolding line_of named_line
+line-IsLine side bytes are = by_layout (layout_of_bytes side bytes) refl
+  where
+    by_line : (packet : PacketType) → layout_of_bytes side bytes ≡ Some packet → (shown : Option (List ℕ))
+        → show_packet side bytes packet ≡ shown → IsLine side bytes (if_found shown (λ line. line) (side_letter side ∷ raw_text bytes))
+    by_line packet layout_is None e = raw-line side bytes are
+    by_line packet layout_is (Some line) e = named-line side bytes line packet are layout_is e
+
+    by_layout : (layout : Option PacketType) → layout_of_bytes side bytes ≡ layout
+        → IsLine side bytes (if_found (option_and_then (show_packet side bytes) (layout_of_bytes side bytes)) (λ line. line) (side_letter side ∷ raw_text bytes))
+    by_layout None none =
+        subst (λ o. IsLine side bytes (if_found (option_and_then (show_packet side bytes) o) (λ line. line) (side_letter side ∷ raw_text bytes)))
+        (sym none) (raw-line side bytes are)
+    by_layout (Some packet) some =
+        subst (λ o. IsLine side bytes (if_found (option_and_then (show_packet side bytes) o) (λ line. line) (side_letter side ∷ raw_text bytes)))
+        (sym some) (by_line packet some (show_packet side bytes packet) refl)

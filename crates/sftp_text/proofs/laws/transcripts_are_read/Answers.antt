@@ -1,0 +1,5 @@
+use Rattle.sftp_text.proofs.Files.{transcript-back}
+use Rattle.sftp_text.proofs.laws.transcripts_are_read.Goals as goal
+
+pub returns : goal.returns
+returns c = transcript-back

@@ -1,0 +1,9 @@
+use Rattle.std.proofs.Common.{◌≡◌, length}
+use Rattle.sftp_text.specs.Layouts.{behind_space}
+use Rattle.sftp_text.proofs.names.behind_space.Given as goal
+
+abbrev pub invariant-characters : goal.invariant-characters
+invariant-characters l = behind_space l.left.now ≡ behind_space l.fn.text.now
+
+abbrev pub decreases-characters : goal.decreases-characters
+decreases-characters l = length l.left.now

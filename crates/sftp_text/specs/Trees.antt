@@ -1,0 +1,94 @@
+-- Tree files as lines of text: one for the head, one for the root, and one an entry.
+use Rattle.std.specs.Prelude.{ℕ, zero, suc, ◌==◌, nat_le, Bool, if◌then◌else◌, List, [], ◌∷◌, ◌++◌, length, take, drop, codes}
+use Rattle.std.specs.Prelude.{Option, Some, None, option_and_then}
+use Rattle.sftp_text.specs.Formats.{Step, Format, ◌then◌, word, mark, front_uint32}
+use Rattle.sftp_text.specs.Digits.{number, octal}
+use Rattle.sftp_text.specs.Quoted.{string_text}
+use Rattle.sftp_text.specs.Lines.{whole, said_lines}
+
+-- a user and a group in decimal, and permissions in octal, each after a space
+unfoldable pub owner_text : Format
+owner_text = word (codes " ") then number then word (codes " ") then number then word (codes " ") then octal
+
+-- the head: the opening, the home, the user, the group and the number of entries
+unfoldable pub head_text : Format
+head_text =
+    mark (codes "SFTREE01") then word (codes "home ") then string_text then word (codes " uid ") then number
+    then word (codes " gid ") then number then word (codes " entries ") then number
+
+-- the root
+unfoldable pub root_text : Format
+root_text = word (codes "D \"/\"") then owner_text
+
+-- what an entry of a kind says after its path: a directory its owner, the first name of a file its owner and the bytes,
+-- a further name the entry of the first, a link its target
+unfoldable pub kind_text : ℕ → Option Format
+kind_text kind =
+    if kind == 68 then Some owner_text
+    else (if kind == 70 then Some (owner_text then word (codes " ") then string_text)
+    else (if kind == 72 then Some (word (codes " ") then number)
+    else (if kind == 76 then Some (word (codes " ") then string_text) else None)))
+
+-- an entry of a kind: its letter is first in the line, and behind the path in the bytes
+abbrev pub entry_of : ℕ → Format → Format
+entry_of kind fields = word (kind ∷ codes " ") then string_text then mark (kind ∷ []) then fields
+
+abbrev pub first_of : List ℕ → Option ℕ
+first_of [] = None
+first_of (c ∷ list) = Some c
+
+-- the letter behind the string in front
+unfoldable pub kind_behind : List ℕ → Option ℕ
+kind_behind bytes = option_and_then (λ front. first_of (drop front.0 front.1)) (front_uint32 bytes)
+
+-- an entry
+unfoldable pub entry_text : Format
+entry_text = record {
+  show = λ text bytes. option_and_then (λ kind. option_and_then (λ fields. (entry_of kind fields).show text bytes)
+      (kind_text kind)) (kind_behind bytes);
+  read = λ bytes text. option_and_then (λ kind. option_and_then (λ fields. (entry_of kind fields).read bytes text)
+      (kind_text kind)) (first_of text);
+}
+
+-- ---- tree files
+
+-- a line and its line feed in front of others
+abbrev pub line_and : List ℕ → Option (List ℕ) → Option (List ℕ)
+line_and line others = option_and_then (λ text. Some (line ++ 10 ∷ text)) others
+
+-- the lines of entries up to the end of the bytes, at most the given number of them
+abbrev pub entry_lines : ℕ → List ℕ → Option (List ℕ)
+entry_lines zero [] = Some []
+entry_lines zero (b ∷ bytes) = None
+entry_lines (suc most) [] = Some []
+entry_lines (suc most) (b ∷ bytes) =
+    option_and_then (λ shown. line_and shown.0 (entry_lines most shown.1)) (entry_text.show [] (b ∷ bytes))
+
+-- the text of a tree file: the line of the head, that of the root, and those of the entries
+unfoldable pub tree_lines : List ℕ → Option (List ℕ)
+tree_lines bytes =
+    option_and_then
+    (λ head.
+    option_and_then (λ root. line_and head.0 (line_and root.0 (entry_lines (length root.1) root.1)))
+    (root_text.show [] head.1))
+    (head_text.show [] bytes)
+
+-- the bytes of a whole line, in front of others
+abbrev pub bytes_and : Format → List ℕ → Option (List ℕ) → Option (List ℕ)
+bytes_and format line others =
+    option_and_then (λ bytes. option_and_then (λ more. Some (bytes ++ more)) others) (whole (format.read [] line))
+
+-- the bytes of lines of entries
+abbrev pub entries_read : List (List ℕ) → Option (List ℕ)
+entries_read [] = Some []
+entries_read (line ∷ lines) = bytes_and entry_text line (entries_read lines)
+
+-- the bytes of the lines of a head, a root and entries
+abbrev pub tree_of_lines : List (List ℕ) → Option (List ℕ)
+tree_of_lines [] = None
+tree_of_lines (head ∷ []) = None
+tree_of_lines (head ∷ root ∷ lines) = bytes_and head_text head (bytes_and root_text root (entries_read lines))
+
+-- the tree file of a text
+unfoldable pub tree_read : List ℕ → Option (List ℕ)
+tree_read text = tree_of_lines (said_lines [] text)

@@ -1,0 +1,121 @@
+//! The fields of packets, both ways.
+ghost use Rattle.std.specs.Prelude.{◌≡◌, codes};
+ghost use Rattle.sftp_text.specs.Formats.{◌then◌, word};
+ghost use Rattle.sftp_text.specs.Fields.{field_text, fields_text, tail_text};
+ghost use Rattle.sftp_text.specs.Quoted.{rest_text};
+ghost use Rattle.sftp_text.specs.Moves.{Moves};
+
+use crate::attributes::{put_attributes, read_attributes};
+use crate::errors::{Expected, Stop};
+use crate::flags::{put_flags, read_flags};
+use crate::layouts::{Field, Tail};
+use crate::lists::{put_message, put_names, put_pairs, read_message, read_names, read_pairs};
+use crate::numbers::{put_long, put_number, read_long, read_number};
+use crate::quoted::{put_rest, put_string, read_quoted, read_string};
+use crate::words::read_word;
+
+#[tactic(auto, unfolding(crate::specs::Fields::field_text))]
+fn put_field(field: Field, bytes: &mut &[u8], text: &mut Vec<u8>) -> Result<(), Stop>
+    ensures { Moves result text.new.items bytes.new.now ((field_text field).show text.old.items bytes.old.now) }
+{
+    match field {
+        Field::Number => put_number(bytes, text),
+        Field::Long => put_long(bytes, text),
+        Field::Flags => put_flags(bytes, text),
+        Field::Text => put_string(bytes, text),
+    }
+}
+
+#[tactic(auto, unfolding(crate::specs::Fields::field_text))]
+fn read_field(field: Field, line: &mut &[u8], bytes: &mut Vec<u8>) -> Result<(), Stop>
+    ensures { Moves result bytes.new.items line.new.now ((field_text field).read bytes.old.items line.old.now) }
+{
+    match field {
+        Field::Number => read_number(line, bytes),
+        Field::Long => read_long(line, bytes),
+        Field::Flags => read_flags(line, bytes),
+        Field::Text => read_string(line, bytes),
+    }
+}
+
+/// Shows these fields, each after a space.
+pub(crate) fn put_fields(
+    fields: &[Field],
+    bytes: &mut &[u8],
+    text: &mut Vec<u8>,
+) -> Result<(), Stop>
+    ensures { Moves result text.new.items bytes.new.now ((fields_text fields.now).show text.old.items bytes.old.now) }
+{
+    let mut left = fields;
+    'fields: while let Some((field, rest)) = left.split_first() {
+        text.push(b' ')?;
+        put_field(*field, bytes, text)?;
+        left = rest;
+    }
+    Ok(())
+}
+
+/// Reads these fields, each after a space.
+pub(crate) fn read_fields(
+    fields: &[Field],
+    line: &mut &[u8],
+    bytes: &mut Vec<u8>,
+) -> Result<(), Stop>
+    ensures { Moves result bytes.new.items line.new.now ((fields_text fields.now).read bytes.old.items line.old.now) }
+{
+    let mut left = fields;
+    'fields: while let Some((field, rest)) = left.split_first() {
+        read_word(b" ", Expected::Space, line)?;
+        read_field(*field, line, bytes)?;
+        left = rest;
+    }
+    Ok(())
+}
+
+/// Shows any bytes up to the end, as a text in quotes after a space.
+fn put_any(bytes: &mut &[u8], text: &mut Vec<u8>) -> Result<(), Stop>
+    ensures { Moves result text.new.items bytes.new.now
+        ((word (codes " ") then rest_text).show text.old.items bytes.old.now) }
+{
+    text.push(b' ')?;
+    put_rest(bytes, text)
+}
+
+#[tactic(auto, unfolding(crate::specs::Quoted::rest_text))]
+fn read_any(line: &mut &[u8], bytes: &mut Vec<u8>) -> Result<(), Stop>
+    ensures { Moves result bytes.new.items line.new.now
+        ((word (codes " ") then rest_text).read bytes.old.items line.old.now) }
+{
+    read_word(b" ", Expected::Space, line)?;
+    read_quoted(line, bytes)
+}
+
+/// Shows what comes after the fields.
+#[tactic(auto, unfolding(crate::specs::Fields::tail_text))]
+pub(crate) fn put_tail(tail: Tail, bytes: &mut &[u8], text: &mut Vec<u8>) -> Result<(), Stop>
+    ensures { Moves result text.new.items bytes.new.now ((tail_text tail).show text.old.items bytes.old.now) }
+{
+    match tail {
+        Tail::Nothing => Ok(()),
+        Tail::Attrs => put_attributes(bytes, text),
+        Tail::Pairs => put_pairs(bytes, text),
+        Tail::Names => put_names(bytes, text),
+        Tail::Message => put_message(bytes, text),
+        Tail::Rest => put_any(bytes, text),
+    }
+}
+
+/// Reads what comes after the fields.
+#[tactic(auto, unfolding(crate::specs::Fields::tail_text))]
+pub(crate) fn read_tail(tail: Tail, line: &mut &[u8], bytes: &mut Vec<u8>) -> Result<(), Stop>
+    ensures { Moves result bytes.new.items line.new.now ((tail_text tail).read bytes.old.items line.old.now) }
+{
+    match tail {
+        Tail::Nothing => Ok(()),
+        Tail::Attrs => read_attributes(line, bytes),
+        Tail::Pairs => read_pairs(line, bytes),
+        Tail::Names => read_names(line, bytes),
+        Tail::Message => read_message(line, bytes),
+        Tail::Rest => read_any(line, bytes),
+    }
+}
