@@ -1,0 +1,167 @@
+//! Why bytes have no text, and why a line of text has no bytes.
+ghost use Rattle.std.specs.Prelude.{◌≡◌};
+
+use bytes::TryGetError;
+use std::alloc::{AllocError, AllocFailed};
+use thiserror::Error;
+
+/// What a line should have had at a column.
+#[derive(Clone, Copy, Debug, Error)]
+pub enum Expected {
+    #[error("`C` or `S`")]
+    Side,
+    #[error("the name of a packet of that side, or `raw`")]
+    Name,
+    #[error("a space")]
+    Space,
+    #[error("a number below 2^32")]
+    Number,
+    #[error("a number below 2^64")]
+    Long,
+    #[error("`0` and octal digits, below 2^32")]
+    Octal,
+    #[error("flags of OPEN with `|` between, or their number")]
+    Flags,
+    #[error("a text in quotes")]
+    Text,
+    #[error("two hexadecimal digits in lower case")]
+    Hexadecimal,
+    #[error("`,`")]
+    Comma,
+    #[error("`=`")]
+    Equals,
+    #[error("the end of the line")]
+    End,
+    #[error("`home`, a text in quotes, `uid`, `gid` and `entries`, each with a number")]
+    Head,
+    #[error("`D \"/\"`")]
+    Root,
+    #[error("`D`, `F`, `H` or `L`")]
+    Kind,
+    #[error("fewer than 2^32 bytes or items")]
+    Fewer,
+}
+
+/// Why a line has no bytes. After `Unread` the line's text begins to differ from what is expected at `column`, which
+/// counts bytes from 1.
+#[derive(Clone, Copy, Debug, Error)]
+pub enum Fault {
+    /// Memory ran out.
+    #[error("out of memory")]
+    NoMemory,
+    /// The line is not in the form of a record or an entry.
+    #[error("column {column}: expected {expected}")]
+    Unread { column: u64, expected: Expected },
+}
+
+/// Why a text of several lines has no bytes.
+#[derive(Clone, Copy, Debug, Error)]
+pub enum TextFault {
+    /// Memory ran out.
+    #[error("out of memory")]
+    NoMemory,
+    /// A line is not in the form of a record or an entry. Lines and columns count from 1.
+    #[error("line {line}, column {column}: expected {expected}")]
+    Unread {
+        line: u64,
+        column: u64,
+        expected: Expected,
+    },
+}
+
+/// Why a file has no text.
+#[derive(Clone, Copy, Debug, Error)]
+pub enum ShowFault {
+    /// Memory ran out.
+    #[error("out of memory")]
+    NoMemory,
+    /// The file is not in the form of a transcript or a tree file.
+    #[error("unknown form")]
+    Unfit,
+}
+
+/// Why a step goes no further: its bytes or its text are not in the form that it takes, or memory ran out.
+#[derive(Clone, Copy, Debug)]
+pub(crate) enum Stop {
+    NoMemory,
+    Unfit(Expected),
+}
+
+impl From<AllocError> for Stop {
+    ghost use Rattle.sftp_text.specs.declared.errors.Stop.TheVariants.{NoMemory as no_memory};
+
+    ghost from_gives = { λ _ e. e ≡ no_memory };
+
+    fn from(_error: AllocError) -> Stop {
+        Stop::NoMemory
+    }
+}
+
+impl<T: Drop> From<AllocFailed<T>> for Stop {
+    ghost use Rattle.sftp_text.specs.declared.errors.Stop.TheVariants.{NoMemory as no_memory};
+
+    ghost from_gives = { λ _ e. e ≡ no_memory };
+
+    fn from(_error: AllocFailed<T>) -> Stop {
+        Stop::NoMemory
+    }
+}
+
+impl From<TryGetError> for Stop {
+    ghost use Rattle.sftp_text.specs.declared.errors.Stop.TheVariants.{Unfit as unfit};
+    ghost use Rattle.sftp_text.specs.declared.errors.Expected.TheVariants.{Fewer as fewer};
+
+    ghost from_gives = { λ _ e. e ≡ unfit fewer };
+
+    fn from(_error: TryGetError) -> Stop {
+        Stop::Unfit(Expected::Fewer)
+    }
+}
+
+impl From<Stop> for ShowFault {
+    fn from(stop: Stop) -> ShowFault {
+        match stop {
+            Stop::NoMemory => ShowFault::NoMemory,
+            Stop::Unfit(_) => ShowFault::Unfit,
+        }
+    }
+}
+
+impl From<AllocError> for ShowFault {
+    fn from(_error: AllocError) -> ShowFault {
+        ShowFault::NoMemory
+    }
+}
+
+impl<T: Drop> From<AllocFailed<T>> for ShowFault {
+    fn from(_error: AllocFailed<T>) -> ShowFault {
+        ShowFault::NoMemory
+    }
+}
+
+impl Stop {
+    /// The fault of a line of `length` bytes, of which `left` were left where it stopped.
+    pub(crate) fn in_line(self, length: usize, left: usize) -> Fault {
+        match self {
+            Stop::NoMemory => Fault::NoMemory,
+            Stop::Unfit(expected) => Fault::Unread {
+                column: (length.saturating_sub(left) as u64).saturating_add(1),
+                expected,
+            },
+        }
+    }
+}
+
+impl Fault {
+    /// The fault of a text, in the line of this number.
+    pub(crate) fn at_line(self, line: u64) -> TextFault {
+        match self {
+            Fault::NoMemory => TextFault::NoMemory,
+            Fault::Unread { column, expected } => TextFault::Unread {
+                line,
+                column,
+                expected,
+            },
+        }
+    }
+}

@@ -1,0 +1,23 @@
+//! Records of sessions and entries of tree files as lines of text, both ways: bytes to text, and text to the same bytes.
+//! No packet is built as a value in between.
+#![tactic(auto)]
+
+mod attributes;
+mod errors;
+mod fields;
+mod flags;
+mod layouts;
+mod lines;
+mod lists;
+mod numbers;
+mod octets;
+mod quoted;
+mod records;
+mod transcripts;
+mod trees;
+mod words;
+
+pub use errors::{Expected, Fault, ShowFault, TextFault};
+pub use records::{put_record, read_record};
+pub use transcripts::{put_transcript, read_transcript};
+pub use trees::{put_entry, put_head, put_root, put_tree, read_entry, read_head, read_root, read_tree};
