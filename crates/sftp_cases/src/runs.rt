@@ -23,6 +23,7 @@ impl Came {
 }
 
 /// A reader that gives at most so many bytes a call.
+#[derive(Drop)]
 struct Pieces<'a> {
     rest: &'a [u8],
     size: usize,

@@ -81,7 +81,7 @@ pub enum ShowFault {
 }
 
 /// Why a step goes no further: its bytes or its text are not in the form that it takes, or memory ran out.
-#[derive(Clone, Copy, Debug)]
+#[derive(Clone, Copy)]
 pub(crate) enum Stop {
     NoMemory,
     Unfit(Expected),

@@ -3,7 +3,7 @@
 use sftp_wire::Side;
 
 /// What a packet is, by its type and, for an extension with a layout of its own, by the extension's name.
-#[derive(Clone, Copy, Debug)]
+#[derive(Clone, Copy)]
 pub enum PacketType {
     Init,
     Version,
@@ -72,7 +72,7 @@ pub(crate) const ALL: [PacketType; 30] = [
 ];
 
 /// A field: in the line it stands after a space.
-#[derive(Clone, Copy, Debug)]
+#[derive(Clone, Copy)]
 pub enum Field {
     /// A uint32.
     Number,
@@ -85,7 +85,7 @@ pub enum Field {
 }
 
 /// What comes after the fields.
-#[derive(Clone, Copy, Debug)]
+#[derive(Clone, Copy)]
 pub enum Tail {
     Nothing,
     /// Attributes.
@@ -101,7 +101,7 @@ pub enum Tail {
 }
 
 /// The layout of a packet's bytes and of its line.
-#[derive(Clone, Copy, Debug)]
+#[derive(Clone, Copy)]
 pub struct Layout {
     pub side: Side,
     /// The packet's type.

@@ -21,3 +21,6 @@ pub use errors::{Expected, Fault, ShowFault, TextFault};
 pub use records::{put_record, read_record};
 pub use transcripts::{put_transcript, read_transcript};
 pub use trees::{put_entry, put_head, put_root, put_tree, read_entry, read_head, read_root, read_tree};
+
+#[cfg(test)]
+mod tests;
