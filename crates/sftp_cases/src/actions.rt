@@ -1,16 +1,15 @@
 //! The blocks that run the program once: `serve`, `audit` and `run`.
 use crate::cases::Case;
-use crate::files::{AUDITED, END, TRANSCRIPT, read, remove};
+use crate::files::{AUDITED, END, TRANSCRIPT, has_bytes, is_same, remove};
 use crate::records::{OPENING, put_sides};
 use crate::runs::{Came, run_program, words_of};
 use crate::trouble::Trouble;
 use crate::wanted::Form;
-use std::alloc::{AllocError, Global};
+use std::alloc::AllocError;
 use std::fs;
 use std::fs::Files;
 
-const SERVE: &str =
-    "sftpv3 serve --tree start.tree --save end.tree --record session.transcript";
+const SERVE: &str = "sftpv3 serve --tree start.tree --save end.tree --record session.transcript";
 
 const AUDIT: &str = "sftpv3 audit --tree start.tree --transcript session.transcript --out";
 
@@ -54,7 +53,8 @@ pub fn audit<R: Files + AllocGlobal>(
     run_audit(rt, case, options)?;
     if fs::exists(rt, END)? != (case.came.status == 0) {
         case.say_line(case.line)?;
-        case.said.push_str("    end.tree is there in place of absent, or absent\n")?;
+        case.said
+            .push_str("    end.tree is there in place of absent, or absent\n")?;
     }
     Ok(())
 }
@@ -74,22 +74,20 @@ fn is_whole(text: &str) -> bool {
     text.starts_with("C INIT") || text.starts_with("C raw")
 }
 
-/// The records of a dialogue, and how many requests its audit has to accept, as the audit prints it, if it says that in
-/// place of replies.
-fn dialogue(alloc: Global, text: &str) -> Result<(String, Option<&str>), AllocError> {
-    let mut records = String::new(alloc);
-    let mut accepted = None;
+/// Writes the records of a dialogue; and how many requests the audit of its record has to accept, as the audit prints it,
+/// if the dialogue says that in place of replies.
+fn put_dialogue(text: &str, records: &mut String, verdict: &mut String) -> Result<(), AllocError> {
     if !is_whole(text) {
         records.push_str(OPENING)?;
     }
     for line in text.lines() {
         if line.starts_with("accepted ") {
-            accepted = Some(line);
+            verdict.push_str(line)?;
         } else {
             write!(records, "{line}\n")?;
         }
     }
-    Ok((records, accepted))
+    Ok(())
 }
 
 /// Serves the dialogue of the last `serve` block, with these options, and audits what was recorded.
@@ -98,17 +96,22 @@ pub fn serve<R: Files + AllocGlobal>(
     case: &mut Case,
     options: &str,
 ) -> Result<(), Trouble> {
-    let (records, accepted) = dialogue(rt.alloc(), case.served.as_str())?;
-    case.input.clear();
-    put_sides(records.as_str(), &mut case.input, &mut case.wanted.output)?;
-    case.wanted.output_form = match accepted {
-        Some(_) => Form::Free,
-        None => Form::Packets,
-    };
     let mut verdict = String::new(rt.alloc());
-    verdict.push_str(accepted.unwrap_or(""))?;
+    let mut records = String::new(rt.alloc());
+    put_dialogue(case.served.as_str(), &mut records, &mut verdict)?;
+    take_dialogue(case, records.as_str())?;
+    if !verdict.is_empty() {
+        case.wanted.output_form = Form::Free;
+    }
     run_serve(rt, case, options)?;
     audit_record(rt, case, verdict.as_str())
+}
+
+/// Takes the records of the client as input, and those of the server as what is wanted.
+fn take_dialogue(case: &mut Case, records: &str) -> Result<(), Trouble> {
+    case.input.clear();
+    case.wanted.output_form = Form::Packets;
+    put_sides(records, &mut case.input, &mut case.wanted.output)
 }
 
 /// Serves a session whose input is that of the case.
@@ -127,19 +130,21 @@ pub fn audit_record<R: Files + AllocGlobal>(
     case: &mut Case,
     verdict: &str,
 ) -> Result<(), Trouble> {
-    let is_empty = match read(rt, TRANSCRIPT)? {
-        Some(record) => record.is_empty(),
-        None => true,
-    };
-    if is_empty && verdict.is_empty() {
+    if !has_bytes(rt, TRANSCRIPT)? && verdict.is_empty() {
         return Ok(());
     }
-    let line = format!(in rt.alloc(); "{AUDIT} {AUDITED}")?;
-    let words = words_of(rt.alloc(), line.as_str())?;
     let mut came = Came::new(rt.alloc());
-    run_program(rt, words.as_slice(), b"", usize::MAX, &mut came);
+    run_audit_of_record(rt, &mut came)?;
     expect_accepted(case, &came, verdict)?;
     expect_same_trees(rt, case)
+}
+
+/// Audits what a session has recorded.
+fn run_audit_of_record<R: Files + AllocGlobal>(rt: &R, came: &mut Came) -> Result<(), Trouble> {
+    let line = format!(in rt.alloc(); "{AUDIT} {AUDITED}")?;
+    let words = words_of(rt.alloc(), line.as_str())?;
+    run_program(rt, words.as_slice(), b"", usize::MAX, came);
+    Ok(())
 }
 
 /// Says what an audit printed that did not accept a session, or not so many requests.
@@ -151,20 +156,18 @@ fn expect_accepted(case: &mut Case, came: &Came, verdict: &str) -> Result<(), Al
     }
     let errors = str::from_utf8(came.errors.as_slice()).unwrap_or("?");
     case.say_line(case.line)?;
-    write!(case.said, "    the audit of the record: {printed}{errors}\n")
+    write!(
+        case.said,
+        "    the audit of the record: {printed}{errors}\n"
+    )
 }
 
 /// Says that the tree of the audit is not the one that was saved.
 fn expect_same_trees<R: Files + AllocGlobal>(rt: &R, case: &mut Case) -> Result<(), Trouble> {
-    let audited = read(rt, AUDITED)?;
-    let saved = read(rt, END)?;
-    let is_same = match (&audited, &saved) {
-        (Some(audited), Some(saved)) => audited.as_slice() == saved.as_slice(),
-        _ => false,
-    };
-    if !is_same {
-        case.say_line(case.line)?;
-        case.said.push_str("    the tree of the audit is not the one that was saved\n")?;
+    if fs::exists(rt, AUDITED)? && fs::exists(rt, END)? && is_same(rt, AUDITED, END)? {
+        return Ok(());
     }
+    case.say_line(case.line)?;
+    case.said.push_str("    the tree of the audit is not the one that was saved\n")?;
     Ok(())
 }

@@ -1,13 +1,12 @@
 //! The blocks of a file of cases: a keyword line, and the lines below it, which are indented.
 use std::alloc::{AllocError, Global};
 
-/// A block: the number of its keyword line in the file, from 1, the keyword, the words behind it, and the lines below it.
+/// The head of a block: the number of its line in the file, from 1, the keyword, and the words behind it.
 #[derive(Clone, Copy)]
-pub struct Block<'a> {
+pub struct Block<'t> {
     pub number: usize,
-    pub keyword: &'a str,
-    pub words: &'a str,
-    pub lines: &'a [&'a str],
+    pub keyword: &'t str,
+    pub words: &'t str,
 }
 
 /// Where a block is among the lines of its file: from its keyword line on, and up to this line.
@@ -40,16 +39,30 @@ pub fn spans_of(alloc: Global, lines: &[&str]) -> Result<Vec<Span>, AllocError> 
 }
 
 impl Span {
-    /// The block that is here among the lines of its file.
-    pub fn block<'a>(self, lines: &'a [&'a str]) -> Block<'a> {
+    /// The head of the block that is here among the lines of its file.
+    pub fn block<'t>(self, lines: &[&'t str]) -> Block<'t> {
+        let head = match lines.get(self.start) {
+            Some(head) => *head,
+            None => "",
+        };
         let number = self.start.saturating_add(1);
-        let head = lines.get(self.start).copied().unwrap_or("");
-        let (keyword, words) = head.split_once(' ').unwrap_or((head, ""));
-        Block {
-            number,
-            keyword,
-            words,
-            lines: lines.get(number..self.end).unwrap_or(&[]),
+        match head.split_once(' ') {
+            Some((keyword, words)) => Block {
+                number,
+                keyword,
+                words,
+            },
+            None => Block {
+                number,
+                keyword: head,
+                words: "",
+            },
         }
+    }
+
+    /// The lines below the head.
+    pub fn below<'l, 't>(self, lines: &'l [&'t str]) -> &'l [&'t str] {
+        let start = self.start.saturating_add(1);
+        lines.get(start..self.end).unwrap_or(&[])
     }
 }

@@ -136,27 +136,28 @@ fn take_block<R: Files + AllocGlobal>(
     rt: &R,
     case: &mut Case,
     block: Block<'_>,
+    lines: &[&str],
 ) -> io::Result<()> {
-    match take_step(rt, case, block) {
+    match take_step(rt, case, block, lines) {
         Ok(()) => Ok(()),
         Err(trouble) => say_trouble(case, block.number, trouble),
     }
 }
 
 /// Runs the cases among the lines of a file.
-fn run_lines<R: Files + AllocGlobal + Print>(
+fn run_lines<'t, R: Files + AllocGlobal + Print>(
     rt: &R,
     name: &str,
-    lines: &[&str],
+    lines: &[&'t str],
     case: &mut Case,
     count: &mut Count,
 ) -> io::Result<()> {
     let spans = spans_of(rt.alloc(), lines)?;
-    let mut title: Option<Block<'_>> = None;
+    let mut title: Option<Block<'t>> = None;
     for span in spans.as_slice() {
         let block = span.block(lines);
         if block.keyword != "case" {
-            take_block(rt, case, block)?;
+            take_block(rt, case, block, span.below(lines))?;
             continue;
         }
         if let Some(title) = title {

@@ -152,14 +152,13 @@ fn put_quoted(quoted: &str, behind: &str, out: &mut String) -> Result<(), AllocE
 
 /// Writes a line with the names of handles and repeated texts in full. A quote that is not closed ends the line.
 fn put_in_full(line: &str, out: &mut String) -> Result<(), AllocError> {
-    let mut quoted = "";
-    for (index, part) in line.split('"').enumerate() {
+    let parts: Vec<&str> = line.split('"').collect(*out.allocator())?;
+    for (index, part) in parts.iter().enumerate() {
         if index == 0 {
             put_handles(part, out)?;
-        } else if index % 2 == 1 {
-            quoted = part;
-        } else {
-            put_quoted(quoted, part, out)?;
+        } else if index % 2 == 0 {
+            let quoted = parts.get(index.saturating_sub(1)).copied();
+            put_quoted(quoted.unwrap_or(""), part, out)?;
         }
     }
     Ok(())

@@ -12,6 +12,9 @@ pub const END: &str = "end.tree";
 /// The tree at the end of a session according to the audit of its record.
 pub const AUDITED: &str = "audited.tree";
 
+/// The tree at the end of a session alone, without the request that a table asks behind it.
+pub const ALONE: &str = "alone.tree";
+
 /// The transcript that is audited, and the record of a session that is served.
 pub const TRANSCRIPT: &str = "session.transcript";
 
@@ -29,11 +32,22 @@ pub fn write<R: Files + AllocGlobal>(rt: &R, name: &str, bytes: &[u8]) -> Result
     Ok(())
 }
 
-/// The bytes of a file, or `None` if there is no such file.
-pub fn read<R: Files + AllocGlobal>(rt: &R, name: &str) -> Result<Option<Vec<u8>>, Trouble> {
-    if fs::exists(rt, name)? {
-        Ok(Some(fs::read(rt, name)?))
-    } else {
-        Ok(None)
+/// Whether a file is there and has a byte.
+pub fn has_bytes<R: Files + AllocGlobal>(rt: &R, name: &str) -> Result<bool, Trouble> {
+    if !fs::exists(rt, name)? {
+        return Ok(false);
     }
+    let bytes = fs::read(rt, name)?;
+    Ok(!bytes.is_empty())
+}
+
+/// Whether two files have the same bytes.
+pub fn is_same<R: Files + AllocGlobal>(rt: &R, name: &str, other: &str) -> Result<bool, Trouble> {
+    let bytes = fs::read(rt, name)?;
+    has_these(rt, other, bytes.as_slice())
+}
+
+fn has_these<R: Files + AllocGlobal>(rt: &R, name: &str, bytes: &[u8]) -> Result<bool, Trouble> {
+    let found = fs::read(rt, name)?;
+    Ok(found.as_slice() == bytes)
 }

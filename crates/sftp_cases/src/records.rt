@@ -74,11 +74,7 @@ pub fn put_bytes(text: &str, bytes: &mut Vec<u8>) -> Result<(), Trouble> {
 }
 
 /// The packets of the client and those of the server in these lines of records.
-pub fn put_sides(
-    text: &str,
-    client: &mut Vec<u8>,
-    server: &mut Vec<u8>,
-) -> Result<(), Trouble> {
+pub fn put_sides(text: &str, client: &mut Vec<u8>, server: &mut Vec<u8>) -> Result<(), Trouble> {
     let mut packet = Vec::new(*client.allocator());
     for line in text.lines() {
         match read_record(line.as_bytes(), &mut packet)? {

@@ -1,11 +1,12 @@
 //! The blocks that have a table of requests: `replies` and `codes`, which are audited, and `answers`, which are served.
 use crate::actions::{audit_record, run_audit, run_serve};
 use crate::cases::Case;
-use crate::files::{END, TRANSCRIPT, read, write};
-use crate::records::{OPENING, cut, id_of, put_packet, put_session, put_sides};
+use crate::files::{ALONE, END, TRANSCRIPT, is_same, write};
+use crate::records::{OPENING, cut, id_of, put_bytes, put_packet, put_session, put_sides};
 use crate::runs::Came;
 use crate::trouble::Trouble;
-use std::alloc::AllocError;
+use std::alloc::{AllocError, Global};
+use std::fs;
 use std::fs::Files;
 
 /// What a line says: the text in front of the arrow, and the text behind it.
@@ -74,22 +75,14 @@ fn judge_session<R: Files + AllocGlobal>(
 }
 
 /// Judges the reply of each line.
-pub fn replies<R: Files + AllocGlobal>(
-    rt: &R,
-    case: &mut Case,
-    text: &str,
-) -> Result<(), Trouble> {
+pub fn replies<R: Files + AllocGlobal>(rt: &R, case: &mut Case, text: &str) -> Result<(), Trouble> {
     for line in text.lines() {
         judge_reply(rt, case, line)?;
     }
     Ok(())
 }
 
-fn judge_reply<R: Files + AllocGlobal>(
-    rt: &R,
-    case: &mut Case,
-    line: &str,
-) -> Result<(), Trouble> {
+fn judge_reply<R: Files + AllocGlobal>(rt: &R, case: &mut Case, line: &str) -> Result<(), Trouble> {
     let (ask, rest) = arrow(line)?;
     let (answer, verdict) = arrow(rest)?;
     let records = judge(rt, case, ask, answer)?;
@@ -105,34 +98,30 @@ fn judge_reply<R: Files + AllocGlobal>(
 }
 
 /// Judges the STATUS of each code from 0 to 9 for the request of each line.
-pub fn codes<R: Files + AllocGlobal>(
-    rt: &R,
-    case: &mut Case,
-    text: &str,
-) -> Result<(), Trouble> {
-    let mut session = String::new(rt.alloc());
-    session.push_str(case.session.as_str())?;
-    judge_session(rt, case, session.as_str())?;
-    if !is_accepted(&case.came) {
-        say_verdict(case, "the session alone")?;
-    }
-    let tree = read(rt, END)?.unwrap_or(Vec::new(rt.alloc()));
+pub fn codes<R: Files + AllocGlobal>(rt: &R, case: &mut Case, text: &str) -> Result<(), Trouble> {
+    judge_alone(rt, case)?;
     for line in text.lines() {
-        judge_codes(rt, case, line, tree.as_slice())?;
+        judge_codes(rt, case, line)?;
     }
     Ok(())
 }
 
-/// Judges the codes of a line. Those but 0 leave this tree.
-fn judge_codes<R: Files + AllocGlobal>(
-    rt: &R,
-    case: &mut Case,
-    line: &str,
-    tree: &[u8],
-) -> Result<(), Trouble> {
+/// Audits the session of the case alone, and keeps the tree at its end.
+fn judge_alone<R: Files + AllocGlobal>(rt: &R, case: &mut Case) -> Result<(), Trouble> {
+    let session = format!(in rt.alloc(); "{}", case.session.as_str())?;
+    judge_session(rt, case, session.as_str())?;
+    if is_accepted(&case.came) {
+        Ok(fs::rename(rt, END, ALONE)?)
+    } else {
+        Ok(say_verdict(case, "the session alone")?)
+    }
+}
+
+/// Judges the codes of a line. Those but 0 leave the tree as the session alone does.
+fn judge_codes<R: Files + AllocGlobal>(rt: &R, case: &mut Case, line: &str) -> Result<(), Trouble> {
     let (ask, allowed) = arrow(line)?;
     for code in 0..10u32 {
-        if !is_judged(rt, case, ask, code, allowed, tree)? {
+        if !is_judged(rt, case, ask, code, allowed)? {
             say_verdict(case, line)?;
         }
     }
@@ -156,33 +145,35 @@ fn is_judged<R: Files + AllocGlobal>(
     ask: &str,
     code: u32,
     allowed: &str,
-    tree: &[u8],
 ) -> Result<bool, Trouble> {
+    let records = judge_code(rt, case, ask, code)?;
+    if !has_code(allowed, code) {
+        Ok(is_refused(&case.came, records))
+    } else if !is_accepted(&case.came) {
+        Ok(false)
+    } else if code == 0 {
+        Ok(true)
+    } else {
+        is_same(rt, END, ALONE)
+    }
+}
+
+/// Audits the session of the case with a request and a STATUS of this code, and returns how many records it has.
+fn judge_code<R: Files + AllocGlobal>(
+    rt: &R,
+    case: &mut Case,
+    ask: &str,
+    code: u32,
+) -> Result<usize, Trouble> {
     let Some(id) = id_of(ask) else {
         return Err(Trouble::Form("a request"));
     };
     let answer = format!(in rt.alloc(); "S {id} STATUS {code}")?;
-    let records = judge(rt, case, ask, answer.as_str())?;
-    if !has_code(allowed, code) {
-        return Ok(is_refused(&case.came, records));
-    }
-    Ok(is_accepted(&case.came) && (code == 0 || has_tree(rt, tree)?))
-}
-
-/// Whether the tree at the end is this one.
-fn has_tree<R: Files + AllocGlobal>(rt: &R, tree: &[u8]) -> Result<bool, Trouble> {
-    match read(rt, END)? {
-        Some(end) => Ok(end.as_slice() == tree),
-        None => Ok(false),
-    }
+    judge(rt, case, ask, answer.as_str())
 }
 
 /// Serves the request of each line.
-pub fn answers<R: Files + AllocGlobal>(
-    rt: &R,
-    case: &mut Case,
-    text: &str,
-) -> Result<(), Trouble> {
+pub fn answers<R: Files + AllocGlobal>(rt: &R, case: &mut Case, text: &str) -> Result<(), Trouble> {
     for line in text.lines() {
         serve_line(rt, case, line)?;
     }
@@ -204,29 +195,36 @@ fn behind<'a>(packets: &'a [u8], before: &str) -> &'a [u8] {
 }
 
 /// Serves a session of the records before and the request of a line, and audits what it has recorded.
-fn serve_line<R: Files + AllocGlobal>(
-    rt: &R,
-    case: &mut Case,
-    line: &str,
-) -> Result<(), Trouble> {
+fn serve_line<R: Files + AllocGlobal>(rt: &R, case: &mut Case, line: &str) -> Result<(), Trouble> {
     let (ask, answer) = arrow(line)?;
-    let mut played = Vec::new(rt.alloc());
-    let mut wanted = Vec::new(rt.alloc());
-    let before = case.before.as_str();
-    let text = format!(in rt.alloc(); "{OPENING}{before}{ask}\n")?;
-    case.input.clear();
-    put_sides(text.as_str(), &mut case.input, &mut played)?;
-    put_sides(answer, &mut played, &mut wanted)?;
+    prepare_line(rt.alloc(), case, ask, answer)?;
     run_serve(rt, case, "")?;
     case.is_pending = false;
-    compare_answer(case, line, wanted.as_slice())?;
+    compare_answer(case, line)?;
     audit_record(rt, case, "")
 }
 
+/// Takes the records before and a request as input, and the reply as what is wanted.
+fn prepare_line(alloc: Global, case: &mut Case, ask: &str, answer: &str) -> Result<(), Trouble> {
+    let before = case.before.as_str();
+    let text = format!(in alloc; "{OPENING}{before}{ask}\n")?;
+    put_first(text.as_str(), &mut case.input)?;
+    case.wanted.output.clear();
+    put_bytes(answer, &mut case.wanted.output)
+}
+
+/// Takes the records of the client among these as input.
+fn put_first(text: &str, input: &mut Vec<u8>) -> Result<(), Trouble> {
+    let mut replies = Vec::new(*input.allocator());
+    input.clear();
+    put_sides(text, input, &mut replies)
+}
+
 /// Says what came in place of the answer, if it differs.
-fn compare_answer(case: &mut Case, line: &str, wanted: &[u8]) -> Result<(), AllocError> {
+fn compare_answer(case: &mut Case, line: &str) -> Result<(), AllocError> {
     let came = behind(case.came.output.as_slice(), case.before.as_str());
-    if case.came.status == 0 && case.came.errors.is_empty() && came == wanted {
+    let is_same = came == case.wanted.output.as_slice();
+    if case.came.status == 0 && case.came.errors.is_empty() && is_same {
         return Ok(());
     }
     let mut answer = String::new(*case.said.allocator());
