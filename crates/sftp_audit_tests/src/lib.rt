@@ -1,4 +1,5 @@
-//! Tests of `sftp_audit`. They go over tables of cases, each with what it has to give, worked out by hand.
+//! Tests of `sftp_audit` that no case of `sftp_cases` can be: of its auditor fed event by event, and of audits of
+//! streams that fail.
 #![tactic(auto)]
 
 #[cfg(test)]

@@ -1,6 +1,5 @@
 //! Long seeded sessions: what a session answers, another session on an equal tree accepts, and both end with equal
 //! trees.
-use crate::answers::{MIXED, packet};
 use sftp_handles::{GivenTable, Session, SlabTable};
 use sftp_path::NoMemory;
 use sftp_test_inputs::generator::Generator;
@@ -8,6 +7,13 @@ use sftp_tree::Tree;
 use sftp_wire::{Answer, Packet, Reply, Request, Side, front};
 use std::alloc::{AllocError, Global};
 use std::test::Fail;
+
+/// The tree with the directories `/d` and `/d/e`, the file `/f` of `abc`, the link `/l` to `d/e`, and the link `/o` to
+/// itself.
+const MIXED: &[u8] = b"\
+SFTREE01\0\0\0\x01/\0\0\0\0\0\0\0\0\0\0\0\x05\0\0\0\0\0\0\0\0\0\0\x01\xed\0\0\0\x02/dD\0\0\0\
+\0\0\0\0\0\0\0\x01\xed\0\0\0\x04/d/eD\0\0\0\0\0\0\0\0\0\0\x01\xed\0\0\0\x02/fF\0\0\0\0\0\0\0\
+\0\0\0\x01\xa4\0\0\0\x03abc\0\0\0\x02/lL\0\0\0\x03d/e\0\0\0\x02/oL\0\0\0\x01o";
 
 /// How many requests a session has.
 const REQUESTS: u32 = 4000;
@@ -83,6 +89,16 @@ const TARGETS: Field = Field::OneOf(&[
     b"\0\0\0\0",
     b"\0\0\0\x02d\0",
 ]);
+
+/// The packet of a type and of what follows its id.
+pub(crate) fn packet(alloc: Global, id: u32, part: &[u8]) -> Result<Vec<u8>, AllocError> {
+    let length = (part.len() % 65_536) as u32 + 4;
+    let mut packet = Vec::from_slice(alloc, &length.to_be_bytes())?;
+    packet.extend_from_slice(part.get(..1).unwrap_or(&[]))?;
+    packet.extend_from_slice(&id.to_be_bytes())?;
+    packet.extend_from_slice(part.get(1..).unwrap_or(&[]))?;
+    Ok(packet)
+}
 
 /// A bit of the request's own, the byte of its type and the name if it is an extension, and its fields.
 type Kind<'a> = (u32, &'a [u8], &'a [Field<'a>]);

@@ -1,5 +1,5 @@
-//! Tests of sessions: of `sftp_handles` in `handles`, `answers` and `agreement`, of `sftp_client`, `sftp_transcript`
-//! and `sftp_server`. The law of `audited` is about the server and the auditor.
+//! Tests of what a case of `sftp_cases` cannot say: of `sftp_handles` in `handles` and `agreement`, of `sftp_client`,
+//! `sftp_transcript` and `sftp_server`. The law of `audited` is about the server and the auditor.
 //!
 //! A test goes over a table of cases, each with what it has to give, worked out by hand. The assertion names the
 //! case that fails.
@@ -7,8 +7,6 @@
 
 #[cfg(test)]
 mod agreement;
-#[cfg(test)]
-mod answers;
 pub mod audited;
 #[cfg(test)]
 mod client;

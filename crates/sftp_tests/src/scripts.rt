@@ -1,5 +1,5 @@
 //! Acts of a server that are done one after the other: the events that they make, and the tree in the end.
-use crate::answers::packet;
+use crate::agreement::packet;
 use sftp_path::NoMemory;
 use sftp_server::{Act, Core, run_script};
 use sftp_transcript::Event;

@@ -1,5 +1,5 @@
 //! The auditor, event by event: what it keeps, and which refusal comes when, and for good.
-use super::{BLANK, DONE, MAKE_A, WITH_A, recorded};
+use super::{BLANK, DONE, MAKE_A, recorded};
 use sftp_audit::{Auditor, Refusal};
 use sftp_transcript::{Event, Memory, Reader};
 use sftp_tree::Tree;
@@ -238,10 +238,4 @@ fn forgets(alloc: Global, count: u32) -> bool {
 #[test]
 fn long_sessions(rt: HostRuntime) {
     assert!(rt; forgets(rt.alloc(), 2_000));
-}
-
-/// What is open at the end is closed, and a directory that was made stays.
-#[test]
-fn ends_with_what_was_made(rt: HostRuntime) {
-    assert!(rt; is_taken(rt.alloc(), &[(MAKE_A, 1), (DONE, 0)], WITH_A));
 }
