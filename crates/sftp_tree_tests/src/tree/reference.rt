@@ -164,10 +164,6 @@ impl Reference {
             Call::Stat(path) => needs(self.follow(path)?),
             Call::Lstat(path) => needs(self.lead(path)?),
             Call::ReadLink(path) => self.judge_read_link(path),
-            Call::RealPath(path) => {
-                self.lead(path)?;
-                Ok(())
-            }
             Call::Open(path, flags, _) => self.judge_open(path, *flags),
             Call::Opendir(path) => self.judge_open_directory(path),
         }
