@@ -63,10 +63,10 @@ enum Call<'a> {
 /// Does a request.
 fn perform(tree: &mut Tree, call: &Call) -> Result<(), Refused> {
     match call {
-        Call::Mkdir(path, given) => tree.mkdir(path, &attrs(*given)),
+        Call::Mkdir(path, given) => make(tree, path, *given),
         Call::Rmdir(path) => tree.rmdir(path),
         Call::Remove(path) => tree.remove(path),
-        Call::SetStat(path, given) => tree.set_stat(path, &attrs(*given)),
+        Call::SetStat(path, given) => set(tree, path, *given),
         Call::Rename(old, new) => tree.rename(old, new),
         Call::PosixRename(old, new) => tree.posix_rename(old, new),
         Call::Hardlink(old, new) => tree.hardlink(old, new),
@@ -77,6 +77,14 @@ fn perform(tree: &mut Tree, call: &Call) -> Result<(), Refused> {
         Call::Open(path, flags, given) => open(tree, path, *flags, *given),
         Call::Opendir(path) => list(tree, path),
     }
+}
+
+fn make(tree: &mut Tree, path: &[u8], given: Given) -> Result<(), Refused> {
+    tree.mkdir(path, &attrs(given))
+}
+
+fn set(tree: &mut Tree, path: &[u8], given: Given) -> Result<(), Refused> {
+    tree.set_stat(path, &attrs(given))
 }
 
 fn show(tree: &Tree, path: &[u8], follow: bool) -> Result<(), Refused> {
