@@ -1,4 +1,5 @@
-//! Tests of `sftp_wire`. They go over tables of cases, each with what it has to give, worked out by hand.
+//! Tests of `sftp_wire` by values: types of packets, a buffer's calls, and packets that are not written. Packets and
+//! their faults are cases of `sftp_cases`.
 #![tactic(auto)]
 
 #[cfg(test)]

@@ -164,10 +164,6 @@ impl Reference {
             Call::Stat(path) => needs(self.follow(path)?),
             Call::Lstat(path) => needs(self.lead(path)?),
             Call::ReadLink(path) => self.judge_read_link(path),
-            Call::RealPath(path) => {
-                self.lead(path)?;
-                Ok(())
-            }
             Call::Open(path, flags, _) => self.judge_open(path, *flags),
             Call::Opendir(path) => self.judge_open_directory(path),
         }
@@ -392,15 +388,25 @@ impl Reference {
     pub(super) fn tree_file(&self, alloc: Global) -> Result<Vec<u8>, AllocError> {
         let mut out = Vec::from_slice(alloc, b"SFTREE01\0\0\0\x01/\0\0\0\0\0\0\0\0")?;
         let mut firsts = BTreeMap::new(alloc);
+        self.put_entries(&mut out, &mut firsts)?;
+        Ok(out)
+    }
+
+    /// Appends the count of the entries, the root and the entries.
+    fn put_entries(
+        &self,
+        out: &mut Vec<u8>,
+        firsts: &mut BTreeMap<usize, usize>,
+    ) -> Result<(), AllocError> {
         for (number, (path, node)) in self.places.iter().enumerate() {
             if number == 0 {
-                put_number(&mut out, self.places.len().saturating_sub(1))?;
+                put_number(out, self.places.len().saturating_sub(1))?;
             } else {
-                put_text(&mut out, path.as_slice())?;
+                put_text(out, path.as_slice())?;
             }
-            self.put_node(&mut out, &mut firsts, number, *node)?;
+            self.put_node(out, firsts, number, *node)?;
         }
-        Ok(out)
+        Ok(())
     }
 
     /// Appends the fields after the text of an entry with this number. The root, number 0, has an owner alone.

@@ -106,7 +106,7 @@ impl Requests {
 }
 
 /// Whether the tree answers a request as the reference does.
-pub(super) fn answers(
+fn answers(
     alloc: Global,
     tree: &mut Tree,
     reference: &mut Reference,
@@ -135,24 +135,32 @@ fn shows_at(tree: &Tree, reference: &Reference, path: &[u8], follow: bool) -> bo
     }
 }
 
-/// The tree that the lists begin with: a chain of directories `z`, so many levels deep, and in the last of them two
-/// directories of three files each, and one more file.
-fn start(alloc: Global, levels: u32) -> Result<Reference, AllocError> {
-    let mut reference = Reference::blank(alloc)?;
-    let mut top = Vec::new(alloc);
+/// Makes the tree that the lists begin with: a chain of directories `z`, so many levels deep, which is the top, and in
+/// the last of them two directories of three files each, and one more file.
+fn fill(
+    alloc: Global,
+    reference: &mut Reference,
+    top: &mut Vec<u8>,
+    levels: u32,
+) -> Result<(), AllocError> {
     for _ in 0..levels {
         top.extend_from_slice(b"/z")?;
-        make(alloc, &mut reference, top.as_slice())?;
+        make(alloc, reference, top.as_slice())?;
     }
-    for name in [b"/a".as_slice(), b"/b"] {
-        make(
-            alloc,
-            &mut reference,
-            joined(alloc, top.as_slice(), name)?.as_slice(),
-        )?;
-    }
-    put_files(alloc, &mut reference, top.as_slice())?;
-    Ok(reference)
+    make_below(alloc, reference, top.as_slice(), b"/a")?;
+    make_below(alloc, reference, top.as_slice(), b"/b")?;
+    put_files(alloc, reference, top.as_slice())
+}
+
+/// Makes a directory below the top.
+fn make_below(
+    alloc: Global,
+    reference: &mut Reference,
+    top: &[u8],
+    rest: &[u8],
+) -> Result<(), AllocError> {
+    let path = joined(alloc, top, rest)?;
+    make(alloc, reference, path.as_slice())
 }
 
 fn make(alloc: Global, reference: &mut Reference, path: &[u8]) -> Result<(), AllocError> {
@@ -205,29 +213,49 @@ fn first_wrong(
 }
 
 /// Whether a tree is written as the reference is.
-pub(super) fn writes_as(
-    alloc: Global,
-    tree: &Tree,
-    reference: &Reference,
-) -> Result<bool, AllocError> {
+fn writes_as(alloc: Global, tree: &Tree, reference: &Reference) -> Result<bool, AllocError> {
     let file = reference.tree_file(alloc)?;
     Ok(writes(tree, file.as_slice()))
 }
 
-/// Whether a tree that is read from the reference's file does a list of requests as the reference does, and is then
-/// written as it.
-fn agrees(alloc: Global, levels: u32, seed: u32) -> Result<bool, AllocError> {
-    let mut reference = start(alloc, levels)?;
-    let file = reference.tree_file(alloc)?;
-    let Ok(mut tree) = Tree::read(alloc, file.as_slice()) else {
-        return Ok(false);
-    };
+/// Whether a tree does a list of requests as the reference does, and is then written as it.
+fn does_as(
+    alloc: Global,
+    tree: &mut Tree,
+    reference: &mut Reference,
+    top: &[u8],
+    seed: u32,
+) -> Result<bool, AllocError> {
+    let wrong = first_wrong(alloc, tree, reference, top, seed)?;
+    Ok(wrong.is_none() && writes_as(alloc, tree, reference)?)
+}
+
+/// The same of a tree that is read from the reference's file.
+fn reads_and_does(
+    alloc: Global,
+    reference: &mut Reference,
+    levels: u32,
+    seed: u32,
+) -> Result<bool, AllocError> {
     let mut top = Vec::new(alloc);
-    for _ in 0..levels {
-        top.extend_from_slice(b"/z")?;
+    fill(alloc, reference, &mut top, levels)?;
+    let file = reference.tree_file(alloc)?;
+    match Tree::read(alloc, file.as_slice()) {
+        Ok(mut tree) => {
+            let agrees = does_as(alloc, &mut tree, reference, top.as_slice(), seed);
+            drop(tree);
+            agrees
+        }
+        Err(_) => Ok(false),
     }
-    let wrong = first_wrong(alloc, &mut tree, &mut reference, top.as_slice(), seed)?;
-    Ok(wrong.is_none() && writes_as(alloc, &tree, &reference)?)
+}
+
+/// The same from the tree that the lists begin with.
+fn agrees(alloc: Global, levels: u32, seed: u32) -> Result<bool, AllocError> {
+    let mut reference = Reference::blank(alloc)?;
+    let agrees = reads_and_does(alloc, &mut reference, levels, seed);
+    drop(reference);
+    agrees
 }
 
 #[test]

@@ -1,4 +1,4 @@
-//! Packets that are not written, and the texts of errors.
+//! Packets that are not written, packets after other bytes, and the texts of errors.
 use super::{long, no_attributes, reply, request, text, written};
 use sftp_wire::{Answer, Ask, ByteString, Fault, Packet, WireError};
 use std::alloc::{AllocError, Global};
@@ -106,43 +106,8 @@ fn known_extensions_as_unknown_ones(rt: HostRuntime) -> Result<(), Fail> {
     Ok(())
 }
 
-/// Errors and their texts.
+/// Errors that no session shows, and their texts.
 const TEXTS: &[(WireError, &str)] = &[
-    (
-        WireError::Unreadable {
-            fault: Fault::Length,
-            place: 0,
-        },
-        "Length at 0",
-    ),
-    (
-        WireError::Unreadable {
-            fault: Fault::WrongType,
-            place: 0,
-        },
-        "Type at 0",
-    ),
-    (
-        WireError::Unreadable {
-            fault: Fault::Short,
-            place: 28,
-        },
-        "Short at 28",
-    ),
-    (
-        WireError::Unreadable {
-            fault: Fault::Trailing,
-            place: 0,
-        },
-        "Trailing at 0",
-    ),
-    (
-        WireError::Unreadable {
-            fault: Fault::Flags,
-            place: 0,
-        },
-        "Flags at 0",
-    ),
     (
         WireError::Unreadable {
             fault: Fault::HandleTooLong,
@@ -161,5 +126,41 @@ fn texts(rt: HostRuntime) -> Result<(), Fail> {
         let text = format!(in rt.alloc(); "{error}")?;
         assert!(rt; text.as_str() == *expected, "{expected}");
     }
+    Ok(())
+}
+
+/// RMDIR after other bytes.
+fn writes_behind(alloc: Global) -> Result<bool, AllocError> {
+    let before = kept(alloc)?;
+    let path = text(alloc, b"/a")?;
+    let (said, out) = written(before, request(1, Ask::Rmdir { path }));
+    Ok(said == Ok(()) && out.as_slice() == b"kept\0\0\0\x0b\x0f\0\0\0\x01\0\0\0\x02/a".as_slice())
+}
+
+/// DATA of 34,000 bytes in all, the most that a packet has.
+fn writes_longest(alloc: Global) -> Result<bool, AllocError> {
+    let answer = Answer::Data(long(alloc, 33_987)?);
+    let (said, out) = written(Vec::new(alloc), reply(1, answer));
+    Ok(said == Ok(()) && out.len() == 34_000)
+}
+
+/// STATUS with texts.
+fn writes_status(alloc: Global) -> Result<bool, AllocError> {
+    let message = text(alloc, b"Failure")?;
+    let language = text(alloc, b"en")?;
+    let answer = Answer::Status {
+        code: 4,
+        message,
+        language,
+    };
+    let (said, out) = written(Vec::new(alloc), reply(16, answer));
+    let bytes = b"\0\0\0\x1a\x65\0\0\0\x10\0\0\0\x04\0\0\0\x07Failure\0\0\0\x02en".as_slice();
+    Ok(said == Ok(()) && out.as_slice() == bytes)
+}
+
+#[test]
+fn packets_that_are_written(rt: HostRuntime) -> Result<(), Fail> {
+    assert!(rt; writes_behind(rt.alloc())? && writes_longest(rt.alloc())?);
+    assert!(rt; writes_status(rt.alloc())?);
     Ok(())
 }
