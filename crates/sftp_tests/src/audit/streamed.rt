@@ -1,7 +1,7 @@
 //! Audits of streams: what is judged however the reads are cut, and where the source fails.
 use super::{BLANK, DONE, MAKE_A, WITH_A, recorded};
+use crate::torn::Torn;
 use sftp_audit::{Accepted, AuditError, Refusal, TranscriptError, audit_stream};
-use sftp_test_inputs::torn::Torn;
 use sftp_transcript::{Reader, Tally};
 use std::alloc::Global;
 use std::io::Read;

@@ -1,7 +1,7 @@
 //! Seeded lists of a thousand requests, each done by the tree and by the reference.
 use super::reference::{Content, EXCL, OWNER, Reference};
 use super::{Call, Given, perform, shows, writes};
-use sftp_test_inputs::generator::Generator;
+use crate::generator::Generator;
 use sftp_tree::{Refused, Tree};
 use std::alloc::{AllocError, Global};
 use std::test::Fail;

@@ -1,8 +1,8 @@
 //! Long seeded sessions: what a session answers, another session on an equal tree accepts, and both end with equal
 //! trees.
+use crate::generator::Generator;
 use sftp_handles::{GivenTable, Session, SlabTable};
 use sftp_path::NoMemory;
-use sftp_test_inputs::generator::Generator;
 use sftp_tree::Tree;
 use sftp_wire::{Answer, Packet, Reply, Request, Side, front};
 use std::alloc::{AllocError, Global};
@@ -91,7 +91,7 @@ const TARGETS: Field = Field::OneOf(&[
 ]);
 
 /// The packet of a type and of what follows its id.
-pub(crate) fn packet(alloc: Global, id: u32, part: &[u8]) -> Result<Vec<u8>, AllocError> {
+fn packet(alloc: Global, id: u32, part: &[u8]) -> Result<Vec<u8>, AllocError> {
     let length = (part.len() % 65_536) as u32 + 4;
     let mut packet = Vec::from_slice(alloc, &length.to_be_bytes())?;
     packet.extend_from_slice(part.get(..1).unwrap_or(&[]))?;

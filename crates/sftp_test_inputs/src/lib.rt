@@ -1,5 +1,0 @@
-//! What the tests of several crates share: seeded numbers, and a source that fails.
-#![tactic(auto)]
-
-pub mod generator;
-pub mod torn;
