@@ -96,6 +96,7 @@ impl Auditor {
     {
         if let Some(refusal) = self.refusal {
             self.ledger.clear();
+            drop(event);
             return Err(refusal);
         }
         match self.note(event) {
@@ -162,13 +163,21 @@ impl Auditor {
             StandsFor start events self → LacksReply events refusal) }
     {
         if let Some(refusal) = self.refusal {
+            drop(self);
             return Err(refusal);
         }
         match self.ledger.first() {
-            Some(exchange) => Err(Refusal::Unanswered {
-                record: exchange.number,
-            }),
-            None => Ok(self.session.into_tree()),
+            Some(exchange) => {
+                let refusal = Refusal::Unanswered {
+                    record: exchange.number,
+                };
+                drop(self);
+                Err(refusal)
+            }
+            None => {
+                drop(self.ledger);
+                Ok(self.session.into_tree())
+            }
         }
     }
 

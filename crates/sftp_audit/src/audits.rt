@@ -63,7 +63,9 @@ pub fn audit(alloc: Global, tree: &[u8], transcript: &[u8]) -> Result<Accepted, 
     ensures plain { IfErr result IsPlain }
 {
     let mut records = Reader::new(alloc, Memory::new(transcript))?;
-    audit_stream(alloc, tree, &mut records)
+    let audited = audit_stream(alloc, tree, &mut records);
+    drop(records);
+    audited
 }
 
 /// Audits a session whose transcript is read from a stream, as `audit` does. The reader has read nothing yet. Of the
@@ -97,10 +99,19 @@ pub fn audit_stream<R: Source>(
     ensures may_fail { records.old.fault ≡ None → IfErr result (IsExcusedBy R.may_fail) }
     ensures plain { IfErr result IsPlain }
 {
+    // Dear to prove: it has six ways out, each with all that is promised of an audit.
     let mut auditor = Auditor::new(Tree::read(alloc, tree)?)?;
-    let requests = feed_all(&mut auditor, records)?;
+    let requests = match feed_all(&mut auditor, records) {
+        Ok(requests) => requests,
+        Err(error) => {
+            drop(auditor);
+            return Err(error);
+        }
+    };
     let end = auditor.finish()?;
-    let tree = end.write()?;
+    let written = end.write();
+    drop(end);
+    let tree = written?;
     Ok(Accepted { tree, requests })
 }
 

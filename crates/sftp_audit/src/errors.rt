@@ -7,6 +7,7 @@ use std::alloc::{AllocError, AllocFailed};
 use thiserror::Error;
 
 /// Why the tree does not explain a session, and the number of the record that shows it (draft, section 6.1).
+// Its derived `Display` is dear to prove: six texts, each of its own parts.
 #[derive(Clone, Copy, Debug, PartialEq, Eq, Error)]
 pub enum Refusal {
     /// A reply whose id is not that of an unanswered request.

@@ -87,7 +87,10 @@ impl Ledger {
                 });
                 Ok(())
             }
-            Err(refusal) => Err(refusal),
+            Err(refusal) => {
+                drop(request);
+                Err(refusal)
+            }
         }
     }
 
@@ -102,14 +105,16 @@ impl Ledger {
         ensures refused { IfErr result (RefusesReply self.old recorded) }
     {
         let Some(ordinal) = self.unanswered.swap_remove(&recorded.reply.id) else {
-            return Err(Refusal::UnknownReply {
+            let refusal = Refusal::UnknownReply {
                 record: recorded.number,
-            });
+            };
+            drop(recorded);
+            return Err(refusal);
         };
         let position = position_of(ordinal, self.first);
         match self.exchanges.get_mut(position) {
             Some(exchange) => {
-                exchange.reply = Some(recorded);
+                drop(exchange.reply.replace(recorded));
                 Ok(())
             }
             None => unreachable!(),
@@ -128,7 +133,7 @@ impl Ledger {
         requires { starts_answered self.old ≡ true }
         ensures { self.new ≡ drop 1 self.old }
     {
-        self.exchanges.pop_front();
+        drop(self.exchanges.pop_front());
         self.first = self.first.wrapping_add(1);
     }
 

@@ -61,6 +61,7 @@ impl<T: HandleTable> Session<T> {
         ensures refused { IfErr result (IsRefusal self.old ask.now) }
         ensures kept { OnErr result (self.new ≡ self.old) }
     {
+        // Dear to prove: an arm for each request that tells something, each with a result of its own.
         match ask {
             Ask::Open {
                 path,

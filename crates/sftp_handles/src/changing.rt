@@ -31,6 +31,7 @@ impl<T: HandleTable> Session<T> {
         match self.table.take(handle) {
             Some(it) => {
                 unpin_closed(&mut self.tree, &it);
+                drop(it);
                 Ok(())
             }
             None => Err(Cause::BadHandle),

@@ -118,7 +118,10 @@ fn put_open(
         return Err((it, PutError::NoMemory));
     };
     match opens.insert(want, it) {
-        Ok(_) => Ok(name),
+        Ok(before) => {
+            drop(before);
+            Ok(name)
+        }
         Err(failed) => {
             let (_, it) = failed.value;
             Err((it, PutError::NoMemory))

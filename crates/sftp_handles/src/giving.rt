@@ -178,5 +178,5 @@ fn put_listing<T: HandleTable>(table: &mut T, handle: &[u8], left: Listing)
     requires { IsTrue (is_open (T.handles table.old) handle.now) }
     ensures { T.handles table.new ≡ with_open (T.handles table.old) handle.now (opens.Listing left) }
 {
-    let _empty = table.swap(handle, Open::Listing { left });
+    drop(table.swap(handle, Open::Listing { left }));
 }

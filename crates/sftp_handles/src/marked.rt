@@ -144,7 +144,7 @@ fn drop_struck(items: &mut VecDeque<Item>, marks: &mut VecDeque<bool>)
     ensures first { is_struck_first marks.new.items ≡ false }
 {
     'struck: while is_struck_first(marks) {
-        items.pop_front();
+        drop(items.pop_front());
         marks.pop_front();
     }
 }

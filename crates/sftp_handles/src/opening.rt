@@ -238,14 +238,14 @@ fn put_file<T: HandleTable>(table: &mut T, handle: &[u8], file: FileNo, flags: O
     requires { IsTrue (handles.is_open (T.handles table.old) handle.now) }
     ensures { T.handles table.new ≡ handles.with_open (T.handles table.old) handle.now (opens.File file flags) }
 {
-    let _before = table.swap(handle, Open::File { file, flags });
+    drop(table.swap(handle, Open::File { file, flags }));
 }
 
 /// Closes the newest handle, as if it had not been opened.
 fn give_back<T: HandleTable>(table: &mut T, handle: &[u8])
     ensures { T.handles table.new ≡ handles.without_open (T.handles table.old) handle.now }
 {
-    let _before = table.give_back(handle);
+    drop(table.give_back(handle));
 }
 
 /// What an open file keeps of the flags of its OPEN: READ, WRITE and APPEND.

@@ -35,6 +35,7 @@ impl<T: HandleTable> Session<T> {
         ensures refused { IfErr result (IsRefusal self.old ask.now) }
         ensures kept { OnErr result (self.new ≡ self.old) }
     {
+        // Dear to prove: an arm for each request. Requests of one arm would not tell the prover which of them it is.
         match ask {
             Ask::Close { handle } => Ok(self.close(handle.as_slice())?),
             Ask::Write {

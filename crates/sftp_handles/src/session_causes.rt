@@ -21,6 +21,7 @@ impl<T: HandleTable> Session<T> {
     pub fn causes(&self, ask: &Ask) -> Result<Causes, NoMemory>
         ensures { IfOk result (λ set. (c : cause) → in_set set c ≡ requests.causes self.now ask.now c) }
     {
+        // Dear to prove: an arm for each request. Requests of one arm would not tell the prover which of them it is.
         match ask {
             Ask::Close { handle } => Ok(self.close_causes(handle.as_slice())),
             Ask::Read { handle, .. } => Ok(self.read_causes(handle.as_slice())),

@@ -1,19 +1,21 @@
-//! Exact copies of requests. Their contracts also say what holds of each value of the types, which callers learn only
-//! where code reads it: that bytes are bytes, and that numbers have their bits.
+//! Exact copies of requests, and what holds of each value of their types. Callers learn that only where code reads the
+//! value, so functions that change nothing read it here, and their contracts say it: that bytes are bytes, and that
+//! numbers have their bits.
 ghost use Rattle.std.specs.Prelude.{◌≡◌, ◌<◌, ◌^◌, IfOk, OnOk, IfSome};
 ghost use Rattle.sftp_wire.specs.Spelling.{AreBytes, FitsTwo};
 ghost use Rattle.sftp_tree.specs.AskValues.{IsAsk, IsAttrs};
 ghost use Rattle.sftp_server.specs.Core.{IsValue};
 
 use sftp_wire::{Ask, Attrs, ByteString, Request};
-use std::alloc::{AllocError, Global};
+use std::alloc::AllocError;
 
 /// A copy of a request.
-pub(crate) fn copy_request(alloc: Global, request: &Request) -> Result<Request, AllocError>
+pub(crate) fn copy_request(request: &Request) -> Result<Request, AllocError>
     ensures same { IfOk result (λ copy. copy ≡ request.now) }
     ensures value { OnOk result (IsValue request.now) }
 {
-    let ask = copy_ask(alloc, &request.ask)?;
+    read_ask(&request.ask);
+    let ask = request.ask.clone()?;
     Ok(request_with(request.id, ask))
 }
 
@@ -25,151 +27,79 @@ fn request_with(id: u32, ask: Ask) -> Request
     Request { id, ask }
 }
 
-fn copy_ask(alloc: Global, ask: &Ask) -> Result<Ask, AllocError>
-    ensures same { IfOk result (λ copy. copy ≡ ask.now) }
-    ensures value { OnOk result (IsAsk ask.now) }
+/// Reads what is asked.
+fn read_ask(ask: &Ask)
+    ensures { IsAsk ask.now }
 {
     match ask {
-        Ask::Open {
-            path,
-            pflags,
-            attrs,
-        } => {
-            let (path, attrs) = copy_with_attrs(alloc, path, attrs)?;
-            Ok(Ask::Open {
-                path,
-                pflags: *pflags,
-                attrs,
-            })
-        }
-        Ask::Setstat { path, attrs } => {
-            let (path, attrs) = copy_with_attrs(alloc, path, attrs)?;
-            Ok(Ask::Setstat { path, attrs })
-        }
-        Ask::Mkdir { path, attrs } => {
-            let (path, attrs) = copy_with_attrs(alloc, path, attrs)?;
-            Ok(Ask::Mkdir { path, attrs })
-        }
-        Ask::Fsetstat { handle, attrs } => {
-            let (handle, attrs) = copy_with_attrs(alloc, handle, attrs)?;
-            Ok(Ask::Fsetstat { handle, attrs })
-        }
-        Ask::Write {
-            handle,
-            offset,
-            bytes,
-        } => {
-            let (handle, bytes) = copy_two(alloc, handle, bytes)?;
-            Ok(Ask::Write {
-                handle,
-                offset: *offset,
-                bytes,
-            })
-        }
-        Ask::Rename { oldpath, newpath } => {
-            let (oldpath, newpath) = copy_two(alloc, oldpath, newpath)?;
-            Ok(Ask::Rename { oldpath, newpath })
-        }
+        Ask::Open { path, attrs, .. } => read_with_attrs(path, attrs),
+        Ask::Setstat { path, attrs } => read_with_attrs(path, attrs),
+        Ask::Mkdir { path, attrs } => read_with_attrs(path, attrs),
+        Ask::Fsetstat { attrs, .. } => read_owner(&attrs.owner),
+        Ask::Write { bytes, .. } => read_string(bytes),
+        Ask::Rename { oldpath, newpath } => read_two(oldpath, newpath),
         Ask::Symlink {
             targetpath,
             linkpath,
-        } => {
-            let (targetpath, linkpath) = copy_two(alloc, targetpath, linkpath)?;
-            Ok(Ask::Symlink {
-                targetpath,
-                linkpath,
-            })
-        }
-        Ask::PosixRename { oldpath, newpath } => {
-            let (oldpath, newpath) = copy_two(alloc, oldpath, newpath)?;
-            Ok(Ask::PosixRename { oldpath, newpath })
-        }
-        Ask::Hardlink { oldpath, newpath } => {
-            let (oldpath, newpath) = copy_two(alloc, oldpath, newpath)?;
-            Ok(Ask::Hardlink { oldpath, newpath })
-        }
-        Ask::Lstat { path } => Ok(Ask::Lstat {
-            path: copy_string(alloc, path)?,
-        }),
-        Ask::Opendir { path } => Ok(Ask::Opendir {
-            path: copy_string(alloc, path)?,
-        }),
-        Ask::Remove { path } => Ok(Ask::Remove {
-            path: copy_string(alloc, path)?,
-        }),
-        Ask::Rmdir { path } => Ok(Ask::Rmdir {
-            path: copy_string(alloc, path)?,
-        }),
-        Ask::Realpath { path } => Ok(Ask::Realpath {
-            path: copy_string(alloc, path)?,
-        }),
-        Ask::Stat { path } => Ok(Ask::Stat {
-            path: copy_string(alloc, path)?,
-        }),
-        Ask::Readlink { path } => Ok(Ask::Readlink {
-            path: copy_string(alloc, path)?,
-        }),
-        Ask::Close { .. } => ask.clone(),
-        Ask::Read { .. } => ask.clone(),
-        Ask::Fstat { .. } => ask.clone(),
-        Ask::Readdir { .. } => ask.clone(),
-        Ask::Fsync { .. } => ask.clone(),
-        Ask::Unknown { .. } => ask.clone(),
+        } => read_two(targetpath, linkpath),
+        Ask::PosixRename { oldpath, newpath } => read_two(oldpath, newpath),
+        Ask::Hardlink { oldpath, newpath } => read_two(oldpath, newpath),
+        Ask::Lstat { path } => read_string(path),
+        Ask::Opendir { path } => read_string(path),
+        Ask::Remove { path } => read_string(path),
+        Ask::Rmdir { path } => read_string(path),
+        Ask::Realpath { path } => read_string(path),
+        Ask::Stat { path } => read_string(path),
+        Ask::Readlink { path } => read_string(path),
+        Ask::Close { .. } => {}
+        Ask::Read { .. } => {}
+        Ask::Fstat { .. } => {}
+        Ask::Readdir { .. } => {}
+        Ask::Fsync { .. } => {}
+        Ask::Unknown { .. } => {}
     }
 }
 
-fn copy_with_attrs(
-    alloc: Global,
-    string: &ByteString,
-    attrs: &Attrs,
-) -> Result<(ByteString, Attrs), AllocError>
-    ensures same { IfOk result (λ copy. (copy.0 ≡ string.now) × (copy.1 ≡ attrs.now)) }
-    ensures bytes { OnOk result (AreBytes string.now) }
-    ensures numbers { OnOk result (IsAttrs attrs.now) }
+/// Reads a string and the owner that attributes have.
+fn read_with_attrs(string: &ByteString, attrs: &Attrs)
+    ensures bytes { AreBytes string.now }
+    ensures numbers { IsAttrs attrs.now }
 {
-    let copy = copy_attrs(attrs)?;
-    Ok((copy_string(alloc, string)?, copy))
+    read_string(string);
+    read_owner(&attrs.owner);
 }
 
-fn copy_attrs(attrs: &Attrs) -> Result<Attrs, AllocError>
-    ensures same { IfOk result (λ copy. copy ≡ attrs.now) }
-    ensures numbers { OnOk result (IsAttrs attrs.now) }
+/// Reads two strings.
+fn read_two(first: &ByteString, second: &ByteString)
+    ensures first { AreBytes first.now }
+    ensures second { AreBytes second.now }
 {
-    Ok(Attrs {
-        size: attrs.size,
-        owner: copy_owner(&attrs.owner),
-        permissions: attrs.permissions,
-        times: attrs.times,
-        extended: attrs.extended.clone()?,
-    })
+    read_string(first);
+    read_string(second);
 }
 
-fn copy_owner(owner: &Option<(u32, u32)>) -> Option<(u32, u32)>
-    ensures same { result ≡ owner.now }
+/// Reads a string.
+fn read_string(string: &ByteString)
+    ensures bytes { AreBytes string.now }
+{
+    read_bytes(string.as_slice());
+}
+
+/// Reads bytes.
+fn read_bytes(bytes: &[u8])
+    ensures bytes { AreBytes bytes.now }
+{
+    let _count = bytes.len();
+}
+
+/// Reads the numbers of an owner, if there is one.
+fn read_owner(owner: &Option<(u32, u32)>)
     ensures numbers { IfSome owner.now FitsTwo }
 {
     match owner {
-        Some((user, group)) => Some((*user, *group)),
-        None => None,
+        Some((user, group)) => {
+            let _numbers = (*user, *group);
+        }
+        None => {}
     }
-}
-
-fn copy_two(
-    alloc: Global,
-    first: &ByteString,
-    second: &ByteString,
-) -> Result<(ByteString, ByteString), AllocError>
-    ensures same { IfOk result (λ copy. (copy.0 ≡ first.now) × (copy.1 ≡ second.now)) }
-    ensures bytes { OnOk result (AreBytes first.now × AreBytes second.now) }
-{
-    let copy = copy_string(alloc, first)?;
-    Ok((copy, copy_string(alloc, second)?))
-}
-
-fn copy_string(alloc: Global, string: &ByteString) -> Result<ByteString, AllocError>
-    ensures same { IfOk result (λ copy. copy ≡ string.now) }
-    ensures bytes { AreBytes string.now }
-{
-    let bytes = string.as_slice();
-    ByteString::from_slice(alloc, bytes)
 }

@@ -25,7 +25,7 @@ use sftp_wire::{Reply, Request};
 use std::marker::Model;
 
 /// What a core may do next, by the position in its queue.
-#[derive(Clone, Copy, Debug, PartialEq, Eq)]
+#[derive(Clone, Copy)]
 pub(crate) enum Choice {
     /// Do the request.
     Work(usize),
@@ -212,6 +212,7 @@ impl Core {
         ensures same { IfErr result (λ core. core ≡ self) }
     {
         if self.queue.len() == 0 {
+            drop(self.queue);
             Ok(self.session.into_tree())
         } else {
             Err(self)

@@ -53,7 +53,7 @@ pub enum Stream {
 }
 
 /// Why a session stops before its end.
-#[derive(Clone, Copy, Debug, PartialEq, Eq)]
+#[derive(Clone, Copy)]
 pub(crate) enum Stop {
     /// This stream failed.
     Io(Stream),

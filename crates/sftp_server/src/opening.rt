@@ -22,7 +22,7 @@ use sftp_wire::{Packet, Side, WireError, front};
 use std::alloc::Global;
 
 /// What the input begins with.
-#[derive(Clone, Copy, Debug, PartialEq, Eq)]
+#[derive(Clone, Copy)]
 pub(crate) enum First {
     /// An INIT of version 3 or more, and its length in bytes.
     Init(usize),
@@ -65,7 +65,11 @@ fn first_packet(alloc: Global, input: &Input) -> Result<Option<First>, Stop>
 {
     match front(alloc, input.held(), Side::Client) {
         Ok(None) => Ok(None),
-        Ok(Some((packet, count))) => Ok(Some(greeting(&packet, count))),
+        Ok(Some((packet, count))) => {
+            let first = greeting(&packet, count);
+            drop(packet);
+            Ok(Some(first))
+        }
         Err(WireError::Unreadable { fault, .. }) => Ok(Some(First::Fault(SessionFault::Wire(
             WireError::Unreadable { fault, place: 0 },
         )))),
@@ -134,5 +138,7 @@ pub(crate) fn greet<W: Sink, L: Sink>(
 {
     log_init(input, count, log)?;
     let version = our_version(alloc)?;
-    send(&version, output, writer, log)
+    let sent = send(&version, output, writer, log);
+    drop(version);
+    sent
 }

@@ -157,10 +157,13 @@ impl Queue {
         ensures { (k : ℕ) → first_pending_of self.old ≡ Some k →
             self.new ≡ with_progress self.old k (progress.Done reply) }
     {
-        if let Some(entry) = self.entries.get_mut(self.first_pending) {
-            entry.progress = Progress::Done(reply);
-            self.done.push_reserved(self.first_pending);
-            self.first_pending += 1;
+        match self.entries.get_mut(self.first_pending) {
+            Some(entry) => {
+                drop(replace(&mut entry.progress, Progress::Done(reply)));
+                self.done.push_reserved(self.first_pending);
+                self.first_pending += 1;
+            }
+            None => drop(reply),
         }
     }
 
@@ -269,7 +272,7 @@ fn drop_sent(entries: &mut VecDeque<Entry>) -> usize
 {
     let mut count = 0;
     'sent: while is_sent_first(entries) {
-        entries.pop_front();
+        drop(entries.pop_front());
         count += 1;
     }
     count

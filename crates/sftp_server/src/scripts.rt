@@ -35,7 +35,14 @@ pub fn run_script(tree: Tree, acts: &[Act]) -> Result<(Vec<Event>, Core), NoMemo
     let mut core = Core::new(tree, 1_024)?;
     let mut events = Vec::new(alloc);
     'acts: for act in acts {
-        perform(act, &mut core, &mut events)?;
+        match perform(act, &mut core, &mut events) {
+            Ok(()) => {}
+            Err(error) => {
+                drop(events);
+                drop(core);
+                return Err(error);
+            }
+        }
     }
     Ok((events, core))
 }
@@ -56,7 +63,7 @@ fn deliver(request: &Request, core: &mut Core, events: &mut Vec<Event>) -> Resul
     ensures { OnOk result
         (IsPerformed (acts.Deliver request.now) core.old core.new events.old.items events.new.items) }
 {
-    let copy = copy_request(*events.allocator(), request)?;
+    let copy = copy_request(request)?;
     match core.deliver(copy) {
         Ok(()) => note(request, events),
         Err(returned) => refused(returned),
@@ -67,7 +74,7 @@ fn deliver(request: &Request, core: &mut Core, events: &mut Vec<Event>) -> Resul
 fn note(request: &Request, events: &mut Vec<Event>) -> Result<(), NoMemory>
     ensures { OnOk result (events.new.items ≡ events.old.items ++ Asked request.now ∷ []) }
 {
-    let copy = copy_request(*events.allocator(), request)?;
+    let copy = copy_request(request)?;
     events.push(Event::Asked(copy))?;
     Ok(())
 }
@@ -80,7 +87,9 @@ fn note(request: &Request, events: &mut Vec<Event>) -> Result<(), NoMemory>
 fn refused(returned: (Request, Refuse)) -> Result<(), NoMemory>
     ensures { OnOk result (returned.1 ≢ no_memory) }
 {
-    match returned.1 {
+    let (request, refuse) = returned;
+    drop(request);
+    match refuse {
         Refuse::Full => Ok(()),
         Refuse::IdInUse => Ok(()),
         Refuse::NoMemory => Err(NoMemory),

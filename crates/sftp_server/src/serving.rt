@@ -26,7 +26,7 @@ use std::alloc::Global;
 const WINDOW: usize = 1024;
 
 /// What an open session does after a batch of requests.
-#[derive(Clone, Copy, Debug, PartialEq, Eq)]
+#[derive(Clone, Copy)]
 enum Next {
     /// It goes on.
     Batch,
@@ -84,11 +84,24 @@ fn run<R: Source, W: Sink, L: Sink, S: Schedule>(
     ensures counts_writer { CountsCall streams.Writer result (W.failures writer.old) (W.failures writer.new) }
     ensures counts_log { CountsCall streams.Log result log.old.failures log.new.failures }
 {
+    // Dear to prove: the tree, or what was read, is dropped at each way out.
     let alloc = tree.allocator();
-    let mut input = Input::new(alloc)?;
-    match await_init(alloc, &mut input, reader)? {
-        First::Init(count) => serve_from(tree, &mut input, count, reader, writer, log, schedule),
-        First::Fault(fault) => Ok(Ended::Fault(tree, fault)),
+    let mut input = match Input::new(alloc) {
+        Ok(input) => input,
+        Err(stop) => {
+            drop(tree);
+            return Err(stop);
+        }
+    };
+    match await_init(alloc, &mut input, reader) {
+        Ok(First::Init(count)) => serve_from(
+            tree, &mut input, count, reader, writer, log, schedule,
+        ),
+        Ok(First::Fault(fault)) => Ok(Ended::Fault(tree, fault)),
+        Err(stop) => {
+            drop(tree);
+            Err(stop)
+        }
     }
 }
 
@@ -113,12 +126,27 @@ fn serve_from<R: Source, W: Sink, L: Sink, S: Schedule>(
     ensures counts_writer { CountsCall streams.Writer result (W.failures writer.old) (W.failures writer.new) }
     ensures counts_log { CountsCall streams.Log result log.old.failures log.new.failures }
 {
+    // Dear to prove: the core and the room for a packet are dropped at each way out.
     let alloc = tree.allocator();
-    let mut output = Vec::with_capacity(alloc, PACKET_LIMIT)?;
     let mut core = Core::new(tree, WINDOW)?;
-    greet(alloc, input, count, &mut output, writer, log)?;
-    let fault = serve_requests(input, &mut core, &mut output, reader, writer, log, schedule)?;
-    Ok(end(core, fault))
+    let Ok(mut output) = Vec::with_capacity(alloc, PACKET_LIMIT) else {
+        drop(core);
+        return Err(Stop::NoMemory);
+    };
+    match greet(alloc, input, count, &mut output, writer, log) {
+        Ok(()) => {}
+        Err(stop) => {
+            drop(core);
+            return Err(stop);
+        }
+    }
+    match serve_requests(input, &mut core, &mut output, reader, writer, log, schedule) {
+        Ok(fault) => Ok(end(core, fault)),
+        Err(stop) => {
+            drop(core);
+            Err(stop)
+        }
+    }
 }
 
 /// The end of a session whose requests are all answered.
@@ -154,6 +182,7 @@ fn serve_requests<R: Source, W: Sink, L: Sink, S: Schedule>(
     ensures counts_writer { CountsCall streams.Writer result (W.failures writer.old) (W.failures writer.new) }
     ensures counts_log { CountsCall streams.Log result log.old.failures log.new.failures }
 {
+    // Dear to prove: each call in the loop may stop the session, and each changes several of what is borrowed.
     let alloc = *output.allocator();
     'batch: loop {
         let front = take_requests(alloc, input, core, log)?;

@@ -19,7 +19,7 @@ use sftp_wire::{Packet, Request, Side, WireError, front};
 use std::alloc::Global;
 
 /// What was found in front of the bytes read.
-#[derive(Clone, Copy, Debug, PartialEq, Eq)]
+#[derive(Clone, Copy)]
 pub(crate) enum Front {
     /// A request, which was taken.
     Taken,
@@ -114,7 +114,10 @@ fn take_packet<L: Sink>(
 {
     match packet {
         Packet::Request(request) => take_request(request, count, input, core, log),
-        Packet::Init { .. } => Ok(Front::Fault(SessionFault::BadInit)),
+        Packet::Init { extensions, .. } => {
+            drop(extensions);
+            Ok(Front::Fault(SessionFault::BadInit))
+        }
         Packet::Version { .. } => unreachable!(),
         Packet::Reply(_) => unreachable!(),
     }
@@ -140,7 +143,11 @@ fn take_request<L: Sink>(
 {
     match core.refusal(request.id) {
         None => log_request(request, count, input, core, log),
-        Some(refuse) => refused(request.id, refuse),
+        Some(refuse) => {
+            let front = refused(request.id, refuse);
+            drop(request);
+            front
+        }
     }
 }
 
@@ -176,7 +183,10 @@ fn log_request<L: Sink>(
 {
     match log.record_bytes(Side::Client, &input.held()[..count]) {
         Ok(()) => deliver(request, count, input, core),
-        Err(_) => Err(Stop::Io(Stream::Log)),
+        Err(_) => {
+            drop(request);
+            Err(Stop::Io(Stream::Log))
+        }
     }
 }
 
@@ -200,6 +210,9 @@ fn deliver(
             input.take(count);
             Ok(Front::Taken)
         }
-        Err(_) => Err(Stop::NoMemory),
+        Err(returned) => {
+            drop(returned);
+            Err(Stop::NoMemory)
+        }
     }
 }

@@ -101,7 +101,12 @@ fn send_reply<W: Sink, L: Sink>(
     ensures spares { Spares streams.Reader result }
 {
     match core.send(k) {
-        Some(reply) => send(&Packet::Reply(reply), output, writer, log),
+        Some(reply) => {
+            let packet = Packet::Reply(reply);
+            let sent = send(&packet, output, writer, log);
+            drop(packet);
+            sent
+        }
         None => unreachable!(),
     }
 }

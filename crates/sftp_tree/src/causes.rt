@@ -6,65 +6,58 @@ ghost use Rattle.sftp_tree.specs.Refusals.{in_set};
 
 use sftp_path::NoMemory;
 use std::alloc::{AllocError, AllocFailed};
+use std::fmt;
 use thiserror::Error;
 
-/// Why a request is refused: a row of the status table.
-#[derive(Clone, Copy, Debug, PartialEq, Eq, Error)]
+/// Why a request is refused: a row of the status table. It is shown by its name.
+#[derive(Clone, Copy, Debug, PartialEq, Eq)]
 pub enum Cause {
     /// OPEN: the flags ask neither to read nor to write, truncate or exclude without creating, truncate or append
     /// without writing, or have a bit that is no flag.
-    #[error("BadFlags")]
     BadFlags,
     /// A path, or the target of a new link, is longer than 4,096 bytes, has a component longer than 255, or has a byte
     /// 0; or that target is empty.
-    #[error("BadPath")]
     BadPath,
     /// The request needs something that does not exist, or the walk does.
-    #[error("NoEntry")]
     NoEntry,
     /// There is something other than a directory, and the request or the walk needs one.
-    #[error("NotDir")]
     NotDir,
     /// More than 40 links on the way.
-    #[error("Loop")]
     Loop,
     /// The new place is taken.
-    #[error("Exists")]
     Exists,
     /// The node is a directory, and the request is not for directories.
-    #[error("IsDir")]
     IsDir,
     /// The node whose target is asked for is not a link.
-    #[error("NotLink")]
     NotLink,
     /// The request gives a further name or a size to a node that is not a file.
-    #[error("NotFile")]
     NotFile,
     /// A directory would be removed or replaced, and is not empty.
-    #[error("NotEmpty")]
     NotEmpty,
     /// The root would be removed, moved or replaced.
-    #[error("Root")]
     Root,
     /// The new place of a directory is below the directory.
-    #[error("Inside")]
     Inside,
     /// The handle is not open.
-    #[error("BadHandle")]
     BadHandle,
     /// The handle is a directory's, and the request is for files, or the other way round.
-    #[error("WrongKind")]
     WrongKind,
     /// The file was not opened to be read, or to be written, as the request would.
-    #[error("NotOpenFor")]
     NotOpenFor,
     /// No other cause holds, and the request's change would break a limit of the tree.
-    #[error("NoRoom")]
     NoRoom,
     /// The request is an extension that is not known.
-    #[error("Unknown")]
     Unknown,
 }
+
+// `thiserror` would write each name by itself, and that is as slow to prove as ten functions.
+impl fmt::Display for Cause {
+    fn fmt<W: fmt::Write>(&self, f: &mut fmt::Formatter<W>) -> fmt::Result {
+        fmt::Debug::fmt(self, f)
+    }
+}
+
+impl std::error::Error for Cause {}
 
 /// Every cause, in the order of the status table.
 pub const EVERY_CAUSE: [Cause; 17] = [

@@ -29,7 +29,7 @@ use std::alloc::Global;
 use std::marker::Model;
 
 /// The entries, the root among them.
-#[derive(Debug, Drop)]
+#[derive(Drop)]
 pub(crate) struct Entries {
     root: Dir,
     /// How many places are taken.

@@ -12,7 +12,7 @@ use sftp_wire::Attrs;
 use std::marker::Model;
 
 /// The bytes of a file.
-#[derive(Debug, Drop)]
+#[derive(Drop)]
 pub struct FileBytes {
     bytes: Vec<u8>,
 }
@@ -114,7 +114,7 @@ fn append_at(bytes: &mut Vec<u8>, offset: usize, new: &[u8]) -> Result<(), NoMem
 }
 
 /// The content of a file.
-#[derive(Debug, Drop)]
+#[derive(Drop)]
 pub struct Content {
     /// Its user, its group, and its permissions of twelve bits.
     pub owner: Owner,
@@ -123,7 +123,7 @@ pub struct Content {
 }
 
 /// A file as a tree keeps it.
-#[derive(Debug, Drop)]
+#[derive(Drop)]
 pub struct Stored {
     /// The content of the file.
     pub content: Content,

@@ -19,7 +19,7 @@ use std::collections::BTreeMap;
 use std::marker::Model;
 
 /// The files of a tree, each with the counts of its names and of its pins.
-#[derive(Debug, Drop)]
+#[derive(Drop)]
 pub(crate) struct Files {
     by_number: BTreeMap<FileNo, Stored>,
 }

@@ -54,6 +54,7 @@ impl Tree {
     /// # Errors
     ///
     /// `NoMemory` if memory runs out.
+    // Slow to prove: it owns the items so far at each exit of its loop.
     fn items_below(&self, found: &Found<'_>) -> Result<Vec<Item>, NoMemory>
         requires there { IsThere self.now.names found.now }
         requires directory { IsTrue (tree.is_directory (tree.node_at self.now.names found.now.place)) }

@@ -7,7 +7,7 @@ use sftp_treefile::Owner;
 use sftp_wire::ByteString;
 
 /// The node at a place.
-#[derive(Debug, Drop)]
+#[derive(Drop)]
 pub enum Node {
     /// A directory.
     Dir(Owner),

@@ -95,6 +95,7 @@ impl Tree {
     /// # Errors
     ///
     /// `NoMemory` if memory runs out.
+    // Slow to prove: the place is dropped on each way that does nothing.
     fn plan_at<'a>(&self, ask: PathAsk<'a>, found: Found<'_>) -> Result<Plan<'a>, NoMemory>
         requires { IsFoundIn self.now found }
         ensures plan { IfOk result (spec.IsPlanAt self.now (asked ask.entry) found.entry.place) }
@@ -180,17 +181,17 @@ impl Tree {
                 }
             }
             PathAsk::Hardlink { .. } => Plan::Put(new.place, Node::File(file_of(&old))),
-            PathAsk::Mkdir { .. } => Plan::Nothing,
-            PathAsk::Rmdir { .. } => Plan::Nothing,
-            PathAsk::Remove { .. } => Plan::Nothing,
-            PathAsk::Setstat { .. } => Plan::Nothing,
-            PathAsk::Stat { .. } => Plan::Nothing,
-            PathAsk::Lstat { .. } => Plan::Nothing,
-            PathAsk::Realpath { .. } => Plan::Nothing,
-            PathAsk::Readlink { .. } => Plan::Nothing,
-            PathAsk::Symlink { .. } => Plan::Nothing,
-            PathAsk::Open { .. } => Plan::Nothing,
-            PathAsk::Opendir { .. } => Plan::Nothing,
+            PathAsk::Mkdir { .. }
+            | PathAsk::Rmdir { .. }
+            | PathAsk::Remove { .. }
+            | PathAsk::Setstat { .. }
+            | PathAsk::Stat { .. }
+            | PathAsk::Lstat { .. }
+            | PathAsk::Realpath { .. }
+            | PathAsk::Readlink { .. }
+            | PathAsk::Symlink { .. }
+            | PathAsk::Open { .. }
+            | PathAsk::Opendir { .. } => Plan::Nothing,
         }
     }
 

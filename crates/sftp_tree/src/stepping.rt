@@ -27,6 +27,7 @@ pub(crate) enum Met<'a> {
 /// # Errors
 ///
 /// `NoMemory` if memory runs out.
+// Slow to prove: the name is dropped on each of seven ways.
 #[tactic(auto, unfolding(crate::specs::Walk::meets))]
 pub(crate) fn meet<'a>(
     trail: &mut Trail<'a>,

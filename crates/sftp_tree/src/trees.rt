@@ -12,10 +12,11 @@ use sftp_path::{NoMemory, Place};
 use sftp_treefile::{Owner, TreeLimits};
 use sftp_wire::Attrs;
 use std::alloc::Global;
+use std::fmt;
 use std::marker::Model;
 
 /// A tree of directories, files and symbolic links, within the limits.
-#[derive(Debug, Drop)]
+#[derive(Drop)]
 pub struct Tree {
     names: Entries,
     files: Files,
@@ -24,6 +25,13 @@ pub struct Tree {
     home: Place,
     uid: u32,
     gid: u32,
+}
+
+// A tree is too large to print.
+impl fmt::Debug for Tree {
+    fn fmt<W: fmt::Write>(&self, f: &mut fmt::Formatter<W>) -> fmt::Result {
+        f.debug_struct("Tree").finish_non_exhaustive()
+    }
 }
 
 impl Model for Tree {

@@ -21,7 +21,7 @@ use std::marker::Model;
 
 /// A directory: its owner and its children, in the order of their names.
 #[cycle(directories)]
-#[derive(Debug, Drop)]
+#[derive(Drop)]
 pub(crate) struct Dir {
     pub(super) owner: Owner,
     pub(super) children: BTreeMap<Name, Child>,
@@ -29,7 +29,7 @@ pub(crate) struct Dir {
 
 /// What a directory has at a name.
 #[cycle(directories)]
-#[derive(Debug, Drop)]
+#[derive(Drop)]
 pub(crate) enum Child {
     /// A directory.
     Dir(Dir),

@@ -43,6 +43,7 @@ impl Dir {
     /// # Errors
     ///
     /// `NoMemory` if memory runs out; all is then as before.
+    // Slow to prove: children, with all below them, are dropped in two places.
     pub(crate) fn move_child(&mut self, old: &Place, new: &Place) -> Result<Option<Child>, NoMemory>
         requires taken { IsTrue (is_taken (node_at self.old old.now)) }
         requires old_below_root { is_root old.now ≡ false }

@@ -51,6 +51,7 @@ pub(super) struct Grown {
 
 /// The directories of a tree, and its files: the root, and what the entries of a tree file say. Each entry is put
 /// after the one before it.
+// Slow to prove: it owns all that grows, and drops it at each of five exits.
 pub(super) fn grow(alloc: Global, root: Owner, rows: Vec<Row>) -> Result<Grown, NoMemory>
     requires root { IsOwner root }
     requires rows { AreRows usual_limits [] rows.items }

@@ -5,5 +5,5 @@ use Rattle.sftp_audit.proofs.audits.audit.Goals as goal
 pub returns-clause-refused : goal.returns-clause-refused
 returns-clause-refused c =
     refused-memory c.args.tree.now c.args.transcript.now c.new.result.rest.now _ _ c.in_ok-records.records
-    c.audit_stream.result c.new.ensures c.in_ok-records.ensures.ok c.audit_stream.ensures.refused
-    c.audit_stream.ensures.may_fail
+    c.audit_stream-audited.result c.new.ensures c.in_ok-records.ensures.ok c.audit_stream-audited.ensures.refused
+    c.audit_stream-audited.ensures.may_fail

@@ -32,20 +32,20 @@ returns-in_err-version-clause-running g c = λ start past left good unopened.
     (init-logged past left written c.args.log.now.bytes logged1 c.args.input.now c.args.count whole unopened
     (c.in_ok-log_init.ensures.logged whole.init (init-client whole.init whole.greeting.0) init_taken.0))))
 
-pub send-requires-clause-spelled : goal.send-requires-clause-spelled
-send-requires-clause-spelled g c = subst HasSpelling (sym c.in_ok-version.ensures.ok) version-spelled
+pub send-sent-requires-clause-spelled : goal.send-sent-requires-clause-spelled
+send-sent-requires-clause-spelled g c = subst HasSpelling (sym c.in_ok-version.ensures.ok) version-spelled
 
 pub returns-clause-running : goal.returns-clause-running
 returns-clause-running g c = λ start past left good unopened.
     let whole = c.requires.whole in
     let written0 = g.W.Sink.written c.args.writer.now in
-    let written1 = g.W.Sink.written c.send.new.writer in
+    let written1 = g.W.Sink.written c.send-sent.new.writer in
     let log0 = c.log_init.new.log in
     let init_taken = init-taken c.args.input.now.held c.args.count whole in
-    version-done start whole.init past left written0 written1 log0 c.send.new.log c.log_init.new.input
-    c.in_ok-version.version c.send.result good c.in_ok-version.ensures.ok c.in_ok-log_init.ensures.logging
+    version-done start whole.init past left written0 written1 log0 c.send-sent.new.log c.log_init.new.input
+    c.in_ok-version.version c.send-sent.result good c.in_ok-version.ensures.ok c.in_ok-log_init.ensures.logging
     (subst (λ (ahead : Ahead). IsInitLogged whole.init past (stream_bytes left written0 log0.bytes) ahead)
     (sym c.in_ok-log_init.ensures.taken)
     (init-logged past left written0 c.args.log.now.bytes log0.bytes c.args.input.now c.args.count whole unopened
     (c.in_ok-log_init.ensures.logged whole.init (init-client whole.init whole.greeting.0) init_taken.0)))
-    c.send.ensures.written c.send.ensures.logged c.send.ensures.err
+    c.send-sent.ensures.written c.send-sent.ensures.logged c.send-sent.ensures.err

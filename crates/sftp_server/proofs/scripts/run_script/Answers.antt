@@ -14,7 +14,7 @@ acts-preserved c =
     let next = acts-next (started c.args.tree) c.args.acts.now c.acts.act-index
     (c.acts.act-index + 1) c.act-item.result c.acts.core c.perform.new.core c.acts.events.items
     c.perform.new.events.items c.acts-test.true c.act-item.is refl c.acts.invariant.steps c.acts.invariant.values
-    c.in_ok-perform.ensures in
+    c.in-Ok.ensures in
     record { steps = next.0; values = next.1 }
 
 pub returns-clause-done : goal.returns-clause-done

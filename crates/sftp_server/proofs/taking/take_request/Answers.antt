@@ -10,6 +10,7 @@ returns-in-Some-clause-running g c =
     let ahead = c.args.input.now in
     let core = c.args.core.now in
     let logged = c.args.log.now.bytes in
-    subst (λ (result : Result Front Stop). TakesOn ahead ahead core core logged logged result) (sym c.refused.ensures)
+    subst (λ (result : Result Front Stop). TakesOn ahead ahead core core logged logged result)
+    (sym c.refused-front.ensures)
     (takes-refused ahead core logged c.args.request c.args.count c.in-Some.refuse c.requires.whole
     (λ is. (c.in-Some.ensures.in_use.0 is).1))

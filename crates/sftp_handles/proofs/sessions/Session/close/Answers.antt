@@ -1,4 +1,4 @@
-use Rattle.std.proofs.Common.{◌≡◌, IsTrue, Some, sym, ap, subst, ◌∙◌}
+use Rattle.std.proofs.Common.{IsTrue, Some, sym, ap, subst, ◌∙◌}
 use Rattle.sftp_wire.specs.declared.packets.Ask.TheVariants.{Close}
 use Rattle.sftp_tree.specs.declared.causes.Cause.TheVariants.{BadHandle}
 use Rattle.sftp_handles.specs.declared.opens.Open.{Open}
@@ -9,7 +9,6 @@ use Rattle.sftp_handles.proofs.NewStates.{state_of}
 use Rattle.sftp_handles.proofs.OpenChanges.{open-pinned, it-closed, good-it_closed, nothing-closed}
 use Rattle.sftp_handles.proofs.OpenChanges.{close-lost, close-done}
 use Rattle.sftp_handles.proofs.sessions.Session.close.Goals as goal
-use Rattle.sftp_handles.proofs.sessions.Session.close.Goals.{in-Listing-1, in-File-1}
 
 pub unpin_closed-requires : goal.unpin_closed-requires
 unpin_closed-requires g c number flags is =
@@ -18,12 +17,6 @@ unpin_closed-requires g c number flags is =
 
 pub invariant_of-self : goal.invariant_of-self
 invariant_of-self g c =
-    good-it_closed (state_of c.self.inside.tree (g.T.HandleTable.handles c.self.inside.table)) c.args.handle.now
-    (g.T.HandleTable.handles c.take.new.self) c.take.ensures.closed c.self.invariant c.in-Some.it
-    c.unpin_closed.new.tree (sym c.in-Some.ensures.before) c.unpin_closed.ensures.file c.unpin_closed.ensures.listing
-
-pub invariant_of-self-in-Some-2 : goal.invariant_of-self-in-Some-2
-invariant_of-self-in-Some-2 g c =
     good-it_closed (state_of c.self.inside.tree (g.T.HandleTable.handles c.self.inside.table)) c.args.handle.now
     (g.T.HandleTable.handles c.take.new.self) c.take.ensures.closed c.self.invariant c.in-Some.it
     c.unpin_closed.new.tree (sym c.in-Some.ensures.before) c.unpin_closed.ensures.file c.unpin_closed.ensures.listing
@@ -40,15 +33,10 @@ invariant_of-self-in-None g c =
 pub returns-in-Some-clause-done : goal.returns-in-Some-clause-done
 returns-in-Some-clause-done g c =
     let s = state_of c.self.inside.tree (g.T.HandleTable.handles c.self.inside.table) in
-    let is_end : c.match-it.self ≡ state_of c.unpin_closed.new.tree (g.T.HandleTable.handles c.take.new.self) =
-    elim c.match-it.branch [
-      | in-Listing-1 w ↦ w.self-is
-      | in-File-1 w ↦ w.self-is
-    ] in
-    subst (λ (s : State). IsDone s (Close c.args.handle.now) c.match-it.self) c.self.view_is
-    (close-done s c.args.handle.now c.in-Some.it c.match-it.self (sym c.in-Some.ensures.before)
-    (is_end
-    ∙ it-closed s c.args.handle.now (g.T.HandleTable.handles c.take.new.self) c.take.ensures.closed c.self.invariant
+    let end = state_of c.unpin_closed.new.tree (g.T.HandleTable.handles c.take.new.self) in
+    subst (λ (s : State). IsDone s (Close c.args.handle.now) end) c.self.view_is
+    (close-done s c.args.handle.now c.in-Some.it end (sym c.in-Some.ensures.before)
+    (it-closed s c.args.handle.now (g.T.HandleTable.handles c.take.new.self) c.take.ensures.closed c.self.invariant
     c.in-Some.it c.unpin_closed.new.tree (sym c.in-Some.ensures.before) c.unpin_closed.ensures.file
     c.unpin_closed.ensures.listing))
 

@@ -22,10 +22,10 @@ invariant_of-self c =
     c.in-Some.ensures.value in
     let done = stored old.entries.items old.first_pending entry (Done c.args.reply) at in
     let same_length = length-progress old.entries.items old.first_pending (Done c.args.reply) in (
-      rw (done, c.push_reserved.ensures.items)
+      rw (c.replace.ensures.after, done, c.push_reserved.ensures.items)
           (queue-done old.entries.items old.ids.entries old.first_pending (old.first_pending + 1) old.done.items
           c.args.reply c.self.invariant.0 (omega (arith, some, old.entries.ok.0)) (omega arith)),
-      rw (done, same_length, c.push_reserved.ensures.capacity) c.self.invariant.1,
+      rw (c.replace.ensures.after, done, same_length, c.push_reserved.ensures.capacity) c.self.invariant.1,
     )
 
 pub returns-in-Some : goal.returns-in-Some
@@ -38,10 +38,11 @@ returns-in-Some c = λ k is.
     let first = first_some old.first_pending old.entries.items c.self.invariant.0.split (omega
     (arith, some, old.entries.ok.0)) in
     let same = same_Some k old.first_pending (sym is ∙ rw (← c.self.view_is) first) in
-    rw (same, ← c.self.view_is) (stored old.entries.items old.first_pending entry (Done c.args.reply) at)
+    rw (c.replace.ensures.after, same, ← c.self.view_is)
+    (stored old.entries.items old.first_pending entry (Done c.args.reply) at)
 
-pub returns-in_default : goal.returns-in_default
-returns-in_default c = absurd (
+pub returns-in-None : goal.returns-in-None
+returns-in-None c = absurd (
     let old = c.self.inside in
     c.requires (rw (← c.self.view_is) (first_none old.first_pending old.entries.items c.self.invariant.0.split
-    (ltb-false old.first_pending _ (sym c.in_default.ensures.item.0)))))
+    (ltb-false old.first_pending _ (sym c.in-None.ensures.item.0)))))

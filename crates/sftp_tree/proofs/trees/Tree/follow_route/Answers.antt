@@ -41,7 +41,7 @@ returns-in-Ends-clause-found c =
     let there = lends c.loop-component.trail.names c.in_ok-meet.field-0 c.in-Ends.name c.in-Ends.node c.meet.new.trail.at c.in_ok-meet.ensures.lends c.in-Ends.is in
     let at = c.in_ok-enter-in-Ends.ensures.ok ∙ ap (λ at. at ++ c.in-Ends.name ∷ []) c.into_place-place.ensures in
     record {
-      place = place-of c.args.self.now c.args.follow c.args.route c.enter.new.self c.names-names.ensures.kept c.requires (ap Ok at ∙ answer);
+      place = place-of c.args.self.now c.args.follow c.args.route.now c.enter.new.self c.names-names.ensures.kept c.requires (ap Ok at ∙ answer);
       lent = subst (λ place. IsLentAt c.args.self.now.names place c.in-Ends.node) (sym at)
           (subst (λ names. IsLentAt names (c.meet.new.trail.at ++ c.in-Ends.name ∷ []) c.in-Ends.node) c.loop-component.invariant.names there);
     }
@@ -50,7 +50,7 @@ pub returns-clause-found : goal.returns-clause-found
 returns-clause-found c =
     let answer = sym (c.loop-component.invariant.same ∙ ap (walk c.args.self.now.names c.args.follow c.loop-component.links_left c.loop-component.trail.at) c.in_default.ensures.0 ∙ walk-nil c.args.self.now.names c.args.follow c.loop-component.links_left c.loop-component.trail.at) in
     record {
-      place = place-of c.args.self.now c.args.follow c.args.route c.here.result.place c.names-names.ensures.kept c.requires (ap Ok c.here.ensures.place ∙ answer);
+      place = place-of c.args.self.now c.args.follow c.args.route.now c.here.result.place c.names-names.ensures.kept c.requires (ap Ok c.here.ensures.place ∙ answer);
       lent = subst (λ names. IsLentAt names c.here.result.place c.here.result.node) c.loop-component.invariant.names c.here.ensures.there;
     }
 

@@ -8,7 +8,7 @@ abbrev pub invariant-loop-component : goal.invariant-loop-component
 invariant-loop-component l = record {
   names : l.trail.names ≡ l.self.names;
   steps : list_all is_step l.route ≡ true;
-  same : walks.walk l.self.names l.follow 40 [] l.fn.route ≡ walks.walk l.self.names l.follow l.links_left l.trail.at l.route;
+  same : walks.walk l.self.names l.follow 40 [] l.initial.route ≡ walks.walk l.self.names l.follow l.links_left l.trail.at l.route;
 }
 
 abbrev pub decreases-loop-component : goal.decreases-loop-component

@@ -14,11 +14,11 @@ pub returns-in_default-clause-reached : goal.returns-in_default-clause-reached
 returns-in_default-clause-reached c = sym (reached-bad c.args.self.now c.args.follow c.args.path.now c.in_default.ensures.bad)
 
 -- the route has the components that a walk goes over
-route : (c : goal.After-follow_route) → c.new-route.result ≡ steps_of c.args.self.now c.args.path.now
+route : (c : goal.After-drop) → c.new-route.result ≡ steps_of c.args.self.now c.args.path.now
 route c = search rules
 
-pub follow_route-requires : goal.follow_route-requires
-follow_route-requires c =
+pub follow_route-reached-requires : goal.follow_route-reached-requires
+follow_route-reached-requires c =
     let path = c.args.path.now in
     let left : c.in-Ok.parts.left ≡ components path = ap (λ (s : Split). s.left) c.in-Ok.ensures.parts in
     let bytes = list_all-octets path c.type_inv.path in
@@ -31,4 +31,4 @@ follow_route-requires c =
 
 pub returns-clause-reached : goal.returns-clause-reached
 returns-clause-reached c =
-    subst (λ w. IfOk c.follow_route.result (λ r. placed r ≡ w)) (ap (walk c.args.self.now.names c.args.follow link_limit []) (route c) ∙ sym (reached-good c.args.self.now c.args.follow c.args.path.now c.in-Ok.ensures.good)) c.follow_route.ensures.reached
+    subst (λ w. IfOk c.follow_route-reached.result (λ r. placed r ≡ w)) (ap (walk c.args.self.now.names c.args.follow link_limit []) (route c) ∙ sym (reached-good c.args.self.now c.args.follow c.args.path.now c.in-Ok.ensures.good)) c.follow_route-reached.ensures.reached
