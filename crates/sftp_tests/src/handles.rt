@@ -1,10 +1,9 @@
-//! Tables of handles, listings, and sessions.
+//! Tables of handles, and listings, as values.
 ghost use Rattle.std.specs.Prelude.{◌≤◌, length};
 
-use sftp_handles::{GivenTable, HandleTable, Listing, Open, PutError, Session, SlabTable};
+use sftp_handles::{GivenTable, HandleTable, Listing, Open, PutError, SlabTable};
 use sftp_path::{Name, NoMemory};
-use sftp_tree::{Cause, Tree};
-use sftp_wire::{Ask, Attrs, ByteString};
+use sftp_wire::Attrs;
 use std::alloc::{AllocError, Global};
 use std::test::Fail;
 
@@ -147,45 +146,5 @@ fn strikes_names(alloc: Global) -> Result<bool, NoMemory> {
 #[test]
 fn names_of_a_listing(rt: HostRuntime) -> Result<(), Fail> {
     assert!(rt; strikes_names(rt.alloc())?);
-    Ok(())
-}
-
-/// Whether a cause refuses a request, and no other does.
-fn refuses_by(session: &Session<GivenTable>, ask: &Ask, cause: Cause) -> Result<bool, NoMemory> {
-    let causes = session.causes(ask)?;
-    Ok(causes.holds(cause) && !causes.holds(Cause::NoRoom) && causes.allow(4))
-}
-
-/// Whether a session in which nothing is open has a cause that refuses CLOSE.
-fn refuses_to_close(alloc: Global, session: &Session<GivenTable>) -> Result<bool, NoMemory> {
-    let ask = Ask::Close {
-        handle: ByteString::from_slice(alloc, b"h")?,
-    };
-    refuses_by(session, &ask, Cause::BadHandle)
-}
-
-/// Whether a session in which nothing is open refuses to read and to show a file.
-fn refuses_to_look(session: &Session<GivenTable>) -> bool {
-    session.read_open(b"h", 0, 1).err() == Some(Cause::BadHandle)
-        && session.stat_open(b"h").err() == Some(Cause::BadHandle)
-}
-
-/// Whether a tree has the file of the blank one.
-fn is_blank(alloc: Global, tree: &Tree) -> Result<bool, NoMemory> {
-    let blank = Tree::blank(alloc)?.write()?;
-    Ok(tree.write()?.as_slice() == blank.as_slice())
-}
-
-/// Whether a session in which nothing is open refuses requests on handles, and gives its tree back.
-fn refuses_closed_handles(alloc: Global) -> Result<bool, NoMemory> {
-    let session: Session<GivenTable> = Session::new(Tree::blank(alloc)?)?;
-    let refused = refuses_to_close(alloc, &session)? && refuses_to_look(&session);
-    let end = session.into_tree();
-    Ok(refused && is_blank(alloc, &end)?)
-}
-
-#[test]
-fn closed_handles(rt: HostRuntime) -> Result<(), Fail> {
-    assert!(rt; refuses_closed_handles(rt.alloc())?);
     Ok(())
 }

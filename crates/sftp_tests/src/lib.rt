@@ -1,14 +1,12 @@
-//! Tests of sessions: of `sftp_handles` in `handles`, `answers` and `agreement`, of `sftp_client`, `sftp_transcript`
-//! and `sftp_server`. The law of `audited` is about the server and the auditor.
+//! Tests of what no case of `sftp_cases` can say, in a module for each library: calls by values, streams that fail, cores
+//! and scripts of acts, the client's pairing. The law of `audited` is about the server and the auditor.
 //!
-//! A test goes over a table of cases, each with what it has to give, worked out by hand. The assertion names the
-//! case that fails.
+//! A test goes over a table of rows, each with what it has to give, worked out by hand. The assertion names the row that
+//! fails.
 #![tactic(auto)]
 
 #[cfg(test)]
-mod agreement;
-#[cfg(test)]
-mod answers;
+mod audit;
 pub mod audited;
 #[cfg(test)]
 mod client;
@@ -17,8 +15,16 @@ mod cores;
 #[cfg(test)]
 mod handles;
 #[cfg(test)]
+mod path;
+#[cfg(test)]
 mod scripts;
 #[cfg(test)]
 mod serving;
 #[cfg(test)]
+mod torn;
+#[cfg(test)]
 mod transcript;
+#[cfg(test)]
+mod treefile;
+#[cfg(test)]
+mod wire;

@@ -1,5 +1,4 @@
 //! Acts of a server that are done one after the other: the events that they make, and the tree in the end.
-use crate::answers::packet;
 use sftp_path::NoMemory;
 use sftp_server::{Act, Core, run_script};
 use sftp_transcript::Event;
@@ -108,6 +107,16 @@ const SCRIPTS: &[Row] = &[
         false,
     ),
 ];
+
+/// The packet of a type and of what follows its id.
+fn packet(alloc: Global, id: u32, part: &[u8]) -> Result<Vec<u8>, AllocError> {
+    let length = (part.len() % 65_536) as u32 + 4;
+    let mut packet = Vec::from_slice(alloc, &length.to_be_bytes())?;
+    packet.extend_from_slice(part.get(..1).unwrap_or(&[]))?;
+    packet.extend_from_slice(&id.to_be_bytes())?;
+    packet.extend_from_slice(part.get(1..).unwrap_or(&[]))?;
+    Ok(packet)
+}
 
 /// The request with this id, of this type and with these fields.
 pub(crate) fn request(alloc: Global, id: u32, part: &[u8]) -> Result<Request, NoMemory> {

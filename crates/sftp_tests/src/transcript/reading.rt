@@ -1,5 +1,5 @@
 //! Transcript files that are read: from sources that fail at each place or give one byte a call, and that end anywhere.
-use sftp_test_inputs::torn::Torn;
+use crate::torn::Torn;
 use sftp_transcript::{Event, Memory, Reader, Source, Tally, TranscriptError};
 use sftp_wire::{Packet, Side};
 use std::alloc::Global;

@@ -1,6 +1,6 @@
 //! Sources and sinks: what is read and written, and how many calls failed.
 use super::Narrow;
-use sftp_test_inputs::torn::Torn;
+use crate::torn::Torn;
 use sftp_transcript::{Failed, Memory, Sink, Source, Tally};
 use std::test::Fail;
 

@@ -1,0 +1,258 @@
+//! Streams that are written out by hand.
+use sftp_wire::{FrameBuf, Side};
+use std::alloc::{AllocError, Global};
+use std::test::Fail;
+
+/// INIT of version 3, with no extensions.
+const INIT: &[u8] = b"\0\0\0\x05\x01\0\0\0\x03";
+
+const INIT_WORDS: &str = "Ok(Some(Init { version: 3, extensions: Pairs { pairs: [] } }))";
+
+/// MKDIR of "/a" with the id 1 and no attributes, and the first five bytes of what follows it.
+const MKDIR_AND_MORE: &[u8] = b"\0\0\0\x0f\x0e\0\0\0\x01\0\0\0\x02/a\0\0\0\0\0\0\0\x05\x01";
+
+const MKDIR: &[u8] = b"\0\0\0\x0f\x0e\0\0\0\x01\0\0\0\x02/a\0\0\0\0";
+
+const MKDIR_WORDS: &str =
+    "Ok(Some(Request(Request { id: 1, ask: Mkdir { path: ByteString { bytes: [47, 97] }, \
+    attrs: Attrs { size: None, owner: None, permissions: None, times: None, extended: None } } })))";
+
+const WAITING: &str = "Ok(None)";
+
+/// A call of a buffer, and what it has to give.
+#[derive(Clone, Copy)]
+enum Call<'a> {
+    /// So many of the bytes are taken.
+    Push(&'a [u8], usize),
+    /// The words of `{:?}`.
+    Next(&'a str),
+    Room(usize),
+    Place(u64),
+    Lent(Option<&'a [u8]>),
+}
+
+/// What is taken out of the buffer, in the words of `{:?}`.
+fn given(alloc: Global, frames: &mut FrameBuf) -> Result<String, AllocError> {
+    let given = frames.next(Side::Client);
+    let words = format!(in alloc; "{given:?}");
+    drop(given);
+    words
+}
+
+/// Whether a call gives what it has to.
+fn holds(alloc: Global, frames: &mut FrameBuf, call: &Call) -> Result<bool, AllocError> {
+    Ok(match call {
+        Call::Push(bytes, taken) => frames.push(bytes) == *taken,
+        Call::Next(words) => given(alloc, frames)?.as_str() == *words,
+        Call::Room(room) => frames.room() == *room,
+        Call::Place(place) => frames.place() == *place,
+        Call::Lent(bytes) => frames.lent() == *bytes,
+    })
+}
+
+/// The first of these calls that does not give what it has to.
+fn first_wrong(
+    alloc: Global,
+    frames: &mut FrameBuf,
+    calls: &[Call],
+) -> Result<Option<usize>, AllocError> {
+    for (index, call) in calls.iter().enumerate() {
+        if !holds(alloc, frames, call)? {
+            return Ok(Some(index));
+        }
+    }
+    Ok(None)
+}
+
+/// INIT comes byte by byte.
+const BYTES: &[Call] = &[
+    Call::Next(WAITING),
+    Call::Room(34_000),
+    Call::Push(b"\0", 1),
+    Call::Next(WAITING),
+    Call::Push(b"\0", 1),
+    Call::Next(WAITING),
+    Call::Push(b"\0", 1),
+    Call::Next(WAITING),
+    Call::Push(b"\x05", 1),
+    Call::Next(WAITING),
+    Call::Room(33_996),
+    Call::Push(b"\x01", 1),
+    Call::Next(WAITING),
+    Call::Push(b"\0", 1),
+    Call::Next(WAITING),
+    Call::Push(b"\0", 1),
+    Call::Next(WAITING),
+    Call::Push(b"\0", 1),
+    Call::Next(WAITING),
+    Call::Lent(None),
+    Call::Room(33_992),
+    Call::Push(b"\x03", 1),
+    Call::Lent(Some(INIT)),
+    Call::Next(INIT_WORDS),
+    Call::Next(WAITING),
+    Call::Room(34_000),
+];
+
+const NO_LENGTH: &[Call] = &[
+    Call::Push(b"\0\0\0\0", 4),
+    Call::Lent(None),
+    Call::Next("Err(Unreadable { fault: Length, place: 0 })"),
+];
+
+const LONGEST: &[Call] = &[
+    Call::Push(b"\0\0\x84\xcc", 4),
+    Call::Lent(None),
+    Call::Next(WAITING),
+];
+
+const LONGER: &[Call] = &[
+    Call::Push(b"\0\0\x84\xcd", 4),
+    Call::Lent(None),
+    Call::Next("Err(Unreadable { fault: Length, place: 0 })"),
+];
+
+const OPEN_WITHOUT_ITS_ID: &[Call] = &[
+    Call::Push(b"\0\0\0\x01\x03", 5),
+    Call::Lent(Some(b"\0\0\0\x01\x03")),
+    Call::Next("Err(Unreadable { fault: Short, place: 0 })"),
+    Call::Lent(None),
+    Call::Room(0),
+];
+
+/// A whole packet and five bytes of the next one.
+const MORE_THAN_A_PACKET: &[Call] = &[
+    Call::Push(MKDIR_AND_MORE, 24),
+    Call::Lent(Some(MKDIR)),
+    Call::Next(MKDIR_WORDS),
+    Call::Lent(None),
+    Call::Next(WAITING),
+    Call::Room(33_995),
+];
+
+/// A fault stays at its packet for good, and nothing more is taken.
+const WRONG_TYPE_BEHIND_INIT: &[Call] = &[
+    Call::Push(INIT, 9),
+    Call::Push(b"\0\0\0\x01\x63", 5),
+    Call::Next(INIT_WORDS),
+    Call::Next("Err(Unreadable { fault: WrongType, place: 9 })"),
+    Call::Next("Err(Unreadable { fault: WrongType, place: 9 })"),
+    Call::Room(0),
+    Call::Push(INIT, 0),
+    Call::Lent(None),
+    Call::Next("Err(Unreadable { fault: WrongType, place: 9 })"),
+];
+
+/// INIT, MKDIR, and then REMOVE of "/a" and one byte more, in two pieces.
+const TRAILING_BEHIND_MKDIR: &[Call] = &[
+    Call::Push(INIT, 9),
+    Call::Push(MKDIR, 19),
+    Call::Next(INIT_WORDS),
+    Call::Next(MKDIR_WORDS),
+    Call::Push(b"\0\0\0\x0c\x0d\0\0\0\x01\0\0\0\x02", 13),
+    Call::Next(WAITING),
+    Call::Push(b"/a\0", 3),
+    Call::Next("Err(Unreadable { fault: Trailing, place: 28 })"),
+    Call::Next("Err(Unreadable { fault: Trailing, place: 28 })"),
+    Call::Room(0),
+    Call::Lent(None),
+];
+
+/// The place is 0, then after the 19 bytes of MKDIR, and stays at the first byte of a packet of no known type.
+const PLACES: &[Call] = &[
+    Call::Place(0),
+    Call::Push(MKDIR, 19),
+    Call::Place(0),
+    Call::Next(MKDIR_WORDS),
+    Call::Place(19),
+    Call::Push(b"\0\0\0\x01\x63", 5),
+    Call::Place(19),
+    Call::Next("Err(Unreadable { fault: WrongType, place: 19 })"),
+    Call::Place(19),
+];
+
+const STREAMS: &[(&str, &[Call])] = &[
+    ("bytes", BYTES),
+    ("no length", NO_LENGTH),
+    ("longest", LONGEST),
+    ("longer", LONGER),
+    ("OPEN without its id", OPEN_WITHOUT_ITS_ID),
+    ("more than a packet", MORE_THAN_A_PACKET),
+    ("wrong type", WRONG_TYPE_BEHIND_INIT),
+    ("trailing", TRAILING_BEHIND_MKDIR),
+    ("places", PLACES),
+];
+
+#[test]
+fn streams_of_calls(rt: HostRuntime) -> Result<(), Fail> {
+    for (name, calls) in STREAMS {
+        let mut frames = FrameBuf::new(rt.alloc())?;
+        let wrong = first_wrong(rt.alloc(), &mut frames, calls)?;
+        assert!(rt; wrong.is_none(), "{name}: {wrong:?}");
+    }
+    Ok(())
+}
+
+/// The bytes of CLOSE with that id, of the empty handle.
+fn close(id: u32) -> [u8; 13] {
+    let [first, second, third, fourth] = id.to_be_bytes();
+    [
+        0x00, 0x00, 0x00, 0x09, 0x04, first, second, third, fourth, 0x00, 0x00, 0x00, 0x00,
+    ]
+}
+
+/// Whether the buffer takes CLOSE with each of the ids from 0 on that it has room for: 2,615 packets of 13 bytes.
+fn is_filled(frames: &mut FrameBuf) -> bool {
+    for id in 0..2615_u32 {
+        if frames.push(&close(id)) != 13 {
+            return false;
+        }
+    }
+    frames.room() == 5
+}
+
+/// Whether CLOSE with that id comes out.
+fn is_close(alloc: Global, frames: &mut FrameBuf, id: u32) -> Result<bool, AllocError> {
+    let words = format!(in alloc;
+        "Ok(Some(Request(Request {{ id: {id}, \
+        ask: Close {{ handle: ByteString {{ bytes: [] }} }} }})))"
+    )?;
+    Ok(given(alloc, frames)?.as_str() == words.as_str())
+}
+
+/// Whether CLOSE comes out with each of the ids from 0 on.
+fn is_emptied(alloc: Global, frames: &mut FrameBuf) -> Result<bool, AllocError> {
+    for id in 0..2615_u32 {
+        if !is_close(alloc, frames, id)? {
+            return Ok(false);
+        }
+    }
+    Ok(true)
+}
+
+const FULL: &[Call] = &[Call::Push(INIT, 5), Call::Room(0), Call::Push(INIT, 0)];
+
+const REST_OF_INIT: &[Call] = &[
+    Call::Next(WAITING),
+    Call::Room(33_995),
+    Call::Push(b"\0\0\0\x03", 4),
+    Call::Next(INIT_WORDS),
+    Call::Room(34_000),
+];
+
+/// Five bytes of INIT go into the full buffer, and the others once it is empty.
+fn holds_no_more(alloc: Global, frames: &mut FrameBuf) -> Result<bool, AllocError> {
+    Ok(
+        is_filled(frames)
+            && first_wrong(alloc, frames, FULL)?.is_none()
+            && is_emptied(alloc, frames)?
+            && first_wrong(alloc, frames, REST_OF_INIT)?.is_none(),
+    )
+}
+
+#[test]
+fn full_buffers(rt: HostRuntime) -> Result<(), Fail> {
+    let mut frames = FrameBuf::new(rt.alloc())?;
+    assert!(rt; holds_no_more(rt.alloc(), &mut frames)?);
+    Ok(())
+}

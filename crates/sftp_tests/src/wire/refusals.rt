@@ -1,0 +1,166 @@
+//! Packets that are not written, packets after other bytes, and the texts of errors.
+use super::{long, no_attributes, reply, request, text, written};
+use sftp_wire::{Answer, Ask, ByteString, Fault, Packet, WireError};
+use std::alloc::{AllocError, Global};
+use std::test::Fail;
+
+/// The bytes in front of which a refused packet leaves nothing.
+const KEPT: &[u8] = b"kept";
+
+fn kept(alloc: Global) -> Result<Vec<u8>, AllocError> {
+    Vec::from_slice(alloc, KEPT)
+}
+
+/// Whether a packet is refused with that error, and the bytes stay as they were.
+fn is_refused(kept: Vec<u8>, packet: Packet, expected: WireError) -> bool {
+    let (said, out) = written(kept, packet);
+    said == Err(expected) && out.as_slice() == KEPT
+}
+
+/// The requests that hold a handle, by their types; FSYNC for the type of extensions.
+fn with_handle(alloc: Global, kind: u8, handle: ByteString) -> Ask {
+    match kind {
+        4 => Ask::Close { handle },
+        5 => Ask::Read {
+            handle,
+            offset: 0,
+            len: 1,
+        },
+        6 => Ask::Write {
+            handle,
+            offset: 0,
+            bytes: ByteString::new(Vec::new(alloc)),
+        },
+        8 => Ask::Fstat { handle },
+        10 => Ask::Fsetstat {
+            handle,
+            attrs: no_attributes(),
+        },
+        12 => Ask::Readdir { handle },
+        _ => Ask::Fsync { handle },
+    }
+}
+
+/// Whether a request of that type with a handle of 257 bytes is too long.
+fn is_too_long(alloc: Global, kind: u8) -> Result<bool, AllocError> {
+    let before = kept(alloc)?;
+    let ask = with_handle(alloc, kind, long(alloc, 257)?);
+    Ok(is_refused(before, request(1, ask), WireError::TooLong))
+}
+
+/// Whether HANDLE of so many bytes is too long.
+fn is_too_long_a_handle(alloc: Global, length: usize) -> Result<bool, AllocError> {
+    let before = kept(alloc)?;
+    let answer = Answer::Handle(long(alloc, length)?);
+    Ok(is_refused(before, reply(1, answer), WireError::TooLong))
+}
+
+/// Whether DATA of so many bytes is.
+fn is_too_much_data(alloc: Global, length: usize) -> Result<bool, AllocError> {
+    let before = kept(alloc)?;
+    let answer = Answer::Data(long(alloc, length)?);
+    Ok(is_refused(before, reply(1, answer), WireError::TooLong))
+}
+
+/// Handles of 257 bytes, and a packet of 34,001.
+#[test]
+fn too_long(rt: HostRuntime) -> Result<(), Fail> {
+    for kind in [4, 5, 6, 8, 10, 12, 200_u8] {
+        assert!(rt; is_too_long(rt.alloc(), kind)?, "type {kind}");
+    }
+    assert!(rt; is_too_long_a_handle(rt.alloc(), 257)? && is_too_much_data(rt.alloc(), 33_988)?);
+    Ok(())
+}
+
+/// Whether a request for the extension of that name, as if it were not known, is refused with that error.
+fn is_hidden(
+    alloc: Global,
+    name: &[u8],
+    length: usize,
+    expected: WireError,
+) -> Result<bool, AllocError> {
+    let before = kept(alloc)?;
+    let name = text(alloc, name)?;
+    let rest = long(alloc, length)?;
+    Ok(is_refused(before, request(1, Ask::Unknown { name, rest }), expected))
+}
+
+/// Names of known extensions, so many bytes after them, and the error. As an unknown one such a packet is not
+/// canonical, up to the longest packet. One byte more is too long first.
+const HIDDEN: &[(&[u8], usize, WireError)] = &[
+    (b"posix-rename@openssh.com", 5, WireError::NotCanonical),
+    (b"hardlink@openssh.com", 5, WireError::NotCanonical),
+    (b"fsync@openssh.com", 5, WireError::NotCanonical),
+    (b"fsync@openssh.com", 33_970, WireError::NotCanonical),
+    (b"fsync@openssh.com", 33_971, WireError::TooLong),
+];
+
+#[test]
+fn known_extensions_as_unknown_ones(rt: HostRuntime) -> Result<(), Fail> {
+    for (name, length, expected) in HIDDEN {
+        assert!(rt;
+            is_hidden(rt.alloc(), name, *length, *expected)?,
+            "{name:?} and {length} bytes"
+        );
+    }
+    Ok(())
+}
+
+/// Errors that no session shows, and their texts.
+const TEXTS: &[(WireError, &str)] = &[
+    (
+        WireError::Unreadable {
+            fault: Fault::HandleTooLong,
+            place: 18_446_744_073_709_551_615,
+        },
+        "HandleTooLong at 18446744073709551615",
+    ),
+    (WireError::TooLong, "TooLong"),
+    (WireError::NotCanonical, "NotCanonical"),
+    (WireError::NoMemory, "NoMemory"),
+];
+
+#[test]
+fn texts(rt: HostRuntime) -> Result<(), Fail> {
+    for (error, expected) in TEXTS {
+        let text = format!(in rt.alloc(); "{error}")?;
+        assert!(rt; text.as_str() == *expected, "{expected}");
+    }
+    Ok(())
+}
+
+/// RMDIR after other bytes.
+fn writes_behind(alloc: Global) -> Result<bool, AllocError> {
+    let before = kept(alloc)?;
+    let path = text(alloc, b"/a")?;
+    let (said, out) = written(before, request(1, Ask::Rmdir { path }));
+    Ok(said == Ok(()) && out.as_slice() == b"kept\0\0\0\x0b\x0f\0\0\0\x01\0\0\0\x02/a".as_slice())
+}
+
+/// DATA of 34,000 bytes in all, the most that a packet has.
+fn writes_longest(alloc: Global) -> Result<bool, AllocError> {
+    let answer = Answer::Data(long(alloc, 33_987)?);
+    let (said, out) = written(Vec::new(alloc), reply(1, answer));
+    Ok(said == Ok(()) && out.len() == 34_000)
+}
+
+/// STATUS with texts.
+fn writes_status(alloc: Global) -> Result<bool, AllocError> {
+    let message = text(alloc, b"Failure")?;
+    let language = text(alloc, b"en")?;
+    let answer = Answer::Status {
+        code: 4,
+        message,
+        language,
+    };
+    let (said, out) = written(Vec::new(alloc), reply(16, answer));
+    let bytes = b"\0\0\0\x1a\x65\0\0\0\x10\0\0\0\x04\0\0\0\x07Failure\0\0\0\x02en".as_slice();
+    Ok(said == Ok(()) && out.as_slice() == bytes)
+}
+
+#[test]
+fn packets_that_are_written(rt: HostRuntime) -> Result<(), Fail> {
+    assert!(rt; writes_behind(rt.alloc())? && writes_longest(rt.alloc())?);
+    assert!(rt; writes_status(rt.alloc())?);
+    Ok(())
+}
