@@ -3,7 +3,7 @@ use crate::command_line::AuditFiles;
 use crate::messages::write_flushed;
 use crate::subcommands::open;
 use sftp_audit::{AuditError, Auditor, NoMemory, Refusal, TreeError, feed_all};
-use sftp_explain::{
+use sftp_show::{
     ExplainError, Found, Record, explain_reply, find_record, last_of_id, number_of_request,
     put_record,
 };

@@ -1,9 +1,9 @@
 //! Why a reply is not allowed, and which one is.
 
-use crate::answers::{AnswerText, put_first};
-use crate::causes::{AllowedCodes, CauseList};
-use crate::differences::{first_difference, first_wrong_name};
-use crate::errors::ExplainError;
+use crate::refusals::answers::{AnswerText, put_first};
+use crate::refusals::causes::{AllowedCodes, CauseList};
+use crate::refusals::differences::{first_difference, first_wrong_name};
+use crate::refusals::errors::ExplainError;
 use sftp_handles::{HandleTable, Listing, Session};
 use sftp_tree::Causes;
 use sftp_wire::{Answer, Ask, ByteString, Names};
@@ -68,7 +68,11 @@ fn put_exact<T: HandleTable, O: Write>(
     output: &mut O,
 ) -> Result<(), ExplainError> {
     match session.unchanging_answer(ask) {
-        Some(Ok(expected)) => put_expected(ask, &expected, answer, output),
+        Some(Ok(expected)) => {
+            let put = put_expected(ask, &expected, answer, output);
+            drop(expected);
+            put
+        }
         Some(Err(_)) => Err(ExplainError::NoMemory),
         None => {
             writeln!(output, "expected: STATUS with code 0 (OK)")?;
@@ -84,6 +88,15 @@ fn put_expected<O: Write>(
     answer: &Answer,
     output: &mut O,
 ) -> Result<(), ExplainError> {
+    put_allowed_answer(ask, expected, output)?;
+    put_found(expected, answer, output)
+}
+
+fn put_allowed_answer<O: Write>(
+    ask: &Ask,
+    expected: &Answer,
+    output: &mut O,
+) -> Result<(), ExplainError> {
     let text = AnswerText(expected);
     match (ask, expected) {
         (Ask::Read { offset, .. }, Answer::Data(_)) => {
@@ -91,7 +104,7 @@ fn put_expected<O: Write>(
         }
         _ => writeln!(output, "expected: {text}")?,
     }
-    put_found(expected, answer, output)
+    Ok(())
 }
 
 /// Writes the answer that was given, and the first byte in which it differs.
@@ -119,19 +132,30 @@ fn put_listing<T: HandleTable, O: Write>(
     answer: &Answer,
     output: &mut O,
 ) -> Result<(), ExplainError> {
-    let Some(left) = session.listing(handle) else {
-        return Ok(());
-    };
+    match session.listing(handle) {
+        Some(left) => put_left(alloc, session, handle, left, answer, output),
+        None => Ok(()),
+    }
+}
+
+fn put_left<T: HandleTable, O: Write>(
+    alloc: Global,
+    session: &Session<T>,
+    handle: &[u8],
+    left: &Listing,
+    answer: &Answer,
+    output: &mut O,
+) -> Result<(), ExplainError> {
     let count = left.len();
     if count == 0 {
         writeln!(output, "expected: STATUS with code 1 (EOF)")?;
         return Ok(());
     }
     put_names_left(session, handle, count, output)?;
-    if let Answer::Name(names) = answer {
-        put_wrong_name(alloc, left, names, output)?;
+    match answer {
+        Answer::Name(names) => put_wrong_name(alloc, left, names, output),
+        _ => Ok(()),
     }
-    Ok(())
 }
 
 /// Writes the first of the `count` names that a listing still has to give.
@@ -143,15 +167,22 @@ fn put_names_left<T: HandleTable, O: Write>(
 ) -> Result<(), ExplainError> {
     match session.first_names(handle) {
         Ok(names) => {
-            let names = NamesLeft {
-                names: names.as_slice(),
-                count,
-            };
-            writeln!(output, "expected: {names}")?;
-            Ok(())
+            let put = put_first_names(names.as_slice(), count, output);
+            drop(names);
+            put
         }
         Err(_) => Err(ExplainError::NoMemory),
     }
+}
+
+fn put_first_names<O: Write>(
+    names: &[ByteString],
+    count: usize,
+    output: &mut O,
+) -> Result<(), ExplainError> {
+    let names = NamesLeft { names, count };
+    writeln!(output, "expected: {names}")?;
+    Ok(())
 }
 
 /// Names that a listing still has to give, the first ones, and how many they all are.
