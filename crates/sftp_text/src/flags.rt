@@ -55,16 +55,23 @@ fn put_higher_flags(n: u32, text: &mut Vec<u8>) -> Result<(), AllocError>
     put_flag(n, EXCL, b"EXCL", text)
 }
 
+/// Writes flags that have names.
+fn put_named_flags(n: u32, text: &mut Vec<u8>) -> Result<(), AllocError>
+    ensures { OnOk result (text.new.items ≡ text.old.items ++ (lower_flags n ++ higher_flags n)) }
+{
+    put_lower_flags(n, text)?;
+    put_higher_flags(n, text)?;
+    Ok(())
+}
+
 /// Writes flags.
-#[tactic(auto, using(crate::proofs::FlagLaws::flags_text_parts))]
 fn put_flags_text(n: u32, text: &mut Vec<u8>) -> Result<(), AllocError>
     ensures { OnOk result (text.new.items ≡ text.old.items ++ flags_text n) }
 {
     if n == 0 || n >= UNNAMED {
         return put_decimal(u64::from(n), text);
     }
-    put_lower_flags(n, text)?;
-    put_higher_flags(n, text)
+    put_named_flags(n, text)
 }
 
 /// Shows the flags of OPEN.
@@ -92,17 +99,17 @@ fn added(flags: u32, flag: u32) -> Option<u32>
 fn with_flag(flags: u32, name: &[u8]) -> Option<u32>
     ensures { result ≡ digits.with_flag flags name.now flag_names }
 {
-    if name == b"READ" {
+    if name == b"READ".as_slice() {
         added(flags, READ)
-    } else if name == b"WRITE" {
+    } else if name == b"WRITE".as_slice() {
         added(flags, WRITE)
-    } else if name == b"APPEND" {
+    } else if name == b"APPEND".as_slice() {
         added(flags, APPEND)
-    } else if name == b"CREAT" {
+    } else if name == b"CREAT".as_slice() {
         added(flags, CREAT)
-    } else if name == b"TRUNC" {
+    } else if name == b"TRUNC".as_slice() {
         added(flags, TRUNC)
-    } else if name == b"EXCL" {
+    } else if name == b"EXCL".as_slice() {
         added(flags, EXCL)
     } else {
         None
