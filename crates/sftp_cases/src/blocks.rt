@@ -1,5 +1,6 @@
 //! The blocks of a file of cases: a keyword line, and the lines below it, which are indented.
 use std::alloc::{AllocError, Global};
+use std::ops::Range;
 
 /// The head of a block: the number of its line in the file, from 1, the keyword, and the words behind it.
 #[derive(Clone, Copy)]
@@ -60,9 +61,8 @@ impl Span {
         }
     }
 
-    /// The lines below the head.
-    pub fn below<'l, 't>(self, lines: &'l [&'t str]) -> &'l [&'t str] {
-        let start = self.start.saturating_add(1);
-        lines.get(start..self.end).unwrap_or(&[])
+    /// Where the lines below the head are.
+    pub fn below(self) -> Range<usize> {
+        self.start.saturating_add(1)..self.end
     }
 }

@@ -157,7 +157,8 @@ fn run_lines<'t, R: Files + AllocGlobal + Print>(
     for span in spans.as_slice() {
         let block = span.block(lines);
         if block.keyword != "case" {
-            take_block(rt, case, block, span.below(lines))?;
+            let below = lines.get(span.below()).unwrap_or(&[]);
+            take_block(rt, case, block, below)?;
             continue;
         }
         if let Some(title) = title {
