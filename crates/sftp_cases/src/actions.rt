@@ -2,7 +2,7 @@
 use crate::cases::Case;
 use crate::files::{AUDITED, END, TRANSCRIPT, has_bytes, is_same, remove};
 use crate::records::{OPENING, put_sides};
-use crate::runs::{Came, run_program, words_of};
+use crate::runs::{Came, Fails, SOUND, run_program, words_of};
 use crate::trouble::Trouble;
 use crate::wanted::Form;
 use std::alloc::AllocError;
@@ -28,9 +28,11 @@ fn run_line<R: Files + AllocGlobal>(
         words.as_slice(),
         case.input.as_slice(),
         case.size,
+        case.streams,
         &mut case.came,
     );
     case.input.clear();
+    case.streams = SOUND;
     case.is_pending = true;
     Ok(())
 }
@@ -38,6 +40,33 @@ fn run_line<R: Files + AllocGlobal>(
 /// The run of a `run` block, whose words are the program's name and its arguments.
 pub fn run<R: Files + AllocGlobal>(rt: &R, case: &mut Case, words: &str) -> Result<(), Trouble> {
     run_line(rt, case, words, "")
+}
+
+/// What the program says where it cannot write its output.
+const UNWRITTEN: &[u8] = b"sftpv3: cannot write standard output\n";
+
+/// Runs the program on the words behind a number, with room for each number of bytes below it on standard output. Each
+/// time it has to end with status 3, and to say why.
+pub fn full<R: Files + AllocGlobal>(rt: &R, case: &mut Case, words: &str) -> Result<(), Trouble> {
+    let Some((number, line)) = words.split_once(' ') else {
+        return Err(Trouble::Form("a number of bytes, and words"));
+    };
+    let Ok(most) = number.parse::<usize>() else {
+        return Err(Trouble::Form("a number of bytes"));
+    };
+    for room in 0..most {
+        case.streams.output = Fails::At(room);
+        run_line(rt, case, line, "")?;
+        case.is_pending = false;
+        if case.came.status != 3 || case.came.errors.as_slice() != UNWRITTEN {
+            case.say_line(case.line)?;
+            write!(
+                case.said,
+                "    with room for {room} bytes it does not fail\n"
+            )?;
+        }
+    }
+    Ok(())
 }
 
 /// Audits the transcript with these options. The audit has to print this text, and to write the tree at the end if it
@@ -143,7 +172,7 @@ pub fn audit_record<R: Files + AllocGlobal>(
 fn run_audit_of_record<R: Files + AllocGlobal>(rt: &R, came: &mut Came) -> Result<(), Trouble> {
     let line = format!(in rt.alloc(); "{AUDIT} {AUDITED}")?;
     let words = words_of(rt.alloc(), line.as_str())?;
-    run_program(rt, words.as_slice(), b"", usize::MAX, came);
+    run_program(rt, words.as_slice(), b"", usize::MAX, SOUND, came);
     Ok(())
 }
 

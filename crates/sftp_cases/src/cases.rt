@@ -2,7 +2,7 @@
 use crate::blocks::{Block, spans_of};
 use crate::files::{END, START, TRANSCRIPT, remove, write};
 use crate::records::put_tree;
-use crate::runs::Came;
+use crate::runs::{Came, SOUND, Streams};
 use crate::steps::take_step;
 use crate::trouble::Trouble;
 use crate::wanted::{Wanted, compare_run};
@@ -27,6 +27,8 @@ pub struct Case {
     /// Standard input of the next run, and how many bytes of it come at a time.
     pub input: Vec<u8>,
     pub size: usize,
+    /// Its streams.
+    pub streams: Streams,
     /// What came of the last run, what is wanted of it, and whether both are still to be compared.
     pub came: Came,
     pub wanted: Wanted,
@@ -45,6 +47,7 @@ impl Case {
             served: String::new(alloc),
             input: Vec::new(alloc),
             size: usize::MAX,
+            streams: SOUND,
             came: Came::new(alloc),
             wanted: Wanted::new(alloc),
             is_pending: false,
@@ -60,6 +63,7 @@ impl Case {
         self.served.clear();
         self.input.clear();
         self.size = usize::MAX;
+        self.streams = SOUND;
         self.wanted.reset();
         self.is_pending = false;
         self.said.clear();

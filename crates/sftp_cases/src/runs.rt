@@ -2,7 +2,7 @@
 use std::alloc::{AllocError, Global};
 use std::fs::Files;
 use std::io;
-use std::io::Read;
+use std::io::{ErrorKind, Read, Write};
 
 /// What a run returned and wrote to its streams.
 #[derive(Drop)]
@@ -38,18 +38,81 @@ impl Read for Pieces<'_> {
     }
 }
 
-/// Runs the program on these words, with its standard input in pieces of this size.
+/// When a stream fails.
+#[derive(Clone, Copy)]
+pub enum Fails {
+    Never,
+    /// At a write that goes beyond so many bytes.
+    At(usize),
+    /// At a flush, but at no write.
+    AtFlush,
+    /// At each write, since memory runs out.
+    ForMemory,
+}
+
+/// When standard output and standard error fail.
+#[derive(Clone, Copy)]
+pub struct Streams {
+    pub output: Fails,
+    pub errors: Fails,
+}
+
+/// Streams that do not fail.
+pub const SOUND: Streams = Streams {
+    output: Fails::Never,
+    errors: Fails::Never,
+};
+
+/// A writer that keeps what it takes, until it fails.
+#[derive(Drop)]
+struct Stream<'a> {
+    kept: &'a mut Vec<u8>,
+    fails: Fails,
+}
+
+impl Write for Stream<'_> {
+    fn write(&mut self, bytes: &[u8]) -> io::Result<usize> {
+        match self.fails {
+            Fails::At(room) if bytes.len() > room.saturating_sub(self.kept.len()) => {
+                Err(io::Error::from(ErrorKind::BrokenPipe))
+            }
+            Fails::ForMemory => Err(io::Error::from(ErrorKind::OutOfMemory)),
+            _ => {
+                self.kept.extend_from_slice(bytes)?;
+                Ok(bytes.len())
+            }
+        }
+    }
+
+    fn flush(&mut self) -> io::Result<()> {
+        match self.fails {
+            Fails::AtFlush => Err(io::Error::from(ErrorKind::BrokenPipe)),
+            _ => Ok(()),
+        }
+    }
+}
+
+/// Runs the program on these words, with its standard input in pieces of this size, and with these streams.
 pub fn run_program<R: Files + AllocGlobal>(
     rt: &R,
     words: &[String],
     input: &[u8],
     size: usize,
+    streams: Streams,
     came: &mut Came,
 ) {
     let mut pieces = Pieces { rest: input, size };
     came.output.clear();
     came.errors.clear();
-    came.status = sftp_tool::run(rt, words, &mut pieces, &mut came.output, &mut came.errors);
+    let mut output = Stream {
+        kept: &mut came.output,
+        fails: streams.output,
+    };
+    let mut errors = Stream {
+        kept: &mut came.errors,
+        fails: streams.errors,
+    };
+    came.status = sftp_tool::run(rt, words, &mut pieces, &mut output, &mut errors);
 }
 
 /// The words of a line: what is in quotes is one word, and what is outside is cut at spaces.

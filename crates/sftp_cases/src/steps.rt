@@ -1,11 +1,12 @@
 //! The blocks of a case, one after the other.
-use crate::actions::{audit, run, serve};
+use crate::actions::{audit, full, run, serve};
 use crate::blocks::Block;
 use crate::cases::Case;
 use crate::compare::say_bytes;
 use crate::expand::{expand, number_of};
 use crate::files::{END, START, TRANSCRIPT, remove, write};
 use crate::records::{put_bytes, put_session, put_sides, put_transcript, put_tree};
+use crate::runs::Fails;
 use crate::tables::{answers, codes, replies};
 use crate::trouble::Trouble;
 use crate::wanted::Form;
@@ -39,11 +40,11 @@ pub fn take_step<R: Files + AllocGlobal>(
 const MAKES: &[&str] = &["tree", "session", "records", "bytes", "absent"];
 
 /// The keywords of blocks that later runs begin with.
-const PREPARES: &[&str] = &["input", "before", "pieces"];
+const PREPARES: &[&str] = &["input", "before", "pieces", "broken"];
 
 /// The keywords of blocks that run the program.
 const ACTS: &[&str] = &[
-    "serve", "again", "audit", "run", "replies", "codes", "answers",
+    "serve", "again", "audit", "run", "full", "replies", "codes", "answers",
 ];
 
 /// The keywords of blocks that say what is wanted of the last run.
@@ -127,6 +128,7 @@ fn prepare(
             case.before = expand(alloc, lines, false)?;
             Ok(())
         }
+        "broken" => break_stream(case, block.words),
         _ => match number_of(block.words) {
             Some(size) => {
                 case.size = usize::try_from(size).unwrap_or(usize::MAX);
@@ -134,6 +136,25 @@ fn prepare(
             }
             None => Err(Trouble::Form("a number of bytes")),
         },
+    }
+}
+
+/// Has a stream of the next run fail.
+fn break_stream(case: &mut Case, words: &str) -> Result<(), Trouble> {
+    match words.split_once(' ') {
+        Some(("output", "flush")) => case.streams.output = Fails::AtFlush,
+        Some(("output", "memory")) => case.streams.output = Fails::ForMemory,
+        Some(("output", room)) => case.streams.output = fails_at(room)?,
+        Some(("errors", room)) => case.streams.errors = fails_at(room)?,
+        _ => return Err(Trouble::Form("output or errors, and when it fails")),
+    }
+    Ok(())
+}
+
+fn fails_at(room: &str) -> Result<Fails, Trouble> {
+    match room.parse::<usize>() {
+        Ok(room) => Ok(Fails::At(room)),
+        Err(_) => Err(Trouble::Form("a number of bytes")),
     }
 }
 
@@ -168,6 +189,7 @@ fn act_on<R: Files + AllocGlobal>(
     match block.keyword {
         "audit" => audit(rt, case, block.words, text),
         "run" => run(rt, case, block.words),
+        "full" => full(rt, case, block.words),
         "replies" => replies(rt, case, text),
         "codes" => codes(rt, case, text),
         _ => answers(rt, case, text),
