@@ -55,16 +55,23 @@ fn put_higher_flags(n: u32, text: &mut Vec<u8>) -> Result<(), AllocError>
     put_flag(n, EXCL, b"EXCL", text)
 }
 
+/// Writes flags that have names.
+fn put_named_flags(n: u32, text: &mut Vec<u8>) -> Result<(), AllocError>
+    ensures { OnOk result (text.new.items ≡ text.old.items ++ (lower_flags n ++ higher_flags n)) }
+{
+    put_lower_flags(n, text)?;
+    put_higher_flags(n, text)?;
+    Ok(())
+}
+
 /// Writes flags.
-#[tactic(auto, using(crate::proofs::FlagLaws::flags_text_parts))]
 fn put_flags_text(n: u32, text: &mut Vec<u8>) -> Result<(), AllocError>
     ensures { OnOk result (text.new.items ≡ text.old.items ++ flags_text n) }
 {
     if n == 0 || n >= UNNAMED {
         return put_decimal(u64::from(n), text);
     }
-    put_lower_flags(n, text)?;
-    put_higher_flags(n, text)
+    put_named_flags(n, text)
 }
 
 /// Shows the flags of OPEN.

@@ -127,6 +127,13 @@ pub(crate) fn from_name(text: &[u8]) -> &[u8]
     }
 }
 
+/// The name of the packet in a line after its side.
+fn name_of(text: &[u8]) -> &[u8]
+    ensures { result.now ≡ name_in (drop 1 text.now) }
+{
+    up_to_space(from_name(behind(1, text)))
+}
+
 /// Whether a layout is of this side and has this name.
 fn has_name(layout: &Layout, side: Side, name: &[u8]) -> bool
     ensures { result ≡ (same_side (seen layout.now).side side && bytes_eq (seen layout.now).name name.now) }
@@ -153,9 +160,5 @@ fn first_named(packets: &[PacketType], side: Side, name: &[u8]) -> Option<Packet
 pub(crate) fn packet_named(side: Side, text: &[u8]) -> Option<PacketType>
     ensures { result ≡ layout_of_text side text.now }
 {
-    first_named(
-        &every_packet(),
-        side,
-        up_to_space(from_name(behind(1, text))),
-    )
+    first_named(&every_packet(), side, name_of(text))
 }

@@ -16,7 +16,7 @@ use crate::layouts::Layout;
 use crate::names::{behind, from_name, packet_named, packet_shown};
 use crate::numbers::{put_number, read_number};
 use crate::octets::{put_octets, read_octets};
-use crate::quoted::append_string;
+use crate::quoted::append_numbered;
 use crate::table::layout_of;
 use crate::words::{after_word, read_end, read_word};
 use bytes::Buf;
@@ -213,7 +213,11 @@ fn append_packet(packet: &[u8], bytes: &mut Vec<u8>) -> Result<(), Stop>
     requires { bytes.old.items ≡ [] }
     ensures { Makes result bytes.new.items (with_length packet.now) }
 {
-    append_string(packet, bytes)
+    let Ok(length) = u32::try_from(packet.len()) else {
+        return Err(Stop::Unfit(Expected::Fewer));
+    };
+    append_numbered(length, packet, bytes)?;
+    Ok(())
 }
 
 /// Reads a packet with its length.

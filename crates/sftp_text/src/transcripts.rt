@@ -60,8 +60,13 @@ pub fn put_transcript(bytes: &[u8], text: &mut Vec<u8>) -> Result<(), ShowFault>
     let mut rest = bytes;
     read_word(OPENING, Expected::Side, &mut rest)?;
     let mut line = Vec::new(*text.allocator());
-    'records: while !rest.is_empty() {
+    let mut most = rest.len();
+    'records: while most > 0 {
+        if rest.is_empty() {
+            return Ok(());
+        }
         put_next(&mut rest, &mut line, text)?;
+        most -= 1;
     }
     Ok(())
 }

@@ -4,7 +4,7 @@ use Rattle.sftp_text.proofs.fields.read_fields.Given as goal
 
 abbrev pub invariant-fields : goal.invariant-fields
 invariant-fields l =
-    (fields_text l.left.now).read l.bytes.items l.line.now ≡ (fields_text l.fn.fields.now).read l.fn.bytes.items l.fn.line.now
+    (fields_text l.left).read l.bytes.items l.line.now ≡ (fields_text l.fn.fields).read l.fn.bytes.items l.fn.line.now
 
 abbrev pub decreases-fields : goal.decreases-fields
-decreases-fields l = length l.left.now
+decreases-fields l = length l.left

@@ -3,7 +3,7 @@ use Rattle.sftp_text.specs.Lines.{is_blank}
 use Rattle.sftp_text.proofs.lines.is_blank.Given as goal
 
 abbrev pub invariant-bytes : goal.invariant-bytes
-invariant-bytes l = is_blank l.left.now ≡ is_blank l.fn.line.now
+invariant-bytes l = is_blank l.left ≡ is_blank l.fn.line
 
 abbrev pub decreases-bytes : goal.decreases-bytes
-decreases-bytes l = length l.left.now
+decreases-bytes l = length l.left

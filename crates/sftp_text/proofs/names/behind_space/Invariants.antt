@@ -3,7 +3,7 @@ use Rattle.sftp_text.specs.Layouts.{behind_space}
 use Rattle.sftp_text.proofs.names.behind_space.Given as goal
 
 abbrev pub invariant-characters : goal.invariant-characters
-invariant-characters l = behind_space l.left.now ≡ behind_space l.fn.text.now
+invariant-characters l = behind_space l.left ≡ behind_space l.fn.text
 
 abbrev pub decreases-characters : goal.decreases-characters
-decreases-characters l = length l.left.now
+decreases-characters l = length l.left

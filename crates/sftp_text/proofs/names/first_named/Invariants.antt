@@ -5,8 +5,8 @@ use Rattle.sftp_text.proofs.names.first_named.Given as goal
 
 abbrev pub invariant-packets : goal.invariant-packets
 invariant-packets l =
-    find (λ packet. same_side (row packet).side l.side && bytes_eq (row packet).name l.name.now) l.left.now
-    ≡ find (λ packet. same_side (row packet).side l.side && bytes_eq (row packet).name l.name.now) l.fn.packets.now
+    find (λ packet. same_side (row packet).side l.side && bytes_eq (row packet).name l.name) l.left
+    ≡ find (λ packet. same_side (row packet).side l.side && bytes_eq (row packet).name l.name) l.fn.packets
 
 abbrev pub decreases-packets : goal.decreases-packets
-decreases-packets l = length l.left.now
+decreases-packets l = length l.left

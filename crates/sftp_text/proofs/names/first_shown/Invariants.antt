@@ -5,8 +5,8 @@ use Rattle.sftp_text.proofs.names.first_shown.Given as goal
 
 abbrev pub invariant-packets : goal.invariant-packets
 invariant-packets l =
-    find (λ packet. may_have l.side l.bytes.now (row packet)) l.left.now
-    ≡ find (λ packet. may_have l.side l.bytes.now (row packet)) l.fn.packets.now
+    find (λ packet. may_have l.side l.bytes (row packet)) l.left
+    ≡ find (λ packet. may_have l.side l.bytes (row packet)) l.fn.packets
 
 abbrev pub decreases-packets : goal.decreases-packets
-decreases-packets l = length l.left.now
+decreases-packets l = length l.left

@@ -1,5 +1,4 @@
-use Rattle.std.proofs.Common.{length}
 use Rattle.sftp_text.proofs.transcripts.put_transcript.Given as goal
 
 abbrev pub decreases-records : goal.decreases-records
-decreases-records l = length l.rest.now
+decreases-records l = l.most
