@@ -1,10 +1,10 @@
 -- Whole files: what the text of a transcript or of a tree file is read as.
-use Rattle.std.proofs.Common.{◌≡◌, ℕ, zero, suc, ◌+◌, ◌-◌, ◌<◌, ◌≤◌, Bool, true, false, List, [], ◌∷◌, ◌++◌, length, take, drop}
+use Rattle.std.proofs.Common.{◌≡◌, ℕ, zero, suc, ◌≤◌, true, false, List, [], ◌∷◌, ◌++◌, length, take, drop}
 use Rattle.std.proofs.Common.{Option, Some, None, refl, sym, ap, subst, ◌∙◌, append_assoc, arith, inl, inr}
-use Rattle.std.specs.Prelude.{IsTrue, option_and_then, ◌==◌, codes, flat_map}
+use Rattle.std.specs.Prelude.{IsTrue, option_and_then, ◌==◌, flat_map}
 use Rattle.std.specs.List.{list_all, AllByRecursion}
 use Rattle.std.proofs.lemmas.Bool.{cond-true, cond-false, cases_Bool, eqb-true, and_parts}
-use Rattle.std.proofs.lemmas.List.{append-nil, length-append, length-drop, take-append-drop}
+use Rattle.std.proofs.lemmas.List.{append-nil, length-drop, take-append-drop}
 use Rattle.std.proofs.lemmas.Option.{option_and_then_some}
 use Rattle.sftp_wire.specs.declared.packets.Side.{Side}
 use Rattle.sftp_wire.specs.declared.packets.Side.TheVariants.{Client, Server}
@@ -14,7 +14,7 @@ use Rattle.sftp_text.specs.Lines.{is_printable, whole, side_letter, side_of_lett
 use Rattle.sftp_text.specs.Trees.{head_text, root_text, entry_text, entry_line, first_lines, show_tree, bytes_and, entries_read, tree_of_lines, tree_read}
 use Rattle.sftp_text.proofs.Exact.{some-inj, none-some, AreBytes-front, AreBytes-behind, strip-some}
 use Rattle.sftp_text.proofs.Sessions.{text_read-text_of}
-use Rattle.sftp_text.proofs.TreeLines.{LineShown, LineOnto, LinesExact, head-lines, root-lines, entry-lines}
+use Rattle.sftp_text.proofs.TreeLines.{LineShown, head-lines, root-lines, entry-lines}
 
 -- ---- transcripts
 

@@ -1,7 +1,7 @@
 -- The lines of a tree file are read as the bytes that they show.
-use Rattle.std.proofs.Common.{◌≡◌, ℕ, ◌+◌, ◌^◌, ◌<◌, Bool, true, false, ◌&&◌, List, [], ◌∷◌, ◌++◌, length, drop}
-use Rattle.std.proofs.Common.{Option, Some, None, refl, sym, ap, subst, ◌∙◌, append_assoc, inl, inr, cond}
-use Rattle.std.specs.Prelude.{IsTrue, option_and_then, ◌==◌, codes, decimal}
+use Rattle.std.proofs.Common.{◌≡◌, ℕ, true, false, ◌&&◌, List, [], ◌∷◌, ◌++◌}
+use Rattle.std.proofs.Common.{Option, Some, refl, sym, ap, subst, ◌∙◌, inl, inr}
+use Rattle.std.specs.Prelude.{IsTrue, option_and_then, ◌==◌, codes}
 use Rattle.std.specs.List.{list_all}
 use Rattle.std.proofs.lemmas.Bool.{cond-true, cond-false, cases_Bool, eqb-true}
 use Rattle.std.proofs.lemmas.List.{append-nil}
@@ -12,11 +12,11 @@ use Rattle.sftp_text.specs.Digits.{number, octal}
 use Rattle.sftp_text.specs.Quoted.{string_text}
 use Rattle.sftp_text.specs.Trees.{owner_text, head_text, root_text, kind_text, entry_of, first_of, kind_behind, show_kind, read_kind, entry_text}
 use Rattle.sftp_text.specs.Lines.{is_printable, is_blank}
-use Rattle.sftp_text.proofs.Exact.{some-inj, none-some, Shown, IsExact, IsExact-weaken, then-exact, word-exact, mark-exact, Behind}
-use Rattle.sftp_text.proofs.Numerals.{EndsWord, NumberFront, number-exact, octal-exact}
+use Rattle.sftp_text.proofs.Exact.{some-inj, none-some, IsExact, IsExact-weaken, then-exact, mark-exact, Behind}
+use Rattle.sftp_text.proofs.Numerals.{number-exact, octal-exact}
 use Rattle.sftp_text.proofs.Strings.{StartsQuoted, string_text-exact}
 use Rattle.sftp_text.proofs.Repeats.{IsEnd}
-use Rattle.sftp_text.proofs.Parts.{Anything, behind_word}
+use Rattle.sftp_text.proofs.Parts.{behind_word}
 use Rattle.sftp_text.proofs.Tails.{SpaceFront, space-behind, space-ends}
 
 -- what is known of the line that a format shows of what is in front of bytes
