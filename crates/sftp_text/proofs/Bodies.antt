@@ -1,8 +1,7 @@
 -- Packets are read back in the layout that their bytes have.
-use Rattle.std.proofs.Common.{◌≡◌, ℕ, ◌+◌, ◌^◌, ◌<◌, ◌≤◌, Bool, true, false, ◌&&◌, not, List, [], ◌∷◌, ◌++◌, length, drop}
-use Rattle.std.proofs.Common.{Option, Some, None, refl, sym, ap, subst, ◌∙◌, append_assoc, arith, inl, inr}
+use Rattle.std.proofs.Common.{◌≡◌, ℕ, ◌^◌, Bool, true, false, ◌&&◌, not, List, [], ◌∷◌, ◌++◌, drop}
+use Rattle.std.proofs.Common.{Option, Some, None, refl, sym, ap, subst, ◌∙◌, arith, inl, inr}
 use Rattle.std.specs.Prelude.{IsTrue, IsFalse, ◌==◌, codes, decimal, bytes_eq, find}
-use Rattle.std.specs.Char.{digit_value}
 use Rattle.std.specs.List.{list_all}
 use Rattle.std.specs.Str.Parse.{IsNumeral, AllDigits}
 use Rattle.std.proofs.lemmas.Bool.{cond-true, cond-false, cases_Bool, eqb-true, and_parts}
@@ -16,8 +15,8 @@ use Rattle.sftp_text.specs.Layouts.{Row, row, every_packet, same_side, id_text, 
 use Rattle.sftp_text.specs.Lines.{is_printable}
 use Rattle.sftp_text.specs.declared.layouts.PacketType.{PacketType}
 use Rattle.sftp_text.specs.declared.layouts.PacketType.TheVariants as packets
-use Rattle.sftp_text.proofs.Exact.{some-inj, none-some, Shown, IsExact, IsExact-weaken, then-exact, word-exact, mark-exact, nothing-exact, Behind}
-use Rattle.sftp_text.proofs.Numerals.{EndsWord, NumberFront, number-exact, is_digit-from_value}
+use Rattle.sftp_text.proofs.Exact.{some-inj, none-some, IsExact, IsExact-weaken, then-exact, mark-exact, nothing-exact, Behind}
+use Rattle.sftp_text.proofs.Numerals.{NumberFront, number-exact, is_digit-from_value}
 use Rattle.sftp_text.proofs.Repeats.{IsEnd}
 use Rattle.sftp_text.proofs.Parts.{behind_word, Behind-ends}
 use Rattle.sftp_text.proofs.Tails.{SpaceFront, tail_text-exact, fields_text-exact}

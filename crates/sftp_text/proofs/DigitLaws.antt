@@ -1,6 +1,6 @@
 -- Numbers in front of a text.
-use Rattle.std.proofs.Common.{◌≡◌, ◌==◌, ℕ, ◌+◌, ◌-◌, ◌*◌, ◌<◌, ◌≤◌, List, [], ◌∷◌, Option, Some, None, Bool, true, false, arith, refl}
-use Rattle.std.specs.Prelude.{IfSome, option_and_then, nat_lt, if◌then◌else◌}
+use Rattle.std.proofs.Common.{◌≡◌, ℕ, ◌+◌, ◌-◌, ◌*◌, ◌<◌, ◌≤◌, List, [], ◌∷◌, Option, Some, None, Bool, true, false, arith, refl}
+use Rattle.std.specs.Prelude.{IfSome, option_and_then}
 use Rattle.std.proofs.Math.Nat.{mul-le-mul_left}
 use Rattle.sftp_text.specs.Digits.{is_digit, digits_from}
 

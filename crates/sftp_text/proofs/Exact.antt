@@ -1,8 +1,8 @@
 -- What a format shows, it reads back: a triple of the format, what the text begins with and what may follow it.
-use Rattle.std.proofs.Common.{◌≡◌, ℕ, ◌+◌, ◌-◌, ◌^◌, ◌<◌, ◌≤◌, Bool, true, false, List, [], ◌∷◌, ◌++◌, length, get_or, take, drop}
+use Rattle.std.proofs.Common.{◌≡◌, ℕ, ◌^◌, ◌<◌, List, [], ◌∷◌, ◌++◌, length, take, drop}
 use Rattle.std.proofs.Common.{Option, Some, None, refl, sym, ap, subst, ◌∙◌, append_assoc, arith, inl, inr}
 use Rattle.std.specs.Prelude.{IsTrue, option_and_then, unwrap_or, ◌==◌, nat_le, nat_lt}
-use Rattle.std.specs.List.{list_all, AllByRecursion}
+use Rattle.std.specs.List.{list_all}
 use Rattle.std.specs.Int.{Width, w32, byte_len, from_be_bytes, to_be_bytes}
 use Rattle.std.proofs.lemmas.Bool.{cond-true, cond-false, cases_Bool, and_from, eqb-true, eq-eqb, leb-true, lt-ltb}
 use Rattle.std.proofs.lemmas.List.{append-nil, length-take, take-append-drop}
@@ -10,7 +10,7 @@ use Rattle.std.proofs.lemmas.List.Folds.{list_all-append}
 use Rattle.std.proofs.lemmas.Option.{option_and_then_some}
 use Rattle.sftp_wire.specs.Spelling.{AreBytes}
 use Rattle.sftp_wire.proofs.Bytes.Numbers.{IsBytes-take, IsBytes-from_all, IsWide, wide32}
-use Rattle.sftp_text.specs.Formats.{Step, Format, Counted, stay, after, nothing, ◌then◌, strip, put, skip, word, mark}
+use Rattle.sftp_text.specs.Formats.{Format, Counted, after, nothing, ◌then◌, strip, word, mark}
 use Rattle.sftp_text.specs.Formats.{front_number, front_uint32, numbered, ahead}
 use Rattle.sftp_text.specs.Lines.{is_printable}
 

@@ -1,20 +1,20 @@
 -- Whole files: what the text of a transcript or of a tree file is read as.
-use Rattle.std.proofs.Common.{◌≡◌, ℕ, zero, suc, ◌+◌, ◌-◌, ◌<◌, ◌≤◌, Bool, true, false, List, [], ◌∷◌, ◌++◌, length, take, drop}
+use Rattle.std.proofs.Common.{◌≡◌, ℕ, zero, suc, ◌≤◌, true, false, List, [], ◌∷◌, ◌++◌, length, take, drop}
 use Rattle.std.proofs.Common.{Option, Some, None, refl, sym, ap, subst, ◌∙◌, append_assoc, arith, inl, inr}
-use Rattle.std.specs.Prelude.{IsTrue, option_and_then, ◌==◌, codes, flat_map}
+use Rattle.std.specs.Prelude.{IsTrue, option_and_then, ◌==◌, flat_map}
 use Rattle.std.specs.List.{list_all, AllByRecursion}
 use Rattle.std.proofs.lemmas.Bool.{cond-true, cond-false, cases_Bool, eqb-true, and_parts}
-use Rattle.std.proofs.lemmas.List.{append-nil, length-append, length-drop, take-append-drop}
+use Rattle.std.proofs.lemmas.List.{append-nil, length-drop, take-append-drop}
 use Rattle.std.proofs.lemmas.Option.{option_and_then_some}
 use Rattle.sftp_wire.specs.declared.packets.Side.{Side}
 use Rattle.sftp_wire.specs.declared.packets.Side.TheVariants.{Client, Server}
 use Rattle.sftp_wire.specs.Spelling.{AreBytes}
-use Rattle.sftp_text.specs.Formats.{Format, strip}
+use Rattle.sftp_text.specs.Formats.{Format, strip, repeat, repeat_to_end}
 use Rattle.sftp_text.specs.Lines.{is_printable, whole, side_letter, side_of_letter, is_blank, text_of, text_read, transcript_opening, transcript_of, record_length, records_up_to, records_of, with_said, said_lines}
-use Rattle.sftp_text.specs.Trees.{head_text, root_text, entry_text, first_of, line_and, entry_lines, tree_lines, bytes_and, entries_read, tree_of_lines, tree_read}
+use Rattle.sftp_text.specs.Trees.{head_text, root_text, entry_text, entry_line, first_lines, show_tree, bytes_and, entries_read, tree_of_lines, tree_read}
 use Rattle.sftp_text.proofs.Exact.{some-inj, none-some, AreBytes-front, AreBytes-behind, strip-some}
 use Rattle.sftp_text.proofs.Sessions.{text_read-text_of}
-use Rattle.sftp_text.proofs.TreeLines.{LineShown, head_shown, root_shown, entry_shown}
+use Rattle.sftp_text.proofs.TreeLines.{LineShown, head-lines, root-lines, entry-lines}
 
 -- ---- transcripts
 
@@ -123,56 +123,60 @@ bytes_and-shown f bytes line left others s is =
     let add : List ℕ → Option (List ℕ) = λ more. Some (s.taken ++ more) in
     ap all s.back ∙ ap (option_and_then add) is ∙ ap (λ l. Some l) (sym s.parts)
 
-line_and-some : (line : List ℕ) (others : Option (List ℕ)) (text : List ℕ) → line_and line others ≡ Some text
-    → {P : Type 0} → ((more : List ℕ) → others ≡ Some more → line ++ (10 ∷ more) ≡ text → P) → P
-line_and-some line others text e {P} use_it =
-    option_and_then_some (λ more. Some (line ++ 10 ∷ more)) others text e (λ more is same.
-    use_it more is (some-inj (line ++ 10 ∷ more) text same))
+-- entries up to the end are read back
+entries-back : (most : ℕ) (text bytes more : List ℕ) → AreBytes bytes
+    → repeat entry_line.show most text bytes ≡ Some (more, [])
+    → (lines : List ℕ) × (more ≡ text ++ lines) × (entries_read (said_lines [] lines) ≡ Some bytes)
+entries-back zero text bytes more are e =
+    let both = some-inj (text, bytes) (more, []) e in
+    ([], sym (ap (λ m. m.0) both) ∙ sym (append-nil text), ap (λ m. Some m.1) (sym both))
+entries-back (suc most) text [] more are e =
+    let both = some-inj (text, []) (more, []) e in
+    ([], sym (ap (λ m. m.0) both) ∙ sym (append-nil text), refl)
+entries-back (suc most) text (b ∷ bytes) more are e =
+    let feed : List ℕ × List ℕ → Option (List ℕ × List ℕ) = λ m. Some (m.0 ++ 10 ∷ [], m.1) in
+    let again : List ℕ × List ℕ → Option (List ℕ × List ℕ) = λ m. repeat entry_line.show most m.0 m.1 in
+    option_and_then_some again (entry_line.show text (b ∷ bytes)) (more, []) e (λ mid mid_is rest_is.
+    option_and_then_some feed (entry_text.show text (b ∷ bytes)) mid mid_is (λ shown shown_is fed.
+    let s = entry-lines.onto text (b ∷ bytes) shown.0 shown.1 are shown_is in
+    let fit : AreBytes shown.1 = AreBytes-behind s.line_is.taken shown.1 (subst AreBytes s.line_is.parts are) in
+    let same = some-inj (shown.0 ++ 10 ∷ [], shown.1) mid fed in
+    let rest =
+    entries-back most (shown.0 ++ 10 ∷ []) shown.1 more fit
+    (ap again same ∙ rest_is)
+    in (
+      s.line ++ (10 ∷ rest.0),
+      rest.1 ∙ ap (λ l. (l ++ 10 ∷ []) ++ rest.0) s.text_is ∙ ap (λ l. l ++ rest.0) (append_assoc text s.line (10 ∷ []))
+          ∙ append_assoc text (s.line ++ 10 ∷ []) rest.0 ∙ ap (λ l. text ++ l) (append_assoc s.line (10 ∷ []) rest.0),
+      ap entries_read (said_lines-shown entry_text (b ∷ bytes) s.line shown.1 rest.0 s.line_is)
+          ∙ bytes_and-shown entry_text (b ∷ bytes) s.line shown.1 (entries_read (said_lines [] rest.0)) s.line_is rest.2,
+    )))
 
-entry_lines-back : (most : ℕ) (bytes text : List ℕ) → AreBytes bytes → entry_lines most bytes ≡ Some text
-    → entries_read (said_lines [] text) ≡ Some bytes
-entry_lines-back zero [] text are e = ap (λ l. entries_read (said_lines [] l)) (sym (some-inj [] text e))
-entry_lines-back zero (b ∷ bytes) text are e = none-some text e
-entry_lines-back (suc most) [] text are e = ap (λ l. entries_read (said_lines [] l)) (sym (some-inj [] text e))
-entry_lines-back (suc most) (b ∷ bytes) text are e =
-    let next : List ℕ × List ℕ → Option (List ℕ) = λ shown. line_and shown.0 (entry_lines most shown.1) in
-    option_and_then_some next (entry_text.show [] (b ∷ bytes)) text e (λ shown shown_is here.
-    let s = entry_shown (b ∷ bytes) shown.0 shown.1 are shown_is in
-    let fit : AreBytes shown.1 = AreBytes-behind s.taken shown.1 (subst AreBytes s.parts are) in
-    option_and_then_some (λ more. Some (shown.0 ++ 10 ∷ more)) (entry_lines most shown.1) text here (λ more more_is same.
-    let rest = entry_lines-back most shown.1 more fit more_is in
-    ap (λ l. entries_read (said_lines [] l)) (sym (some-inj (shown.0 ++ 10 ∷ more) text same))
-    ∙ ap entries_read (said_lines-shown entry_text (b ∷ bytes) shown.0 shown.1 more s)
-    ∙ bytes_and-shown entry_text (b ∷ bytes) shown.0 shown.1 (entries_read (said_lines [] more)) s rest))
-
-pub tree-back : (bytes text : List ℕ) → AreBytes bytes → tree_lines bytes ≡ Some text → tree_read text ≡ Some bytes
-unfolding tree_lines tree_read
+pub tree-back : (bytes text : List ℕ) → AreBytes bytes → show_tree [] bytes ≡ Some (text, []) → tree_read text ≡ Some bytes
+unfolding show_tree tree_read
 tree-back bytes text are e =
-    let entries : List ℕ × List ℕ → Option (List ℕ) = λ root. entry_lines (length root.1) root.1 in
-    let with_root : List ℕ → List ℕ × List ℕ → Option (List ℕ) =
-    λ head root. line_and head (line_and root.0 (entries root))
+    let feed : List ℕ × List ℕ → Option (List ℕ × List ℕ) = λ m. Some (m.0 ++ 10 ∷ [], m.1) in
+    let root_on : List ℕ × List ℕ → Option (List ℕ × List ℕ) = λ m. option_and_then feed (root_text.show m.0 m.1) in
+    let rest_on : List ℕ × List ℕ → Option (List ℕ × List ℕ) = λ m. root_on (m.0 ++ 10 ∷ [], m.1) in
+    let entries : List ℕ × List ℕ → Option (List ℕ × List ℕ) = λ m. repeat_to_end entry_line.show m.0 m.1 in
+    option_and_then_some entries (first_lines.show [] bytes) (text, []) e (λ first first_is entries_are.
+    option_and_then_some rest_on (head_text.show [] bytes) first first_is (λ head head_is after_head.
+    option_and_then_some feed (root_text.show (head.0 ++ 10 ∷ []) head.1) first after_head (λ root root_is fed.
+    let h = head-lines.onto [] bytes head.0 head.1 are head_is in
+    let fit : AreBytes head.1 = AreBytes-behind h.line_is.taken head.1 (subst AreBytes h.line_is.parts are) in
+    let r = root-lines.onto (head.0 ++ 10 ∷ []) head.1 root.0 root.1 fit root_is in
+    let root_fit : AreBytes root.1 = AreBytes-behind r.line_is.taken root.1 (subst AreBytes r.line_is.parts fit) in
+    let same = some-inj (root.0 ++ 10 ∷ [], root.1) first fed in
+    let all = entries-back (length root.1) (root.0 ++ 10 ∷ []) root.1 text root_fit (ap entries same ∙ entries_are) in
+    let text_is : text ≡ h.line ++ (10 ∷ (r.line ++ (10 ∷ all.0))) =
+    all.1 ∙ ap (λ l. (l ++ 10 ∷ []) ++ all.0) (r.text_is ∙ ap (λ l. (l ++ 10 ∷ []) ++ r.line) h.text_is)
+    ∙ append_assoc (((h.line ++ 10 ∷ []) ++ r.line)) (10 ∷ []) all.0
+    ∙ append_assoc (h.line ++ 10 ∷ []) r.line (10 ∷ all.0) ∙ append_assoc h.line (10 ∷ []) (r.line ++ (10 ∷ all.0))
     in
-    let with_head : List ℕ × List ℕ → Option (List ℕ) =
-    λ head. option_and_then (with_root head.0) (root_text.show [] head.1)
+    let below : bytes_and root_text r.line (entries_read (said_lines [] all.0)) ≡ Some head.1 =
+    bytes_and-shown root_text head.1 r.line root.1 (entries_read (said_lines [] all.0)) r.line_is all.2
     in
-    option_and_then_some with_head (head_text.show [] bytes) text e (λ head head_is after_head.
-    let h = head_shown bytes head.0 head.1 are head_is in
-    let fit : AreBytes head.1 = AreBytes-behind h.taken head.1 (subst AreBytes h.parts are) in
-    option_and_then_some (with_root head.0) (root_text.show [] head.1) text after_head (λ root root_is after_root.
-    let r = root_shown head.1 root.0 root.1 fit root_is in
-    let root_fit : AreBytes root.1 = AreBytes-behind r.taken root.1 (subst AreBytes r.parts fit) in
-    option_and_then_some (λ more. Some (head.0 ++ 10 ∷ more)) (line_and root.0 (entries root)) text after_root
-    (λ below below_is same_head.
-    option_and_then_some (λ more. Some (root.0 ++ 10 ∷ more)) (entries root) below below_is (λ lines lines_are same_root.
-    let entries_back = entry_lines-back (length root.1) root.1 lines root_fit lines_are in
-    let below_back : bytes_and root_text root.0 (entries_read (said_lines [] lines)) ≡ Some head.1 =
-    bytes_and-shown root_text head.1 root.0 root.1 (entries_read (said_lines [] lines)) r entries_back
-    in
-    let text_is : head.0 ++ (10 ∷ (root.0 ++ (10 ∷ lines))) ≡ text =
-    ap (λ l. head.0 ++ (10 ∷ l)) (some-inj (root.0 ++ 10 ∷ lines) below same_root)
-    ∙ some-inj (head.0 ++ 10 ∷ below) text same_head
-    in
-    ap (λ l. tree_of_lines (said_lines [] l)) (sym text_is)
-    ∙ ap tree_of_lines (said_lines-shown head_text bytes head.0 head.1 (root.0 ++ (10 ∷ lines)) h
-    ∙ ap (λ l. head.0 ∷ l) (said_lines-shown root_text head.1 root.0 root.1 lines r))
-    ∙ bytes_and-shown head_text bytes head.0 head.1 _ h below_back))))
+    ap (λ l. tree_of_lines (said_lines [] l)) text_is
+    ∙ ap tree_of_lines (said_lines-shown head_text bytes h.line head.1 (r.line ++ (10 ∷ all.0)) h.line_is
+    ∙ ap (λ l. h.line ∷ l) (said_lines-shown root_text head.1 r.line root.1 all.0 r.line_is))
+    ∙ bytes_and-shown head_text bytes h.line head.1 (bytes_and root_text r.line (entries_read (said_lines [] all.0))) h.line_is below)))

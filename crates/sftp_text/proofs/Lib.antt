@@ -6,6 +6,7 @@ pub mod QuotedLaws
 pub mod FlagLaws
 pub mod ListLaws
 pub mod SpaceLaws
+pub mod FileLaws
 pub mod Exact
 pub mod Repeats
 pub mod Numerals

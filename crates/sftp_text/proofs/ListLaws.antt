@@ -1,7 +1,6 @@
 -- Lists and repeated steps, one item at a time.
-use Rattle.std.proofs.Common.{◌≡◌, ◌≢◌, ℕ, zero, suc, ◌+◌, ◌-◌, ◌<◌, List, [], ◌∷◌, ◌++◌, Option, Some, None, arith, refl, sym, subst}
-use Rattle.std.specs.Prelude.{option_and_then}
-use Rattle.sftp_text.specs.Formats.{Step, Format, show_each, show_list, read_each, repeat, strip, if_found, if_any}
+use Rattle.std.proofs.Common.{◌≡◌, ◌≢◌, ℕ, zero, suc, ◌+◌, ◌-◌, ◌<◌, List, [], ◌∷◌, ◌++◌, Some, None, arith, refl, sym, subst}
+use Rattle.sftp_text.specs.Formats.{Step, Format, show_each, show_list, read_each, repeat, strip}
 
 -- an item that is shown leaves the others to be shown
 show_each-step :

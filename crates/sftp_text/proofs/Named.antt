@@ -1,9 +1,9 @@
 -- Each packet that has a spelling is shown by its name.
-use Rattle.std.proofs.Common.{◌≡◌, ℕ, ◌+◌, ◌^◌, ◌<◌, ◌≤◌, Bool, true, false, ◌&&◌, ◌||◌, List, [], ◌∷◌, ◌++◌, length, drop, take}
-use Rattle.std.proofs.Common.{Option, Some, None, refl, sym, ap, subst, ◌∙◌, append_assoc, arith, cond, inl, inr}
-use Rattle.std.specs.Prelude.{IsSome, IsTrue, option_and_then, bytes_eq, find, ◌==◌, codes}
+use Rattle.std.proofs.Common.{◌≡◌, ℕ, ◌^◌, ◌<◌, ◌≤◌, true, false, List, [], ◌∷◌, ◌++◌, length, drop, take}
+use Rattle.std.proofs.Common.{Option, Some, None, refl, sym, ap, subst, ◌∙◌, arith, cond, inl, inr}
+use Rattle.std.specs.Prelude.{IsSome, option_and_then, bytes_eq, ◌==◌, codes}
 use Rattle.std.specs.Int.{w32, from_be_bytes}
-use Rattle.std.proofs.lemmas.Bool.{cond-true, cond-false, cases_Bool, or_parts, eq-eqb, true≢false}
+use Rattle.std.proofs.lemmas.Bool.{cond-true, cases_Bool, or_parts, eq-eqb, true≢false}
 use Rattle.std.proofs.lemmas.List.{append-nil, length-append, take_at}
 use Rattle.std.proofs.lemmas.Slice.Eq.{bytes_eq-Decides}
 use Rattle.sftp_wire.specs.declared.packets.Ask.{Ask}
@@ -18,10 +18,10 @@ use Rattle.sftp_wire.specs.declared.attributes.Attrs.{Attrs as WireAttrs}
 use Rattle.sftp_wire.specs.declared.names.NameItem.{NameItem}
 use Rattle.sftp_wire.specs.Spelling as wire
 use Rattle.sftp_wire.proofs.Bytes.Numbers.{wide32}
-use Rattle.sftp_text.specs.Formats.{Format, after, stay, nothing, ◌then◌, word, mark, strip, front_uint32, if_found}
+use Rattle.sftp_text.specs.Formats.{nothing, ◌then◌, word, mark, strip, if_found}
 use Rattle.sftp_text.specs.Digits as digits
 use Rattle.sftp_text.specs.Fields.{field_text, tail_text, fields_text}
-use Rattle.sftp_text.specs.Layouts.{Row, row, every_packet, id_text, body_text, packet_text, starts, may_have, layout_of_bytes}
+use Rattle.sftp_text.specs.Layouts.{Row, row, every_packet, id_text, body_text, packet_text, starts, layout_of_bytes}
 use Rattle.sftp_text.specs.Lines.{side_letter, whole, show_whole, show_packet, named_line}
 use Rattle.sftp_text.specs.declared.layouts.PacketType.{PacketType}
 use Rattle.sftp_text.specs.declared.layouts.PacketType.TheVariants as packets
@@ -30,7 +30,7 @@ use Rattle.sftp_text.specs.declared.layouts.Field.TheVariants.{Number, Long, Fla
 use Rattle.sftp_text.specs.declared.layouts.Tail.{Tail}
 use Rattle.sftp_text.specs.declared.layouts.Tail.TheVariants.{Nothing, Attrs, Pairs, Names, Message, Rest}
 use Rattle.sftp_text.proofs.Exact.{strip-some}
-use Rattle.sftp_text.proofs.Shows.{Goes, Takes, TakesAll, all_from_front, after-takes, after-all, mark-takes, word_then-takes, front_uint32-spelled}
+use Rattle.sftp_text.proofs.Shows.{Takes, TakesAll, all_from_front, after-all, mark-takes, word_then-takes, front_uint32-spelled}
 use Rattle.sftp_text.proofs.Shows.{number-takes, long-takes, flags-takes, string_text-takes, pairs-all, attributes-takes, names-takes, message-all, rest-all}
 
 -- ---- fields and what comes after them

@@ -1,25 +1,23 @@
 -- Numbers are read back: decimal, octal and flags.
-use Rattle.std.proofs.Common.{◌≡◌, ℕ, zero, suc, ◌+◌, ◌-◌, ◌*◌, ◌^◌, ◌<◌, ◌≤◌, Bool, true, false, ◌&&◌, ◌||◌, not, List, [], ◌∷◌, ◌++◌, length}
-use Rattle.std.proofs.Common.{Option, Some, None, refl, sym, ap, subst, ◌∙◌, append_assoc, arith, inl, inr, cond}
-use Rattle.std.specs.Prelude.{IsTrue, IsFalse, option_and_then, ◌==◌, nat_le, nat_lt, decimal, bytes_eq, is_some}
+use Rattle.std.proofs.Common.{◌≡◌, ℕ, ◌+◌, ◌-◌, ◌*◌, ◌^◌, ◌<◌, ◌≤◌, Bool, true, false, ◌&&◌, ◌||◌, not, List, [], ◌∷◌, ◌++◌}
+use Rattle.std.proofs.Common.{Option, Some, None, refl, sym, ap, subst, ◌∙◌, arith, inl, inr, cond}
+use Rattle.std.specs.Prelude.{IsTrue, option_and_then, ◌==◌, nat_le, nat_lt, decimal}
 use Rattle.std.specs.Char.{digit_value}
 use Rattle.std.specs.Fmt.{digits}
 use Rattle.std.specs.Int.{w32, w64, from_be_bytes, to_be_bytes, IsInRange}
 use Rattle.std.specs.List.{list_all}
 use Rattle.std.specs.Str.Parse.{IsNumeral, AllDigits, digits_value, digits_value_after}
-use Rattle.std.proofs.lemmas.Bool.{cond-true, cond-false, cases_Bool, and_from, and_parts, eqb-true, eq-eqb, leb-true, lt-ltb, ltb-true, le-leb, lt-leb, le-ltb, and_left, and_right, agree_below, agree_below_at}
+use Rattle.std.proofs.lemmas.Bool.{cond-true, cond-false, cases_Bool, and_from, and_parts, eqb-true, leb-true, lt-ltb, ltb-true, le-leb, agree_below_at}
 use Rattle.std.proofs.lemmas.Fmt.{digits_is_IsNumeral, decimal_is_IsNumeral}
-use Rattle.std.proofs.lemmas.List.{append-nil, length-take, take-append-drop}
 use Rattle.std.proofs.lemmas.Option.{option_and_then_some}
 use Rattle.std.proofs.lemmas.Str.{digit_value_digit}
 use Rattle.std.proofs.lemmas.Str.Parse.{digit_from_value}
-use Rattle.sftp_wire.specs.Spelling.{AreBytes}
 use Rattle.sftp_wire.proofs.Bytes.Numbers.{wide32, wide64}
-use Rattle.sftp_text.specs.Formats.{Step, Format, front_number}
+use Rattle.sftp_text.specs.Formats.{front_number}
 use Rattle.sftp_text.specs.Digits.{is_digit, digits_from, number_in, decimal_in, octal_text, octal_in, flags_text, flags_from, flags_in, flag_names, with_flag, is_letter}
 use Rattle.sftp_text.specs.Digits.{four_bytes, eight_bytes, number, long, octal, flags}
 use Rattle.sftp_text.specs.Lines.{is_printable}
-use Rattle.sftp_text.proofs.Exact.{some-inj, Shown, IsExact, front_number-some}
+use Rattle.sftp_text.proofs.Exact.{some-inj, IsExact, front_number-some}
 
 -- ---- what may stand behind a number
 

@@ -1,29 +1,25 @@
 -- The fields of packets are read back.
-use Rattle.std.proofs.Common.{◌≡◌, ℕ, zero, suc, ◌+◌, ◌^◌, ◌<◌, ◌≤◌, Bool, true, false, ◌&&◌, ◌||◌, List, [], ◌∷◌, ◌++◌, length}
-use Rattle.std.proofs.Common.{Option, Some, None, refl, sym, ap, subst, ◌∙◌, append_assoc, arith, inl, inr, cond, ◌⊎◌}
+use Rattle.std.proofs.Common.{◌≡◌, ℕ, ◌+◌, ◌^◌, ◌<◌, Bool, true, false, ◌&&◌, List, [], ◌∷◌, ◌++◌}
+use Rattle.std.proofs.Common.{Option, Some, None, refl, sym, ap, subst, ◌∙◌, append_assoc, arith, inl, inr, cond}
 use Rattle.std.specs.Prelude.{IsTrue, IsFalse, option_and_then, ◌==◌, codes, decimal, is_some}
 use Rattle.std.specs.List.{list_all, list_any}
-use Rattle.std.proofs.lemmas.Bool.{cond-true, cond-false, cases_Bool, and_from, and_parts, eqb-true, eq-eqb, or_cases, or_left, or_right, true≢false}
+use Rattle.std.proofs.lemmas.Bool.{cond-true, cond-false, cases_Bool, and_from, and_parts, eqb-true, eq-eqb, or_left, or_right, true≢false}
 use Rattle.std.proofs.lemmas.List.{append-nil}
 use Rattle.std.proofs.lemmas.Option.{option_and_then_some}
 use Rattle.sftp_wire.specs.declared.attributes.Attrs.{Attrs as WireAttrs}
-use Rattle.sftp_wire.specs.Spelling.{AreBytes, attribute_flags, flag}
+use Rattle.sftp_wire.specs.Spelling.{AreBytes, flag}
 use Rattle.sftp_wire.specs.Reading.{has_flag, are_known}
 use Rattle.sftp_wire.proofs.FieldLaws.Flags.{attribute_flags-are, SaysFields}
-use Rattle.sftp_text.specs.Formats.{Format, Counted, nothing, ◌then◌, word, strip, stay, after, ahead, begins_with, if_found, if_any, listed, to_end}
-use Rattle.sftp_text.specs.Digits.{number, long, octal, flags, flags_text, octal_text}
-use Rattle.sftp_text.specs.Quoted.{string_text, rest_text}
+use Rattle.sftp_text.specs.Formats.{Format, ◌then◌, word, strip, stay, begins_with, if_found, listed}
+use Rattle.sftp_text.specs.Digits.{number}
+use Rattle.sftp_text.specs.Quoted.{string_text}
 use Rattle.sftp_text.specs.Fields.{two_numbers, pair, pairs, counted_pairs, Part, attribute_parts, show_part, read_part, show_parts, read_parts, and_flag}
-use Rattle.sftp_text.specs.Fields.{known_parts, attributes, name_item, names, no_message, two_texts, message, field_text, tail_text, fields_text}
+use Rattle.sftp_text.specs.Fields.{known_parts, attributes}
 use Rattle.sftp_text.specs.Lines.{is_printable}
-use Rattle.sftp_text.specs.declared.layouts.Field.{Field}
-use Rattle.sftp_text.specs.declared.layouts.Field.TheVariants.{Number, Long, Flags, Text}
-use Rattle.sftp_text.specs.declared.layouts.Tail.{Tail}
-use Rattle.sftp_text.specs.declared.layouts.Tail.TheVariants.{Nothing, Attrs, Pairs, Names, Message, Rest}
-use Rattle.sftp_text.proofs.Exact.{some-inj, none-some, AreBytes-behind, printable-append, strip-same, strip-some, Shown, IsExact, IsExact-weaken, then-exact, word-exact, nothing-exact, Behind, CountedShown, IsExactCounted, ahead-exact}
-use Rattle.sftp_text.proofs.Numerals.{ends_word, EndsWord, NumberFront, number-exact, long-exact, octal-exact, flags-exact}
-use Rattle.sftp_text.proofs.Strings.{StartsQuoted, string_text-exact, rest_text-exact}
-use Rattle.sftp_text.proofs.Repeats.{Separates, ListFront, with_item, no_items, listed-exact, IsEnd, EndFront, separated, ended, to_end-exact}
+use Rattle.sftp_text.proofs.Exact.{some-inj, none-some, AreBytes-behind, printable-append, strip-same, IsExact, IsExact-weaken, then-exact, word-exact, Behind, IsExactCounted, ahead-exact}
+use Rattle.sftp_text.proofs.Numerals.{EndsWord, NumberFront, number-exact, long-exact, octal-exact}
+use Rattle.sftp_text.proofs.Strings.{StartsQuoted, string_text-exact}
+use Rattle.sftp_text.proofs.Repeats.{Separates, ListFront, listed-exact, IsEnd, EndFront, to_end-exact}
 
 -- anything may follow
 abbrev pub Anything : List ℕ → Type 0

@@ -1,5 +1,5 @@
 -- Lists with separators, and items up to the end.
-use Rattle.std.proofs.Common.{◌≡◌, ℕ, zero, suc, ◌+◌, ◌^◌, ◌<◌, ◌≤◌, Bool, true, false, List, [], ◌∷◌, ◌++◌, length}
+use Rattle.std.proofs.Common.{◌≡◌, ℕ, zero, suc, ◌+◌, ◌^◌, ◌<◌, ◌≤◌, List, [], ◌∷◌, ◌++◌, length}
 use Rattle.std.proofs.Common.{Option, Some, None, refl, sym, ap, subst, ◌∙◌, append_assoc, arith}
 use Rattle.std.specs.Prelude.{IsTrue, IsFalse, option_and_then}
 use Rattle.std.specs.List.{list_all}
@@ -7,10 +7,10 @@ use Rattle.std.proofs.lemmas.Bool.{cond-true, cond-false}
 use Rattle.std.proofs.lemmas.List.{append-nil, length-append}
 use Rattle.std.proofs.lemmas.Option.{option_and_then_some}
 use Rattle.sftp_wire.specs.Spelling.{AreBytes}
-use Rattle.sftp_text.specs.Formats.{Step, Format, Counted, stay, after, ◌then◌, strip, word, if_found, if_any, begins_with}
+use Rattle.sftp_text.specs.Formats.{Step, Format, ◌then◌, strip, word, if_found, begins_with}
 use Rattle.sftp_text.specs.Formats.{show_each, show_list, read_each, read_list, listed, repeat, repeat_to_end, to_end}
 use Rattle.sftp_text.specs.Lines.{is_printable}
-use Rattle.sftp_text.proofs.Exact.{some-inj, none-some, AreBytes-behind, printable-append, strip-same, Shown, IsExact}
+use Rattle.sftp_text.proofs.Exact.{some-inj, AreBytes-behind, printable-append, strip-same, IsExact}
 use Rattle.sftp_text.proofs.Exact.{CountedShown, IsExactCounted}
 
 abbrev Found : Type 0

@@ -1,15 +1,15 @@
 -- The text of a session is read as that session.
-use Rattle.std.proofs.Common.{◌≡◌, ℕ, ◌+◌, Bool, true, false, List, [], ◌∷◌, ◌++◌, length}
-use Rattle.std.proofs.Common.{Option, Some, None, refl, sym, ap, subst, ◌∙◌, append_assoc, inl, inr}
-use Rattle.std.specs.Prelude.{IsTrue, option_and_then, ◌==◌, codes}
+use Rattle.std.proofs.Common.{◌≡◌, ℕ, true, false, List, [], ◌∷◌, ◌++◌}
+use Rattle.std.proofs.Common.{Option, Some, refl, sym, ap, subst, ◌∙◌, append_assoc, inl, inr}
+use Rattle.std.specs.Prelude.{IsTrue, option_and_then, ◌==◌}
 use Rattle.std.specs.List.{list_all, AllByRecursion}
-use Rattle.std.proofs.lemmas.Bool.{cond-true, cond-false, cases_Bool, eqb-true, and_parts}
+use Rattle.std.proofs.lemmas.Bool.{cond-false, cases_Bool, eqb-true, and_parts}
 use Rattle.std.proofs.lemmas.List.{append-nil}
 use Rattle.sftp_wire.specs.declared.packets.Side.{Side}
 use Rattle.sftp_wire.specs.Spelling.{AreBytes}
 use Rattle.sftp_text.specs.Lines.{is_printable, line_of, line_read, side_of_letter, bytes_of_text, text_of, is_blank, and_others, with_line, lines_read, text_read}
 use Rattle.sftp_text.proofs.Exact.{none-some}
-use Rattle.sftp_text.proofs.Written.{IsLine, line-IsLine}
+use Rattle.sftp_text.proofs.Written.{line-IsLine}
 
 -- a line up to its line feed
 lines_read-line : (done line text : List ℕ) → IsTrue (list_all is_printable line)

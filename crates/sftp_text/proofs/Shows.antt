@@ -1,6 +1,6 @@
 -- What is spelled in bytes is shown.
-use Rattle.std.proofs.Common.{◌≡◌, ℕ, zero, suc, ◌+◌, ◌^◌, ◌<◌, ◌≤◌, Bool, true, false, List, [], ◌∷◌, ◌++◌, length, take, drop}
-use Rattle.std.proofs.Common.{Option, Some, None, refl, sym, ap, subst, ◌∙◌, append_assoc, arith, cond}
+use Rattle.std.proofs.Common.{◌≡◌, ℕ, zero, suc, ◌^◌, ◌<◌, ◌≤◌, true, List, [], ◌∷◌, ◌++◌, length, take, drop}
+use Rattle.std.proofs.Common.{Option, Some, None, refl, sym, ap, subst, ◌∙◌, append_assoc, arith}
 use Rattle.std.specs.Prelude.{IfSome, option_and_then, nat_le, codes, decimal, is_some}
 use Rattle.std.specs.Int.{Width, w32, w64, byte_len, from_be_bytes, to_be_bytes}
 use Rattle.std.specs.List.{flat_map, AllByRecursion}
@@ -12,12 +12,12 @@ use Rattle.sftp_wire.specs.Spelling as wire
 use Rattle.sftp_wire.specs.Reading.{has_flag, are_known}
 use Rattle.sftp_wire.proofs.Bytes.Numbers.{IsWide, wide32, wide64}
 use Rattle.sftp_wire.proofs.FieldLaws.Flags.{attribute_flags-say, attribute_flags-known}
-use Rattle.sftp_text.specs.Formats.{Step, Format, Counted, stay, after, nothing, ◌then◌, word, mark, strip, front_number, front_uint32, ahead, if_found, if_any}
-use Rattle.sftp_text.specs.Formats.{show_each, show_list, listed, repeat, repeat_to_end, to_end}
+use Rattle.sftp_text.specs.Formats.{Step, Format, Counted, stay, after, ◌then◌, word, mark, strip, front_number, front_uint32, ahead, if_found}
+use Rattle.sftp_text.specs.Formats.{show_each, show_list, listed, repeat}
 use Rattle.sftp_text.specs.Digits.{four_bytes, eight_bytes, decimal_in, octal_text, octal_in, flags_text, flags_in, number, long, octal, flags}
 use Rattle.sftp_text.specs.Quoted.{quoted, counted_text, string_text, rest_text}
 use Rattle.sftp_text.specs.Fields.{two_numbers, pair, pairs, counted_pairs, Part, part, attribute_parts, show_part, show_parts, known_parts, attributes, name_item, names, no_message, two_texts, message}
-use Rattle.sftp_text.proofs.Exact.{some-inj, none-some, strip-same, strip-some}
+use Rattle.sftp_text.proofs.Exact.{strip-same, strip-some}
 
 -- the step takes the bytes that are in front of what it leaves
 pub record Goes (s : Step) (text bytes left : List ℕ) : Type 0 where

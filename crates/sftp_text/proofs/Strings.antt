@@ -1,19 +1,18 @@
 -- Texts in quotes and hexadecimal digits are read back.
-use Rattle.std.proofs.Common.{◌≡◌, ℕ, zero, suc, ◌+◌, ◌-◌, ◌*◌, ◌/◌, ◌%◌, ◌^◌, ◌<◌, ◌≤◌, Bool, true, false, ◌&&◌, ◌||◌, not, List, [], ◌∷◌, ◌++◌, length}
-use Rattle.std.proofs.Common.{Option, Some, None, refl, sym, ap, subst, ◌∙◌, append_assoc, arith, inl, inr, cond, take, drop}
-use Rattle.std.specs.Prelude.{IsTrue, option_and_then, ◌==◌, nat_le, nat_lt}
+use Rattle.std.proofs.Common.{◌≡◌, ℕ, ◌+◌, ◌*◌, ◌/◌, ◌%◌, ◌<◌, Bool, true, false, ◌&&◌, not, List, [], ◌∷◌, ◌++◌, length}
+use Rattle.std.proofs.Common.{Option, Some, None, refl, sym, ap, subst, ◌∙◌, append_assoc, arith, inl, inr, take, drop}
+use Rattle.std.specs.Prelude.{IsTrue, option_and_then, ◌==◌, nat_le}
 use Rattle.std.specs.List.{list_all, flat_map}
-use Rattle.std.proofs.lemmas.Bool.{cond-true, cond-false, cases_Bool, and_from, and_parts, eqb-true, leb-true, agree_below_at}
+use Rattle.std.proofs.lemmas.Bool.{cond-true, cond-false, cases_Bool, and_parts, eqb-true, leb-true, agree_below_at}
 use Rattle.std.proofs.lemmas.List.{append-nil, length-take, take-append-drop}
-use Rattle.std.proofs.lemmas.Option.{option_and_then_some}
 use Rattle.sftp_wire.specs.Spelling.{AreBytes}
-use Rattle.sftp_text.specs.Formats.{Format, Counted, begins_with}
+use Rattle.sftp_text.specs.Formats.{begins_with}
 use Rattle.sftp_text.specs.Quoted.{hex_digit, hex_value, hex_byte, hex_text, byte_of, hex_onto, is_plain, byte_text, quoted}
 use Rattle.sftp_text.specs.Quoted.{Place, Effect, effect_of, with_effect, unquoted, text_in, rest_text, counted_text, string_text, or_refuse}
 use Rattle.sftp_text.specs.Quoted.Place.{Plain, Escape, FirstDigit, SecondDigit}
 use Rattle.sftp_text.specs.Quoted.Effect.{Close, Refuse, Go, Give}
 use Rattle.sftp_text.specs.Lines.{is_printable}
-use Rattle.sftp_text.proofs.Exact.{some-inj, none-some, printable-append, AreBytes-front, Shown, IsExact, CountedShown, IsExactCounted, ahead-exact}
+use Rattle.sftp_text.proofs.Exact.{some-inj, none-some, printable-append, AreBytes-front, IsExact, IsExactCounted, ahead-exact}
 
 -- ---- the digits of a byte
 

@@ -1,26 +1,23 @@
 -- Fields, and what comes after them, are read back.
-use Rattle.std.proofs.Common.{◌≡◌, ℕ, ◌+◌, ◌^◌, ◌<◌, Bool, true, false, List, [], ◌∷◌, ◌++◌, length}
-use Rattle.std.proofs.Common.{Option, Some, None, refl, sym, ap, subst, ◌∙◌, append_assoc, arith}
-use Rattle.std.specs.Prelude.{IsTrue, IsFalse, ◌==◌, codes, decimal}
-use Rattle.std.specs.List.{list_all}
+use Rattle.std.proofs.Common.{◌≡◌, ℕ, Bool, true, List, [], ◌∷◌, ◌++◌}
+use Rattle.std.proofs.Common.{Option, Some, None, refl, sym, ap, subst, ◌∙◌, arith}
+use Rattle.std.specs.Prelude.{IsTrue, IsFalse, ◌==◌, codes}
 use Rattle.std.proofs.lemmas.Bool.{eqb-true, and_parts}
 use Rattle.std.proofs.lemmas.List.{append-nil}
 use Rattle.sftp_wire.specs.Spelling.{AreBytes}
-use Rattle.sftp_text.specs.Formats.{Format, nothing, ◌then◌, word, strip, ahead, begins_with, if_found, if_any, listed, to_end}
-use Rattle.sftp_text.specs.Digits.{number, long, octal, flags, flags_text, octal_text}
+use Rattle.sftp_text.specs.Formats.{nothing, ◌then◌, word, strip, begins_with, if_found, if_any, listed}
 use Rattle.sftp_text.specs.Quoted.{string_text, rest_text}
-use Rattle.sftp_text.specs.Fields.{pair, pairs, attributes, name_item, names, no_message, two_texts, message}
+use Rattle.sftp_text.specs.Fields.{pairs, attributes, name_item, names, no_message, two_texts, message}
 use Rattle.sftp_text.specs.Fields.{field_text, tail_text, fields_text}
-use Rattle.sftp_text.specs.Lines.{is_printable}
 use Rattle.sftp_text.specs.declared.layouts.Field.{Field}
 use Rattle.sftp_text.specs.declared.layouts.Field.TheVariants.{Number, Long, Flags, Text}
 use Rattle.sftp_text.specs.declared.layouts.Tail.{Tail}
 use Rattle.sftp_text.specs.declared.layouts.Tail.TheVariants.{Nothing, Attrs, Pairs, Names, Message, Rest}
-use Rattle.sftp_text.proofs.Exact.{some-inj, none-some, strip-some, Shown, IsExact, IsExact-weaken, then-exact, word-exact, nothing-exact, Behind, ahead-exact}
-use Rattle.sftp_text.proofs.Numerals.{EndsWord, NumberFront, number-exact, long-exact, octal-exact, flags-exact}
+use Rattle.sftp_text.proofs.Exact.{some-inj, strip-some, Shown, IsExact, IsExact-weaken, then-exact, nothing-exact, Behind, ahead-exact}
+use Rattle.sftp_text.proofs.Numerals.{EndsWord, number-exact, long-exact, flags-exact}
 use Rattle.sftp_text.proofs.Strings.{StartsQuoted, string_text-exact, rest_text-exact}
-use Rattle.sftp_text.proofs.Repeats.{Separates, ListFront, with_item, no_items, listed-exact, IsEnd, EndFront, separated, ended, to_end-exact}
-use Rattle.sftp_text.proofs.Parts.{Anything, behind_word, Behind-ends, pairs-exact, EndsFields, LabelFront, labelled, unlabelled, label_front, attribute_initials, attributes-exact}
+use Rattle.sftp_text.proofs.Repeats.{Separates, ListFront, with_item, no_items, listed-exact, IsEnd, EndFront, separated, ended}
+use Rattle.sftp_text.proofs.Parts.{Anything, behind_word, pairs-exact, EndsFields, LabelFront, labelled, unlabelled, label_front, attribute_initials, attributes-exact}
 
 -- ---- names of a directory
 

@@ -1,7 +1,7 @@
 -- The lines of a tree file are read as the bytes that they show.
-use Rattle.std.proofs.Common.{◌≡◌, ℕ, ◌+◌, ◌^◌, ◌<◌, Bool, true, false, ◌&&◌, List, [], ◌∷◌, ◌++◌, length, drop}
-use Rattle.std.proofs.Common.{Option, Some, None, refl, sym, ap, subst, ◌∙◌, append_assoc, inl, inr, cond}
-use Rattle.std.specs.Prelude.{IsTrue, option_and_then, ◌==◌, codes, decimal}
+use Rattle.std.proofs.Common.{◌≡◌, ℕ, true, false, ◌&&◌, List, [], ◌∷◌, ◌++◌}
+use Rattle.std.proofs.Common.{Option, Some, refl, sym, ap, subst, ◌∙◌, inl, inr}
+use Rattle.std.specs.Prelude.{IsTrue, option_and_then, ◌==◌, codes}
 use Rattle.std.specs.List.{list_all}
 use Rattle.std.proofs.lemmas.Bool.{cond-true, cond-false, cases_Bool, eqb-true}
 use Rattle.std.proofs.lemmas.List.{append-nil}
@@ -10,13 +10,13 @@ use Rattle.sftp_wire.specs.Spelling.{AreBytes}
 use Rattle.sftp_text.specs.Formats.{Format, ◌then◌, word, mark, ReadsBack}
 use Rattle.sftp_text.specs.Digits.{number, octal}
 use Rattle.sftp_text.specs.Quoted.{string_text}
-use Rattle.sftp_text.specs.Trees.{owner_text, head_text, root_text, kind_text, entry_of, first_of, kind_behind, entry_text}
+use Rattle.sftp_text.specs.Trees.{owner_text, head_text, root_text, kind_text, entry_of, first_of, kind_behind, show_kind, read_kind, entry_text}
 use Rattle.sftp_text.specs.Lines.{is_printable, is_blank}
-use Rattle.sftp_text.proofs.Exact.{some-inj, none-some, Shown, IsExact, IsExact-weaken, then-exact, word-exact, mark-exact, Behind}
-use Rattle.sftp_text.proofs.Numerals.{EndsWord, NumberFront, number-exact, octal-exact}
+use Rattle.sftp_text.proofs.Exact.{some-inj, none-some, IsExact, IsExact-weaken, then-exact, mark-exact, Behind}
+use Rattle.sftp_text.proofs.Numerals.{number-exact, octal-exact}
 use Rattle.sftp_text.proofs.Strings.{StartsQuoted, string_text-exact}
 use Rattle.sftp_text.proofs.Repeats.{IsEnd}
-use Rattle.sftp_text.proofs.Parts.{Anything, behind_word}
+use Rattle.sftp_text.proofs.Parts.{behind_word}
 use Rattle.sftp_text.proofs.Tails.{SpaceFront, space-behind, space-ends}
 
 -- what is known of the line that a format shows of what is in front of bytes
@@ -31,21 +31,34 @@ pub record LineShown (f : Format) (bytes line left : List ℕ) : Type 0 where
 abbrev pub IsSaid : List ℕ → Type 0
 IsSaid l = is_blank l ≡ false
 
-line_shown : (f : Format) → IsExact f IsSaid IsEnd → (bytes line left : List ℕ) → AreBytes bytes
-    → f.show [] bytes ≡ Some (line, left) → LineShown f bytes line left
-line_shown f p bytes line left are e =
-    let s = p.exact [] bytes line left are e in
-    let whole : line ≡ s.shown ++ [] = s.text_is ∙ sym (append-nil s.shown) in
-    record {
-      taken = s.taken;
-      parts = s.bytes_are;
-      back = ap (f.read []) whole ∙ s.back [] [] refl;
-      printable = ap (list_all is_printable) s.text_is ∙ s.printable;
-      said = ap is_blank whole ∙ s.front [] refl;
-    }
+-- a line that a format appends to a text
+pub record LineOnto (f : Format) (bytes text more left : List ℕ) : Type 0 where
+  pub line : List ℕ
+  pub text_is : more ≡ text ++ line
+  pub line_is : LineShown f bytes line left
 
-ReadsBack-from : (f : Format) (bytes line left : List ℕ) → LineShown f bytes line left → ReadsBack f bytes line left
-ReadsBack-from f bytes line left s = record { taken = s.taken; parts = s.parts; back = s.back }
+-- what a format shows is a line that says something, and is read back
+pub record LinesExact (f : Format) : Type 0 where
+  pub onto : (text bytes more left : List ℕ) → AreBytes bytes → f.show text bytes ≡ Some (more, left)
+      → LineOnto f bytes text more left
+
+lines_exact : (f : Format) → IsExact f IsSaid IsEnd → LinesExact f
+lines_exact f p = record {
+  onto = λ text bytes more left are e.
+      let s = p.exact text bytes more left are e in
+      let alone : s.shown ≡ s.shown ++ [] = sym (append-nil s.shown) in
+      record {
+        line = s.shown;
+        text_is = s.text_is;
+        line_is = record {
+          taken = s.taken;
+          parts = s.bytes_are;
+          back = ap (f.read []) alone ∙ s.back [] [] refl;
+          printable = s.printable;
+          said = ap is_blank alone ∙ s.front [] refl;
+        };
+      };
+}
 
 end-space : (l : List ℕ) → IsEnd l → SpaceFront l
 end-space l e = subst SpaceFront (sym e) refl
@@ -161,13 +174,11 @@ entry_of-exact kind fields is =
 
 -- ---- the lines of a tree file
 
-pub head_shown : (bytes line left : List ℕ) → AreBytes bytes → head_text.show [] bytes ≡ Some (line, left)
-    → LineShown head_text bytes line left
-head_shown = line_shown head_text head_text-exact
+pub head-lines : LinesExact head_text
+head-lines = lines_exact head_text head_text-exact
 
-pub root_shown : (bytes line left : List ℕ) → AreBytes bytes → root_text.show [] bytes ≡ Some (line, left)
-    → LineShown root_text bytes line left
-root_shown = line_shown root_text root_text-exact
+pub root-lines : LinesExact root_text
+root-lines = lines_exact root_text root_text-exact
 
 -- the letter of a kind is first in a line that says something
 said-kind : (kind : ℕ) (fields : Format) (l : List ℕ) → IsKind kind fields → first_of l ≡ Some kind → is_blank l ≡ false
@@ -175,43 +186,48 @@ said-kind kind fields [] is e = none-some kind e
 said-kind kind fields (c ∷ l) is e =
     ap (λ b. is_blank (b ∷ l)) (some-inj c kind e) ∙ is.said l
 
-pub entry_shown : (bytes line left : List ℕ) → AreBytes bytes → entry_text.show [] bytes ≡ Some (line, left)
-    → LineShown entry_text bytes line left
+pub entry-lines : LinesExact entry_text
 unfolding entry_text
-entry_shown bytes line left are e =
-    let with_kind : ℕ → Option (List ℕ × List ℕ) =
-    λ kind. option_and_then (λ fields. (entry_of kind fields).show [] bytes) (kind_text kind)
-    in
-    option_and_then_some with_kind (kind_behind bytes) (line, left) e (λ kind kind_is here.
-    option_and_then_some (λ fields. (entry_of kind fields).show [] bytes) (kind_text kind) (line, left) here
-    (λ fields fields_are shows.
-    let is = kind_text-some kind fields fields_are in
-    let s = (entry_of-exact kind fields is).exact [] bytes line left are shows in
-    let whole : line ≡ s.shown ++ [] = s.text_is ∙ sym (append-nil s.shown) in
-    let read_kind : ℕ → Option (List ℕ × List ℕ) =
-    λ k. option_and_then (λ f. (entry_of k f).read [] (s.shown ++ [])) (kind_text k)
-    in
-    let read_fields : Format → Option (List ℕ × List ℕ) = λ f. (entry_of kind f).read [] (s.shown ++ []) in
-    record {
-      taken = s.taken;
-      parts = s.bytes_are;
-      back =
-          ap (entry_text.read []) whole ∙ ap (option_and_then read_kind) (s.front [] refl)
-          ∙ ap (option_and_then read_fields) fields_are ∙ s.back [] [] refl;
-      printable = ap (list_all is_printable) s.text_is ∙ s.printable;
-      said = ap is_blank whole ∙ said-kind kind fields (s.shown ++ []) is (s.front [] refl);
-    }))
+entry-lines = record {
+  onto = λ text bytes more left are e.
+      option_and_then_some (show_kind text bytes) (kind_behind bytes) (more, left) e (λ kind kind_is here.
+      option_and_then_some (λ fields. (entry_of kind fields).show text bytes) (kind_text kind) (more, left) here
+      (λ fields fields_are shows.
+      let is = kind_text-some kind fields fields_are in
+      let s = (entry_of-exact kind fields is).exact text bytes more left are shows in
+      let alone : s.shown ≡ s.shown ++ [] = sym (append-nil s.shown) in
+      let read_fields : Format → Option (List ℕ × List ℕ) = λ f. (entry_of kind f).read [] (s.shown ++ []) in
+      record {
+        line = s.shown;
+        text_is = s.text_is;
+        line_is = record {
+          taken = s.taken;
+          parts = s.bytes_are;
+          back =
+              ap (entry_text.read []) alone ∙ ap (option_and_then (read_kind [] (s.shown ++ []))) (s.front [] refl)
+              ∙ ap (option_and_then read_fields) fields_are ∙ s.back [] [] refl;
+          printable = s.printable;
+          said = ap is_blank alone ∙ said-kind kind fields (s.shown ++ []) is (s.front [] refl);
+        };
+      }));
+}
 
 -- ---- what is published
 
+back-from : (f : Format) → LinesExact f → (bytes line left : List ℕ) → AreBytes bytes → f.show [] bytes ≡ Some (line, left)
+    → ReadsBack f bytes line left
+back-from f p bytes line left are e =
+    let s = p.onto [] bytes line left are e in
+    record { taken = s.line_is.taken; parts = s.line_is.parts; back = ap (f.read []) s.text_is ∙ s.line_is.back }
+
 pub heads_back : (bytes line left : List ℕ) → AreBytes bytes → head_text.show [] bytes ≡ Some (line, left)
     → ReadsBack head_text bytes line left
-heads_back bytes line left are e = ReadsBack-from head_text bytes line left (head_shown bytes line left are e)
+heads_back = back-from head_text head-lines
 
 pub roots_back : (bytes line left : List ℕ) → AreBytes bytes → root_text.show [] bytes ≡ Some (line, left)
     → ReadsBack root_text bytes line left
-roots_back bytes line left are e = ReadsBack-from root_text bytes line left (root_shown bytes line left are e)
+roots_back = back-from root_text root-lines
 
 pub entries_back : (bytes line left : List ℕ) → AreBytes bytes → entry_text.show [] bytes ≡ Some (line, left)
     → ReadsBack entry_text bytes line left
-entries_back bytes line left are e = ReadsBack-from entry_text bytes line left (entry_shown bytes line left are e)
+entries_back = back-from entry_text entry-lines

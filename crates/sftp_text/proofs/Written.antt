@@ -1,6 +1,6 @@
 -- The line of a record is read as its side and its bytes, and is printable.
-use Rattle.std.proofs.Common.{◌≡◌, ℕ, ◌+◌, ◌^◌, ◌<◌, ◌≤◌, Bool, true, false, List, [], ◌∷◌, ◌++◌, length}
-use Rattle.std.proofs.Common.{Option, Some, None, refl, sym, ap, subst, ◌∙◌, append_assoc, arith, inl, inr, cond}
+use Rattle.std.proofs.Common.{◌≡◌, ℕ, ◌^◌, ◌<◌, List, [], ◌∷◌, ◌++◌, length}
+use Rattle.std.proofs.Common.{Option, Some, None, refl, sym, ap, subst, ◌∙◌, arith, inl, inr, cond}
 use Rattle.std.specs.Prelude.{IsTrue, option_and_then, ◌==◌, codes, nat_lt}
 use Rattle.std.specs.List.{list_all}
 use Rattle.std.specs.Int.{w32, to_be_bytes}
@@ -10,15 +10,14 @@ use Rattle.sftp_wire.specs.declared.packets.Side.{Side}
 use Rattle.sftp_wire.specs.declared.packets.Side.TheVariants.{Client, Server}
 use Rattle.sftp_wire.specs.Spelling.{AreBytes}
 use Rattle.sftp_wire.proofs.Bytes.Numbers.{wide32}
-use Rattle.sftp_text.specs.Formats.{Format, front_uint32, if_found, if_any}
-use Rattle.sftp_text.specs.Quoted.{hex_text}
-use Rattle.sftp_text.specs.Layouts.{Row, row, packet_text, layout_of_bytes, layout_of_text}
+use Rattle.sftp_text.specs.Formats.{front_uint32, if_found}
+use Rattle.sftp_text.specs.Layouts.{row, packet_text, layout_of_bytes, layout_of_text}
 use Rattle.sftp_text.specs.Lines.{is_printable, whole, digits_text, raw_text, digits_read, raw_read, side_letter, show_whole, show_packet, named_line, line_of}
 use Rattle.sftp_text.specs.Lines.{side_of_letter, with_length, read_packet, bytes_of_text, line_read}
 use Rattle.sftp_text.specs.declared.layouts.PacketType.{PacketType}
-use Rattle.sftp_text.proofs.Exact.{some-inj, none-some, AreBytes-behind, printable-append, Shown, IsExact, front_number-some}
+use Rattle.sftp_text.proofs.Exact.{some-inj, none-some, AreBytes-behind, printable-append, front_number-some}
 use Rattle.sftp_text.proofs.Strings.{hex_onto-text, hex_text-printable}
-use Rattle.sftp_text.proofs.Bodies.{packet_text-exact, layout-side, layout_of_text-named, named_packet, no_raw}
+use Rattle.sftp_text.proofs.Bodies.{packet_text-exact, layout-side, layout_of_text-named, no_raw}
 
 -- what is known of the line of a record
 pub record IsLine (side : Side) (bytes line : List ℕ) : Type 0 where

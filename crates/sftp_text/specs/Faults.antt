@@ -1,6 +1,5 @@
 -- Where a line stops being one.
 use Rattle.std.specs.Prelude.{◌≡◌, ℕ}
-use Rattle.sftp_text.specs.declared.errors.Expected.{Expected}
 use Rattle.sftp_text.specs.declared.errors.Stop.{Stop}
 use Rattle.sftp_text.specs.declared.errors.Stop.TheVariants as stops
 use Rattle.sftp_text.specs.declared.errors.Fault.{Fault}

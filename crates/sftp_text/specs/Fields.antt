@@ -1,5 +1,5 @@
 -- The fields of packets (draft-ietf-secsh-filexfer-02, sections 3 to 7).
-use Rattle.std.specs.Prelude.{ℕ, zero, suc, ◌+◌, Bool, if◌then◌else◌, List, [], ◌∷◌, ◌++◌, length, codes}
+use Rattle.std.specs.Prelude.{ℕ, ◌+◌, if◌then◌else◌, List, [], ◌∷◌, ◌++◌, codes}
 use Rattle.std.specs.Prelude.{Option, Some, None, option_and_then, replicate}
 use Rattle.sftp_wire.specs.Reading.{has_flag, are_known}
 use Rattle.sftp_text.specs.Formats.{Step, Format, Counted, stay, after, nothing, ◌then◌, strip, word, ahead}

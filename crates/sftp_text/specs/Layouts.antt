@@ -1,12 +1,12 @@
 -- The layouts of packets (draft-ietf-secsh-filexfer-02, sections 3 to 8; OpenSSH's PROTOCOL, section 4): one table for
 -- both ways.
-use Rattle.std.specs.Prelude.{ℕ, ◌==◌, ◌&&◌, nat_lt, nat_le, Bool, true, false, if◌then◌else◌}
-use Rattle.std.specs.Prelude.{List, [], ◌∷◌, ◌++◌, length, take, drop, codes, bytes_eq, find, slice_index}
-use Rattle.std.specs.Prelude.{Option, Some, None, option_and_then}
+use Rattle.std.specs.Prelude.{ℕ, ◌==◌, ◌&&◌, Bool, true, false, if◌then◌else◌}
+use Rattle.std.specs.Prelude.{List, [], ◌∷◌, drop, codes, bytes_eq, find}
+use Rattle.std.specs.Prelude.{Option}
 use Rattle.sftp_wire.specs.declared.packets.Side.{Side}
 use Rattle.sftp_wire.specs.declared.packets.Side.TheVariants.{Client, Server}
 use Rattle.sftp_wire.specs.Spelling.{string, posix_rename_name, hardlink_name, fsync_name}
-use Rattle.sftp_text.specs.Formats.{Format, nothing, ◌then◌, word, mark, if_found, strip, ahead, Counted}
+use Rattle.sftp_text.specs.Formats.{Format, nothing, ◌then◌, word, mark, if_found, strip}
 use Rattle.sftp_text.specs.Digits.{number, is_digit}
 use Rattle.sftp_text.specs.Fields.{fields_text, tail_text}
 use Rattle.sftp_text.specs.declared.layouts.PacketType.{PacketType}

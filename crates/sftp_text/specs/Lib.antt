@@ -10,3 +10,4 @@ pub mod Moves
 pub mod Seen
 pub mod Reads
 pub mod Faults
+pub mod Wholes

@@ -80,3 +80,9 @@ higher_flags n =
 -- the flags with one more, unless that is set
 abbrev pub added : ℕ → ℕ → Option ℕ
 added flags flag = if bit_and flags flag == 0 then Some (bit_or flags flag) else None
+
+-- the kind of an entry is as found; there is none where the code stops
+abbrev pub FindsKind : Result ℕ Stop → Option ℕ → Type 0
+FindsKind (Ok kind) found = found ≡ Some kind
+FindsKind (Err NoMemory) found = Unit {0}
+FindsKind (Err (Unfit expected)) found = found ≡ None

@@ -1,10 +1,12 @@
 -- What the code of records returns, beside the definitions of lines.
-use Rattle.std.specs.Prelude.{◌≡◌, ◌==◌, ℕ, List, length, if◌then◌else◌, Option, Some, None, Result, Ok, Err, option_and_then}
+use Rattle.std.specs.Prelude.{◌≡◌, ◌≢◌, ◌==◌, ℕ, List, [], length, if◌then◌else◌, Option, Some, None, Result, Ok, Err, option_and_then}
 use Rattle.sftp_wire.specs.declared.packets.Side.{Side}
 use Rattle.sftp_text.specs.declared.errors.Stop.{Stop}
 use Rattle.sftp_text.specs.declared.errors.Stop.TheVariants as stops
 use Rattle.sftp_text.specs.declared.errors.Fault.{Fault}
 use Rattle.sftp_text.specs.declared.errors.Fault.TheVariants as faults
+use Rattle.sftp_text.specs.declared.errors.ShowFault.{ShowFault}
+use Rattle.sftp_text.specs.declared.errors.ShowFault.TheVariants as shows
 use Rattle.sftp_text.specs.Formats.{Format, front_uint32}
 use Rattle.sftp_text.specs.Lines.{whole}
 
@@ -26,3 +28,27 @@ abbrev pub GivesRecord : Result Side Fault → List ℕ → Option (Side × List
 GivesRecord (Ok side) bytes read = read ≡ Some (side, bytes)
 GivesRecord (Err faults.NoMemory) bytes read = Unit {0}
 GivesRecord (Err (faults.Unread column expected)) bytes read = read ≡ None
+
+-- what is done and what is left are as the step says, unless memory runs out
+abbrev pub ShowsAs : Result (Unit {0}) ShowFault → List ℕ → List ℕ → Option (List ℕ × List ℕ) → Type 0
+ShowsAs (Ok x) done left step = step ≡ Some (done, left)
+ShowsAs (Err shows.NoMemory) done left step = Unit {0}
+ShowsAs (Err shows.Unfit) done left step = step ≡ None
+
+-- the bytes are as read from a whole line, unless memory runs out
+abbrev pub ReadsAs : Result (Unit {0}) Fault → List ℕ → Option (List ℕ × List ℕ) → Type 0
+ReadsAs (Ok x) bytes step = step ≡ Some (bytes, [])
+ReadsAs (Err faults.NoMemory) bytes step = Unit {0}
+ReadsAs (Err (faults.Unread column expected)) bytes step = whole step ≡ None
+
+-- what is done is as the step says, which leaves nothing, unless memory runs out
+abbrev pub ShowsWhole : Result (Unit {0}) ShowFault → List ℕ → Option (List ℕ × List ℕ) → Type 0
+ShowsWhole (Ok x) done step = step ≡ Some (done, [])
+ShowsWhole (Err shows.NoMemory) done step = Unit {0}
+ShowsWhole (Err shows.Unfit) done step = whole step ≡ None
+
+-- nothing is left of a line, or the fault says that its end was expected
+abbrev pub EndsAt : Result (Unit {0}) Fault → List ℕ → Type 0
+EndsAt (Ok x) rest = rest ≡ []
+EndsAt (Err faults.NoMemory) rest = ⊥
+EndsAt (Err (faults.Unread column expected)) rest = rest ≢ []

@@ -1,7 +1,7 @@
 -- Tree files as lines of text: one for the head, one for the root, and one an entry.
-use Rattle.std.specs.Prelude.{ℕ, zero, suc, ◌==◌, nat_le, Bool, if◌then◌else◌, List, [], ◌∷◌, ◌++◌, length, take, drop, codes}
+use Rattle.std.specs.Prelude.{ℕ, ◌==◌, if◌then◌else◌, List, [], ◌∷◌, ◌++◌, codes, slice_get}
 use Rattle.std.specs.Prelude.{Option, Some, None, option_and_then}
-use Rattle.sftp_text.specs.Formats.{Step, Format, ◌then◌, word, mark, front_uint32}
+use Rattle.sftp_text.specs.Formats.{Step, Format, after, ◌then◌, word, mark, front_uint32, repeat_to_end}
 use Rattle.sftp_text.specs.Digits.{number, octal}
 use Rattle.sftp_text.specs.Quoted.{string_text}
 use Rattle.sftp_text.specs.Lines.{whole, said_lines}
@@ -39,39 +39,36 @@ first_of (c ∷ list) = Some c
 
 -- the letter behind the string in front
 unfoldable pub kind_behind : List ℕ → Option ℕ
-kind_behind bytes = option_and_then (λ front. first_of (drop front.0 front.1)) (front_uint32 bytes)
+kind_behind bytes = option_and_then (λ front. slice_get front.1 front.0) (front_uint32 bytes)
+
+-- an entry of a kind is shown
+abbrev pub show_kind : List ℕ → List ℕ → ℕ → Option (List ℕ × List ℕ)
+show_kind text bytes kind = option_and_then (λ fields. (entry_of kind fields).show text bytes) (kind_text kind)
+
+-- an entry of a kind is read
+abbrev pub read_kind : List ℕ → List ℕ → ℕ → Option (List ℕ × List ℕ)
+read_kind bytes text kind = option_and_then (λ fields. (entry_of kind fields).read bytes text) (kind_text kind)
 
 -- an entry
 unfoldable pub entry_text : Format
 entry_text = record {
-  show = λ text bytes. option_and_then (λ kind. option_and_then (λ fields. (entry_of kind fields).show text bytes)
-      (kind_text kind)) (kind_behind bytes);
-  read = λ bytes text. option_and_then (λ kind. option_and_then (λ fields. (entry_of kind fields).read bytes text)
-      (kind_text kind)) (first_of text);
+  show = λ text bytes. option_and_then (show_kind text bytes) (kind_behind bytes);
+  read = λ bytes text. option_and_then (read_kind bytes text) (first_of text);
 }
 
 -- ---- tree files
 
--- a line and its line feed in front of others
-abbrev pub line_and : List ℕ → Option (List ℕ) → Option (List ℕ)
-line_and line others = option_and_then (λ text. Some (line ++ 10 ∷ text)) others
+-- an entry and a line feed
+abbrev pub entry_line : Format
+entry_line = entry_text then word (10 ∷ [])
 
--- the lines of entries up to the end of the bytes, at most the given number of them
-abbrev pub entry_lines : ℕ → List ℕ → Option (List ℕ)
-entry_lines zero [] = Some []
-entry_lines zero (b ∷ bytes) = None
-entry_lines (suc most) [] = Some []
-entry_lines (suc most) (b ∷ bytes) =
-    option_and_then (λ shown. line_and shown.0 (entry_lines most shown.1)) (entry_text.show [] (b ∷ bytes))
+-- the head and the root, each with a line feed
+abbrev pub first_lines : Format
+first_lines = head_text then word (10 ∷ []) then root_text then word (10 ∷ [])
 
--- the text of a tree file: the line of the head, that of the root, and those of the entries
-unfoldable pub tree_lines : List ℕ → Option (List ℕ)
-tree_lines bytes =
-    option_and_then
-    (λ head.
-    option_and_then (λ root. line_and head.0 (line_and root.0 (entry_lines (length root.1) root.1)))
-    (root_text.show [] head.1))
-    (head_text.show [] bytes)
+-- the lines of a tree file are shown: that of the head, that of the root, and those of entries as long as bytes are left
+unfoldable pub show_tree : Step
+show_tree text bytes = after first_lines.show (repeat_to_end entry_line.show) text bytes
 
 -- the bytes of a whole line, in front of others
 abbrev pub bytes_and : Format → List ℕ → Option (List ℕ) → Option (List ℕ)

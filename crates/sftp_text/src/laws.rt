@@ -6,7 +6,7 @@ ghost use Rattle.sftp_wire.specs.declared.packets.Packet.{Packet};
 ghost use Rattle.sftp_wire.specs.Spelling.{AreBytes, HasSpelling, side_of, spelling};
 ghost use Rattle.sftp_text.specs.Formats.{ReadsBack};
 ghost use Rattle.sftp_text.specs.Lines.{is_printable, line_of, line_read, named_line, records_of, text_of, text_read, transcript_of};
-ghost use Rattle.sftp_text.specs.Trees.{head_text, root_text, entry_text, tree_lines, tree_read};
+ghost use Rattle.sftp_text.specs.Trees.{head_text, root_text, entry_text, show_tree, tree_read};
 
 /// The line of a record is read as its side and its bytes, whatever the bytes.
 pub fn lines_are_read()
@@ -55,5 +55,6 @@ pub fn transcripts_are_read()
 
 /// The text of a tree file is read as that file.
 pub fn trees_are_read()
-    ensures { (bytes text : List ℕ) → AreBytes bytes → tree_lines bytes ≡ Some text → tree_read text ≡ Some bytes }
+    ensures { (bytes text : List ℕ) → AreBytes bytes → show_tree [] bytes ≡ Some (text, [])
+        → tree_read text ≡ Some bytes }
 {}

@@ -169,13 +169,3 @@ pub(crate) fn read_string(line: &mut &[u8], bytes: &mut Vec<u8>) -> Result<(), S
     read_quoted(line, &mut string)?;
     append_string(string.as_slice(), bytes)
 }
-
-/// Takes a string from the front.
-pub(crate) fn skip_string(bytes: &mut &[u8]) -> Result<(), Stop> {
-    let length = bytes.try_get_u32()?;
-    let Some((_, rest)) = bytes.split_at_checked(length as usize) else {
-        return Err(Stop::Unfit(Expected::Text));
-    };
-    *bytes = rest;
-    Ok(())
-}

@@ -269,7 +269,7 @@ fn read_any(side: Side, line: &mut &[u8], bytes: &mut Vec<u8>) -> Result<(), Sto
 }
 
 /// The side that a letter names.
-fn side_of(letter: u8) -> Option<Side>
+pub(crate) fn side_of(letter: u8) -> Option<Side>
     ensures { result ≡ side_of_letter letter }
 {
     match letter {

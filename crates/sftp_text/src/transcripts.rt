@@ -1,51 +1,76 @@
 //! Whole transcripts as text, a line a record.
-ghost use Rattle.std.specs.Prelude.{◌≡◌, ◌+◌, ◌<◌, ◌≤◌, length, IfSome, OnOk};
+ghost use Rattle.std.specs.Prelude.{◌≡◌, ◌++◌, ◌≤◌, length, MatchOption, OnOk};
+ghost use Rattle.sftp_text.specs.Lines as lines;
+ghost use Rattle.sftp_text.specs.Lines.{records_of, records_up_to};
+ghost use Rattle.sftp_text.specs.Wholes.{Shows, lines_onto, next_record, fed_line};
 
-use crate::errors::{Expected, Fault, ShowFault, TextFault};
+use crate::errors::{Fault, ShowFault, TextFault};
 use crate::lines::{is_blank, take_line};
-use crate::records::{put_record, read_record};
-use crate::words::read_word;
+use crate::records::{put_record, read_record, side_of};
+use crate::words::after_word;
 use bytes::Buf;
 use sftp_wire::Side;
 use std::alloc::AllocError;
 
 const OPENING: &[u8] = b"SFTPTR01";
 
-/// Takes the side of a record.
-fn take_side(bytes: &mut &[u8]) -> Option<Side>
-    ensures { IfSome result (λ _. length bytes.new.now < length bytes.old.now) }
-{
-    let (first, rest) = bytes.split_first()?;
-    let side = match *first {
-        b'C' => Side::Client,
-        b'S' => Side::Server,
-        _ => return None,
-    };
-    *bytes = rest;
-    Some(side)
-}
-
 /// How many bytes a record has whose bytes are in front: as many as its length field says, or all if not all have come.
 fn record_length(bytes: &[u8]) -> usize
-    ensures { result ≤ length bytes.now }
+    ensures is { result ≡ lines.record_length bytes.now }
+    ensures within { result ≤ length bytes.now }
 {
     let mut rest = bytes;
     match rest.try_get_u32() {
-        Ok(length) => bytes.len().min((length as usize).saturating_add(4)),
+        Ok(length) => (4 + length as usize).min(bytes.len()),
         Err(_) => bytes.len(),
     }
 }
 
-/// Takes a record from the front of bytes that are not empty, and appends its line.
-fn put_next(bytes: &mut &[u8], line: &mut Vec<u8>, text: &mut Vec<u8>) -> Result<(), ShowFault> {
-    let Some(side) = take_side(bytes) else {
-        return Err(ShowFault::Unfit);
-    };
-    let (record, rest) = bytes.split_at(record_length(bytes));
-    put_record(side, record, line)?;
+/// Takes a record from the front of bytes: its side and its bytes. `None` where no side's letter is in front.
+fn take_record<'a>(bytes: &mut &'a [u8]) -> Option<(Side, &'a [u8])>
+    ensures { MatchOption result (next_record bytes.old.now ≡ None)
+        (λ taken. next_record bytes.old.now ≡ Some ((taken.0, taken.1.now), bytes.new.now)) }
+{
+    let (first, rest) = bytes.split_first()?;
+    let side = side_of(*first)?;
+    let (record, rest) = rest.split_at(record_length(rest));
     *bytes = rest;
+    Some((side, record))
+}
+
+/// Appends the line of a record and a line feed. `line` is room for the line.
+fn put_line(
+    side: Side,
+    packet: &[u8],
+    line: &mut Vec<u8>,
+    text: &mut Vec<u8>,
+) -> Result<(), AllocError>
+    ensures { OnOk result (text.new.items ≡ text.old.items ++ fed_line side packet.now) }
+{
+    put_record(side, packet, line)?;
     text.extend_from_slice(line.as_slice())?;
     text.push(b'\n')?;
+    Ok(())
+}
+
+/// Appends the lines of records up to the end of the bytes. There are at most as many as bytes.
+#[tactic(auto, using(crate::proofs::FileLaws::records_go_on, crate::proofs::FileLaws::records_fail, crate::proofs::FileLaws::records_end, crate::proofs::FileLaws::records_zero))]
+fn put_records(bytes: &[u8], text: &mut Vec<u8>) -> Result<(), ShowFault>
+    ensures { Shows result text.new.items (lines_onto text.old.items (records_up_to (length bytes.now) bytes.now)) }
+{
+    let mut rest = bytes;
+    let mut most = bytes.len();
+    let mut line = Vec::new(*text.allocator());
+    'records: while most > 0 {
+        if rest.is_empty() {
+            return Ok(());
+        }
+        let Some((side, record)) = take_record(&mut rest) else {
+            return Err(ShowFault::Unfit);
+        };
+        put_line(side, record, &mut line, text)?;
+        most -= 1;
+    }
     Ok(())
 }
 
@@ -56,19 +81,14 @@ fn put_next(bytes: &mut &[u8], line: &mut Vec<u8>, text: &mut Vec<u8>) -> Result
 ///
 /// `Unfit` if the opening is not there, or if a record begins with neither `C` nor `S`: the lines before it are then in
 /// `text`. `NoMemory` if memory runs out.
-pub fn put_transcript(bytes: &[u8], text: &mut Vec<u8>) -> Result<(), ShowFault> {
-    let mut rest = bytes;
-    read_word(OPENING, Expected::Side, &mut rest)?;
-    let mut line = Vec::new(*text.allocator());
-    let mut most = rest.len();
-    'records: while most > 0 {
-        if rest.is_empty() {
-            return Ok(());
-        }
-        put_next(&mut rest, &mut line, text)?;
-        most -= 1;
-    }
-    Ok(())
+#[tactic(auto, unfolding(crate::specs::Lines::records_of))]
+pub fn put_transcript(bytes: &[u8], text: &mut Vec<u8>) -> Result<(), ShowFault>
+    ensures { Shows result text.new.items (lines_onto text.old.items (records_of bytes.now)) }
+{
+    let Some(rest) = after_word(b"SFTPTR01", bytes) else {
+        return Err(ShowFault::Unfit);
+    };
+    put_records(rest, text)
 }
 
 /// Appends a record to a transcript.

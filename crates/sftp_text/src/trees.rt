@@ -4,13 +4,18 @@ ghost use Rattle.sftp_text.specs.Formats.{◌then◌, word};
 ghost use Rattle.sftp_text.specs.Digits.{number};
 ghost use Rattle.sftp_text.specs.Quoted.{string_text};
 ghost use Rattle.sftp_text.specs.Trees as trees;
-ghost use Rattle.sftp_text.specs.Moves.{Moves};
+ghost use Rattle.sftp_text.specs.Trees.{owner_text, entry_of, show_kind, read_kind};
+ghost use Rattle.sftp_text.specs.Trees.{entry_line, first_lines};
+ghost use Rattle.sftp_text.specs.Formats.{repeat_to_end};
+ghost use Rattle.sftp_text.specs.Moves.{Moves, FindsKind};
+ghost use Rattle.sftp_text.specs.Reads.{ShowsAs, ShowsWhole, ReadsAs, EndsAt};
 
 use crate::errors::{Expected, Fault, ShowFault, Stop, TextFault};
 use crate::lines::{is_blank, take_line};
 use crate::numbers::{put_number, put_octal, read_number, read_octal};
 use crate::quoted::{put_string, read_string};
 use crate::words::{read_end, read_word};
+use bytes::Buf;
 
 /// Shows a uint32 after a label.
 fn put_labelled(label: &[u8], bytes: &mut &[u8], text: &mut Vec<u8>) -> Result<(), Stop>
@@ -127,74 +132,172 @@ fn read_root_parts(line: &mut &[u8], bytes: &mut Vec<u8>) -> Result<(), Stop>
 }
 
 /// The kind of an entry: the byte after its path.
-fn kind_of(bytes: &[u8]) -> Result<u8, Stop> {
+#[tactic(auto, unfolding(crate::specs::Trees::kind_behind))]
+fn kind_of(bytes: &[u8]) -> Result<u8, Stop>
+    ensures { FindsKind result (trees.kind_behind bytes.now) }
+{
     let mut rest = bytes;
-    match crate::quoted::skip_string(&mut rest) {
-        Ok(()) => match rest.first() {
-            Some(kind) => Ok(*kind),
-            None => Err(Stop::Unfit(Expected::Kind)),
-        },
-        Err(stop) => Err(stop),
+    let length = rest.try_get_u32()?;
+    match rest.get(length as usize) {
+        Some(kind) => Ok(*kind),
+        None => Err(Stop::Unfit(Expected::Kind)),
     }
 }
 
-/// Shows what an entry of this kind says after its path.
-fn put_kind(kind: u8, bytes: &mut &[u8], text: &mut Vec<u8>) -> Result<(), Stop> {
-    match kind {
-        b'D' => put_owner(bytes, text),
-        b'F' => put_file(bytes, text),
-        b'H' => put_labelled(b" ", bytes, text),
-        b'L' => put_text(b" ", bytes, text),
-        _ => Err(Stop::Unfit(Expected::Kind)),
-    }
-}
-
-fn put_file(bytes: &mut &[u8], text: &mut Vec<u8>) -> Result<(), Stop> {
+/// Shows the owner and the bytes of a file.
+fn put_file(bytes: &mut &[u8], text: &mut Vec<u8>) -> Result<(), Stop>
+    ensures { Moves result text.new.items bytes.new.now
+        ((owner_text then word (codes " ") then string_text).show text.old.items bytes.old.now) }
+{
     put_owner(bytes, text)?;
     put_text(b" ", bytes, text)
 }
 
+/// Shows a directory.
+fn put_directory_entry(bytes: &mut &[u8], text: &mut Vec<u8>) -> Result<(), Stop>
+    ensures { Moves result text.new.items bytes.new.now
+        ((entry_of 68 owner_text).show text.old.items bytes.old.now) }
+{
+    put_text(b"D ", bytes, text)?;
+    read_word(b"D", Expected::Kind, bytes)?;
+    put_owner(bytes, text)
+}
+
+/// Shows the first name of a file.
+fn put_first_entry(bytes: &mut &[u8], text: &mut Vec<u8>) -> Result<(), Stop>
+    ensures { Moves result text.new.items bytes.new.now
+        ((entry_of 70 (owner_text then word (codes " ") then string_text)).show text.old.items bytes.old.now) }
+{
+    put_text(b"F ", bytes, text)?;
+    read_word(b"F", Expected::Kind, bytes)?;
+    put_file(bytes, text)
+}
+
+/// Shows a further name of a file.
+fn put_further_entry(bytes: &mut &[u8], text: &mut Vec<u8>) -> Result<(), Stop>
+    ensures { Moves result text.new.items bytes.new.now
+        ((entry_of 72 (word (codes " ") then number)).show text.old.items bytes.old.now) }
+{
+    put_text(b"H ", bytes, text)?;
+    read_word(b"H", Expected::Kind, bytes)?;
+    put_labelled(b" ", bytes, text)
+}
+
+/// Shows a link.
+fn put_link_entry(bytes: &mut &[u8], text: &mut Vec<u8>) -> Result<(), Stop>
+    ensures { Moves result text.new.items bytes.new.now
+        ((entry_of 76 (word (codes " ") then string_text)).show text.old.items bytes.old.now) }
+{
+    put_text(b"L ", bytes, text)?;
+    read_word(b"L", Expected::Kind, bytes)?;
+    put_text(b" ", bytes, text)
+}
+
+/// Shows an entry of a kind.
+#[tactic(auto, unfolding(crate::specs::Trees::kind_text))]
+fn put_kind(kind: u8, bytes: &mut &[u8], text: &mut Vec<u8>) -> Result<(), Stop>
+    ensures { Moves result text.new.items bytes.new.now (show_kind text.old.items bytes.old.now kind) }
+{
+    if kind == b'D' {
+        put_directory_entry(bytes, text)
+    } else if kind == b'F' {
+        put_first_entry(bytes, text)
+    } else if kind == b'H' {
+        put_further_entry(bytes, text)
+    } else if kind == b'L' {
+        put_link_entry(bytes, text)
+    } else {
+        Err(Stop::Unfit(Expected::Kind))
+    }
+}
+
 /// Shows an entry: its kind, its path, and by its kind its owner, its owner and bytes, the number of the entry that
 /// is its file's first name, or its target.
-fn put_entry_parts(bytes: &mut &[u8], text: &mut Vec<u8>) -> Result<(), Stop> {
+#[tactic(auto, unfolding(crate::specs::Trees::entry_text))]
+fn put_entry_parts(bytes: &mut &[u8], text: &mut Vec<u8>) -> Result<(), Stop>
+    ensures { Moves result text.new.items bytes.new.now (trees.entry_text.show text.old.items bytes.old.now) }
+{
     let kind = kind_of(bytes)?;
-    text.push(kind)?;
-    put_text(b" ", bytes, text)?;
-    read_word(&[kind], Expected::Kind, bytes)?;
     put_kind(kind, bytes, text)
 }
 
-fn read_file(line: &mut &[u8], bytes: &mut Vec<u8>) -> Result<(), Stop> {
+/// Reads the owner and the bytes of a file.
+fn read_file(line: &mut &[u8], bytes: &mut Vec<u8>) -> Result<(), Stop>
+    ensures { Moves result bytes.new.items line.new.now
+        ((owner_text then word (codes " ") then string_text).read bytes.old.items line.old.now) }
+{
     read_owner(line, bytes)?;
     read_text(b" ", Expected::Space, line, bytes)
 }
 
-fn read_kind(kind: u8, line: &mut &[u8], bytes: &mut Vec<u8>) -> Result<(), Stop> {
-    match kind {
-        b'D' => read_owner(line, bytes),
-        b'F' => read_file(line, bytes),
-        b'H' => read_labelled(b" ", line, bytes),
-        _ => read_text(b" ", Expected::Space, line, bytes),
+/// Reads a directory.
+fn read_directory_entry(line: &mut &[u8], bytes: &mut Vec<u8>) -> Result<(), Stop>
+    ensures { Moves result bytes.new.items line.new.now
+        ((entry_of 68 owner_text).read bytes.old.items line.old.now) }
+{
+    read_text(b"D ", Expected::Space, line, bytes)?;
+    bytes.push(b'D')?;
+    read_owner(line, bytes)
+}
+
+/// Reads the first name of a file.
+fn read_first_entry(line: &mut &[u8], bytes: &mut Vec<u8>) -> Result<(), Stop>
+    ensures { Moves result bytes.new.items line.new.now
+        ((entry_of 70 (owner_text then word (codes " ") then string_text)).read bytes.old.items line.old.now) }
+{
+    read_text(b"F ", Expected::Space, line, bytes)?;
+    bytes.push(b'F')?;
+    read_file(line, bytes)
+}
+
+/// Reads a further name of a file.
+fn read_further_entry(line: &mut &[u8], bytes: &mut Vec<u8>) -> Result<(), Stop>
+    ensures { Moves result bytes.new.items line.new.now
+        ((entry_of 72 (word (codes " ") then number)).read bytes.old.items line.old.now) }
+{
+    read_text(b"H ", Expected::Space, line, bytes)?;
+    bytes.push(b'H')?;
+    read_labelled(b" ", line, bytes)
+}
+
+/// Reads a link.
+fn read_link_entry(line: &mut &[u8], bytes: &mut Vec<u8>) -> Result<(), Stop>
+    ensures { Moves result bytes.new.items line.new.now
+        ((entry_of 76 (word (codes " ") then string_text)).read bytes.old.items line.old.now) }
+{
+    read_text(b"L ", Expected::Space, line, bytes)?;
+    bytes.push(b'L')?;
+    read_text(b" ", Expected::Space, line, bytes)
+}
+
+/// Reads an entry of a kind.
+#[tactic(auto, unfolding(crate::specs::Trees::kind_text))]
+fn read_kind(kind: u8, line: &mut &[u8], bytes: &mut Vec<u8>) -> Result<(), Stop>
+    ensures { Moves result bytes.new.items line.new.now (read_kind bytes.old.items line.old.now kind) }
+{
+    if kind == b'D' {
+        read_directory_entry(line, bytes)
+    } else if kind == b'F' {
+        read_first_entry(line, bytes)
+    } else if kind == b'H' {
+        read_further_entry(line, bytes)
+    } else if kind == b'L' {
+        read_link_entry(line, bytes)
+    } else {
+        Err(Stop::Unfit(Expected::Kind))
     }
 }
 
-fn take_kind(line: &mut &[u8]) -> Result<u8, Stop> {
-    let Some((kind, rest)) = line.split_first() else {
+/// Reads an entry.
+#[tactic(auto, unfolding(crate::specs::Trees::entry_text))]
+fn read_entry_parts(line: &mut &[u8], bytes: &mut Vec<u8>) -> Result<(), Stop>
+    ensures { Moves result bytes.new.items line.new.now (trees.entry_text.read bytes.old.items line.old.now) }
+{
+    let Some(kind) = line.first() else {
         return Err(Stop::Unfit(Expected::Kind));
     };
-    if !(*kind == b'D' || *kind == b'F' || *kind == b'H' || *kind == b'L') {
-        return Err(Stop::Unfit(Expected::Kind));
-    }
-    *line = rest;
-    Ok(*kind)
-}
-
-fn read_entry_parts(line: &mut &[u8], bytes: &mut Vec<u8>) -> Result<(), Stop> {
-    let kind = take_kind(line)?;
-    read_text(b" ", Expected::Space, line, bytes)?;
-    bytes.push(kind)?;
-    read_kind(kind, line, bytes)?;
-    read_end(line)
+    let kind = *kind;
+    read_kind(kind, line, bytes)
 }
 
 /// Takes the head of a tree file from the front of its bytes, from the opening up to the count of the entries, and
@@ -204,9 +307,14 @@ fn read_entry_parts(line: &mut &[u8], bytes: &mut Vec<u8>) -> Result<(), Stop> {
 ///
 /// `Unfit` if the bytes do not begin with a head; `NoMemory` if memory runs out. `bytes` may then begin anywhere, and
 /// `text` have any bytes.
-pub fn put_head(bytes: &mut &[u8], text: &mut Vec<u8>) -> Result<(), ShowFault> {
-    put_head_parts(bytes, text)?;
-    Ok(())
+pub fn put_head(bytes: &mut &[u8], text: &mut Vec<u8>) -> Result<(), ShowFault>
+    ensures { ShowsAs result text.new.items bytes.new.now (trees.head_text.show text.old.items bytes.old.now) }
+{
+    match put_head_parts(bytes, text) {
+        Ok(()) => Ok(()),
+        Err(Stop::NoMemory) => Err(ShowFault::NoMemory),
+        Err(Stop::Unfit(_)) => Err(ShowFault::Unfit),
+    }
 }
 
 /// Takes the root's owner from the front of the bytes, and appends its line without a line feed: `D "/" 0 0 0755`.
@@ -214,9 +322,14 @@ pub fn put_head(bytes: &mut &[u8], text: &mut Vec<u8>) -> Result<(), ShowFault> 
 /// # Errors
 ///
 /// Those of `put_head`.
-pub fn put_root(bytes: &mut &[u8], text: &mut Vec<u8>) -> Result<(), ShowFault> {
-    put_root_parts(bytes, text)?;
-    Ok(())
+pub fn put_root(bytes: &mut &[u8], text: &mut Vec<u8>) -> Result<(), ShowFault>
+    ensures { ShowsAs result text.new.items bytes.new.now (trees.root_text.show text.old.items bytes.old.now) }
+{
+    match put_root_parts(bytes, text) {
+        Ok(()) => Ok(()),
+        Err(Stop::NoMemory) => Err(ShowFault::NoMemory),
+        Err(Stop::Unfit(_)) => Err(ShowFault::Unfit),
+    }
 }
 
 /// Takes an entry from the front of the bytes, and appends its line without a line feed.
@@ -224,23 +337,59 @@ pub fn put_root(bytes: &mut &[u8], text: &mut Vec<u8>) -> Result<(), ShowFault> 
 /// # Errors
 ///
 /// Those of `put_head`.
-pub fn put_entry(bytes: &mut &[u8], text: &mut Vec<u8>) -> Result<(), ShowFault> {
+pub fn put_entry(bytes: &mut &[u8], text: &mut Vec<u8>) -> Result<(), ShowFault>
+    ensures { ShowsAs result text.new.items bytes.new.now (trees.entry_text.show text.old.items bytes.old.now) }
+{
+    match put_entry_parts(bytes, text) {
+        Ok(()) => Ok(()),
+        Err(Stop::NoMemory) => Err(ShowFault::NoMemory),
+        Err(Stop::Unfit(_)) => Err(ShowFault::Unfit),
+    }
+}
+
+/// Shows an entry and a line feed.
+fn put_entry_line(bytes: &mut &[u8], text: &mut Vec<u8>) -> Result<(), Stop>
+    ensures { Moves result text.new.items bytes.new.now (entry_line.show text.old.items bytes.old.now) }
+{
     put_entry_parts(bytes, text)?;
+    text.push(b'\n')?;
     Ok(())
 }
 
-/// Appends the lines of entries up to the end. There are at most as many as bytes.
-fn put_entries(bytes: &mut &[u8], text: &mut Vec<u8>) -> Result<(), Stop> {
+/// Shows entries up to the end, each with a line feed. There are at most as many as bytes.
+#[tactic(auto, using(crate::proofs::ListLaws::repeat_goes_on, crate::proofs::ListLaws::repeat_fails, crate::proofs::ListLaws::repeat_ends))]
+fn put_entries(bytes: &mut &[u8], text: &mut Vec<u8>) -> Result<(), Stop>
+    ensures { Moves result text.new.items bytes.new.now (repeat_to_end entry_line.show text.old.items bytes.old.now) }
+{
     let mut most = bytes.len();
     'entries: while most > 0 {
         if bytes.is_empty() {
             return Ok(());
         }
-        put_entry_parts(bytes, text)?;
-        text.push(b'\n')?;
+        put_entry_line(bytes, text)?;
         most -= 1;
     }
     Ok(())
+}
+
+/// Shows the head and the root, each with a line feed.
+fn put_first_lines(bytes: &mut &[u8], text: &mut Vec<u8>) -> Result<(), Stop>
+    ensures { Moves result text.new.items bytes.new.now (first_lines.show text.old.items bytes.old.now) }
+{
+    put_head_parts(bytes, text)?;
+    text.push(b'\n')?;
+    put_root_parts(bytes, text)?;
+    text.push(b'\n')?;
+    Ok(())
+}
+
+/// Shows the lines of a tree file.
+#[tactic(auto, unfolding(crate::specs::Trees::show_tree))]
+fn put_lines(bytes: &mut &[u8], text: &mut Vec<u8>) -> Result<(), Stop>
+    ensures { Moves result text.new.items bytes.new.now (trees.show_tree text.old.items bytes.old.now) }
+{
+    put_first_lines(bytes, text)?;
+    put_entries(bytes, text)
 }
 
 /// Appends the lines of a tree file to a text, each with a line feed. The count in the head may differ from the
@@ -249,22 +398,28 @@ fn put_entries(bytes: &mut &[u8], text: &mut Vec<u8>) -> Result<(), Stop> {
 /// # Errors
 ///
 /// `Unfit` if the bytes are not a head, a root and entries; `NoMemory` if memory runs out.
-pub fn put_tree(bytes: &[u8], text: &mut Vec<u8>) -> Result<(), ShowFault> {
+pub fn put_tree(bytes: &[u8], text: &mut Vec<u8>) -> Result<(), ShowFault>
+    ensures { ShowsWhole result text.new.items (trees.show_tree text.old.items bytes.now) }
+{
     let mut rest = bytes;
-    put_head(&mut rest, text)?;
-    text.push(b'\n')?;
-    put_root(&mut rest, text)?;
-    text.push(b'\n')?;
-    put_entries(&mut rest, text)?;
-    Ok(())
+    match put_lines(&mut rest, text) {
+        Ok(()) => match read_end(rest) {
+            Ok(()) => Ok(()),
+            Err(_) => Err(ShowFault::Unfit),
+        },
+        Err(Stop::NoMemory) => Err(ShowFault::NoMemory),
+        Err(Stop::Unfit(_)) => Err(ShowFault::Unfit),
+    }
 }
 
 /// Succeeds where nothing is left of a line.
-fn ended(line: &[u8], rest: &[u8]) -> Result<(), Fault> {
-    match read_end(rest) {
-        Ok(()) => Ok(()),
-        Err(stop) => Err(stop.in_line(line.len(), rest.len())),
+fn ended(line: &[u8], rest: &[u8]) -> Result<(), Fault>
+    ensures { EndsAt result rest.now }
+{
+    if rest.is_empty() {
+        return Ok(());
     }
+    Err(Stop::Unfit(Expected::End).in_line(line.len(), rest.len()))
 }
 
 /// Reads a line of a head, and appends its bytes: the opening, the home, the user, the group and the count of entries.
@@ -273,7 +428,9 @@ fn ended(line: &[u8], rest: &[u8]) -> Result<(), Fault> {
 ///
 /// `Unread` with the column where the line differs from the grammar, and what was expected there; `NoMemory` if memory
 /// runs out. `bytes` then has any bytes.
-pub fn read_head(line: &[u8], bytes: &mut Vec<u8>) -> Result<(), Fault> {
+pub fn read_head(line: &[u8], bytes: &mut Vec<u8>) -> Result<(), Fault>
+    ensures { ReadsAs result bytes.new.items (trees.head_text.read bytes.old.items line.now) }
+{
     let mut rest = line;
     match read_head_parts(&mut rest, bytes) {
         Ok(()) => ended(line, rest),
@@ -286,7 +443,9 @@ pub fn read_head(line: &[u8], bytes: &mut Vec<u8>) -> Result<(), Fault> {
 /// # Errors
 ///
 /// Those of `read_head`.
-pub fn read_root(line: &[u8], bytes: &mut Vec<u8>) -> Result<(), Fault> {
+pub fn read_root(line: &[u8], bytes: &mut Vec<u8>) -> Result<(), Fault>
+    ensures { ReadsAs result bytes.new.items (trees.root_text.read bytes.old.items line.now) }
+{
     let mut rest = line;
     match read_root_parts(&mut rest, bytes) {
         Ok(()) => ended(line, rest),
@@ -299,10 +458,12 @@ pub fn read_root(line: &[u8], bytes: &mut Vec<u8>) -> Result<(), Fault> {
 /// # Errors
 ///
 /// Those of `read_head`.
-pub fn read_entry(line: &[u8], bytes: &mut Vec<u8>) -> Result<(), Fault> {
+pub fn read_entry(line: &[u8], bytes: &mut Vec<u8>) -> Result<(), Fault>
+    ensures { ReadsAs result bytes.new.items (trees.entry_text.read bytes.old.items line.now) }
+{
     let mut rest = line;
     match read_entry_parts(&mut rest, bytes) {
-        Ok(()) => Ok(()),
+        Ok(()) => ended(line, rest),
         Err(stop) => Err(stop.in_line(line.len(), rest.len())),
     }
 }

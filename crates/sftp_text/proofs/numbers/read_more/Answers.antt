@@ -1,4 +1,4 @@
-use Rattle.std.proofs.Common.{◌≡◌, ◌+◌, ◌-◌, ◌*◌, ◌<◌, arith}
+use Rattle.std.proofs.Common.{◌≡◌, ◌+◌, ◌-◌, ◌*◌, ◌<◌}
 use Rattle.sftp_text.proofs.DigitLaws.{digits_from-above}
 use Rattle.sftp_text.proofs.numbers.read_more.Goals as goal
 
