@@ -1,8 +1,9 @@
 //! A client's session: ids, refusals, and which replies a request may get; and a client and a server over memory.
 use sftp_client::{ClientError, Pairing};
 use sftp_handles::{Session, SlabTable};
+use sftp_path::NoMemory;
 use sftp_tree::Tree;
-use sftp_wire::{Answer, Ask, Packet, Reply, Request, Side, encode, front};
+use sftp_wire::{Answer, Packet, Reply, Request, Side, WireError, encode, front};
 use std::alloc::Global;
 use std::test::Fail;
 
@@ -39,11 +40,14 @@ const REPLIES: &[(u8, &[u8])] = &[
     (b'x', b"\0\0\0\x05\xc9\0\0\0\0"),
 ];
 
-/// What a packet asks for.
-fn asked(alloc: Global, packet: &[u8]) -> Option<Ask> {
+/// The request of a packet.
+fn requested(alloc: Global, packet: &[u8]) -> Option<Request> {
     match front(alloc, packet, Side::Client) {
-        Ok(Some((Packet::Request(request), _))) => Some(request.ask),
-        _ => None,
+        Ok(Some((Packet::Request(request), _))) => Some(request),
+        other => {
+            drop(other);
+            None
+        }
     }
 }
 
@@ -51,37 +55,71 @@ fn asked(alloc: Global, packet: &[u8]) -> Option<Ask> {
 fn replied(alloc: Global, packet: &[u8]) -> Option<Reply> {
     match front(alloc, packet, Side::Server) {
         Ok(Some((Packet::Reply(reply), _))) => Some(reply),
-        _ => None,
+        other => {
+            drop(other);
+            None
+        }
     }
 }
 
 /// The id that a session gives what a packet asks for, or why it is not sent.
 fn sent(alloc: Global, pairing: &mut Pairing, packet: &[u8]) -> Result<u32, ClientError> {
-    match asked(alloc, packet) {
-        Some(ask) => pairing.send(ask).map(|request| request.id),
-        None => Err(ClientError::NoMemory),
+    let Some(request) = requested(alloc, packet) else {
+        return Err(ClientError::NoMemory);
+    };
+    let sent = pairing.send(request.ask);
+    let id = id_of(&sent);
+    drop(sent);
+    id
+}
+
+fn id_of(sent: &Result<Request, ClientError>) -> Result<u32, ClientError> {
+    match sent {
+        Ok(request) => Ok(request.id),
+        Err(error) => Err(*error),
     }
+}
+
+/// The packet of a reply of this kind; empty if there is none.
+fn reply_of(kind: u8) -> &'static [u8] {
+    for (letter, packet) in REPLIES {
+        if *letter == kind {
+            return packet;
+        }
+    }
+    &[]
 }
 
 /// Why a session refuses a reply of this kind to a request; `None` if it pairs them.
 fn refused(alloc: Global, pairing: &mut Pairing, id: u32, kind: u8) -> Option<ClientError> {
-    for (letter, packet) in REPLIES {
-        if *letter == kind {
-            return match replied(alloc, packet) {
-                Some(reply) => pairing.on_reply(Reply { id, ..reply }).err(),
-                None => Some(ClientError::NoMemory),
-            };
-        }
-    }
-    Some(ClientError::NoMemory)
+    let Some(reply) = replied(alloc, reply_of(kind)) else {
+        return Some(ClientError::NoMemory);
+    };
+    let answer = reply.answer;
+    pairing.on_reply(Reply { id, answer }).err()
 }
 
 /// Why a session refuses a packet as the server's first; `None` if it takes it.
 fn started(alloc: Global, pairing: &mut Pairing, packet: &[u8], side: Side) -> Option<ClientError> {
-    match front(alloc, packet, side) {
-        Ok(Some((packet, _))) => pairing.on_version(&packet).err(),
+    let front = front(alloc, packet, side);
+    let refusal = refusal_of(pairing, &front);
+    drop(front);
+    refusal
+}
+
+fn refusal_of(
+    pairing: &mut Pairing,
+    front: &Result<Option<(Packet, usize)>, WireError>,
+) -> Option<ClientError> {
+    match front {
+        Ok(Some((packet, _))) => pairing.on_version(packet).err(),
         _ => Some(ClientError::NoMemory),
     }
+}
+
+/// Whether a session takes a VERSION.
+fn starts(alloc: Global, pairing: &mut Pairing, version: &[u8]) -> bool {
+    started(alloc, pairing, version, Side::Server).is_none()
 }
 
 /// Whether replies are paired by their ids, each once and of a kind that the request may get.
@@ -100,8 +138,10 @@ fn pairs_by_ids(alloc: Global, pairing: &mut Pairing) -> bool {
 #[test]
 fn replies_by_ids(rt: HostRuntime) -> Result<(), Fail> {
     let mut pairing = Pairing::new(rt.alloc())?;
-    assert!(rt; started(rt.alloc(), &mut pairing, VERSION, Side::Server).is_none());
-    assert!(rt; pairs_by_ids(rt.alloc(), &mut pairing));
+    let started = starts(rt.alloc(), &mut pairing, VERSION);
+    let paired = pairs_by_ids(rt.alloc(), &mut pairing);
+    drop(pairing);
+    assert!(rt; started && paired);
     Ok(())
 }
 
@@ -115,14 +155,21 @@ fn sends(alloc: Global, pairing: &mut Pairing, count: u32) -> bool {
     true
 }
 
+/// Whether the window is full after 1,024 requests, until one of them is answered.
+fn is_full(alloc: Global, pairing: &mut Pairing) -> bool {
+    starts(alloc, pairing, VERSION)
+        && sends(alloc, pairing, 1_024)
+        && sent(alloc, pairing, STAT) == Err(ClientError::Full)
+        && refused(alloc, pairing, 700, b'a').is_none()
+        && sent(alloc, pairing, STAT) == Ok(1_024)
+}
+
 #[test]
 fn at_most_1024_are_open(rt: HostRuntime) -> Result<(), Fail> {
     let mut pairing = Pairing::new(rt.alloc())?;
-    assert!(rt; started(rt.alloc(), &mut pairing, VERSION, Side::Server).is_none());
-    assert!(rt; sends(rt.alloc(), &mut pairing, 1_024));
-    assert!(rt; sent(rt.alloc(), &mut pairing, STAT) == Err(ClientError::Full));
-    let paired = refused(rt.alloc(), &mut pairing, 700, b'a').is_none();
-    assert!(rt; paired && sent(rt.alloc(), &mut pairing, STAT) == Ok(1_024));
+    let full = is_full(rt.alloc(), &mut pairing);
+    drop(pairing);
+    assert!(rt; full);
     Ok(())
 }
 
@@ -134,12 +181,12 @@ fn sends_extensions(
     hardlink: Result<u32, ClientError>,
 ) -> Result<bool, ClientError> {
     let mut pairing = Pairing::new(alloc)?;
-    Ok(
-        started(alloc, &mut pairing, version, Side::Server).is_none()
-            && sent(alloc, &mut pairing, UNKNOWN) == Ok(0)
-            && sent(alloc, &mut pairing, FSYNC) == fsync
-            && sent(alloc, &mut pairing, HARDLINK) == hardlink,
-    )
+    let started = starts(alloc, &mut pairing, version);
+    let unknown = sent(alloc, &mut pairing, UNKNOWN);
+    let fsync_sent = sent(alloc, &mut pairing, FSYNC);
+    let hardlink_sent = sent(alloc, &mut pairing, HARDLINK);
+    drop(pairing);
+    Ok(started && unknown == Ok(0) && fsync_sent == fsync && hardlink_sent == hardlink)
 }
 
 #[test]
@@ -168,14 +215,16 @@ fn waits_for_version(alloc: Global, pairing: &mut Pairing) -> bool {
 
 /// Whether the client's first packet is INIT 3 without extensions.
 fn starts_with_init(alloc: Global, pairing: &Pairing) -> bool {
-    written(alloc, &pairing.start()).as_slice() == b"\0\0\0\x05\x01\0\0\0\x03".as_slice()
+    packet_bytes(alloc, pairing.start()).as_slice() == b"\0\0\0\x05\x01\0\0\0\x03".as_slice()
 }
 
 #[test]
 fn first_packets(rt: HostRuntime) -> Result<(), Fail> {
     let mut pairing = Pairing::new(rt.alloc())?;
-    assert!(rt; starts_with_init(rt.alloc(), &pairing));
-    assert!(rt; waits_for_version(rt.alloc(), &mut pairing));
+    let init = starts_with_init(rt.alloc(), &pairing);
+    let waits = waits_for_version(rt.alloc(), &mut pairing);
+    drop(pairing);
+    assert!(rt; init && waits, "{init} {waits}");
     Ok(())
 }
 
@@ -296,29 +345,39 @@ fn first_with_other_kinds<'a>(
 #[test]
 fn kinds_of_replies(rt: HostRuntime) -> Result<(), Fail> {
     let mut pairing = Pairing::new(rt.alloc())?;
-    assert!(rt; started(rt.alloc(), &mut pairing, VERSION_WITH_ALL, Side::Server).is_none());
+    let started = starts(rt.alloc(), &mut pairing, VERSION_WITH_ALL);
     let wrong = first_with_other_kinds(rt.alloc(), &mut pairing, SESSION);
-    assert!(rt; wrong.is_none(), "{wrong:?}");
+    drop(pairing);
+    assert!(rt; started && wrong.is_none(), "{wrong:?}");
     Ok(())
 }
 
-/// What a server answers to a request, where the bytes of both packets go over memory.
+/// The bytes of a packet, or none if memory runs out.
+fn packet_bytes(alloc: Global, packet: Packet) -> Vec<u8> {
+    let mut bytes = Vec::new(alloc);
+    let written = encode(&packet, &mut bytes);
+    drop(packet);
+    if written.is_err() {
+        bytes.clear();
+    }
+    bytes
+}
+
+/// What a server answers to a request, where the bytes of the reply go over memory.
+fn answered(alloc: Global, session: &mut Session<SlabTable>, request: &Request) -> Option<Reply> {
+    match session.answer(request) {
+        Ok(reply) => replied(alloc, packet_bytes(alloc, Packet::Reply(reply)).as_slice()),
+        Err(_) => None,
+    }
+}
+
+/// The same, where those of the request do too.
 fn served(alloc: Global, session: &mut Session<SlabTable>, request: Request) -> Option<Reply> {
-    let mut out = Vec::new(alloc);
-    if encode(&Packet::Request(request), &mut out).is_err() {
-        return None;
-    }
-    let Ok(Some((Packet::Request(request), _))) = front(alloc, out.as_slice(), Side::Client) else {
-        return None;
-    };
-    let Ok(reply) = session.answer(&request) else {
-        return None;
-    };
-    out.clear();
-    if encode(&Packet::Reply(reply), &mut out).is_err() {
-        return None;
-    }
-    replied(alloc, out.as_slice())
+    let bytes = packet_bytes(alloc, Packet::Request(request));
+    let request = requested(alloc, bytes.as_slice())?;
+    let reply = answered(alloc, session, &request);
+    drop(request);
+    reply
 }
 
 /// What a server answers to what a packet asks for.
@@ -328,7 +387,8 @@ fn exchanged(
     session: &mut Session<SlabTable>,
     packet: &[u8],
 ) -> Option<Reply> {
-    match pairing.send(asked(alloc, packet)?) {
+    let asked = requested(alloc, packet)?;
+    match pairing.send(asked.ask) {
         Ok(request) => served(alloc, session, request),
         Err(_) => None,
     }
@@ -354,20 +414,23 @@ fn is_answered(
     packet: &[u8],
     kind: Option<&u8>,
 ) -> bool {
-    match exchanged(alloc, pairing, session, packet) {
-        Some(reply) => Some(&kind_of(&reply.answer)) == kind && pairing.on_reply(reply).is_ok(),
-        None => false,
-    }
+    let Some(reply) = exchanged(alloc, pairing, session, packet) else {
+        return false;
+    };
+    let is_kind = Some(&kind_of(&reply.answer)) == kind;
+    let paired = pairing.on_reply(reply);
+    let is_paired = paired.is_ok();
+    drop(paired);
+    is_kind && is_paired
 }
 
 /// The name of the first request whose reply is not of the last kind of its row, or not paired.
-fn first_unanswered<'a>(
+fn first_unanswered(
     alloc: Global,
     pairing: &mut Pairing,
     session: &mut Session<SlabTable>,
-    rows: &[Row<'a>],
-) -> Option<&'a str> {
-    for (name, packet, kinds) in rows {
+) -> Option<&'static str> {
+    for (name, packet, kinds) in SESSION {
         if !is_answered(alloc, pairing, session, packet, kinds.last()) {
             return Some(*name);
         }
@@ -375,45 +438,45 @@ fn first_unanswered<'a>(
     None
 }
 
+/// The same on a new session of a server, on the blank tree.
+fn wrong_in_session(
+    alloc: Global,
+    pairing: &mut Pairing,
+) -> Result<Option<&'static str>, NoMemory> {
+    let mut session: Session<SlabTable> = Session::new(Tree::blank(alloc)?)?;
+    let wrong = first_unanswered(alloc, pairing, &mut session);
+    drop(session);
+    Ok(wrong)
+}
+
 #[test]
 fn session_of_every_request(rt: HostRuntime) -> Result<(), Fail> {
     let mut pairing = Pairing::new(rt.alloc())?;
-    let mut session: Session<SlabTable> = Session::new(Tree::blank(rt.alloc())?)?;
-    assert!(rt; started(rt.alloc(), &mut pairing, VERSION_WITH_ALL, Side::Server).is_none());
-    let wrong = first_unanswered(rt.alloc(), &mut pairing, &mut session, SESSION);
-    assert!(rt; wrong.is_none(), "{wrong:?}");
+    let started = starts(rt.alloc(), &mut pairing, VERSION_WITH_ALL);
+    let wrong = wrong_in_session(rt.alloc(), &mut pairing);
+    drop(pairing);
+    assert!(rt; started && wrong == Ok(None), "{wrong:?}");
     Ok(())
 }
 
-/// The request that a session pairs with a server's reply, and that reply, both as packets.
-fn paired(
+/// Whether a session pairs a server's reply with a request, and both are these packets.
+fn is_paired(
     alloc: Global,
     pairing: &mut Pairing,
     reply: Option<Reply>,
-) -> Option<(Vec<u8>, Vec<u8>)> {
-    match pairing.on_reply(reply?) {
-        Ok((request, reply)) => Some((
-            written(alloc, &Packet::Request(request)),
-            written(alloc, &Packet::Reply(reply)),
-        )),
-        Err(_) => None,
-    }
-}
-
-/// A packet's bytes, or none if memory runs out.
-fn written(alloc: Global, packet: &Packet) -> Vec<u8> {
-    let mut bytes = Vec::new(alloc);
-    match encode(packet, &mut bytes) {
-        Ok(()) => bytes,
-        Err(_) => Vec::new(alloc),
-    }
-}
-
-/// Whether a pair consists of these packets.
-fn is_pair(pair: Option<(Vec<u8>, Vec<u8>)>, asked: &[u8], given: &[u8]) -> bool {
-    match pair {
-        Some((request, reply)) => request.as_slice() == asked && reply.as_slice() == given,
-        None => false,
+    asked: &[u8],
+    given: &[u8],
+) -> bool {
+    let Some(reply) = reply else {
+        return false;
+    };
+    match pairing.on_reply(reply) {
+        Ok((request, reply)) => {
+            let request = packet_bytes(alloc, Packet::Request(request));
+            let reply = packet_bytes(alloc, Packet::Reply(reply));
+            request.as_slice() == asked && reply.as_slice() == given
+        }
+        Err(_) => false,
     }
 }
 
@@ -440,17 +503,26 @@ fn pairs_in_reverse(
     let first = exchanged(alloc, pairing, session, MKDIR_A);
     let second = exchanged(alloc, pairing, session, STAT_A);
     let third = exchanged(alloc, pairing, session, STAT_B);
-    let is_third = is_pair(paired(alloc, pairing, third), STAT_B, ABSENT_B);
-    let is_second = is_pair(paired(alloc, pairing, second), STAT_A, SHOWN_A);
-    let is_first = is_pair(paired(alloc, pairing, first), MKDIR_A, MADE_A);
+    let is_third = is_paired(alloc, pairing, third, STAT_B, ABSENT_B);
+    let is_second = is_paired(alloc, pairing, second, STAT_A, SHOWN_A);
+    let is_first = is_paired(alloc, pairing, first, MKDIR_A, MADE_A);
     is_third && is_second && is_first
+}
+
+/// The same on a new session of a server, on the blank tree.
+fn pairs_on_a_session(alloc: Global, pairing: &mut Pairing) -> Result<bool, NoMemory> {
+    let mut session: Session<SlabTable> = Session::new(Tree::blank(alloc)?)?;
+    let paired = pairs_in_reverse(alloc, pairing, &mut session);
+    drop(session);
+    Ok(paired)
 }
 
 #[test]
 fn replies_in_reverse_order(rt: HostRuntime) -> Result<(), Fail> {
     let mut pairing = Pairing::new(rt.alloc())?;
-    let mut session: Session<SlabTable> = Session::new(Tree::blank(rt.alloc())?)?;
-    assert!(rt; started(rt.alloc(), &mut pairing, VERSION, Side::Server).is_none());
-    assert!(rt; pairs_in_reverse(rt.alloc(), &mut pairing, &mut session));
+    let started = starts(rt.alloc(), &mut pairing, VERSION);
+    let paired = pairs_on_a_session(rt.alloc(), &mut pairing);
+    drop(pairing);
+    assert!(rt; started && paired == Ok(true));
     Ok(())
 }

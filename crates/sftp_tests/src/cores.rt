@@ -3,6 +3,7 @@ use crate::scripts::request;
 use sftp_path::NoMemory;
 use sftp_server::{Core, Did, InOrder, Refuse, Schedule, Shuffle};
 use sftp_tree::Tree;
+use sftp_wire::Request;
 use std::alloc::Global;
 use std::test::Fail;
 
@@ -78,16 +79,26 @@ const ENDS: &[(&str, &[Call], bool)] = &[
 
 /// Why a request with this id is not taken.
 fn refusal(alloc: Global, core: &mut Core, id: u32) -> Result<Option<Refuse>, NoMemory> {
-    match core.deliver(request(alloc, id, STAT)?) {
-        Ok(()) => Ok(None),
-        Err(returned) => Ok(Some(returned.1)),
+    let request = request(alloc, id, STAT)?;
+    let delivered = core.deliver(request);
+    let refusal = refusal_of(&delivered);
+    drop(delivered);
+    Ok(refusal)
+}
+
+fn refusal_of(delivered: &Result<(), (Request, Refuse)>) -> Option<Refuse> {
+    match delivered {
+        Ok(()) => None,
+        Err((_, refuse)) => Some(*refuse),
     }
 }
 
 /// The id of the reply that is sent for the request at this position.
 fn sent(core: &mut Core, k: usize) -> Option<u32> {
     let reply = core.send(k)?;
-    Some(reply.id)
+    let id = reply.id;
+    drop(reply);
+    Some(id)
 }
 
 fn gives(alloc: Global, core: &mut Core, call: Call) -> Result<bool, NoMemory> {
@@ -122,9 +133,11 @@ fn takes(alloc: Global, core: &mut Core, count: u32) -> Result<bool, NoMemory> {
 /// Whether a core on the blank tree finishes after the calls, which all give what they have to.
 fn finishes(alloc: Global, calls: &[Call]) -> Result<bool, NoMemory> {
     let mut core = Core::new(Tree::blank(alloc)?, 1)?;
-    let wrong = first_wrong(alloc, &mut core, calls)?;
-    let finished = core.finish().is_ok();
-    Ok(wrong.is_none() && finished)
+    let wrong = first_wrong(alloc, &mut core, calls);
+    let end = core.finish();
+    let finished = end.is_ok();
+    drop(end);
+    Ok(wrong?.is_none() && finished)
 }
 
 #[test]
@@ -132,6 +145,7 @@ fn full_window(rt: HostRuntime) -> Result<(), Fail> {
     let mut core = Core::new(Tree::blank(rt.alloc())?, 1_024)?;
     let taken = takes(rt.alloc(), &mut core, 1_024);
     let wrong = first_wrong(rt.alloc(), &mut core, WINDOW);
+    drop(core);
     assert!(rt; taken == Ok(true) && wrong == Ok(None), "{wrong:?}");
     Ok(())
 }
@@ -140,6 +154,7 @@ fn full_window(rt: HostRuntime) -> Result<(), Fail> {
 fn work_in_order(rt: HostRuntime) -> Result<(), Fail> {
     let mut core = Core::new(Tree::blank(rt.alloc())?, 2)?;
     let wrong = first_wrong(rt.alloc(), &mut core, ORDER);
+    drop(core);
     assert!(rt; wrong == Ok(None), "{wrong:?}");
     Ok(())
 }

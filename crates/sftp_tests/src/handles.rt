@@ -26,17 +26,37 @@ fn open_listing(
 ) -> Result<Option<PutError>, AllocError>
     requires { length name.now ≤ 256 }
 {
+    let want = Vec::from_slice(alloc, name)?;
     let it = Open::Listing {
         left: Listing::empty(alloc),
     };
-    let want = Vec::from_slice(alloc, name)?;
-    match table.put(it, want) {
-        Ok(_) => Ok(None),
-        Err(failed) => {
-            let (_back, error) = failed;
-            Ok(Some(error))
-        }
+    let put = table.put(it, want);
+    let error = error_of(&put);
+    drop(put);
+    Ok(error)
+}
+
+fn error_of(put: &Result<Vec<u8>, (Open, PutError)>) -> Option<PutError> {
+    match put {
+        Ok(_) => None,
+        Err((_, error)) => Some(*error),
     }
+}
+
+/// Closes a name, and says whether it was open.
+fn closes<T: HandleTable>(table: &mut T, name: &[u8]) -> bool {
+    let taken = table.take(name);
+    let was_open = taken.is_some();
+    drop(taken);
+    was_open
+}
+
+/// Gives a name back, and says whether it was open.
+fn gives_back<T: HandleTable>(table: &mut T, name: &[u8]) -> bool {
+    let taken = table.give_back(name);
+    let was_open = taken.is_some();
+    drop(taken);
+    was_open
 }
 
 /// Whether a table gives the names that are wanted, each once.
@@ -50,16 +70,18 @@ fn gives_names(alloc: Global, table: &mut GivenTable) -> Result<bool, AllocError
 /// Whether a handle is found until it is closed.
 fn closes_names(table: &mut GivenTable) -> bool {
     let was_open = table.find(b"h").is_some();
-    let was_taken = table.take(b"h").is_some();
+    let was_taken = closes(table, b"h");
     let is_open = table.find(b"h").is_some();
-    was_open && was_taken && !is_open && table.take(b"h").is_none() && table.len() == 1
+    was_open && was_taken && !is_open && !closes(table, b"h") && table.len() == 1
 }
 
 #[test]
 fn given_names(rt: HostRuntime) -> Result<(), Fail> {
     let mut table = GivenTable::empty(rt.alloc());
-    assert!(rt; gives_names(rt.alloc(), &mut table)?);
-    assert!(rt; closes_names(&mut table));
+    let given = gives_names(rt.alloc(), &mut table);
+    let closed = closes_names(&mut table);
+    drop(table);
+    assert!(rt; given? && closed);
     Ok(())
 }
 
@@ -70,7 +92,10 @@ fn open_given(alloc: Global, table: &mut SlabTable) -> Vec<u8> {
     };
     match table.put(it, Vec::new(alloc)) {
         Ok(name) => name,
-        Err(_) => Vec::new(alloc),
+        failed => {
+            drop(failed);
+            Vec::new(alloc)
+        }
     }
 }
 
@@ -99,7 +124,7 @@ fn counts_openings(alloc: Global, table: &mut SlabTable) -> bool {
 
 /// Whether a slot that was freed is used with the next serial, and the name that it had is not open.
 fn uses_freed_slots(alloc: Global, table: &mut SlabTable) -> bool {
-    table.take(FIRST).is_some()
+    closes(table, FIRST)
         && gives_next(alloc, table, THIRD)
         && table.find(THIRD).is_some()
         && table.find(FIRST).is_none()
@@ -107,40 +132,49 @@ fn uses_freed_slots(alloc: Global, table: &mut SlabTable) -> bool {
 
 /// Whether of two slots that were freed the last is used first.
 fn uses_the_last_freed(alloc: Global, table: &mut SlabTable) -> bool {
-    table.take(THIRD).is_some()
-        && table.take(SECOND).is_some()
+    closes(table, THIRD)
+        && closes(table, SECOND)
         && gives_next(alloc, table, FOURTH)
         && gives_next(alloc, table, FIFTH)
 }
 
 /// Whether the newest name is given again once it is given back, and an older one is not.
 fn gives_back_the_newest(alloc: Global, table: &mut SlabTable) -> bool {
-    table.give_back(FIFTH).is_some()
+    gives_back(table, FIFTH)
         && gives_next(alloc, table, FIFTH)
-        && table.give_back(FOURTH).is_some()
+        && gives_back(table, FOURTH)
         && gives_next(alloc, table, SIXTH)
 }
 
 #[test]
 fn names_of_slots(rt: HostRuntime) -> Result<(), Fail> {
     let mut table = SlabTable::empty(rt.alloc());
-    assert!(rt; counts_openings(rt.alloc(), &mut table));
-    assert!(rt; uses_freed_slots(rt.alloc(), &mut table));
-    assert!(rt; uses_the_last_freed(rt.alloc(), &mut table));
-    assert!(rt; gives_back_the_newest(rt.alloc(), &mut table));
+    let counted = counts_openings(rt.alloc(), &mut table);
+    let freed = uses_freed_slots(rt.alloc(), &mut table);
+    let last = uses_the_last_freed(rt.alloc(), &mut table);
+    let newest = gives_back_the_newest(rt.alloc(), &mut table);
+    drop(table);
+    assert!(rt; counted && freed, "{counted} {freed}");
+    assert!(rt; last && newest, "{last} {newest}");
     Ok(())
 }
 
 /// Whether a listing gives a name until it is struck out.
 fn strikes_names(alloc: Global) -> Result<bool, NoMemory> {
-    let mut listing = Listing::empty(alloc);
     let Some(name) = Name::from_slice(alloc, b"f")? else {
         return Ok(false);
     };
+    let mut listing = Listing::empty(alloc);
+    let strikes = strikes(alloc, &mut listing, &name);
+    drop(listing);
+    strikes
+}
+
+fn strikes(alloc: Global, listing: &mut Listing, name: &Name) -> Result<bool, NoMemory> {
     listing.add(name.try_clone(alloc)?, nothing())?;
-    let was_left = listing.find(&name).is_some();
-    listing.strike(&name);
-    Ok(was_left && listing.find(&name).is_none() && listing.is_empty())
+    let was_left = listing.find(name).is_some();
+    listing.strike(name);
+    Ok(was_left && listing.find(name).is_none() && listing.is_empty())
 }
 
 #[test]

@@ -33,7 +33,9 @@ fn place_of(alloc: Global, text: &[u8]) -> Result<Place, NoMemory> {
 /// Whether a place is that of a text.
 fn is_same(alloc: Global, place: &Place, text: &[u8]) -> Result<bool, NoMemory> {
     let other = place_of(alloc, text)?;
-    Ok(*place == other && place.starts_with(&other))
+    let is_same = *place == other && place.starts_with(&other);
+    drop(other);
+    Ok(is_same)
 }
 
 /// Whether a place has a copy, of this text.
@@ -41,7 +43,9 @@ fn copies(alloc: Global, place: &Place, text: &[u8]) -> Result<bool, NoMemory> {
     let copy = place.try_clone(alloc)?;
     let is_copy = copy == *place;
     let names = copy.into_names();
-    Ok(is_copy && absolute(alloc, &names)?.as_slice() == text)
+    let path = absolute(alloc, &names);
+    drop(names);
+    Ok(path?.as_slice() == text && is_copy)
 }
 
 /// Whether a place has this text and so many names.
@@ -57,7 +61,11 @@ fn is_there(alloc: Global, place: &Place, text: &[u8], depth: usize) -> Result<b
 /// Whether the place of a text is before another, and is above it if `lies_above` says so.
 fn is_after(alloc: Global, place: &Place, text: &[u8], lies_above: bool) -> Result<bool, NoMemory> {
     let other = place_of(alloc, text)?;
-    Ok(other < *place && place.starts_with(&other) == lies_above && !other.starts_with(place))
+    let holds = other < *place
+        && place.starts_with(&other) == lies_above
+        && !other.starts_with(place);
+    drop(other);
+    Ok(holds)
 }
 
 /// Whether the place of a text is after another, and is below it if `lies_below` says so.
@@ -68,7 +76,11 @@ fn is_before(
     lies_below: bool,
 ) -> Result<bool, NoMemory> {
     let other = place_of(alloc, text)?;
-    Ok(*place < other && other.starts_with(place) == lies_below && !place.starts_with(&other))
+    let holds = *place < other
+        && other.starts_with(place) == lies_below
+        && !place.starts_with(&other);
+    drop(other);
+    Ok(holds)
 }
 
 /// Goes down by `enter`, and says whether the component is a name.
@@ -146,7 +158,8 @@ const WAY: &[Step] = &[
 #[test]
 fn ways_through_places(rt: HostRuntime) -> Result<(), Fail> {
     let mut place = place_of(rt.alloc(), b"/a")?;
-    let wrong = first_wrong(rt.alloc(), &mut place, WAY)?;
-    assert!(rt; wrong.is_none(), "{wrong:?}");
+    let wrong = first_wrong(rt.alloc(), &mut place, WAY);
+    drop(place);
+    assert!(rt; wrong == Ok(None), "{wrong:?}");
     Ok(())
 }

@@ -123,7 +123,10 @@ pub(crate) fn request(alloc: Global, id: u32, part: &[u8]) -> Result<Request, No
     let packet = packet(alloc, id, part)?;
     match front(alloc, packet.as_slice(), Side::Client) {
         Ok(Some((Packet::Request(request), _))) => Ok(request),
-        _ => Err(NoMemory),
+        other => {
+            drop(other);
+            Err(NoMemory)
+        }
     }
 }
 
@@ -135,12 +138,11 @@ fn act(alloc: Global, step: Step) -> Result<Act, NoMemory> {
     }
 }
 
-fn acts(alloc: Global, steps: &[Step]) -> Result<Vec<Act>, NoMemory> {
-    let mut acts = Vec::new(alloc);
+fn push_acts(alloc: Global, acts: &mut Vec<Act>, steps: &[Step]) -> Result<(), NoMemory> {
     for step in steps {
         acts.push(act(alloc, *step)?)?;
     }
-    Ok(acts)
+    Ok(())
 }
 
 fn packet_of(event: Event) -> Packet {
@@ -150,51 +152,65 @@ fn packet_of(event: Event) -> Packet {
     }
 }
 
-/// The packets of the events, one after the other.
-fn packets_of(alloc: Global, events: Vec<Event>) -> Result<Vec<u8>, NoMemory> {
-    let mut bytes = Vec::new(alloc);
-    for event in events {
-        if encode(&packet_of(event), &mut bytes).is_err() {
-            return Err(NoMemory);
-        }
-    }
-    Ok(bytes)
+/// Whether there is an event, whose packet has these bytes.
+fn is_event(alloc: Global, event: Option<Event>, bytes: &[u8]) -> bool {
+    let Some(event) = event else {
+        return false;
+    };
+    let packet = packet_of(event);
+    let mut out = Vec::new(alloc);
+    let written = encode(&packet, &mut out);
+    drop(packet);
+    written == Ok(()) && out.as_slice() == bytes
 }
 
-/// Packets by their ids, types and fields, one after the other.
-fn joined(alloc: Global, packets: &[(u32, &[u8])]) -> Result<Vec<u8>, AllocError> {
-    let mut bytes = Vec::new(alloc);
-    for (id, part) in packets {
-        bytes.extend_from_slice(packet(alloc, *id, part)?.as_slice())?;
-    }
-    Ok(bytes)
-}
-
-/// Whether the events are these packets.
+/// Takes the events out, the last one first, and says whether they are these packets.
 fn are_events(
     alloc: Global,
-    events: Vec<Event>,
+    events: &mut Vec<Event>,
     packets: &[(u32, &[u8])],
 ) -> Result<bool, NoMemory> {
-    let made = packets_of(alloc, events)?;
-    Ok(made.as_slice() == joined(alloc, packets)?.as_slice())
+    for (id, part) in packets.iter().rev() {
+        let bytes = packet(alloc, *id, part)?;
+        if !is_event(alloc, events.pop(), bytes.as_slice()) {
+            return Ok(false);
+        }
+    }
+    Ok(events.is_empty())
+}
+
+fn is_end(end: &Result<Tree, Core>, ends: bool) -> Result<bool, NoMemory> {
+    match end {
+        Ok(tree) => Ok(tree.write()?.as_slice() == BLANK && ends),
+        Err(_) => Ok(!ends),
+    }
 }
 
 /// Whether a core finishes with the blank tree, or, if it is not to end, does not.
 fn ends_so(core: Core, ends: bool) -> Result<bool, NoMemory> {
-    match core.finish() {
-        Ok(tree) => Ok(ends && tree.write()?.as_slice() == BLANK),
-        Err(_) => Ok(!ends),
-    }
+    let end = core.finish();
+    let holds = is_end(&end, ends);
+    drop(end);
+    holds
 }
 
 /// Whether the acts of a row make its events, and lead to its end.
 fn holds(alloc: Global, row: &Row) -> Result<bool, NoMemory> {
     let (_, steps, packets, ends) = row;
-    let acts = acts(alloc, steps)?;
-    let (events, core) = run_script(Tree::blank(alloc)?, acts.as_slice())?;
+    let mut acts = Vec::new(alloc);
+    let ran = ran(alloc, &mut acts, steps);
+    drop(acts);
+    let (mut events, core) = ran?;
+    let same = are_events(alloc, &mut events, packets);
+    drop(events);
     let ended = ends_so(core, *ends);
-    Ok(are_events(alloc, events, packets)? && ended?)
+    Ok(same? && ended?)
+}
+
+/// What comes of these steps, on a blank tree.
+fn ran(alloc: Global, acts: &mut Vec<Act>, steps: &[Step]) -> Result<(Vec<Event>, Core), NoMemory> {
+    push_acts(alloc, acts, steps)?;
+    run_script(Tree::blank(alloc)?, acts.as_slice())
 }
 
 #[test]

@@ -1,6 +1,7 @@
-//! Sessions of the server, over streams that are cut into pieces and that fail. The bytes are worked out by hand.
+//! Sessions of the server, over streams that fail, and by a schedule of given choices. The bytes are worked out by hand.
 use sftp_audit::audit;
-use sftp_server::{Ended, Schedule, SessionFault, Stream, serve};
+use sftp_path::NoMemory;
+use sftp_server::{Ended, Schedule, Stream, serve};
 use sftp_transcript::{Tally, Writer};
 use sftp_tree::Tree;
 use std::alloc::Global;
@@ -9,16 +10,12 @@ use std::io::{ErrorKind, Read, Write};
 use std::test::Fail;
 
 mod failing;
-mod faults;
-mod whole;
+mod scheduled;
 
 const INIT: &[u8] = b"\0\0\0\x05\x01\0\0\0\x03";
 
 /// MKDIR of `/a` with the id 1.
 const MKDIR: &[u8] = b"\0\0\0\x0f\x0e\0\0\0\x01\0\0\0\x02/a\0\0\0\0";
-
-/// STAT of `/` with the id 7.
-const STAT: &[u8] = b"\0\0\0\x0a\x11\0\0\0\x07\0\0\0\x01/";
 
 /// The server's VERSION.
 const VERSION: &[u8] = b"\0\0\0\x5d\x02\0\0\0\x03\
@@ -29,47 +26,22 @@ const VERSION: &[u8] = b"\0\0\0\x5d\x02\0\0\0\x03\
 /// STATUS 0 for the id 1.
 const DONE: &[u8] = b"\0\0\0\x11\x65\0\0\0\x01\0\0\0\0\0\0\0\0\0\0\0\0";
 
-/// ATTRS of the blank tree's root for the id 7.
-const ROOT: &[u8] =
-    b"\0\0\0\x1d\x69\0\0\0\x07\0\0\0\x07\0\0\0\0\0\0\0\0\0\0\0\0\0\0\0\0\0\0\x41\xed";
-
 /// The blank tree.
 const BLANK: &[u8] = b"SFTREE01\0\0\0\x01/\0\0\0\0\0\0\0\0\0\0\0\0\0\0\0\0\0\0\0\0\0\0\x01\xed";
 
-/// The blank tree with the directory `/a`.
-const WITH_A: &[u8] = b"SFTREE01\0\0\0\x01/\0\0\0\0\0\0\0\0\0\0\0\x01\0\0\0\0\0\0\0\0\0\0\x01\xed\
-\0\0\0\x02/aD\0\0\0\0\0\0\0\0\0\0\x01\xed";
-
-/// A reader that gives at most so many bytes a call. At the end it fails, if it does.
+/// A reader of these bytes. At their end it fails, if it does.
 #[derive(Debug, Drop)]
-struct Pieces<'a> {
+struct Input<'a> {
     rest: &'a [u8],
-    size: usize,
     fails: bool,
 }
 
-impl<'a> Pieces<'a> {
-    /// All bytes, as much as fits a call.
-    fn whole(rest: &'a [u8]) -> Pieces<'a> {
-        Pieces::of(rest, usize::MAX)
-    }
-
-    /// At most so many bytes a call.
-    fn of(rest: &'a [u8], size: usize) -> Pieces<'a> {
-        Pieces {
-            rest,
-            size,
-            fails: false,
-        }
-    }
-}
-
-impl Read for Pieces<'_> {
+impl Read for Input<'_> {
     fn read(&mut self, buffer: &mut [u8]) -> io::Result<usize> {
         if self.rest.is_empty() && self.fails {
             return Err(io::Error::from(ErrorKind::BrokenPipe));
         }
-        let count = self.size.min(self.rest.len()).min(buffer.len());
+        let count = self.rest.len().min(buffer.len());
         buffer[..count].copy_from_slice(&self.rest[..count]);
         self.rest = &self.rest[count..];
         Ok(count)
@@ -128,7 +100,7 @@ impl Write for Room {
 #[derive(Clone, Copy, Debug, PartialEq, Eq)]
 enum End {
     Finished,
-    Fault(SessionFault),
+    Fault,
     Io(Stream),
     NoMemory,
 }
@@ -142,37 +114,48 @@ struct Outcome {
     tree: Vec<u8>,
 }
 
-/// The end and the tree file of a session that ended so.
-fn end_of(alloc: Global, ended: Ended) -> Result<(End, Vec<u8>), Fail> {
+fn end_of(ended: &Ended) -> End {
     match ended {
-        Ended::Finished(tree) => Ok((End::Finished, tree.write()?)),
-        Ended::Fault(tree, fault) => Ok((End::Fault(fault), tree.write()?)),
-        Ended::Io(stream) => Ok((End::Io(stream), Vec::new(alloc))),
-        Ended::NoMemory => Ok((End::NoMemory, Vec::new(alloc))),
+        Ended::Finished(_) => End::Finished,
+        Ended::Fault(_, _) => End::Fault,
+        Ended::Io(stream) => End::Io(*stream),
+        Ended::NoMemory => End::NoMemory,
+    }
+}
+
+/// The tree file of a session's end; empty if the session has no tree then.
+fn file_of(alloc: Global, ended: &Ended) -> Result<Vec<u8>, NoMemory> {
+    match ended {
+        Ended::Finished(tree) => tree.write(),
+        Ended::Fault(tree, _) => tree.write(),
+        Ended::Io(_) => Ok(Vec::new(alloc)),
+        Ended::NoMemory => Ok(Vec::new(alloc)),
     }
 }
 
 /// Serves a session on the blank tree.
 fn session<S: Schedule>(
     alloc: Global,
-    input: Pieces<'_>,
+    input: Input<'_>,
     output: Room,
     log: Room,
     schedule: &mut S,
 ) -> Result<Outcome, Fail> {
-    let tree = Tree::blank(alloc)?;
     let mut reader = Tally::new(input);
     let mut writer = Tally::new(output);
     let mut record = Writer::new(alloc, Tally::new(log))?;
+    let tree = Tree::blank(alloc)?;
     let ended = serve(tree, &mut reader, &mut writer, &mut record, schedule);
-    let (end, tree) = end_of(alloc, ended)?;
+    let end = end_of(&ended);
+    let file = file_of(alloc, &ended);
+    drop(ended);
     let Room { bytes: written, .. } = writer.into_inner();
     let Room { bytes: logged, .. } = record.into_sink().into_inner();
     Ok(Outcome {
         written,
         logged,
         end,
-        tree,
+        tree: file?,
     })
 }
 
@@ -185,16 +168,4 @@ fn accepted_requests(alloc: Global, outcome: &Outcome) -> Option<u64> {
         Ok(_) => None,
         Err(_) => None,
     }
-}
-
-/// Whether the bytes are these parts, one after the other.
-fn is_joined(bytes: &[u8], parts: &[&[u8]]) -> bool {
-    let mut rest = bytes;
-    for part in parts {
-        match rest.strip_prefix(*part) {
-            Some(more) => rest = more,
-            None => return false,
-        }
-    }
-    rest.is_empty()
 }

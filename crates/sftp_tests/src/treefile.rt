@@ -1,5 +1,5 @@
 //! Tree files that are written with no more room than they need, or cut off after any number of bytes.
-use sftp_treefile::{NoMemory, TreeError, read_rows, write_rows};
+use sftp_treefile::{NoMemory, TreeError, TreeFile, read_rows, write_rows};
 use std::alloc::Global;
 use std::test::Fail;
 
@@ -38,9 +38,16 @@ fn of_two_names(length: usize) -> TreeError {
 /// Whether the first bytes of a file, so many of them, are refused for this.
 fn is_refused(alloc: Global, file: &[u8], length: usize, expected: TreeError) -> bool {
     let (cut, _) = file.split_at(length.min(file.len()));
-    match read_rows(alloc, cut) {
+    let read = read_rows(alloc, cut);
+    let is_refused = is_error(&read, expected);
+    drop(read);
+    is_refused
+}
+
+fn is_error(read: &Result<TreeFile, TreeError>, expected: TreeError) -> bool {
+    match read {
         Ok(_) => false,
-        Err(error) => error == expected,
+        Err(error) => *error == expected,
     }
 }
 
@@ -49,7 +56,9 @@ fn stays(alloc: Global, bytes: &[u8]) -> Result<bool, NoMemory> {
     let Ok(file) = read_rows(alloc, bytes) else {
         return Ok(false);
     };
-    let written = write_rows(alloc, &file)?;
+    let written = write_rows(alloc, &file);
+    drop(file);
+    let written = written?;
     Ok(written.capacity() == bytes.len() && written.as_slice() == bytes)
 }
 

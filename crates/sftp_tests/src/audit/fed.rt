@@ -1,9 +1,10 @@
 //! The auditor, event by event: what it keeps, and which refusal comes when, and for good.
 use super::{BLANK, DONE, MAKE_A, recorded};
 use sftp_audit::{Auditor, Refusal};
-use sftp_transcript::{Event, Memory, Reader};
+use sftp_transcript::{Memory, Reader};
 use sftp_tree::Tree;
-use std::alloc::Global;
+use std::alloc::{AllocError, Global};
+use std::test::Fail;
 
 /// MKDIR of `/a/b` with the id 2, RMDIR of `/a` with the id 3, and their replies.
 const MAKE_B: &[u8] = b"C\0\0\0\x11\x0e\0\0\0\x02\0\0\0\x04/a/b\0\0\0\0";
@@ -32,23 +33,32 @@ fn auditor(alloc: Global) -> Option<Auditor> {
     Auditor::new(Tree::read(alloc, BLANK).ok()?).ok()
 }
 
-/// The event of a record; `None` if it has none.
-fn event_of(alloc: Global, record: &[u8]) -> Option<Event> {
-    let transcript = recorded(alloc, &[record]).ok()?;
-    let mut reader = Reader::new(alloc, Memory::new(transcript.as_slice())).ok()?;
-    reader.next().ok()?
+/// What feeding the next event of a transcript returns, and how many requests are kept then; `None` if there is none.
+fn feed_next(
+    reader: &mut Reader<Memory<'_>>,
+    auditor: &mut Auditor,
+) -> Option<(Result<(), Refusal>, usize)> {
+    match reader.next().ok()? {
+        Some(event) => Some((auditor.feed(event), auditor.kept())),
+        None => None,
+    }
 }
 
-/// What feeding a record returns; `None` if it has no event.
-fn feed(alloc: Global, auditor: &mut Auditor, record: &[u8]) -> Option<Result<(), Refusal>> {
-    let event = event_of(alloc, record)?;
-    Some(auditor.feed(event))
+/// What feeding a record returns, and how many requests are kept then; `None` if it has no event.
+fn feed(
+    alloc: Global,
+    auditor: &mut Auditor,
+    record: &[u8],
+) -> Option<(Result<(), Refusal>, usize)> {
+    let transcript = recorded(alloc, &[record]).ok()?;
+    let mut reader = Reader::new(alloc, Memory::new(transcript.as_slice())).ok()?;
+    feed_next(&mut reader, auditor)
 }
 
 /// Whether each of the records is taken, with so many requests kept after it.
 fn keeps(alloc: Global, auditor: &mut Auditor, records: &[(&[u8], usize)]) -> bool {
     for (record, kept) in records {
-        if feed(alloc, auditor, record) != Some(Ok(())) || auditor.kept() != *kept {
+        if feed(alloc, auditor, record) != Some((Ok(()), *kept)) {
             return false;
         }
     }
@@ -57,8 +67,8 @@ fn keeps(alloc: Global, auditor: &mut Auditor, records: &[(&[u8], usize)]) -> bo
 
 /// Whether a record is refused so, and each later one too, and nothing is kept.
 fn refuses(alloc: Global, auditor: &mut Auditor, record: &[u8], refusal: Refusal) -> bool {
-    let first = feed(alloc, auditor, record) == Some(Err(refusal)) && auditor.kept() == 0;
-    let again = feed(alloc, auditor, STAT) == Some(Err(refusal)) && auditor.kept() == 0;
+    let first = feed(alloc, auditor, record) == Some((Err(refusal), 0));
+    let again = feed(alloc, auditor, STAT) == Some((Err(refusal), 0));
     first && again
 }
 
@@ -70,29 +80,30 @@ fn has_file(tree: &Tree, file: &[u8]) -> bool {
     }
 }
 
-/// Whether the session ends with the tree of this tree file.
-fn ends(auditor: Auditor, file: &[u8]) -> bool {
-    match auditor.finish() {
-        Ok(end) => has_file(&end, file),
-        Err(_) => false,
+/// Whether a session ended with the tree of this file, or was refused so.
+fn is_end(end: &Result<Tree, Refusal>, wanted: Result<&[u8], Refusal>) -> bool {
+    match (end, wanted) {
+        (Ok(tree), Ok(file)) => has_file(tree, file),
+        (Err(found), Err(refusal)) => *found == refusal,
+        _ => false,
     }
 }
 
-/// Whether the session is refused so at its end.
-fn ends_refused(auditor: Auditor, refusal: Refusal) -> bool {
-    match auditor.finish() {
-        Ok(_) => false,
-        Err(found) => found == refusal,
-    }
+/// Whether the session ends with the tree of this tree file, or is refused so at its end.
+fn ends(auditor: Auditor, wanted: Result<&[u8], Refusal>) -> bool {
+    let end = auditor.finish();
+    let holds = is_end(&end, wanted);
+    drop(end);
+    holds
 }
 
-/// Whether each of the records is taken, with so many requests kept after it, and the session ends with this tree.
-fn is_taken(alloc: Global, records: &[(&[u8], usize)], file: &[u8]) -> bool {
+/// Whether each of the records is taken, with so many requests kept after it, and the session ends so.
+fn ends_after(alloc: Global, records: &[(&[u8], usize)], wanted: Result<&[u8], Refusal>) -> bool {
     let Some(mut auditor) = auditor(alloc) else {
         return false;
     };
     let kept = keeps(alloc, &mut auditor, records);
-    let ended = ends(auditor, file);
+    let ended = ends(auditor, wanted);
     kept && ended
 }
 
@@ -106,7 +117,7 @@ fn settles(alloc: Global) -> bool {
         (DONE_2, 3),
         (DONE, 0),
     ];
-    is_taken(alloc, &records, TWO_DIRECTORIES)
+    ends_after(alloc, &records, Ok(TWO_DIRECTORIES))
 }
 
 /// A reply that is not allowed is found once all requests before its own are answered, and is named by its own record.
@@ -124,7 +135,7 @@ fn names_the_reply(alloc: Global) -> bool {
     let kept = keeps(alloc, &mut auditor, &records);
     let refusal = Refusal::NotAllowed { record: 6 };
     let refused = refuses(alloc, &mut auditor, DONE, refusal);
-    let ended = ends_refused(auditor, refusal);
+    let ended = ends(auditor, Err(refusal));
     kept && refused && ended
 }
 
@@ -135,12 +146,13 @@ fn refuses_after(
     record: &[u8],
     refusal: Refusal,
 ) -> bool {
-    match auditor(alloc) {
-        Some(mut auditor) => {
-            keeps(alloc, &mut auditor, records) && refuses(alloc, &mut auditor, record, refusal)
-        }
-        None => false,
-    }
+    let Some(mut auditor) = auditor(alloc) else {
+        return false;
+    };
+    let kept = keeps(alloc, &mut auditor, records);
+    let refused = refuses(alloc, &mut auditor, record, refusal);
+    drop(auditor);
+    kept && refused
 }
 
 /// An id may be used again once its request is answered. A second reply, and a second request, are refused.
@@ -152,22 +164,12 @@ fn takes_turns(alloc: Global) -> bool {
     refuses_after(alloc, &answered, ATTRS, unknown) && refuses_after(alloc, &again, STAT, in_use)
 }
 
-/// Whether a session of these records, each with the count that is kept after it, is refused so at its end.
-fn misses(alloc: Global, records: &[(&[u8], usize)], refusal: Refusal) -> bool {
-    let Some(mut auditor) = auditor(alloc) else {
-        return false;
-    };
-    let kept = keeps(alloc, &mut auditor, records);
-    let ended = ends_refused(auditor, refusal);
-    kept && ended
-}
-
 /// A request without a reply is named by its record: the oldest one.
 fn misses_a_reply(alloc: Global) -> bool {
     let second: [(&[u8], usize); 3] = [(MAKE_A, 1), (STAT, 2), (DONE, 1)];
     let both: [(&[u8], usize); 3] = [(MAKE_A, 1), (STAT, 2), (ATTRS, 2)];
-    misses(alloc, &second, Refusal::Unanswered { record: 4 })
-        && misses(alloc, &both, Refusal::Unanswered { record: 3 })
+    ends_after(alloc, &second, Err(Refusal::Unanswered { record: 4 }))
+        && ends_after(alloc, &both, Err(Refusal::Unanswered { record: 3 }))
 }
 
 #[test]
@@ -184,58 +186,85 @@ fn stat(id: u32) -> [u8; 15] {
     [b'C', 0, 0, 0, 10, 17, a, b, c, d, 0, 0, 0, 1, b'/']
 }
 
-/// Asks from this id on, so many times, and whether each request is taken.
-fn asks(alloc: Global, auditor: &mut Auditor, first: u32, count: u32) -> bool {
+/// A transcript of so many requests, with ids from 6 on.
+fn stats(alloc: Global, count: u32) -> Result<Vec<u8>, AllocError> {
+    let mut transcript = recorded(alloc, &[])?;
     for step in 0..count {
-        if feed(alloc, auditor, &stat(first.wrapping_add(step))) != Some(Ok(())) {
-            return false;
-        }
+        transcript.extend_from_slice(&stat(step.wrapping_add(6)))?;
     }
-    true
+    Ok(transcript)
 }
 
-/// From the oldest unanswered request on, 1,024 may be asked, also where the second one has its reply. The next one is
-/// `Window`, but `IdInUse` if a request of its id is unanswered.
-fn is_full(alloc: Global, next: u32, refusal: Refusal) -> bool {
-    match auditor(alloc) {
-        Some(mut auditor) => {
-            asks(alloc, &mut auditor, 6, 1_024)
-                && keeps(alloc, &mut auditor, &[(ATTRS, 1_024)])
-                && refuses(alloc, &mut auditor, &stat(next), refusal)
-        }
-        None => false,
-    }
-}
-
-#[test]
-fn windows(rt: HostRuntime) {
-    let alloc = rt.alloc();
-    assert!(rt; is_full(alloc, 5_000, Refusal::Window { record: 1_028 }));
-    assert!(rt; is_full(alloc, 7, Refusal::Window { record: 1_028 }));
-    assert!(rt; is_full(alloc, 6, Refusal::IdInUse { record: 1_028 }));
-}
-
-/// Asks and answers so many times in turn, and whether each event is taken and leaves no more than one request.
-fn takes_pairs(alloc: Global, auditor: &mut Auditor, count: u32) -> bool {
+/// Whether so many events of a transcript are taken, with at most so many requests kept after each.
+fn takes_all(
+    alloc: Global,
+    auditor: &mut Auditor,
+    transcript: &[u8],
+    count: u32,
+    limit: usize,
+) -> bool {
+    let Ok(mut reader) = Reader::new(alloc, Memory::new(transcript)) else {
+        return false;
+    };
     for _ in 0..count {
-        if !keeps(alloc, auditor, &[(STAT, 1), (ATTRS, 0)]) {
-            return false;
+        match feed_next(&mut reader, auditor) {
+            Some((Ok(()), kept)) if kept <= limit => {}
+            _ => return false,
         }
     }
     true
 }
 
-/// Whether a session of many requests, each with its reply at once, keeps nothing.
-fn forgets(alloc: Global, count: u32) -> bool {
+/// From the oldest unanswered request on, 1,024 may be asked, as in this transcript, also where the second one has its
+/// reply. The next one is `Window`, but `IdInUse` if a request of its id is unanswered.
+fn is_full(alloc: Global, transcript: &[u8], next: u32, refusal: Refusal) -> bool {
     let Some(mut auditor) = auditor(alloc) else {
         return false;
     };
-    let taken = takes_pairs(alloc, &mut auditor, count);
-    let ended = ends(auditor, BLANK);
+    let asked = takes_all(alloc, &mut auditor, transcript, 1_024, 1_024);
+    let kept = keeps(alloc, &mut auditor, &[(ATTRS, 1_024)]);
+    let refused = refuses(alloc, &mut auditor, &stat(next), refusal);
+    drop(auditor);
+    asked && kept && refused
+}
+
+#[test]
+fn windows(rt: HostRuntime) -> Result<(), Fail> {
+    let asked = stats(rt.alloc(), 1_024)?;
+    let window = Refusal::Window { record: 1_028 };
+    let in_use = Refusal::IdInUse { record: 1_028 };
+    for (next, refusal) in [(5_000, window), (7, window), (6, in_use)] {
+        assert!(rt;
+            is_full(rt.alloc(), asked.as_slice(), next, refusal),
+            "{next}"
+        );
+    }
+    Ok(())
+}
+
+/// A transcript of so many requests, each with its reply at once.
+fn pairs(alloc: Global, count: u32) -> Result<Vec<u8>, AllocError> {
+    let mut transcript = recorded(alloc, &[])?;
+    for _ in 0..count {
+        transcript.extend_from_slice(STAT)?;
+        transcript.extend_from_slice(ATTRS)?;
+    }
+    Ok(transcript)
+}
+
+/// Whether a session of many requests, each with its reply at once, keeps at most one, and ends as it began.
+fn forgets(alloc: Global, transcript: &[u8], count: u32) -> bool {
+    let Some(mut auditor) = auditor(alloc) else {
+        return false;
+    };
+    let taken = takes_all(alloc, &mut auditor, transcript, count, 1);
+    let ended = ends(auditor, Ok(BLANK));
     taken && ended
 }
 
 #[test]
-fn long_sessions(rt: HostRuntime) {
-    assert!(rt; forgets(rt.alloc(), 2_000));
+fn long_sessions(rt: HostRuntime) -> Result<(), Fail> {
+    let transcript = pairs(rt.alloc(), 1_100)?;
+    assert!(rt; forgets(rt.alloc(), transcript.as_slice(), 2_200));
+    Ok(())
 }

@@ -1,5 +1,5 @@
 //! Sessions of which one stream fails, at each place: what was written and logged until then.
-use super::{DONE, End, INIT, MKDIR, Outcome, Pieces, Room, VERSION, is_joined, session};
+use super::{DONE, End, INIT, Input, MKDIR, Outcome, Room, VERSION, session};
 use sftp_server::{InOrder, Stream};
 use std::alloc::Global;
 use std::test::Fail;
@@ -38,8 +38,10 @@ fn stops(outcome: &Outcome, stream: Stream, written: usize, logged: usize) -> bo
 
 /// The session with a reader that fails after so many bytes.
 fn torn_input(alloc: Global, count: usize) -> Result<Outcome, Fail> {
-    let mut input = Pieces::whole(INPUT.get(..count).unwrap_or(INPUT));
-    input.fails = true;
+    let input = Input {
+        rest: INPUT.get(..count).unwrap_or(INPUT),
+        fails: true,
+    };
     session(
         alloc,
         input,
@@ -63,11 +65,20 @@ fn reader_fails(rt: HostRuntime) -> Result<(), Fail> {
     Ok(())
 }
 
+/// The session of these bytes with these writers.
+fn over(alloc: Global, input: &[u8], output: Room, log: Room) -> Result<Outcome, Fail> {
+    let input = Input {
+        rest: input,
+        fails: false,
+    };
+    session(alloc, input, output, log, &mut InOrder)
+}
+
 /// The session with a writer and a log that have room for so many bytes and take so many a call.
 fn narrow(alloc: Global, writer: usize, log: usize, size: usize) -> Result<Outcome, Fail> {
     let output = Room::of(alloc, writer, size);
     let record = Room::of(alloc, log, size);
-    session(alloc, Pieces::whole(INPUT), output, record, &mut InOrder)
+    over(alloc, INPUT, output, record)
 }
 
 #[test]
@@ -102,11 +113,6 @@ fn log_fails(rt: HostRuntime) -> Result<(), Fail> {
         }
     }
     Ok(())
-}
-
-/// The session of these bytes with these writers.
-fn over(alloc: Global, input: &[u8], output: Room, log: Room) -> Result<Outcome, Fail> {
-    session(alloc, Pieces::whole(input), output, log, &mut InOrder)
 }
 
 #[test]
@@ -150,13 +156,18 @@ fn flush_fails(rt: HostRuntime) -> Result<(), Fail> {
     Ok(())
 }
 
+/// Whether a session that finished wrote and logged all of it.
+fn is_whole(outcome: &Outcome) -> bool {
+    outcome.end == End::Finished
+        && is_front(outcome.written.as_slice(), 118, WRITTEN)
+        && is_front(outcome.logged.as_slice(), 158, LOGGED)
+}
+
 #[test]
 fn nothing_fails(rt: HostRuntime) -> Result<(), Fail> {
     for size in [usize::MAX, 1] {
         let outcome = narrow(rt.alloc(), usize::MAX, usize::MAX, size)?;
-        assert!(rt; outcome.end == End::Finished, "{size}");
-        assert!(rt; is_joined(outcome.written.as_slice(), WRITTEN), "{size}");
-        assert!(rt; is_joined(outcome.logged.as_slice(), LOGGED), "{size}");
+        assert!(rt; is_whole(&outcome), "{size}");
     }
     Ok(())
 }

@@ -19,17 +19,18 @@ enum Given {
 }
 
 fn next_of<R: Source>(reader: &mut Reader<R>) -> Given {
-    match reader.next() {
-        Ok(event) => kind_of(event.as_ref()),
-        Err(error) => Given::Refused(error),
-    }
+    let next = reader.next();
+    let given = kind_of(&next);
+    drop(next);
+    given
 }
 
-fn kind_of(event: Option<&Event>) -> Given {
-    match event {
-        Some(Event::Asked(_)) => Given::Asked,
-        Some(Event::Replied(_)) => Given::Replied,
-        None => Given::End,
+fn kind_of(next: &Result<Option<Event>, TranscriptError>) -> Given {
+    match next {
+        Ok(Some(Event::Asked(_))) => Given::Asked,
+        Ok(Some(Event::Replied(_))) => Given::Replied,
+        Ok(None) => Given::End,
+        Err(error) => Given::Refused(*error),
     }
 }
 
@@ -39,7 +40,9 @@ fn four<R: Source + Drop>(alloc: Global, source: R) -> Result<[Given; 4], Transc
     let first = next_of(&mut reader);
     let second = next_of(&mut reader);
     let third = next_of(&mut reader);
-    Ok([first, second, third, next_of(&mut reader)])
+    let fourth = next_of(&mut reader);
+    drop(reader);
+    Ok([first, second, third, fourth])
 }
 
 /// The number of the record that the byte at this place is in, if the place is no end of a record.
@@ -107,37 +110,55 @@ const RECORDS: [(Side, usize); 4] = [
     (Side::Server, 21),
 ];
 
-/// The side and the packet's length of the next record.
-fn next_head<R: Source>(reader: &mut Reader<R>) -> Result<Option<(Side, usize)>, TranscriptError> {
-    match reader.next_record() {
-        Ok(record) => Ok(head_of(record.as_ref())),
-        Err(error) => Err(error),
+/// The side and the packet's length of the next record; `None` at the end, and where it cannot be read.
+fn next_head<R: Source>(reader: &mut Reader<R>) -> Option<(Side, usize)> {
+    let record = reader.next_record();
+    let head = head_of(&record);
+    drop(record);
+    head
+}
+
+fn head_of(
+    record: &Result<Option<(Side, Packet, usize)>, TranscriptError>,
+) -> Option<(Side, usize)> {
+    match record {
+        Ok(Some((side, _, length))) => Some((*side, *length)),
+        _ => None,
     }
 }
 
-fn head_of(record: Option<&(Side, Packet, usize)>) -> Option<(Side, usize)> {
-    match record {
-        Some((side, _, length)) => Some((*side, *length)),
-        None => None,
+/// Whether a reader gives each record, and then the end.
+fn gives_records<R: Source>(reader: &mut Reader<R>) -> bool {
+    for (side, length) in RECORDS {
+        if next_head(reader) != Some((side, length)) {
+            return false;
+        }
     }
+    next_of(reader) == Given::End
 }
 
 #[test]
 fn gives_each_record(rt: HostRuntime) -> Result<(), Fail> {
     let mut reader = Reader::new(rt.alloc(), Memory::new(SESSION))?;
-    for (side, length) in RECORDS {
-        assert!(rt; next_head(&mut reader)? == Some((side, length)), "{length}");
-    }
-    assert!(rt; next_head(&mut reader)?.is_none());
+    let given = gives_records(&mut reader);
+    drop(reader);
+    assert!(rt; given);
     Ok(())
+}
+
+/// Whether a reader gives a record, an event, a record, and the end.
+fn gives_both<R: Source>(reader: &mut Reader<R>) -> bool {
+    next_head(reader) == Some((Side::Client, 9))
+        && next_of(reader) == Given::Asked
+        && next_head(reader) == Some((Side::Server, 21))
+        && next_of(reader) == Given::End
 }
 
 #[test]
 fn mixes_records_and_events(rt: HostRuntime) -> Result<(), Fail> {
     let mut reader = Reader::new(rt.alloc(), Memory::new(SESSION))?;
-    assert!(rt; next_head(&mut reader)? == Some((Side::Client, 9)));
-    assert!(rt; next_of(&mut reader) == Given::Asked);
-    assert!(rt; next_head(&mut reader)? == Some((Side::Server, 21)));
-    assert!(rt; next_of(&mut reader) == Given::End);
+    let given = gives_both(&mut reader);
+    drop(reader);
+    assert!(rt; given);
     Ok(())
 }

@@ -2,7 +2,7 @@
 use super::Narrow;
 use sftp_transcript::{Sink, Tally, TranscriptError, Writer};
 use sftp_wire::{Ask, ByteString, Fault, Packet, Pairs, Request, Side};
-use std::alloc::{AllocError, Global};
+use std::alloc::Global;
 use std::test::Fail;
 
 /// The opening, INIT 3 of the client and VERSION 3 of the server, which have no extensions.
@@ -85,23 +85,23 @@ fn record_stat<L: Sink>(
     writer: &mut Writer<L>,
     side: Side,
     length: usize,
-) -> Result<Written, AllocError> {
+) -> Written {
     let path = ByteString::new(vec![in alloc; b'a'; length]?);
     let ask = Ask::Stat { path };
     let stat = Packet::Request(Request { id: 1, ask });
     let written = writer.record(side, &stat);
     drop(stat);
-    Ok(written)
+    written
 }
 
 /// Whether packets of another side, and packets that are too long, are refused, and write nothing. A path of 33,987
 /// bytes makes the longest packet.
 fn refuses(alloc: Global) -> Result<bool, TranscriptError> {
     let mut writer = Writer::new(alloc, Tally::new(Narrow::new(alloc, 100, true)))?;
-    let other_side = record_stat(alloc, &mut writer, Side::Server, 1)?;
-    let too_long = record_stat(alloc, &mut writer, Side::Client, 33_988)?;
-    let first = record_stat(alloc, &mut writer, Side::Client, 1)?;
-    let second = record_stat(alloc, &mut writer, Side::Client, 33_988)?;
+    let other_side = record_stat(alloc, &mut writer, Side::Server, 1);
+    let too_long = record_stat(alloc, &mut writer, Side::Client, 33_988);
+    let first = record_stat(alloc, &mut writer, Side::Client, 1);
+    let second = record_stat(alloc, &mut writer, Side::Client, 33_988);
     let bytes = writer.into_sink().into_inner().bytes;
     let wire = |fault, record| Err(TranscriptError::Wire { fault, record });
     Ok(

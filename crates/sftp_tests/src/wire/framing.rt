@@ -187,8 +187,9 @@ const STREAMS: &[(&str, &[Call])] = &[
 fn streams_of_calls(rt: HostRuntime) -> Result<(), Fail> {
     for (name, calls) in STREAMS {
         let mut frames = FrameBuf::new(rt.alloc())?;
-        let wrong = first_wrong(rt.alloc(), &mut frames, calls)?;
-        assert!(rt; wrong.is_none(), "{name}: {wrong:?}");
+        let wrong = first_wrong(rt.alloc(), &mut frames, calls);
+        drop(frames);
+        assert!(rt; wrong == Ok(None), "{name}: {wrong:?}");
     }
     Ok(())
 }
@@ -253,6 +254,8 @@ fn holds_no_more(alloc: Global, frames: &mut FrameBuf) -> Result<bool, AllocErro
 #[test]
 fn full_buffers(rt: HostRuntime) -> Result<(), Fail> {
     let mut frames = FrameBuf::new(rt.alloc())?;
-    assert!(rt; holds_no_more(rt.alloc(), &mut frames)?);
+    let holds = holds_no_more(rt.alloc(), &mut frames);
+    drop(frames);
+    assert!(rt; holds?);
     Ok(())
 }
