@@ -1,7 +1,7 @@
 //! Answers as text (draft, section 7).
 
-use crate::causes::Code;
-use sftp_show::Quoted;
+use crate::quoted::Quoted;
+use crate::refusals::causes::Code;
 use sftp_wire::{Answer, Attrs, ByteString, NameItem};
 use std::fmt;
 use std::fmt::Write;
@@ -19,23 +19,14 @@ pub(crate) struct AnswerText<'a>(pub(crate) &'a Answer);
 impl fmt::Display for AnswerText<'_> {
     fn fmt<W: fmt::Write>(&self, f: &mut fmt::Formatter<W>) -> fmt::Result {
         match self.0 {
-            Answer::Status { code, .. } => {
-                let code = Code(*code);
-                write!(f, "STATUS with code {code}")
-            }
+            Answer::Status { code, .. } => put_status(*code, f),
             Answer::Handle(handle) => {
                 let handle = Quoted(handle.as_slice());
                 write!(f, "HANDLE {handle}")
             }
             Answer::Data(bytes) => put_data(bytes.as_slice(), f),
-            Answer::Name(names) => {
-                f.write_str("NAME with")?;
-                put_names(names.as_slice(), f)
-            }
-            Answer::Attrs(attrs) => {
-                let attrs = AttrsText(attrs);
-                write!(f, "ATTRS with {attrs}")
-            }
+            Answer::Name(names) => put_names(names.as_slice(), f),
+            Answer::Attrs(attrs) => put_attrs(attrs, f),
             Answer::Extended(bytes) => {
                 let length = bytes.as_slice().len();
                 write!(f, "EXTENDED_REPLY of length {length}")
@@ -44,20 +35,27 @@ impl fmt::Display for AnswerText<'_> {
     }
 }
 
+fn put_status<W: fmt::Write>(code: u32, f: &mut fmt::Formatter<W>) -> fmt::Result {
+    let code = Code(code);
+    write!(f, "STATUS with code {code}")
+}
+
+fn put_attrs<W: fmt::Write>(attrs: &Attrs, f: &mut fmt::Formatter<W>) -> fmt::Result {
+    let attrs = AttrsText(attrs);
+    write!(f, "ATTRS with {attrs}")
+}
+
 /// Writes the first `BYTES_IN_LINE` bytes of a DATA, in quotes, and its length.
 fn put_data<W: fmt::Write>(bytes: &[u8], f: &mut fmt::Formatter<W>) -> fmt::Result {
     let length = bytes.len();
-    if length > BYTES_IN_LINE {
-        let start = Quoted(bytes.get(..BYTES_IN_LINE).unwrap_or(bytes));
-        write!(f, "DATA {start}... of length {length}")
-    } else {
-        let bytes = Quoted(bytes);
-        write!(f, "DATA {bytes} of length {length}")
-    }
+    let start = Quoted(bytes.get(..BYTES_IN_LINE).unwrap_or(bytes));
+    let ellipsis = if length > BYTES_IN_LINE { "..." } else { "" };
+    write!(f, "DATA {start}{ellipsis} of length {length}")
 }
 
-/// Writes the names of the first `NAMES_IN_LINE` items, each in quotes with a space before it.
+/// Writes the names of the first `NAMES_IN_LINE` items of a NAME, each in quotes with a space before it.
 fn put_names<W: fmt::Write>(items: &[NameItem], f: &mut fmt::Formatter<W>) -> fmt::Result {
+    f.write_str("NAME with")?;
     for item in items.iter().take(NAMES_IN_LINE) {
         put_name(&item.filename, f)?;
     }

@@ -1,5 +1,4 @@
 //! Why a recorded session is refused, as lines of text for the author of its server.
-#![tactic(auto)]
 
 mod answers;
 mod causes;

@@ -1,9 +1,9 @@
 //! Why a reply is not allowed, and which one is.
 
-use crate::answers::{AnswerText, put_first};
-use crate::causes::{AllowedCodes, CauseList};
-use crate::differences::{first_difference, first_wrong_name};
-use crate::errors::ExplainError;
+use crate::refusals::answers::{AnswerText, put_first};
+use crate::refusals::causes::{AllowedCodes, CauseList};
+use crate::refusals::differences::{first_difference, first_wrong_name};
+use crate::refusals::errors::ExplainError;
 use sftp_handles::{HandleTable, Listing, Session};
 use sftp_tree::Causes;
 use sftp_wire::{Answer, Ask, ByteString, Names};
@@ -68,7 +68,11 @@ fn put_exact<T: HandleTable, O: Write>(
     output: &mut O,
 ) -> Result<(), ExplainError> {
     match session.unchanging_answer(ask) {
-        Some(Ok(expected)) => put_expected(ask, &expected, answer, output),
+        Some(Ok(expected)) => {
+            let put = put_expected(ask, &expected, answer, output);
+            drop(expected);
+            put
+        }
         Some(Err(_)) => Err(ExplainError::NoMemory),
         None => {
             writeln!(output, "expected: STATUS with code 0 (OK)")?;
@@ -143,15 +147,22 @@ fn put_names_left<T: HandleTable, O: Write>(
 ) -> Result<(), ExplainError> {
     match session.first_names(handle) {
         Ok(names) => {
-            let names = NamesLeft {
-                names: names.as_slice(),
-                count,
-            };
-            writeln!(output, "expected: {names}")?;
-            Ok(())
+            let put = put_first_names(names.as_slice(), count, output);
+            drop(names);
+            put
         }
         Err(_) => Err(ExplainError::NoMemory),
     }
+}
+
+fn put_first_names<O: Write>(
+    names: &[ByteString],
+    count: usize,
+    output: &mut O,
+) -> Result<(), ExplainError> {
+    let names = NamesLeft { names, count };
+    writeln!(output, "expected: {names}")?;
+    Ok(())
 }
 
 /// Names that a listing still has to give, the first ones, and how many they all are.

@@ -1,9 +1,9 @@
 //! How an answer differs from the one that is allowed.
 
-use crate::answers::AttrsText;
+use crate::quoted::Quoted;
+use crate::refusals::answers::AttrsText;
 use sftp_handles::{Listing, same_attributes};
 use sftp_path::Name;
-use sftp_show::Quoted;
 use sftp_tree::NoMemory;
 use sftp_wire::{Attrs, NameItem};
 use std::alloc::Global;
@@ -120,11 +120,23 @@ fn difference_of<'a>(
     item: &'a NameItem,
 ) -> Result<Option<NameDifference<'a>>, NoMemory> {
     match Name::from_slice(alloc, item.filename.as_slice())? {
-        Some(name) => match left.find(&name) {
-            Some(attrs) if same_attributes(attrs, &item.attrs) => Ok(None),
-            Some(attrs) => Ok(Some(NameDifference::OtherAttributes(item, attrs))),
-            None => Ok(Some(NameDifference::NotLeft(item))),
-        },
+        Some(name) => {
+            let wanted = left.find(&name);
+            drop(name);
+            Ok(difference_from(wanted, item))
+        }
         None => Ok(Some(NameDifference::NotLeft(item))),
+    }
+}
+
+/// Why a listing with these attributes for the item's name, if it has the name, does not give the item.
+fn difference_from<'a>(
+    wanted: Option<&'a Attrs>,
+    item: &'a NameItem,
+) -> Option<NameDifference<'a>> {
+    match wanted {
+        Some(attrs) if same_attributes(attrs, &item.attrs) => None,
+        Some(attrs) => Some(NameDifference::OtherAttributes(item, attrs)),
+        None => Some(NameDifference::NotLeft(item)),
     }
 }
