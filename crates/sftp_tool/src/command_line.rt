@@ -77,7 +77,7 @@ pub(crate) enum Request<'a> {
 }
 
 /// The options of `serve`.
-#[derive(Drop)]
+#[derive(Clone, Copy)]
 pub(crate) struct ServeOptions<'a> {
     /// The name of the tree file that the session starts from.
     pub(crate) tree: &'a str,
@@ -90,7 +90,7 @@ pub(crate) struct ServeOptions<'a> {
 }
 
 /// The names of the files of `audit`.
-#[derive(Drop)]
+#[derive(Clone, Copy)]
 pub(crate) struct AuditFiles<'a> {
     /// The tree file that the session starts from.
     pub(crate) tree: &'a str,
@@ -107,26 +107,39 @@ pub(crate) struct AuditFiles<'a> {
 pub(crate) fn parse(alloc: Global, words: &[String]) -> Result<Request<'_>, Failure<'_>> {
     match matched(alloc, words) {
         Ok(request) => Ok(request),
-        Err(error) if error.kind() == ErrorKind::OutOfMemory => Err(Failure::OutOfMemory),
         Err(error) => {
-            let text = format!(in alloc; "{error}")?;
-            if error.use_stderr() {
-                Err(Failure::Usage(text))
-            } else {
-                Ok(Request::Help(text))
-            }
+            let request = help_or_usage(alloc, &error);
+            drop(error);
+            request
         }
+    }
+}
+
+/// What an error of the parser means: memory ran out, help or the version is asked for, or bad usage.
+fn help_or_usage<'a>(alloc: Global, error: &Error) -> Result<Request<'a>, Failure<'a>> {
+    if error.kind() == ErrorKind::OutOfMemory {
+        return Err(Failure::OutOfMemory);
+    }
+    let text = format!(in alloc; "{error}")?;
+    if error.use_stderr() {
+        Err(Failure::Usage(text))
+    } else {
+        Ok(Request::Help(text))
     }
 }
 
 fn matched(alloc: Global, words: &[String]) -> Result<Request<'_>, Error> {
     let mut command = command(alloc)?;
-    matched_by(&mut command, words)
+    let request = matched_by(&mut command, words);
+    drop(command);
+    request
 }
 
 fn matched_by<'a>(command: &mut Command<'a>, words: &'a [String]) -> Result<Request<'a>, Error> {
     let matches = command.try_get_matches_from_mut(words)?;
-    match requested(&matches) {
+    let request = requested(&matches);
+    drop(matches);
+    match request {
         Some(request) => Ok(request),
         None => Err(command.error(ErrorKind::MissingSubcommand, "a subcommand is required")?),
     }
@@ -135,8 +148,8 @@ fn matched_by<'a>(command: &mut Command<'a>, words: &'a [String]) -> Result<Requ
 fn requested<'a>(matches: &ArgMatches<'a>) -> Option<Request<'a>> {
     let (name, given) = matches.subcommand()?;
     match name {
-        "serve" => Some(Request::Serve(serve_options(given)?)),
-        "audit" => Some(Request::Audit(audit_files(given)?)),
+        "serve" => serve_options(given).map(Request::Serve),
+        "audit" => audit_files(given).map(Request::Audit),
         "show" => {
             let file = given.get_str("file")?;
             Some(Request::Show { file })
@@ -185,7 +198,10 @@ fn with_subcommand<'a>(
 ) -> Result<Command<'a>, AllocError> {
     match subcommand {
         Ok(subcommand) => command.subcommand(subcommand),
-        Err(error) => Err(error),
+        Err(error) => {
+            drop(command);
+            Err(error)
+        }
     }
 }
 

@@ -9,7 +9,8 @@ use sftp_show::{
 };
 use sftp_transcript::{Reader, Tally, TranscriptError};
 use sftp_tree::Tree;
-use sftp_wire::{Packet, Side};
+use sftp_wire::{Answer, Ask, Side};
+use std::alloc::Global;
 use std::fs::Files;
 use std::io::Write;
 use thiserror::Error;
@@ -83,9 +84,25 @@ fn put_explanation<'a, R: Files + AllocGlobal, E: Write>(
     refusal: Refusal,
     errors: &mut E,
 ) -> Result<(), Unexplained> {
-    match found(rt, files, record_of(refusal)) {
-        Ok(found) => put_reason(rt, files, tree, refusal, &found, errors),
-        Err(error) => Err(error),
+    let found = found(rt, files, record_of(refusal));
+    let put = put_refusal(rt, files, tree, refusal, &found, errors);
+    drop(found);
+    put
+}
+
+/// Writes the lines of a refusal that names the record found, if it was found.
+fn put_refusal<'a, R: Files + AllocGlobal, E: Write>(
+    rt: &R,
+    files: &AuditFiles<'a>,
+    tree: &[u8],
+    refusal: Refusal,
+    found: &Result<Option<Found>, Unexplained>,
+    errors: &mut E,
+) -> Result<(), Unexplained> {
+    match found {
+        Ok(Some(found)) => put_reason(rt, files, tree, refusal, found, errors),
+        Ok(None) => Err(Unexplained::OtherTranscript),
+        Err(error) => Err(*error),
     }
 }
 
@@ -138,21 +155,20 @@ fn records<'a, R: Files + AllocGlobal>(
     }
 }
 
-/// The record with this number.
+/// The record with this number, or `None` if there are fewer.
 ///
 /// # Errors
 ///
-/// `OtherTranscript` if there is none, and `OutOfMemory`.
+/// `OtherTranscript` and `OutOfMemory`.
 fn found<'a, R: Files + AllocGlobal>(
     rt: &R,
     files: &AuditFiles<'a>,
     number: u64,
-) -> Result<Found, Unexplained> {
+) -> Result<Option<Found>, Unexplained> {
     let mut records = records(rt, files)?;
-    match find_record(&mut records, number)? {
-        Some(found) => Ok(found),
-        None => Err(Unexplained::OtherTranscript),
-    }
+    let found = find_record(&mut records, number);
+    drop(records);
+    found.map_err(Unexplained::from)
 }
 
 /// The number of the last record of a side before this one that has its id, if there is one.
@@ -167,12 +183,27 @@ fn earlier<'a, R: Files + AllocGlobal>(
     record: &Record,
 ) -> Result<Option<u64>, Unexplained> {
     match record.id() {
-        Some(id) => {
-            let mut records = records(rt, files)?;
-            Ok(last_of_id(&mut records, side, id, record.number)?)
-        }
+        Some(id) => number_of_last(rt, files, side, id, record.number),
         None => Err(Unexplained::OtherTranscript),
     }
+}
+
+/// The number of the last record of a side with this id, before the record with this number, if there is one.
+///
+/// # Errors
+///
+/// `OtherTranscript` and `OutOfMemory`.
+fn number_of_last<'a, R: Files + AllocGlobal>(
+    rt: &R,
+    files: &AuditFiles<'a>,
+    side: Side,
+    id: u32,
+    number: u64,
+) -> Result<Option<u64>, Unexplained> {
+    let mut records = records(rt, files)?;
+    let last = last_of_id(&mut records, side, id, number);
+    drop(records);
+    Ok(last?)
 }
 
 /// Writes the line of the record with this number.
@@ -187,9 +218,22 @@ fn put_numbered<'a, R: Files + AllocGlobal, E: Write>(
     number: u64,
     errors: &mut E,
 ) -> Result<(), Unexplained> {
-    match found(rt, files, number) {
-        Ok(found) => Ok(put_record(label, &found.record, errors)?),
-        Err(error) => Err(error),
+    let found = found(rt, files, number);
+    let put = put_found(label, &found, errors);
+    drop(found);
+    put
+}
+
+/// Writes the line of the record found, if it was found.
+fn put_found<E: Write>(
+    label: &str,
+    found: &Result<Option<Found>, Unexplained>,
+    errors: &mut E,
+) -> Result<(), Unexplained> {
+    match found {
+        Ok(Some(found)) => Ok(put_record(label, &found.record, errors)?),
+        Ok(None) => Err(Unexplained::OtherTranscript),
+        Err(error) => Err(*error),
     }
 }
 
@@ -279,7 +323,9 @@ fn oldest<'a, R: Files + AllocGlobal>(
 ) -> Result<Option<u64>, Unexplained> {
     let mut records = records(rt, files)?;
     let before = found.requests.saturating_sub(WINDOW);
-    Ok(number_of_request(&mut records, before, found.record.number)?)
+    let oldest = number_of_request(&mut records, before, found.record.number);
+    drop(records);
+    Ok(oldest?)
 }
 
 /// `NotAllowed`: the request, its reply, why that is not allowed, and what is.
@@ -305,52 +351,88 @@ fn put_exchange_of<'a, R: Files + AllocGlobal, E: Write>(
     reply: &Record,
     errors: &mut E,
 ) -> Result<(), Unexplained> {
-    match found(rt, files, number) {
-        Ok(request) => put_exchange(rt, files, tree, &request.record, reply, errors),
-        Err(error) => Err(error),
-    }
+    let found = found(rt, files, number);
+    let put = put_exchange(rt, files, tree, &found, reply, errors);
+    drop(found);
+    put
 }
 
+/// The request found, if it was found, and its reply.
 fn put_exchange<'a, R: Files + AllocGlobal, E: Write>(
     rt: &R,
     files: &AuditFiles<'a>,
     tree: &[u8],
-    request: &Record,
+    found: &Result<Option<Found>, Unexplained>,
     reply: &Record,
     errors: &mut E,
 ) -> Result<(), Unexplained> {
-    put_record("request", request, errors)?;
+    put_found("request", found, errors)?;
     put_record("reply", reply, errors)?;
-    match (&request.packet, &reply.packet) {
-        (Packet::Request(request), Packet::Reply(reply)) => {
-            let auditor = refused_auditor(rt, files, tree)?;
-            explain_reply(
-                rt.alloc(),
-                auditor.session(),
-                &request.ask,
-                &reply.answer,
-                errors,
-            )?;
-            Ok(())
-        }
+    match (ask_of(found), reply.answer()) {
+        (Some(ask), Some(answer)) => put_causes(rt, files, tree, ask, answer, errors),
         _ => Err(Unexplained::OtherTranscript),
     }
 }
 
-/// An auditor that has refused the session. Its session is the one in which the wrong reply came.
+/// What the request found asks for.
+fn ask_of(found: &Result<Option<Found>, Unexplained>) -> Option<&Ask> {
+    match found {
+        Ok(Some(found)) => found.record.ask(),
+        _ => None,
+    }
+}
+
+/// Why the session does not allow an answer, and what it allows.
+fn put_causes<'a, R: Files + AllocGlobal, E: Write>(
+    rt: &R,
+    files: &AuditFiles<'a>,
+    tree: &[u8],
+    ask: &Ask,
+    answer: &Answer,
+    errors: &mut E,
+) -> Result<(), Unexplained> {
+    let mut auditor = new_auditor(rt.alloc(), tree)?;
+    let put = put_causes_by(rt, files, &mut auditor, ask, answer, errors);
+    drop(auditor);
+    put
+}
+
+/// Feeds the session to an auditor that has seen nothing of it, and writes why it does not allow an answer.
+fn put_causes_by<'a, R: Files + AllocGlobal, E: Write>(
+    rt: &R,
+    files: &AuditFiles<'a>,
+    auditor: &mut Auditor,
+    ask: &Ask,
+    answer: &Answer,
+    errors: &mut E,
+) -> Result<(), Unexplained> {
+    refuse_again(rt, files, auditor)?;
+    explain_reply(rt.alloc(), auditor.session(), ask, answer, errors)?;
+    Ok(())
+}
+
+/// An auditor of sessions that start from this tree.
+fn new_auditor(alloc: Global, tree: &[u8]) -> Result<Auditor, Unexplained> {
+    let tree = Tree::read(alloc, tree)?;
+    Ok(Auditor::new(tree)?)
+}
+
+/// Feeds the session to an auditor that has seen nothing of it. Its session is then the one in which the wrong reply
+/// came.
 ///
 /// # Errors
 ///
 /// `OtherTranscript` if the session is not refused any more, and `OutOfMemory`.
-fn refused_auditor<'a, R: Files + AllocGlobal>(
+fn refuse_again<'a, R: Files + AllocGlobal>(
     rt: &R,
     files: &AuditFiles<'a>,
-    tree: &[u8],
-) -> Result<Auditor, Unexplained> {
-    let mut auditor = Auditor::new(Tree::read(rt.alloc(), tree)?)?;
+    auditor: &mut Auditor,
+) -> Result<(), Unexplained> {
     let mut records = records(rt, files)?;
-    match feed_all(&mut auditor, &mut records) {
-        Err(AuditError::Refused(_)) => Ok(auditor),
+    let fed = feed_all(auditor, &mut records);
+    drop(records);
+    match fed {
+        Err(AuditError::Refused(_)) => Ok(()),
         _ => Err(Unexplained::OtherTranscript),
     }
 }

@@ -43,7 +43,8 @@ where
         Ok(ending) => ending.status(),
         Err(failure) => {
             let status = failure.status();
-            messages::report(errors, failure);
+            messages::report(errors, &failure);
+            drop(failure);
             status
         }
     }
@@ -56,9 +57,22 @@ fn perform<'a, R: Files + AllocGlobal, I: Read, O: Write, E: Write>(
     output: &mut O,
     errors: &mut E,
 ) -> Result<Ending, Failure<'a>> {
-    match command_line::parse(rt.alloc(), words)? {
-        Request::Serve(options) => serving::serve(rt, &options, input, output),
-        Request::Audit(files) => subcommands::audit(rt, &files, output, errors),
+    let request = command_line::parse(rt.alloc(), words)?;
+    let ending = perform_request(rt, &request, input, output, errors);
+    drop(request);
+    ending
+}
+
+fn perform_request<'a, R: Files + AllocGlobal, I: Read, O: Write, E: Write>(
+    rt: &R,
+    request: &Request<'a>,
+    input: &mut I,
+    output: &mut O,
+    errors: &mut E,
+) -> Result<Ending, Failure<'a>> {
+    match request {
+        Request::Serve(options) => serving::serve(rt, options, input, output),
+        Request::Audit(files) => subcommands::audit(rt, files, output, errors),
         Request::Blank { file } => subcommands::blank(rt, file),
         Request::Show { file } => showing::show(rt, file, output),
         Request::Help(text) => subcommands::help(text.as_str(), output),

@@ -157,7 +157,7 @@ impl From<TreeError> for Failure<'_> {
 }
 
 /// Writes the reason of a failure. If the stream cannot be written, there is nothing left to do.
-pub(crate) fn report<E: Write>(errors: &mut E, failure: Failure<'_>) {
+pub(crate) fn report<E: Write>(errors: &mut E, failure: &Failure<'_>) {
     let _ = match failure {
         Failure::Usage(text) => write_flushed(errors, text.as_str()),
         other => write_flushed(errors, format_args!("{other}\n")),

@@ -28,14 +28,19 @@ pub(crate) fn serve<'a, R: Files + AllocGlobal, I: Read, O: Write>(
             let ended = session(tree, log, Order::new(options.shuffle), input, output);
             end(rt, ended, options)
         }
-        Err(failure) => Err(failure),
+        Err(failure) => {
+            drop(tree);
+            Err(failure)
+        }
     }
 }
 
 /// The tree of the file `name`.
 fn read_tree<'a, R: Files + AllocGlobal>(rt: &R, name: &'a str) -> Result<Tree, Failure<'a>> {
     let bytes = read(rt, name)?;
-    Ok(Tree::read(rt.alloc(), bytes.as_slice())?)
+    let tree = Tree::read(rt.alloc(), bytes.as_slice());
+    drop(bytes);
+    Ok(tree?)
 }
 
 /// The writer of a new record.
@@ -64,7 +69,9 @@ fn session<L: Write + Drop, I: Read, O: Write>(
 {
     let mut reader = Tally::new(input);
     let mut writer = Tally::new(output);
-    sftp_server::serve(tree, &mut reader, &mut writer, &mut log, &mut order)
+    let ended = sftp_server::serve(tree, &mut reader, &mut writer, &mut log, &mut order);
+    drop(log);
+    ended
 }
 
 /// What the end of a session means for the run. The tree is saved if the session ended by itself.
@@ -76,8 +83,8 @@ fn end<'a, R: Files>(
     ensures { IfOk result (λ ending. ending ≡ endings.Done) }
 {
     match ended {
-        Ended::Finished(tree) => saved(rt, &tree, options.save, None),
-        Ended::Fault(tree, fault) => saved(rt, &tree, options.save, Some(fault)),
+        Ended::Finished(tree) => saved(rt, tree, options.save, None),
+        Ended::Fault(tree, fault) => saved(rt, tree, options.save, Some(fault)),
         Ended::Io(stream) => Err(stream_failure(stream, options)),
         Ended::NoMemory => Err(Failure::OutOfMemory),
     }
@@ -86,18 +93,31 @@ fn end<'a, R: Files>(
 /// Writes the tree at the end of a session, which may have had a fault, to the file, if one is named.
 fn saved<'a, R: Files>(
     rt: &R,
-    tree: &Tree,
+    tree: Tree,
     name: Option<&'a str>,
     fault: Option<SessionFault>,
 ) -> Result<Ending, Failure<'a>>
     ensures { IfOk result (λ ending. ending ≡ endings.Done) }
 {
-    if let Some(name) = name {
-        write(rt, name, tree.write()?.as_slice())?;
-    }
+    let saved = save(rt, &tree, name);
+    drop(tree);
+    saved?;
     match fault {
         Some(fault) => Err(Failure::Session(fault)),
         None => Ok(Ending::Done),
+    }
+}
+
+/// Writes a tree to the file, if one is named.
+fn save<'a, R: Files>(rt: &R, tree: &Tree, name: Option<&'a str>) -> Result<(), Failure<'a>> {
+    match name {
+        Some(name) => {
+            let bytes = tree.write()?;
+            let written = write(rt, name, bytes.as_slice());
+            drop(bytes);
+            written
+        }
+        None => Ok(()),
     }
 }
 

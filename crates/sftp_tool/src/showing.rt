@@ -79,21 +79,31 @@ fn show_records<'a, F: Read + Drop, O: Write>(
     output: &mut O,
 ) -> Result<(), Failure<'a>> {
     match Reader::new(alloc, Tally::new(file)) {
-        Ok(mut records) => match show_transcript(&mut records, output) {
-            Ok(()) => Ok(()),
-            Err(ShowError::Transcript(error)) => Err(Failure::of_transcript(error, name)),
-            Err(ShowError::Output(error)) => Err(Failure::writing(STANDARD_OUTPUT, &error)),
-        },
+        Ok(mut records) => {
+            let shown = show_transcript(&mut records, output);
+            drop(records);
+            shown_or_failure(shown, name)
+        }
         Err(error) => Err(Failure::of_transcript(error, name)),
+    }
+}
+
+/// What the end of showing the transcript `name` means for the run.
+fn shown_or_failure<'a>(shown: Result<(), ShowError>, name: &'a str) -> Result<(), Failure<'a>> {
+    match shown {
+        Ok(()) => Ok(()),
+        Err(ShowError::Transcript(error)) => Err(Failure::of_transcript(error, name)),
+        Err(ShowError::Output(error)) => Err(Failure::writing(STANDARD_OUTPUT, &error)),
     }
 }
 
 fn show_rows<'a, O: Write>(alloc: Global, bytes: &[u8], output: &mut O) -> Result<(), Failure<'a>> {
     match read_rows(alloc, bytes) {
-        Ok(file) => match show_tree(&file, output) {
-            Ok(()) => Ok(()),
-            Err(error) => Err(Failure::writing(STANDARD_OUTPUT, &error)),
-        },
+        Ok(file) => {
+            let shown = show_tree(&file, output);
+            drop(file);
+            shown.map_err(|error| Failure::writing(STANDARD_OUTPUT, &error))
+        }
         Err(TreeError::Magic { .. }) => Err(Failure::UnknownFile),
         Err(error) => Err(Failure::from(error)),
     }

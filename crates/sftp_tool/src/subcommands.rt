@@ -22,14 +22,31 @@ pub(crate) fn audit<'a, R: Files + AllocGlobal, O: Write, E: Write>(
     errors: &mut E,
 ) -> Result<Ending, Failure<'a>> {
     let tree = read(rt, files.tree)?;
+    let ending = audit_from(rt, files, tree.as_slice(), output, errors);
+    drop(tree);
+    ending
+}
+
+/// Audits a session that starts from the tree of this file.
+fn audit_from<'a, R: Files + AllocGlobal, O: Write, E: Write>(
+    rt: &R,
+    files: &AuditFiles<'a>,
+    tree: &[u8],
+    output: &mut O,
+    errors: &mut E,
+) -> Result<Ending, Failure<'a>> {
     let transcript = open(rt, files.transcript)?;
-    match judge(rt.alloc(), tree.as_slice(), transcript) {
-        Ok(accepted) => accept(rt, &accepted, files.out, output),
+    match judge(rt.alloc(), tree, transcript) {
+        Ok(accepted) => {
+            let ending = accept(rt, &accepted, files.out, output);
+            drop(accepted);
+            ending
+        }
         Err(error) => {
             let refusal = refusal_or_failure(error, files.transcript)?;
             let ending = refuse(refusal, output)?;
             if files.explains {
-                explain(rt, files, tree.as_slice(), refusal, errors);
+                explain(rt, files, tree, refusal, errors);
             }
             Ok(ending)
         }
@@ -43,7 +60,9 @@ fn judge<F: Read + Drop>(
     transcript: F,
 ) -> Result<Accepted, AuditError> {
     let mut records = Reader::new(alloc, Tally::new(transcript))?;
-    sftp_audit::audit_stream(alloc, tree, &mut records)
+    let accepted = sftp_audit::audit_stream(alloc, tree, &mut records);
+    drop(records);
+    accepted
 }
 
 /// Writes the blank tree to the file `name`.
@@ -56,7 +75,9 @@ pub(crate) fn blank<'a, R: Files + AllocGlobal>(
 {
     match sftp_audit::blank_tree(rt.alloc()) {
         Ok(tree) => {
-            write(rt, name, tree.as_slice())?;
+            let written = write(rt, name, tree.as_slice());
+            drop(tree);
+            written?;
             Ok(Ending::Done)
         }
         Err(_no_memory) => Err(Failure::OutOfMemory),
