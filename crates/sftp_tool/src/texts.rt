@@ -7,8 +7,7 @@ use crate::subcommands::{read, write};
 use sftp_audit::{TranscriptError, TreeError};
 use sftp_show::Quoted;
 use sftp_text::{
-    ShowFault, TextFault, is_blank, put_transcript, put_tree, read_transcript, read_tree,
-    take_line,
+    ShowFault, TextFault, is_blank, put_transcript, put_tree, read_transcript, read_tree, take_line,
 };
 use sftp_transcript::OPENING;
 use sftp_treefile::read_rows;
