@@ -68,8 +68,8 @@ belongs to, or the target of a link.
 
 Bytes other than printable ASCII, and \" and \\, are shown as \\x and two hexadecimal digits.
 
-With --full, a line has all that its record or entry holds, and 'make' makes the same file of the lines. A record that is
-no packet of the protocol is shown as raw and its bytes in hexadecimal.";
+With --full, a line has all that its record or entry holds, and 'make' makes the same file of the lines. A record that
+is no packet of the protocol is shown as raw and its bytes in hexadecimal.";
 
 const ABOUT_BLANK: &str = "Writes the tree file of a tree that holds only the root directory";
 
