@@ -88,6 +88,15 @@ fn put_expected<O: Write>(
     answer: &Answer,
     output: &mut O,
 ) -> Result<(), ExplainError> {
+    put_allowed_answer(ask, expected, output)?;
+    put_found(expected, answer, output)
+}
+
+fn put_allowed_answer<O: Write>(
+    ask: &Ask,
+    expected: &Answer,
+    output: &mut O,
+) -> Result<(), ExplainError> {
     let text = AnswerText(expected);
     match (ask, expected) {
         (Ask::Read { offset, .. }, Answer::Data(_)) => {
@@ -95,7 +104,7 @@ fn put_expected<O: Write>(
         }
         _ => writeln!(output, "expected: {text}")?,
     }
-    put_found(expected, answer, output)
+    Ok(())
 }
 
 /// Writes the answer that was given, and the first byte in which it differs.
@@ -123,19 +132,30 @@ fn put_listing<T: HandleTable, O: Write>(
     answer: &Answer,
     output: &mut O,
 ) -> Result<(), ExplainError> {
-    let Some(left) = session.listing(handle) else {
-        return Ok(());
-    };
+    match session.listing(handle) {
+        Some(left) => put_left(alloc, session, handle, left, answer, output),
+        None => Ok(()),
+    }
+}
+
+fn put_left<T: HandleTable, O: Write>(
+    alloc: Global,
+    session: &Session<T>,
+    handle: &[u8],
+    left: &Listing,
+    answer: &Answer,
+    output: &mut O,
+) -> Result<(), ExplainError> {
     let count = left.len();
     if count == 0 {
         writeln!(output, "expected: STATUS with code 1 (EOF)")?;
         return Ok(());
     }
     put_names_left(session, handle, count, output)?;
-    if let Answer::Name(names) = answer {
-        put_wrong_name(alloc, left, names, output)?;
+    match answer {
+        Answer::Name(names) => put_wrong_name(alloc, left, names, output),
+        _ => Ok(()),
     }
-    Ok(())
 }
 
 /// Writes the first of the `count` names that a listing still has to give.
