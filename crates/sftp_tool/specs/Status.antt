@@ -9,12 +9,13 @@ abbrev pub ending_status : Ending → ℕ
 ending_status Done = 0
 ending_status Refused = 1
 
--- 1: the client broke the protocol; 2: bad usage or a malformed input file; 3: a file, a stream or memory failed
+-- 1: the client broke the protocol; 2: bad usage or a malformed input file or text; 3: a file, a stream or memory failed
 abbrev pub failure_status : Failure → ℕ
 failure_status (failures.Usage _) = 2
 failure_status (failures.Session _) = 1
 failure_status (failures.Tree _) = 2
 failure_status (failures.Transcript _) = 2
+failure_status (failures.Text _) = 2
 failure_status failures.UnknownFile = 2
 failure_status (failures.CannotRead _) = 3
 failure_status (failures.CannotWrite _) = 3

@@ -10,7 +10,7 @@ const ABOUT: &str =
 const STATUSES: &str = "Exit status:
   0  the session was served or is accepted, the file was written, or help or the version was shown
   1  the session is refused, or the client broke the protocol
-  2  bad usage, or a malformed or unknown input file
+  2  bad usage, or a malformed or unknown input file or text
   3  a file or a stream cannot be read or written, or memory ran out";
 
 const ABOUT_SERVE: &str =
@@ -32,6 +32,30 @@ const ABOUT_AUDIT: &str = "Checks every reply of a recorded session against a fi
 const ABOUT_SHOW: &str =
     "Prints what a transcript or a tree file holds, a line for each record or entry";
 
+const ABOUT_MAKE: &str =
+    "Writes the transcript or the tree file whose text is on standard input, as 'show --full' prints it";
+
+const AFTER_MAKE: &str = "The text of a transcript has a line for each record, such as
+
+  C INIT 3
+  S VERSION 3 \"posix-rename@openssh.com\"=\"1\"
+  C 1 OPEN \"/f\" READ|CREAT size=5 permissions=0644
+  S 1 HANDLE \"h\"
+  C 2 WRITE \"h\" 0 \"abc\"
+  S 2 STATUS 0
+  C raw 0000000103
+
+That of a tree file begins with the lines of its head and of its root, and has a line for each entry:
+
+  home \"/\" uid 0 gid 0 entries 3
+  D \"/\" 0 0 0755
+  F \"/f\" 0 0 0644 \"abc\"
+  H \"/g\" 1
+  L \"/l\" \"f\"
+
+Blank lines, and lines that begin with #, say nothing. What the bytes of the file mean is not judged: 'show' and 'audit'
+do that. Where the text is malformed, the line, the column and the word are named, and no file is written.";
+
 const AFTER_SHOW: &str =
     "The line of a record has its number, C or S for the side that sent the packet, the packet's name, its id (the
 version of an INIT or a VERSION), and the packet's length in bytes; then the code of a STATUS, or the paths of a
@@ -42,7 +66,10 @@ entry has its number, its kind (D directory, F file, H further name of a file, L
 and permissions of a directory or a file, the length of a file in bytes, the number of the entry that a further name
 belongs to, or the target of a link.
 
-Bytes other than printable ASCII, and \" and \\, are shown as \\x and two hexadecimal digits.";
+Bytes other than printable ASCII, and \" and \\, are shown as \\x and two hexadecimal digits.
+
+With --full, a line has all that its record or entry holds, and 'make' makes the same file of the lines. A record that
+is no packet of the protocol is shown as raw and its bytes in hexadecimal.";
 
 const ABOUT_BLANK: &str = "Writes the tree file of a tree that holds only the root directory";
 
@@ -70,8 +97,10 @@ pub(crate) enum Request<'a> {
     Audit(AuditFiles<'a>),
     /// Write the blank tree to a file.
     Blank { file: &'a str },
-    /// Show what a transcript or a tree file holds.
-    Show { file: &'a str },
+    /// Show what a transcript or a tree file holds: all of it, or a line for each record or entry that sums it up.
+    Show { file: &'a str, full: bool },
+    /// Make a transcript or a tree file from its text.
+    Make { file: &'a str },
     /// Print this text: help or the version.
     Help(String),
 }
@@ -150,15 +179,16 @@ fn requested<'a>(matches: &ArgMatches<'a>) -> Option<Request<'a>> {
     match name {
         "serve" => serve_options(given).map(Request::Serve),
         "audit" => audit_files(given).map(Request::Audit),
-        "show" => {
-            let file = given.get_str("file")?;
-            Some(Request::Show { file })
-        }
-        _ => {
-            let file = given.get_str("file")?;
-            Some(Request::Blank { file })
-        }
+        "show" => show_request(given),
+        "make" => given.get_str("file").map(|file| Request::Make { file }),
+        _ => given.get_str("file").map(|file| Request::Blank { file }),
     }
+}
+
+fn show_request<'a>(given: &ArgMatches<'a>) -> Option<Request<'a>> {
+    let file = given.get_str("file")?;
+    let full = given.get_flag("full");
+    Some(Request::Show { file, full })
 }
 
 fn serve_options<'a>(given: &ArgMatches<'a>) -> Option<ServeOptions<'a>> {
@@ -188,6 +218,7 @@ fn command<'a>(alloc: Global) -> Result<Command<'a>, AllocError> {
     let command = with_subcommand(command, serve_command(alloc))?;
     let command = with_subcommand(command, audit_command(alloc))?;
     let command = with_subcommand(command, show_command(alloc))?;
+    let command = with_subcommand(command, make_command(alloc))?;
     with_subcommand(command, blank_command(alloc))
 }
 
@@ -260,24 +291,38 @@ fn explain_option<'a>(alloc: Global) -> Arg<'a> {
 }
 
 fn show_command<'a>(alloc: Global) -> Result<Command<'a>, AllocError> {
-    let file = Arg::new(alloc, "file")
-        .value_name("FILE")
-        .action(ArgAction::Set)
-        .required(true)
-        .help("The transcript or the tree file");
     Command::new(alloc, "show")
         .about(ABOUT_SHOW)
         .after_help(AFTER_SHOW)
-        .arg(file)
+        .arg(full_option(alloc))?
+        .arg(file_argument(alloc).help("The transcript or the tree file"))
+}
+
+fn full_option<'a>(alloc: Global) -> Arg<'a> {
+    Arg::new(alloc, "full")
+        .long("full")
+        .action(ArgAction::SetTrue)
+        .help("Print all that the file holds, as text that 'make' reads")
+}
+
+fn make_command<'a>(alloc: Global) -> Result<Command<'a>, AllocError> {
+    Command::new(alloc, "make")
+        .about(ABOUT_MAKE)
+        .after_help(AFTER_MAKE)
+        .arg(file_argument(alloc).help("The file to write"))
 }
 
 fn blank_command<'a>(alloc: Global) -> Result<Command<'a>, AllocError> {
-    let file = Arg::new(alloc, "file")
+    let file = file_argument(alloc).help("The file to write");
+    Command::new(alloc, "blank").about(ABOUT_BLANK).arg(file)
+}
+
+/// The argument `FILE`.
+fn file_argument<'a>(alloc: Global) -> Arg<'a> {
+    Arg::new(alloc, "file")
         .value_name("FILE")
         .action(ArgAction::Set)
         .required(true)
-        .help("The file to write");
-    Command::new(alloc, "blank").about(ABOUT_BLANK).arg(file)
 }
 
 /// An option `--NAME FILE`.

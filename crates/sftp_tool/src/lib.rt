@@ -10,6 +10,7 @@ mod messages;
 mod serving;
 mod showing;
 mod subcommands;
+mod texts;
 
 use command_line::Request;
 use messages::{Ending, Failure};
@@ -20,11 +21,12 @@ use std::io::{Read, Write};
 ///
 /// - 0: the session was served or is accepted, the file was written, or help or the version was shown;
 /// - 1: the session is refused, and `output` says why; or the client broke the protocol, and `errors` says how;
-/// - 2: bad usage, or a malformed or unknown file;
+/// - 2: bad usage, or a malformed or unknown file or text;
 /// - 3: a file or a stream cannot be read or written, or memory ran out.
 ///
 /// With status 2 or 3 the reason is written to `errors`. If `errors` cannot be written, the status is the same.
-/// `output` is flushed, unless a session stops because a stream fails or memory runs out. Only `serve` reads `input`.
+/// `output` is flushed, unless a session stops because a stream fails or memory runs out. Only `serve` and `make` read
+/// `input`.
 pub fn run<R, I, O, E>(
     rt: &R,
     words: &[String],
@@ -74,7 +76,9 @@ fn perform_request<'a, R: Files + AllocGlobal, I: Read, O: Write, E: Write>(
         Request::Serve(options) => serving::serve(rt, options, input, output),
         Request::Audit(files) => subcommands::audit(rt, files, output, errors),
         Request::Blank { file } => subcommands::blank(rt, file),
-        Request::Show { file } => showing::show(rt, file, output),
+        Request::Make { file } => texts::make(rt, file, input),
+        Request::Show { file, full: false } => showing::show(rt, file, output),
+        Request::Show { file, full: true } => texts::show_full(rt, file, output),
         Request::Help(text) => subcommands::help(text.as_str(), output),
     }
 }

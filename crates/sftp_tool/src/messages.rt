@@ -42,6 +42,9 @@ pub(crate) enum Failure<'a> {
     /// The transcript is malformed.
     #[error("sftpv3: transcript: {0}")]
     Transcript(TranscriptError),
+    /// The text of a file is malformed. This says where, and what was expected there.
+    #[error("sftpv3: {0}")]
+    Text(String),
     /// The file is neither a transcript nor a tree file.
     #[error("sftpv3: unknown file")]
     UnknownFile,
@@ -84,8 +87,11 @@ impl Failure<'_> {
     {
         match self {
             Failure::Session(_) => 1,
-            Failure::Usage(_) | Failure::Tree(_) | Failure::Transcript(_) | Failure::UnknownFile =>
-                2,
+            Failure::Usage(_)
+            | Failure::Tree(_)
+            | Failure::Transcript(_)
+            | Failure::Text(_)
+            | Failure::UnknownFile => 2,
             Failure::CannotRead(_) | Failure::CannotWrite(_) | Failure::OutOfMemory => 3,
         }
     }

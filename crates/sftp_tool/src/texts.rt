@@ -1,0 +1,207 @@
+//! The subcommands `show --full` and `make`: a transcript or a tree file as text that gives the same bytes back.
+ghost use Rattle.std.specs.Prelude.{◌≡◌, IfOk};
+ghost use Rattle.sftp_tool.specs.declared.messages.Ending.TheVariants as endings;
+
+use crate::messages::{Ending, Failure, STANDARD_INPUT, STANDARD_OUTPUT};
+use crate::subcommands::{read, write};
+use sftp_audit::{TranscriptError, TreeError};
+use sftp_show::Quoted;
+use sftp_text::{
+    ShowFault, TextFault, is_blank, put_transcript, put_tree, read_transcript, read_tree, take_line,
+};
+use sftp_transcript::OPENING;
+use sftp_treefile::read_rows;
+use std::alloc::Global;
+use std::fs::Files;
+use std::io;
+use std::io::{Read, Write};
+
+/// What the text of a tree file begins with, where blank lines and comments are left out.
+const TREE_LABEL: &[u8] = b"home ";
+
+/// Shows a file in full. Its first bytes say which kind it is.
+pub(crate) fn show_full<'a, R: Files + AllocGlobal, O: Write>(
+    rt: &R,
+    name: &'a str,
+    output: &mut O,
+) -> Result<Ending, Failure<'a>>
+    ensures { IfOk result (λ ending. ending ≡ endings.Done) }
+{
+    let bytes = read(rt, name)?;
+    let ending = put_full(rt.alloc(), bytes.as_slice(), output);
+    drop(bytes);
+    ending
+}
+
+fn put_full<'a, O: Write>(
+    alloc: Global,
+    bytes: &[u8],
+    output: &mut O,
+) -> Result<Ending, Failure<'a>>
+    ensures { IfOk result (λ ending. ending ≡ endings.Done) }
+{
+    let mut text = Vec::new(alloc);
+    let shown = put_text(alloc, bytes, &mut text);
+    let printed = print_bytes(output, text.as_slice());
+    drop(text);
+    match printed {
+        Ok(()) => {
+            shown?;
+            Ok(Ending::Done)
+        }
+        Err(failure) => {
+            drop(shown);
+            Err(failure)
+        }
+    }
+}
+
+/// Appends the text of a file to an empty one. Of a malformed transcript it then has the records before the fault.
+fn put_text<'a>(alloc: Global, bytes: &[u8], text: &mut Vec<u8>) -> Result<(), Failure<'a>> {
+    if bytes.starts_with(OPENING.as_slice()) {
+        match put_transcript(bytes, text) {
+            Ok(()) => Ok(()),
+            Err(ShowFault::NoMemory) => Err(Failure::OutOfMemory),
+            Err(ShowFault::Unfit) => Err(without_side(text.as_slice())),
+        }
+    } else {
+        match put_tree(bytes, text) {
+            Ok(()) => Ok(()),
+            Err(ShowFault::NoMemory) => Err(Failure::OutOfMemory),
+            Err(ShowFault::Unfit) => {
+                text.clear();
+                Err(malformed(alloc, bytes))
+            }
+        }
+    }
+}
+
+/// That the record after these lines begins with neither `C` nor `S`.
+fn without_side<'a>(lines: &[u8]) -> Failure<'a> {
+    let mut record: u64 = 1;
+    for byte in lines {
+        record = record.saturating_add(u64::from(*byte == b'\n'));
+    }
+    Failure::Transcript(TranscriptError::Direction { record })
+}
+
+/// Why bytes that do not have the form of a tree file are none.
+fn malformed<'a>(alloc: Global, bytes: &[u8]) -> Failure<'a> {
+    match read_rows(alloc, bytes) {
+        Ok(file) => {
+            drop(file);
+            Failure::UnknownFile
+        }
+        Err(TreeError::Magic { .. }) => Failure::UnknownFile,
+        Err(error) => Failure::from(error),
+    }
+}
+
+fn print_bytes<'a, O: Write>(output: &mut O, bytes: &[u8]) -> Result<(), Failure<'a>> {
+    match write_all_flushed(output, bytes) {
+        Ok(()) => Ok(()),
+        Err(error) => Err(Failure::writing(STANDARD_OUTPUT, &error)),
+    }
+}
+
+fn write_all_flushed<O: Write>(output: &mut O, bytes: &[u8]) -> io::Result<()> {
+    output.write_all(bytes)?;
+    output.flush()?;
+    Ok(())
+}
+
+/// Writes the file `name` whose text is on standard input. Its first line says of which kind it is: with `home` it is a
+/// tree file, else a transcript.
+pub(crate) fn make<'a, R: Files + AllocGlobal, I: Read>(
+    rt: &R,
+    name: &'a str,
+    input: &mut I,
+) -> Result<Ending, Failure<'a>>
+    ensures { IfOk result (λ ending. ending ≡ endings.Done) }
+{
+    let mut text = Vec::new(rt.alloc());
+    let made = match input.read_to_end(&mut text) {
+        Ok(_) => make_from(rt, name, text.as_slice()),
+        Err(error) => Err(Failure::reading(STANDARD_INPUT, &error)),
+    };
+    drop(text);
+    made
+}
+
+fn make_from<'a, R: Files + AllocGlobal>(
+    rt: &R,
+    name: &'a str,
+    text: &[u8],
+) -> Result<Ending, Failure<'a>>
+    ensures { IfOk result (λ ending. ending ≡ endings.Done) }
+{
+    let mut bytes = Vec::new(rt.alloc());
+    let made = match read_text(text, &mut bytes) {
+        Ok(()) => write(rt, name, bytes.as_slice()),
+        Err(fault) => Err(text_failure(rt.alloc(), fault, text)),
+    };
+    drop(bytes);
+    made?;
+    Ok(Ending::Done)
+}
+
+fn read_text(text: &[u8], bytes: &mut Vec<u8>) -> Result<(), TextFault> {
+    if is_tree_text(text) {
+        read_tree(text, bytes)
+    } else {
+        read_transcript(text, bytes)
+    }
+}
+
+/// Whether the first line that says something is that of a tree file.
+fn is_tree_text(text: &[u8]) -> bool {
+    let mut rest = text;
+    'lines: while let Some(line) = take_line(&mut rest) {
+        if !is_blank(line) {
+            return line.starts_with(TREE_LABEL);
+        }
+    }
+    false
+}
+
+/// The message for a text that is no file: the line, the column, the word there, and what was expected in its place.
+fn text_failure<'a>(alloc: Global, fault: TextFault, text: &[u8]) -> Failure<'a> {
+    match fault {
+        TextFault::NoMemory => Failure::OutOfMemory,
+        TextFault::Unread {
+            line,
+            column,
+            expected,
+        } => {
+            let word = Quoted(word_at(text, line, column));
+            match format!(in alloc; "line {line}, column {column}: {word} is not {expected}") {
+                Ok(message) => Failure::Text(message),
+                Err(_) => Failure::OutOfMemory,
+            }
+        }
+    }
+}
+
+/// The word at a column of a line, up to the next space; lines and columns count from 1.
+fn word_at(text: &[u8], line: u64, column: u64) -> &[u8] {
+    let line = line_at(text, line);
+    let start = (column.saturating_sub(1) as usize).min(line.len());
+    let word = line.get(start..).unwrap_or(line);
+    match word.iter().position(|byte| *byte == b' ') {
+        Some(end) => word.get(..end).unwrap_or(word),
+        None => word,
+    }
+}
+
+/// The line with this number, or no bytes if there are fewer. Lines count from 1.
+fn line_at(text: &[u8], number: u64) -> &[u8] {
+    let mut rest = text;
+    let mut place: u64 = 1;
+    'lines: while let Some(line) = take_line(&mut rest) {
+        if place == number {
+            return line;
+        }
+        place = place.saturating_add(1);
+    }
+    &[]
+}
