@@ -1,7 +1,7 @@
 //! Long seeded sessions: what a session answers, another session on an equal tree accepts, and both end with equal
 //! trees.
 use crate::generator::Generator;
-use sftp_handles::{GivenTable, Session, SlabTable};
+use sftp_handles::{GivenTable, HandleTable, Session, SlabTable};
 use sftp_path::NoMemory;
 use sftp_tree::Tree;
 use sftp_wire::{Answer, Packet, Reply, Request, Side, front};
@@ -259,6 +259,14 @@ struct Pair {
     refused: u32,
 }
 
+/// A session on the tree of a tree file.
+fn session<T: HandleTable>(alloc: Global, file: &[u8]) -> Result<Session<T>, NoMemory> {
+    match Tree::read(alloc, file) {
+        Ok(tree) => Session::new(tree),
+        Err(_) => Err(NoMemory),
+    }
+}
+
 /// Whether a reply refuses its request.
 fn refuses(reply: &Reply) -> bool {
     match &reply.answer {
@@ -270,14 +278,18 @@ fn refuses(reply: &Reply) -> bool {
 impl Pair {
     /// Both sessions on the tree of a tree file.
     fn on(alloc: Global, file: &[u8]) -> Result<Pair, NoMemory> {
-        match (Tree::read(alloc, file), Tree::read(alloc, file)) {
-            (Ok(ours), Ok(theirs)) => Ok(Pair {
-                ours: Session::new(ours)?,
-                theirs: Session::new(theirs)?,
+        let ours = session(alloc, file)?;
+        match session(alloc, file) {
+            Ok(theirs) => Ok(Pair {
+                ours,
+                theirs,
                 done: 0,
                 refused: 0,
             }),
-            _ => Err(NoMemory),
+            Err(error) => {
+                drop(ours);
+                Err(error)
+            }
         }
     }
 
@@ -292,21 +304,25 @@ impl Pair {
 
     /// Whether a reply is given, and accepted.
     fn agrees(&mut self, asker: &mut Asker, bit: u32, request: &Request) -> bool {
-        match self.ours.answer(request) {
-            Ok(reply) => {
-                self.note(bit, &reply);
-                asker.keep(&reply) && matches!(self.theirs.accept(request, &reply), Ok(true))
-            }
-            Err(_) => false,
-        }
+        let Ok(reply) = self.ours.answer(request) else {
+            return false;
+        };
+        self.note(bit, &reply);
+        let kept = asker.keep(&reply);
+        let accepted = self.theirs.accept(request, &reply);
+        drop(reply);
+        kept && accepted == Ok(true)
     }
 
     /// Whether a packet is a request to which a reply is given, and accepted.
     fn agrees_on(&mut self, alloc: Global, asker: &mut Asker, bit: u32, packet: &[u8]) -> bool {
-        match front(alloc, packet, Side::Client) {
-            Ok(Some((Packet::Request(request), _))) => self.agrees(asker, bit, &request),
+        let front = front(alloc, packet, Side::Client);
+        let agrees = match &front {
+            Ok(Some((Packet::Request(request), _))) => self.agrees(asker, bit, request),
             _ => false,
-        }
+        };
+        drop(front);
+        agrees
     }
 
     /// The number of the first request to which no reply is given, or none that is accepted.
@@ -323,10 +339,13 @@ impl Pair {
     }
 
     /// Whether the trees of both sessions have one tree file in the end.
-    fn ends_alike(self) -> bool {
+    fn ends_alike(self) -> Result<bool, NoMemory> {
         let ours = self.ours.into_tree();
         let theirs = self.theirs.into_tree();
-        matches!(are_alike(&ours, &theirs), Ok(true))
+        let alike = are_alike(&ours, &theirs);
+        drop(ours);
+        drop(theirs);
+        alike
     }
 }
 
@@ -343,10 +362,10 @@ fn agrees(alloc: Global, seed: u32) -> Result<bool, NoMemory> {
         handles: Vec::new(alloc),
     };
     let mut pair = Pair::on(alloc, MIXED)?;
-    let wrong = pair.first_wrong(alloc, &mut asker)?;
+    let wrong = pair.first_wrong(alloc, &mut asker);
     let has_all = pair.done == CAN_BE_DONE && pair.refused == ALL;
     let alike = pair.ends_alike();
-    Ok(wrong.is_none() && has_all && alike)
+    Ok(wrong?.is_none() && has_all && alike?)
 }
 
 #[test]

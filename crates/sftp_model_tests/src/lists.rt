@@ -88,7 +88,7 @@ fn set(tree: &mut Tree, path: &[u8], given: Given) -> Result<(), Refused> {
 }
 
 fn show(tree: &Tree, path: &[u8], follow: bool) -> Result<(), Refused> {
-    tree.stat(path, follow)?;
+    drop(tree.stat(path, follow)?);
     Ok(())
 }
 
@@ -103,13 +103,14 @@ fn open(tree: &mut Tree, path: &[u8], flags: u32, given: Given) -> Result<(), Re
 }
 
 fn list(tree: &Tree, path: &[u8]) -> Result<(), Refused> {
-    tree.list(path)?;
+    drop(tree.list(path)?);
     Ok(())
 }
 
 /// Whether STAT, or LSTAT if links are not followed, shows the size, the owner and the permissions alone.
 fn shows(tree: &Tree, path: &[u8], follow: bool, size: u64, owner: (u32, u32), bits: u32) -> bool {
-    match tree.stat(path, follow) {
+    let stat = tree.stat(path, follow);
+    let holds = match &stat {
         Ok(attrs) => {
             attrs.size == Some(size)
                 && attrs.owner == Some(owner)
@@ -118,7 +119,9 @@ fn shows(tree: &Tree, path: &[u8], follow: bool, size: u64, owner: (u32, u32), b
                 && attrs.extended.is_none()
         }
         Err(_) => false,
-    }
+    };
+    drop(stat);
+    holds
 }
 
 /// Whether these bytes are the tree's file.

@@ -1,11 +1,10 @@
 -- What the server logs accounts for a run.
 use Rattle.std.proofs.Common.{◌≡◌, ◌⊎◌, ℕ, List, [], ◌++◌, Option, Some, refl, sym, subst, inl, inr, ◌∙◌}
-use Rattle.std.specs.Io.KnownBytes.{Appends}
+use Rattle.std.specs.Io.KnownBytes.{Appends, IsAtEnd}
 use Rattle.sftp_transcript.specs.declared.events.Event.{Event}
 use Rattle.sftp_transcript.specs.Transcript.{IsRecord}
 use Rattle.sftp_tree.specs.Tree.{Tree}
 use Rattle.sftp_tree.specs.Picture.{IsStart}
-use Rattle.std.specs.Io.KnownBytes.{IsAtEnd}
 use Rattle.sftp_server.specs.declared.ends.Ended.TheVariants.{Finished, Fault}
 use Rattle.sftp_server.specs.declared.ends.SessionFault.{SessionFault}
 use Rattle.sftp_server.specs.Served.{IsFinished, IsFaulty, IsUnopened, IsOpened, IsServed, Served}

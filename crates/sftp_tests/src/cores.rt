@@ -57,24 +57,18 @@ const ORDER: &[Call] = &[
     Call::Send(0, None),
 ];
 
+const ASK: Call = Call::Deliver(0, None);
+
+const WORK: Call = Call::Work(0, Did::Done);
+
+const SEND: Call = Call::Send(0, Some(0));
+
 /// Calls after which a core finishes, or does not.
 const ENDS: &[(&str, &[Call], bool)] = &[
     ("nothing asked", &[], true),
-    ("a request is pending", &[Call::Deliver(0, None)], false),
-    (
-        "a reply is not sent",
-        &[Call::Deliver(0, None), Call::Work(0, Did::Done)],
-        false,
-    ),
-    (
-        "each request is answered",
-        &[
-            Call::Deliver(0, None),
-            Call::Work(0, Did::Done),
-            Call::Send(0, Some(0)),
-        ],
-        true,
-    ),
+    ("a request is pending", &[ASK], false),
+    ("a reply is not sent", &[ASK, WORK], false),
+    ("each request is answered", &[ASK, WORK, SEND], true),
 ];
 
 /// Why a request with this id is not taken.

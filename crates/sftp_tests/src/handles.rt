@@ -85,23 +85,22 @@ fn given_names(rt: HostRuntime) -> Result<(), Fail> {
     Ok(())
 }
 
-/// Opens an empty listing, and returns the name that the table gives it; empty if memory runs out.
-fn open_given(alloc: Global, table: &mut SlabTable) -> Vec<u8> {
+/// Opens an empty listing, and says whether the table gives it this name.
+fn gives_next(alloc: Global, table: &mut SlabTable, name: &[u8]) -> bool {
     let it = Open::Listing {
         left: Listing::empty(alloc),
     };
-    match table.put(it, Vec::new(alloc)) {
-        Ok(name) => name,
-        failed => {
-            drop(failed);
-            Vec::new(alloc)
-        }
-    }
+    let put = table.put(it, Vec::new(alloc));
+    let given = is_name(&put, name);
+    drop(put);
+    given
 }
 
-/// Whether an opening gets this name next.
-fn gives_next(alloc: Global, table: &mut SlabTable, name: &[u8]) -> bool {
-    open_given(alloc, table).as_slice() == name
+fn is_name(put: &Result<Vec<u8>, (Open, PutError)>, name: &[u8]) -> bool {
+    match put {
+        Ok(given) => given.as_slice() == name,
+        Err(_) => false,
+    }
 }
 
 // The names of the first openings: the number of a slot in 8 bytes, and a serial in 4.

@@ -1,8 +1,8 @@
-//! Tests of what no case of `sftp_cases` can say, in a module for each library: calls by values, streams that fail, cores
-//! and scripts of acts, the client's pairing. The law of `audited` is about the server and the auditor.
+//! Tests of what no case of `sftp_cases` can say, in a module for each library: calls by values, streams that fail,
+//! cores and scripts of acts, the client's pairing. The law of `audited` is about the server and the auditor.
 //!
-//! A test goes over a table of rows, each with what it has to give, worked out by hand. The assertion names the row that
-//! fails.
+//! A test goes over a table of rows, each with what it has to give, worked out by hand. The assertion names the row
+//! that fails.
 #![tactic(auto)]
 
 #[cfg(test)]
@@ -21,7 +21,7 @@ mod scripts;
 #[cfg(test)]
 mod serving;
 #[cfg(test)]
-mod torn;
+mod streams;
 #[cfg(test)]
 mod transcript;
 #[cfg(test)]

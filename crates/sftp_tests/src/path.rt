@@ -58,27 +58,25 @@ fn is_there(alloc: Global, place: &Place, text: &[u8], depth: usize) -> Result<b
     )
 }
 
-/// Whether the place of a text is before another, and is above it if `lies_above` says so.
-fn is_after(alloc: Global, place: &Place, text: &[u8], lies_above: bool) -> Result<bool, NoMemory> {
-    let other = place_of(alloc, text)?;
-    let holds = other < *place
-        && place.starts_with(&other) == lies_above
-        && !other.starts_with(place);
-    drop(other);
-    Ok(holds)
+/// Whether two places lie in this order, and the first is above the second if `nested` says so.
+fn are_in_order(first: &Place, second: &Place, nested: bool) -> bool {
+    *first < *second && second.starts_with(first) == nested && !first.starts_with(second)
 }
 
-/// Whether the place of a text is after another, and is below it if `lies_below` says so.
-fn is_before(
+/// Whether the place of a text is before another, or after it, and one is above the other if `nested` says so.
+fn is_beside(
     alloc: Global,
     place: &Place,
     text: &[u8],
-    lies_below: bool,
+    before: bool,
+    nested: bool,
 ) -> Result<bool, NoMemory> {
     let other = place_of(alloc, text)?;
-    let holds = *place < other
-        && other.starts_with(place) == lies_below
-        && !place.starts_with(&other);
+    let holds = if before {
+        are_in_order(&other, place, nested)
+    } else {
+        are_in_order(place, &other, nested)
+    };
     drop(other);
     Ok(holds)
 }
@@ -114,8 +112,8 @@ fn holds(alloc: Global, place: &mut Place, step: &Step) -> Result<bool, NoMemory
         }
         Step::IsRoot => Ok(*place == Place::root(alloc)),
         Step::Is(text, depth) => is_there(alloc, place, text, *depth),
-        Step::IsAfter(text, lies_above) => is_after(alloc, place, text, *lies_above),
-        Step::IsBefore(text, lies_below) => is_before(alloc, place, text, *lies_below),
+        Step::IsAfter(text, lies_above) => is_beside(alloc, place, text, true, *lies_above),
+        Step::IsBefore(text, lies_below) => is_beside(alloc, place, text, false, *lies_below),
     }
 }
 

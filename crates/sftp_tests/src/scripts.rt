@@ -1,9 +1,11 @@
 //! Acts of a server that are done one after the other: the events that they make, and the tree in the end.
+use crate::audit::BLANK;
+use crate::wire::written;
 use sftp_path::NoMemory;
 use sftp_server::{Act, Core, run_script};
 use sftp_transcript::Event;
 use sftp_tree::Tree;
-use sftp_wire::{Packet, Request, Side, encode, front};
+use sftp_wire::{Packet, Request, Side, front};
 use std::alloc::{AllocError, Global};
 use std::test::Fail;
 
@@ -26,49 +28,38 @@ const RMDIR: &[u8] = b"\x0f\0\0\0\x02/a";
 /// STATUS 0.
 const DONE: &[u8] = b"e\0\0\0\0\0\0\0\0\0\0\0\0";
 
-/// The tree with nothing but a root.
-const BLANK: &[u8] = b"SFTREE01\0\0\0\x01/\0\0\0\0\0\0\0\0\0\0\0\0\0\0\0\0\0\0\0\0\0\0\x01\xed";
+const MAKE_1: Step = Step::Deliver(1, MKDIR);
+
+const REMOVE_1: Step = Step::Deliver(1, RMDIR);
+
+const REMOVE_2: Step = Step::Deliver(2, RMDIR);
+
+const WORK_0: Step = Step::Work(0);
+
+const WORK_1: Step = Step::Work(1);
+
+const SEND_0: Step = Step::Send(0);
+
+const SEND_1: Step = Step::Send(1);
 
 const SCRIPTS: &[Row] = &[
     ("no acts", &[], &[], true),
     (
         "requests are done in the order asked, and answered in any order",
-        &[
-            Step::Deliver(1, MKDIR),
-            Step::Deliver(2, RMDIR),
-            Step::Work(1),
-            Step::Work(0),
-            Step::Work(1),
-            Step::Send(1),
-            Step::Send(0),
-        ],
+        &[MAKE_1, REMOVE_2, WORK_1, WORK_0, WORK_1, SEND_1, SEND_0],
         &[(1, MKDIR), (2, RMDIR), (2, DONE), (1, DONE)],
         true,
     ),
     (
         "what is answered in front leaves the queue",
-        &[
-            Step::Deliver(1, MKDIR),
-            Step::Deliver(2, RMDIR),
-            Step::Work(0),
-            Step::Send(0),
-            Step::Work(0),
-            Step::Send(0),
-        ],
+        &[MAKE_1, REMOVE_2, WORK_0, SEND_0, WORK_0, SEND_0],
         &[(1, MKDIR), (2, RMDIR), (1, DONE), (2, DONE)],
         true,
     ),
     (
         "a request is answered once",
         &[
-            Step::Deliver(1, MKDIR),
-            Step::Deliver(2, RMDIR),
-            Step::Work(0),
-            Step::Work(1),
-            Step::Send(1),
-            Step::Send(1),
-            Step::Send(0),
-            Step::Send(0),
+            MAKE_1, REMOVE_2, WORK_0, WORK_1, SEND_1, SEND_1, SEND_0, SEND_0,
         ],
         &[(1, MKDIR), (2, RMDIR), (2, DONE), (1, DONE)],
         true,
@@ -76,33 +67,20 @@ const SCRIPTS: &[Row] = &[
     (
         "an id is in use until the reply is sent",
         &[
-            Step::Deliver(1, MKDIR),
-            Step::Deliver(1, RMDIR),
-            Step::Work(0),
-            Step::Deliver(1, RMDIR),
-            Step::Send(0),
-            Step::Deliver(1, RMDIR),
-            Step::Work(0),
-            Step::Send(0),
+            MAKE_1, REMOVE_1, WORK_0, REMOVE_1, SEND_0, REMOVE_1, WORK_0, SEND_0,
         ],
         &[(1, MKDIR), (1, DONE), (1, RMDIR), (1, DONE)],
         true,
     ),
     (
         "no reply is sent before its request is done",
-        &[Step::Deliver(1, MKDIR), Step::Send(0)],
+        &[MAKE_1, SEND_0],
         &[(1, MKDIR)],
         false,
     ),
     (
         "behind the queue nothing is done",
-        &[
-            Step::Work(0),
-            Step::Send(0),
-            Step::Deliver(1, MKDIR),
-            Step::Work(1),
-            Step::Send(1),
-        ],
+        &[WORK_0, SEND_0, MAKE_1, WORK_1, SEND_1],
         &[(1, MKDIR)],
         false,
     ),
@@ -157,11 +135,8 @@ fn is_event(alloc: Global, event: Option<Event>, bytes: &[u8]) -> bool {
     let Some(event) = event else {
         return false;
     };
-    let packet = packet_of(event);
-    let mut out = Vec::new(alloc);
-    let written = encode(&packet, &mut out);
-    drop(packet);
-    written == Ok(()) && out.as_slice() == bytes
+    let (said, out) = written(Vec::new(alloc), packet_of(event));
+    said == Ok(()) && out.as_slice() == bytes
 }
 
 /// Takes the events out, the last one first, and says whether they are these packets.

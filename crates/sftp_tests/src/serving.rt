@@ -1,12 +1,13 @@
-//! Sessions of the server, over streams that fail, and by a schedule of given choices. The bytes are worked out by hand.
+//! Sessions of the server, over streams that fail, and by a schedule of given choices. The bytes are worked out by
+//! hand.
+use crate::audit::BLANK;
+use crate::streams::{Input, Room};
 use sftp_audit::audit;
 use sftp_path::NoMemory;
 use sftp_server::{Ended, Schedule, Stream, serve};
 use sftp_transcript::{Tally, Writer};
 use sftp_tree::Tree;
 use std::alloc::Global;
-use std::io;
-use std::io::{ErrorKind, Read, Write};
 use std::test::Fail;
 
 mod failing;
@@ -18,83 +19,13 @@ const INIT: &[u8] = b"\0\0\0\x05\x01\0\0\0\x03";
 const MKDIR: &[u8] = b"\0\0\0\x0f\x0e\0\0\0\x01\0\0\0\x02/a\0\0\0\0";
 
 /// The server's VERSION.
-const VERSION: &[u8] = b"\0\0\0\x5d\x02\0\0\0\x03\
+pub(crate) const VERSION: &[u8] = b"\0\0\0\x5d\x02\0\0\0\x03\
 \0\0\0\x18posix-rename@openssh.com\0\0\0\x011\
 \0\0\0\x14hardlink@openssh.com\0\0\0\x011\
 \0\0\0\x11fsync@openssh.com\0\0\0\x011";
 
 /// STATUS 0 for the id 1.
 const DONE: &[u8] = b"\0\0\0\x11\x65\0\0\0\x01\0\0\0\0\0\0\0\0\0\0\0\0";
-
-/// The blank tree.
-const BLANK: &[u8] = b"SFTREE01\0\0\0\x01/\0\0\0\0\0\0\0\0\0\0\0\0\0\0\0\0\0\0\0\0\0\0\x01\xed";
-
-/// A reader of these bytes. At their end it fails, if it does.
-#[derive(Debug, Drop)]
-struct Input<'a> {
-    rest: &'a [u8],
-    fails: bool,
-}
-
-impl Read for Input<'_> {
-    fn read(&mut self, buffer: &mut [u8]) -> io::Result<usize> {
-        if self.rest.is_empty() && self.fails {
-            return Err(io::Error::from(ErrorKind::BrokenPipe));
-        }
-        let count = self.rest.len().min(buffer.len());
-        buffer[..count].copy_from_slice(&self.rest[..count]);
-        self.rest = &self.rest[count..];
-        Ok(count)
-    }
-}
-
-/// A writer that takes at most so many bytes a call and has room for so many. Then it fails, or takes no more.
-#[derive(Debug, Drop)]
-struct Room {
-    bytes: Vec<u8>,
-    size: usize,
-    room: usize,
-    fails: bool,
-    flushes: bool,
-}
-
-impl Room {
-    /// Room enough.
-    fn ample(alloc: Global) -> Room {
-        Room::of(alloc, usize::MAX, usize::MAX)
-    }
-
-    /// Room for so many bytes, of which so many are taken a call.
-    fn of(alloc: Global, room: usize, size: usize) -> Room {
-        Room {
-            bytes: Vec::new(alloc),
-            size,
-            room,
-            fails: true,
-            flushes: true,
-        }
-    }
-}
-
-impl Write for Room {
-    fn write(&mut self, bytes: &[u8]) -> io::Result<usize> {
-        let left = self.room.saturating_sub(self.bytes.len());
-        let count = self.size.min(left).min(bytes.len());
-        if count == 0 && self.fails && !bytes.is_empty() {
-            return Err(io::Error::from(ErrorKind::BrokenPipe));
-        }
-        self.bytes.extend_from_slice(&bytes[..count])?;
-        Ok(count)
-    }
-
-    fn flush(&mut self) -> io::Result<()> {
-        if self.flushes {
-            Ok(())
-        } else {
-            Err(io::Error::from(ErrorKind::BrokenPipe))
-        }
-    }
-}
 
 /// How a session ended, without its tree.
 #[derive(Clone, Copy, Debug, PartialEq, Eq)]

@@ -11,7 +11,7 @@ mod replies;
 mod types;
 
 /// What writing a packet after these bytes says, and the bytes then.
-fn written(mut out: Vec<u8>, packet: Packet) -> (Result<(), WireError>, Vec<u8>) {
+pub(crate) fn written(mut out: Vec<u8>, packet: Packet) -> (Result<(), WireError>, Vec<u8>) {
     let said = encode(&packet, &mut out);
     drop(packet);
     (said, out)

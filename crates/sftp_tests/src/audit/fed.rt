@@ -72,18 +72,13 @@ fn refuses(alloc: Global, auditor: &mut Auditor, record: &[u8], refusal: Refusal
     first && again
 }
 
-/// Whether a tree has this tree file.
-fn has_file(tree: &Tree, file: &[u8]) -> bool {
-    match tree.write() {
-        Ok(bytes) => bytes.as_slice() == file,
-        Err(_) => false,
-    }
-}
-
 /// Whether a session ended with the tree of this file, or was refused so.
 fn is_end(end: &Result<Tree, Refusal>, wanted: Result<&[u8], Refusal>) -> bool {
     match (end, wanted) {
-        (Ok(tree), Ok(file)) => has_file(tree, file),
+        (Ok(tree), Ok(file)) => match tree.write() {
+            Ok(bytes) => bytes.as_slice() == file,
+            Err(_) => false,
+        },
         (Err(found), Err(refusal)) => *found == refusal,
         _ => false,
     }

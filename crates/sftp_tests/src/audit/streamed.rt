@@ -1,6 +1,6 @@
 //! Audits of streams: what is judged however the reads are cut, and where the source fails.
 use super::{BLANK, DONE, MAKE_A, WITH_A, recorded};
-use crate::torn::Torn;
+use crate::streams::Input;
 use sftp_audit::{Accepted, AuditError, Refusal, TranscriptError, audit_stream};
 use sftp_transcript::{Reader, Tally};
 use std::alloc::Global;
@@ -9,13 +9,13 @@ use std::test::Fail;
 
 /// The audit of these bytes, read one by one; then the source fails.
 fn torn(alloc: Global, tree: &[u8], transcript: &[u8]) -> Result<Accepted, AuditError> {
-    let mut records = Reader::new(alloc, Tally::new(Torn { rest: transcript }))?;
+    let mut records = Reader::new(alloc, Tally::new(Input::torn(transcript)))?;
     audit_stream(alloc, tree, &mut records)
 }
 
 /// The audit of these bytes, read one by one up to their end.
 fn in_bytes(alloc: Global, tree: &[u8], transcript: &[u8]) -> Result<Accepted, AuditError> {
-    let bytes = Torn { rest: transcript }.take(transcript.len() as u64);
+    let bytes = Input::torn(transcript).take(transcript.len() as u64);
     let mut records = Reader::new(alloc, Tally::new(bytes))?;
     audit_stream(alloc, tree, &mut records)
 }

@@ -1,5 +1,6 @@
 //! Sessions of which one stream fails, at each place: what was written and logged until then.
-use super::{DONE, End, INIT, Input, MKDIR, Outcome, Room, VERSION, session};
+use super::{DONE, End, INIT, MKDIR, Outcome, VERSION, session};
+use crate::streams::{Input, Room};
 use sftp_server::{InOrder, Stream};
 use std::alloc::Global;
 use std::test::Fail;
@@ -38,17 +39,9 @@ fn stops(outcome: &Outcome, stream: Stream, written: usize, logged: usize) -> bo
 
 /// The session with a reader that fails after so many bytes.
 fn torn_input(alloc: Global, count: usize) -> Result<Outcome, Fail> {
-    let input = Input {
-        rest: INPUT.get(..count).unwrap_or(INPUT),
-        fails: true,
-    };
-    session(
-        alloc,
-        input,
-        Room::ample(alloc),
-        Room::ample(alloc),
-        &mut InOrder,
-    )
+    let input = Input::whole(INPUT.get(..count).unwrap_or(INPUT), true);
+    let output = Room::ample(alloc);
+    session(alloc, input, output, Room::ample(alloc), &mut InOrder)
 }
 
 #[test]
@@ -67,11 +60,7 @@ fn reader_fails(rt: HostRuntime) -> Result<(), Fail> {
 
 /// The session of these bytes with these writers.
 fn over(alloc: Global, input: &[u8], output: Room, log: Room) -> Result<Outcome, Fail> {
-    let input = Input {
-        rest: input,
-        fails: false,
-    };
-    session(alloc, input, output, log, &mut InOrder)
+    session(alloc, Input::whole(input, false), output, log, &mut InOrder)
 }
 
 /// The session with a writer and a log that have room for so many bytes and take so many a call.
@@ -137,20 +126,11 @@ fn stuck(alloc: Global) -> Room {
 
 #[test]
 fn flush_fails(rt: HostRuntime) -> Result<(), Fail> {
+    let alloc = rt.alloc();
     for input in [INPUT, FAULTY] {
-        let writer = over(
-            rt.alloc(),
-            input,
-            stuck(rt.alloc()),
-            Room::ample(rt.alloc()),
-        )?;
+        let writer = over(alloc, input, stuck(alloc), Room::ample(alloc))?;
         assert!(rt; stops(&writer, Stream::Writer, 118, 158), "{input:?}");
-        let log = over(
-            rt.alloc(),
-            input,
-            Room::ample(rt.alloc()),
-            stuck(rt.alloc()),
-        )?;
+        let log = over(alloc, input, Room::ample(alloc), stuck(alloc))?;
         assert!(rt; stops(&log, Stream::Log, 118, 158), "{input:?}");
     }
     Ok(())

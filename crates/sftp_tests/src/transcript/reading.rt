@@ -1,5 +1,5 @@
 //! Transcript files that are read: from sources that fail at each place or give one byte a call, and that end anywhere.
-use crate::torn::Torn;
+use crate::streams::Input;
 use sftp_transcript::{Event, Memory, Reader, Source, Tally, TranscriptError};
 use sftp_wire::{Packet, Side};
 use std::alloc::Global;
@@ -95,7 +95,7 @@ fn stops_where_the_source_fails(rt: HostRuntime) -> Result<(), Fail> {
         } else {
             record_at(place)
         };
-        let torn = four(rt.alloc(), Tally::new(Torn { rest }))?;
+        let torn = four(rt.alloc(), Tally::new(Input::torn(rest)))?;
         let failed = Given::Refused(TranscriptError::Io { record });
         assert!(rt; torn == events_then(place, failed), "{place}");
     }
@@ -137,15 +137,6 @@ fn gives_records<R: Source>(reader: &mut Reader<R>) -> bool {
     next_of(reader) == Given::End
 }
 
-#[test]
-fn gives_each_record(rt: HostRuntime) -> Result<(), Fail> {
-    let mut reader = Reader::new(rt.alloc(), Memory::new(SESSION))?;
-    let given = gives_records(&mut reader);
-    drop(reader);
-    assert!(rt; given);
-    Ok(())
-}
-
 /// Whether a reader gives a record, an event, a record, and the end.
 fn gives_both<R: Source>(reader: &mut Reader<R>) -> bool {
     next_head(reader) == Some((Side::Client, 9))
@@ -155,10 +146,14 @@ fn gives_both<R: Source>(reader: &mut Reader<R>) -> bool {
 }
 
 #[test]
-fn mixes_records_and_events(rt: HostRuntime) -> Result<(), Fail> {
+fn gives_records_and_events(rt: HostRuntime) -> Result<(), Fail> {
     let mut reader = Reader::new(rt.alloc(), Memory::new(SESSION))?;
-    let given = gives_both(&mut reader);
+    let records = gives_records(&mut reader);
     drop(reader);
-    assert!(rt; given);
+    assert!(rt; records);
+    let mut reader = Reader::new(rt.alloc(), Memory::new(SESSION))?;
+    let both = gives_both(&mut reader);
+    drop(reader);
+    assert!(rt; both);
     Ok(())
 }

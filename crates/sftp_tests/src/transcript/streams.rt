@@ -1,6 +1,5 @@
 //! Sources and sinks: what is read and written, and how many calls failed.
-use super::Narrow;
-use crate::torn::Torn;
+use crate::streams::{Input, Room};
 use sftp_transcript::{Failed, Memory, Sink, Source, Tally};
 use std::test::Fail;
 
@@ -22,7 +21,7 @@ fn reads_memory_to_the_end(rt: HostRuntime) {
 
 #[test]
 fn counts_failed_reads(rt: HostRuntime) {
-    let mut torn = Tally::new(Torn { rest: b"ab" });
+    let mut torn = Tally::new(Input::torn(b"ab"));
     for (count, bytes, failures) in [
         (Ok(1), *b"a..", 0),
         (Ok(1), *b"b..", 0),
@@ -37,7 +36,9 @@ fn counts_failed_reads(rt: HostRuntime) {
 #[test]
 fn counts_failed_writes(rt: HostRuntime) {
     for fails in [true, false] {
-        let mut narrow = Tally::new(Narrow::new(rt.alloc(), 1, fails));
+        let mut room = Room::of(rt.alloc(), 1, 1);
+        room.fails = fails;
+        let mut narrow = Tally::new(room);
         assert!(rt; narrow.write(b"") == Ok(0), "{fails}");
         assert!(rt; narrow.write(b"ab") == Ok(1), "{fails}");
         assert!(rt; narrow.write(b"b") == Err(Failed), "{fails}");

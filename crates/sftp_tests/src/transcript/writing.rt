@@ -1,5 +1,5 @@
 //! Records that are written: to sinks that fail at each place, and packets that have no record.
-use super::Narrow;
+use crate::streams::Room;
 use sftp_transcript::{Sink, Tally, TranscriptError, Writer};
 use sftp_wire::{Ask, ByteString, Fault, Packet, Pairs, Request, Side};
 use std::alloc::Global;
@@ -15,7 +15,7 @@ const VERSION: &[u8] = b"\0\0\0\x05\x02\0\0\0\x03";
 type Written = Result<(), TranscriptError>;
 
 /// What the records of INIT and VERSION and a flush give, the bytes then, and how many calls failed.
-fn greeting(alloc: Global, sink: Narrow) -> Result<([Written; 3], Vec<u8>, u64), TranscriptError> {
+fn greeting(alloc: Global, sink: Room) -> Result<([Written; 3], Vec<u8>, u64), TranscriptError> {
     let mut writer = Writer::new(alloc, Tally::new(sink))?;
     let init = Packet::Init {
         version: 3,
@@ -27,11 +27,7 @@ fn greeting(alloc: Global, sink: Narrow) -> Result<([Written; 3], Vec<u8>, u64),
     drop(init);
     let tally = writer.into_sink();
     let failures = Sink::failures(&tally);
-    let Narrow {
-        bytes,
-        room: _,
-        fails: _,
-    } = tally.into_inner();
+    let Room { bytes, .. } = tally.into_inner();
     Ok(([first, second, third], bytes, failures))
 }
 
@@ -49,7 +45,9 @@ fn expected(room: usize) -> [Written; 3] {
 
 /// Whether a sink of this room has what fits, and each call gives what it has to.
 fn is_greeting(alloc: Global, room: usize, fails: bool) -> Result<bool, TranscriptError> {
-    let (written, bytes, failures) = greeting(alloc, Narrow::new(alloc, room, fails))?;
+    let mut sink = Room::of(alloc, room, 1);
+    sink.fails = fails;
+    let (written, bytes, failures) = greeting(alloc, sink)?;
     let front = GREETING.get(..room).unwrap_or(GREETING);
     Ok(
         written == expected(room)
@@ -62,18 +60,17 @@ fn is_greeting(alloc: Global, room: usize, fails: bool) -> Result<bool, Transcri
 fn stops_where_the_sink_fails(rt: HostRuntime) -> Result<(), Fail> {
     for room in 0..30 {
         assert!(rt; is_greeting(rt.alloc(), room, false)?, "{room}");
-        assert!(rt;
-            room == GREETING.len() || is_greeting(rt.alloc(), room, true)?,
-            "{room}"
-        );
+        assert!(rt; is_greeting(rt.alloc(), room, true)?, "{room}");
     }
     Ok(())
 }
 
-/// The flush fails where the room is full, and so does what follows.
+/// All records are written, and the flush fails.
 #[test]
 fn stops_where_the_flush_fails(rt: HostRuntime) -> Result<(), Fail> {
-    let (written, bytes, failures) = greeting(rt.alloc(), Narrow::new(rt.alloc(), 28, true))?;
+    let mut sink = Room::ample(rt.alloc());
+    sink.flushes = false;
+    let (written, bytes, failures) = greeting(rt.alloc(), sink)?;
     assert!(rt; written == [Ok(()), Ok(()), Err(TranscriptError::Io { record: 2 })]);
     assert!(rt; bytes.as_slice() == GREETING && failures == 1);
     Ok(())
@@ -97,7 +94,7 @@ fn record_stat<L: Sink>(
 /// Whether packets of another side, and packets that are too long, are refused, and write nothing. A path of 33,987
 /// bytes makes the longest packet.
 fn refuses(alloc: Global) -> Result<bool, TranscriptError> {
-    let mut writer = Writer::new(alloc, Tally::new(Narrow::new(alloc, 100, true)))?;
+    let mut writer = Writer::new(alloc, Tally::new(Room::ample(alloc)))?;
     let other_side = record_stat(alloc, &mut writer, Side::Server, 1);
     let too_long = record_stat(alloc, &mut writer, Side::Client, 33_988);
     let first = record_stat(alloc, &mut writer, Side::Client, 1);

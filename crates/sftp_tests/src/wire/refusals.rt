@@ -7,10 +7,6 @@ use std::test::Fail;
 /// The bytes in front of which a refused packet leaves nothing.
 const KEPT: &[u8] = b"kept";
 
-fn kept(alloc: Global) -> Result<Vec<u8>, AllocError> {
-    Vec::from_slice(alloc, KEPT)
-}
-
 /// Whether a packet is refused with that error, and the bytes stay as they were.
 fn is_refused(kept: Vec<u8>, packet: Packet, expected: WireError) -> bool {
     let (said, out) = written(kept, packet);
@@ -43,22 +39,20 @@ fn with_handle(alloc: Global, kind: u8, handle: ByteString) -> Ask {
 
 /// Whether a request of that type with a handle of 257 bytes is too long.
 fn is_too_long(alloc: Global, kind: u8) -> Result<bool, AllocError> {
-    let before = kept(alloc)?;
+    let before = Vec::from_slice(alloc, KEPT)?;
     let ask = with_handle(alloc, kind, long(alloc, 257)?);
     Ok(is_refused(before, request(1, ask), WireError::TooLong))
 }
 
-/// Whether HANDLE of so many bytes is too long.
-fn is_too_long_a_handle(alloc: Global, length: usize) -> Result<bool, AllocError> {
-    let before = kept(alloc)?;
-    let answer = Answer::Handle(long(alloc, length)?);
-    Ok(is_refused(before, reply(1, answer), WireError::TooLong))
-}
-
-/// Whether DATA of so many bytes is.
-fn is_too_much_data(alloc: Global, length: usize) -> Result<bool, AllocError> {
-    let before = kept(alloc)?;
-    let answer = Answer::Data(long(alloc, length)?);
+/// Whether a reply with an answer that is made of so many bytes is too long.
+fn is_too_long_in(alloc: Global, length: usize, handle: bool) -> Result<bool, AllocError> {
+    let before = Vec::from_slice(alloc, KEPT)?;
+    let bytes = long(alloc, length)?;
+    let answer = if handle {
+        Answer::Handle(bytes)
+    } else {
+        Answer::Data(bytes)
+    };
     Ok(is_refused(before, reply(1, answer), WireError::TooLong))
 }
 
@@ -68,7 +62,9 @@ fn too_long(rt: HostRuntime) -> Result<(), Fail> {
     for kind in [4, 5, 6, 8, 10, 12, 200_u8] {
         assert!(rt; is_too_long(rt.alloc(), kind)?, "type {kind}");
     }
-    assert!(rt; is_too_long_a_handle(rt.alloc(), 257)? && is_too_much_data(rt.alloc(), 33_988)?);
+    assert!(rt;
+        is_too_long_in(rt.alloc(), 257, true)? && is_too_long_in(rt.alloc(), 33_988, false)?
+    );
     Ok(())
 }
 
@@ -79,7 +75,7 @@ fn is_hidden(
     length: usize,
     expected: WireError,
 ) -> Result<bool, AllocError> {
-    let before = kept(alloc)?;
+    let before = Vec::from_slice(alloc, KEPT)?;
     let name = text(alloc, name)?;
     let rest = long(alloc, length)?;
     Ok(is_refused(before, request(1, Ask::Unknown { name, rest }), expected))
@@ -131,7 +127,7 @@ fn texts(rt: HostRuntime) -> Result<(), Fail> {
 
 /// RMDIR after other bytes.
 fn writes_behind(alloc: Global) -> Result<bool, AllocError> {
-    let before = kept(alloc)?;
+    let before = Vec::from_slice(alloc, KEPT)?;
     let path = text(alloc, b"/a")?;
     let (said, out) = written(before, request(1, Ask::Rmdir { path }));
     Ok(said == Ok(()) && out.as_slice() == b"kept\0\0\0\x0b\x0f\0\0\0\x01\0\0\0\x02/a".as_slice())
@@ -160,7 +156,7 @@ fn writes_status(alloc: Global) -> Result<bool, AllocError> {
 
 #[test]
 fn packets_that_are_written(rt: HostRuntime) -> Result<(), Fail> {
-    assert!(rt; writes_behind(rt.alloc())? && writes_longest(rt.alloc())?);
-    assert!(rt; writes_status(rt.alloc())?);
+    let alloc = rt.alloc();
+    assert!(rt; writes_behind(alloc)? && writes_longest(alloc)? && writes_status(alloc)?);
     Ok(())
 }

@@ -10,17 +10,6 @@ const OF_THE_CLIENT: &[u8] = &[
 /// The types of a server's packets.
 const OF_THE_SERVER: &[u8] = &[2, 101, 102, 103, 104, 105, 201];
 
-/// Whether a packet is refused with this fault.
-fn is_fault(alloc: Global, side: Side, bytes: &[u8], fault: Fault) -> bool {
-    let read = front(alloc, bytes, side);
-    let is_fault = match &read {
-        Ok(_) => false,
-        Err(error) => *error == WireError::Unreadable { fault, place: 0 },
-    };
-    drop(read);
-    is_fault
-}
-
 /// Whether a packet of that type and no field is short if the type is one of these, and else of the wrong type.
 fn is_judged(alloc: Global, side: Side, types: &[u8], kind: u8) -> bool {
     let fault = if types.contains(&kind) {
@@ -28,7 +17,13 @@ fn is_judged(alloc: Global, side: Side, types: &[u8], kind: u8) -> bool {
     } else {
         Fault::WrongType
     };
-    is_fault(alloc, side, &[0, 0, 0, 1, kind], fault)
+    let read = front(alloc, &[0, 0, 0, 1, kind], side);
+    let is_judged = match &read {
+        Ok(_) => false,
+        Err(error) => *error == WireError::Unreadable { fault, place: 0 },
+    };
+    drop(read);
+    is_judged
 }
 
 /// The type is judged before the fields, as one of its side.
