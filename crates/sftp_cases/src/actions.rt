@@ -103,8 +103,8 @@ fn is_whole(text: &str) -> bool {
     text.starts_with("C INIT") || text.starts_with("C raw")
 }
 
-/// Writes the records of a dialogue; and how many requests the audit of its record has to accept, as the audit prints it,
-/// if the dialogue says that in place of replies.
+/// Writes the records of a dialogue; and how many requests the audit of its record has to accept, as the audit prints
+/// it, if the dialogue says that in place of replies.
 fn put_dialogue(text: &str, records: &mut String, verdict: &mut String) -> Result<(), AllocError> {
     if !is_whole(text) {
         records.push_str(OPENING)?;

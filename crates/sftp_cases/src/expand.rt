@@ -238,8 +238,8 @@ fn put_group(
     Ok(())
 }
 
-/// The text of a block's lines, each ended by a line feed, without what indents them. Literal lines stand as they are; in
-/// others, long lines are joined, and repeated texts and the names of handles written out.
+/// The text of a block's lines, each ended by a line feed, without what indents them. Literal lines stay as they are;
+/// of others, long lines are joined, and repeated texts and the names of handles written out.
 pub fn expand(alloc: Global, lines: &[&str], literal: bool) -> Result<String, AllocError> {
     let groups = groups_of(alloc, lines)?;
     let mut text = String::new(alloc);

@@ -1,5 +1,6 @@
-//! Runs cases that are written as text: sessions, audits, files and runs of `sftpv3`, each with what is wanted of it. The
-//! words of the command line name the files of cases. What differs is printed, and at the end whether all cases passed.
+//! Runs cases that are written as text: sessions, audits, files and runs of `sftpv3`, each with what is wanted of it.
+//! The words of the command line name the files of cases. What differs is printed, and at the end whether all cases
+//! passed.
 #![tactic(auto)]
 
 mod actions;

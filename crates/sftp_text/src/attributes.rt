@@ -1,7 +1,8 @@
 //! Attributes (draft, section 5): each field that there is, with its label, in the order of the bytes.
 ghost use Rattle.std.specs.Prelude.{◌≡◌, [], ◌∷◌, ◌≤◌, codes, IfOk};
 ghost use Rattle.sftp_text.specs.Digits.{long, octal};
-ghost use Rattle.sftp_text.specs.Fields.{two_numbers, counted_pairs, part, show_part, read_part, show_parts, read_parts};
+ghost use Rattle.sftp_text.specs.Fields.{two_numbers, counted_pairs, part, show_part, read_part, show_parts};
+ghost use Rattle.sftp_text.specs.Fields.{read_parts};
 ghost use Rattle.sftp_text.specs.Fields.{attribute_parts};
 ghost use Rattle.sftp_text.specs.Fields as fields;
 ghost use Rattle.sftp_text.specs.Moves.{Moves, Counts};

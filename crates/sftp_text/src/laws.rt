@@ -5,7 +5,8 @@ ghost use Rattle.sftp_wire.specs.declared.packets.Side.{Side};
 ghost use Rattle.sftp_wire.specs.declared.packets.Packet.{Packet};
 ghost use Rattle.sftp_wire.specs.Spelling.{AreBytes, HasSpelling, side_of, spelling};
 ghost use Rattle.sftp_text.specs.Formats.{ReadsBack};
-ghost use Rattle.sftp_text.specs.Lines.{is_printable, line_of, line_read, named_line, records_of, text_of, text_read, transcript_of};
+ghost use Rattle.sftp_text.specs.Lines.{is_printable, line_of, line_read, named_line, records_of, text_of, text_read};
+ghost use Rattle.sftp_text.specs.Lines.{transcript_of};
 ghost use Rattle.sftp_text.specs.Trees.{head_text, root_text, entry_text, show_tree, tree_read};
 
 /// The line of a record is read as its side and its bytes, whatever the bytes.

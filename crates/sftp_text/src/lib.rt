@@ -1,5 +1,5 @@
-//! Records of sessions and entries of tree files as lines of text, both ways: bytes to text, and text to the same bytes.
-//! No packet is built as a value in between.
+//! Records of sessions and entries of tree files as lines of text, both ways: bytes to text, and text to the same
+//! bytes. No packet is built as a value in between.
 #![tactic(auto)]
 
 mod attributes;

@@ -1,7 +1,8 @@
-//! Pairs, and names of a directory (draft, sections 4, 5 and 7). A loop over items goes round at most as often as its list
-//! has items, or as there are bytes left, since each item takes some.
+//! Pairs, and names of a directory (draft, sections 4, 5 and 7). A loop over items goes round at most as often as its
+//! list has items, or as there are bytes left, since each item takes some.
 ghost use Rattle.std.specs.Prelude.{◌≡◌, ℕ, List, [], codes, length};
-ghost use Rattle.sftp_text.specs.Formats.{begins_with, show_list, show_each, read_list, read_each, numbered, ◌then◌, word};
+ghost use Rattle.sftp_text.specs.Formats.{begins_with, show_list, show_each, read_list, read_each, numbered, word};
+ghost use Rattle.sftp_text.specs.Formats.{◌then◌};
 ghost use Rattle.sftp_text.specs.Fields.{pair, pairs, counted_pairs, name_item, names, message, two_texts};
 ghost use Rattle.sftp_text.specs.Moves.{Moves, Counts};
 
@@ -32,7 +33,8 @@ fn read_pair(line: &mut &[u8], bytes: &mut Vec<u8>) -> Result<(), Stop>
 
 /// Shows a space and a pair.
 fn put_spaced_pair(bytes: &mut &[u8], text: &mut Vec<u8>) -> Result<(), Stop>
-    ensures { Moves result text.new.items bytes.new.now ((word (codes " ") then pair).show text.old.items bytes.old.now) }
+    ensures { Moves result text.new.items bytes.new.now
+        ((word (codes " ") then pair).show text.old.items bytes.old.now) }
 {
     text.push(b' ')?;
     put_pair(bytes, text)
@@ -40,7 +42,8 @@ fn put_spaced_pair(bytes: &mut &[u8], text: &mut Vec<u8>) -> Result<(), Stop>
 
 /// Reads a space and a pair.
 fn read_spaced_pair(line: &mut &[u8], bytes: &mut Vec<u8>) -> Result<(), Stop>
-    ensures { Moves result bytes.new.items line.new.now ((word (codes " ") then pair).read bytes.old.items line.old.now) }
+    ensures { Moves result bytes.new.items line.new.now
+        ((word (codes " ") then pair).read bytes.old.items line.old.now) }
 {
     read_word(b" ", Expected::Space, line)?;
     read_pair(line, bytes)
@@ -81,7 +84,8 @@ pub(crate) fn read_pairs(line: &mut &[u8], bytes: &mut Vec<u8>) -> Result<(), St
 /// Shows `count` pairs, each after a comma.
 #[tactic(auto, using(crate::proofs::ListLaws::show_each_goes_on, crate::proofs::ListLaws::show_each_fails))]
 fn put_more_pairs(count: u32, bytes: &mut &[u8], text: &mut Vec<u8>) -> Result<(), Stop>
-    ensures { Moves result text.new.items bytes.new.now (show_each pair (codes ",") count text.old.items bytes.old.now) }
+    ensures { Moves result text.new.items bytes.new.now
+        (show_each pair (codes ",") count text.old.items bytes.old.now) }
 {
     let mut left = count;
     'pairs: while left > 0 {
@@ -95,7 +99,8 @@ fn put_more_pairs(count: u32, bytes: &mut &[u8], text: &mut Vec<u8>) -> Result<(
 /// Shows `count` pairs with a comma between.
 #[tactic(auto, using(crate::proofs::ListLaws::show_list_goes_on, crate::proofs::ListLaws::show_list_fails))]
 fn put_pair_list(count: u32, bytes: &mut &[u8], text: &mut Vec<u8>) -> Result<(), Stop>
-    ensures { Moves result text.new.items bytes.new.now (show_list pair (codes ",") count text.old.items bytes.old.now) }
+    ensures { Moves result text.new.items bytes.new.now
+        (show_list pair (codes ",") count text.old.items bytes.old.now) }
 {
     if count == 0 {
         return Ok(());
@@ -156,7 +161,8 @@ fn read_pair_list(line: &mut &[u8], bytes: &mut Vec<u8>) -> Result<usize, Stop>
 
 /// Appends items after their number.
 fn append_items(count: usize, items: &[u8], bytes: &mut Vec<u8>) -> Result<(), Stop>
-    ensures { (left : List ℕ) → Moves result bytes.new.items left (numbered bytes.old.items (count, (items.now, left))) }
+    ensures { (left : List ℕ) → Moves result bytes.new.items left
+        (numbered bytes.old.items (count, (items.now, left))) }
 {
     let Ok(number) = u32::try_from(count) else {
         return Err(Stop::Unfit(Expected::Fewer));

@@ -143,7 +143,8 @@ fn has_name(layout: &Layout, side: Side, name: &[u8]) -> bool
 
 /// The first of these packets that has this name.
 fn first_named(packets: &[PacketType], side: Side, name: &[u8]) -> Option<PacketType>
-    ensures { result ≡ find (λ packet. same_side (row packet).side side && bytes_eq (row packet).name name.now) packets.now }
+    ensures { result ≡ find (λ packet. same_side (row packet).side side && bytes_eq (row packet).name name.now)
+        packets.now }
 {
     let mut left = packets;
     'packets: while let Some((packet, rest)) = left.split_first() {

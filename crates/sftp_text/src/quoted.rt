@@ -151,7 +151,8 @@ pub(crate) fn append_numbered(
 
 /// Appends a string: the number of its bytes, and the bytes.
 pub(crate) fn append_string(string: &[u8], bytes: &mut Vec<u8>) -> Result<(), Stop>
-    ensures { (left : List ℕ) → Moves result bytes.new.items left (numbered bytes.old.items (length string.now, (string.now, left))) }
+    ensures { (left : List ℕ) → Moves result bytes.new.items left
+        (numbered bytes.old.items (length string.now, (string.now, left))) }
 {
     let Ok(length) = u32::try_from(string.len()) else {
         return Err(Stop::Unfit(Expected::Fewer));

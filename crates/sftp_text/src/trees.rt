@@ -19,14 +19,16 @@ use bytes::Buf;
 
 /// Shows a uint32 after a label.
 fn put_labelled(label: &[u8], bytes: &mut &[u8], text: &mut Vec<u8>) -> Result<(), Stop>
-    ensures { Moves result text.new.items bytes.new.now ((word label.now then number).show text.old.items bytes.old.now) }
+    ensures { Moves result text.new.items bytes.new.now
+        ((word label.now then number).show text.old.items bytes.old.now) }
 {
     text.extend_from_slice(label)?;
     put_number(bytes, text)
 }
 
 fn read_labelled(label: &[u8], line: &mut &[u8], bytes: &mut Vec<u8>) -> Result<(), Stop>
-    ensures { Moves result bytes.new.items line.new.now ((word label.now then number).read bytes.old.items line.old.now) }
+    ensures { Moves result bytes.new.items line.new.now
+        ((word label.now then number).read bytes.old.items line.old.now) }
 {
     read_word(label, Expected::Head, line)?;
     read_number(line, bytes)
@@ -34,7 +36,8 @@ fn read_labelled(label: &[u8], line: &mut &[u8], bytes: &mut Vec<u8>) -> Result<
 
 /// Shows a text after a label.
 fn put_text(label: &[u8], bytes: &mut &[u8], text: &mut Vec<u8>) -> Result<(), Stop>
-    ensures { Moves result text.new.items bytes.new.now ((word label.now then string_text).show text.old.items bytes.old.now) }
+    ensures { Moves result text.new.items bytes.new.now
+        ((word label.now then string_text).show text.old.items bytes.old.now) }
 {
     text.extend_from_slice(label)?;
     put_string(bytes, text)
@@ -46,7 +49,8 @@ fn read_text(
     line: &mut &[u8],
     bytes: &mut Vec<u8>,
 ) -> Result<(), Stop>
-    ensures { Moves result bytes.new.items line.new.now ((word label.now then string_text).read bytes.old.items line.old.now) }
+    ensures { Moves result bytes.new.items line.new.now
+        ((word label.now then string_text).read bytes.old.items line.old.now) }
 {
     read_word(label, expected, line)?;
     read_string(line, bytes)
