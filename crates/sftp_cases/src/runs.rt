@@ -65,12 +65,12 @@ pub const SOUND: Streams = Streams {
 
 /// A writer that keeps what it takes, until it fails.
 #[derive(Drop)]
-struct Stream<'a> {
-    kept: &'a mut Vec<u8>,
+struct Stream {
+    kept: Vec<u8>,
     fails: Fails,
 }
 
-impl Write for Stream<'_> {
+impl Write for Stream {
     fn write(&mut self, bytes: &[u8]) -> io::Result<usize> {
         match self.fails {
             Fails::At(room) if bytes.len() > room.saturating_sub(self.kept.len()) => {
@@ -102,17 +102,17 @@ pub fn run_program<R: Files + AllocGlobal>(
     came: &mut Came,
 ) {
     let mut pieces = Pieces { rest: input, size };
-    came.output.clear();
-    came.errors.clear();
     let mut output = Stream {
-        kept: &mut came.output,
+        kept: Vec::new(rt.alloc()),
         fails: streams.output,
     };
     let mut errors = Stream {
-        kept: &mut came.errors,
+        kept: Vec::new(rt.alloc()),
         fails: streams.errors,
     };
     came.status = sftp_tool::run(rt, words, &mut pieces, &mut output, &mut errors);
+    came.output = output.kept;
+    came.errors = errors.kept;
 }
 
 /// The words of a line: what is in quotes is one word, and what is outside is cut at spaces.
