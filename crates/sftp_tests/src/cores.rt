@@ -7,11 +7,12 @@ use sftp_wire::Request;
 use std::alloc::Global;
 use std::test::Fail;
 
-/// A call, and what it gives: why a request with this id is not taken, whether the request at this position is ready,
-/// what comes of work on it, and the id of the reply that is sent for it.
+/// A call, and what it gives: why a STAT with this id is not taken, that this request is taken, whether the request at
+/// this position is ready, what comes of work on it, and the id of the reply that is sent for it.
 #[derive(Clone, Copy)]
 enum Call {
     Deliver(u32, Option<Refuse>),
+    Take(u32, &'static [u8]),
     Ready(usize, bool),
     Work(usize, Did),
     Send(usize, Option<u32>),
@@ -35,7 +36,7 @@ const WINDOW: &[Call] = &[
     Call::Deliver(1_024, Some(Refuse::Full)),
 ];
 
-/// Only the first pending request is ready. What is done is done once, and answered once.
+/// Of requests that touch everything, the first pending one is ready. What is done is done once, and answered once.
 const ORDER: &[Call] = &[
     Call::Work(0, Did::NoSuch),
     Call::Deliver(0, None),
@@ -57,6 +58,67 @@ const ORDER: &[Call] = &[
     Call::Send(0, None),
 ];
 
+/// Opens `/f` as handle 0, names it `/g` too, opens that as handle 1, and `/` as the handles 2 and 3.
+const OPENS: &[&[u8]] = &[
+    b"\x03\0\0\0\x02/f\0\0\0\x0b\0\0\0\0",
+    b"\xc8\0\0\0\x14hardlink@openssh.com\0\0\0\x02/f\0\0\0\x02/g",
+    b"\x03\0\0\0\x02/g\0\0\0\x01\0\0\0\0",
+    b"\x0b\0\0\0\x01/",
+    b"\x0b\0\0\0\x01/",
+];
+
+/// READ, FSTAT and CLOSE of handle 0, and WRITE of one byte at 0 through it.
+const READ: &[u8] = b"\x05\0\0\0\x0c\0\0\0\0\0\0\0\0\0\0\0\0\0\0\0\0\0\0\0\0\0\0\0\x01";
+const FSTAT: &[u8] = b"\x08\0\0\0\x0c\0\0\0\0\0\0\0\0\0\0\0\0";
+const CLOSE: &[u8] = b"\x04\0\0\0\x0c\0\0\0\0\0\0\0\0\0\0\0\0";
+const WRITE: &[u8] = b"\x06\0\0\0\x0c\0\0\0\0\0\0\0\0\0\0\0\0\0\0\0\0\0\0\0\0\0\0\0\x01x";
+
+/// READ of one byte at 0 of handle 1, and READDIR of the handles 2 and 3.
+const READ_OTHER: &[u8] = b"\x05\0\0\0\x0c\0\0\0\x01\0\0\0\0\0\0\0\x01\0\0\0\0\0\0\0\0\0\0\0\x01";
+const LIST: &[u8] = b"\x0c\0\0\0\x0c\0\0\0\x02\0\0\0\0\0\0\0\x02";
+const LIST_OTHER: &[u8] = b"\x0c\0\0\0\x0c\0\0\0\x03\0\0\0\0\0\0\0\x03";
+
+/// Rows 9 and 49 of the rules. A READ waits for a WRITE through another name of its file; READ and FSTAT of one file do
+/// not wait for each other; READDIRs wait for those of their own listing alone; CLOSE waits, and is waited for.
+const CLASHES: &[Call] = &[
+    Call::Take(1, WRITE),
+    Call::Take(2, READ_OTHER),
+    Call::Ready(1, false),
+    Call::Work(1, Did::NotReady),
+    Call::Work(0, Did::Done),
+    Call::Work(1, Did::Done),
+    Call::Send(1, Some(2)),
+    Call::Send(0, Some(1)),
+    Call::Take(3, FSTAT),
+    Call::Take(4, READ_OTHER),
+    Call::Ready(0, true),
+    Call::Ready(1, true),
+    Call::Take(5, LIST),
+    Call::Take(6, LIST),
+    Call::Take(7, LIST_OTHER),
+    Call::Ready(2, true),
+    Call::Ready(3, false),
+    Call::Ready(4, true),
+    Call::Work(4, Did::Done),
+    Call::Work(3, Did::NotReady),
+    Call::Work(2, Did::Done),
+    Call::Work(3, Did::Done),
+    Call::Work(1, Did::Done),
+    Call::Work(0, Did::Done),
+    Call::Send(4, Some(7)),
+    Call::Send(0, Some(3)),
+    Call::Send(0, Some(4)),
+    Call::Send(1, Some(6)),
+    Call::Send(0, Some(5)),
+    Call::Take(8, READ),
+    Call::Take(9, CLOSE),
+    Call::Take(10, READ),
+    Call::Ready(0, true),
+    Call::Ready(1, false),
+    Call::Ready(2, false),
+    Call::Work(2, Did::NotReady),
+];
+
 const ASK: Call = Call::Deliver(0, None);
 
 const WORK: Call = Call::Work(0, Did::Done);
@@ -72,8 +134,8 @@ const ENDS: &[(&str, &[Call], bool)] = &[
 ];
 
 /// Why a request with this id is not taken.
-fn refusal(alloc: Global, core: &mut Core, id: u32) -> Result<Option<Refuse>, NoMemory> {
-    let request = request(alloc, id, STAT)?;
+fn refusal(alloc: Global, core: &mut Core, id: u32, part: &[u8]) -> Result<Option<Refuse>, NoMemory> {
+    let request = request(alloc, id, part)?;
     let delivered = core.deliver(request);
     let refusal = refusal_of(&delivered);
     drop(delivered);
@@ -97,7 +159,8 @@ fn sent(core: &mut Core, k: usize) -> Option<u32> {
 
 fn gives(alloc: Global, core: &mut Core, call: Call) -> Result<bool, NoMemory> {
     match call {
-        Call::Deliver(id, refuse) => Ok(refusal(alloc, core, id)? == refuse),
+        Call::Deliver(id, refuse) => Ok(refusal(alloc, core, id, STAT)? == refuse),
+        Call::Take(id, part) => Ok(refusal(alloc, core, id, part)?.is_none()),
         Call::Ready(k, ready) => Ok(core.ready(k) == ready),
         Call::Work(k, did) => Ok(core.work(k)? == did),
         Call::Send(k, id) => Ok(sent(core, k) == id),
@@ -117,7 +180,7 @@ fn first_wrong(alloc: Global, core: &mut Core, calls: &[Call]) -> Result<Option<
 /// Whether so many requests are taken, with the ids from 0 on.
 fn takes(alloc: Global, core: &mut Core, count: u32) -> Result<bool, NoMemory> {
     for id in 0..count {
-        if refusal(alloc, core, id)?.is_some() {
+        if refusal(alloc, core, id, STAT)?.is_some() {
             return Ok(false);
         }
     }
@@ -150,6 +213,26 @@ fn work_in_order(rt: HostRuntime) -> Result<(), Fail> {
     let wrong = first_wrong(rt.alloc(), &mut core, ORDER);
     drop(core);
     assert!(rt; wrong == Ok(None), "{wrong:?}");
+    Ok(())
+}
+
+/// Whether each request is taken, done and answered before the next one.
+fn opens(alloc: Global, core: &mut Core) -> Result<bool, NoMemory> {
+    for part in OPENS {
+        if first_wrong(alloc, core, &[Call::Take(0, part), WORK, SEND])?.is_some() {
+            return Ok(false);
+        }
+    }
+    Ok(true)
+}
+
+#[test]
+fn requests_that_clash(rt: HostRuntime) -> Result<(), Fail> {
+    let mut core = Core::new(Tree::blank(rt.alloc())?, 1_024)?;
+    let opened = opens(rt.alloc(), &mut core);
+    let wrong = first_wrong(rt.alloc(), &mut core, CLASHES);
+    drop(core);
+    assert!(rt; opened == Ok(true) && wrong == Ok(None), "{wrong:?}");
     Ok(())
 }
 
