@@ -1,24 +1,27 @@
-//! Runs cases that are written as text: sessions, audits, files and runs of `sftpv3`, each with what is wanted of it.
-//! The words of the command line name the files of cases. What differs is printed, and at the end whether all cases
-//! passed.
+//! Runs cases that are written as text on the program `sftpv3`. The words of the command line name the files of cases.
+//! What differs is printed, and at the end whether all cases passed.
 #![tactic(auto)]
 
-mod actions;
-mod blocks;
-mod cases;
-mod compare;
-mod expand;
-mod files;
-mod records;
-mod runs;
-mod steps;
-mod tables;
-mod trouble;
-mod wanted;
-
-use cases::Count;
+use sftp_case_runner::{Count, Pieces, Program, Stream, run_file};
+use std::fs::Files;
 use std::process::ExitCode;
 use std::{env, io};
+
+/// The program `sftpv3`.
+struct Tool;
+
+impl Program for Tool {
+    fn run<R: Files + AllocGlobal>(
+        &self,
+        rt: &R,
+        words: &[String],
+        input: &mut Pieces<'_>,
+        output: &mut Stream,
+        errors: &mut Stream,
+    ) -> u8 {
+        sftp_tool::run(rt, words, input, output, errors)
+    }
+}
 
 fn main(rt: HostRuntime) -> ExitCode {
     let mut count = Count::default();
@@ -36,7 +39,7 @@ fn main(rt: HostRuntime) -> ExitCode {
 fn run_files(rt: &HostRuntime, count: &mut Count) -> io::Result<()> {
     let words: Vec<String> = env::args(rt)?.collect(rt.alloc())?;
     for name in words.as_slice().get(1..).unwrap_or(&[]) {
-        cases::run_file(rt, name.as_str(), count)?;
+        run_file(rt, &Tool, name.as_str(), count)?;
     }
     Ok(())
 }

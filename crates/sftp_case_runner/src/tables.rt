@@ -3,7 +3,7 @@ use crate::actions::{audit_record, run_audit, run_serve};
 use crate::cases::Case;
 use crate::files::{ALONE, END, TRANSCRIPT, is_same, write};
 use crate::records::{OPENING, cut, id_of, put_bytes, put_packet, put_session, put_sides};
-use crate::runs::Came;
+use crate::runs::{Came, Program};
 use crate::trouble::Trouble;
 use std::alloc::{AllocError, Global};
 use std::fs;
@@ -48,44 +48,56 @@ fn say_verdict(case: &mut Case, line: &str) -> Result<(), AllocError> {
 }
 
 /// Audits the session of the case, with these records behind it, and returns how many records it has.
-fn judge<R: Files + AllocGlobal>(
+fn judge<R: Files + AllocGlobal, P: Program>(
     rt: &R,
+    program: &P,
     case: &mut Case,
     ask: &str,
     answer: &str,
 ) -> Result<usize, Trouble> {
     let session = case.session.as_str();
     let text = format!(in rt.alloc(); "{session}{ask}\n{answer}\n")?;
-    judge_session(rt, case, text.as_str())?;
+    judge_session(rt, program, case, text.as_str())?;
     Ok(count_records(text.as_str()))
 }
 
 /// Audits a session of these records.
-fn judge_session<R: Files + AllocGlobal>(
+fn judge_session<R: Files + AllocGlobal, P: Program>(
     rt: &R,
+    program: &P,
     case: &mut Case,
     text: &str,
 ) -> Result<(), Trouble> {
     let mut bytes = Vec::new(rt.alloc());
     put_session(text, &mut bytes)?;
     write(rt, TRANSCRIPT, bytes.as_slice())?;
-    run_audit(rt, case, "")?;
+    run_audit(rt, program, case, "")?;
     case.is_pending = false;
     Ok(())
 }
 
 /// Judges the reply of each line.
-pub fn replies<R: Files + AllocGlobal>(rt: &R, case: &mut Case, text: &str) -> Result<(), Trouble> {
+pub fn replies<R: Files + AllocGlobal, P: Program>(
+    rt: &R,
+    program: &P,
+    case: &mut Case,
+    text: &str,
+) -> Result<(), Trouble> {
     for line in text.lines() {
-        judge_reply(rt, case, line)?;
+        judge_reply(rt, program, case, line)?;
     }
     Ok(())
 }
 
-fn judge_reply<R: Files + AllocGlobal>(rt: &R, case: &mut Case, line: &str) -> Result<(), Trouble> {
+fn judge_reply<R: Files + AllocGlobal, P: Program>(
+    rt: &R,
+    program: &P,
+    case: &mut Case,
+    line: &str,
+) -> Result<(), Trouble> {
     let (ask, rest) = arrow(line)?;
     let (answer, verdict) = arrow(rest)?;
-    let records = judge(rt, case, ask, answer)?;
+    let records = judge(rt, program, case, ask, answer)?;
     let is_right = match verdict {
         "allowed" => is_accepted(&case.came),
         "NotAllowed" => is_refused(&case.came, records),
@@ -98,18 +110,27 @@ fn judge_reply<R: Files + AllocGlobal>(rt: &R, case: &mut Case, line: &str) -> R
 }
 
 /// Judges the STATUS of each code from 0 to 9 for the request of each line.
-pub fn codes<R: Files + AllocGlobal>(rt: &R, case: &mut Case, text: &str) -> Result<(), Trouble> {
-    judge_alone(rt, case)?;
+pub fn codes<R: Files + AllocGlobal, P: Program>(
+    rt: &R,
+    program: &P,
+    case: &mut Case,
+    text: &str,
+) -> Result<(), Trouble> {
+    judge_alone(rt, program, case)?;
     for line in text.lines() {
-        judge_codes(rt, case, line)?;
+        judge_codes(rt, program, case, line)?;
     }
     Ok(())
 }
 
 /// Audits the session of the case alone, and keeps the tree at its end.
-fn judge_alone<R: Files + AllocGlobal>(rt: &R, case: &mut Case) -> Result<(), Trouble> {
+fn judge_alone<R: Files + AllocGlobal, P: Program>(
+    rt: &R,
+    program: &P,
+    case: &mut Case,
+) -> Result<(), Trouble> {
     let session = format!(in rt.alloc(); "{}", case.session.as_str())?;
-    judge_session(rt, case, session.as_str())?;
+    judge_session(rt, program, case, session.as_str())?;
     if is_accepted(&case.came) {
         Ok(fs::rename(rt, END, ALONE)?)
     } else {
@@ -118,10 +139,15 @@ fn judge_alone<R: Files + AllocGlobal>(rt: &R, case: &mut Case) -> Result<(), Tr
 }
 
 /// Judges the codes of a line. Those but 0 leave the tree as the session alone does.
-fn judge_codes<R: Files + AllocGlobal>(rt: &R, case: &mut Case, line: &str) -> Result<(), Trouble> {
+fn judge_codes<R: Files + AllocGlobal, P: Program>(
+    rt: &R,
+    program: &P,
+    case: &mut Case,
+    line: &str,
+) -> Result<(), Trouble> {
     let (ask, allowed) = arrow(line)?;
     for code in 0..10u32 {
-        if !is_judged(rt, case, ask, code, allowed)? {
+        if !is_judged(rt, program, case, ask, code, allowed)? {
             say_verdict(case, line)?;
         }
     }
@@ -139,14 +165,15 @@ fn has_code(allowed: &str, code: u32) -> bool {
 }
 
 /// Whether a code is judged as it has to be.
-fn is_judged<R: Files + AllocGlobal>(
+fn is_judged<R: Files + AllocGlobal, P: Program>(
     rt: &R,
+    program: &P,
     case: &mut Case,
     ask: &str,
     code: u32,
     allowed: &str,
 ) -> Result<bool, Trouble> {
-    let records = judge_code(rt, case, ask, code)?;
+    let records = judge_code(rt, program, case, ask, code)?;
     if !has_code(allowed, code) {
         Ok(is_refused(&case.came, records))
     } else if !is_accepted(&case.came) {
@@ -159,8 +186,9 @@ fn is_judged<R: Files + AllocGlobal>(
 }
 
 /// Audits the session of the case with a request and a STATUS of this code, and returns how many records it has.
-fn judge_code<R: Files + AllocGlobal>(
+fn judge_code<R: Files + AllocGlobal, P: Program>(
     rt: &R,
+    program: &P,
     case: &mut Case,
     ask: &str,
     code: u32,
@@ -169,13 +197,18 @@ fn judge_code<R: Files + AllocGlobal>(
         return Err(Trouble::Form("a request"));
     };
     let answer = format!(in rt.alloc(); "S {id} STATUS {code}")?;
-    judge(rt, case, ask, answer.as_str())
+    judge(rt, program, case, ask, answer.as_str())
 }
 
 /// Serves the request of each line.
-pub fn answers<R: Files + AllocGlobal>(rt: &R, case: &mut Case, text: &str) -> Result<(), Trouble> {
+pub fn answers<R: Files + AllocGlobal, P: Program>(
+    rt: &R,
+    program: &P,
+    case: &mut Case,
+    text: &str,
+) -> Result<(), Trouble> {
     for line in text.lines() {
-        serve_line(rt, case, line)?;
+        serve_line(rt, program, case, line)?;
     }
     Ok(())
 }
@@ -195,13 +228,18 @@ fn behind<'a>(packets: &'a [u8], before: &str) -> &'a [u8] {
 }
 
 /// Serves a session of the records before and the request of a line, and audits what it has recorded.
-fn serve_line<R: Files + AllocGlobal>(rt: &R, case: &mut Case, line: &str) -> Result<(), Trouble> {
+fn serve_line<R: Files + AllocGlobal, P: Program>(
+    rt: &R,
+    program: &P,
+    case: &mut Case,
+    line: &str,
+) -> Result<(), Trouble> {
     let (ask, answer) = arrow(line)?;
     prepare_line(rt.alloc(), case, ask, answer)?;
-    run_serve(rt, case, "")?;
+    run_serve(rt, program, case, "")?;
     case.is_pending = false;
     compare_answer(case, line)?;
-    audit_record(rt, case, "")
+    audit_record(rt, program, case, "")
 }
 
 /// Takes the records before and a request as input, and the reply as what is wanted.

@@ -2,7 +2,7 @@
 use crate::blocks::{Block, spans_of};
 use crate::files::{END, START, TRANSCRIPT, remove, write};
 use crate::records::put_tree;
-use crate::runs::{Came, SOUND, Streams};
+use crate::runs::{Came, Program, SOUND, Streams};
 use crate::steps::take_step;
 use crate::trouble::Trouble;
 use crate::wanted::{Wanted, compare_run};
@@ -136,21 +136,23 @@ fn say_trouble(case: &mut Case, line: usize, trouble: Trouble) -> io::Result<()>
 }
 
 /// Takes a block of a case.
-fn take_block<R: Files + AllocGlobal>(
+fn take_block<R: Files + AllocGlobal, P: Program>(
     rt: &R,
+    program: &P,
     case: &mut Case,
     block: Block<'_>,
     lines: &[&str],
 ) -> io::Result<()> {
-    match take_step(rt, case, block, lines) {
+    match take_step(rt, program, case, block, lines) {
         Ok(()) => Ok(()),
         Err(trouble) => say_trouble(case, block.number, trouble),
     }
 }
 
 /// Runs the cases among the lines of a file.
-fn run_lines<'t, R: Files + AllocGlobal + Print>(
+fn run_lines<'t, R: Files + AllocGlobal + Print, P: Program>(
     rt: &R,
+    program: &P,
     name: &str,
     lines: &[&'t str],
     case: &mut Case,
@@ -162,7 +164,7 @@ fn run_lines<'t, R: Files + AllocGlobal + Print>(
         let block = span.block(lines);
         if block.keyword != "case" {
             let below = lines.get(span.below()).unwrap_or(&[]);
-            take_block(rt, case, block, below)?;
+            take_block(rt, program, case, block, below)?;
             continue;
         }
         if let Some(title) = title {
@@ -178,13 +180,14 @@ fn run_lines<'t, R: Files + AllocGlobal + Print>(
 }
 
 /// Runs the cases of a file.
-pub fn run_file<R: Files + AllocGlobal + Print>(
+pub fn run_file<R: Files + AllocGlobal + Print, P: Program>(
     rt: &R,
+    program: &P,
     name: &str,
     count: &mut Count,
 ) -> io::Result<()> {
     let text = fs::read_to_string(rt, name)?;
     let lines: Vec<&str> = text.as_str().lines().collect(rt.alloc())?;
     let mut case = Case::new(rt.alloc());
-    run_lines(rt, name, lines.as_slice(), &mut case, count)
+    run_lines(rt, program, name, lines.as_slice(), &mut case, count)
 }

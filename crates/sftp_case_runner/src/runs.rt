@@ -22,9 +22,23 @@ impl Came {
     }
 }
 
+/// The program that cases run.
+pub trait Program {
+    /// Runs the program on the words of its command line, the first of which is its name, and these streams, and
+    /// returns its exit status.
+    fn run<R: Files + AllocGlobal>(
+        &self,
+        rt: &R,
+        words: &[String],
+        input: &mut Pieces<'_>,
+        output: &mut Stream,
+        errors: &mut Stream,
+    ) -> u8;
+}
+
 /// A reader that gives at most so many bytes a call.
 #[derive(Drop)]
-struct Pieces<'a> {
+pub struct Pieces<'a> {
     rest: &'a [u8],
     size: usize,
 }
@@ -65,7 +79,7 @@ pub const SOUND: Streams = Streams {
 
 /// A writer that keeps what it takes, until it fails.
 #[derive(Drop)]
-struct Stream {
+pub struct Stream {
     kept: Vec<u8>,
     fails: Fails,
 }
@@ -93,8 +107,9 @@ impl Write for Stream {
 }
 
 /// Runs the program on these words, with its standard input in pieces of this size, and with these streams.
-pub fn run_program<R: Files + AllocGlobal>(
+pub fn run_program<R: Files + AllocGlobal, P: Program>(
     rt: &R,
+    program: &P,
     words: &[String],
     input: &[u8],
     size: usize,
@@ -110,7 +125,7 @@ pub fn run_program<R: Files + AllocGlobal>(
         kept: Vec::new(rt.alloc()),
         fails: streams.errors,
     };
-    came.status = sftp_tool::run(rt, words, &mut pieces, &mut output, &mut errors);
+    came.status = program.run(rt, words, &mut pieces, &mut output, &mut errors);
     came.output = output.kept;
     came.errors = errors.kept;
 }

@@ -6,7 +6,7 @@ use crate::compare::say_bytes;
 use crate::expand::{expand, number_of};
 use crate::files::{END, START, TRANSCRIPT, remove, write};
 use crate::records::{put_bytes, put_session, put_sides, put_transcript, put_tree};
-use crate::runs::Fails;
+use crate::runs::{Fails, Program};
 use crate::tables::{answers, codes, replies};
 use crate::trouble::Trouble;
 use crate::wanted::Form;
@@ -15,8 +15,9 @@ use std::fs;
 use std::fs::Files;
 
 /// Takes a block of a case.
-pub fn take_step<R: Files + AllocGlobal>(
+pub fn take_step<R: Files + AllocGlobal, P: Program>(
     rt: &R,
+    program: &P,
     case: &mut Case,
     block: Block<'_>,
     lines: &[&str],
@@ -26,7 +27,7 @@ pub fn take_step<R: Files + AllocGlobal>(
     } else if has_word(PREPARES, block.keyword) {
         prepare(rt.alloc(), case, block, lines)
     } else if has_word(ACTS, block.keyword) {
-        act(rt, case, block, lines)
+        act(rt, program, case, block, lines)
     } else if has_word(WANTS, block.keyword) {
         want(rt.alloc(), case, block, lines)
     } else if has_word(COMPARES, block.keyword) {
@@ -159,8 +160,9 @@ fn fails_at(room: &str) -> Result<Fails, Trouble> {
 }
 
 /// Does what a block says, once the run before is settled.
-fn act<R: Files + AllocGlobal>(
+fn act<R: Files + AllocGlobal, P: Program>(
     rt: &R,
+    program: &P,
     case: &mut Case,
     block: Block<'_>,
     lines: &[&str],
@@ -169,30 +171,31 @@ fn act<R: Files + AllocGlobal>(
     case.line = block.number;
     case.wanted.reset();
     if block.keyword == "again" {
-        return serve(rt, case, block.words);
+        return serve(rt, program, case, block.words);
     }
     if block.keyword == "serve" {
         case.served = expand(rt.alloc(), lines, false)?;
-        return serve(rt, case, block.words);
+        return serve(rt, program, case, block.words);
     }
     let text = expand(rt.alloc(), lines, false)?;
-    act_on(rt, case, block, text.as_str())
+    act_on(rt, program, case, block, text.as_str())
 }
 
 /// Does what a block with this text says.
-fn act_on<R: Files + AllocGlobal>(
+fn act_on<R: Files + AllocGlobal, P: Program>(
     rt: &R,
+    program: &P,
     case: &mut Case,
     block: Block<'_>,
     text: &str,
 ) -> Result<(), Trouble> {
     match block.keyword {
-        "audit" => audit(rt, case, block.words, text),
-        "run" => run(rt, case, block.words),
-        "full" => full(rt, case, block.words),
-        "replies" => replies(rt, case, text),
-        "codes" => codes(rt, case, text),
-        _ => answers(rt, case, text),
+        "audit" => audit(rt, program, case, block.words, text),
+        "run" => run(rt, program, case, block.words),
+        "full" => full(rt, program, case, block.words),
+        "replies" => replies(rt, program, case, text),
+        "codes" => codes(rt, program, case, text),
+        _ => answers(rt, program, case, text),
     }
 }
 

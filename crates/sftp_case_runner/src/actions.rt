@@ -2,7 +2,7 @@
 use crate::cases::Case;
 use crate::files::{AUDITED, END, TRANSCRIPT, has_bytes, is_same, remove};
 use crate::records::{OPENING, put_sides};
-use crate::runs::{Came, Fails, SOUND, run_program, words_of};
+use crate::runs::{Came, Fails, Program, SOUND, run_program, words_of};
 use crate::trouble::Trouble;
 use crate::wanted::Form;
 use std::alloc::AllocError;
@@ -14,8 +14,9 @@ const SERVE: &str = "sftpv3 serve --tree start.tree --save end.tree --record ses
 const AUDIT: &str = "sftpv3 audit --tree start.tree --transcript session.transcript --out";
 
 /// Runs the program on the words of a line and some more, with the input of the case.
-fn run_line<R: Files + AllocGlobal>(
+fn run_line<R: Files + AllocGlobal, P: Program>(
     rt: &R,
+    program: &P,
     case: &mut Case,
     line: &str,
     more: &str,
@@ -25,6 +26,7 @@ fn run_line<R: Files + AllocGlobal>(
     remove(rt, END)?;
     run_program(
         rt,
+        program,
         words.as_slice(),
         case.input.as_slice(),
         case.size,
@@ -38,8 +40,13 @@ fn run_line<R: Files + AllocGlobal>(
 }
 
 /// The run of a `run` block, whose words are the program's name and its arguments.
-pub fn run<R: Files + AllocGlobal>(rt: &R, case: &mut Case, words: &str) -> Result<(), Trouble> {
-    run_line(rt, case, words, "")
+pub fn run<R: Files + AllocGlobal, P: Program>(
+    rt: &R,
+    program: &P,
+    case: &mut Case,
+    words: &str,
+) -> Result<(), Trouble> {
+    run_line(rt, program, case, words, "")
 }
 
 /// What the program says where it cannot write its output.
@@ -47,7 +54,12 @@ const UNWRITTEN: &[u8] = b"sftpv3: cannot write standard output\n";
 
 /// Runs the program on the words behind a number, with room for each number of bytes below it on standard output. Each
 /// time it has to end with status 3, and to say why.
-pub fn full<R: Files + AllocGlobal>(rt: &R, case: &mut Case, words: &str) -> Result<(), Trouble> {
+pub fn full<R: Files + AllocGlobal, P: Program>(
+    rt: &R,
+    program: &P,
+    case: &mut Case,
+    words: &str,
+) -> Result<(), Trouble> {
     let Some((number, line)) = words.split_once(' ') else {
         return Err(Trouble::Form("a number of bytes, and words"));
     };
@@ -56,7 +68,7 @@ pub fn full<R: Files + AllocGlobal>(rt: &R, case: &mut Case, words: &str) -> Res
     };
     for room in 0..most {
         case.streams.output = Fails::At(room);
-        run_line(rt, case, line, "")?;
+        run_line(rt, program, case, line, "")?;
         case.is_pending = false;
         if case.came.status != 3 || case.came.errors.as_slice() != UNWRITTEN {
             case.say_line(case.line)?;
@@ -71,15 +83,16 @@ pub fn full<R: Files + AllocGlobal>(rt: &R, case: &mut Case, words: &str) -> Res
 
 /// Audits the transcript with these options. The audit has to print this text, and to write the tree at the end if it
 /// accepts the session, and only then.
-pub fn audit<R: Files + AllocGlobal>(
+pub fn audit<R: Files + AllocGlobal, P: Program>(
     rt: &R,
+    program: &P,
     case: &mut Case,
     options: &str,
     text: &str,
 ) -> Result<(), Trouble> {
     case.wanted.output.extend_from_slice(text.as_bytes())?;
     case.wanted.status = if text.starts_with("accepted") { 0 } else { 1 };
-    run_audit(rt, case, options)?;
+    run_audit(rt, program, case, options)?;
     if fs::exists(rt, END)? != (case.came.status == 0) {
         case.say_line(case.line)?;
         case.said
@@ -89,13 +102,14 @@ pub fn audit<R: Files + AllocGlobal>(
 }
 
 /// Runs an audit, whose verdict is in what came.
-pub fn run_audit<R: Files + AllocGlobal>(
+pub fn run_audit<R: Files + AllocGlobal, P: Program>(
     rt: &R,
+    program: &P,
     case: &mut Case,
     options: &str,
 ) -> Result<(), Trouble> {
     let line = format!(in rt.alloc(); "{AUDIT} {END}")?;
-    run_line(rt, case, line.as_str(), options)
+    run_line(rt, program, case, line.as_str(), options)
 }
 
 /// Whether a dialogue begins with its own opening.
@@ -120,8 +134,9 @@ fn put_dialogue(text: &str, records: &mut String, verdict: &mut String) -> Resul
 }
 
 /// Serves the dialogue of the last `serve` block, with these options, and audits what was recorded.
-pub fn serve<R: Files + AllocGlobal>(
+pub fn serve<R: Files + AllocGlobal, P: Program>(
     rt: &R,
+    program: &P,
     case: &mut Case,
     options: &str,
 ) -> Result<(), Trouble> {
@@ -132,8 +147,8 @@ pub fn serve<R: Files + AllocGlobal>(
     if !verdict.is_empty() {
         case.wanted.output_form = Form::Free;
     }
-    run_serve(rt, case, options)?;
-    audit_record(rt, case, verdict.as_str())
+    run_serve(rt, program, case, options)?;
+    audit_record(rt, program, case, verdict.as_str())
 }
 
 /// Takes the records of the client as input, and those of the server as what is wanted.
@@ -144,18 +159,20 @@ fn take_dialogue(case: &mut Case, records: &str) -> Result<(), Trouble> {
 }
 
 /// Serves a session whose input is that of the case.
-pub fn run_serve<R: Files + AllocGlobal>(
+pub fn run_serve<R: Files + AllocGlobal, P: Program>(
     rt: &R,
+    program: &P,
     case: &mut Case,
     options: &str,
 ) -> Result<(), Trouble> {
-    run_line(rt, case, SERVE, options)
+    run_line(rt, program, case, SERVE, options)
 }
 
 /// Audits what a session has recorded, if it has recorded anything: the audit has to accept it, with the tree that was
 /// saved, and to print this verdict if one is given.
-pub fn audit_record<R: Files + AllocGlobal>(
+pub fn audit_record<R: Files + AllocGlobal, P: Program>(
     rt: &R,
+    program: &P,
     case: &mut Case,
     verdict: &str,
 ) -> Result<(), Trouble> {
@@ -163,16 +180,20 @@ pub fn audit_record<R: Files + AllocGlobal>(
         return Ok(());
     }
     let mut came = Came::new(rt.alloc());
-    run_audit_of_record(rt, &mut came)?;
+    run_audit_of_record(rt, program, &mut came)?;
     expect_accepted(case, &came, verdict)?;
     expect_same_trees(rt, case)
 }
 
 /// Audits what a session has recorded.
-fn run_audit_of_record<R: Files + AllocGlobal>(rt: &R, came: &mut Came) -> Result<(), Trouble> {
+fn run_audit_of_record<R: Files + AllocGlobal, P: Program>(
+    rt: &R,
+    program: &P,
+    came: &mut Came,
+) -> Result<(), Trouble> {
     let line = format!(in rt.alloc(); "{AUDIT} {AUDITED}")?;
     let words = words_of(rt.alloc(), line.as_str())?;
-    run_program(rt, words.as_slice(), b"", usize::MAX, SOUND, came);
+    run_program(rt, program, words.as_slice(), b"", usize::MAX, SOUND, came);
     Ok(())
 }
 
