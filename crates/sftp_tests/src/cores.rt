@@ -69,13 +69,18 @@ const OPENS: &[&[u8]] = &[
 
 /// READ, FSTAT and CLOSE of handle 0, and WRITE of one byte at 0 through it.
 const READ: &[u8] = b"\x05\0\0\0\x0c\0\0\0\0\0\0\0\0\0\0\0\0\0\0\0\0\0\0\0\0\0\0\0\x01";
+
 const FSTAT: &[u8] = b"\x08\0\0\0\x0c\0\0\0\0\0\0\0\0\0\0\0\0";
+
 const CLOSE: &[u8] = b"\x04\0\0\0\x0c\0\0\0\0\0\0\0\0\0\0\0\0";
+
 const WRITE: &[u8] = b"\x06\0\0\0\x0c\0\0\0\0\0\0\0\0\0\0\0\0\0\0\0\0\0\0\0\0\0\0\0\x01x";
 
 /// READ of one byte at 0 of handle 1, and READDIR of the handles 2 and 3.
 const READ_OTHER: &[u8] = b"\x05\0\0\0\x0c\0\0\0\x01\0\0\0\0\0\0\0\x01\0\0\0\0\0\0\0\0\0\0\0\x01";
+
 const LIST: &[u8] = b"\x0c\0\0\0\x0c\0\0\0\x02\0\0\0\0\0\0\0\x02";
+
 const LIST_OTHER: &[u8] = b"\x0c\0\0\0\x0c\0\0\0\x03\0\0\0\0\0\0\0\x03";
 
 /// Rows 9 and 49 of the rules. A READ waits for a WRITE through another name of its file; READ and FSTAT of one file do
@@ -99,24 +104,15 @@ const CLASHES: &[Call] = &[
     Call::Ready(2, true),
     Call::Ready(3, false),
     Call::Ready(4, true),
-    Call::Work(4, Did::Done),
-    Call::Work(3, Did::NotReady),
-    Call::Work(2, Did::Done),
-    Call::Work(3, Did::Done),
-    Call::Work(1, Did::Done),
-    Call::Work(0, Did::Done),
-    Call::Send(4, Some(7)),
-    Call::Send(0, Some(3)),
-    Call::Send(0, Some(4)),
-    Call::Send(1, Some(6)),
-    Call::Send(0, Some(5)),
     Call::Take(8, READ),
     Call::Take(9, CLOSE),
     Call::Take(10, READ),
-    Call::Ready(0, true),
-    Call::Ready(1, false),
-    Call::Ready(2, false),
-    Call::Work(2, Did::NotReady),
+    Call::Ready(5, true),
+    Call::Ready(6, false),
+    Call::Ready(7, false),
+    Call::Work(7, Did::NotReady),
+    Call::Work(2, Did::Done),
+    Call::Ready(3, true),
 ];
 
 const ASK: Call = Call::Deliver(0, None);
@@ -134,7 +130,12 @@ const ENDS: &[(&str, &[Call], bool)] = &[
 ];
 
 /// Why a request with this id is not taken.
-fn refusal(alloc: Global, core: &mut Core, id: u32, part: &[u8]) -> Result<Option<Refuse>, NoMemory> {
+fn refusal(
+    alloc: Global,
+    core: &mut Core,
+    id: u32,
+    part: &[u8],
+) -> Result<Option<Refuse>, NoMemory> {
     let request = request(alloc, id, part)?;
     let delivered = core.deliver(request);
     let refusal = refusal_of(&delivered);
