@@ -37,4 +37,5 @@ pub mod AnswersSteps
 pub mod NameReplies
 pub mod OpenReplies
 pub mod Touches
+pub mod Barriers
 pub mod Exchanges

@@ -7,6 +7,7 @@ pub mod Requests
 pub mod Allowed
 pub mod Laws
 pub mod Clash
+pub mod Touch
 pub mod Examples
 pub mod ClashExamples
 pub mod Given

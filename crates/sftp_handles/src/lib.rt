@@ -5,6 +5,7 @@
 mod accepting;
 mod answering;
 mod changing;
+mod clashing;
 pub mod examples;
 mod first_listings;
 mod found;
@@ -34,7 +35,9 @@ mod slots;
 mod striking;
 mod tables;
 mod taking;
+mod touch;
 
+pub use clashing::is_barrier;
 pub use given_table::GivenTable;
 pub use listings::Listing;
 pub use opens::Open;
@@ -42,3 +45,4 @@ pub use sessions::Session;
 pub use shown::same_attributes;
 pub use slab_table::SlabTable;
 pub use tables::{HandleTable, PutError};
+pub use touch::Touch;

@@ -1,13 +1,13 @@
 //! Laws of requests that do not clash, as theorems on the definitions of steps. The functions do nothing; each promise
 //! is in the contract.
-ghost use Rattle.std.specs.Prelude.{◌≡◌, false};
+ghost use Rattle.std.specs.Prelude.{◌≡◌, ◌≢◌, true, false, IsTrue};
 ghost use Rattle.sftp_wire.specs.declared.packets.Ask.{Ask};
 ghost use Rattle.sftp_wire.specs.declared.packets.Request.{Request};
 ghost use Rattle.sftp_wire.specs.declared.packets.Reply.{Reply};
 ghost use Rattle.sftp_tree.specs.AskValues.{IsAsk};
 ghost use Rattle.sftp_handles.specs.State.{State, Good};
 ghost use Rattle.sftp_handles.specs.Allowed.{Allowed};
-ghost use Rattle.sftp_handles.specs.Clash.{touched, clash, ComesFirst};
+ghost use Rattle.sftp_handles.specs.Clash.{everything, is_barrier, touched, clash, ComesFirst};
 
 use crate::laws::good_stays_good;
 
@@ -20,6 +20,25 @@ pub fn requests_change_places()
 {
     good_stays_good();
 }
+
+/// A request that does not clash with a later one makes no earlier one clash with that later one. So what is ready to
+/// be done stays ready, whatever else that is ready is done first.
+pub fn no_clash_arises()
+    ensures { (s end : State) (request earlier later : Request) (reply : Reply) → Good s → IsAsk request.ask →
+        clash s request later ≡ false → clash s earlier later ≡ false → Allowed s request reply end →
+        clash end earlier later ≡ false }
+{}
+
+/// A barrier touches everything in every state, and so clashes with every request, earlier or later; no other request
+/// touches everything in any state.
+pub fn barriers_touch_everything()
+    ensures touched { (s : State) (ask : Ask) → IsTrue (is_barrier ask) → touched s ask ≡ everything }
+    ensures others { (s : State) (ask : Ask) → is_barrier ask ≡ false → touched s ask ≢ everything }
+    ensures first { (s : State) (request other : Request) → IsTrue (is_barrier request.ask) →
+        clash s request other ≡ true }
+    ensures second { (s : State) (request other : Request) → IsTrue (is_barrier other.ask) →
+        clash s request other ≡ true }
+{}
 
 /// After a request that does not clash with some other one, every request touches what it touched before, and so the
 /// same requests clash.

@@ -1,0 +1,74 @@
+-- Which requests touch everything, whatever the state is.
+use Rattle.std.proofs.Common.{◌≡◌, ◌≢◌, ℕ, Bool, true, false, List, Option, Some, None, refl, ap}
+use Rattle.sftp_wire.specs.declared.packets.Ask.{Ask}
+use Rattle.sftp_wire.specs.declared.packets.Ask.TheVariants as asks
+use Rattle.sftp_handles.specs.declared.opens.Open.{Open}
+use Rattle.sftp_handles.specs.declared.opens.Open.TheVariants.{File, Listing}
+use Rattle.sftp_handles.specs.Handles.{open_at}
+use Rattle.sftp_handles.specs.State.{State}
+use Rattle.sftp_handles.specs.Seen.{a_file, a_listing}
+use Rattle.sftp_handles.specs.Clash.{Touched, untouched, everything, share, is_barrier, touched_through, touched}
+
+pub barrier-touches : (s : State) (ask : Ask) → is_barrier ask ≡ true → touched s ask ≡ everything
+unfolding touched
+barrier-touches s (asks.Read handle offset len) is = absurd cc
+barrier-touches s (asks.Write handle offset bytes) is = absurd cc
+barrier-touches s (asks.Fstat handle) is = absurd cc
+barrier-touches s (asks.Fsetstat handle attrs) is = absurd cc
+barrier-touches s (asks.Fsync handle) is = absurd cc
+barrier-touches s (asks.Readdir handle) is = absurd cc
+barrier-touches s (asks.Open path pflags attrs) is = refl
+barrier-touches s (asks.Close handle) is = refl
+barrier-touches s (asks.Lstat path) is = refl
+barrier-touches s (asks.Setstat path attrs) is = refl
+barrier-touches s (asks.Opendir path) is = refl
+barrier-touches s (asks.Remove path) is = refl
+barrier-touches s (asks.Mkdir path attrs) is = refl
+barrier-touches s (asks.Rmdir path) is = refl
+barrier-touches s (asks.Realpath path) is = refl
+barrier-touches s (asks.Stat path) is = refl
+barrier-touches s (asks.Rename oldpath newpath) is = refl
+barrier-touches s (asks.Readlink path) is = refl
+barrier-touches s (asks.Symlink targetpath linkpath) is = refl
+barrier-touches s (asks.PosixRename oldpath newpath) is = refl
+barrier-touches s (asks.Hardlink oldpath newpath) is = refl
+barrier-touches s (asks.Unknown extension rest) is = refl
+
+of-file : (changes : Bool) (handle : List ℕ) (found : Option Open)
+    → share (touched_through a_file changes handle found) untouched ≡ false
+of-file changes handle None = refl
+of-file true handle (Some (File number flags)) = refl
+of-file false handle (Some (File number flags)) = refl
+of-file changes handle (Some (Listing left)) = refl
+
+of-listing : (changes : Bool) (handle : List ℕ) (found : Option Open)
+    → share (touched_through a_listing changes handle found) untouched ≡ false
+of-listing changes handle None = refl
+of-listing changes handle (Some (File number flags)) = refl
+of-listing changes handle (Some (Listing left)) = refl
+
+-- what shares something with a request that touches nothing is everything
+not-all : (at : Touched) → share at untouched ≡ false → at ≢ everything
+not-all at apart is = absurd (let shared : share at untouched ≡ true = ap (λ x. share x untouched) is in cc)
+
+pub other-touches : (s : State) (ask : Ask) → is_barrier ask ≡ false → touched s ask ≢ everything
+unfolding touched
+other-touches s (asks.Read handle offset len) is =
+    not-all (touched_through a_file false handle (open_at s.handles handle))
+    (of-file false handle (open_at s.handles handle))
+other-touches s (asks.Write handle offset bytes) is =
+    not-all (touched_through a_file true handle (open_at s.handles handle))
+    (of-file true handle (open_at s.handles handle))
+other-touches s (asks.Fstat handle) is =
+    not-all (touched_through a_file false handle (open_at s.handles handle))
+    (of-file false handle (open_at s.handles handle))
+other-touches s (asks.Fsetstat handle attrs) is =
+    not-all (touched_through a_file true handle (open_at s.handles handle))
+    (of-file true handle (open_at s.handles handle))
+other-touches s (asks.Fsync handle) is =
+    not-all (touched_through a_file false handle (open_at s.handles handle))
+    (of-file false handle (open_at s.handles handle))
+other-touches s (asks.Readdir handle) is =
+    not-all (touched_through a_listing false handle (open_at s.handles handle))
+    (of-listing false handle (open_at s.handles handle))
+other-touches s other is = absurd cc

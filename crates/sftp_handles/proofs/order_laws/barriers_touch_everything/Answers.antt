@@ -1,0 +1,20 @@
+use Rattle.std.proofs.Common.{ap, ◌∙◌}
+use Rattle.sftp_handles.specs.Clash.{clash, share, touched}
+use Rattle.sftp_handles.proofs.Touches.{share-everything}
+use Rattle.sftp_handles.proofs.Barriers.{barrier-touches, other-touches}
+use Rattle.sftp_handles.proofs.order_laws.barriers_touch_everything.Goals as goal
+
+pub returns-clause-touched : goal.returns-clause-touched
+returns-clause-touched c = barrier-touches
+
+pub returns-clause-others : goal.returns-clause-others
+returns-clause-others c = other-touches
+
+pub returns-clause-first : goal.returns-clause-first
+unfolding clash
+returns-clause-first c s request other is = ap (λ at. share at (touched s other.ask)) (barrier-touches s request.ask is)
+
+pub returns-clause-second : goal.returns-clause-second
+unfolding clash
+returns-clause-second c s request other is =
+    ap (share (touched s request.ask)) (barrier-touches s other.ask is) ∙ share-everything (touched s request.ask)

@@ -1,0 +1,12 @@
+use Rattle.std.proofs.Common.{◌∙◌}
+use Rattle.sftp_handles.specs.Clash.{clash, share}
+use Rattle.sftp_handles.proofs.Exchanges.{touched-after}
+use Rattle.sftp_handles.proofs.order_laws.no_clash_arises.Goals as goal
+
+pub returns : goal.returns
+unfolding clash
+returns c s end request earlier later reply good fit apart free allowed =
+    (λ i.
+    share (touched-after s end request later reply earlier.ask good fit apart allowed i)
+    (touched-after s end request later reply later.ask good fit apart allowed i))
+    ∙ free

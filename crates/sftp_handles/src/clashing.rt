@@ -1,0 +1,178 @@
+//! Which requests clash, and so are done in the order asked (draft, section 6.1).
+ghost use Rattle.std.specs.Prelude.{◌≡◌, false, Some};
+ghost use Rattle.sftp_wire.specs.Spelling.{asked_handle};
+ghost use Rattle.sftp_path.specs.Place.{same_bytes};
+ghost use Rattle.sftp_handles.specs.Handles.{open_at};
+ghost use Rattle.sftp_handles.specs.Seen.{a_file, a_listing};
+ghost use Rattle.sftp_handles.specs.Clash as clashes;
+ghost use Rattle.sftp_handles.specs.Clash.{share, touched, touched_through};
+ghost use Rattle.sftp_handles.specs.Touch.{handle_in, touched_as};
+
+use crate::opens::Open;
+use crate::sessions::Session;
+use crate::tables::HandleTable;
+use crate::touch::Touch;
+use sftp_wire::{Ask, Request};
+
+impl Touch {
+    /// Whether two requests, each with what it touches in the same state, clash there: whether one of them touches
+    /// everything, or both touch one file or one listing and not both only read it. It takes no memory.
+    pub fn shares(self, ask: &Ask, other: Touch, other_ask: &Ask) -> bool
+        ensures { result ≡ share (touched_as self ask.now) (touched_as other other_ask.now) }
+    {
+        match (&self, &other) {
+            (Touch::Everything, _) => true,
+            (_, Touch::Everything) => true,
+            (Touch::ReadsFile(file), Touch::WritesFile(number)) => *file == *number,
+            (Touch::WritesFile(file), Touch::ReadsFile(number)) => *file == *number,
+            (Touch::WritesFile(file), Touch::WritesFile(number)) => *file == *number,
+            (Touch::TakesNames, Touch::TakesNames) => have_one_handle(ask, other_ask),
+            _ => false,
+        }
+    }
+}
+
+impl<T: HandleTable> Session<T> {
+    /// Whether two requests have to be done in the order asked: whether one of them touches everything, or both touch
+    /// one file or one listing and not both only read it. Files are compared by their numbers, whatever the handles. It
+    /// takes no memory.
+    #[tactic(auto, unfolding(crate::specs::Clash::clash))]
+    pub fn clash(&self, earlier: &Request, later: &Request) -> bool
+        ensures { result ≡ clashes.clash self.now earlier.now later.now }
+    {
+        let touch = self.touch(&earlier.ask);
+        touch.shares(&earlier.ask, self.touch(&later.ask), &later.ask)
+    }
+
+    /// What a request touches: READ, FSTAT and fsync read the file of their handle, WRITE and FSETSTAT may change it,
+    /// READDIR takes names of its listing; through a handle that is not open, or is of the wrong kind, each of these
+    /// touches nothing. Every other request touches everything. It takes no memory.
+    #[tactic(auto, unfolding(crate::specs::Clash::touched))]
+    pub fn touch(&self, ask: &Ask) -> Touch
+        ensures { touched_as result ask.now ≡ touched self.now ask.now }
+    {
+        match ask {
+            Ask::Read { handle, .. } => self.file_touch(ask, handle.as_slice(), false),
+            Ask::Write { handle, .. } => self.file_touch(ask, handle.as_slice(), true),
+            Ask::Fstat { handle } => self.file_touch(ask, handle.as_slice(), false),
+            Ask::Fsetstat { handle, .. } => self.file_touch(ask, handle.as_slice(), true),
+            Ask::Fsync { handle } => self.file_touch(ask, handle.as_slice(), false),
+            Ask::Readdir { handle } => self.listing_touch(ask, handle.as_slice()),
+            Ask::Close { .. }
+            | Ask::Open { .. }
+            | Ask::Lstat { .. }
+            | Ask::Setstat { .. }
+            | Ask::Opendir { .. }
+            | Ask::Remove { .. }
+            | Ask::Mkdir { .. }
+            | Ask::Rmdir { .. }
+            | Ask::Realpath { .. }
+            | Ask::Stat { .. }
+            | Ask::Rename { .. }
+            | Ask::Readlink { .. }
+            | Ask::Symlink { .. }
+            | Ask::PosixRename { .. }
+            | Ask::Hardlink { .. }
+            | Ask::Unknown { .. } => Touch::Everything,
+        }
+    }
+
+    /// What a request on the file under a handle touches, by whether it may change it.
+    fn file_touch(&self, ask: &Ask, handle: &[u8], changes: bool) -> Touch
+        ensures { touched_as result ask.now
+            ≡ touched_through a_file changes handle.now (open_at self.now.handles handle.now) }
+    {
+        match self.table.find(handle) {
+            Some(Open::File { file, .. }) => {
+                if changes {
+                    Touch::WritesFile(*file)
+                } else {
+                    Touch::ReadsFile(*file)
+                }
+            }
+            Some(Open::Listing { .. }) => Touch::Nothing,
+            None => Touch::Nothing,
+        }
+    }
+
+    /// What a request on the listing under a handle touches.
+    fn listing_touch(&self, ask: &Ask, handle: &[u8]) -> Touch
+        requires { asked_handle ask.now ≡ Some handle.now }
+        ensures { touched_as result ask.now
+            ≡ touched_through a_listing false handle.now (open_at self.now.handles handle.now) }
+    {
+        match self.table.find(handle) {
+            Some(Open::Listing { .. }) => Touch::TakesNames,
+            Some(Open::File { .. }) => Touch::Nothing,
+            None => Touch::Nothing,
+        }
+    }
+}
+
+/// Whether a request touches everything in every state: all do but READ, WRITE, FSTAT, FSETSTAT, fsync and READDIR. It
+/// takes no memory.
+pub fn is_barrier(ask: &Ask) -> bool
+    ensures { result ≡ clashes.is_barrier ask.now }
+{
+    match ask {
+        Ask::Read { .. } => false,
+        Ask::Write { .. } => false,
+        Ask::Fstat { .. } => false,
+        Ask::Fsetstat { .. } => false,
+        Ask::Fsync { .. } => false,
+        Ask::Readdir { .. } => false,
+        Ask::Close { .. }
+        | Ask::Open { .. }
+        | Ask::Lstat { .. }
+        | Ask::Setstat { .. }
+        | Ask::Opendir { .. }
+        | Ask::Remove { .. }
+        | Ask::Mkdir { .. }
+        | Ask::Rmdir { .. }
+        | Ask::Realpath { .. }
+        | Ask::Stat { .. }
+        | Ask::Rename { .. }
+        | Ask::Readlink { .. }
+        | Ask::Symlink { .. }
+        | Ask::PosixRename { .. }
+        | Ask::Hardlink { .. }
+        | Ask::Unknown { .. } => true,
+    }
+}
+
+/// Whether two requests name one handle; no handle counts as the empty one.
+fn have_one_handle(ask: &Ask, other: &Ask) -> bool
+    ensures { result ≡ same_bytes (handle_in (asked_handle ask.now)) (handle_in (asked_handle other.now)) }
+{
+    handle_in(ask) == handle_in(other)
+}
+
+/// The handle that a request names, or the empty one.
+fn handle_in(ask: &Ask) -> &[u8]
+    ensures { result.now ≡ handle_in (asked_handle ask.now) }
+{
+    match ask {
+        Ask::Close { handle }
+        | Ask::Read { handle, .. }
+        | Ask::Write { handle, .. }
+        | Ask::Fstat { handle }
+        | Ask::Fsetstat { handle, .. }
+        | Ask::Readdir { handle }
+        | Ask::Fsync { handle } => handle.as_slice(),
+        Ask::Open { .. }
+        | Ask::Lstat { .. }
+        | Ask::Setstat { .. }
+        | Ask::Opendir { .. }
+        | Ask::Remove { .. }
+        | Ask::Mkdir { .. }
+        | Ask::Rmdir { .. }
+        | Ask::Realpath { .. }
+        | Ask::Stat { .. }
+        | Ask::Rename { .. }
+        | Ask::Readlink { .. }
+        | Ask::Symlink { .. }
+        | Ask::PosixRename { .. }
+        | Ask::Hardlink { .. }
+        | Ask::Unknown { .. } => &[],
+    }
+}
