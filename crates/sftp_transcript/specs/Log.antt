@@ -59,9 +59,13 @@ pub record Breaks (old : Log) (text : List ℕ) (number : ℕ) (new : Log) : Typ
   pub records : new.records ≡ old.records
   pub broken : new.broken ≡ Some number
 
+-- the sink fails in this call, at the record of this number, which is the place named
+abbrev pub BreaksAt : Log → List ℕ → ℕ → ℕ → Log → Type 0
+BreaksAt old text number place new = (place ≡ number) × Breaks old text number new
+
 -- the sink failed at an earlier record, or fails at this one
 abbrev pub Fails : Log → List ℕ → ℕ → TranscriptError → Log → Type 0
-Fails old text number (Io place) new = IsBroken old place new ⊎ ((place ≡ number) × Breaks old text number new)
+Fails old text number (Io place) new = IsBroken old place new ⊎ BreaksAt old text number place new
 Fails old text number other new = ⊥
 
 -- the sink fails in a call that records these bytes
@@ -72,20 +76,27 @@ FailsToRecord old text error new = Fails old (opened_text old.records text) (nex
 abbrev pub FailsToFlush : Log → TranscriptError → Log → Type 0
 FailsToFlush old error new = Fails old [] old.records error new
 
+-- a packet of this side has a record: it has bytes, and that side sends it
+abbrev pub IsRecordable : Side → Packet → Type 0
+IsRecordable side packet = HasSpelling packet × (side_of packet ≡ side)
+
 -- why a packet of this side has no record of this number: `Wire` if it has no bytes, or another side sends it
 abbrev pub IsBadPacket : Side → Packet → ℕ → TranscriptError → Type 0
-IsBadPacket side packet number NoMemory = HasSpelling packet × (side_of packet ≡ side)
+IsBadPacket side packet number NoMemory = IsRecordable side packet
 IsBadPacket side packet number (Wire fault place) =
     (place ≡ number) × (HasSpelling packet → side_of packet ≡ side → ⊥)
     × ((side_of packet ≡ side → ⊥) → fault ≡ WrongType)
 IsBadPacket side packet number other = ⊥
 
--- why a packet of this side is not recorded
+-- why a packet of this side is not recorded: only one that has a record meets a lack of memory or a failing sink, unless
+-- the sink failed before
 abbrev pub IsUnrecorded : Log → Side → Packet → TranscriptError → Log → Type 0
-IsUnrecorded old side packet NoMemory new = IsUnwritten old new
+IsUnrecorded old side packet NoMemory new = IsUnwritten old new × IsRecordable side packet
 IsUnrecorded old side packet (Wire fault number) new =
     IsUnwritten old new × IsBadPacket side packet (next_number old) (Wire fault number)
-IsUnrecorded old side packet (Io place) new = FailsToRecord old (record_text packet) (Io place) new
+IsUnrecorded old side packet (Io place) new = IsBroken old place new
+    ⊎ (IsRecordable side packet
+        × BreaksAt old (opened_text old.records (record_text packet)) (next_number old) place new)
 IsUnrecorded old side packet other new = ⊥
 
 -- ---- the steps of a call

@@ -3,13 +3,13 @@ ghost use Rattle.std.specs.Prelude.{◌≡◌, ◌∷◌, ◌++◌, [], None, Is
 ghost use Rattle.std.specs.Prelude.{IsTrue, false};
 ghost use Rattle.std.specs.Io.KnownBytes.{Appends};
 ghost use Rattle.sftp_wire.specs.declared.packets.Packet.{Packet};
-ghost use Rattle.sftp_wire.specs.Spelling.{spelling, HasSpelling, side_of};
+ghost use Rattle.sftp_wire.specs.Spelling.{spelling, side_of};
 ghost use Rattle.sftp_transcript.specs.Streams.{Counts, AppendsPart};
 ghost use Rattle.sftp_transcript.specs.Transcript.{direction_of, record_text};
 ghost use Rattle.sftp_transcript.specs.Log.{Log, opening_before, opened_text, next_number, IsAppended, IsUnwritten};
 ghost use Rattle.sftp_transcript.specs.Log.{IsUnrecorded};
 ghost use Rattle.sftp_transcript.specs.Log.{FailsToRecord, FailsToFlush, FailedBefore, counted, broken_at};
-ghost use Rattle.sftp_transcript.specs.Log.{IsBadPacket};
+ghost use Rattle.sftp_transcript.specs.Log.{IsBadPacket, IsRecordable};
 
 use crate::errors::TranscriptError;
 use crate::records::{OPENING, read_fault};
@@ -94,8 +94,7 @@ fn is_same(one: Side, other: Side) -> bool
 
 /// Replaces the bytes by those of a packet of that side.
 fn spell(out: &mut Vec<u8>, side: Side, packet: &Packet, number: u64) -> Result<(), TranscriptError>
-    ensures ok { OnOk result (HasSpelling packet.now × (side_of packet.now ≡ side)
-        × (out.new.items ≡ spelling packet.now)) }
+    ensures ok { OnOk result (IsRecordable side packet.now × (out.new.items ≡ spelling packet.now)) }
     ensures err { IfErr result (λ error. IsBadPacket side packet.now number error) }
 {
     if !is_same(sender(packet), side) {
@@ -238,11 +237,11 @@ impl<L: Sink> Writer<L> {
     ///
     /// - `Wire` with the number that the record would have if the packet has no bytes, or with `WrongType` if that side
     ///   does not send it. Nothing changes.
-    /// - `NoMemory` if memory runs out. Nothing changes.
-    /// - `Io` with the number of the record if the sink fails. A beginning of the bytes is written, and each later call
-    ///   returns the same error and changes nothing.
+    /// - `NoMemory` if memory runs out, of a packet that has a record. Nothing changes.
+    /// - `Io` with the number of the record if the sink fails, of a packet that has one. A beginning of the bytes is
+    ///   written, and each later call returns the same error and changes nothing, of any packet.
     pub fn record(&mut self, side: Side, packet: &Packet) -> Result<(), TranscriptError>
-        ensures spelled { OnOk result (HasSpelling packet.now × (side_of packet.now ≡ side)) }
+        ensures spelled { OnOk result (IsRecordable side packet.now) }
         ensures ok { OnOk result (IsAppended self.old (record_text packet.now) self.new) }
         ensures err { IfErr result (λ error. IsUnrecorded self.old side packet.now error self.new) }
     {
