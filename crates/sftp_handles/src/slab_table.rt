@@ -64,13 +64,22 @@ impl HandleTable for SlabTable {
         find_open(&self.opens, name)
     }
 
-    fn swap(&mut self, name: &[u8], it: Open) -> Result<Open, Open> {
+    fn swap(&mut self, name: &[u8], it: Open) -> Result<Open, Open>
+        ensures kept { next_name self.new ≡ next_name self.old }
+        ensures before { IfOk result (λ before. open_at (slab_handles self.old.opens) name.now ≡ Some before) }
+        ensures swapped { OnOk result
+            (slab_handles self.new.opens ≡ with_open (slab_handles self.old.opens) name.now it) }
+        ensures absent { OnErr result (open_at (slab_handles self.old.opens) name.now ≡ None) }
+        ensures back { IfErr result (λ back. back ≡ it) }
+        ensures err { OnErr result (slab_handles self.new.opens ≡ slab_handles self.old.opens) }
+    {
         swap_open(&mut self.opens, name, it)
     }
 
     fn put(&mut self, it: Open, want: Vec<u8>) -> Result<Vec<u8>, (Open, PutError)>
         ensures named { IfOk result (λ name. name.items ≡ next_name self.old) }
         ensures counted { OnOk result (self.new.serial ≡ serial_after self.old.serial) }
+        ensures kept { OnErr result (next_name self.new ≡ next_name self.old) }
         ensures closed { IfOk result (λ name. open_at (slab_handles self.old.opens) name.items ≡ None) }
         ensures opened { IfOk result (λ name.
             slab_handles self.new.opens ≡ with_open (slab_handles self.old.opens) name.items it) }
@@ -88,6 +97,7 @@ impl HandleTable for SlabTable {
     fn take(&mut self, name: &[u8]) -> Option<Open>
         ensures next { OnSome result (IsNext self.new name.now) }
         ensures serial { self.new.serial ≡ self.old.serial }
+        ensures kept { IfNone result (next_name self.new ≡ next_name self.old) }
         ensures before { result ≡ open_at (slab_handles self.old.opens) name.now }
         ensures closed { slab_handles self.new.opens ≡ without_open (slab_handles self.old.opens) name.now }
     {
@@ -100,6 +110,7 @@ impl HandleTable for SlabTable {
         ensures newest { OnSome result (IsNewest self.old.serial name.now → next_name self.new ≡ name.now) }
         ensures older { OnSome result ((IsNewest self.old.serial name.now → ⊥) → self.new.serial ≡ self.old.serial) }
         ensures absent { IfNone result (self.new.serial ≡ self.old.serial) }
+        ensures kept { IfNone result (next_name self.new ≡ next_name self.old) }
         ensures before { result ≡ open_at (slab_handles self.old.opens) name.now }
         ensures closed { slab_handles self.new.opens ≡ without_open (slab_handles self.old.opens) name.now }
     {
@@ -184,6 +195,7 @@ fn swap_open(opens: &mut Slab<Slot>, name: &[u8], it: Open) -> Result<Open, Open
     ensures absent { OnErr result (open_at (slab_handles opens.old) name.now ≡ None) }
     ensures back { IfErr result (λ back. back ≡ it) }
     ensures err { OnErr result (opens.new ≡ opens.old) }
+    ensures kept { opens.new.vacant_key ≡ opens.old.vacant_key }
     ensures numbered { IsNumbered opens.new }
 {
     let Some(number) = slot_of(opens, name) else {
@@ -213,6 +225,7 @@ fn put_open(
     ensures refused { IfErr result (λ e. e.1 ≡ NoMemory) }
     ensures back { IfErr result (λ e. e.0 ≡ it) }
     ensures err { OnErr result (opens.new.slots ≡ opens.old.slots) }
+    ensures kept { OnErr result (opens.new.vacant_key ≡ opens.old.vacant_key) }
     ensures numbered { IsNumbered opens.new }
 {
     if opens.reserve(1).is_err() {
@@ -232,6 +245,7 @@ fn take_slot(opens: &mut Slab<Slot>, name: &[u8]) -> Option<Slot>
     ensures closed { slab_handles opens.new ≡ without_open (slab_handles opens.old) name.now }
     ensures before { IfSome result (λ slot. open_at (slab_handles opens.old) name.now ≡ Some slot.opened) }
     ensures absent { IfNone result (open_at (slab_handles opens.old) name.now ≡ None) }
+    ensures kept { IfNone result (opens.new.vacant_key ≡ opens.old.vacant_key) }
     ensures freed { IfSome result (λ slot. name.now ≡ slot_name opens.new.vacant_key slot.serial) }
     ensures numbered { IsNumbered opens.new }
 {
