@@ -147,7 +147,7 @@ impl Auditor {
         &self.session
     }
 
-    /// The tree where the session ends, as if what is still open were closed. It takes no memory.
+    /// The tree where the session ends, as if what is still open were closed. Does not allocate.
     ///
     /// # Errors
     ///
@@ -182,7 +182,7 @@ impl Auditor {
     }
 
     /// How many requests are kept with their replies: those from the oldest unanswered one on, at most 1,024; 0 where
-    /// all are answered, and after a refusal. It takes no memory.
+    /// all are answered, and after a refusal. Does not allocate.
     pub fn kept(&self) -> usize
         ensures count { result ≡ length self.now.kept }
         ensures few { result ≤ window }

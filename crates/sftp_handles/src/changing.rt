@@ -18,7 +18,7 @@ use sftp_tree::{Cause, Refused, Tree};
 use sftp_wire::Attrs;
 
 impl<T: HandleTable> Session<T> {
-    /// CLOSE: closes a handle. A file that has no name is removed with its last handle. It takes no memory.
+    /// CLOSE: closes a handle. A file that has no name is removed with its last handle. Does not allocate.
     ///
     /// # Errors
     ///
@@ -89,7 +89,7 @@ impl<T: HandleTable> Session<T> {
         }
     }
 
-    /// fsync: changes nothing, since the tree is in memory. It takes no memory.
+    /// fsync: changes nothing, since the tree is in memory. Does not allocate.
     ///
     /// # Errors
     ///

@@ -59,7 +59,7 @@ impl<T: HandleTable> Session<T> {
     }
 
     /// Whether a request has come to an end: it is READ at the end of a file or past it, or READDIR of a listing that
-    /// has nothing left to give. It takes no memory.
+    /// has nothing left to give. Does not allocate.
     pub(crate) fn has_ended(&self, ask: &Ask) -> bool
         ensures { IsJudgedCode self.now ask.now 1 result self.now }
     {
@@ -134,7 +134,7 @@ pub(crate) fn strike_names<T: HandleTable>(
 }
 
 /// Takes the first names, of which these are copies, from the listing that is open under a handle, as the items of a
-/// reply. The copies become the long names. `room` has no items yet. It takes no memory.
+/// reply. The copies become the long names. `room` has no items yet. Does not allocate.
 pub(crate) fn give_first<T: HandleTable>(
     table: &mut T,
     alloc: Global,

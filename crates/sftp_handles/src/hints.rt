@@ -29,7 +29,7 @@ pub(crate) struct Hints {
 }
 
 impl Hints {
-    /// No hints. It takes no memory.
+    /// No hints. Does not allocate.
     pub(crate) fn none(alloc: Global) -> Hints {
         Hints {
             slots: Vec::new(alloc),
@@ -58,7 +58,7 @@ impl Hints {
         Ok(hints)
     }
 
-    /// Puts a hint for a name, if one of its slots has none. It takes no memory.
+    /// Puts a hint for a name, if one of its slots has none. Does not allocate.
     fn put(&mut self, name: &Name, place: u32) {
         let hint = Hint {
             hash: hash_of(name),
@@ -154,7 +154,7 @@ fn is_named(items: &VecDeque<Item>, place: usize, name: &Name) -> bool
     }
 }
 
-/// Where the item with a name is. It takes no memory.
+/// Where the item with a name is. Does not allocate.
 ///
 /// # Errors
 ///

@@ -130,7 +130,7 @@ impl Listing {
         }
     }
 
-    /// Takes the first name that is left, with its attributes. It takes no memory.
+    /// Takes the first name that is left, with its attributes. Does not allocate.
     pub(crate) fn take_one(&mut self) -> Option<Item>
         ensures taken { self.old ≡ option_to_list (option_map entry_of result) ++ self.new }
         ensures none { IfNone result (self.new ≡ []) }

@@ -15,7 +15,7 @@ use sftp_wire::Attrs;
 use std::collections::VecDeque;
 use std::mem::replace;
 
-/// Where the item with a name is. It takes no memory.
+/// Where the item with a name is. Does not allocate.
 ///
 /// # Errors
 ///
@@ -28,7 +28,7 @@ pub(crate) fn place_of(items: &VecDeque<Item>, name: &Name) -> Result<usize, usi
     items.binary_search_by(|item| item.name.cmp(name))
 }
 
-/// The item at a place, if it has no mark. It takes no memory.
+/// The item at a place, if it has no mark. Does not allocate.
 pub(crate) fn item_at<'a>(
     items: &'a VecDeque<Item>,
     marks: &VecDeque<bool>,
@@ -43,7 +43,7 @@ pub(crate) fn item_at<'a>(
     }
 }
 
-/// Sets the mark at a place, and returns the one before. It takes no memory.
+/// Sets the mark at a place, and returns the one before. Does not allocate.
 pub(crate) fn set_mark(marks: &mut VecDeque<bool>, place: usize, struck: bool) -> bool
     requires { place < length marks.old.items }
     ensures set { marks.new.items ≡ slice_set marks.old.items place struck }
@@ -87,7 +87,7 @@ pub(crate) fn put_item(
     }
 }
 
-/// Sets the attributes of the item at a place. It takes no memory.
+/// Sets the attributes of the item at a place. Does not allocate.
 fn set_attrs(items: &mut VecDeque<Item>, place: usize, attrs: Attrs)
     requires { place < length items.old.items }
     ensures { items.new.items ≡ with_attrs_at items.old.items place attrs }
@@ -123,7 +123,7 @@ fn insert_item(
     }
 }
 
-/// Takes the first item without a mark, and drops those before it. It takes no memory.
+/// Takes the first item without a mark, and drops those before it. Does not allocate.
 pub(crate) fn take_unmarked(items: &mut VecDeque<Item>, marks: &mut VecDeque<bool>) -> Option<Item>
     requires { ArePaired items.old.items marks.old.items }
     ensures paired { ArePaired items.new.items marks.new.items }
@@ -136,7 +136,7 @@ pub(crate) fn take_unmarked(items: &mut VecDeque<Item>, marks: &mut VecDeque<boo
     items.pop_front()
 }
 
-/// Drops the items with a mark up to the first one without. It takes no memory.
+/// Drops the items with a mark up to the first one without. Does not allocate.
 fn drop_struck(items: &mut VecDeque<Item>, marks: &mut VecDeque<bool>)
     requires { ArePaired items.old.items marks.old.items }
     ensures paired { ArePaired items.new.items marks.new.items }

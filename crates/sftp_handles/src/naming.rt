@@ -130,7 +130,7 @@ impl<T: HandleTable> Session<T> {
     }
 }
 
-/// A reply with a new handle. It takes no memory.
+/// A reply with a new handle. Does not allocate.
 fn handle_reply(name: Vec<u8>) -> Answer
     ensures { result ≡ replies.Handle name.items }
 {

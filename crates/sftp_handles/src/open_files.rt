@@ -16,7 +16,7 @@ use sftp_tree::{Cause, FileNo};
 use sftp_wire::Attrs;
 
 impl<T: HandleTable> Session<T> {
-    /// FSTAT: the size, the owner and the permissions of an open file. It takes no memory.
+    /// FSTAT: the size, the owner and the permissions of an open file. Does not allocate.
     ///
     /// # Errors
     ///
@@ -35,7 +35,7 @@ impl<T: HandleTable> Session<T> {
     }
 
     /// READ: the bytes of an open file from an offset on, at most `len` of them and at most as many as the tree's limit
-    /// of one READ; nothing at the end of the file and past it. They are lent, and it takes no memory.
+    /// of one READ; nothing at the end of the file and past it. They are lent. Does not allocate.
     ///
     /// # Errors
     ///
@@ -60,7 +60,7 @@ impl<T: HandleTable> Session<T> {
     }
 
     /// What READ gives of a file that exists: its bytes from the offset on, at most `len` of them and at most as many
-    /// as the tree's limit of one READ; nothing at the end of the file and past it. It takes no memory.
+    /// as the tree's limit of one READ; nothing at the end of the file and past it. Does not allocate.
     fn bytes_of(&self, file: FileNo, offset: u64, len: u32) -> Option<&[u8]>
         requires { HasFile self.now.tree.files file }
         ensures read { option_map (read_from (limits self.now.tree) offset len) (content_at self.now.tree.files file)

@@ -64,7 +64,7 @@ impl<T: HandleTable> Session<T> {
         }
     }
 
-    /// Whether the file that is open under a handle has these attributes. It takes no memory.
+    /// Whether the file that is open under a handle has these attributes. Does not allocate.
     fn shows_open(&self, handle: &[u8], attrs: &Attrs) -> bool
         ensures { IsJudged self.now (Fstat handle.now) (replies.Attrs attrs.now) result self.now }
     {
@@ -74,7 +74,7 @@ impl<T: HandleTable> Session<T> {
         }
     }
 
-    /// Whether bytes are an allowed answer: the request is READ, and gives these. It takes no memory.
+    /// Whether bytes are an allowed answer: the request is READ, and gives these. Does not allocate.
     #[tactic(auto, using(crate::proofs::OtherAnswers::other_bytes))]
     pub(crate) fn judge_data(&self, ask: &Ask, bytes: &[u8]) -> bool
         ensures { IsJudged self.now ask.now (replies.Data bytes.now) result self.now }
@@ -109,7 +109,7 @@ impl<T: HandleTable> Session<T> {
         }
     }
 
-    /// Whether READ gives these bytes. They are compared with the file's own, and it takes no memory.
+    /// Whether READ gives these bytes. They are compared with the file's own. Does not allocate.
     fn gives(&self, handle: &[u8], offset: u64, len: u32, bytes: &[u8]) -> bool
         ensures { IsJudged self.now (Read handle.now offset len) (replies.Data bytes.now) result self.now }
     {

@@ -57,7 +57,7 @@ impl<T: HandleTable> Session<T> {
         }
     }
 
-    /// The tree of the session, without any pins. It takes no memory.
+    /// The tree of the session, without any pins. Does not allocate.
     pub fn into_tree(self) -> Tree
         ensures { result ≡ trim (record self.tree { pins = [] }) }
     {

@@ -138,7 +138,7 @@ impl<T: HandleTable> Session<T> {
     }
 }
 
-/// A status with this code, whose texts are empty. It takes no memory.
+/// A status with this code, whose texts are empty. Does not allocate.
 pub(crate) fn status(alloc: Global, code: u32) -> Answer
     ensures status { result ≡ status_of code }
     ensures fits { code < 2 ^ 32 }

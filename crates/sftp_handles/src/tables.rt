@@ -31,19 +31,19 @@ pub trait HandleTable: Sized + Drop {
     /// Whether a new handle gets the name that is wanted for it.
     ghost takes_want: { Bool };
 
-    /// A table in which nothing is open.
+    /// A table in which nothing is open. Does not allocate.
     fn empty(alloc: Global) -> Self
         ensures { handles result ≡ [] };
 
-    /// How many handles are open.
+    /// How many handles are open. Does not allocate.
     fn len(&self) -> usize
         ensures { result ≡ size (handles self.now) };
 
-    /// What is open under the name.
+    /// What is open under the name. Does not allocate.
     fn find(&self, name: &[u8]) -> Option<&Open>
         ensures { option_copied result ≡ open_at (handles self.now) name.now };
 
-    /// Opens something else under a name that is open, and returns what was open before.
+    /// Opens something else under a name that is open, and returns what was open before. Does not allocate.
     ///
     /// # Errors
     ///
@@ -76,13 +76,13 @@ pub trait HandleTable: Sized + Drop {
         ensures back { IfErr result (λ e. e.0 ≡ it) }
         ensures err { OnErr result (handles self.new ≡ handles self.old) };
 
-    /// Closes a name, and returns what was open under it.
+    /// Closes a name, and returns what was open under it. Does not allocate.
     fn take(&mut self, name: &[u8]) -> Option<Open>
         ensures before { result ≡ open_at (handles self.old) name.now }
         ensures closed { handles self.new ≡ without_open (handles self.old) name.now };
 
     /// Closes a name as `take` does. A table that gives names of its own gives the newest name again, as if it had not
-    /// been opened.
+    /// been opened. Does not allocate.
     fn give_back(&mut self, name: &[u8]) -> Option<Open>
         ensures before { result ≡ open_at (handles self.old) name.now }
         ensures closed { handles self.new ≡ without_open (handles self.old) name.now };

@@ -32,7 +32,7 @@ impl Listing {
     }
 
     /// Takes the first names that are left, one for each long name, as the items of a reply. `room` has no items yet.
-    /// It takes no memory.
+    /// Does not allocate.
     pub(crate) fn take_first(&mut self, longnames: Vec<ByteString>, room: Vec<NameItem>) -> Names
         requires names { longnames.items ≡ first.first_names (length longnames.items) self.old }
         requires empty { room.items ≡ [] }
@@ -73,7 +73,7 @@ fn push_name(
     }
 }
 
-/// An item of a reply: a name with its attributes and this long name. It takes no memory.
+/// An item of a reply: a name with its attributes and this long name. Does not allocate.
 fn item_of(item: Item, longname: ByteString) -> NameItem
     requires { longname ≡ item.name }
     ensures { result ≡ first.item_of (entry_of item) }

@@ -114,7 +114,7 @@ impl Core {
         }
     }
 
-    /// Whether the request at this position is pending, and no request before it is.
+    /// Whether the request at this position is pending, and no request before it is. Does not allocate.
     pub fn ready(&self, k: usize) -> bool
         ensures { result ≡ is_ready server_clash self.now k }
     {
@@ -164,7 +164,7 @@ impl Core {
     }
 
     /// Returns the reply of the request at this position to be sent, if the request is done and unanswered. Answered
-    /// requests at the front then leave the queue. It takes no memory.
+    /// requests at the front then leave the queue. Does not allocate.
     pub fn send(&mut self, k: usize) -> Option<Reply>
         ensures reply { result ≡ reply_at self.old.queue k }
         ensures sent { IfSome result (λ reply. IsSent self.old k reply self.new) }
@@ -200,7 +200,7 @@ impl Core {
         }
     }
 
-    /// The tree of the session with nothing open, once each request was answered. It takes no memory.
+    /// The tree of the session with nothing open, once each request was answered. Does not allocate.
     ///
     /// # Errors
     ///

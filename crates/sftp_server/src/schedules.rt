@@ -7,7 +7,8 @@ pub trait Schedule {
     fn pick(&mut self, count: usize) -> usize;
 }
 
-/// The schedule that always chooses the first act, so that requests are answered in the order asked.
+/// The schedule that always chooses the first act, so that requests are answered in the order asked. Its
+/// choices do not allocate.
 #[derive(Clone, Copy, Debug, Drop)]
 pub struct InOrder;
 
@@ -19,7 +20,7 @@ impl Schedule for InOrder {
 
 /// A schedule of pseudorandom choices, by a linear congruential generator of this state (this profile's own). For each
 /// choice the state is multiplied by 6364136223846793005 and increased by 1442695040888963407, modulo 2^64; the choice
-/// is its upper 31 bits.
+/// is its upper 31 bits. Its choices do not allocate.
 #[derive(Clone, Copy, Debug, Drop)]
 pub struct Shuffle(pub u64);
 

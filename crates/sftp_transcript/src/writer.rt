@@ -251,7 +251,7 @@ impl<L: Sink> Writer<L> {
         self.records.append(side, &self.spelled)
     }
 
-    /// Writes the record of a packet of that side whose bytes are at hand, as `record` does. It takes no memory. The
+    /// Writes the record of a packet of that side whose bytes are at hand, as `record` does. Does not allocate. The
     /// bytes are not looked at: nothing is promised where they are not those of one packet of that side.
     ///
     /// # Errors
@@ -265,7 +265,7 @@ impl<L: Sink> Writer<L> {
         self.records.append(side, bytes)
     }
 
-    /// Flushes the sink. It takes no memory.
+    /// Flushes the sink. Does not allocate.
     ///
     /// # Errors
     ///
