@@ -1,6 +1,6 @@
 //! `audit --explain`: why a session is refused, as lines of text.
 use crate::command_line::AuditFiles;
-use crate::messages::write_flushed;
+use crate::messages::{Failure, write_flushed};
 use crate::subcommands::open;
 use sftp_audit::{AuditError, Auditor, NoMemory, Refusal, TreeError, feed_all};
 use sftp_show::{
@@ -151,6 +151,7 @@ fn records<'a, R: Files + AllocGlobal>(
 ) -> Result<Reader<Tally<R::File>>, Unexplained> {
     match open(rt, files.transcript) {
         Ok(file) => Ok(Reader::new(rt.alloc(), Tally::new(file))?),
+        Err(Failure::OutOfMemory) => Err(Unexplained::OutOfMemory),
         Err(_) => Err(Unexplained::OtherTranscript),
     }
 }
@@ -432,6 +433,7 @@ fn refuse_again<'a, R: Files + AllocGlobal>(
     let fed = feed_all(auditor, &mut records);
     drop(records);
     match fed {
+        Err(AuditError::NoMemory) => Err(Unexplained::OutOfMemory),
         Err(AuditError::Refused(_)) => Ok(()),
         _ => Err(Unexplained::OtherTranscript),
     }
