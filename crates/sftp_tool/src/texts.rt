@@ -56,18 +56,25 @@ fn put_full<'a, O: Write>(
     }
 }
 
-/// Appends the text of a file to an empty one. Of a malformed transcript it then has the records before the fault.
+/// Appends the text of a file to an empty one. Of a malformed transcript it then has the records before the fault, and
+/// nothing if memory ran out.
 fn put_text<'a>(alloc: Global, bytes: &[u8], text: &mut Vec<u8>) -> Result<(), Failure<'a>> {
     if bytes.starts_with(OPENING.as_slice()) {
         match put_transcript(bytes, text) {
             Ok(()) => Ok(()),
-            Err(ShowFault::NoMemory) => Err(Failure::OutOfMemory),
+            Err(ShowFault::NoMemory) => {
+                text.clear();
+                Err(Failure::OutOfMemory)
+            }
             Err(ShowFault::Unfit) => Err(without_side(text.as_slice())),
         }
     } else {
         match put_tree(bytes, text) {
             Ok(()) => Ok(()),
-            Err(ShowFault::NoMemory) => Err(Failure::OutOfMemory),
+            Err(ShowFault::NoMemory) => {
+                text.clear();
+                Err(Failure::OutOfMemory)
+            }
             Err(ShowFault::Unfit) => {
                 text.clear();
                 Err(malformed(alloc, bytes))
