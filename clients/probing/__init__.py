@@ -1,0 +1,14 @@
+"""The parts of clients/probe. In the order in which they are used:
+
+trees       tree files: reading, writing, the tree that a probe starts from, the folder of a tree
+model       what the planner believes the server's tree to be
+spelling    many paths that lead to one place
+planner     the plan of a session: draws scenes, and keeps the account of handles
+scenes      scenes that make sense; refusals: requests that some cause refuses
+sessions    plays a plan against a server, and records it
+verdicts    asks `sftpv3 audit`, and goes on after a difference
+groups      differences that are alike
+shrinking   the shortest session that still shows a difference
+reports     what is printed, kept and reported
+planted     servers with bugs, for clients/test-probe
+"""

@@ -1,0 +1,93 @@
+"""What the planner believes the server's tree to be, so that most of what it plans makes sense. Nothing is judged by
+it: that is `sftpv3 audit`'s part."""
+from probing import trees
+
+DIRECTORY, FILE, LINK = "directory", "file", "link"
+
+
+class Entry:
+    """What is at a place: its kind, the number of a file, the target of a link."""
+
+    def __init__(self, kind, number=None, target=b""):
+        self.kind, self.number, self.target = kind, number, target
+
+
+class Model:
+    """Places, which are tuples of names, to entries; and the sizes of the files, by their numbers."""
+
+    def __init__(self, tree):
+        self.home = tuple(name for name in tree.home.split(b"/") if name)
+        self.places, self.sizes = {(): Entry(DIRECTORY)}, {}
+        by_path = {}
+        for entry in tree.entries:
+            if entry.kind == trees.FILE:
+                by_path[entry.path] = self.new_number(len(entry.content))
+                self.places[entry.names()] = Entry(FILE, by_path[entry.path])
+            elif entry.kind == trees.FURTHER:
+                self.places[entry.names()] = Entry(FILE, by_path[entry.content])
+            elif entry.kind == trees.LINK:
+                self.places[entry.names()] = Entry(LINK, target=entry.content)
+            else:
+                self.places[entry.names()] = Entry(DIRECTORY)
+
+    def new_number(self, size):
+        self.sizes[len(self.sizes)] = size
+        return len(self.sizes) - 1
+
+    def at(self, place):
+        return self.places.get(place)
+
+    def of_kind(self, kind):
+        return [place for place, entry in self.places.items() if entry.kind == kind]
+
+    def below(self, place):
+        return [other for other in self.places if other != place and other[:len(place)] == place]
+
+    def walk(self, path, follow):
+        """The place that a path leads to, or None: docs/TREE.md, The walk."""
+        parts = [part for part in path.split(b"/") if part]
+        parts = parts if path.startswith(b"/") else list(self.home) + parts
+        place, links = (), 0
+        while parts:
+            part = parts.pop(0)
+            if part in (b".", b".."):
+                place = place[:-1] if part == b".." else place
+                continue
+            entry = self.at(place + (part,))
+            if entry is not None and entry.kind == DIRECTORY:
+                place += (part,)
+            elif entry is not None and entry.kind == LINK and (parts or follow):
+                links += 1
+                if links > 40:
+                    return None
+                place = () if entry.target.startswith(b"/") else place
+                parts = [name for name in entry.target.split(b"/") if name] + parts
+            else:
+                return None if parts else place + (part,)
+        return place
+
+    def leads_to(self, link, kind):
+        """The place that the link there leads to, if that is of this kind."""
+        place = self.walk(b"/" + b"/".join(link), True)
+        return place if place is not None and self.at(place) and self.at(place).kind == kind else None
+
+    def add(self, place, entry):
+        self.places[place] = entry
+
+    def make_file(self, place):
+        self.add(place, Entry(FILE, self.new_number(0)))
+
+    def remove(self, place):
+        self.places.pop(place, None)
+
+    def move(self, old, new):
+        """Moves what is at the old place, with all below it; what was at the new one is gone."""
+        if old == new or self.same_file(old, new):
+            return
+        moved = [(place, self.places.pop(place)) for place in [old] + self.below(old)]
+        for place, entry in moved:
+            self.places[new + place[len(old):]] = entry
+
+    def same_file(self, one, other):
+        first, second = self.at(one), self.at(other)
+        return bool(first and second and first.kind == FILE == second.kind and first.number == second.number)

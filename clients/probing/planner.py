@@ -1,0 +1,150 @@
+"""The plan of a session. A seed, a tree and a number of requests have one plan, whatever the server answers."""
+import random
+
+import sftp3
+from probing import effects, refusals, scenes
+from probing.model import DIRECTORY, FILE, LINK, Model
+from probing.spelling import spell
+
+# Names of what is made, few, so that they meet.
+POOL = [b"a", b"b", b"new", b"n", b"x y", b"caf\xc3\xa9", b"-", b"...", b"\xff", b"Z" * 40]
+
+# What `--skip` may name, besides requests and causes.
+FEATURES = {
+    "nul": "paths with a byte of 0",
+    "slash": "paths that end in a slash, or in a dot",
+    "long": "paths of 1,024 bytes or more",
+    "huge": "offsets and sizes of 2^31 or more",
+    "long-read": "READs of more than 32,768 bytes",
+    "owner": "attributes with a user and a group",
+}
+
+
+class Handle:
+    """The handle that the reply to this step gives."""
+
+    def __init__(self, step):
+        self.step = step
+
+
+class Step(sftp3.Request):
+    """A request of a plan. A handle in it is a `Handle`, or bytes. Its tags are what `--skip` may name."""
+
+    def __init__(self, number, name, fields, cause=None):
+        super().__init__(number, name, fields)
+        self.tags = {name} | ({cause} if cause else set()) | features(name, fields)
+
+    def opened(self):
+        return Handle(self.number)
+
+
+def features(name, fields):
+    """The features that a request has."""
+    found = set()
+    paths = [value for value in fields if isinstance(value, bytes)] if name not in ("WRITE", "EXTENDED") else []
+    if any(b"\0" in path for path in paths):
+        found.add("nul")
+    if any(len(path) >= 1024 for path in paths):
+        found.add("long")
+    if any(path.endswith((b"/", b"/.", b"/..")) and path.strip(b"/") for path in paths):
+        found.add("slash")
+    if any(isinstance(value, dict) and "owner" in value for value in fields):
+        found.add("owner")
+    numbers = [value for value in fields if isinstance(value, int)]
+    numbers += [value.get("size", 0) for value in fields if isinstance(value, dict)]
+    if name != "OPEN" and any(number >= 2 ** 31 for number in numbers):
+        found.add("huge")
+    if name == "READ" and fields[2] > 32768:
+        found.add("long-read")
+    return found
+
+
+class Planner:
+    """Draws scenes, and mixes their steps."""
+
+    def __init__(self, seed, tree, skip=()):
+        self.random = random.Random(seed)
+        self.model = Model(tree)
+        self.skip = set(skip)
+        self.steps, self.opened, self.closed = [], {}, []
+        self.last = 0
+
+    def plan(self, count):
+        playing = []
+        for _ in range(40 * count):
+            if len(self.steps) >= count:
+                break
+            if len(playing) < 3:
+                playing.append(self.scene())
+            scene = self.random.choice(playing)
+            step = next(scene, None)
+            if step is None or step.tags & self.skip:
+                playing.remove(scene)
+            else:
+                self.steps.append(step)
+                effects.apply(self, step)
+        return self.steps
+
+    def scene(self):
+        if self.random.random() < 0.5:
+            return refusals.scene(self)
+        return self.random.choices(scenes.SCENES, scenes.WEIGHTS)[0](self)
+
+    def ask(self, name, *fields, cause=None):
+        self.last += 1
+        return Step(self.last, name, list(fields), cause)
+
+    def place(self, kind):
+        """The place of something of this kind, or None."""
+        found = [place for place in self.model.of_kind(kind) if not self.crowd(place)]
+        return self.random.choice(found) if found else None
+
+    def crowd(self, place):
+        """Whether this is one of many names of a directory, of which few are wanted in a plan."""
+        return len(place) == 2 and place[0] == b"many" and self.random.random() < 0.98
+
+    def file(self):
+        return self.place(FILE)
+
+    def directory(self):
+        return self.place(DIRECTORY)
+
+    def link(self):
+        return self.place(LINK)
+
+    def free(self):
+        """A place where something may be made."""
+        for _ in range(20):
+            place = self.directory() + (self.random.choice(POOL),)
+            if not self.model.at(place):
+                return place
+        return (b"made-%d" % self.last,)
+
+    def path(self, place):
+        """A path of this place, spelled in some way. Of none it is one that may lead nowhere."""
+        return b"/absent" if place is None else spell(self.random, self.model, place)
+
+    def handle(self, kind, flags=0):
+        """A handle of this kind with these flags that is open, or None."""
+        found = [number for number, opened in self.opened.items()
+                 if opened.kind == kind and opened.flags & flags == flags]
+        return Handle(self.random.choice(found)) if found else None
+
+    def attributes(self):
+        """Attributes for something new: mostly none or permissions."""
+        return self.random.choice([
+            {}, {}, {"permissions": 0o640}, {"permissions": 0o100600}, {"permissions": 0o755},
+            {"permissions": 0o777}, {"owner": (7, 8), "permissions": 0o644}, {"times": (1, 2)},
+        ])
+
+    def data(self):
+        size = self.random.choice([0, 1, 1, 3, 5, 10, 26, 100, 1000, 8000])
+        return self.random.randbytes(size) if size > 26 else b"0123456789ABCDEFGHIJKLMNOPQ"[:size]
+
+    def offset(self):
+        return self.random.choice([0, 0, 0, 1, 2, 5, 10, 20, 26, 30, 100, 1000, 40000])
+
+
+def plan(seed, tree, count, skip=()):
+    """The steps of a session."""
+    return Planner(seed, tree, skip).plan(count)

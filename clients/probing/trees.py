@@ -1,0 +1,155 @@
+"""Tree files: docs/FORMATS.md has the format."""
+import os
+import struct
+
+OPENING = b"SFTREE01"
+DIRECTORY, FILE, FURTHER, LINK = b"D", b"F", b"H", b"L"
+
+
+class Bad(Exception):
+    """A file that is no tree file."""
+
+
+class Entry:
+    """An entry: its path, its kind, the owner and permissions of a directory or file, and its content: the bytes of a
+    file, the path of the first name of a further one, or the target of a link."""
+
+    def __init__(self, path, kind, content=b"", uid=0, gid=0, permissions=0o755):
+        self.path, self.kind, self.content = path, kind, content
+        self.uid, self.gid, self.permissions = uid, gid, permissions
+
+    def names(self):
+        return tuple(name for name in self.path.split(b"/") if name)
+
+
+class Tree:
+    """A tree: its home, the user and group of what is made, the root's entry, and the others in rising order."""
+
+    def __init__(self, entries, home=b"/", uid=0, gid=0, root=None):
+        self.home, self.uid, self.gid = home, uid, gid
+        self.root = root or Entry(b"/", DIRECTORY)
+        self.entries = sorted(entries, key=Entry.names)
+
+    def with_entries(self, entries):
+        return Tree(entries, self.home, self.uid, self.gid, self.root)
+
+
+def string(data):
+    return struct.pack(">I", len(data)) + data
+
+
+def put(tree):
+    """The bytes of the tree file."""
+    numbers = {entry.path: number for number, entry in enumerate(tree.entries, 1)}
+    data = OPENING + string(tree.home) + struct.pack(">III", tree.uid, tree.gid, len(tree.entries))
+    data += struct.pack(">III", tree.root.uid, tree.root.gid, tree.root.permissions)
+    for entry in tree.entries:
+        data += string(entry.path) + entry.kind
+        if entry.kind in (DIRECTORY, FILE):
+            data += struct.pack(">III", entry.uid, entry.gid, entry.permissions)
+        if entry.kind == FURTHER:
+            data += struct.pack(">I", numbers[entry.content])
+        elif entry.kind != DIRECTORY:
+            data += string(entry.content)
+    return data
+
+
+class Bytes:
+    """Reads numbers and strings from left to right."""
+
+    def __init__(self, data):
+        self.data, self.place = data, 0
+
+    def take(self, count):
+        if self.place + count > len(self.data):
+            raise Bad("the tree file ends inside a field")
+        self.place += count
+        return self.data[self.place - count:self.place]
+
+    def number(self):
+        return struct.unpack(">I", self.take(4))[0]
+
+    def string(self):
+        return self.take(self.number())
+
+
+def get(data):
+    """The tree of a tree file."""
+    source = Bytes(data)
+    if source.take(len(OPENING)) != OPENING:
+        raise Bad("the file is no tree file")
+    home, uid, gid, count = source.string(), source.number(), source.number(), source.number()
+    root = Entry(b"/", DIRECTORY, b"", source.number(), source.number(), source.number())
+    entries = []
+    for _ in range(count):
+        entries.append(get_entry(source, entries))
+    return Tree(entries, home, uid, gid, root)
+
+
+def get_entry(source, before):
+    path, kind = source.string(), source.take(1)
+    owner = [source.number() for _ in range(3)] if kind in (DIRECTORY, FILE) else [0, 0, 0]
+    if kind == FURTHER:
+        first = source.number()
+        if not 1 <= first <= len(before):
+            raise Bad("a further name has no first name")
+        return Entry(path, kind, before[first - 1].path)
+    if kind not in (DIRECTORY, FILE, LINK):
+        raise Bad("an entry has no known kind")
+    return Entry(path, kind, b"" if kind == DIRECTORY else source.string(), *owner)
+
+
+def read(name):
+    with open(name, "rb") as file:
+        return get(file.read())
+
+
+def write(tree, name):
+    with open(name, "wb") as file:
+        file.write(put(tree))
+
+
+def usual():
+    """The tree that a probe starts from, if it is given none: directories, files with one name and with two, links that
+    lead to a file, to a directory, nowhere and round in a ring, and a directory of 130 names."""
+    letters = bytes(range(ord("a"), ord("z") + 1))
+    entries = [
+        Entry(b"/d", DIRECTORY),
+        Entry(b"/d/e", DIRECTORY, permissions=0o700),
+        Entry(b"/d/e/f", FILE, b"abcdefghij", permissions=0o644),
+        Entry(b"/d/g", FILE, b"", permissions=0o600),
+        Entry(b"/d/up", LINK, b"../f"),
+        Entry(b"/empty", DIRECTORY, permissions=0o711),
+        Entry(b"/f", FILE, letters, permissions=0o644),
+        Entry(b"/g", FURTHER, b"/f"),
+        Entry(b"/large", FILE, letters * 3000, permissions=0o640),
+        Entry(b"/many", DIRECTORY),
+        Entry(b"/nowhere", LINK, b"n/m"),
+        Entry(b"/ring", LINK, b"ring"),
+        Entry(b"/soon", LINK, b"d/new"),
+        Entry(b"/to-d", LINK, b"d"),
+        Entry(b"/to-e", LINK, b"/d/e"),
+    ]
+    many = [Entry(b"/many/%03d" % number, FILE, b"", permissions=0o644) for number in range(130)]
+    return Tree(entries + many)
+
+
+def build(tree, folder):
+    """Makes what the tree has in an empty folder. Owners other than one's own need root."""
+    below = os.fsencode(folder)
+    for entry in tree.entries:
+        place = below + entry.path
+        if entry.kind == DIRECTORY:
+            os.mkdir(place)
+        elif entry.kind == LINK:
+            os.symlink(entry.content, place)
+        elif entry.kind == FURTHER:
+            os.link(below + entry.content, place)
+        else:
+            with open(place, "wb") as file:
+                file.write(entry.content)
+    own = [entry for entry in [tree.root] + tree.entries if entry.kind in (DIRECTORY, FILE)]
+    for entry in reversed(own):
+        place = below + (b"" if entry is tree.root else entry.path)
+        os.chown(place, entry.uid, entry.gid)
+        os.chmod(place, entry.permissions)
