@@ -1,6 +1,7 @@
 pub mod Machine
 pub mod Queue
 pub mod Choices
+pub mod Schedules
 pub mod Core
 pub mod Served
 pub mod Sessions

@@ -1,4 +1,6 @@
 //! In which order a server does what it may do.
+ghost use Rattle.std.specs.Prelude.{◌≡◌};
+ghost use Rattle.sftp_server.specs.Schedules.{next_state, upper_bits};
 
 /// Chooses among what a server may do next.
 pub trait Schedule {
@@ -13,7 +15,9 @@ pub trait Schedule {
 pub struct InOrder;
 
 impl Schedule for InOrder {
-    fn pick(&mut self, _count: usize) -> usize {
+    fn pick(&mut self, _count: usize) -> usize
+        ensures first { result ≡ 0 }
+    {
         0
     }
 }
@@ -25,7 +29,10 @@ impl Schedule for InOrder {
 pub struct Shuffle(pub u64);
 
 impl Schedule for Shuffle {
-    fn pick(&mut self, _count: usize) -> usize {
+    fn pick(&mut self, _count: usize) -> usize
+        ensures state { self.new.0 ≡ next_state self.old.0 }
+        ensures choice { result ≡ upper_bits self.new.0 }
+    {
         self.0 = self
             .0
             .wrapping_mul(6_364_136_223_846_793_005)
