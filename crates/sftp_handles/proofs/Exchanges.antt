@@ -97,7 +97,7 @@ decided false true change = Some change
 decided false false change = None
 
 -- what an allowed answer changes
-abbrev outcome : TreeLimits → Row → Seen → Answer → Option Change
+abbrev pub outcome : TreeLimits → Row → Seen → Answer → Option Change
 outcome bounds row it answer =
     decided (refuses (causes_of bounds row it) answer)
     (is_none (causes_of bounds row it) && says (said_of bounds row it) answer) (change_of row it answer)
@@ -156,7 +156,7 @@ module _ (s : State) (ask : Ask) (handle : List ℕ) (answer : Answer) (asked : 
       (is_none (causes_of (limits s.tree) (row_of ask) it) && says (said_of (limits s.tree) (row_of ask) it) answer)
 
 -- an allowed step changes something of what the request touches, and nothing else
-record Changes (s : State) (ask : Ask) (handle : List ℕ) (answer : Answer) (end : State) : Type 0 where
+pub record Changes (s : State) (ask : Ask) (handle : List ℕ) (answer : Answer) (end : State) : Type 0 where
   pub change : Change
   pub outcome_is : outcome (limits s.tree) (row_of ask) (seen s (row_of ask).needed handle) answer ≡ Some change
   pub end_is : end ≡ applied s handle change
@@ -167,7 +167,7 @@ mapped : (s end : State) (handle : List ℕ) (found : Option Change) → option_
 mapped s end handle None is = absurd cc
 mapped s end handle (Some change) is = (change, refl, sym (same_Some (applied s handle change) end is))
 
-changes-of : (s end : State) (ask : Ask) (handle : List ℕ) (answer : Answer) → asked_handle ask ≡ Some handle
+pub changes-of : (s end : State) (ask : Ask) (handle : List ℕ) (answer : Answer) → asked_handle ask ≡ Some handle
     → Good s → IsAsk ask → step s ask answer ≡ Some end → Changes s ask handle answer end
 changes-of s end ask handle answer asked good fit is =
     let found = mapped s end handle (outcome (limits s.tree) (row_of ask) (seen s (row_of ask).needed handle) answer)
@@ -185,12 +185,12 @@ handle-by : (s : State) (ask : Ask) (named : Option (List ℕ)) → touched_by s
 handle-by s ask None apart = absurd (apart refl)
 handle-by s ask (Some handle) apart = (handle, refl)
 
-handle-of : (s : State) (ask : Ask) → touched s ask ≢ everything
+pub handle-of : (s : State) (ask : Ask) → touched s ask ≢ everything
     → (handle : List ℕ) × (asked_handle ask ≡ Some handle)
 unfolding touched
 handle-of s ask = handle-by s ask (asked_handle ask)
 
-not-everything : (at other : Touched) → share at other ≡ false → at ≢ everything
+pub not-everything : (at other : Touched) → share at other ≡ false → at ≢ everything
 not-everything at other apart is = absurd (let shared : share at other ≡ true = ap (λ x. share x other) is in cc)
 
 limits-stay : (s : State) (handle : List ℕ) (at : Touched) (change : Change) → IsChangeTo s handle at change
@@ -222,7 +222,7 @@ before-steps s ask h k answer at change next asked is apart part found =
     (λ i. outcome (sym (limits-stay s k at change is part) i) (row_of ask) (sym (seen-stays s ask h k at change asked is apart) i) answer)
     ∙ found
 
-abbrev StaysGood : Type 0
+abbrev pub StaysGood : Type 0
 StaysGood = (s : State) (request : Request) (reply : Reply) (end : State) → Good s → IsAsk request.ask
     → Allowed s request reply end → Good end
 
@@ -294,13 +294,18 @@ module _ (stays-good : StaysGood) (s mid end : State) (request other : Request) 
 
 -- ---- what requests touch stays
 
-pub touched-after : (s end : State) (request other : Request) (reply : Reply) (ask : Ask) → Good s
-    → IsAsk request.ask → share (touched s request.ask) (touched s other.ask) ≡ false
-    → Allowed s request reply end → touched end ask ≡ touched s ask
-touched-after s end request other reply ask good fit apart allowed =
-    let part = not-everything (touched s request.ask) (touched s other.ask) apart in
+pub touched-past : (s end : State) (request : Request) (reply : Reply) (ask : Ask) → Good s → IsAsk request.ask
+    → touched s request.ask ≢ everything → Allowed s request reply end → touched end ask ≡ touched s ask
+touched-past s end request reply ask good fit part allowed =
     let named = handle-of s request.ask part in
     let one = changes-of s end request.ask named.0 reply.answer named.1 good fit
     (allowed-step s request reply end allowed) in
     ap (λ (e : State). touched e ask) one.end_is
     ∙ touched-stays s ask named.0 (touched s request.ask) one.change one.touches part
+
+pub touched-after : (s end : State) (request other : Request) (reply : Reply) (ask : Ask) → Good s
+    → IsAsk request.ask → share (touched s request.ask) (touched s other.ask) ≡ false
+    → Allowed s request reply end → touched end ask ≡ touched s ask
+touched-after s end request other reply ask good fit apart allowed =
+    touched-past s end request reply ask good fit
+    (not-everything (touched s request.ask) (touched s other.ask) apart) allowed

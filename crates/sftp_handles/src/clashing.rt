@@ -58,8 +58,8 @@ impl<T: HandleTable> Session<T> {
             Ask::Fsetstat { handle, .. } => self.file_touch(ask, handle.as_slice(), true),
             Ask::Fsync { handle } => self.file_touch(ask, handle.as_slice(), false),
             Ask::Readdir { handle } => self.listing_touch(ask, handle.as_slice()),
-            Ask::Close { .. }
-            | Ask::Open { .. }
+            Ask::Close { .. } => Touch::Everything,
+            Ask::Open { .. }
             | Ask::Lstat { .. }
             | Ask::Setstat { .. }
             | Ask::Opendir { .. }
@@ -121,8 +121,8 @@ pub fn is_barrier(ask: &Ask) -> bool
         Ask::Fsetstat { .. } => false,
         Ask::Fsync { .. } => false,
         Ask::Readdir { .. } => false,
-        Ask::Close { .. }
-        | Ask::Open { .. }
+        Ask::Close { .. } => true,
+        Ask::Open { .. }
         | Ask::Lstat { .. }
         | Ask::Setstat { .. }
         | Ask::Opendir { .. }

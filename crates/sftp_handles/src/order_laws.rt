@@ -40,15 +40,10 @@ pub fn barriers_touch_everything()
         clash s request other ≡ true }
 {}
 
-/// After a request that does not clash with some other one, every request touches what it touched before, and so the
-/// same requests clash.
+/// After a request that is no barrier, every request touches what it touched before.
 pub fn touched_stays()
-    ensures touched { (s end : State) (request other : Request) (reply : Reply) (ask : Ask) → Good s →
-        IsAsk request.ask → clash s request other ≡ false → Allowed s request reply end →
-        touched end ask ≡ touched s ask }
-    ensures clash { (s end : State) (request other first second : Request) (reply : Reply) → Good s →
-        IsAsk request.ask → clash s request other ≡ false → Allowed s request reply end →
-        clash end first second ≡ clash s first second }
+    ensures { (s end : State) (request : Request) (reply : Reply) (ask : Ask) → Good s → IsAsk request.ask →
+        is_barrier request.ask ≡ false → Allowed s request reply end → touched end ask ≡ touched s ask }
 {}
 
 /// Whether two requests clash does not depend on their order.
