@@ -91,7 +91,7 @@ module _ (s : State) (ask : Ask) (handle : List ℕ) (answer : Answer) (good : G
 
 -- ---- a step is decided by what the request sees
 
-pub decided : Bool → Bool → Change → Option Change
+unfoldable pub decided : Bool → Bool → Change → Option Change
 decided true answered change = Some nothing
 decided false true change = Some change
 decided false false change = None

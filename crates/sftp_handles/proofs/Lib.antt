@@ -39,3 +39,8 @@ pub mod OpenReplies
 pub mod Touches
 pub mod Barriers
 pub mod Exchanges
+pub mod Overwrites
+pub mod RangedAsks
+pub mod RangedSteps
+pub mod RangeExchanges
+pub mod SteadyRanges

@@ -134,13 +134,13 @@ other-handle h k apart tie =
 
 -- ---- what another request sees
 
-content-stays : (files : Files) (m n : ℕ) (next : Content) → m ≢ n
+pub content-stays : (files : Files) (m n : ℕ) (next : Content) → m ≢ n
     → content_at (with_content files n next) m ≡ content_at files m
 content-stays files m n next apart =
     get-put_elsewhere nat_cmp nat_cmp_total files n m next
     (λ tie. apart (nat_cmp-IsAntisymmetric m n tie))
 
-open-stays : (handles : Handles) (h k : List ℕ) (it : Open) → same_bytes h k ≡ false
+pub open-stays : (handles : Handles) (h k : List ℕ) (it : Open) → same_bytes h k ≡ false
     → open_at (with_open handles k it) h ≡ open_at handles h
 open-stays handles h k it apart =
     get-put_elsewhere bytes_cmp nat_list_cmp_total handles k h it (other-handle h k apart)
@@ -205,7 +205,7 @@ seen-by s needed changes h k at closes is apart =
     absurd (let shared = ap (share (touched_through needed changes h (open_at s.handles h))) is
     ∙ share-everything (touched_through needed changes h (open_at s.handles h)) in cc)
 
-touched-is : (s : State) (ask : Ask) (handle : List ℕ) → asked_handle ask ≡ Some handle
+pub touched-is : (s : State) (ask : Ask) (handle : List ℕ) → asked_handle ask ≡ Some handle
     → touched s ask ≡ touched_through (row_of ask).needed (may_change ask) handle (open_at s.handles handle)
 unfolding touched
 touched-is s ask handle asked = ap (touched_by s ask) asked

@@ -8,6 +8,7 @@ pub mod Allowed
 pub mod Laws
 pub mod Clash
 pub mod Touch
+pub mod Ranges
 pub mod Examples
 pub mod ClashExamples
 pub mod Given

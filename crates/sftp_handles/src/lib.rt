@@ -4,6 +4,7 @@
 
 mod accepting;
 mod answering;
+mod byte_range;
 mod changing;
 mod clashing;
 pub mod examples;
@@ -25,6 +26,8 @@ pub mod order_examples;
 pub mod order_laws;
 mod performing;
 pub mod pin_laws;
+pub mod range_laws;
+mod ranging;
 mod reading;
 mod session_causes;
 mod sessions;
@@ -37,6 +40,7 @@ mod tables;
 mod taking;
 mod touch;
 
+pub use byte_range::ByteRange;
 pub use clashing::is_barrier;
 pub use given_table::GivenTable;
 pub use listings::Listing;

@@ -1,0 +1,57 @@
+//! Laws of requests that keep to ranges of one file, as theorems on the definitions of steps. The functions do nothing;
+//! each promise is in the contract.
+ghost use Rattle.std.specs.Prelude.{◌≡◌, ◌≤◌, ◌+◌, ℕ, List, length, take, drop, false};
+ghost use Rattle.sftp_wire.specs.declared.packets.Request.{Request};
+ghost use Rattle.sftp_wire.specs.declared.packets.Reply.{Reply};
+ghost use Rattle.sftp_tree.specs.AskValues.{IsAsk};
+ghost use Rattle.sftp_tree.specs.FileChanges.{written};
+ghost use Rattle.sftp_handles.specs.State.{State, Good};
+ghost use Rattle.sftp_handles.specs.Allowed.{Allowed};
+ghost use Rattle.sftp_handles.specs.Clash.{clash, ComesFirst};
+ghost use Rattle.sftp_handles.specs.Ranges.{range_clash};
+
+use crate::laws::good_stays_good;
+
+/// In a good state, two requests that do not clash there, ranges compared, may change places: the same replies are
+/// allowed, and the end is the same (draft-ietf-secsh-filexfer-02, section 6.1).
+pub fn ranged_requests_change_places()
+    ensures { (s mid end : State) (request other : Request) (reply other_reply : Reply) → Good s →
+        IsAsk request.ask → IsAsk other.ask → range_clash s request other ≡ false → Allowed s other other_reply mid →
+        Allowed mid request reply end → ComesFirst s request other reply other_reply end }
+{
+    good_stays_good();
+}
+
+/// A request that does not clash with a later one, ranges compared, makes no earlier one clash with that later one. All
+/// clashes do not stay: a WRITE past the end of a file makes other requests on that file keep to ranges within it.
+pub fn no_range_clash_arises()
+    ensures { (s end : State) (request earlier later : Request) (reply : Reply) → Good s → IsAsk request.ask →
+        range_clash s request later ≡ false → range_clash s earlier later ≡ false → Allowed s request reply end →
+        range_clash end earlier later ≡ false }
+{}
+
+/// Whether two requests clash, ranges compared, does not depend on their order.
+pub fn range_clash_is_mutual()
+    ensures { (s : State) (request other : Request) → range_clash s request other ≡ range_clash s other request }
+{}
+
+/// Requests that do not clash do not clash with ranges compared either.
+pub fn ranges_only_free()
+    ensures { (s : State) (request other : Request) → clash s request other ≡ false →
+        range_clash s request other ≡ false }
+{}
+
+/// A WRITE that ends within a file keeps its length and the bytes before and behind; two of them may change places if
+/// the first ends where the second starts, or before.
+pub fn writes_within_a_file()
+    ensures sized { (offset : ℕ) (bytes before : List ℕ) → offset + length bytes ≤ length before →
+        length (written offset bytes before) ≡ length before }
+    ensures in_front { (offset : ℕ) (bytes before : List ℕ) (start count : ℕ) →
+        offset + length bytes ≤ length before → start + count ≤ offset →
+        take count (drop start (written offset bytes before)) ≡ take count (drop start before) }
+    ensures behind { (offset : ℕ) (bytes before : List ℕ) (start : ℕ) → offset + length bytes ≤ length before →
+        offset + length bytes ≤ start → drop start (written offset bytes before) ≡ drop start before }
+    ensures twice { (offset : ℕ) (bytes : List ℕ) (other : ℕ) (more before : List ℕ) →
+        offset + length bytes ≤ other → other + length more ≤ length before →
+        written offset bytes (written other more before) ≡ written other more (written offset bytes before) }
+{}
