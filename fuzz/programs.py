@@ -1,0 +1,31 @@
+"""The program to try, and the files that are kept of a trial that failed."""
+import functools
+import os
+import shutil
+import subprocess
+
+TOP = os.path.dirname(os.path.dirname(os.path.realpath(__file__)))
+
+
+@functools.cache
+def program():
+    """The program of SFTPV3, or the one that ./sftpv3 builds if it has to."""
+    if "SFTPV3" in os.environ:
+        return os.path.realpath(os.environ["SFTPV3"])
+    subprocess.run([os.path.join(TOP, "sftpv3"), "--version"], stdout=subprocess.DEVNULL, check=True)
+    return os.path.join(TOP, "out", "sftpv3")
+
+
+def keep(name, command, why, files, copies=()):
+    """Keeps these files and the command in a folder of out/fuzz, which is returned."""
+    folder = os.path.join(TOP, "out", "fuzz", name)
+    os.makedirs(folder, exist_ok=True)
+    for copy in copies:
+        shutil.copy(copy, folder)
+    for file, data in files.items():
+        with open(os.path.join(folder, file), "wb") as it:
+            it.write(data)
+    with open(os.path.join(folder, "repeat"), "w") as it:
+        it.write(f"#!/bin/sh\n# {why}\ncd \"$(dirname \"$0\")\" || exit\n{command}\n")
+    os.chmod(os.path.join(folder, "repeat"), 0o755)
+    return os.path.join(folder, "repeat")
