@@ -5,8 +5,8 @@ from packets import (CLOSE, EXTENDED, FSETSTAT, FSTAT, LSTAT, MKDIR, OPEN, OPEND
 
 NAMES = [b"a", b"b", b"c", b"d", b"l", b"m"]
 STEPS = [*NAMES, b"..", b".", b"", b"\xff\x01"]
-NUMBERS = [0, 1, 2, 4, 5, 9, 64, 0x100, 0x101, 0x1000, 0x84CC, 0x84CD, 0x10000, 0x1000000, 0x1000001, 0x7FFFFFFF, 0x80000000,
-           0xFFFFFFFF]
+NUMBERS = [0, 1, 2, 4, 5, 9, 64, 0x100, 0x101, 0x1000, 0x84CC, 0x84CD, 0x10000, 0x1000000, 0x1000001, 0x7FFFFFFF,
+           0x80000000, 0xFFFFFFFF]
 OFFSETS = [0, 0, 0, 1, 2, 3, 5, 10, 100, 32_768, 40_000, 16_777_215, 16_777_216, 2**32, 2**63, 2**64 - 1]
 WEIGHTS = {OPEN: 12, CLOSE: 4, READ: 10, WRITE: 10, LSTAT: 3, FSTAT: 4, SETSTAT: 4, FSETSTAT: 4, OPENDIR: 6, READDIR: 9,
            REMOVE: 4, MKDIR: 9, RMDIR: 3, REALPATH: 4, STAT: 4, RENAME: 5, READLINK: 3, SYMLINK: 6, EXTENDED: 11}
@@ -20,7 +20,8 @@ def bad_path(rng):
 def path(rng):
     if rng.random() < 0.04:
         return bad_path(rng)
-    steps = rng.choices(STEPS, [8] * len(NAMES) + [1] * (len(STEPS) - len(NAMES)), k=rng.choice([0, 1, 1, 1, 1, 2, 2, 3]))
+    weights = [8] * len(NAMES) + [1] * (len(STEPS) - len(NAMES))
+    steps = rng.choices(STEPS, weights, k=rng.choice([0, 1, 1, 1, 1, 2, 2, 3]))
     return b"/" * (rng.random() < 0.8) + b"/".join(steps)
 
 
@@ -65,13 +66,15 @@ def extension(rng, handles):
                        b"fsync@openssh.com", b"statvfs@openssh.com", b""])
     if name.startswith((b"posix", b"hard")):
         return string(name) + string(path(rng)) + string(path(rng))
-    return string(name) + (string(handle(rng, handles.files)) if name.startswith(b"fsync") else rng.randbytes(rng.randint(0, 9)))
+    rest = string(handle(rng, handles.files)) if name.startswith(b"fsync") else rng.randbytes(rng.randint(0, 9))
+    return string(name) + rest
 
 
 def fields(rng, kind, handles):
     """The fields behind the id of a request of this type."""
     if kind == OPEN:
-        flags = rng.choice([1, 1, 3, 3, 9, 0xB, 0xB, 0xA, 0x1B, 0x2B, 0xE, 0x1A, rng.randrange(64), rng.choice(NUMBERS)])
+        flags = rng.choice([1, 1, 3, 3, 9, 0xB, 0xB, 0xA, 0x1B, 0x2B, 0xE, 0x1A, rng.randrange(64),
+                            rng.choice(NUMBERS)])
         return string(rng.choice([path(rng), b"/" + rng.choice(NAMES)])) + number(flags) + some_attrs(rng)
     if kind in (CLOSE, FSTAT, READDIR):
         known = handles.files if rng.random() < (0.95 if kind == FSTAT else 0.05) else handles.listings
@@ -124,7 +127,7 @@ def some_tree(rng):
         if tuple(place) in directories or pick < 0.1:
             entries.append((place, b"D" + owner(rng)))
         elif pick < 0.35:
-            entries.append((place, b"L" + string(path(rng) or b"a") if pick < 0.2 else b"L" + string(rng.choice(NAMES))))
+            entries.append((place, b"L" + string(path(rng) or b"a" if pick < 0.2 else rng.choice(NAMES))))
         elif pick < 0.6 and files:
             entries.append((place, b"H" + number(rng.choice(files))))
         else:

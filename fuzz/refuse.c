@@ -1,6 +1,6 @@
-/* Refuses requests for memory of the program that it is preloaded into. Requests are counted from 1, those of the loader
- * and of the C library among them. REFUSE_AT=N refuses the Nth, and with REFUSE_ON=1 all that follow. When the program
- * ends by itself, the count is written to the file REFUSE_COUNT, if there is one.
+/* Refuses requests for memory of the program that it is preloaded into. Requests are counted from 1, those of the C
+ * library among them. REFUSE_AT=N refuses the Nth, and with REFUSE_ON=1 all that follow. When the program ends by
+ * itself, the count is written to the file REFUSE_COUNT, if one is named.
  */
 #include <errno.h>
 #include <fcntl.h>
