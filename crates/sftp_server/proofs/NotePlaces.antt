@@ -1,0 +1,162 @@
+-- Notes and requests at their positions, after one is replaced.
+use Rattle.std.proofs.Common.{◌≡◌, ◌≢◌, ◌+◌, ◌<◌, ◌≤◌, ◌&&◌, ℕ, zero, suc, Bool, true, false, List, [], ◌∷◌}
+use Rattle.std.proofs.Common.{Option, Some, None, is_some, length, set, get_or, slice_get, refl, sym, ap, subst, ◌∙◌}
+use Rattle.std.proofs.Common.{arith}
+use Rattle.std.specs.List.{sum_by}
+use Rattle.std.proofs.lemmas.Bool.{true≢false}
+use Rattle.std.proofs.lemmas.Option.{none-some}
+use Rattle.std.proofs.lemmas.List.Sums.{sum_by-set}
+use Rattle.sftp_wire.specs.declared.packets.Reply.{Reply}
+use Rattle.sftp_handles.specs.Clash.{Touched, share}
+use Rattle.sftp_handles.specs.Touch.{touched_as}
+use Rattle.sftp_server.specs.declared.queue.Entry.{Entry}
+use Rattle.sftp_server.specs.declared.queue.Progress.{Progress}
+use Rattle.sftp_server.specs.declared.readiness.Note.{Note}
+use Rattle.sftp_server.specs.declared.queue.Progress.TheVariants.{Pending, Done, Sent}
+use Rattle.sftp_server.specs.Machine.{is_pending, is_pending_at, reply_of, reply_at}
+use Rattle.sftp_server.specs.Queue.{with_progress}
+use Rattle.sftp_server.specs.Readiness.{blank, note_at, ask_at, touched_at, is_in_way, as_count, possible_count}
+
+-- ---- one note is replaced
+
+-- a part of the notes stays if the new note has it as the old one
+pub part-set : {F : Type 0} (part : Note → F) (notes : List Note) (k j : ℕ) (note : Note)
+    → part note ≡ part (note_at notes k) → part (note_at (set notes k note) j) ≡ part (note_at notes j)
+part-set part [] k j note same = refl
+part-set part (first ∷ notes) zero zero note same = same
+part-set part (first ∷ notes) zero (suc j) note same = refl
+part-set part (first ∷ notes) (suc k) zero note same = refl
+part-set part (first ∷ notes) (suc k) (suc j) note same = part-set part notes k j note same
+
+-- a note that does not pass a test is at the position
+pub fails-set : (test : Note → Bool) (notes : List Note) (k : ℕ) (note : Note) → test blank ≡ false
+    → test note ≡ false → test (note_at (set notes k note) k) ≡ false
+fails-set test [] k note none is = none
+fails-set test (first ∷ notes) zero note none is = is
+fails-set test (first ∷ notes) (suc k) note none is = fails-set test notes k note none is
+
+-- no note passes it that did not before
+pub fails-still : (test : Note → Bool) (notes : List Note) (k j : ℕ) (note : Note) → test note ≡ false
+    → test (note_at notes j) ≡ false → test (note_at (set notes k note) j) ≡ false
+fails-still test [] k j note is failed = failed
+fails-still test (first ∷ notes) zero zero note is failed = is
+fails-still test (first ∷ notes) zero (suc j) note is failed = failed
+fails-still test (first ∷ notes) (suc k) zero note is failed = failed
+fails-still test (first ∷ notes) (suc k) (suc j) note is failed = fails-still test notes k j note is failed
+
+pub passed-before : (test : Note → Bool) (notes : List Note) (k j : ℕ) (note : Note) → test note ≡ false
+    → test (note_at (set notes k note) j) ≡ true → test (note_at notes j) ≡ true
+passed-before test [] k j note is passes = passes
+passed-before test (first ∷ notes) zero zero note is passes = absurd (true≢false (sym passes ∙ is))
+passed-before test (first ∷ notes) zero (suc j) note is passes = passes
+passed-before test (first ∷ notes) (suc k) zero note is passes = passes
+passed-before test (first ∷ notes) (suc k) (suc j) note is passes = passed-before test notes k j note is passes
+
+-- one that passes it is at another position
+pub passes-elsewhere : (test : Note → Bool) (notes : List Note) (k j : ℕ) (note : Note) → test blank ≡ false
+    → test note ≡ false → test (note_at (set notes k note) j) ≡ true → j ≢ k
+passes-elsewhere test notes k j note none is passes same =
+    true≢false (sym passes ∙ (ap (λ (n : ℕ). test (note_at (set notes k note) n)) same
+    ∙ fails-set test notes k note none is))
+
+-- how many are possible, after one note is replaced
+pub count-set : (notes : List Note) (k : ℕ) (note : Note) → k < length notes
+    → possible_count (set notes k note) + as_count (note_at notes k).possible
+    ≡ possible_count notes + as_count note.possible
+count-set notes k note within = sum_by-set (λ (n : Note). as_count n.possible) notes k note blank within
+
+-- ---- the progress of one request
+
+pub other-progress : (queue : List Entry) (k j : ℕ) (progress : Progress) → j ≢ k
+    → slice_get (with_progress queue k progress) j ≡ slice_get queue j
+unfolding with_progress
+other-progress [] k j progress other = refl
+other-progress (entry ∷ queue) zero zero progress other = absurd (other refl)
+other-progress (entry ∷ queue) zero (suc j) progress other = refl
+other-progress (entry ∷ queue) (suc k) zero progress other = refl
+other-progress (entry ∷ queue) (suc k) (suc j) progress other =
+    other-progress queue k j progress (λ same. other (ap suc same))
+
+pub ask-progress : (queue : List Entry) (k j : ℕ) (progress : Progress)
+    → ask_at (with_progress queue k progress) j ≡ ask_at queue j
+unfolding with_progress
+ask-progress [] k j progress = refl
+ask-progress (entry ∷ queue) zero zero progress = refl
+ask-progress (entry ∷ queue) zero (suc j) progress = refl
+ask-progress (entry ∷ queue) (suc k) zero progress = refl
+ask-progress (entry ∷ queue) (suc k) (suc j) progress = ask-progress queue k j progress
+
+pub worked-here : (queue : List Entry) (k : ℕ) (progress : Progress) → is_pending progress ≡ false
+    → is_pending_at (with_progress queue k progress) k ≡ false
+unfolding with_progress
+worked-here [] k progress is = refl
+worked-here (entry ∷ queue) zero progress is = is
+worked-here (entry ∷ queue) (suc k) progress is = worked-here queue k progress is
+
+pub worked-still : (queue : List Entry) (k j : ℕ) (progress : Progress) → is_pending progress ≡ false
+    → is_pending_at queue j ≡ false → is_pending_at (with_progress queue k progress) j ≡ false
+unfolding with_progress
+worked-still [] k j progress is worked = worked
+worked-still (entry ∷ queue) zero zero progress is worked = is
+worked-still (entry ∷ queue) zero (suc j) progress is worked = worked
+worked-still (entry ∷ queue) (suc k) zero progress is worked = worked
+worked-still (entry ∷ queue) (suc k) (suc j) progress is worked = worked-still queue k j progress is worked
+
+pub reply-here : (queue : List Entry) (k : ℕ) (progress : Progress) → k < length queue
+    → reply_at (with_progress queue k progress) k ≡ reply_of progress
+unfolding with_progress
+reply-here [] k progress within = absurd (omega (arith, within))
+reply-here (entry ∷ queue) zero progress within = refl
+reply-here (entry ∷ queue) (suc k) progress within = reply-here queue k progress (omega (arith, within))
+
+-- a position that has a reply is one of the queue, and not pending
+pub reply-within : (queue : List Entry) (k : ℕ) (reply : Reply) → reply_at queue k ≡ Some reply → k < length queue
+reply-within [] k reply is = absurd (none-some reply is)
+reply-within (entry ∷ queue) zero reply is = omega arith
+reply-within (entry ∷ queue) (suc k) reply is = let rest = reply-within queue k reply is in omega (arith, rest)
+
+replied-worked : (progress : Progress) (reply : Reply) → reply_of progress ≡ Some reply → is_pending progress ≡ false
+replied-worked Pending reply is = absurd (none-some reply is)
+replied-worked (Done given) reply is = refl
+replied-worked Sent reply is = absurd (none-some reply is)
+
+pub reply-worked : (queue : List Entry) (k : ℕ) (reply : Reply) → reply_at queue k ≡ Some reply
+    → is_pending_at queue k ≡ false
+reply-worked [] k reply is = absurd (none-some reply is)
+reply-worked (entry ∷ queue) zero reply is = replied-worked entry.progress reply is
+reply-worked (entry ∷ queue) (suc k) reply is = reply-worked queue k reply is
+
+-- ---- what is in the way
+
+and-fewer : (a b c : Bool) → (b ≡ true → a ≡ true) → (a && c) ≡ false → (b && c) ≡ false
+and-fewer true b c was clear = and-right b c clear
+  where
+    and-right : (b c : Bool) → c ≡ false → (b && c) ≡ false
+    and-right true c clear = clear
+    and-right false c clear = refl
+and-fewer false true c was clear = absurd (true≢false (sym (was refl)))
+and-fewer false false c was clear = refl
+
+-- What is not in the way is not in the way after the change either, if it touches the same, and is pending only if it
+-- was before.
+pub in_way-fewer : (queue queue' : List Entry) (notes notes' : List Note) (j : ℕ) (at : Touched)
+    → ((note_at notes' j).pending ≡ true → (note_at notes j).pending ≡ true)
+    → touched_at queue' notes' j ≡ touched_at queue notes j
+    → is_in_way queue notes j at ≡ false → is_in_way queue' notes' j at ≡ false
+in_way-fewer queue queue' notes notes' j at fewer touches clear =
+    rw touches (and-fewer (note_at notes j).pending (note_at notes' j).pending (share (touched_at queue notes j) at)
+    fewer clear)
+
+-- what is in the way is so after the change too, if it touches the same and is as pending
+pub in_way-same : (queue queue' : List Entry) (notes notes' : List Note) (j : ℕ) (at : Touched)
+    → (note_at notes' j).pending ≡ (note_at notes j).pending
+    → touched_at queue' notes' j ≡ touched_at queue notes j
+    → is_in_way queue' notes' j at ≡ is_in_way queue notes j at
+in_way-same queue queue' notes notes' j at pending touches = rw (pending, touches) refl
+
+-- what a request touches by its note stays if neither the note's touch nor what it asks changes
+pub touched-set : (queue : List Entry) (notes : List Note) (k j : ℕ) (progress : Progress) (note : Note)
+    → note.touch ≡ (note_at notes k).touch
+    → touched_at (with_progress queue k progress) (set notes k note) j ≡ touched_at queue notes j
+touched-set queue notes k j progress note same =
+    rw (part-set (λ (n : Note). n.touch) notes k j note same, ask-progress queue k j progress) refl

@@ -1,0 +1,230 @@
+-- How the notes of a queue change with it.
+use Rattle.std.proofs.Common.{◌≡◌, ◌≢◌, ◌+◌, ◌-◌, ◌<◌, ◌≤◌, ◌&&◌, ℕ, zero, suc, Bool, true, false, List, [], ◌∷◌}
+use Rattle.std.proofs.Common.{Option, Some, None, is_some, length, set, get_or, slice_get, refl, sym, ap, subst, ◌∙◌}
+use Rattle.std.proofs.Common.{arith, ◌==◌, nat_lt, ◌⊎◌, inl, inr}
+use Rattle.std.proofs.lemmas.Bool.{ltb-true, ltb-false}
+use Rattle.std.proofs.lemmas.Bool.{true≢false, cases_Bool, eq-eqb, eqb-true, eqb-false}
+use Rattle.std.proofs.lemmas.List.{length-set, get_or-set_other}
+use Rattle.sftp_wire.specs.declared.packets.Ask.{Ask}
+use Rattle.sftp_wire.specs.declared.packets.Reply.{Reply}
+use Rattle.sftp_handles.specs.State.{State}
+use Rattle.sftp_handles.specs.Clash.{Touched, touched, share, untouched, reads_file, writes_file, takes_names, everything}
+use Rattle.sftp_handles.specs.Touch.{touched_as}
+use Rattle.sftp_handles.specs.declared.touch.Touch.{Touch}
+use Rattle.sftp_handles.specs.declared.touch.Touch.TheVariants.{Nothing, ReadsFile, WritesFile, TakesNames, Everything}
+use Rattle.sftp_server.specs.declared.queue.Entry.{Entry}
+use Rattle.sftp_server.specs.declared.queue.Progress.{Progress}
+use Rattle.sftp_server.specs.declared.queue.Progress.TheVariants.{Pending, Done, Sent}
+use Rattle.sftp_server.specs.declared.readiness.Note.{Note}
+use Rattle.sftp_server.specs.Machine.{is_pending_at, pending_in, reply_at, reply_in}
+use Rattle.sftp_server.specs.Queue.{with_progress}
+use Rattle.sftp_server.specs.Readiness.{blank, note_at, ask_at, touched_at, is_in_way, only_reads, is_all, as_count}
+use Rattle.sftp_server.specs.Readiness.{possible_count, IsFree, IsBlocked, IsNoted, AreBlocked, AreBlockedBut}
+use Rattle.sftp_server.specs.Readiness.{IsShut, IsMarked, AreNotes, IsOpened}
+use Rattle.sftp_server.proofs.Queues.{length-progress}
+use Rattle.sftp_server.proofs.NotePlaces.{part-set, fails-set, fails-still, passed-before, passes-elsewhere, count-set}
+use Rattle.sftp_server.proofs.NotePlaces.{other-progress, ask-progress, worked-here, worked-still, reply-here}
+use Rattle.sftp_server.proofs.NotePlaces.{in_way-fewer, in_way-same, touched-set}
+
+-- ---- a request is done
+
+-- the notes after the request at the position was done
+abbrev pub done_note : List Note → ℕ → Note
+done_note notes k = record (note_at notes k) { pending = false }
+
+abbrev pub done_notes : List Note → ℕ → List Note
+done_notes notes k = set notes k (done_note notes k)
+
+-- it was pending before, and is not the one that was done
+was-pending : (notes : List Note) (k j : ℕ) → (note_at (done_notes notes k) j).pending ≡ true
+    → (note_at notes j).pending ≡ true
+was-pending notes k j = passed-before (λ (n : Note). n.pending) notes k j (done_note notes k) refl
+
+is-other : (notes : List Note) (k j : ℕ) → (note_at (done_notes notes k) j).pending ≡ true → j ≢ k
+is-other notes k j = passes-elsewhere (λ (n : Note). n.pending) notes k j (done_note notes k) refl refl
+
+done-other : (notes : List Note) (k j : ℕ) → j ≢ k
+    → (note_at (done_notes notes k) j).pending ≡ (note_at notes j).pending
+done-other notes k j other = ap (λ (n : Note). n.pending) (get_or-set_other notes k j (done_note notes k) blank other)
+
+done-touch : (notes : List Note) (k j : ℕ) → (note_at (done_notes notes k) j).touch ≡ (note_at notes j).touch
+done-touch notes k j = part-set (λ (n : Note). n.touch) notes k j (done_note notes k) refl
+
+done-possible : (notes : List Note) (k j : ℕ) → (note_at (done_notes notes k) j).possible ≡ (note_at notes j).possible
+done-possible notes k j = part-set (λ (n : Note). n.possible) notes k j (done_note notes k) refl
+
+done-blocker : (notes : List Note) (k j : ℕ) → (note_at (done_notes notes k) j).blocker ≡ (note_at notes j).blocker
+done-blocker notes k j = part-set (λ (n : Note). n.blocker) notes k j (done_note notes k) refl
+
+done-waiter : (notes : List Note) (k j : ℕ) → (note_at (done_notes notes k) j).waiter ≡ (note_at notes j).waiter
+done-waiter notes k j = part-set (λ (n : Note). n.waiter) notes k j (done_note notes k) refl
+
+done-touched : (queue : List Entry) (notes : List Note) (k j : ℕ) (reply : Reply)
+    → touched_at (with_progress queue k (Done reply)) (done_notes notes k) j ≡ touched_at queue notes j
+done-touched queue notes k j reply = touched-set queue notes k j (Done reply) (done_note notes k) refl
+
+done-count : (notes : List Note) (k : ℕ) → k < length notes
+    → possible_count (done_notes notes k) ≡ possible_count notes
+done-count notes k within = let sum = count-set notes k (done_note notes k) within in omega (arith, sum)
+
+-- one that is free stays so
+done-free : (queue : List Entry) (notes : List Note) (k j : ℕ) (reply : Reply) → IsFree queue notes j
+    → IsFree (with_progress queue k (Done reply)) (done_notes notes k) j
+done-free queue notes k j reply free = λ i before.
+    rw (done-touched queue notes k j reply)
+    (in_way-fewer queue (with_progress queue k (Done reply)) notes (done_notes notes k) i (touched_at queue notes j)
+    (was-pending notes k i) (done-touched queue notes k i reply) (free i before))
+
+done-behind : (notes : List Note) (k j : ℕ) → k < j → (note_at notes j).pending ≡ true
+    → (note_at notes j).possible ≡ false
+    → ((note_at (done_notes notes k) j).pending ≡ true) × ((note_at (done_notes notes k) j).possible ≡ false)
+done-behind notes k j after pending possible = (
+  done-other notes k j (λ same. omega (arith, after, same)) ∙ pending,
+  done-possible notes k j ∙ possible,
+)
+
+noted-done : (queue : List Entry) (notes : List Note) (first opened writers possible k : ℕ) (reply : Reply)
+    → IsNoted queue notes first opened writers possible → k < opened
+    → IsNoted (with_progress queue k (Done reply)) (done_notes notes k) first opened writers possible
+noted-done queue notes first opened writers possible k reply is within =
+    let same = length-progress queue k (Done reply) in
+    record {
+      same_length = length-set notes k (done_note notes k) ∙ (is.same_length ∙ sym same);
+      within = rw same is.within;
+      front = rw same is.front;
+      passed = λ j before.
+          fails-still (λ (n : Note). n.pending) notes k j (done_note notes k) refl (is.passed j before);
+      reads = λ j from to pending.
+          rw (done-touch notes k j) (is.reads j from to (was-pending notes k j pending));
+      counted = is.counted ∙ sym (done-count notes k (omega (arith, within, is.within, is.same_length)));
+      last = λ j before pending. rw (done-touch notes k j) (is.last j before (was-pending notes k j pending));
+      behind = λ j from to.
+          let parts = is.behind j from (subst (λ (n : ℕ). j < n) same to) in
+          done-behind notes k j (omega (arith, within, from)) parts.0 parts.1;
+      free = λ j before pending ready.
+          done-free queue notes k j reply (is.free j before (was-pending notes k j pending)
+          (sym (done-possible notes k j) ∙ ready));
+    }
+
+-- one that did not wait for the request that was done waits as before
+done-blocked : (queue : List Entry) (notes : List Note) (k j : ℕ) (reply : Reply)
+    → (is : IsBlocked queue notes j) → is.blocker ≢ k
+    → IsBlocked (with_progress queue k (Done reply)) (done_notes notes k) j
+done-blocked queue notes k j reply is other = record {
+  blocker = is.blocker;
+  back = rw (done-blocker notes k j) is.back;
+  before = is.before;
+  in_way =
+      rw (done-touched queue notes k j reply)
+      (in_way-same queue (with_progress queue k (Done reply)) notes (done_notes notes k) is.blocker
+      (touched_at queue notes j) (done-other notes k is.blocker other) (done-touched queue notes k is.blocker reply)
+      ∙ is.in_way);
+  reached = rw (done-blocker notes k j, done-waiter notes k is.blocker) is.reached;
+}
+
+blocked-done : (queue : List Entry) (notes : List Note) (opened k : ℕ) (reply : Reply)
+    → AreBlocked queue notes opened
+    → AreBlockedBut (with_progress queue k (Done reply)) (done_notes notes k) opened k (suc k)
+    (k + (note_at (done_notes notes k) k).waiter)
+blocked-done queue notes opened k reply are = λ j before pending possible other.
+    let is = are j before (was-pending notes k j pending) (sym (done-possible notes k j) ∙ possible) in
+    let waiter = done-waiter notes k k in
+    let blocker = done-blocker notes k j in
+    done-blocked queue notes k j reply is (λ same.
+    let here : k + (note_at notes j).blocker ≡ j = subst (λ (b : ℕ). b + (note_at notes j).blocker ≡ j) same is.back in
+    let reached : (note_at notes j).blocker ≤ (note_at notes k).waiter =
+    subst (λ (b : ℕ). (note_at notes j).blocker ≤ (note_at notes b).waiter) same is.reached in
+    let after : k < j = subst (λ (b : ℕ). b < j) same is.before in
+    other (omega (arith, after)) (omega (arith, here, reached, waiter))
+    (ap (λ (b : ℕ). k + b) blocker ∙ here))
+
+share-all : (other : Touched) → share other everything ≡ true
+share-all untouched = refl
+share-all (reads_file number) = refl
+share-all (writes_file number) = refl
+share-all (takes_names handle) = refl
+share-all everything = refl
+
+-- nothing but the last open request touches everything, and it is ready only if it is the only one that is pending
+alone : (queue : List Entry) (notes : List Note) (first opened writers possible k j : ℕ)
+    → IsNoted queue notes first opened writers possible → k < opened → (note_at notes k).pending ≡ true
+    → (note_at notes k).possible ≡ true → is_all (note_at notes k).touch ≡ true → j < opened
+    → (note_at notes j).pending ≡ true → j ≢ k → ⊥
+alone queue notes first opened writers possible k j is within pending ready all before waits other =
+    let here : suc k ≡ opened = last-all (nat_lt (suc k) opened) refl in
+    let clear = is.free k within pending ready j (omega (arith, here, before, other)) in
+    true≢false (sym (all-shared (note_at notes k).touch (ask_at queue k) (touched_at queue notes j) all)
+    ∙ (let shared : share (touched_at queue notes j) (touched_at queue notes k) ≡ false = rw waits at clear in shared))
+  where
+    all-shared : (touch : Touch) (ask : Ask) (other : Touched) → is_all touch ≡ true
+        → share other (touched_as touch ask) ≡ true
+    all-shared Nothing ask other all = absurd (true≢false (sym all))
+    all-shared (ReadsFile number) ask other all = absurd (true≢false (sym all))
+    all-shared (WritesFile number) ask other all = absurd (true≢false (sym all))
+    all-shared TakesNames ask other all = absurd (true≢false (sym all))
+    all-shared Everything ask other all = share-all other
+    last-all : (b : Bool) → nat_lt (suc k) opened ≡ b → suc k ≡ opened
+    last-all true less = absurd (true≢false (sym all ∙ is.last k (ltb-true (suc k) opened less) pending))
+    last-all false less = let more = ltb-false (suc k) opened less in omega (arith, more, within)
+
+marks-done : (s s' : State) (queue : List Entry) (notes : List Note) (first opened writers possible k : ℕ)
+    (reply : Reply) → AreNotes s queue notes first opened writers possible → k < opened
+    → (note_at notes k).pending ≡ true → (note_at notes k).possible ≡ true
+    → (is_all (note_at notes k).touch ≡ false → (ask : Ask) → touched s' ask ≡ touched s ask)
+    → IsMarked s' (with_progress queue k (Done reply)) (done_notes notes k) opened
+marks-done s s' queue notes first opened writers possible k reply are within pending ready still = record {
+  marked = λ j. marked-at j (cases_Bool (j == k));
+  known = λ j before waits. known-at j before waits (is_all (note_at notes k).touch) refl;
+  replies = λ j worked. replies-at j worked (cases_Bool (j == k));
+}
+  where
+    size : k < length queue
+    size = omega (arith, within, are.noted.within)
+    marked-at : (j : ℕ) → ((j == k) ≡ true) ⊎ ((j == k) ≡ false)
+        → (note_at (done_notes notes k) j).pending ≡ is_pending_at (with_progress queue k (Done reply)) j
+    marked-at j (inl same) =
+        subst (λ (n : ℕ). (note_at (done_notes notes k) n).pending
+        ≡ is_pending_at (with_progress queue k (Done reply)) n) (sym (eqb-true j k same))
+        (fails-set (λ (n : Note). n.pending) notes k (done_note notes k) refl refl
+        ∙ sym (worked-here queue k (Done reply) refl))
+    marked-at j (inr other) =
+        done-other notes k j (eqb-false j k other) ∙ (are.marks.marked j
+        ∙ sym (ap pending_in (other-progress queue k j (Done reply) (eqb-false j k other))))
+    known-at : (j : ℕ) → j < opened → (note_at (done_notes notes k) j).pending ≡ true → (b : Bool)
+        → is_all (note_at notes k).touch ≡ b
+        → touched_at (with_progress queue k (Done reply)) (done_notes notes k) j
+        ≡ touched s' (ask_at (with_progress queue k (Done reply)) j)
+    known-at j before waits true all =
+        absurd (alone queue notes first opened writers possible k j are.noted within pending ready all before
+        (was-pending notes k j waits) (is-other notes k j waits))
+    known-at j before waits false part =
+        done-touched queue notes k j reply
+        ∙ (are.marks.known j before (was-pending notes k j waits)
+        ∙ (sym (still part (ask_at queue j)) ∙ ap (touched s') (sym (ask-progress queue k j (Done reply)))))
+    replies-at : (j : ℕ) → (note_at (done_notes notes k) j).pending ≡ false → ((j == k) ≡ true) ⊎ ((j == k) ≡ false)
+        → (note_at (done_notes notes k) j).possible ≡ is_some (reply_at (with_progress queue k (Done reply)) j)
+    replies-at j worked (inl same) =
+        subst (λ (n : ℕ). (note_at (done_notes notes k) n).possible
+        ≡ is_some (reply_at (with_progress queue k (Done reply)) n)) (sym (eqb-true j k same))
+        (done-possible notes k k ∙ (ready ∙ sym (ap is_some (reply-here queue k (Done reply) size))))
+    replies-at j worked (inr other) =
+        done-possible notes k j
+        ∙ (are.marks.replies j (sym (done-other notes k j (eqb-false j k other)) ∙ worked)
+        ∙ sym (ap (λ (found : Option Entry). is_some (reply_in found)) (other-progress queue k j (Done reply)
+        (eqb-false j k other))))
+
+-- The request at the position was ready and was done: its note says so, and those that waited for it alone may be
+-- noted as waiting for what is not in their way.
+pub marked-done : (s s' : State) (queue : List Entry) (notes : List Note) (first opened writers possible k : ℕ)
+    (reply : Reply) → AreNotes s queue notes first opened writers possible → k < opened
+    → (note_at notes k).pending ≡ true → (note_at notes k).possible ≡ true
+    → (is_all (note_at notes k).touch ≡ false → (ask : Ask) → touched s' ask ≡ touched s ask)
+    → IsNoted (with_progress queue k (Done reply)) (done_notes notes k) first opened writers possible
+    × AreBlockedBut (with_progress queue k (Done reply)) (done_notes notes k) opened k (suc k)
+    (k + (note_at (done_notes notes k) k).waiter)
+    × IsMarked s' (with_progress queue k (Done reply)) (done_notes notes k) opened
+marked-done s s' queue notes first opened writers possible k reply are within pending ready still = (
+  noted-done queue notes first opened writers possible k reply are.noted within,
+  blocked-done queue notes opened k reply are.blocked,
+  marks-done s s' queue notes first opened writers possible k reply are within pending ready still,
+)
