@@ -1,11 +1,12 @@
 -- Notes and requests at their positions, after one is replaced.
 use Rattle.std.proofs.Common.{◌≡◌, ◌≢◌, ◌+◌, ◌<◌, ◌≤◌, ◌&&◌, ℕ, zero, suc, Bool, true, false, List, [], ◌∷◌}
 use Rattle.std.proofs.Common.{Option, Some, None, is_some, length, set, get_or, slice_get, refl, sym, ap, subst, ◌∙◌}
-use Rattle.std.proofs.Common.{arith}
+use Rattle.std.proofs.Common.{arith, ◌-◌, take, drop}
 use Rattle.std.specs.List.{sum_by}
 use Rattle.std.proofs.lemmas.Bool.{true≢false}
 use Rattle.std.proofs.lemmas.Option.{none-some}
-use Rattle.std.proofs.lemmas.List.Sums.{sum_by-set}
+use Rattle.std.proofs.lemmas.List.{get_or-drop}
+use Rattle.std.proofs.lemmas.List.Sums.{sum_by-set, sum_by-cons, sum_by-take-drop}
 use Rattle.sftp_wire.specs.declared.packets.Reply.{Reply}
 use Rattle.sftp_handles.specs.Clash.{Touched, share}
 use Rattle.sftp_handles.specs.Touch.{touched_as}
@@ -13,9 +14,11 @@ use Rattle.sftp_server.specs.declared.queue.Entry.{Entry}
 use Rattle.sftp_server.specs.declared.queue.Progress.{Progress}
 use Rattle.sftp_server.specs.declared.readiness.Note.{Note}
 use Rattle.sftp_server.specs.declared.queue.Progress.TheVariants.{Pending, Done, Sent}
-use Rattle.sftp_server.specs.Machine.{is_pending, is_pending_at, reply_of, reply_at}
-use Rattle.sftp_server.specs.Queue.{with_progress}
-use Rattle.sftp_server.specs.Readiness.{blank, note_at, ask_at, touched_at, is_in_way, as_count, possible_count}
+use Rattle.sftp_server.specs.Machine.{is_pending, is_sent, is_pending_at, pending_in, reply_of, reply_in}
+use Rattle.sftp_server.specs.Machine.{reply_at, from_unsent}
+use Rattle.sftp_server.specs.Queue.{with_progress, sent_in}
+use Rattle.sftp_server.specs.Readiness.{blank, note_at, ask_in, ask_at, touched_at, is_in_way, as_count, possible_count}
+use Rattle.sftp_server.proofs.Queues.{from_unsent-short}
 
 -- ---- one note is replaced
 
@@ -160,3 +163,98 @@ pub touched-set : (queue : List Entry) (notes : List Note) (k j : ℕ) (progress
     → touched_at (with_progress queue k progress) (set notes k note) j ≡ touched_at queue notes j
 touched-set queue notes k j progress note same =
     rw (part-set (λ (n : Note). n.touch) notes k j note same, ask-progress queue k j progress) refl
+
+-- ---- requests leave the front
+
+pub note-drop : (n : ℕ) (notes : List Note) (j : ℕ) → note_at (drop n notes) j ≡ note_at notes (n + j)
+note-drop n notes j = get_or-drop n notes j blank
+
+pub get-drop : (n : ℕ) (queue : List Entry) (j : ℕ) → slice_get (drop n queue) j ≡ slice_get queue (n + j)
+get-drop zero queue j = let same : j ≡ 0 + j = omega arith in ap (slice_get queue) same
+get-drop (suc n) [] j = refl
+get-drop (suc n) (entry ∷ queue) j =
+    let same : suc (n + j) ≡ suc n + j = omega arith in
+    get-drop n queue j ∙ ap (slice_get (entry ∷ queue)) same
+
+pub ask-drop : (n : ℕ) (queue : List Entry) (j : ℕ) → ask_at (drop n queue) j ≡ ask_at queue (n + j)
+ask-drop n queue j = ap ask_in (get-drop n queue j)
+
+pub touched-drop : (n : ℕ) (queue : List Entry) (notes : List Note) (j : ℕ)
+    → touched_at (drop n queue) (drop n notes) j ≡ touched_at queue notes (n + j)
+touched-drop n queue notes j = rw (note-drop n notes j, ask-drop n queue j) refl
+
+pub in_way-drop : (n : ℕ) (queue : List Entry) (notes : List Note) (j : ℕ) (at : Touched)
+    → is_in_way (drop n queue) (drop n notes) j at ≡ is_in_way queue notes (n + j) at
+in_way-drop n queue notes j at = rw (note-drop n notes j, ask-drop n queue j) refl
+
+-- where nothing is possible in front, as much is possible without it
+none-possible : (n : ℕ) (notes : List Note) → ((j : ℕ) → j < n → (note_at notes j).possible ≡ false)
+    → possible_count (take n notes) ≡ 0
+none-possible zero notes never = refl
+none-possible (suc n) [] never = refl
+none-possible (suc n) (first ∷ notes) never =
+    let none : first.possible ≡ false = never 0 (omega arith) in
+    let rest = none-possible n notes (λ j before. never (suc j) (omega (arith, before))) in
+    let sum = sum_by-cons (λ (n : Note). as_count n.possible) first (take n notes) in
+    sum ∙ (rw none (omega (arith, rest)))
+
+pub count-drop : (n : ℕ) (notes : List Note) → ((j : ℕ) → j < n → (note_at notes j).possible ≡ false)
+    → possible_count (drop n notes) ≡ possible_count notes
+count-drop n notes never =
+    let sum = sum_by-take-drop (λ (n : Note). as_count n.possible) notes n in
+    let none = none-possible n notes never in
+    omega (arith, sum, none)
+
+-- what leaves the front is what was sent
+pub front-drop : (queue : List Entry) (n : ℕ) → n + length (from_unsent queue) ≡ length queue
+    → from_unsent queue ≡ drop n queue
+unfolding from_unsent
+front-drop [] zero count = refl
+front-drop [] (suc n) count = absurd (omega (arith, count))
+front-drop (entry ∷ queue) n count = by (λ m. front-drop queue m) (is_sent entry.progress) refl n count
+  where
+    by : ((m : ℕ) → m + length (from_unsent queue) ≡ length queue → from_unsent queue ≡ drop m queue) → (b : Bool)
+        → is_sent entry.progress ≡ b → (n : ℕ) → n + length (from_unsent (entry ∷ queue)) ≡ length (entry ∷ queue)
+        → from_unsent (entry ∷ queue) ≡ drop n (entry ∷ queue)
+    by rest true sent zero count =
+        let all : 0 + length (from_unsent queue) ≡ suc (length queue) = rw sent at count in
+        let shorter = from_unsent-short queue in
+        absurd (omega (arith, all, shorter))
+    by rest true sent (suc n) count =
+        let all : suc n + length (from_unsent queue) ≡ suc (length queue) = rw sent at count in
+        rw sent (rest n (omega (arith, all)))
+    by rest false sent zero count = rw sent refl
+    by rest false sent (suc n) count =
+        let all : suc n + length (entry ∷ queue) ≡ length (entry ∷ queue) = rw sent at count in
+        absurd (omega (arith, all))
+
+pub sent-front : (queue : List Entry) (n j : ℕ) → n + length (from_unsent queue) ≡ length queue → j < n
+    → sent_in (slice_get queue j) ≡ true
+unfolding from_unsent
+sent-front [] n j count before = absurd (omega (arith, count, before))
+sent-front (entry ∷ queue) n j count before =
+    by (λ m i. sent-front queue m i) (is_sent entry.progress) refl n j count before
+  where
+    by : ((m i : ℕ) → m + length (from_unsent queue) ≡ length queue → i < m → sent_in (slice_get queue i) ≡ true)
+        → (b : Bool) → is_sent entry.progress ≡ b → (n j : ℕ)
+        → n + length (from_unsent (entry ∷ queue)) ≡ length (entry ∷ queue) → j < n
+        → sent_in (slice_get (entry ∷ queue) j) ≡ true
+    by rest true sent n zero count before = sent
+    by rest true sent n (suc j) count before =
+        let all : n + length (from_unsent queue) ≡ suc (length queue) = rw sent at count in
+        rest (n - 1) j (omega (arith, all, before)) (omega (arith, before))
+    by rest false sent n j count before =
+        let all : n + length (entry ∷ queue) ≡ length (entry ∷ queue) = rw sent at count in
+        absurd (omega (arith, all, before))
+
+-- a request that was sent is not pending, and has no reply
+pub sent-worked : (found : Option Entry) → sent_in found ≡ true
+    → (pending_in found ≡ false) × (is_some (reply_in found) ≡ false)
+sent-worked None sent = absurd (true≢false (sym sent))
+sent-worked (Some entry) sent = by entry.progress sent
+  where
+    by : (progress : Progress) → is_sent progress ≡ true
+        → (is_pending progress ≡ false) × (is_some (reply_of progress) ≡ false)
+    by Pending sent = absurd (true≢false (sym sent))
+    by (Done reply) sent = absurd (true≢false (sym sent))
+    by Sent sent = (refl, refl)
