@@ -2,6 +2,7 @@ pub mod Queues
 pub mod CoreSteps
 pub mod NotePlaces
 pub mod ReadinessLaws
+pub mod ReadyLaws
 pub mod Machines
 pub mod Sessions
 pub mod ChoiceLaws

@@ -1,0 +1,151 @@
+-- What the notes of a queue say of what is ready, and of what is possible.
+use Rattle.std.proofs.Common.{◌≡◌, ◌+◌, ◌<◌, ◌≤◌, ◌++◌, ◌&&◌, ◌||◌, not, nat_lt, ℕ, zero, suc, Bool, true, false}
+use Rattle.std.proofs.Common.{List, [], ◌∷◌}
+use Rattle.std.proofs.Common.{Option, Some, None, is_some, if◌then◌else◌, length, take, drop, get_or, slice_get}
+use Rattle.std.proofs.Common.{refl, sym, ap, subst, ◌∙◌, arith, length-append, length-drop}
+use Rattle.std.proofs.lemmas.Bool.{true≢false, ltb-true, ltb-false, and_parts}
+use Rattle.std.proofs.lemmas.Option.{none-some, slice_get_within}
+use Rattle.std.proofs.lemmas.List.{take_all}
+use Rattle.std.proofs.lemmas.List.Sums.{sum_by-drop_more}
+use Rattle.sftp_wire.specs.declared.packets.Ask.{Ask}
+use Rattle.sftp_wire.specs.declared.packets.Request.{Request}
+use Rattle.sftp_handles.specs.State.{State}
+use Rattle.sftp_handles.specs.Clash.{Touched, touched, share, clash, everything}
+use Rattle.sftp_handles.specs.Touch.{touched_as}
+use Rattle.sftp_handles.specs.declared.touch.Touch.{Touch}
+use Rattle.sftp_handles.specs.declared.touch.Touch.TheVariants.{Nothing, ReadsFile, WritesFile, TakesNames, Everything}
+use Rattle.sftp_server.specs.declared.cores.Choice.{Choice}
+use Rattle.sftp_server.specs.declared.cores.Choice.TheVariants as choices
+use Rattle.sftp_server.specs.declared.queue.Entry.{Entry}
+use Rattle.sftp_server.specs.declared.queue.Progress.{Progress}
+use Rattle.sftp_server.specs.declared.queue.Progress.TheVariants.{Pending, Done, Sent}
+use Rattle.sftp_server.specs.declared.readiness.Note.{Note}
+use Rattle.sftp_server.specs.Machine.{Machine, ClashOf, is_pending, is_free_of, ready_in, is_ready, is_pending_at}
+use Rattle.sftp_server.specs.Machine.{pending_in, reply_of, reply_in, reply_at}
+use Rattle.sftp_server.specs.Choices.{choices_at, choices_from, choices_of}
+use Rattle.sftp_server.specs.Readiness.{blank, note_at, ask_in, ask_at, touched_at, is_in_way, is_all, as_count}
+use Rattle.sftp_server.specs.Readiness.{possible_count, IsFree, IsBlocked, IsNoted, IsShut, IsMarked, AreNotes, IsOpened}
+
+-- ---- freeness, position by position
+
+-- the request found is pending and clashes with the later one
+abbrev pub blocks_in : {S : Type 0} → ClashOf S → S → Option Entry → Request → Bool
+blocks_in clash s None request = false
+blocks_in clash s (Some entry) request = is_pending entry.progress && clash s entry.request request
+
+pub free-more : {S : Type 0} (clash : ClashOf S) (s : S) (queue : List Entry) (k : ℕ) (request : Request)
+    → ((j : ℕ) → j < k → blocks_in clash s (slice_get queue j) request ≡ false)
+    → is_free_of clash s (take k queue) request ≡ true
+unfolding is_free_of
+free-more clash s queue zero request clear = refl
+free-more clash s [] (suc k) request clear = refl
+free-more clash s (entry ∷ queue) (suc k) request clear =
+    let first : (is_pending entry.progress && clash s entry.request request) ≡ false = clear 0 (omega arith) in
+    rw (first, free-more clash s queue k request (λ j before. clear (suc j) (omega (arith, before)))) refl
+
+pub free-not : {S : Type 0} (clash : ClashOf S) (s : S) (queue : List Entry) (k j : ℕ) (request : Request) → j < k
+    → blocks_in clash s (slice_get queue j) request ≡ true → is_free_of clash s (take k queue) request ≡ false
+unfolding is_free_of
+free-not clash s queue zero j request before blocks = absurd (omega (arith, before))
+free-not clash s [] (suc k) j request before blocks = absurd (true≢false (sym blocks))
+free-not clash s (entry ∷ queue) (suc k) zero request before blocks = rw blocks refl
+free-not clash s (entry ∷ queue) (suc k) (suc j) request before blocks =
+    rw (free-not clash s queue k j request (omega (arith, before)) blocks)
+    (and_false (not (is_pending entry.progress && clash s entry.request request)))
+  where
+    and_false : (b : Bool) → (b && false) ≡ false
+    and_false true = refl
+    and_false false = refl
+
+-- what blocks a request, by what both touch
+blocks-touched : (s : State) (found : Option Entry) (request : Request)
+    → blocks_in clash s found request ≡ (pending_in found && share (touched s (ask_in found)) (touched s request.ask))
+unfolding clash
+blocks-touched s None request = refl
+blocks-touched s (Some entry) request = refl
+
+-- a pending request of the open part blocks a later one if it is in its way
+blocks-noted : (s : State) (queue : List Entry) (notes : List Note) (opened j : ℕ) (request : Request) (at : Touched)
+    → IsMarked s queue notes opened → j < opened → at ≡ touched s request.ask
+    → blocks_in clash s (slice_get queue j) request ≡ is_in_way queue notes j at
+blocks-noted s queue notes opened j request at are before is =
+    blocks-touched s (slice_get queue j) request
+    ∙ (rw (← is, ← are.marked j) (by (note_at notes j).pending refl))
+  where
+    by : (b : Bool) → (note_at notes j).pending ≡ b
+        → ((note_at notes j).pending && share (touched s (ask_at queue j)) at)
+        ≡ ((note_at notes j).pending && share (touched_at queue notes j) at)
+    by true pending = rw (are.known j before pending) refl
+    by false idle = rw idle refl
+
+-- the last open request, which touches everything, blocks each later one
+blocks-shut : (s : State) (queue : List Entry) (notes : List Note) (opened : ℕ) (request : Request)
+    → IsMarked s queue notes opened → (shut : IsShut notes opened)
+    → blocks_in clash s (slice_get queue shut.last) request ≡ true
+blocks-shut s queue notes opened request are shut =
+    blocks-noted s queue notes opened shut.last request (touched s request.ask) are
+    (let here = shut.position in omega (arith, here)) refl
+    ∙ rw shut.pending (shared (note_at notes shut.last).touch (ask_at queue shut.last) (touched s request.ask)
+    shut.touches)
+  where
+    shared : (touch : Touch) (ask : Ask) (other : Touched) → is_all touch ≡ true
+        → share (touched_as touch ask) other ≡ true
+    shared Nothing ask other all = absurd (true≢false (sym all))
+    shared (ReadsFile number) ask other all = absurd (true≢false (sym all))
+    shared (WritesFile number) ask other all = absurd (true≢false (sym all))
+    shared TakesNames ask other all = absurd (true≢false (sym all))
+    shared Everything ask other all = refl
+
+-- ---- what is ready
+
+pub ready-is : (s : State) (queue : List Entry) (notes : List Note) (first opened writers possible : ℕ)
+    → AreNotes s queue notes first opened writers possible → IsOpened queue notes opened → (k : ℕ)
+    → ready_in clash s (take k queue) (slice_get queue k)
+    ≡ ((note_at notes k).pending && (note_at notes k).possible)
+ready-is s queue notes first opened writers possible are is_opened k =
+    by (slice_get queue k) refl (are.marks.marked k)
+  where
+    open-possible : (entry : Entry) → slice_get queue k ≡ Some entry → k < opened
+        → (note_at notes k).pending ≡ true → (b : Bool) → (note_at notes k).possible ≡ b
+        → is_free_of clash s (take k queue) entry.request ≡ b
+    open-possible entry at within pending true ready =
+        free-more clash s queue k entry.request (λ j before.
+        blocks-noted s queue notes opened j entry.request (touched_at queue notes k) are.marks (omega
+        (arith, before, within)) (are.marks.known k within pending ∙ ap (λ (found : Option Entry). touched s
+        (ask_in found)) at)
+        ∙ are.noted.free k within pending ready j before)
+    open-possible entry at within pending false waits =
+        let is = are.blocked k within pending waits in
+        free-not clash s queue k is.blocker entry.request is.before
+        (blocks-noted s queue notes opened is.blocker entry.request (touched_at queue notes k) are.marks (let before =
+        is.before in omega (arith, before, within)) (are.marks.known k within pending ∙ ap (λ (found : Option Entry).
+        touched s (ask_in found)) at) ∙ is.in_way)
+    behind-possible : (entry : Entry) → slice_get queue k ≡ Some entry → opened ≤ k
+        → is_free_of clash s (take k queue) entry.request ≡ (note_at notes k).possible
+    behind-possible entry at from =
+        let within = slice_get_within queue k entry at in
+        let shut = is_opened (omega (arith, from, within)) in
+        let here = shut.position in
+        free-not clash s queue k shut.last entry.request (omega (arith, here, from))
+        (blocks-shut s queue notes opened entry.request are.marks shut)
+        ∙ sym (are.noted.behind k from within).1
+    free-is : (entry : Entry) → slice_get queue k ≡ Some entry → (note_at notes k).pending ≡ true → (b : Bool)
+        → nat_lt k opened ≡ b → is_free_of clash s (take k queue) entry.request ≡ (note_at notes k).possible
+    free-is entry at pending true less =
+        open-possible entry at (ltb-true k opened less) pending (note_at notes k).possible refl
+    free-is entry at pending false less = behind-possible entry at (ltb-false k opened less)
+    pending-by : (entry : Entry) → slice_get queue k ≡ Some entry → (b : Bool) → is_pending entry.progress ≡ b
+        → (note_at notes k).pending ≡ is_pending entry.progress
+        → (is_pending entry.progress && is_free_of clash s (take k queue) entry.request)
+        ≡ ((note_at notes k).pending && (note_at notes k).possible)
+    pending-by entry at true is marked =
+        rw (marked, is) (free-is entry at (marked ∙ is) (nat_lt k opened) refl)
+    pending-by entry at false is marked = rw (marked, is) refl
+    by : (found : Option Entry) → slice_get queue k ≡ found
+        → (note_at notes k).pending ≡ pending_in (slice_get queue k)
+        → ready_in clash s (take k queue) found ≡ ((note_at notes k).pending && (note_at notes k).possible)
+    by None at marked =
+        let idle : (note_at notes k).pending ≡ false = marked ∙ ap pending_in at in
+        rw idle refl
+    by (Some entry) at marked =
+        pending-by entry at (is_pending entry.progress) refl (marked ∙ ap pending_in at)
