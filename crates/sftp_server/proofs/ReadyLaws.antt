@@ -2,11 +2,11 @@
 use Rattle.std.proofs.Common.{◌≡◌, ◌+◌, ◌<◌, ◌≤◌, ◌++◌, ◌&&◌, ◌||◌, not, nat_lt, ℕ, zero, suc, Bool, true, false}
 use Rattle.std.proofs.Common.{List, [], ◌∷◌}
 use Rattle.std.proofs.Common.{Option, Some, None, is_some, if◌then◌else◌, length, take, drop, get_or, slice_get}
-use Rattle.std.proofs.Common.{refl, sym, ap, subst, ◌∙◌, arith, length-append, length-drop}
+use Rattle.std.proofs.Common.{refl, sym, ap, ap₂, ◌∙◌, ◌-◌, arith, length-append, append_assoc}
 use Rattle.std.proofs.lemmas.Bool.{true≢false, ltb-true, ltb-false, and_parts}
 use Rattle.std.proofs.lemmas.Option.{none-some, slice_get_within}
-use Rattle.std.proofs.lemmas.List.{take_all}
-use Rattle.std.proofs.lemmas.List.Sums.{sum_by-drop_more}
+use Rattle.std.proofs.lemmas.List.{take_all, drop_more, get_or_past}
+use Rattle.std.proofs.lemmas.List.Sums.{sum_by-cons}
 use Rattle.sftp_wire.specs.declared.packets.Ask.{Ask}
 use Rattle.sftp_wire.specs.declared.packets.Request.{Request}
 use Rattle.sftp_handles.specs.State.{State}
@@ -149,3 +149,147 @@ ready-is s queue notes first opened writers possible are is_opened k =
         rw idle refl
     by (Some entry) at marked =
         pending-by entry at (is_pending entry.progress) refl (marked ∙ ap pending_in at)
+
+-- ---- what is possible
+
+pending-no_reply : (found : Option Entry) → pending_in found ≡ true → is_some (reply_in found) ≡ false
+pending-no_reply None pending = refl
+pending-no_reply (Some entry) pending = by entry.progress pending
+  where
+    by : (progress : Progress) → is_pending progress ≡ true → is_some (reply_of progress) ≡ false
+    by Pending is = refl
+    by (Done reply) is = absurd (true≢false (sym is))
+    by Sent is = refl
+
+pub possible-is : (machine : Machine State) (notes : List Note) (first opened writers possible : ℕ)
+    → AreNotes machine.state machine.queue notes first opened writers possible → IsOpened machine.queue notes opened
+    → (k : ℕ) → (note_at notes k).possible ≡ (is_ready clash machine k || is_some (reply_at machine.queue k))
+possible-is machine notes first opened writers possible are is_opened k = by (note_at notes k).pending refl
+  where
+    or_false : (b : Bool) → b ≡ (b || false)
+    or_false true = refl
+    or_false false = refl
+    by : (b : Bool) → (note_at notes k).pending ≡ b
+        → (note_at notes k).possible ≡ (is_ready clash machine k || is_some (reply_at machine.queue k))
+    by true pending =
+        rw (
+          ready-is machine.state machine.queue notes first opened writers possible are is_opened k,
+          pending,
+          pending-no_reply (slice_get machine.queue k) (sym (are.marks.marked k) ∙ pending),
+        ) (or_false (note_at notes k).possible)
+    by false idle =
+        rw (ready-is machine.state machine.queue notes first opened writers possible are is_opened k, idle)
+        (are.marks.replies k idle)
+
+choices-length : {S : Type 0} (clash : ClashOf S) (machine : Machine S) (k : ℕ)
+    → length (choices_at clash machine k)
+    ≡ as_count (is_ready clash machine k || is_some (reply_at machine.queue k))
+choices-length clash machine k = by (is_ready clash machine k) refl (is_some (reply_at machine.queue k)) refl
+  where
+    by : (b : Bool) → is_ready clash machine k ≡ b → (c : Bool) → is_some (reply_at machine.queue k) ≡ c
+        → length (choices_at clash machine k)
+        ≡ as_count (is_ready clash machine k || is_some (reply_at machine.queue k))
+    by true ready c some = rw ready refl
+    by false ready true some = rw (ready, some) refl
+    by false ready false some = rw (ready, some) refl
+
+-- as many acts are possible at some positions as their notes say
+count-part : (machine : Machine State) (notes : List Note) (first opened writers possible : ℕ)
+    → AreNotes machine.state machine.queue notes first opened writers possible → IsOpened machine.queue notes opened
+    → (k count : ℕ) → k + count ≤ length notes
+    → length (choices_from clash machine k count) ≡ possible_count (take count (drop k notes))
+unfolding choices_from
+count-part machine notes first opened writers possible are is_opened k zero within = refl
+count-part machine notes first opened writers possible are is_opened k (suc count) within =
+    let one : k + 1 ≡ suc k = omega arith in
+    let rest = count-part machine notes first opened writers possible are is_opened (suc k) count (omega
+    (arith, within)) in
+    let cut : drop k notes ≡ note_at notes k ∷ drop (suc k) notes =
+    drop_more notes k blank (omega (arith, within)) ∙ ap (λ (n : ℕ). note_at notes k ∷ drop n notes) one in
+    length-append (choices_at clash machine k) (choices_from clash machine (suc k) count)
+    ∙ (ap₂ (λ (a b : ℕ). a + b) (choices-length clash machine k
+    ∙ ap as_count (sym (possible-is machine notes first opened writers possible are is_opened k))) rest
+    ∙ (sym (sum_by-cons (λ (n : Note). as_count n.possible) (note_at notes k) (take count (drop (suc k) notes)))
+    ∙ ap (λ (ns : List Note). possible_count (take (suc count) ns)) (sym cut)))
+
+pub possible-count : (machine : Machine State) (notes : List Note) (first opened writers possible : ℕ)
+    → AreNotes machine.state machine.queue notes first opened writers possible → IsOpened machine.queue notes opened
+    → possible ≡ length (choices_of clash machine)
+possible-count machine notes first opened writers possible are is_opened =
+    let same = are.noted.same_length in
+    let count = count-part machine notes first opened writers possible are is_opened 0 (length machine.queue)
+    (omega (arith, same)) in
+    are.noted.counted
+    ∙ (ap possible_count (sym (take_all (length machine.queue) notes (omega (arith, same)))) ∙ sym count)
+
+choices-split : {S : Type 0} (clash : ClashOf S) (machine : Machine S) (k a b : ℕ)
+    → choices_from clash machine k (a + b) ≡ choices_from clash machine k a ++ choices_from clash machine (k + a) b
+unfolding choices_from
+choices-split clash machine k zero b =
+    let none : 0 + b ≡ b = omega arith in
+    let same : k + 0 ≡ k = omega arith in
+    rw (none, same) refl
+choices-split clash machine k (suc a) b =
+    let more : suc a + b ≡ suc (a + b) = omega arith in
+    let same : k + suc a ≡ suc k + a = omega arith in
+    rw (more, same)
+    (ap (λ (rest : List Choice). choices_at clash machine k ++ rest) (choices-split clash machine (suc k) a b)
+    ∙ sym (append_assoc (choices_at clash machine k) (choices_from clash machine (suc k) a) (choices_from clash machine
+    (suc k + a) b)))
+
+get-behind : {X : Type 0} (front back : List X) (n : ℕ) → length front ≡ n
+    → slice_get (front ++ back) n ≡ slice_get back 0
+get-behind [] back n is = rw (← is) refl
+get-behind (x ∷ front) back zero is = absurd (omega (arith, is))
+get-behind (x ∷ front) back (suc n) is = get-behind front back n (omega (arith, is))
+
+-- the act at a position where one is possible
+choice-here : (machine : Machine State) (notes : List Note) (first opened writers possible : ℕ)
+    → AreNotes machine.state machine.queue notes first opened writers possible → IsOpened machine.queue notes opened
+    → (k : ℕ) (rest : List Choice) → (note_at notes k).possible ≡ true
+    → slice_get (choices_at clash machine k ++ rest) 0
+    ≡ Some (if (note_at notes k).pending then choices.Work k else choices.Send k)
+choice-here machine notes first opened writers possible are is_opened k rest is =
+    by (note_at notes k).pending refl
+  where
+    by : (b : Bool) → (note_at notes k).pending ≡ b
+        → slice_get (choices_at clash machine k ++ rest) 0
+        ≡ Some (if (note_at notes k).pending then choices.Work k else choices.Send k)
+    by true pending =
+        rw (ready-is machine.state machine.queue notes first opened writers possible are is_opened k, pending, is) refl
+    by false idle =
+        rw (
+          ready-is machine.state machine.queue notes first opened writers possible are is_opened k,
+          idle,
+          ← are.marks.replies k idle,
+          is,
+        ) refl
+
+possible-within : (notes : List Note) (k : ℕ) → (note_at notes k).possible ≡ true → k < length notes
+possible-within notes k is = by (nat_lt k (length notes)) refl
+  where
+    by : (b : Bool) → nat_lt k (length notes) ≡ b → k < length notes
+    by true less = ltb-true k (length notes) less
+    by false less =
+        absurd (true≢false (sym is ∙ ap (λ (n : Note). n.possible)
+        (get_or_past notes k blank (ltb-false k (length notes) less))))
+
+-- the act of a number is at the position before which so many are possible, and at which one is
+pub choice-at : (machine : Machine State) (notes : List Note) (first opened writers possible : ℕ)
+    → AreNotes machine.state machine.queue notes first opened writers possible → IsOpened machine.queue notes opened
+    → (number k : ℕ) → possible_count (take k notes) ≡ number → (note_at notes k).possible ≡ true
+    → slice_get (choices_of clash machine) number
+    ≡ Some (if (note_at notes k).pending then choices.Work k else choices.Send k)
+unfolding choices_from
+choice-at machine notes first opened writers possible are is_opened number k before is =
+    let within = possible-within notes k is in
+    let same = are.noted.same_length in
+    let size : length machine.queue ≡ k + suc (length machine.queue - suc k) = omega (arith, within, same) in
+    let here : 0 + k ≡ k = omega arith in
+    let count = count-part machine notes first opened writers possible are is_opened 0 k (omega (arith, within)) in
+    ap (λ (acts : List Choice). slice_get acts number)
+    (ap (choices_from clash machine 0) size ∙ choices-split clash machine 0 k (suc (length machine.queue - suc k)))
+    ∙ (get-behind (choices_from clash machine 0 k) (choices_from clash machine (0 + k) (suc (length
+    machine.queue - suc k))) number (count ∙ before)
+    ∙ rw here (choice-here machine notes first opened writers possible are is_opened k (choices_from clash machine
+    (suc k) (length machine.queue - suc k)) is))
