@@ -3,6 +3,7 @@ pub mod CoreSteps
 pub mod NotePlaces
 pub mod ReadinessLaws
 pub mod ReadyLaws
+pub mod NewNotes
 pub mod Machines
 pub mod Sessions
 pub mod ChoiceLaws

@@ -1,0 +1,204 @@
+-- The notes of no requests, and what one request more changes.
+use Rattle.std.proofs.Common.{◌≡◌, ◌+◌, ◌<◌, ◌≤◌, ◌++◌, nat_lt, ℕ, zero, suc, Bool, true, false, List, [], ◌∷◌}
+use Rattle.std.proofs.Common.{Option, Some, None, is_some, length, get_or, slice_get, refl, sym, ap, subst, ◌∙◌, arith}
+use Rattle.std.proofs.Common.{length-append}
+use Rattle.std.proofs.lemmas.Bool.{ltb-true, ltb-false}
+use Rattle.std.proofs.lemmas.List.{get_or_append_left, get_or_push, get_or_past}
+use Rattle.std.proofs.lemmas.List.Sums.{sum_by_push}
+use Rattle.sftp_wire.specs.declared.packets.Request.{Request}
+use Rattle.sftp_handles.specs.State.{State}
+use Rattle.sftp_handles.specs.Clash.{touched}
+use Rattle.sftp_server.specs.declared.queue.Entry.{Entry}
+use Rattle.sftp_server.specs.declared.queue.Progress.TheVariants.{Pending}
+use Rattle.sftp_server.specs.declared.readiness.Note.{Note}
+use Rattle.sftp_server.specs.Machine.{is_pending_at, pending_in, reply_at, reply_in}
+use Rattle.sftp_server.specs.Readiness.{blank, note_at, ask_in, ask_at, touched_at, is_in_way, as_count, possible_count}
+use Rattle.sftp_server.specs.Readiness.{IsFree, IsBlocked, IsNoted, AreBlocked, IsMarked, AreNotes}
+use Rattle.sftp_server.proofs.NotePlaces.{in_way-same}
+
+-- the note of a request that was just taken
+abbrev pub new_note : Note
+new_note = record blank { pending = true }
+
+abbrev pub with_new : List Note → List Note
+with_new notes = notes ++ new_note ∷ []
+
+abbrev pub with_request : List Entry → Request → List Entry
+with_request queue request = queue ++ record { request = request; progress = Pending } ∷ []
+
+-- ---- one note more
+
+-- a part that a new note has as a note of nothing has it
+part-new : {F : Type 0} (part : Note → F) (notes : List Note) (j : ℕ) → part new_note ≡ part blank
+    → part (note_at (with_new notes) j) ≡ part (note_at notes j)
+part-new part [] zero same = same
+part-new part [] (suc j) same = refl
+part-new part (first ∷ notes) zero same = refl
+part-new part (first ∷ notes) (suc j) same = part-new part notes j same
+
+idle-before : (notes : List Note) (j : ℕ) → (note_at (with_new notes) j).pending ≡ false
+    → (note_at notes j).pending ≡ false
+idle-before [] j idle = refl
+idle-before (first ∷ notes) zero idle = idle
+idle-before (first ∷ notes) (suc j) idle = idle-before notes j idle
+
+note-before : (notes : List Note) (j : ℕ) → j < length notes → note_at (with_new notes) j ≡ note_at notes j
+note-before notes j before = get_or_append_left notes (new_note ∷ []) blank j before
+
+get-before : (queue : List Entry) (request : Request) (j : ℕ) → j < length queue
+    → slice_get (with_request queue request) j ≡ slice_get queue j
+get-before [] request j before = absurd (omega (arith, before))
+get-before (entry ∷ queue) request zero before = refl
+get-before (entry ∷ queue) request (suc j) before = get-before queue request j (omega (arith, before))
+
+reply-new : (queue : List Entry) (request : Request) (j : ℕ)
+    → reply_at (with_request queue request) j ≡ reply_at queue j
+reply-new [] request zero = refl
+reply-new [] request (suc j) = refl
+reply-new (entry ∷ queue) request zero = refl
+reply-new (entry ∷ queue) request (suc j) = reply-new queue request j
+
+pending-new : (queue : List Entry) (notes : List Note) (request : Request) (j : ℕ) → length notes ≡ length queue
+    → ((i : ℕ) → (note_at notes i).pending ≡ is_pending_at queue i)
+    → (note_at (with_new notes) j).pending ≡ is_pending_at (with_request queue request) j
+pending-new [] [] request zero same marked = refl
+pending-new [] [] request (suc j) same marked = refl
+pending-new [] (first ∷ notes) request j same marked = absurd (omega (arith, same))
+pending-new (entry ∷ queue) [] request j same marked = absurd (omega (arith, same))
+pending-new (entry ∷ queue) (first ∷ notes) request zero same marked = marked 0
+pending-new (entry ∷ queue) (first ∷ notes) request (suc j) same marked =
+    pending-new queue notes request j (omega (arith, same)) (λ i. marked (suc i))
+
+touched-new : (queue : List Entry) (notes : List Note) (request : Request) (j : ℕ) → length notes ≡ length queue
+    → j < length queue → touched_at (with_request queue request) (with_new notes) j ≡ touched_at queue notes j
+touched-new queue notes request j same before =
+    rw (note-before notes j (omega (arith, same, before)), get-before queue request j before) refl
+
+-- ---- a request is taken
+
+free-new : (queue : List Entry) (notes : List Note) (request : Request) (j : ℕ) → length notes ≡ length queue
+    → j < length queue → IsFree queue notes j → IsFree (with_request queue request) (with_new notes) j
+free-new queue notes request j same within free = λ i before.
+    let less : i < length queue = omega (arith, before, within) in
+    rw (touched-new queue notes request j same within)
+    (in_way-same queue (with_request queue request) notes (with_new notes) i (touched_at queue notes j)
+    (ap (λ (n : Note). n.pending) (note-before notes i (omega (arith, same, less))))
+    (touched-new queue notes request i same less) ∙ free i before)
+
+new-count : (notes : List Note) → possible_count (with_new notes) ≡ possible_count notes
+new-count notes =
+    let sum = sum_by_push (λ (n : Note). as_count n.possible) notes new_note in
+    omega (arith, sum)
+
+new-behind : (queue : List Entry) (notes : List Note) (first opened writers possible j : ℕ)
+    → IsNoted queue notes first opened writers possible → opened ≤ j → j < length queue + 1
+    → ((note_at (with_new notes) j).pending ≡ true) × ((note_at (with_new notes) j).possible ≡ false)
+new-behind queue notes first opened writers possible j is from to = by (nat_lt j (length queue)) refl
+  where
+    by : (b : Bool) → nat_lt j (length queue) ≡ b
+        → ((note_at (with_new notes) j).pending ≡ true) × ((note_at (with_new notes) j).possible ≡ false)
+    by true less =
+        let before = ltb-true j (length queue) less in
+        rw (note-before notes j (omega (arith, before, is.same_length))) (is.behind j from before)
+    by false less =
+        let after = ltb-false j (length queue) less in
+        let here : length notes ≡ j = omega (arith, after, to, is.same_length) in
+        rw (get_or_push notes new_note blank j here) (refl, refl)
+
+noted-new : (queue : List Entry) (notes : List Note) (request : Request) (first opened writers possible : ℕ)
+    → IsNoted queue notes first opened writers possible
+    → IsNoted (with_request queue request) (with_new notes) first opened writers possible
+noted-new queue notes request first opened writers possible is =
+    let longer = length-append queue (record { request = request; progress = Pending } ∷ []) in
+    let longer_notes = length-append notes (new_note ∷ []) in
+    let size : length (with_request queue request) ≡ length queue + 1 = omega (arith, longer) in
+    let inside : (j : ℕ) → j < opened → j < length notes = λ j before. omega
+    (arith, before, is.within, is.same_length) in
+    record {
+      same_length = omega (arith, longer, longer_notes, is.same_length);
+      within = omega (arith, size, is.within);
+      front = omega (arith, size, is.front);
+      passed = λ j before.
+          rw (note-before notes j (omega (arith, before, is.front, is.same_length))) (is.passed j before);
+      reads = λ j from to pending.
+          rw (note-before notes j (inside j to)) (is.reads j from to
+          (rw (note-before notes j (inside j to)) at pending));
+      counted = is.counted ∙ sym (new-count notes);
+      last = λ j before pending.
+          let here = note-before notes j (inside j (omega (arith, before))) in
+          rw here (is.last j before (rw here at pending));
+      behind = λ j from to.
+          new-behind queue notes first opened writers possible j is from (subst (λ (n : ℕ). j < n) size to);
+      free = λ j before pending ready.
+          let here = note-before notes j (inside j before) in
+          free-new queue notes request j is.same_length (omega (arith, before, is.within)) (is.free j before
+          (rw here at pending) (rw here at ready));
+    }
+
+blocked-new : (queue : List Entry) (notes : List Note) (request : Request) (j : ℕ) → length notes ≡ length queue
+    → j < length queue → IsBlocked queue notes j → IsBlocked (with_request queue request) (with_new notes) j
+blocked-new queue notes request j same within is =
+    let before : is.blocker < length queue = let less = is.before in omega (arith, less, within) in
+    let blocker = note-before notes is.blocker (omega (arith, before, same)) in
+    let here = note-before notes j (omega (arith, within, same)) in
+    record {
+      blocker = is.blocker;
+      back = rw here is.back;
+      before = is.before;
+      in_way =
+          rw (touched-new queue notes request j same within)
+          (in_way-same queue (with_request queue request) notes (with_new notes) is.blocker
+          (touched_at queue notes j) (ap (λ (n : Note). n.pending) blocker)
+          (touched-new queue notes request is.blocker same before) ∙ is.in_way);
+      reached = rw (here, blocker) is.reached;
+    }
+
+-- A request was taken, and is pending. Whether it is open is not yet judged.
+pub notes-pushed : (s : State) (queue : List Entry) (notes : List Note) (request : Request)
+    (first opened writers possible : ℕ) → AreNotes s queue notes first opened writers possible
+    → AreNotes s (queue ++ record { request = request; progress = Pending } ∷ [])
+    (notes ++ record blank { pending = true } ∷ []) first opened writers possible
+notes-pushed s queue notes request first opened writers possible are =
+    let same = are.noted.same_length in
+    let inside : (j : ℕ) → j < opened → j < length queue = λ j before. omega (arith, before, are.noted.within) in
+    record {
+      noted = noted-new queue notes request first opened writers possible are.noted;
+      blocked = λ j before pending waits.
+          let here = note-before notes j (omega (arith, inside j before, same)) in
+          blocked-new queue notes request j same (inside j before)
+          (are.blocked j before (rw here at pending) (rw here at waits));
+      marks = record {
+        marked = λ j. pending-new queue notes request j same are.marks.marked;
+        known = λ j before pending.
+            let here = note-before notes j (omega (arith, inside j before, same)) in
+            touched-new queue notes request j same (inside j before)
+            ∙ (are.marks.known j before (rw here at pending)
+            ∙ ap (λ (found : Option Entry). touched s (ask_in found)) (sym (get-before queue request j
+            (inside j before))));
+        replies = λ j idle.
+            part-new (λ (n : Note). n.possible) notes j refl
+            ∙ (are.marks.replies j (idle-before notes j idle) ∙ ap is_some (sym (reply-new queue request j)));
+      };
+    }
+
+-- nothing was asked yet
+pub notes-start : (s : State) → AreNotes s [] [] 0 0 0 0
+notes-start s = record {
+  noted = record {
+    same_length = refl;
+    within = omega arith;
+    front = omega arith;
+    passed = λ j before. refl;
+    reads = λ j from to. absurd (omega (arith, to));
+    counted = refl;
+    last = λ j before. absurd (omega (arith, before));
+    behind = λ j from to. absurd (omega (arith, to));
+    free = λ j before. absurd (omega (arith, before));
+  };
+  blocked = λ j before. absurd (omega (arith, before));
+  marks = record {
+    marked = λ j. refl;
+    known = λ j before. absurd (omega (arith, before));
+    replies = λ j worked. refl;
+  };
+}
