@@ -67,26 +67,21 @@ const OPENS: &[&[u8]] = &[
     b"\x0b\0\0\0\x01/",
 ];
 
-/// READ, FSTAT and CLOSE of handle 0, and WRITE of one byte at 0 through it.
+/// READ of one byte at 0 of handle 0, and of handle 1, and READDIR of handle 2.
 const READ: &[u8] = b"\x05\0\0\0\x0c\0\0\0\0\0\0\0\0\0\0\0\0\0\0\0\0\0\0\0\0\0\0\0\x01";
 
-const FSTAT: &[u8] = b"\x08\0\0\0\x0c\0\0\0\0\0\0\0\0\0\0\0\0";
-
-const CLOSE: &[u8] = b"\x04\0\0\0\x0c\0\0\0\0\0\0\0\0\0\0\0\0";
-
-const WRITE: &[u8] = b"\x06\0\0\0\x0c\0\0\0\0\0\0\0\0\0\0\0\0\0\0\0\0\0\0\0\0\0\0\0\x01x";
-
-/// READ of one byte at 0 of handle 1, and READDIR of the handles 2 and 3.
 const READ_OTHER: &[u8] = b"\x05\0\0\0\x0c\0\0\0\x01\0\0\0\0\0\0\0\x01\0\0\0\0\0\0\0\0\0\0\0\x01";
 
 const LIST: &[u8] = b"\x0c\0\0\0\x0c\0\0\0\x02\0\0\0\0\0\0\0\x02";
 
-const LIST_OTHER: &[u8] = b"\x0c\0\0\0\x0c\0\0\0\x03\0\0\0\0\0\0\0\x03";
-
 /// Rows 9 and 49 of the rules. A READ waits for a WRITE through another name of its file; READ and FSTAT of one file do
-/// not wait for each other; READDIRs wait for those of their own listing alone; CLOSE waits, and is waited for.
+/// not wait for each other; READDIRs wait for those of their own listing alone; CLOSE waits, and is waited for. The
+/// requests are WRITE and READ through both handles; FSTAT, READ; READDIRs of the handles 2, 2, 3; READ, CLOSE, READ.
 const CLASHES: &[Call] = &[
-    Call::Take(1, WRITE),
+    Call::Take(
+        1,
+        b"\x06\0\0\0\x0c\0\0\0\0\0\0\0\0\0\0\0\0\0\0\0\0\0\0\0\0\0\0\0\x01x",
+    ),
     Call::Take(2, READ_OTHER),
     Call::Ready(1, false),
     Call::Work(1, Did::NotReady),
@@ -94,18 +89,18 @@ const CLASHES: &[Call] = &[
     Call::Work(1, Did::Done),
     Call::Send(1, Some(2)),
     Call::Send(0, Some(1)),
-    Call::Take(3, FSTAT),
+    Call::Take(3, b"\x08\0\0\0\x0c\0\0\0\0\0\0\0\0\0\0\0\0"),
     Call::Take(4, READ_OTHER),
     Call::Ready(0, true),
     Call::Ready(1, true),
     Call::Take(5, LIST),
     Call::Take(6, LIST),
-    Call::Take(7, LIST_OTHER),
+    Call::Take(7, b"\x0c\0\0\0\x0c\0\0\0\x03\0\0\0\0\0\0\0\x03"),
     Call::Ready(2, true),
     Call::Ready(3, false),
     Call::Ready(4, true),
     Call::Take(8, READ),
-    Call::Take(9, CLOSE),
+    Call::Take(9, b"\x04\0\0\0\x0c\0\0\0\0\0\0\0\0\0\0\0\0"),
     Call::Take(10, READ),
     Call::Ready(5, true),
     Call::Ready(6, false),

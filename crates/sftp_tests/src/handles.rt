@@ -1,22 +1,11 @@
 //! Tables of handles, and listings, as values.
 ghost use Rattle.std.specs.Prelude.{◌≤◌, length};
 
+use crate::wire::no_attributes;
 use sftp_handles::{GivenTable, HandleTable, Listing, Open, PutError, SlabTable};
 use sftp_path::{Name, NoMemory};
-use sftp_wire::Attrs;
 use std::alloc::{AllocError, Global};
 use std::test::Fail;
-
-/// Attributes that say nothing.
-fn nothing() -> Attrs {
-    Attrs {
-        size: None,
-        owner: None,
-        permissions: None,
-        times: None,
-        extended: None,
-    }
-}
 
 /// Opens an empty listing under a name. `None` if that was done, and else why not.
 fn open_listing(
@@ -170,7 +159,7 @@ fn strikes_names(alloc: Global) -> Result<bool, NoMemory> {
 }
 
 fn strikes(alloc: Global, listing: &mut Listing, name: &Name) -> Result<bool, NoMemory> {
-    listing.add(name.try_clone(alloc)?, nothing())?;
+    listing.add(name.try_clone(alloc)?, no_attributes())?;
     let was_left = listing.find(name).is_some();
     listing.strike(name);
     Ok(was_left && listing.find(name).is_none() && listing.is_empty())

@@ -1,5 +1,5 @@
-//! Tree files that are written with no more room than they need, or cut off after any number of bytes.
-use sftp_treefile::{NoMemory, TreeError, TreeFile, read_rows, write_rows};
+//! Tree files that are written with no more room than they need.
+use sftp_treefile::{NoMemory, read_rows, write_rows};
 use std::alloc::Global;
 use std::test::Fail;
 
@@ -8,33 +8,6 @@ const FILE: &[u8; 110] =
     b"SFTREE01\0\0\0\x02/d\0\0\x03\xe8\0\0\0\x64\0\0\0\x04\0\0\0\x01\0\0\0\x02\0\0\x03\xed\
 \0\0\0\x02/dD\0\0\0\x03\0\0\0\x04\0\0\x01\xc0\0\0\0\x04/d/fF\0\0\0\x05\0\0\0\x06\0\0\x0f\xff\0\0\0\x03abc\
 \0\0\0\x02/gH\0\0\0\x02\0\0\0\x02/lL\0\0\0\x03d/f";
-
-/// What the first bytes of `FILE`, so many of them, are refused for.
-fn refusal(length: usize) -> TreeError {
-    match length {
-        0..=7 => TreeError::Magic { entry: 0 },
-        8..=37 => TreeError::Short { entry: 0 },
-        38..=56 => TreeError::Short { entry: 1 },
-        57..=84 => TreeError::Short { entry: 2 },
-        85..=95 => TreeError::Short { entry: 3 },
-        _ => TreeError::Short { entry: 4 },
-    }
-}
-
-/// Whether the first bytes of `FILE`, so many of them, are refused as they should be.
-fn is_refused(alloc: Global, length: usize) -> bool {
-    let read = read_rows(alloc, FILE.get(..length).unwrap_or(FILE));
-    let is_refused = is_error(&read, refusal(length));
-    drop(read);
-    is_refused
-}
-
-fn is_error(read: &Result<TreeFile, TreeError>, expected: TreeError) -> bool {
-    match read {
-        Ok(_) => false,
-        Err(error) => *error == expected,
-    }
-}
 
 /// Whether the bytes, read and written again, are the same bytes; room is asked for just them.
 fn stays(alloc: Global, bytes: &[u8]) -> Result<bool, NoMemory> {
@@ -51,11 +24,4 @@ fn stays(alloc: Global, bytes: &[u8]) -> Result<bool, NoMemory> {
 fn whole_file(rt: HostRuntime) -> Result<(), Fail> {
     assert!(rt; stays(rt.alloc(), FILE)?);
     Ok(())
-}
-
-#[test]
-fn cut_files(rt: HostRuntime) {
-    for length in 0..FILE.len() {
-        assert!(rt; is_refused(rt.alloc(), length), "{length} bytes");
-    }
 }

@@ -26,7 +26,7 @@ fn long(alloc: Global, length: usize) -> Result<ByteString, AllocError> {
     Ok(ByteString::new(vec![in alloc; b'h'; length]?))
 }
 
-fn no_attributes() -> Attrs {
+pub(crate) fn no_attributes() -> Attrs {
     Attrs {
         size: None,
         owner: None,
