@@ -3,6 +3,7 @@ pub mod Queue
 pub mod Choices
 pub mod Schedules
 pub mod Core
+pub mod Readiness
 pub mod Served
 pub mod Sessions
 pub mod Fronts

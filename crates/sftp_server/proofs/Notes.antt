@@ -1,0 +1,596 @@
+-- What the notes of a queue say, and what stays when one of them changes.
+use Rattle.std.proofs.Common.{◌≡◌, ◌≢◌, ◌==◌, ◌&&◌, ◌+◌, ◌-◌, ◌<◌, ◌≤◌, ℕ, zero, suc, Bool, true, false, List, [], ◌∷◌}
+use Rattle.std.proofs.Common.{length, take, set, max, sum_by, nat_lt, if◌then◌else◌}
+use Rattle.std.proofs.Common.{refl, sym, ap, subst, ◌∙◌, arith, true≢false}
+use Rattle.std.proofs.lemmas.Bool.{eqb-true, eqb-false, ltb-true, ltb-false}
+use Rattle.std.proofs.lemmas.List.{length-set, get_or-set_same, get_or-set_other}
+use Rattle.std.proofs.lemmas.List.Sums.{sum_by-set, sum_by-cons}
+use Rattle.std.proofs.lemmas.Option.{slice_get_read, get_or_from_slice_get}
+use Rattle.std.proofs.Math.Nat.{le-max_left, le-max_right}
+use Rattle.std.specs.Prelude.{get_or}
+use Rattle.sftp_wire.specs.declared.packets.Ask.{Ask}
+use Rattle.sftp_handles.specs.declared.touch.Touch.{Touch}
+use Rattle.sftp_handles.specs.declared.touch.Touch.TheVariants.{Nothing, ReadsFile, WritesFile, TakesNames, Everything}
+use Rattle.sftp_handles.specs.Clash.{touched, share}
+use Rattle.sftp_handles.specs.Touch.{touched_as}
+use Rattle.sftp_handles.specs.State.{State}
+use Rattle.sftp_server.specs.declared.queue.Entry.{Entry}
+use Rattle.sftp_server.specs.declared.readiness.Note.{Note}
+use Rattle.sftp_server.specs.Readiness.{blank, note_at, ask_at, touched_at, is_in_way, IsFree, IsFreeFrom}
+use Rattle.sftp_server.specs.Readiness.{IsBlockedBack, IsBlocked, only_reads, is_all, as_count, possible_count}
+use Rattle.sftp_server.specs.Readiness.{IsNoted, AreBlocked, AreBlockedBut, IsShut, IsMarked, AreNotes}
+use Rattle.sftp_server.specs.Readiness.{held, AreAlike, IsPlaced, IsWaiting, raised, IsTouched}
+
+-- ---- notes at positions
+
+-- at a position, or elsewhere
+pub by_place : (j k : ℕ) (P : Type 0) → (j ≡ k → P) → (j ≢ k → P) → P
+by_place j k P same other = by (j == k) refl
+  where
+    by : (b : Bool) → (j == k) ≡ b → P
+    by true is = same (eqb-true j k is)
+    by false is = other (eqb-false j k is)
+
+pub below : (j k : ℕ) → j < suc k → j ≢ k → j < k
+below j k lt apart = by (nat_lt j k) refl
+  where
+    by : (b : Bool) → nat_lt j k ≡ b → j < k
+    by true is = ltb-true j k is
+    by false is = absurd (apart (let from = ltb-false j k is in omega (arith, lt, from)))
+
+pub beyond : (j k : ℕ) → k ≤ j → j ≢ k → suc k ≤ j
+beyond j k from apart = by (nat_lt k j) refl
+  where
+    by : (b : Bool) → nat_lt k j ≡ b → suc k ≤ j
+    by true is = ltb-true k j is
+    by false is = absurd (apart (let past = ltb-false k j is in omega (arith, from, past)))
+
+-- what a look-up gives is the note at the position
+pub note-read : (notes : List Note) (k : ℕ) (note : Note) → k < length notes → note ≡ get_or notes k note
+    → note_at notes k ≡ note
+note-read notes k note inside is =
+    get_or_from_slice_get notes k note blank (slice_get_read notes (length notes) k note refl inside is)
+
+pub set-same : (notes : List Note) (k : ℕ) (note : Note) → k < length notes → note_at (set notes k note) k ≡ note
+set-same notes k note inside = get_or-set_same notes k note blank inside
+
+pub set-other : (notes : List Note) (k j : ℕ) (note : Note) → j ≢ k → note_at (set notes k note) j ≡ note_at notes j
+set-other notes k j note apart = get_or-set_other notes k j note blank apart
+
+-- a field that the new note has as the old one is the same at every position
+pub set-field : {X : Type 0} (f : Note → X) (notes : List Note) (k j : ℕ) (note : Note) → k < length notes
+    → f note ≡ f (note_at notes k) → f (note_at (set notes k note) j) ≡ f (note_at notes j)
+set-field f notes k j note inside same =
+    by_place j k (f (note_at (set notes k note) j) ≡ f (note_at notes j)) here
+    (λ apart. ap f (set-other notes k j note apart))
+  where
+    here : j ≡ k → f (note_at (set notes k note) j) ≡ f (note_at notes j)
+    here at =
+        subst (λ (i : ℕ). f (note_at (set notes k note) i) ≡ f (note_at notes i)) (sym at)
+        (ap f (set-same notes k note inside) ∙ same)
+
+-- ---- notes that are alike
+
+pub alike-self : (notes : List Note) → AreAlike notes notes
+alike-self notes = record { touch = λ k. refl; pending = λ k. refl; replies = λ k is. refl }
+
+pub alike-then : (a b c : List Note) → AreAlike a b → AreAlike b c → AreAlike a c
+alike-then a b c first second = record {
+  touch = λ k. second.touch k ∙ first.touch k;
+  pending = λ k. second.pending k ∙ first.pending k;
+  replies = λ k is. second.replies k (first.pending k ∙ is) ∙ first.replies k is;
+}
+
+pub alike-set : (notes : List Note) (k : ℕ) (note : Note) → k < length notes
+    → note.touch ≡ (note_at notes k).touch → note.pending ≡ (note_at notes k).pending
+    → ((note_at notes k).pending ≡ false → note.possible ≡ (note_at notes k).possible)
+    → AreAlike notes (set notes k note)
+alike-set notes k note inside touch pending replies = record {
+  touch = λ j. set-field (λ (n : Note). n.touch) notes k j note inside touch;
+  pending = λ j. set-field (λ (n : Note). n.pending) notes k j note inside pending;
+  replies = λ j is. by_place j k ((note_at (set notes k note) j).possible ≡ (note_at notes j).possible) (here j is)
+      (λ apart. ap (λ (n : Note). n.possible) (set-other notes k j note apart));
+}
+  where
+    here : (j : ℕ) → (note_at notes j).pending ≡ false → j ≡ k
+        → (note_at (set notes k note) j).possible ≡ (note_at notes j).possible
+    here j is at =
+        subst (λ (i : ℕ). (note_at (set notes k note) i).possible ≡ (note_at notes i).possible) (sym at)
+        (ap (λ (n : Note). n.possible) (set-same notes k note inside)
+        ∙ replies (subst (λ (i : ℕ). (note_at notes i).pending ≡ false) at is))
+
+pub meets-alike : (queue : List Entry) (before after : List Note) (j k : ℕ) → AreAlike before after
+    → is_in_way queue after j (touched_at queue after k) ≡ is_in_way queue before j (touched_at queue before k)
+meets-alike queue before after j k alike = λ i.
+    (alike.pending j i) && share (touched_as (alike.touch j i) (ask_at queue j))
+    (touched_as (alike.touch k i) (ask_at queue k))
+
+pub free-alike : (queue : List Entry) (before after : List Note) (k : ℕ) → AreAlike before after
+    → IsFree queue before k → IsFree queue after k
+free-alike queue before after k alike free = λ j lt. meets-alike queue before after j k alike ∙ free j lt
+
+pub marks-alike : (s : State) (queue : List Entry) (before after : List Note) (o : ℕ) → IsMarked s queue before o
+    → AreAlike before after → IsMarked s queue after o
+marks-alike s queue before after o is alike = record {
+  marked = λ k. alike.pending k ∙ is.marked k;
+  known = λ k lt pending. ap (λ (t : Touch). touched_as t (ask_at queue k)) (alike.touch k)
+      ∙ is.known k lt (sym (alike.pending k) ∙ pending);
+  replies = λ k worked. alike.replies k (sym (alike.pending k) ∙ worked)
+      ∙ is.replies k (sym (alike.pending k) ∙ worked);
+}
+
+noted-alike : (queue : List Entry) (before after : List Note) (f o w p q : ℕ) → IsNoted queue before f o w p
+    → AreAlike before after → length after ≡ length before → q ≡ possible_count after
+    → ((k : ℕ) → o ≤ k → k < length queue → (note_at after k).possible ≡ false)
+    → ((k : ℕ) → k < o → (note_at after k).pending ≡ true → (note_at after k).possible ≡ true → IsFree queue after k)
+    → IsNoted queue after f o w q
+noted-alike queue before after f o w p q is alike size counted behind free = record {
+  same_length = size ∙ is.same_length;
+  within = is.within;
+  front = is.front;
+  passed = λ k lt. alike.pending k ∙ is.passed k lt;
+  reads = λ k from lt pending. ap only_reads (alike.touch k)
+      ∙ is.reads k from lt (sym (alike.pending k) ∙ pending);
+  counted = counted;
+  last = λ k lt pending. ap is_all (alike.touch k) ∙ is.last k lt (sym (alike.pending k) ∙ pending);
+  behind = λ k from lt. (alike.pending k ∙ (is.behind k from lt).0, behind k from lt);
+  free = free;
+}
+
+pub noted-passed : (queue : List Entry) (notes : List Note) (f g o w p : ℕ) → IsNoted queue notes f o w p
+    → g ≤ length queue → ((k : ℕ) → k < g → (note_at notes k).pending ≡ false) → IsNoted queue notes g o w p
+noted-passed queue notes f g o w p is front passed = record {
+  same_length = is.same_length;
+  within = is.within;
+  front = front;
+  passed = passed;
+  reads = is.reads;
+  counted = is.counted;
+  last = is.last;
+  behind = is.behind;
+  free = is.free;
+}
+
+count-one : (b : Bool) → as_count b ≤ 1
+count-one true = omega arith
+count-one false = omega arith
+
+-- no more acts are possible than there are requests
+pub count-few : (notes : List Note) → possible_count notes ≤ length notes
+count-few [] = omega arith
+count-few (note ∷ notes) =
+    let rest = count-few notes in
+    let one = count-one note.possible in
+    let sum = sum_by-cons (λ (n : Note). as_count n.possible) note notes in
+    omega (arith, rest, one, sum)
+
+-- ---- a request is ready
+
+abbrev allowed : List Note → ℕ → List Note
+allowed notes k = set notes k (record (note_at notes k) { possible = true })
+
+module _ (queue : List Entry) (notes : List Note) (f o w p k : ℕ) (is : IsNoted queue notes f o w p) (lt : k < o)
+    (pending : (note_at notes k).pending ≡ true) (waits : (note_at notes k).possible ≡ false) where
+  inside : k < length notes
+  inside = let size = is.same_length in let within = is.within in omega (arith, size, within, lt)
+
+  allowed-alike : AreAlike notes (allowed notes k)
+  allowed-alike =
+      alike-set notes k (record (note_at notes k) { possible = true }) inside refl refl
+      (λ worked. absurd (true≢false (sym pending ∙ worked)))
+
+  possible-other : (j : ℕ) → j ≢ k → (note_at (allowed notes k) j).possible ≡ (note_at notes j).possible
+  possible-other j apart =
+      ap (λ (n : Note). n.possible) (set-other notes k j (record (note_at notes k) { possible = true }) apart)
+
+  pub allowed-noted : IsFree queue notes k → IsNoted queue (allowed notes k) f o w (suc p)
+  allowed-noted free =
+      noted-alike queue notes (allowed notes k) f o w p (suc p) is allowed-alike
+      (length-set notes k (record (note_at notes k) { possible = true }))
+      (let more = sum_by-set (λ (n : Note). as_count n.possible) notes k (record (note_at notes k) { possible = true })
+      blank inside in
+      let none : as_count (note_at notes k).possible ≡ 0 = ap as_count waits in
+      let count = is.counted in
+      omega (arith, more, none, count))
+      (λ j from within.
+      possible-other j (λ same. omega (arith, same, from, lt)) ∙ (is.behind j from within).1)
+      (λ j before on yes.
+      free-alike queue notes (allowed notes k) j allowed-alike
+      (by_place j k (IsFree queue notes j) (λ at. subst (λ (i : ℕ). IsFree queue notes i) (sym at) free)
+      (λ apart. is.free j before (sym (allowed-alike.pending j) ∙ on) (sym (possible-other j apart) ∙ yes))))
+
+  pub allowed-placed : IsPlaced queue notes (allowed notes k) k
+  allowed-placed = record {
+    alike = allowed-alike;
+    possible = possible-other;
+    blocker = λ j apart. ap (λ (n : Note). n.blocker)
+        (set-other notes k j (record (note_at notes k) { possible = true }) apart);
+    waiter = λ j. let same = set-field (λ (n : Note). n.waiter) notes k j
+        (record (note_at notes k) { possible = true }) inside refl in omega (arith, same);
+    blocked = λ off. absurd (true≢false (sym (ap (λ (n : Note). n.possible)
+        (set-same notes k (record (note_at notes k) { possible = true }) inside)) ∙ off));
+  }
+
+-- ---- a request waits
+
+module _ (queue : List Entry) (notes : List Note) (f o w p k back : ℕ) (is : IsNoted queue notes f o w p) (lt : k < o)
+    (found : IsBlockedBack queue notes k back) where
+  abbrev waits : Note
+  waits = record (note_at notes k) { blocker = back }
+
+  abbrev once : List Note
+  once = set notes k waits
+
+  abbrev grown : Note
+  grown = record (note_at once (k - back)) { waiter = max (note_at once (k - back)).waiter back }
+
+  within-notes : k < length notes
+  within-notes = let size = is.same_length in let within = is.within in omega (arith, size, within, lt)
+
+  within-once : k - back < length once
+  within-once = let size = length-set notes k waits in let within = within-notes in omega (arith, size, within)
+
+  once-alike : AreAlike notes once
+  once-alike = alike-set notes k waits within-notes refl refl (λ _. refl)
+
+  held-alike : AreAlike notes (held notes k back)
+  held-alike =
+      alike-then notes once (held notes k back) once-alike
+      (alike-set once (k - back) grown within-once refl refl (λ _. refl))
+
+  same-possible : (j : ℕ) → (note_at (held notes k back) j).possible ≡ (note_at notes j).possible
+  same-possible j =
+      set-field (λ (n : Note). n.possible) once (k - back) j grown within-once refl
+      ∙ set-field (λ (n : Note). n.possible) notes k j waits within-notes refl
+
+  pub held-noted : IsNoted queue (held notes k back) f o w p
+  held-noted =
+      noted-alike queue notes (held notes k back) f o w p p is held-alike
+      (length-set once (k - back) grown ∙ length-set notes k waits)
+      (let first = sum_by-set (λ (n : Note). as_count n.possible) notes k waits blank within-notes in
+      let second = sum_by-set (λ (n : Note). as_count n.possible) once (k - back) grown blank within-once in
+      let count = is.counted in
+      omega (arith, first, second, count))
+      (λ j from within. same-possible j ∙ (is.behind j from within).1)
+      (λ j before on yes.
+      free-alike queue notes (held notes k back) j held-alike
+      (is.free j before (sym (held-alike.pending j) ∙ on) (sym (same-possible j) ∙ yes)))
+
+  waiter-once : (j : ℕ) → (note_at once j).waiter ≡ (note_at notes j).waiter
+  waiter-once j = set-field (λ (n : Note). n.waiter) notes k j waits within-notes refl
+
+  waiter-held : (note_at (held notes k back) (k - back)).waiter ≡ max (note_at once (k - back)).waiter back
+  waiter-held = ap (λ (n : Note). n.waiter) (set-same once (k - back) grown within-once)
+
+  waiter-grows : (j : ℕ) → (note_at notes j).waiter ≤ (note_at (held notes k back) j).waiter
+  waiter-grows j =
+      by_place j (k - back) ((note_at notes j).waiter ≤ (note_at (held notes k back) j).waiter)
+      (λ at.
+      subst (λ (i : ℕ). (note_at notes i).waiter ≤ (note_at (held notes k back) i).waiter) (sym at)
+      (let bound = le-max_left (note_at once (k - back)).waiter back in
+      let first = waiter-once (k - back) in
+      let second = waiter-held in
+      omega (arith, bound, first, second)))
+      (λ apart.
+      let first = waiter-once j in
+      let second = ap (λ (n : Note). n.waiter) (set-other once (k - back) j grown apart) in
+      omega (arith, first, second))
+
+  blocker-held : (note_at (held notes k back) k).blocker ≡ back
+  blocker-held =
+      set-field (λ (n : Note). n.blocker) once (k - back) k grown within-once refl
+      ∙ ap (λ (n : Note). n.blocker) (set-same notes k waits within-notes)
+
+  blocked-held : IsBlocked queue (held notes k back) k
+  blocked-held = record {
+    blocker = found.0;
+    back = ap (λ (n : ℕ). found.0 + n) blocker-held ∙ found.1;
+    before = found.2;
+    in_way = meets-alike queue notes (held notes k back) found.0 k held-alike ∙ found.3;
+    reached =
+        let at : found.0 ≡ k - back = let sum = found.1 in omega (arith, sum) in
+        subst (λ (i : ℕ). (note_at (held notes k back) k).blocker ≤ (note_at (held notes k back) i).waiter) (sym at)
+        (let bound = le-max_right (note_at once (k - back)).waiter back in
+        let first = blocker-held in
+        let second = waiter-held in
+        omega (arith, bound, first, second));
+  }
+
+  pub held-placed : IsPlaced queue notes (held notes k back) k
+  held-placed = record {
+    alike = held-alike;
+    possible = λ j apart. same-possible j;
+    blocker = λ j apart. set-field (λ (n : Note). n.blocker) once (k - back) j grown within-once refl
+        ∙ ap (λ (n : Note). n.blocker) (set-other notes k j waits apart);
+    waiter = waiter-grows;
+    blocked = λ off. blocked-held;
+  }
+
+-- ---- requests that wait
+
+pub blocked-kept : (queue : List Entry) (before after : List Note) (j k : ℕ) → IsBlocked queue before j
+    → IsPlaced queue before after k → j ≢ k → IsBlocked queue after j
+blocked-kept queue before after j k is placed apart = record {
+  blocker = is.blocker;
+  back = ap (λ (n : ℕ). is.blocker + n) (placed.blocker j apart) ∙ is.back;
+  before = is.before;
+  in_way = meets-alike queue before after is.blocker j placed.alike ∙ is.in_way;
+  reached =
+      let same = placed.blocker j apart in
+      let grows = placed.waiter is.blocker in
+      let reached = is.reached in
+      omega (arith, same, grows, reached);
+}
+
+-- one was passed that does not wait for the request that is done
+pub but-passed : (queue : List Entry) (notes : List Note) (o done from to : ℕ)
+    → AreBlockedBut queue notes o done from to
+    → ((note_at notes from).pending ≡ true → (note_at notes from).possible ≡ false
+    → done + (note_at notes from).blocker ≢ from)
+    → AreBlockedBut queue notes o done (suc from) to
+but-passed queue notes o done from to but apart j lt on off other =
+    but j lt on off (λ later within. by_place j from (done + (note_at notes j).blocker ≢ j) (here on off)
+    (λ differs. other (beyond j from later differs) within))
+  where
+    here : (note_at notes j).pending ≡ true → (note_at notes j).possible ≡ false → j ≡ from
+        → done + (note_at notes j).blocker ≢ j
+    here is_on is_off at =
+        subst (λ (i : ℕ). done + (note_at notes i).blocker ≢ i) (sym at)
+        (apart (subst (λ (i : ℕ). (note_at notes i).pending ≡ true) at is_on)
+        (subst (λ (i : ℕ). (note_at notes i).possible ≡ false) at is_off))
+
+-- one was judged
+pub but-placed : (queue : List Entry) (before after : List Note) (o done from to : ℕ)
+    → AreBlockedBut queue before o done from to → IsPlaced queue before after from
+    → AreBlockedBut queue after o done (suc from) to
+but-placed queue before after o done from to but placed j lt on off other =
+    by_place j from (IsBlocked queue after j) here there
+  where
+    here : j ≡ from → IsBlocked queue after j
+    here at =
+        subst (λ (i : ℕ). IsBlocked queue after i) (sym at)
+        (placed.blocked (subst (λ (i : ℕ). (note_at after i).possible ≡ false) at off))
+
+    there : j ≢ from → IsBlocked queue after j
+    there apart =
+        blocked-kept queue before after j from
+        (but j lt (sym (placed.alike.pending j) ∙ on) (sym (placed.possible j apart) ∙ off)
+        (λ later within same. other (beyond j from later apart) within
+        (ap (λ (n : ℕ). done + n) (placed.blocker j apart) ∙ same)))
+        placed apart
+
+pub but-passed-at : (queue : List Entry) (notes : List Note) (o done from at next to : ℕ) → at ≡ from
+    → next ≡ suc at → AreBlockedBut queue notes o done from to
+    → ((note_at notes at).pending ≡ true → (note_at notes at).possible ≡ false
+    → done + (note_at notes at).blocker ≢ at)
+    → AreBlockedBut queue notes o done next to
+but-passed-at queue notes o done from at next to at_is next_is but apart =
+    subst (λ (n : ℕ). AreBlockedBut queue notes o done n to) (sym next_is)
+    (but-passed queue notes o done at to
+    (subst (λ (n : ℕ). AreBlockedBut queue notes o done n to) (sym at_is) but) apart)
+
+pub but-placed-at : (queue : List Entry) (before after : List Note) (o done from at next to : ℕ) → at ≡ from
+    → next ≡ suc at → AreBlockedBut queue before o done from to → IsPlaced queue before after at
+    → AreBlockedBut queue after o done next to
+but-placed-at queue before after o done from at next to at_is next_is but placed =
+    subst (λ (n : ℕ). AreBlockedBut queue after o done n to) (sym next_is)
+    (but-placed queue before after o done at to
+    (subst (λ (n : ℕ). AreBlockedBut queue before o done n to) (sym at_is) but) placed)
+
+-- none is left that waits for it
+pub but-end : (queue : List Entry) (notes : List Note) (o done from to last : ℕ)
+    → AreBlockedBut queue notes o done from to → last < from → ((j : ℕ) → j < o → j ≤ to → j ≤ last)
+    → AreBlocked queue notes o
+but-end queue notes o done from to last but past reached j lt on off =
+    but j lt on off (λ later within same. let bound = reached j lt within in omega (arith, later, bound, past))
+
+-- one was judged, and all others wait
+pub blocked-placed : (queue : List Entry) (before after : List Note) (k : ℕ) → AreBlocked queue before k
+    → IsPlaced queue before after k → AreBlocked queue after (suc k)
+blocked-placed queue before after k blocked placed j lt on off =
+    by_place j k (IsBlocked queue after j) here there
+  where
+    here : j ≡ k → IsBlocked queue after j
+    here at =
+        subst (λ (i : ℕ). IsBlocked queue after i) (sym at)
+        (placed.blocked (subst (λ (i : ℕ). (note_at after i).possible ≡ false) at off))
+
+    there : j ≢ k → IsBlocked queue after j
+    there apart =
+        blocked-kept queue before after j k
+        (blocked j (below j k lt apart) (sym (placed.alike.pending j) ∙ on) (sym (placed.possible j apart) ∙ off))
+        placed apart
+
+-- ---- the search for a request that is in the way
+
+reads-apart : (t u : Touch) (a b : Ask) → only_reads t ≡ true → only_reads u ≡ true
+    → share (touched_as t a) (touched_as u b) ≡ false
+reads-apart Nothing Nothing a b t_reads u_reads = refl
+reads-apart Nothing (ReadsFile m) a b t_reads u_reads = refl
+reads-apart (ReadsFile n) Nothing a b t_reads u_reads = refl
+reads-apart (ReadsFile n) (ReadsFile m) a b t_reads u_reads = refl
+reads-apart Nothing (WritesFile m) a b t_reads u_reads = absurd (true≢false (sym u_reads))
+reads-apart Nothing TakesNames a b t_reads u_reads = absurd (true≢false (sym u_reads))
+reads-apart Nothing Everything a b t_reads u_reads = absurd (true≢false (sym u_reads))
+reads-apart (ReadsFile n) (WritesFile m) a b t_reads u_reads = absurd (true≢false (sym u_reads))
+reads-apart (ReadsFile n) TakesNames a b t_reads u_reads = absurd (true≢false (sym u_reads))
+reads-apart (ReadsFile n) Everything a b t_reads u_reads = absurd (true≢false (sym u_reads))
+reads-apart (WritesFile n) u a b t_reads u_reads = absurd (true≢false (sym t_reads))
+reads-apart TakesNames u a b t_reads u_reads = absurd (true≢false (sym t_reads))
+reads-apart Everything u a b t_reads u_reads = absurd (true≢false (sym t_reads))
+
+-- a request that is not pending is in no way
+no_way : (on : Bool) (shares : Bool) → (on ≡ true → shares ≡ false) → (on && shares) ≡ false
+no_way true shares none = none refl
+no_way false shares none = refl
+
+worked_away : (on : Bool) (shares : Bool) → on ≡ false → (on && shares) ≡ false
+worked_away true shares worked = absurd (true≢false worked)
+worked_away false shares worked = refl
+
+pub start-free : (queue : List Entry) (notes : List Note) (f o w p k from : ℕ) → IsNoted queue notes f o w p → k < o
+    → ((j : ℕ) → from ≤ j → j < k → (w ≤ j) × (only_reads (note_at notes k).touch ≡ true))
+    → IsFreeFrom queue notes k from
+start-free queue notes f o w p k from is within rest j later before =
+    no_way (note_at notes j).pending (share (touched_at queue notes j) (touched_at queue notes k))
+    (λ on.
+    let both = rest j later before in
+    reads-apart (note_at notes j).touch (note_at notes k).touch (ask_at queue j) (ask_at queue k)
+    (is.reads j both.0 (omega (arith, before, within)) on) both.1)
+
+-- one more is not in the way
+pub free-lower : (queue : List Entry) (notes : List Note) (k from lower : ℕ) → from ≡ suc lower
+    → IsFreeFrom queue notes k from → is_in_way queue notes lower (touched_at queue notes k) ≡ false
+    → IsFreeFrom queue notes k lower
+free-lower queue notes k from lower is free none j later before =
+    by_place j lower (is_in_way queue notes j (touched_at queue notes k) ≡ false)
+    (λ at. subst (λ (i : ℕ). is_in_way queue notes i (touched_at queue notes k) ≡ false) (sym at) none)
+    (λ apart. free j (let past = beyond j lower later apart in omega (arith, past, is)) before)
+
+-- none from the first pending request on is in the way
+pub free-all : (queue : List Entry) (notes : List Note) (f o w p k from : ℕ) → IsNoted queue notes f o w p → from ≤ f
+    → IsFreeFrom queue notes k from → IsFree queue notes k
+free-all queue notes f o w p k from is passed free j before = by (nat_lt j from) refl
+  where
+    by : (b : Bool) → nat_lt j from ≡ b → is_in_way queue notes j (touched_at queue notes k) ≡ false
+    by true lt =
+        worked_away (note_at notes j).pending (share (touched_at queue notes j) (touched_at queue notes k))
+        (is.passed j (let early = ltb-true j from lt in omega (arith, early, passed)))
+    by false later = free j (ltb-false j from later) before
+
+pub shut-at : (notes : List Note) (o : ℕ) (note : Note) → 0 < o → o ≤ length notes
+    → note ≡ get_or notes (o - 1) note → note.pending ≡ true → is_all note.touch ≡ true → IsShut notes o
+shut-at notes o note some within is pending all =
+    let here = note-read notes (o - 1) note (omega (arith, some, within)) is in
+    record {
+      last = o - 1;
+      position = omega (arith, some);
+      pending = ap (λ (n : Note). n.pending) here ∙ pending;
+      touches = ap (λ (n : Note). is_all n.touch) here ∙ all;
+    }
+
+-- ---- one request more is opened
+
+module _ (s : State) (queue : List Entry) (notes : List Note) (f k w p : ℕ) (t : Touch)
+    (is : IsNoted queue notes f k w p) (some : k < length queue)
+    (last : (j : ℕ) → suc j ≡ k → (note_at notes j).pending ≡ true → is_all (note_at notes j).touch ≡ false) where
+  abbrev opened_note : Note
+  opened_note = record (note_at notes k) { touch = t }
+
+  abbrev pub entered : List Note
+  entered = set notes k opened_note
+
+  here-within : k < length notes
+  here-within = let size = is.same_length in omega (arith, size, some)
+
+  touch-here : (note_at entered k).touch ≡ t
+  touch-here = ap (λ (n : Note). n.touch) (set-same notes k opened_note here-within)
+
+  pending-same : (j : ℕ) → (note_at entered j).pending ≡ (note_at notes j).pending
+  pending-same j = set-field (λ (n : Note). n.pending) notes k j opened_note here-within refl
+
+  possible-same : (j : ℕ) → (note_at entered j).possible ≡ (note_at notes j).possible
+  possible-same j = set-field (λ (n : Note). n.possible) notes k j opened_note here-within refl
+
+  blocker-same : (j : ℕ) → (note_at entered j).blocker ≡ (note_at notes j).blocker
+  blocker-same j = set-field (λ (n : Note). n.blocker) notes k j opened_note here-within refl
+
+  waiter-same : (j : ℕ) → (note_at entered j).waiter ≡ (note_at notes j).waiter
+  waiter-same j = set-field (λ (n : Note). n.waiter) notes k j opened_note here-within refl
+
+  early : (j : ℕ) → j < k → j ≢ k
+  early j lt same = omega (arith, lt, same)
+
+  touch-same : (j : ℕ) → j < k → (note_at entered j).touch ≡ (note_at notes j).touch
+  touch-same j lt = ap (λ (n : Note). n.touch) (set-other notes k j opened_note (early j lt))
+
+  meets-same : (i j : ℕ) → i < k → j < k → is_in_way queue entered i (touched_at queue entered j)
+      ≡ is_in_way queue notes i (touched_at queue notes j)
+  meets-same i j lt_i lt_j = λ x.
+      (pending-same i x) && share (touched_as (touch-same i lt_i x) (ask_at queue i))
+      (touched_as (touch-same j lt_j x) (ask_at queue j))
+
+  reads-more : (j : ℕ) → raised w k t ≤ j → j < suc k → (note_at entered j).pending ≡ true
+      → only_reads (note_at entered j).touch ≡ true
+  reads-more j from lt on = by (only_reads t) refl
+    where
+      by : (b : Bool) → only_reads t ≡ b → only_reads (note_at entered j).touch ≡ true
+      by true reads =
+          by_place j k (only_reads (note_at entered j).touch ≡ true)
+          (λ at.
+          subst (λ (i : ℕ). only_reads (note_at entered i).touch ≡ true) (sym at) (ap only_reads touch-here ∙ reads))
+          (λ apart.
+          ap only_reads (touch-same j (below j k lt apart))
+          ∙ is.reads j (let f : w ≤ j = rw reads at from in f) (below j k lt apart) (sym (pending-same j) ∙ on))
+      by false writes = absurd (let f : suc k ≤ j = rw writes at from in omega (arith, f, lt))
+
+  last-more : (j : ℕ) → suc j < suc k → (note_at entered j).pending ≡ true
+      → is_all (note_at entered j).touch ≡ false
+  last-more j lt on =
+      let before : j < k = omega (arith, lt) in
+      ap is_all (touch-same j before)
+      ∙ by_place (suc j) k (is_all (note_at notes j).touch ≡ false)
+      (λ at. last j at (sym (pending-same j) ∙ on))
+      (λ apart. is.last j (below (suc j) k lt apart) (sym (pending-same j) ∙ on))
+
+  pub entered-noted : IsNoted queue entered f (suc k) (raised w k t) p
+  entered-noted = record {
+    same_length = length-set notes k opened_note ∙ is.same_length;
+    within = some;
+    front = is.front;
+    passed = λ j lt. pending-same j ∙ is.passed j lt;
+    reads = reads-more;
+    counted =
+        let same = sum_by-set (λ (n : Note). as_count n.possible) notes k opened_note blank here-within in
+        let count = is.counted in
+        omega (arith, same, count);
+    last = last-more;
+    behind = λ j from within.
+        let both = is.behind j (omega (arith, from)) within in
+        (pending-same j ∙ both.0, possible-same j ∙ both.1);
+    free = λ j lt on yes.
+        by_place j k (IsFree queue entered j)
+        (λ at.
+        absurd (true≢false (sym (sym (possible-same j) ∙ yes)
+        ∙ (is.behind j (omega (arith, at)) (omega (arith, at, some))).1)))
+        (λ apart i before.
+        meets-same i j (let at = below j k lt apart in omega (arith, before, at)) (below j k lt apart)
+        ∙ is.free j (below j k lt apart) (sym (pending-same j) ∙ on) (sym (possible-same j) ∙ yes) i before);
+  }
+
+  pub entered-pending : (note_at entered k).pending ≡ true
+  entered-pending = pending-same k ∙ (is.behind k (omega arith) some).0
+
+  pub entered-waits : (note_at entered k).possible ≡ false
+  entered-waits = possible-same k ∙ (is.behind k (omega arith) some).1
+
+  pub entered-blocked : AreBlocked queue notes k → AreBlocked queue entered k
+  entered-blocked blocked j lt on off =
+      let old = blocked j lt (sym (pending-same j) ∙ on) (sym (possible-same j) ∙ off) in
+      let before = old.before in
+      record {
+        blocker = old.blocker;
+        back = ap (λ (n : ℕ). old.blocker + n) (blocker-same j) ∙ old.back;
+        before = old.before;
+        in_way = meets-same old.blocker j (omega (arith, before, lt)) lt ∙ old.in_way;
+        reached =
+            let same = blocker-same j in
+            let reach = waiter-same old.blocker in
+            let reached = old.reached in
+            omega (arith, same, reach, reached);
+      }
+
+  pub entered-marks : touched_as t (ask_at queue k) ≡ touched s (ask_at queue k) → IsMarked s queue notes k
+      → IsMarked s queue entered (suc k)
+  entered-marks known marks = record {
+    marked = λ j. pending-same j ∙ marks.marked j;
+    known = λ j lt on.
+        by_place j k (touched_at queue entered j ≡ touched s (ask_at queue j))
+        (λ at.
+        subst (λ (i : ℕ). touched_at queue entered i ≡ touched s (ask_at queue i)) (sym at)
+        (ap (λ (u : Touch). touched_as u (ask_at queue k)) touch-here ∙ known))
+        (λ apart.
+        ap (λ (u : Touch). touched_as u (ask_at queue j)) (touch-same j (below j k lt apart))
+        ∙ marks.known j (below j k lt apart) (sym (pending-same j) ∙ on));
+    replies = λ j worked. possible-same j ∙ marks.replies j (sym (pending-same j) ∙ worked);
+  }

@@ -1,0 +1,28 @@
+use Rattle.std.proofs.Common.{List, suc, subst}
+use Rattle.sftp_server.specs.declared.readiness.Note.{Note}
+use Rattle.sftp_server.specs.Readiness.{IsPlaced}
+use Rattle.sftp_server.proofs.Notes.{entered, entered-blocked, entered-marks, blocked-placed, marks-alike}
+use Rattle.sftp_server.proofs.readiness.Readiness.enter.Goals as goal
+
+pub returns-clause-notes : goal.returns-clause-notes
+returns-clause-notes c =
+    let s = c.args.session.now in
+    let queue = c.args.queue.now in
+    let old = c.args.self.now in
+    let k = old.opened in
+    let touch = c.touch.ensures.notes.0 in
+    let is = c.requires.notes.noted in
+    let before = entered s queue old.notes.items old.first_pending k old.writers old.possible touch is c.requires.some
+    c.requires.last in
+    let after = c.place.new.self.notes.items in
+    let placed : IsPlaced queue before after k =
+    subst (λ (notes : List Note). IsPlaced queue notes after k) c.touch.ensures.notes.2 c.place.ensures.placed in
+    record {
+      noted = c.place.ensures.noted;
+      blocked = rw (c.place.ensures.size, c.touch.ensures.size) (blocked-placed queue before after k
+          (entered-blocked s queue old.notes.items old.first_pending k old.writers old.possible touch is c.requires.some
+          c.requires.last c.requires.notes.blocked) placed);
+      marks = rw (c.place.ensures.size, c.touch.ensures.size) (marks-alike s queue before after (suc k)
+          (entered-marks s queue old.notes.items old.first_pending k old.writers old.possible touch is c.requires.some
+          c.requires.last c.touch.ensures.notes.1 c.requires.notes.marks) placed.alike);
+    }

@@ -1,0 +1,191 @@
+-- What is noted of the requests of a queue, so that the server knows which of them are ready without going over those
+-- before. The requests up to the first pending one that touches everything are open: no request after it can be ready,
+-- and what an open request touches stays until that one is done.
+use Rattle.std.specs.Prelude.{◌≡◌, ◌≢◌, ◌<◌, ◌≤◌, ◌+◌, ◌&&◌, ℕ, suc, Bool, true, false, List, []}
+use Rattle.std.specs.Prelude.{◌-◌, Option, Some, None, length, get_or, set, max, slice_get, is_some}
+use Rattle.std.specs.Prelude.{if◌then◌else◌}
+use Rattle.std.specs.List.{sum_by}
+use Rattle.sftp_wire.specs.declared.packets.Ask.{Ask}
+use Rattle.sftp_wire.specs.declared.packets.Ask.TheVariants.{Readdir}
+use Rattle.sftp_handles.specs.declared.touch.Touch.{Touch}
+use Rattle.sftp_handles.specs.declared.touch.Touch.TheVariants.{Nothing, ReadsFile, WritesFile, TakesNames, Everything}
+use Rattle.sftp_handles.specs.Clash.{Touched, touched, share}
+use Rattle.sftp_handles.specs.Touch.{touched_as}
+use Rattle.sftp_handles.specs.State.{State}
+use Rattle.sftp_server.specs.declared.queue.Entry.{Entry}
+use Rattle.sftp_server.specs.declared.readiness.Note.{Note}
+use Rattle.sftp_server.specs.Machine.{is_pending_at, reply_at}
+
+-- ---- what the notes say
+
+-- the note of a request that is sent
+abbrev pub blank : Note
+blank = record { touch = Nothing; pending = false; possible = false; blocker = 0; waiter = 0 }
+
+-- the note of the request at the position
+abbrev pub note_at : List Note → ℕ → Note
+note_at notes k = get_or notes k blank
+
+abbrev pub ask_in : Option Entry → Ask
+ask_in None = Readdir []
+ask_in (Some entry) = entry.request.ask
+
+-- what the request at the position asks
+abbrev pub ask_at : List Entry → ℕ → Ask
+ask_at queue k = ask_in (slice_get queue k)
+
+-- what it touches by its note
+abbrev pub touched_at : List Entry → List Note → ℕ → Touched
+touched_at queue notes k = touched_as (note_at notes k).touch (ask_at queue k)
+
+-- by its note, the request at the position is pending and clashes with one that touches this
+abbrev pub is_in_way : List Entry → List Note → ℕ → Touched → Bool
+is_in_way queue notes k at = (note_at notes k).pending && share (touched_at queue notes k) at
+
+-- no earlier request is in the way of the one at the position
+abbrev pub IsFree : List Entry → List Note → ℕ → Type 0
+IsFree queue notes k = (j : ℕ) → j < k → is_in_way queue notes j (touched_at queue notes k) ≡ false
+
+-- an earlier request, this far back, is in the way
+abbrev pub IsBlockedBack : List Entry → List Note → ℕ → ℕ → Type 0
+IsBlockedBack queue notes k back =
+    (j : ℕ) × (j + back ≡ k) × (j < k) × (is_in_way queue notes j (touched_at queue notes k) ≡ true)
+
+-- The request at the position waits for an earlier one, which is in its way: its note says how far back that is, and
+-- the note of the earlier one reaches at least as far forward.
+pub record IsBlocked (queue : List Entry) (notes : List Note) (k : ℕ) : Type 0 where
+  pub blocker : ℕ
+  pub back : blocker + (note_at notes k).blocker ≡ k
+  pub before : blocker < k
+  pub in_way : is_in_way queue notes blocker (touched_at queue notes k) ≡ true
+  pub reached : (note_at notes k).blocker ≤ (note_at notes blocker).waiter
+
+-- whether nothing is changed
+abbrev pub only_reads : Touch → Bool
+only_reads Nothing = true
+only_reads (ReadsFile number) = true
+only_reads (WritesFile number) = false
+only_reads TakesNames = false
+only_reads Everything = false
+
+-- whether everything is touched
+abbrev pub is_all : Touch → Bool
+is_all Nothing = false
+is_all (ReadsFile number) = false
+is_all (WritesFile number) = false
+is_all TakesNames = false
+is_all Everything = true
+
+abbrev pub as_count : Bool → ℕ
+as_count true = 1
+as_count false = 0
+
+-- how many notes say that an act is possible
+abbrev pub possible_count : List Note → ℕ
+possible_count notes = sum_by (λ (note : Note). as_count note.possible) notes
+
+-- ---- what the notes keep
+
+-- Of a queue: no request before `first_pending` is pending. Those before `opened` are open; the last of them alone may
+-- touch everything; those at `writers` and after it only read. The others are pending, and not possible. `possible`
+-- counts the acts that are possible, and an open request that is pending and possible is free.
+pub record IsNoted (queue : List Entry) (notes : List Note) (first_pending opened writers possible : ℕ) : Type 0 where
+  pub same_length : length notes ≡ length queue
+  pub within : opened ≤ length queue
+  pub front : first_pending ≤ length queue
+  pub passed : (k : ℕ) → k < first_pending → (note_at notes k).pending ≡ false
+  pub reads : (k : ℕ) → writers ≤ k → k < opened → (note_at notes k).pending ≡ true
+      → only_reads (note_at notes k).touch ≡ true
+  pub counted : possible ≡ possible_count notes
+  pub last : (k : ℕ) → suc k < opened → (note_at notes k).pending ≡ true → is_all (note_at notes k).touch ≡ false
+  pub behind : (k : ℕ) → opened ≤ k → k < length queue
+      → ((note_at notes k).pending ≡ true) × ((note_at notes k).possible ≡ false)
+  pub free : (k : ℕ) → k < opened → (note_at notes k).pending ≡ true → (note_at notes k).possible ≡ true
+      → IsFree queue notes k
+
+-- the open requests that are pending and not possible wait for others
+abbrev pub AreBlocked : List Entry → List Note → ℕ → Type 0
+AreBlocked queue notes opened =
+    (k : ℕ) → k < opened → (note_at notes k).pending ≡ true → (note_at notes k).possible ≡ false
+    → IsBlocked queue notes k
+
+-- the same, but for those at `from` to `to` that waited for the one at `done`
+abbrev pub AreBlockedBut : List Entry → List Note → ℕ → ℕ → ℕ → ℕ → Type 0
+AreBlockedBut queue notes opened done from to =
+    (k : ℕ) → k < opened → (note_at notes k).pending ≡ true → (note_at notes k).possible ≡ false
+    → (from ≤ k → k ≤ to → done + (note_at notes k).blocker ≢ k) → IsBlocked queue notes k
+
+-- the last open request is pending and touches everything
+pub record IsShut (notes : List Note) (opened : ℕ) : Type 0 where
+  pub last : ℕ
+  pub position : suc last ≡ opened
+  pub pending : (note_at notes last).pending ≡ true
+  pub touches : is_all (note_at notes last).touch ≡ true
+
+-- ---- the notes of a queue in a state
+
+-- Each note says whether its request is pending, and what it touches in the state while it is pending and open; of one
+-- that is not pending, whether there is a reply to be sent.
+pub record IsMarked (s : State) (queue : List Entry) (notes : List Note) (opened : ℕ) : Type 0 where
+  pub marked : (k : ℕ) → (note_at notes k).pending ≡ is_pending_at queue k
+  pub known : (k : ℕ) → k < opened → (note_at notes k).pending ≡ true
+      → touched_at queue notes k ≡ touched s (ask_at queue k)
+  pub replies : (k : ℕ) → (note_at notes k).pending ≡ false
+      → (note_at notes k).possible ≡ is_some (reply_at queue k)
+
+-- these are the notes of the queue in the state
+pub record AreNotes (s : State) (queue : List Entry) (notes : List Note) (first_pending opened writers possible : ℕ)
+    : Type 0 where
+  pub noted : IsNoted queue notes first_pending opened writers possible
+  pub blocked : AreBlocked queue notes opened
+  pub marks : IsMarked s queue notes opened
+
+-- all requests are open that can be ready
+abbrev pub IsOpened : List Entry → List Note → ℕ → Type 0
+IsOpened queue notes opened = opened < length queue → IsShut notes opened
+
+-- ---- what the steps change
+
+-- no request is in the way of the one at `k` from a position on
+abbrev pub IsFreeFrom : List Entry → List Note → ℕ → ℕ → Type 0
+IsFreeFrom queue notes k from =
+    (j : ℕ) → from ≤ j → j < k → is_in_way queue notes j (touched_at queue notes k) ≡ false
+
+-- the request at the position is noted as waiting for the one that is so far back
+abbrev pub held : List Note → ℕ → ℕ → List Note
+held notes k back =
+    let waits = set notes k (record (note_at notes k) { blocker = back }) in
+    set waits (k - back)
+    (record (note_at waits (k - back)) { waiter = max (note_at waits (k - back)).waiter back })
+
+-- the notes say the same of what each request touches, of which are pending, and of the replies
+pub record AreAlike (before after : List Note) : Type 0 where
+  pub touch : (k : ℕ) → (note_at after k).touch ≡ (note_at before k).touch
+  pub pending : (k : ℕ) → (note_at after k).pending ≡ (note_at before k).pending
+  pub replies : (k : ℕ) → (note_at before k).pending ≡ false
+      → (note_at after k).possible ≡ (note_at before k).possible
+
+-- the request at the position was judged; of the other notes at most `waiter` grew
+pub record IsPlaced (queue : List Entry) (before after : List Note) (k : ℕ) : Type 0 where
+  pub alike : AreAlike before after
+  pub possible : (j : ℕ) → j ≢ k → (note_at after j).possible ≡ (note_at before j).possible
+  pub blocker : (j : ℕ) → j ≢ k → (note_at after j).blocker ≡ (note_at before j).blocker
+  pub waiter : (j : ℕ) → (note_at before j).waiter ≤ (note_at after j).waiter
+  pub blocked : (note_at after k).possible ≡ false → IsBlocked queue after k
+
+-- the request at the position is pending and waits for the one at `done`
+pub record IsWaiting (notes : List Note) (k done : ℕ) : Type 0 where
+  pub pending : (note_at notes k).pending ≡ true
+  pub possible : (note_at notes k).possible ≡ false
+  pub blocker : done + (note_at notes k).blocker ≡ k
+
+-- the position from which on open requests only read, after one more was opened that touches this
+abbrev pub raised : ℕ → ℕ → Touch → ℕ
+raised writers k touch = if only_reads touch then writers else suc k
+
+-- the note at the position says what its request touches in the state, and `writers` was raised for it
+abbrev pub IsTouched : State → List Entry → ℕ → List Note → ℕ → List Note → ℕ → Type 0
+IsTouched s queue k before writers after raised_writers =
+    (touch : Touch) × (touched_as touch (ask_at queue k) ≡ touched s (ask_at queue k))
+    × (after ≡ set before k (record (note_at before k) { touch = touch }))
+    × (raised_writers ≡ raised writers k touch)

@@ -1,0 +1,504 @@
+//! Which requests of a queue are ready, known without going over those before.
+ghost use Rattle.std.specs.Prelude.{◌≡◌, ◌≢◌, ◌+◌, ◌-◌, ◌<◌, ◌≤◌, ◌&&◌, ◌++◌, ℕ, suc, [], ◌∷◌, true, false};
+ghost use Rattle.std.specs.Prelude.{IsTrue, IfOk, OnOk, length, take, drop, set};
+ghost use Rattle.std.specs.VecDeque.{deque_len, deque_capacity};
+ghost use Rattle.sftp_handles.specs.Touch.{touched_as};
+ghost use Rattle.sftp_server.specs.Readiness.{blank, note_at, touched_at, ask_at, is_in_way, IsFree, IsBlockedBack};
+ghost use Rattle.sftp_server.specs.Readiness.{IsPlaced, AreAlike, possible_count, IsNoted, AreBlocked, AreBlockedBut};
+ghost use Rattle.sftp_server.specs.Readiness.{IsShut, IsMarked, AreNotes, IsOpened, IsTouched};
+ghost use Rattle.sftp_server.specs.Readiness as words;
+
+use crate::queue::Queue;
+use sftp_handles::{Session, SlabTable, Touch};
+use sftp_wire::Ask;
+use std::alloc::{AllocError, Global};
+use std::collections::VecDeque;
+
+/// What is noted of a request.
+#[derive(Clone, Copy)]
+pub struct Note {
+    /// What it touches, while it is open and pending.
+    pub touch: Touch,
+    /// It is not done yet.
+    pub pending: bool,
+    /// It is ready, or it is done and its reply is not sent yet.
+    pub possible: bool,
+    /// How far back a pending request is that it waits for, if it waits for one.
+    pub blocker: usize,
+    /// How far forward requests may be that wait for this one.
+    pub waiter: usize,
+}
+
+/// A note for each request of a queue. The requests up to the first pending one that touches everything are open: no
+/// request after it can be ready, and what they touch stays until it is done.
+#[derive(Drop)]
+pub(crate) struct Readiness {
+    notes: VecDeque<Note>,
+    /// No request before this position is pending.
+    first_pending: usize,
+    /// How many requests are open.
+    opened: usize,
+    /// No open request from this position on changes what it touches.
+    writers: usize,
+    /// How many acts are possible: requests that are ready, and replies to be sent.
+    possible: usize,
+}
+
+impl Readiness {
+    /// The notes of no requests.
+    pub(crate) fn new(alloc: Global) -> Readiness
+        ensures notes { result.notes.items ≡ [] }
+        ensures first_pending { result.first_pending ≡ 0 }
+        ensures size { result.opened ≡ 0 }
+        ensures writers { result.writers ≡ 0 }
+        ensures possible { result.possible ≡ 0 }
+    {
+        Readiness {
+            notes: VecDeque::new(alloc),
+            first_pending: 0,
+            opened: 0,
+            writers: 0,
+            possible: 0,
+        }
+    }
+
+    /// Whether the request at this position is ready.
+    pub(crate) fn is_ready(&self, k: usize) -> bool
+        ensures { result ≡ ((note_at self.now.notes.items k).pending && (note_at self.now.notes.items k).possible) }
+    {
+        match self.notes.get(k) {
+            Some(note) => note.pending && note.possible,
+            None => false,
+        }
+    }
+
+    /// Whether the request at this position is pending.
+    pub(crate) fn is_pending(&self, k: usize) -> bool
+        ensures { result ≡ (note_at self.now.notes.items k).pending }
+    {
+        match self.notes.get(k) {
+            Some(note) => note.pending,
+            None => false,
+        }
+    }
+
+    /// How many acts are possible.
+    pub(crate) fn possible(&self) -> usize
+        ensures { result ≡ self.now.possible }
+    {
+        self.possible
+    }
+
+    /// The position of the act of this number, from 0, among those possible.
+    pub(crate) fn choice(&self, number: usize) -> usize
+        requires { number < possible_count self.now.notes.items }
+        ensures within { result < length self.now.notes.items }
+        ensures possible { (note_at self.now.notes.items result).possible ≡ true }
+        ensures number { possible_count (take result self.now.notes.items) ≡ number }
+    {
+        let mut before = 0;
+        let mut k = 0;
+        'each: while k < self.notes.len() {
+            if self.notes[k].possible {
+                if before == number {
+                    return k;
+                }
+                before += 1;
+            }
+            k += 1;
+        }
+        unreachable!()
+    }
+
+    /// Reserves memory for one note more.
+    ///
+    /// # Errors
+    ///
+    /// `AllocError` if memory runs out. Nothing changes but the capacity.
+    pub(crate) fn reserve(&mut self) -> Result<(), AllocError>
+        ensures notes { self.new.notes.items ≡ self.old.notes.items }
+        ensures first_pending { self.new.first_pending ≡ self.old.first_pending }
+        ensures size { self.new.opened ≡ self.old.opened }
+        ensures writers { self.new.writers ≡ self.old.writers }
+        ensures possible { self.new.possible ≡ self.old.possible }
+        ensures room { OnOk result (deque_len self.new.notes < deque_capacity self.new.notes) }
+    {
+        self.notes.reserve(1)?;
+        Ok(())
+    }
+
+    /// Notes the last request of the queue, which is pending.
+    pub(crate) fn push(&mut self, session: &Session<SlabTable>, queue: &Queue)
+        requires room { deque_len self.old.notes < deque_capacity self.old.notes }
+        requires notes { AreNotes session.now queue.now
+            (self.old.notes.items ++ record blank { pending = true } ∷ []) self.old.first_pending self.old.opened
+            self.old.writers self.old.possible }
+        ensures notes { AreNotes session.now queue.now self.new.notes.items self.new.first_pending self.new.opened
+            self.new.writers self.new.possible }
+        ensures opened { IsOpened queue.now self.new.notes.items self.new.opened }
+    {
+        self.notes.push_back_reserved(Note {
+            touch: Touch::Nothing,
+            pending: true,
+            possible: false,
+            blocker: 0,
+            waiter: 0,
+        });
+        self.open_more(session, queue);
+    }
+
+    /// Notes that the request at this position is done, and its reply is to be sent.
+    pub(crate) fn mark_done(&mut self, k: usize)
+        requires { k < length self.old.notes.items }
+        ensures notes { self.new.notes.items
+            ≡ set self.old.notes.items k (record (note_at self.old.notes.items k) { pending = false }) }
+        ensures first_pending { self.new.first_pending ≡ self.old.first_pending }
+        ensures size { self.new.opened ≡ self.old.opened }
+        ensures writers { self.new.writers ≡ self.old.writers }
+        ensures possible { self.new.possible ≡ self.old.possible }
+    {
+        let mut note = self.notes[k];
+        note.pending = false;
+        self.notes[k] = note;
+    }
+
+    /// Looks again at the requests that may be ready since the one at this position is done.
+    pub(crate) fn refresh(&mut self, session: &Session<SlabTable>, queue: &Queue, k: usize)
+        requires within { k < self.old.opened }
+        requires noted { IsNoted queue.now self.old.notes.items self.old.first_pending self.old.opened self.old.writers
+            self.old.possible }
+        requires blocked { AreBlockedBut queue.now self.old.notes.items self.old.opened k (suc k)
+            (k + (note_at self.old.notes.items k).waiter) }
+        requires marks { IsMarked session.now queue.now self.old.notes.items self.old.opened }
+        ensures notes { AreNotes session.now queue.now self.new.notes.items self.new.first_pending self.new.opened
+            self.new.writers self.new.possible }
+        ensures opened { IsOpened queue.now self.new.notes.items self.new.opened }
+    {
+        self.wake(queue, k);
+        self.pass();
+        self.open_more(session, queue);
+    }
+
+    /// Looks again at the open requests that waited for the one at this position.
+    fn wake(&mut self, queue: &Queue, k: usize)
+        requires within { k < self.old.opened }
+        requires noted { IsNoted queue.now self.old.notes.items self.old.first_pending self.old.opened self.old.writers
+            self.old.possible }
+        requires blocked { AreBlockedBut queue.now self.old.notes.items self.old.opened k (suc k)
+            (k + (note_at self.old.notes.items k).waiter) }
+        ensures noted { IsNoted queue.now self.new.notes.items self.new.first_pending self.new.opened self.new.writers
+            self.new.possible }
+        ensures blocked { AreBlocked queue.now self.new.notes.items self.new.opened }
+        ensures alike { AreAlike self.old.notes.items self.new.notes.items }
+        ensures size { self.new.opened ≡ self.old.opened }
+    {
+        let end = self.reach(k);
+        let mut q = k;
+        'each: while q < end {
+            q += 1;
+            if self.is_waiting(q, k) {
+                self.place(queue, q);
+            }
+        }
+    }
+
+    /// The last position at which an open request may wait for the one at `k`.
+    fn reach(&self, k: usize) -> usize
+        requires within { k < self.now.opened }
+        requires all { self.now.opened ≤ length self.now.notes.items }
+        ensures within { result < self.now.opened }
+        ensures reached { (j : ℕ) → j < self.now.opened → j ≤ k + (note_at self.now.notes.items k).waiter → j ≤ result }
+    {
+        let far = self.notes[k].waiter;
+        if far < self.opened - k {
+            k + far
+        } else {
+            self.opened - 1
+        }
+    }
+
+    /// Whether the request at this position waits for the one at `k`.
+    fn is_waiting(&self, q: usize, k: usize) -> bool
+        requires within { q < length self.now.notes.items }
+        requires after { k ≤ q }
+        ensures yes { result ≡ true → words.IsWaiting self.now.notes.items q k }
+        ensures no { result ≡ false → (note_at self.now.notes.items q).pending ≡ true
+            → (note_at self.now.notes.items q).possible ≡ false → k + (note_at self.now.notes.items q).blocker ≢ q }
+    {
+        let note = self.notes[q];
+        note.pending && !note.possible && note.blocker == q - k
+    }
+
+    /// Opens requests until one is pending that touches everything.
+    fn open_more(&mut self, session: &Session<SlabTable>, queue: &Queue)
+        requires { AreNotes session.now queue.now self.old.notes.items self.old.first_pending self.old.opened
+            self.old.writers self.old.possible }
+        ensures notes { AreNotes session.now queue.now self.new.notes.items self.new.first_pending self.new.opened
+            self.new.writers self.new.possible }
+        ensures opened { IsOpened queue.now self.new.notes.items self.new.opened }
+    {
+        'closed: while self.can_open() {
+            self.enter(session, queue);
+        }
+    }
+
+    /// Whether one request more can be opened.
+    fn can_open(&self) -> bool
+        requires { self.now.opened ≤ length self.now.notes.items }
+        ensures some { result ≡ true → self.now.opened < length self.now.notes.items }
+        ensures yes { result ≡ true → (k : ℕ) → suc k ≡ self.now.opened
+            → (note_at self.now.notes.items k).pending ≡ true
+            → words.is_all (note_at self.now.notes.items k).touch ≡ false }
+        ensures no { result ≡ false → self.now.opened < length self.now.notes.items
+            → IsShut self.now.notes.items self.now.opened }
+    {
+        self.opened < self.notes.len() && !self.is_shut()
+    }
+
+    /// Whether the last open request is pending and touches everything.
+    fn is_shut(&self) -> bool
+        requires { self.now.opened ≤ length self.now.notes.items }
+        ensures yes { result ≡ true → IsShut self.now.notes.items self.now.opened }
+        ensures no { result ≡ false → (k : ℕ) → suc k ≡ self.now.opened → (note_at self.now.notes.items k).pending ≡ true
+            → words.is_all (note_at self.now.notes.items k).touch ≡ false }
+    {
+        if self.opened == 0 {
+            return false;
+        }
+        let note = self.notes[self.opened - 1];
+        note.pending && is_all(note.touch)
+    }
+
+    /// Opens one request more.
+    fn enter(&mut self, session: &Session<SlabTable>, queue: &Queue)
+        requires notes { AreNotes session.now queue.now self.old.notes.items self.old.first_pending self.old.opened
+            self.old.writers self.old.possible }
+        requires some { self.old.opened < length queue.now }
+        requires last { (k : ℕ) → suc k ≡ self.old.opened → (note_at self.old.notes.items k).pending ≡ true
+            → words.is_all (note_at self.old.notes.items k).touch ≡ false }
+        ensures notes { AreNotes session.now queue.now self.new.notes.items self.new.first_pending self.new.opened
+            self.new.writers self.new.possible }
+        ensures size { self.new.opened ≡ suc self.old.opened }
+    {
+        let k = self.opened;
+        self.touch(session, queue, k);
+        self.place(queue, k);
+    }
+
+    /// Notes what the request at this position touches, which is then open.
+    fn touch(&mut self, session: &Session<SlabTable>, queue: &Queue, k: usize)
+        requires here { k ≡ self.old.opened }
+        requires within { k < length queue.now }
+        requires same { length self.old.notes.items ≡ length queue.now }
+        ensures notes { IsTouched session.now queue.now k self.old.notes.items self.old.writers self.new.notes.items
+            self.new.writers }
+        ensures first_pending { self.new.first_pending ≡ self.old.first_pending }
+        ensures size { self.new.opened ≡ suc self.old.opened }
+        ensures possible { self.new.possible ≡ self.old.possible }
+    {
+        let touch = match queue.ask(k) {
+            Some(ask) => session.touch(ask),
+            None => unreachable!(),
+        };
+        let mut note = self.notes[k];
+        note.touch = touch;
+        self.notes[k] = note;
+        if !only_reads(touch) {
+            self.writers = k + 1;
+        }
+        self.opened = k + 1;
+    }
+
+    /// Judges whether the open request at this position, which is pending, is ready.
+    fn place(&mut self, queue: &Queue, k: usize)
+        requires within { k < self.old.opened }
+        requires noted { IsNoted queue.now self.old.notes.items self.old.first_pending self.old.opened self.old.writers
+            self.old.possible }
+        requires pending { (note_at self.old.notes.items k).pending ≡ true }
+        requires waits { (note_at self.old.notes.items k).possible ≡ false }
+        ensures noted { IsNoted queue.now self.new.notes.items self.new.first_pending self.new.opened self.new.writers
+            self.new.possible }
+        ensures placed { IsPlaced queue.now self.old.notes.items self.new.notes.items k }
+        ensures size { self.new.opened ≡ self.old.opened }
+    {
+        let back = self.look(queue, k);
+        if back == 0 {
+            self.allow(k);
+        } else {
+            self.hold(k, back);
+        }
+    }
+
+    /// Notes that the request at this position is ready.
+    fn allow(&mut self, k: usize)
+        requires within { k < length self.old.notes.items }
+        requires count { self.old.possible ≤ length self.old.notes.items }
+        ensures notes { self.new.notes.items
+            ≡ set self.old.notes.items k (record (note_at self.old.notes.items k) { possible = true }) }
+        ensures first_pending { self.new.first_pending ≡ self.old.first_pending }
+        ensures size { self.new.opened ≡ self.old.opened }
+        ensures writers { self.new.writers ≡ self.old.writers }
+        ensures possible { self.new.possible ≡ suc self.old.possible }
+    {
+        let mut note = self.notes[k];
+        note.possible = true;
+        self.notes[k] = note;
+        self.possible += 1;
+    }
+
+    /// Notes that the request at this position waits for the one that is so far back.
+    fn hold(&mut self, k: usize, back: usize)
+        requires within { k < length self.old.notes.items }
+        requires before { back ≤ k }
+        requires some { back ≢ 0 }
+        ensures notes { self.new.notes.items ≡ words.held self.old.notes.items k back }
+        ensures first_pending { self.new.first_pending ≡ self.old.first_pending }
+        ensures size { self.new.opened ≡ self.old.opened }
+        ensures writers { self.new.writers ≡ self.old.writers }
+        ensures possible { self.new.possible ≡ self.old.possible }
+    {
+        let mut note = self.notes[k];
+        note.blocker = back;
+        self.notes[k] = note;
+        let mut earlier = self.notes[k - back];
+        earlier.waiter = earlier.waiter.max(back);
+        self.notes[k - back] = earlier;
+    }
+
+    /// How far back a pending request is that clashes with the open one at this position, or 0 if none does.
+    fn look(&self, queue: &Queue, k: usize) -> usize
+        requires within { k < self.now.opened }
+        requires noted { IsNoted queue.now self.now.notes.items self.now.first_pending self.now.opened self.now.writers
+            self.now.possible }
+        ensures free { result ≡ 0 → IsFree queue.now self.now.notes.items k }
+        ensures blocked { result ≢ 0 → IsBlockedBack queue.now self.now.notes.items k result }
+    {
+        let touch = self.notes[k].touch;
+        match queue.ask(k) {
+            Some(ask) => self.search(queue, k, touch, ask),
+            None => unreachable!(),
+        }
+    }
+
+    /// The same, by what the request asks and touches.
+    fn search(&self, queue: &Queue, k: usize, touch: Touch, ask: &Ask) -> usize
+        requires within { k < self.now.opened }
+        requires noted { IsNoted queue.now self.now.notes.items self.now.first_pending self.now.opened self.now.writers
+            self.now.possible }
+        requires touch { touch ≡ (note_at self.now.notes.items k).touch }
+        requires ask { ask.now ≡ ask_at queue.now k }
+        ensures free { result ≡ 0 → IsFree queue.now self.now.notes.items k }
+        ensures blocked { result ≢ 0 → IsBlockedBack queue.now self.now.notes.items k result }
+    {
+        let mut j = self.start(touch, k);
+        'down: while j > self.first_pending {
+            j -= 1;
+            if self.is_in_way(queue, j, touch, ask) {
+                return k - j;
+            }
+        }
+        0
+    }
+
+    /// A position before which all requests stand that may clash with the one at `k`, which touches this.
+    fn start(&self, touch: Touch, k: usize) -> usize
+        ensures most { result ≤ k }
+        ensures rest { (j : ℕ) → result ≤ j → j < k → (self.now.writers ≤ j) × (words.only_reads touch ≡ true) }
+    {
+        if only_reads(touch) && self.writers < k {
+            self.writers
+        } else {
+            k
+        }
+    }
+
+    /// Whether the request at this position is pending and clashes with one that asks and touches this.
+    fn is_in_way(&self, queue: &Queue, k: usize, touch: Touch, ask: &Ask) -> bool
+        requires within { k < length queue.now }
+        requires same { length self.now.notes.items ≡ length queue.now }
+        ensures { result ≡ is_in_way queue.now self.now.notes.items k (touched_as touch ask.now) }
+    {
+        let note = self.notes[k];
+        if !note.pending {
+            return false;
+        }
+        match queue.ask(k) {
+            Some(earlier) => note.touch.shares(earlier, touch, ask),
+            None => unreachable!(),
+        }
+    }
+
+    /// Passes the requests at the front that are not pending.
+    fn pass(&mut self)
+        requires front { self.old.first_pending ≤ length self.old.notes.items }
+        requires passed { (k : ℕ) → k < self.old.first_pending → (note_at self.old.notes.items k).pending ≡ false }
+        ensures front { self.new.first_pending ≤ length self.new.notes.items }
+        ensures passed { (k : ℕ) → k < self.new.first_pending → (note_at self.new.notes.items k).pending ≡ false }
+        ensures notes { self.new.notes.items ≡ self.old.notes.items }
+        ensures size { self.new.opened ≡ self.old.opened }
+        ensures writers { self.new.writers ≡ self.old.writers }
+        ensures possible { self.new.possible ≡ self.old.possible }
+    {
+        'passed: while self.first_pending < self.notes.len() && !self.notes[self.first_pending].pending {
+            self.first_pending += 1;
+        }
+    }
+
+    /// Notes that the reply of the request at this position was sent, and that so many requests left the front.
+    pub(crate) fn mark_sent(&mut self, k: usize, count: usize)
+        requires within { k < length self.old.notes.items }
+        requires some { 1 ≤ self.old.possible }
+        ensures notes { self.new.notes.items ≡ drop count
+            (set self.old.notes.items k (record (note_at self.old.notes.items k) { possible = false })) }
+        ensures first_pending { self.new.first_pending ≡ self.old.first_pending - count }
+        ensures size { self.new.opened ≡ self.old.opened - count }
+        ensures writers { self.new.writers ≡ self.old.writers - count }
+        ensures possible { self.new.possible ≡ self.old.possible - 1 }
+    {
+        let mut note = self.notes[k];
+        note.possible = false;
+        self.notes[k] = note;
+        self.possible -= 1;
+        drop_front(&mut self.notes, count);
+        self.first_pending = self.first_pending.saturating_sub(count);
+        self.opened = self.opened.saturating_sub(count);
+        self.writers = self.writers.saturating_sub(count);
+    }
+}
+
+/// Takes so many notes off the front.
+fn drop_front(notes: &mut VecDeque<Note>, count: usize)
+    ensures { notes.new.items ≡ drop count notes.old.items }
+{
+    let mut left = count;
+    'each: while left > 0 {
+        notes.pop_front();
+        left -= 1;
+    }
+}
+
+/// Whether a request that touches this changes nothing.
+fn only_reads(touch: Touch) -> bool
+    ensures { result ≡ words.only_reads touch }
+{
+    match touch {
+        Touch::Nothing => true,
+        Touch::ReadsFile(_) => true,
+        Touch::WritesFile(_) => false,
+        Touch::TakesNames => false,
+        Touch::Everything => false,
+    }
+}
+
+/// Whether a request that touches this touches everything.
+fn is_all(touch: Touch) -> bool
+    ensures { result ≡ words.is_all touch }
+{
+    match touch {
+        Touch::Nothing => false,
+        Touch::ReadsFile(_) => false,
+        Touch::WritesFile(_) => false,
+        Touch::TakesNames => false,
+        Touch::Everything => true,
+    }
+}
