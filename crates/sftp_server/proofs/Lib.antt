@@ -9,3 +9,4 @@ pub mod Sessions
 pub mod ChoiceLaws
 pub mod ScriptLaws
 pub mod Worked
+pub mod Notes

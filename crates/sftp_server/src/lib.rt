@@ -11,6 +11,7 @@ mod input;
 pub mod laws;
 mod opening;
 mod queue;
+mod readiness;
 mod refusals;
 mod schedules;
 mod scripts;

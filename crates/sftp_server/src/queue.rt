@@ -6,6 +6,7 @@ ghost use Rattle.sftp_server.specs.Machine.{is_unsent, is_pending, is_pending_at
 ghost use Rattle.sftp_server.specs.Queue.{done_count, first_pending_of, next_request_of, with_progress, sent_in};
 ghost use Rattle.sftp_server.specs.Queue.{done_position, done_positions, IsSplit};
 ghost use Rattle.sftp_server.specs.Queue.{HasReply};
+ghost use Rattle.sftp_server.specs.Readiness.{ask_at};
 ghost use Rattle.std.specs.Prelude.{◌<◌, ◌≤◌, ◌-◌, map, remove};
 ghost use Rattle.std.specs.List.Sorted.{IsNonDecreasing};
 ghost use Rattle.std.specs.Option.{option_map};
@@ -14,7 +15,7 @@ ghost use Rattle.std.specs.VecDeque.{deque_len, deque_capacity};
 
 use crate::refusals::Refuse;
 use indexmap::IndexMap;
-use sftp_wire::{Reply, Request};
+use sftp_wire::{Ask, Reply, Request};
 use std::alloc::{AllocError, Global};
 use std::collections::VecDeque;
 use std::marker::Model;
@@ -147,6 +148,17 @@ impl Queue {
     {
         match self.entries.get(self.first_pending) {
             Some(entry) => Some(&entry.request),
+            None => None,
+        }
+    }
+
+    /// What the request at this position asks.
+    pub(crate) fn ask(&self, k: usize) -> Option<&Ask>
+        ensures ask { IfSome result (λ ask. ask.now ≡ ask_at self.now k) }
+        ensures none { IfNone result (length self.now ≤ k) }
+    {
+        match self.entries.get(k) {
+            Some(entry) => Some(&entry.request.ask),
             None => None,
         }
     }
