@@ -107,9 +107,9 @@ def init():
     return packet(INIT, struct.pack(">I", 3))
 
 
-def version(pairs):
-    """A VERSION 3 with these extensions, pairs of name and data."""
-    return packet(VERSION, struct.pack(">I", 3) + b"".join(string(name) + string(data) for name, data in pairs))
+def version(number, pairs):
+    """A VERSION with these extensions, pairs of name and data."""
+    return packet(VERSION, struct.pack(">I", number) + b"".join(string(name) + string(data) for name, data in pairs))
 
 
 def encode(request):
@@ -199,7 +199,7 @@ class Reply:
 
 
 def version_of(data):
-    """The version and the extensions of a VERSION, or Malformed."""
+    """The version and the extensions of a VERSION. Any other packet is Malformed."""
     fields = Fields(data[4:])
     if fields.byte() != VERSION:
         raise Malformed("it is no VERSION")

@@ -86,7 +86,7 @@ class Planner:
         return self.steps
 
     def scene(self):
-        if self.random.random() < 0.5:
+        if self.random.random() < 0.6:
             return refusals.scene(self)
         return self.random.choices(scenes.SCENES, scenes.WEIGHTS)[0](self)
 

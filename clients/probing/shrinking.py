@@ -4,8 +4,9 @@ import os
 
 from probing import groups, sessions, trees, verdicts
 
-# How many sessions one try may take where requests are in flight together, and how many all tries of a group may.
-TRIES, MOST = 12, 400
+# How many sessions one try may take where requests are in flight together: FEW if the difference came in as many of the
+# first ones, else TRIES. And how many all tries of a group may take.
+FEW, TRIES, MOST = 3, 12, 400
 
 
 class Shown:
@@ -23,6 +24,7 @@ class Shrinker:
         self.key = (group.request, group.causes, group.expected, group.found)
         self.tree_file = os.path.join(folder, "shrunk.tree")
         self.played, self.progress = 0, progress
+        self.tries = 1
 
     def shrink(self, steps, tree):
         """What shows the difference with the fewest requests, or None if it did not come again."""
@@ -38,7 +40,12 @@ class Shrinker:
         """One request after the other, if that shows it, which needs no luck; else as many in flight as before."""
         wanted = self.in_flight
         for self.in_flight in sorted({1, wanted}):
+            self.tries = 1 if self.in_flight == 1 else TRIES
             shown = self.show(steps, tree)
+            if shown and self.in_flight > 1:
+                self.tries = 1
+                steady = all(self.show(steps, tree) for _ in range(FEW))
+                self.tries = FEW if steady else TRIES
             if shown:
                 return shown
         return None
@@ -46,7 +53,7 @@ class Shrinker:
     def show(self, steps, tree):
         """The difference in a session of these steps, or None."""
         trees.write(tree, self.tree_file)
-        for _ in range(1 if self.in_flight == 1 else TRIES):
+        for _ in range(self.tries):
             if self.played >= MOST:
                 return None
             self.played += 1

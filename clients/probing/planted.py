@@ -1,0 +1,177 @@
+"""Servers with a bug, for clients/test-probe.
+
+    python3 clients/probing/planted.py BUG COMMAND [ARGUMENT ...]
+
+runs the command, a server without bugs, and stands between it and the client: BUG is the name of a function below that
+changes what passes.
+"""
+import os
+import subprocess
+import sys
+import threading
+
+sys.path.insert(0, os.path.dirname(os.path.dirname(os.path.realpath(__file__))))
+
+import sftp3  # noqa: E402 (the folder above is not searched before)
+
+
+class Bug:
+    """What a server does right: each change gives packets to pass on."""
+
+    def __init__(self):
+        self.names = {}
+
+    def opening(self, packet):
+        return packet
+
+    def requests(self, packets):
+        """What the server gets in place of these requests, which came together."""
+        for packet in packets:
+            asked = sftp3.decode(packet)
+            self.names[asked.number] = asked.name
+        return packets
+
+    def reply(self, packet):
+        """What the client gets in place of this reply."""
+        return self.changed(self.names.get(int.from_bytes(packet[5:9], "big")), packet)
+
+    def changed(self, _name, packet):
+        return packet
+
+
+class wrong_byte(Bug):
+    """The last byte of DATA of five bytes or more is another."""
+
+    def changed(self, _name, packet):
+        if packet[4] != sftp3.DATA or len(packet) < 18:
+            return packet
+        return packet[:-1] + bytes([packet[-1] ^ 1])
+
+
+class lost_write(Bug):
+    """A WRITE behind the first byte is not done, but said to be."""
+
+    def requests(self, packets):
+        kept = []
+        for packet in super().requests(packets):
+            asked = sftp3.decode(packet)
+            if asked.name == "WRITE" and asked.fields[1] > 0:
+                asked.fields[2] = b""
+                packet = sftp3.encode(asked)
+            kept.append(packet)
+        return kept
+
+
+class missing_name(Bug):
+    """A listing lacks its last name, if it has two or more."""
+
+    def changed(self, name, packet):
+        fields = sftp3.Fields(packet[9:])
+        if name != "READDIR" or packet[4] != sftp3.NAME or fields.word() < 2:
+            return packet
+        ends = []
+        while fields.place < len(fields.data):
+            fields.string(), fields.string(), fields.attributes()
+            ends.append(fields.place)
+        body = packet[5:9] + (len(ends) - 1).to_bytes(4, "big") + packet[13:9 + ends[-2]]
+        return sftp3.packet(sftp3.NAME, body)
+
+
+class wrong_code(Bug):
+    """RMDIR that fails is said to be denied."""
+
+    def changed(self, name, packet):
+        if name != "RMDIR" or packet[9:13] != b"\0\0\0\4":
+            return packet
+        return packet[:9] + b"\0\0\0\3" + packet[13:]
+
+
+class told_done(Bug):
+    """RENAME that fails is said to be done."""
+
+    def changed(self, name, packet):
+        if name != "RENAME" or packet[9:13] != b"\0\0\0\4":
+            return packet
+        return packet[:9] + b"\0\0\0\0" + packet[13:]
+
+
+class malformed(Bug):
+    """The reply to READLINK has a byte more than it should."""
+
+    def changed(self, name, packet):
+        return packet if name != "READLINK" else sftp3.packet(packet[4], packet[5:] + b"\0")
+
+
+class crash(Bug):
+    """A path with a byte of 0 ends the server."""
+
+    def requests(self, packets):
+        for packet in packets:
+            asked = sftp3.decode(packet)
+            if any(isinstance(value, bytes) and b"/f\0" in value for value in asked.fields):
+                os._exit(7)
+        return super().requests(packets)
+
+
+class overtaking(Bug):
+    """A READ that came together with the WRITE before it is done first."""
+
+    def requests(self, packets):
+        packets = list(super().requests(packets))
+        for place in range(1, len(packets)):
+            if packets[place - 1][4] == 6 and packets[place][4] == 5:
+                packets[place - 1], packets[place] = packets[place], packets[place - 1]
+        return packets
+
+
+class further_extension(Bug):
+    """No bug: VERSION has an extension more."""
+
+    def opening(self, packet):
+        number, pairs = sftp3.version_of(packet)
+        return sftp3.version(number, pairs + [(b"statvfs@openssh.com", b"2")])
+
+
+def packets_of(data):
+    """The whole packets at the front, and what is left."""
+    found = []
+    while sftp3.length(data) is not None and sftp3.length(data) <= len(data):
+        found.append(data[:sftp3.length(data)])
+        data = data[len(found[-1]):]
+    return found, data
+
+
+def pass_on(source, target, change):
+    """Passes packets on until the stream ends, those that come together at once."""
+    left = b""
+    piece = os.read(source, 1 << 18)
+    while piece:
+        found, left = packets_of(left + piece)
+        for packet in change(found):
+            view = memoryview(packet)
+            while view:
+                view = view[os.write(target, view):]
+        piece = os.read(source, 1 << 18)
+    os.close(target)
+
+
+def main():
+    bug = globals()[sys.argv[1].replace("-", "_")]()
+    server = subprocess.Popen(sys.argv[2:], stdin=subprocess.PIPE, stdout=subprocess.PIPE, bufsize=0)
+    asked = os.dup(server.stdin.fileno())
+    server.stdin.close()
+
+    def requests(packets):
+        first = [packet for packet in packets if packet[4] == sftp3.INIT]
+        return first + list(bug.requests([packet for packet in packets if packet[4] != sftp3.INIT]))
+
+    def replies(packets):
+        return [bug.opening(packet) if packet[4] == sftp3.VERSION else bug.reply(packet) for packet in packets]
+
+    threading.Thread(target=pass_on, args=(0, asked, requests), daemon=True).start()
+    pass_on(server.stdout.fileno(), os.dup(1), replies)
+    os._exit(server.wait())
+
+
+if __name__ == "__main__":
+    main()
