@@ -1,3 +1,4 @@
 pub mod Given
 pub mod Judged
 pub mod FirstFaults
+pub mod OneAccount

@@ -1,5 +1,6 @@
 -- Which files an auditor accepts: those of a starting tree and of a recorded session that account for a run.
 use Rattle.std.specs.Prelude.{◌≡◌, ◌⊎◌, ⊤, ℕ, ◌^◌, ◌-◌, min, List, [], ◌∷◌, ◌++◌, length, Bool, true, false, IsTrue}
+use Rattle.std.specs.Prelude.{Some}
 use Rattle.sftp_transcript.specs.declared.events.Event.{Event}
 use Rattle.sftp_transcript.specs.declared.events.Event.TheVariants.{Asked, Replied}
 use Rattle.sftp_treefile.specs.declared.errors.TreeError.{TreeError}
@@ -141,6 +142,11 @@ StopsFeed start transcript (audit_errors.Transcript error) = FaultAt start trans
 StopsFeed start transcript (audit_errors.Refused refusal) = RefusedAt start transcript refusal
 StopsFeed start transcript audit_errors.NoMemory = ⊤
 StopsFeed start transcript (audit_errors.Tree error) = ⊥
+
+-- a refusal is the auditor's, which returns it from then on, and no request is kept
+abbrev pub HasRefused : AuditError → Audited → Type 0
+HasRefused (audit_errors.Refused refusal) auditor = (auditor.refusal ≡ Some refusal) × (auditor.kept ≡ [])
+HasRefused other auditor = ⊤
 
 -- no other error has `NoMemory` inside
 abbrev pub IsPlain : AuditError → Type 0

@@ -37,11 +37,15 @@ pub struct Auditor {
 }
 
 impl Model for Auditor {
+    ghost use Rattle.std.specs.Prelude.{◌≤◌, length};
+    ghost use Rattle.sftp_transcript.specs.Explained.{window};
     ghost use Rattle.sftp_audit.specs.Auditor.{Audited};
 
     ghost Value = { Audited };
 
     ghost view = { λ a. record { state = a.session; kept = a.ledger; number = a.number; refusal = a.refusal } };
+
+    ghost invariant = { λ a. length a.ledger ≤ window };
 }
 
 impl Auditor {

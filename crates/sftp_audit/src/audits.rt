@@ -6,7 +6,7 @@ ghost use Rattle.sftp_tree.specs.Picture.{picture};
 ghost use Rattle.sftp_handles.specs.State.{State};
 ghost use Rattle.sftp_audit.specs.Auditor.{StandsFor};
 ghost use Rattle.sftp_audit.specs.Audit.{Accounts, IsFirstFault, IsNoJudgement, CountsFailure, IsExcusedBy, IsNew};
-ghost use Rattle.sftp_audit.specs.Audit.{HasStart, IsTreeError, JudgesTree};
+ghost use Rattle.sftp_audit.specs.Audit.{HasStart, HasRefused, IsTreeError, JudgesTree};
 ghost use Rattle.sftp_audit.specs.Audit.{IsPlain, WasFed, StopsFeed, request_count, is_request};
 
 use crate::auditor::Auditor;
@@ -119,8 +119,8 @@ pub fn audit_stream<R: Source>(
 ///
 /// # Errors
 ///
-/// The first error: `Refused` if an event is refused, `Transcript` if the next record has a fault or the source fails,
-/// and `NoMemory` if memory runs out.
+/// The first error: `Refused` if an event is refused, which each later call of `feed` then returns, `Transcript` if the
+/// next record has a fault or the source fails, and `NoMemory` if memory runs out.
 pub fn feed_all<R: Source>(
     auditor: &mut Auditor,
     records: &mut Reader<R>,
@@ -130,6 +130,8 @@ pub fn feed_all<R: Source>(
         → StandsFor start [] auditor.old → WasFed start transcript requests auditor.new) }
     ensures stopped { IfErr result (λ e. (IsNoJudgement e → ⊥) → (start : State) (transcript : List ℕ)
         → IsNew transcript records.old → StandsFor start [] auditor.old → StopsFeed start transcript e) }
+    // After a refusal the auditor returns it from then on, and no request is kept.
+    ensures for_good { IfErr result (λ e. HasRefused e auditor.new) }
     ensures treeless { IfErr result (λ e. IsTreeError e → ⊥) }
     ensures counts { records.old.fault ≡ None → MatchResult result
         (λ _. records.new.ahead.failures ≡ records.old.ahead.failures)

@@ -2,21 +2,40 @@
 //! promise is in the contract.
 ghost use Rattle.std.specs.Prelude.{◌≡◌, ◌≢◌, ◌⊎◌, ℕ, List};
 ghost use Rattle.sftp_transcript.specs.declared.events.Event.{Event};
+ghost use Rattle.sftp_tree.specs.Tree.{Tree};
 ghost use Rattle.sftp_handles.specs.State.{State};
 ghost use Rattle.sftp_handles.specs.Allowed.{Allowed};
-ghost use Rattle.sftp_transcript.specs.Explained.{Explained};
+ghost use Rattle.sftp_transcript.specs.Explained.{Explained, exchanges_of};
 ghost use Rattle.sftp_transcript.specs.Sound.{Sound, IsWaiting};
 ghost use Rattle.sftp_audit.specs.declared.errors.AuditError.{AuditError};
 ghost use Rattle.sftp_audit.specs.declared.errors.AuditError.TheVariants as audit_errors;
 ghost use Rattle.sftp_audit.specs.declared.errors.Refusal.{Refusal};
 ghost use Rattle.sftp_audit.specs.declared.errors.Refusal.TheVariants.{NoMemory};
 ghost use Rattle.sftp_audit.specs.Auditor.{Refuses};
-ghost use Rattle.sftp_audit.specs.Audit.{IsFirstFault, IsTreeError, IsPlain};
+ghost use Rattle.sftp_audit.specs.Audit.{Accounts, IsFirstFault, IsTreeError, IsPlain};
+ghost use Rattle.sftp_audit.specs.Exchanges.{recorded_exchanges, ledger_of};
 
 /// A start and the events of a session fix the end, since each reply fixes the state after it.
 pub fn one_end()
     ensures { (s : State) (events : List Event) (a b : State) →
         Explained Allowed s events a → Explained Allowed s events b → a ≡ b }
+{}
+
+/// Bytes account for one run at most: two that account for the same bytes have the same start, the same events and the
+/// same end. So the tree that `audit` returns is the end of every run that its bytes account for.
+pub fn one_account()
+    ensures start { (tree transcript : List ℕ) (s u : Tree) (events others : List Event) (a b : Tree) →
+        Accounts tree transcript s events a → Accounts tree transcript u others b → s ≡ u }
+    ensures events { (tree transcript : List ℕ) (s u : Tree) (events others : List Event) (a b : Tree) →
+        Accounts tree transcript s events a → Accounts tree transcript u others b → events ≡ others }
+    ensures end { (tree transcript : List ℕ) (s u : Tree) (events others : List Event) (a b : Tree) →
+        Accounts tree transcript s events a → Accounts tree transcript u others b → a ≡ b }
+{}
+
+/// The two readings of "the next reply of its id" are one: what the auditor keeps of a session is, without the numbers
+/// of records, the exchanges that its run goes over.
+pub fn exchanges_are_recorded()
+    ensures { (events : List Event) → ledger_of (recorded_exchanges events) ≡ exchanges_of events }
 {}
 
 /// A session is explained exactly if its events are sound and each request is answered.

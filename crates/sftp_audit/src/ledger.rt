@@ -71,6 +71,7 @@ impl Ledger {
         ensures apart { OnOk result (is_open request.id self.old ≡ false) }
         ensures in_time { OnOk result (length self.old < window) }
         ensures refused { IfErr result (RefusesRequest self.old request number) }
+        ensures few { length self.new ≤ window }
     {
         match enter(
             &mut self.exchanges,
@@ -103,6 +104,7 @@ impl Ledger {
         ensures noted { OnOk result (self.new ≡ with_reply recorded self.old) }
         ensures waited { OnOk result (is_open recorded.reply.id self.old ≡ true) }
         ensures refused { IfErr result (RefusesReply self.old recorded) }
+        ensures few { length self.new ≤ window }
     {
         let Some(ordinal) = self.unanswered.swap_remove(&recorded.reply.id) else {
             let refusal = Refusal::UnknownReply {

@@ -1,5 +1,5 @@
 //! How requests are settled: each is done as soon as it and all before it have their replies.
-ghost use Rattle.std.specs.Prelude.{◌≡◌, OnOk, IfErr};
+ghost use Rattle.std.specs.Prelude.{◌≡◌, ◌≤◌, length, OnOk, IfErr};
 ghost use Rattle.sftp_handles.specs.Allowed.{Allowed};
 ghost use Rattle.sftp_transcript.specs.Explained.{Run, leading_pairs};
 ghost use Rattle.sftp_audit.specs.Exchanges.{ledger_of, unsettled};
@@ -19,6 +19,7 @@ pub(crate) fn settle(ledger: &mut Ledger, session: &mut Session<GivenTable>) -> 
     ensures ran { OnOk result (Run Allowed session.old (leading_pairs (ledger_of ledger.old)) session.new) }
     ensures refused { IfErr result (RefusesToSettle session.old ledger.old) }
     ensures wrong { IfErr result (IsWrongIn session.old ledger.old session.new) }
+    ensures never_grows { length ledger.new ≤ length ledger.old }
 {
     'settle: while let Some(exchange) = ledger.first() {
         let Some(recorded) = &exchange.reply else {

@@ -17,7 +17,7 @@ use Rattle.sftp_audit.specs.declared.errors.Refusal.{Refusal}
 use Rattle.sftp_audit.specs.declared.errors.Refusal.TheVariants as refusals
 use Rattle.sftp_audit.specs.Auditor.{Audited, StandsFor, Refuses}
 use Rattle.sftp_audit.specs.Audit.{IsNew, IsNoJudgement, WasFed, StopsFeed, request_count, is_request}
-use Rattle.sftp_audit.specs.Audit.{error_of_transcript, error_of_session}
+use Rattle.sftp_audit.specs.Audit.{HasRefused, error_of_transcript, error_of_session}
 
 -- the events so far were given and fed, and so many of them are requests
 pub record IsFeeding (start : State) (transcript : List ℕ) (requests : ℕ) (auditor : Audited) (records : Reading)
@@ -141,3 +141,15 @@ stops-refused start transcript requests auditor records records_now event other 
   sound = feeding.stands.sound;
   refuses = why;
 }
+
+-- ---- after a stop
+
+pub fault-refuses_nothing : (auditor : Audited) (error : TranscriptError)
+    → HasRefused (error_of_transcript error) auditor
+fault-refuses_nothing auditor transcript_errors.NoMemory = tt
+fault-refuses_nothing auditor other = tt
+
+pub refused-for_good : (auditor : Audited) (refusal : Refusal)
+    → (auditor.refusal ≡ Some refusal) × (auditor.kept ≡ []) → HasRefused (error_of_session refusal) auditor
+refused-for_good auditor refusals.NoMemory why = tt
+refused-for_good auditor other why = why

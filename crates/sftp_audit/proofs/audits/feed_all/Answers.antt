@@ -5,6 +5,7 @@ use Rattle.std.proofs.lemmas.Result.{err_from_is_err_and}
 use Rattle.sftp_transcript.specs.declared.events.Event.{Event}
 use Rattle.sftp_transcript.specs.Begun.{GaveFrom}
 use Rattle.sftp_audit.proofs.streams.Given.{IsFeeding, feeding-start, feeding-next, all-fed, stops-fault, stops-refused}
+use Rattle.sftp_audit.proofs.streams.Given.{fault-refuses_nothing, refused-for_good}
 use Rattle.sftp_audit.proofs.audits.feed_all.Goals as goal
 
 pub events-init : goal.events-init
@@ -21,6 +22,11 @@ returns-in_err-event-clause-stopped g c =
     let feeding = c.events.invariant.feeding start transcript new stands in
     stops-fault start transcript c.events.requests c.events.auditor c.events.records c.in_err-event.field-0.0 feeding
     (c.in_err-event.ensures.first transcript feeding.ahead feeding.seen feeding.given) judged)
+
+pub returns-in_err-event-clause-for_good : goal.returns-in_err-event-clause-for_good
+returns-in_err-event-clause-for_good g c =
+    let p = err_from_is_err_and c.from_residual.result c.from_residual.ensures.1 in
+    rw (p.1, p.2) (fault-refuses_nothing c.events.auditor c.in_err-event.field-0.0)
 
 pub events-preserved : goal.events-preserved
 events-preserved g c = record {
@@ -47,6 +53,11 @@ returns-in_err-feed-clause-stopped g c =
     (c.in_ok-event.ensures.first transcript feeding.ahead feeding.seen feeding.given) in
     stops-refused start transcript c.events.requests c.events.auditor c.events.records c.next.new.self c.in-Some.event
     c.in_err-feed.field-0.0 feeding gave (c.in_err-feed.ensures.refused start feeding.seen feeding.stands))
+
+pub returns-in_err-feed-clause-for_good : goal.returns-in_err-feed-clause-for_good
+returns-in_err-feed-clause-for_good g c =
+    let p = err_from_is_err_and c.from_residual-in_err-feed.result c.from_residual-in_err-feed.ensures.1 in
+    rw (p.1, p.2) (refused-for_good c.feed.new.self c.in_err-feed.field-0.0 c.in_err-feed.ensures.for_good)
 
 pub returns-clause-fed : goal.returns-clause-fed
 returns-clause-fed g c = λ start transcript new stands.

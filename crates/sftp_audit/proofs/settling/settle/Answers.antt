@@ -1,46 +1,52 @@
+use Rattle.std.proofs.Common.{arith}
+use Rattle.std.proofs.lemmas.List.{length-drop}
 use Rattle.sftp_audit.proofs.auditing.Settled.{done-start, done-more, done-wrong, done-wrong_in}
 use Rattle.sftp_audit.proofs.auditing.Settled.{done-kept, done-ran}
 use Rattle.sftp_audit.proofs.auditing.Settled.{unsettled-waits, unsettled-none}
 use Rattle.sftp_audit.proofs.settling.settle.Goals as goal
 
 pub settle-init : goal.settle-init
-settle-init c = done-start c.args.session.now c.args.ledger.now
+settle-init c = record { done = done-start c.args.session.now c.args.ledger.now; never_grows = omega arith }
 
 pub settle-preserved : goal.settle-preserved
-settle-preserved c =
-    rw c.forget_first.ensures
-    (done-more c.args.session.now c.settle.session c.accept.new.self c.args.ledger.now c.settle.ledger
-    c.in-Some.exchange.now c.in-Some-reply.recorded c.settle.invariant c.in-Some.ensures c.in-Some-reply.is
-    (c.in_ok-accept.ensures.allowed c.if-not-branch.false))
+settle-preserved c = record {
+  done =
+      rw c.forget_first.ensures
+      (done-more c.args.session.now c.settle.session c.accept.new.self c.args.ledger.now c.settle.ledger
+      c.in-Some.exchange.now c.in-Some-reply.recorded c.settle.invariant.done c.in-Some.ensures c.in-Some-reply.is
+      (c.in_ok-accept.ensures.allowed c.if-not-branch.false));
+  never_grows =
+      rw c.forget_first.ensures (omega (arith, c.settle.invariant.never_grows, length-drop 1 c.settle.ledger));
+}
 
 pub returns-then-not-branch-clause-refused : goal.returns-then-not-branch-clause-refused
 returns-then-not-branch-clause-refused c =
     done-wrong c.args.session.now c.settle.session c.args.ledger.now c.settle.ledger c.in-Some.exchange.now
-    c.in-Some-reply.recorded c.settle.invariant c.in-Some.ensures c.in-Some-reply.is
+    c.in-Some-reply.recorded c.settle.invariant.done c.in-Some.ensures c.in-Some-reply.is
     (c.in_ok-accept.ensures.refused c.if-not-branch.true)
 
 pub returns-then-not-branch-clause-wrong : goal.returns-then-not-branch-clause-wrong
 returns-then-not-branch-clause-wrong c =
     done-wrong_in c.args.session.now c.settle.session c.accept.new.self c.args.ledger.now c.settle.ledger
-    c.in-Some.exchange.now c.in-Some-reply.recorded c.settle.invariant c.in-Some.ensures c.in-Some-reply.is
+    c.in-Some.exchange.now c.in-Some-reply.recorded c.settle.invariant.done c.in-Some.ensures c.in-Some-reply.is
     (c.in_ok-accept.ensures.refused c.if-not-branch.true) (c.in_ok-accept.ensures.kept c.if-not-branch.true)
 
 pub returns-in_default-reply-clause-kept : goal.returns-in_default-reply-clause-kept
 returns-in_default-reply-clause-kept c =
-    done-kept c.args.session.now c.settle.session c.args.ledger.now c.settle.ledger c.settle.invariant
+    done-kept c.args.session.now c.settle.session c.args.ledger.now c.settle.ledger c.settle.invariant.done
     (unsettled-waits c.settle.ledger c.in-Some.exchange.now c.in-Some.ensures c.in_default-reply.is)
 
 pub returns-in_default-reply-clause-ran : goal.returns-in_default-reply-clause-ran
 returns-in_default-reply-clause-ran c =
-    done-ran c.args.session.now c.settle.session c.args.ledger.now c.settle.ledger c.settle.invariant
+    done-ran c.args.session.now c.settle.session c.args.ledger.now c.settle.ledger c.settle.invariant.done
     (unsettled-waits c.settle.ledger c.in-Some.exchange.now c.in-Some.ensures c.in_default-reply.is)
 
 pub returns-clause-kept : goal.returns-clause-kept
 returns-clause-kept c =
-    done-kept c.args.session.now c.settle.session c.args.ledger.now c.settle.ledger c.settle.invariant
+    done-kept c.args.session.now c.settle.session c.args.ledger.now c.settle.ledger c.settle.invariant.done
     (unsettled-none c.settle.ledger c.in_default.ensures)
 
 pub returns-clause-ran : goal.returns-clause-ran
 returns-clause-ran c =
-    done-ran c.args.session.now c.settle.session c.args.ledger.now c.settle.ledger c.settle.invariant
+    done-ran c.args.session.now c.settle.session c.args.ledger.now c.settle.ledger c.settle.invariant.done
     (unsettled-none c.settle.ledger c.in_default.ensures)

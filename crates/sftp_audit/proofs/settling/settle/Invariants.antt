@@ -1,9 +1,12 @@
-use Rattle.std.proofs.Common.{length}
+use Rattle.std.proofs.Common.{◌≤◌, length}
 use Rattle.sftp_audit.proofs.auditing.Settled.{IsDoneTo}
 use Rattle.sftp_audit.proofs.settling.settle.Given as goal
 
 abbrev pub invariant-settle : goal.invariant-settle
-invariant-settle l = IsDoneTo l.initial.session l.initial.ledger l.ledger l.session
+invariant-settle l = record {
+  done : IsDoneTo l.initial.session l.initial.ledger l.ledger l.session;
+  never_grows : length l.ledger ≤ length l.initial.ledger;
+}
 
 abbrev pub decreases-settle : goal.decreases-settle
 decreases-settle l = length l.ledger
