@@ -58,7 +58,10 @@ class Shrinker:
                 return None
             self.played += 1
             self.progress(self.played)
-            session = sessions.play(self.server, self.tree_file, steps, self.in_flight)
+            try:
+                session = sessions.play(self.server, self.tree_file, steps, self.in_flight)
+            except sessions.NotStarted:
+                return None
             for difference in verdicts.judge(self.auditor, self.tree_file, session).differences:
                 if groups.key_of(difference) == self.key:
                     return Shown(steps, tree, difference)
