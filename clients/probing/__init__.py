@@ -4,11 +4,12 @@ trees       tree files: reading, writing, the tree that a probe starts from, the
 model       what the planner believes the server's tree to be
 spelling    many paths that lead to one place
 planner     the plan of a session: draws scenes, and keeps the account of handles
-scenes      scenes that make sense; refusals: requests that some cause refuses
+scenes      scenes that make sense; refusals: requests that some cause refuses; effects: what they do to the model
 sessions    plays a plan against a server, and records it
 verdicts    asks `sftpv3 audit`, and goes on after a difference
 groups      differences that are alike
-shrinking   the shortest session that still shows a difference
+shrinking   the shortest session that still shows a difference; guessing: which requests and entries it may need
+recorded    the plan of a session that was recorded
 reports     what is printed, kept and reported
 planted     servers with bugs, for clients/test-probe
 """

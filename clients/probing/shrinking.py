@@ -1,8 +1,9 @@
-"""The shortest session that still shows a difference: first the requests behind it go, then entries of the tree, then
-other requests. Each try is a session of its own; where replies race, several are played for one try."""
+"""The shortest session that still shows a difference: first the requests behind it go, and those that by a guess have
+nothing to do with it, then entries of the tree, then other requests. Each try is a session of its own; where replies
+race, several are played for one try."""
 import os
 
-from probing import groups, sessions, trees, verdicts
+from probing import groups, guessing, sessions, trees, verdicts
 
 # How many sessions one try may take where requests are in flight together: FEW if the difference came in as many of the
 # first ones, else TRIES. And how many all tries of a group may take.
@@ -31,10 +32,18 @@ class Shrinker:
         shown = self.alone(steps, tree)
         if shown is None:
             return None
-        shown = self.without_tail(shown)
+        shown = self.guessed(shown) or self.without_tail(shown)
         shown = self.without_entries(shown)
         shown = self.without_steps(shown)
-        return self.without_entries(shown) if self.server.takes_tree() else shown
+        return self.without_entries(shown)
+
+    def guessed(self, shown):
+        """What a guess at the steps shows, or None."""
+        for steps in guessing.of_steps(shown.steps, shown.difference.number):
+            found = self.show(steps, shown.tree)
+            if found:
+                return found
+        return None
 
     def alone(self, steps, tree):
         """One request after the other, if that shows it, which needs no luck; else as many in flight as before."""
@@ -92,6 +101,7 @@ class Shrinker:
 
         def smaller(entries):
             return self.show(shown.steps, shown.tree.with_entries(whole(entries)))
+        shown = smaller(guessing.of_entries(shown.steps, shown.tree.entries)) or shown
         return reduce(shown, shown.tree.entries, smaller, lambda found: found.tree.entries)
 
 
