@@ -4,6 +4,7 @@ pub mod NotePlaces
 pub mod ReadinessLaws
 pub mod ReadyLaws
 pub mod NewNotes
+pub mod StillTouched
 pub mod Machines
 pub mod Sessions
 pub mod ChoiceLaws

@@ -1,0 +1,120 @@
+-- A request that does not touch everything changes nothing of what requests touch.
+use Rattle.std.proofs.Common.{◌≡◌, ◌≢◌, ◌<◌, ◌≤◌, nat_lt, ℕ, zero, suc, Bool, true, false, List, [], ◌∷◌}
+use Rattle.std.proofs.Common.{Option, Some, None, length, refl, sym, ap, ◌∙◌, ◌⊎◌, inl, inr, ◌+◌, arith}
+use Rattle.std.proofs.lemmas.Bool.{true≢false, ltb-true, ltb-false}
+use Rattle.sftp_wire.specs.declared.packets.Ask.{Ask}
+use Rattle.sftp_wire.specs.declared.packets.Answer.{Answer}
+use Rattle.sftp_wire.specs.declared.packets.Request.{Request}
+use Rattle.sftp_wire.specs.declared.packets.Reply.{Reply}
+use Rattle.sftp_wire.specs.Spelling.{asked_handle}
+use Rattle.sftp_handles.specs.declared.touch.Touch.{Touch}
+use Rattle.sftp_handles.specs.declared.touch.Touch.TheVariants.{Nothing, ReadsFile, WritesFile, TakesNames, Everything}
+use Rattle.sftp_handles.specs.Handles.{Handles, open_at}
+use Rattle.sftp_handles.specs.State.{State}
+use Rattle.sftp_handles.specs.Seen.{seen}
+use Rattle.sftp_handles.specs.HandleRequests.{row_of, Change, nothing, rewrites, leaves, closes, change_of}
+use Rattle.sftp_handles.specs.Requests.{changed, after, after_by}
+use Rattle.sftp_handles.specs.Allowed.{Allowed, Refuses, Does}
+use Rattle.sftp_handles.specs.Clash.{Touched, everything, touched, touched_by, touched_through, may_change}
+use Rattle.sftp_handles.specs.Touch.{touched_as}
+use Rattle.sftp_handles.proofs.Touches.{applied, change-touches, touched-stays}
+use Rattle.sftp_handles.proofs.Exchanges.{handle-of}
+use Rattle.sftp_server.specs.declared.queue.Entry.{Entry}
+use Rattle.sftp_server.specs.declared.queue.Progress.TheVariants.{Done}
+use Rattle.sftp_server.specs.declared.readiness.Note.{Note}
+use Rattle.sftp_server.specs.Machine.{is_pending_at}
+use Rattle.sftp_server.specs.Queue.{with_progress}
+use Rattle.sftp_server.specs.Readiness.{note_at, ask_at, is_all, IsNoted, IsMarked, AreNotes, AreBlockedBut}
+use Rattle.sftp_server.proofs.ReadinessLaws.{done_notes, marked-done}
+
+-- ---- a step
+
+-- what a request touches is seen of the handles alone
+touched-same : (s t : State) (ask : Ask) → s.handles ≡ t.handles → touched s ask ≡ touched t ask
+unfolding touched
+touched-same s t ask same = by (asked_handle ask)
+  where
+    by : (named : Option (List ℕ)) → touched_by s ask named ≡ touched_by t ask named
+    by None = refl
+    by (Some handle) =
+        ap (λ (handles : Handles). touched_through (row_of ask).needed (may_change ask) handle (open_at handles handle))
+        same
+
+changed-handles : (s : State) (handle : List ℕ) (change : Change)
+    → (changed s handle change).handles ≡ (applied s handle change).handles
+changed-handles s handle nothing = refl
+changed-handles s handle (rewrites number next) = refl
+changed-handles s handle (leaves left) = refl
+changed-handles s handle closes = refl
+
+touched-done : (s : State) (asked ask : Ask) (answer : Answer) (handle : List ℕ) → asked_handle asked ≡ Some handle
+    → touched s asked ≢ everything → touched (after s asked answer) ask ≡ touched s ask
+unfolding after
+touched-done s asked ask answer handle named part =
+    let change = change_of (row_of asked) (seen s (row_of asked).needed handle) answer in
+    ap (λ (found : Option (List ℕ)). touched (after_by s asked answer found) ask) named
+    ∙ (touched-same (changed s handle change) (applied s handle change) ask (changed-handles s handle change)
+    ∙ touched-stays s ask handle (touched s asked) change (change-touches s asked handle answer named) part)
+
+pub touched-past : (s end : State) (request : Request) (reply : Reply) (ask : Ask)
+    → touched s request.ask ≢ everything → Allowed s request reply end → touched end ask ≡ touched s ask
+touched-past s end request reply ask part allowed = by allowed.step
+  where
+    by : Refuses s request.ask reply.answer end ⊎ Does s request.ask reply.answer end
+        → touched end ask ≡ touched s ask
+    by (inl refused) = ap (λ (e : State). touched e ask) refused.unchanged
+    by (inr does) =
+        let named = handle-of s request.ask part in
+        ap (λ (e : State). touched e ask) does.changed
+        ∙ touched-done s request.ask ask reply.answer named.0 named.1 part
+
+-- ---- what the notes say of it
+
+not-all : (touch : Touch) (ask : Ask) → is_all touch ≡ false → touched_as touch ask ≢ everything
+not-all Nothing ask part is = absurd cc
+not-all (ReadsFile number) ask part is = absurd cc
+not-all (WritesFile number) ask part is = absurd cc
+not-all TakesNames ask part is = absurd cc
+not-all Everything ask part is = absurd (true≢false part)
+
+-- after an open request was done that by its note does not touch everything, all touches are as before
+pub touched-still : (s end : State) (queue : List Entry) (notes : List Note) (opened k : ℕ) (request : Request)
+    (reply : Reply) → IsMarked s queue notes opened → k < opened → (note_at notes k).pending ≡ true
+    → ask_at queue k ≡ request.ask → Allowed s request reply end → is_all (note_at notes k).touch ≡ false
+    → (ask : Ask) → touched end ask ≡ touched s ask
+touched-still s end queue notes opened k request reply are before pending named allowed part ask =
+    touched-past s end request reply ask
+    (λ is. not-all (note_at notes k).touch (ask_at queue k) part
+    (are.known k before pending ∙ (ap (touched s) named ∙ is))) allowed
+
+pending-within : (queue : List Entry) (k : ℕ) → is_pending_at queue k ≡ true → k < length queue
+pending-within [] k is = absurd (true≢false (sym is))
+pending-within (entry ∷ queue) zero is = omega arith
+pending-within (entry ∷ queue) (suc k) is = let rest = pending-within queue k is in omega (arith, rest)
+
+-- what is ready is open
+pub ready-open : (s : State) (queue : List Entry) (notes : List Note) (first opened writers possible k : ℕ)
+    → AreNotes s queue notes first opened writers possible → (note_at notes k).pending ≡ true
+    → (note_at notes k).possible ≡ true → k < opened
+ready-open s queue notes first opened writers possible k are pending ready = by (nat_lt k opened) refl
+  where
+    by : (b : Bool) → nat_lt k opened ≡ b → k < opened
+    by true less = ltb-true k opened less
+    by false less =
+        absurd (true≢false (sym ready
+        ∙ (are.noted.behind k (ltb-false k opened less)
+        (pending-within queue k (sym (are.marks.marked k) ∙ pending))).1))
+
+-- A request that was ready was done with this reply: what is known before the notes are looked through again.
+pub notes-worked : (s end : State) (queue : List Entry) (notes : List Note) (first opened writers possible k : ℕ)
+    (request : Request) (reply : Reply) → AreNotes s queue notes first opened writers possible
+    → (note_at notes k).pending ≡ true → (note_at notes k).possible ≡ true → ask_at queue k ≡ request.ask
+    → Allowed s request reply end
+    → IsNoted (with_progress queue k (Done reply)) (done_notes notes k) first opened writers possible
+    × AreBlockedBut (with_progress queue k (Done reply)) (done_notes notes k) opened k (suc k)
+    (k + (note_at (done_notes notes k) k).waiter)
+    × IsMarked end (with_progress queue k (Done reply)) (done_notes notes k) opened
+notes-worked s end queue notes first opened writers possible k request reply are pending ready named allowed =
+    let before = ready-open s queue notes first opened writers possible k are pending ready in
+    marked-done s end queue notes first opened writers possible k reply are before pending ready
+    (touched-still s end queue notes opened k request reply are.marks before pending named allowed)
