@@ -1,9 +1,8 @@
 -- The notes of no requests, and what one request more changes.
 use Rattle.std.proofs.Common.{◌≡◌, ◌+◌, ◌<◌, ◌≤◌, ◌++◌, nat_lt, ℕ, zero, suc, Bool, true, false, List, [], ◌∷◌}
-use Rattle.std.proofs.Common.{Option, Some, None, is_some, length, get_or, slice_get, refl, sym, ap, subst, ◌∙◌, arith}
-use Rattle.std.proofs.Common.{length-append}
+use Rattle.std.proofs.Common.{Option, is_some, length, slice_get, refl, sym, ap, subst, ◌∙◌, arith, length-append}
 use Rattle.std.proofs.lemmas.Bool.{ltb-true, ltb-false}
-use Rattle.std.proofs.lemmas.List.{get_or_append_left, get_or_push, get_or_past}
+use Rattle.std.proofs.lemmas.List.{get_or_append_left, get_or_push}
 use Rattle.std.proofs.lemmas.List.Sums.{sum_by_push}
 use Rattle.sftp_wire.specs.declared.packets.Request.{Request}
 use Rattle.sftp_handles.specs.State.{State}
@@ -11,9 +10,9 @@ use Rattle.sftp_handles.specs.Clash.{touched}
 use Rattle.sftp_server.specs.declared.queue.Entry.{Entry}
 use Rattle.sftp_server.specs.declared.queue.Progress.TheVariants.{Pending}
 use Rattle.sftp_server.specs.declared.readiness.Note.{Note}
-use Rattle.sftp_server.specs.Machine.{is_pending_at, pending_in, reply_at, reply_in}
-use Rattle.sftp_server.specs.Readiness.{blank, note_at, ask_in, ask_at, touched_at, is_in_way, as_count, possible_count}
-use Rattle.sftp_server.specs.Readiness.{IsFree, IsBlocked, IsNoted, AreBlocked, IsMarked, AreNotes}
+use Rattle.sftp_server.specs.Machine.{is_pending_at, reply_at}
+use Rattle.sftp_server.specs.Readiness.{blank, note_at, ask_in, touched_at, as_count, possible_count}
+use Rattle.sftp_server.specs.Readiness.{IsFree, IsBlocked, IsNoted, AreNotes}
 use Rattle.sftp_server.proofs.NotePlaces.{in_way-same}
 
 -- the note of a request that was just taken

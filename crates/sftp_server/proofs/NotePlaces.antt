@@ -1,15 +1,13 @@
 -- Notes and requests at their positions, after one is replaced.
-use Rattle.std.proofs.Common.{◌≡◌, ◌≢◌, ◌+◌, ◌<◌, ◌≤◌, ◌&&◌, ℕ, zero, suc, Bool, true, false, List, [], ◌∷◌}
-use Rattle.std.proofs.Common.{Option, Some, None, is_some, length, set, get_or, slice_get, refl, sym, ap, subst, ◌∙◌}
+use Rattle.std.proofs.Common.{◌≡◌, ◌≢◌, ◌+◌, ◌<◌, ◌&&◌, ℕ, zero, suc, Bool, true, false, List, [], ◌∷◌}
+use Rattle.std.proofs.Common.{Option, Some, None, is_some, length, set, slice_get, refl, sym, ap, ◌∙◌}
 use Rattle.std.proofs.Common.{arith, ◌-◌, take, drop}
-use Rattle.std.specs.List.{sum_by}
 use Rattle.std.proofs.lemmas.Bool.{true≢false}
 use Rattle.std.proofs.lemmas.Option.{none-some}
 use Rattle.std.proofs.lemmas.List.{get_or-drop}
 use Rattle.std.proofs.lemmas.List.Sums.{sum_by-set, sum_by-cons, sum_by-take-drop}
 use Rattle.sftp_wire.specs.declared.packets.Reply.{Reply}
 use Rattle.sftp_handles.specs.Clash.{Touched, share}
-use Rattle.sftp_handles.specs.Touch.{touched_as}
 use Rattle.sftp_server.specs.declared.queue.Entry.{Entry}
 use Rattle.sftp_server.specs.declared.queue.Progress.{Progress}
 use Rattle.sftp_server.specs.declared.readiness.Note.{Note}
@@ -95,15 +93,6 @@ unfolding with_progress
 worked-here [] k progress is = refl
 worked-here (entry ∷ queue) zero progress is = is
 worked-here (entry ∷ queue) (suc k) progress is = worked-here queue k progress is
-
-pub worked-still : (queue : List Entry) (k j : ℕ) (progress : Progress) → is_pending progress ≡ false
-    → is_pending_at queue j ≡ false → is_pending_at (with_progress queue k progress) j ≡ false
-unfolding with_progress
-worked-still [] k j progress is worked = worked
-worked-still (entry ∷ queue) zero zero progress is worked = is
-worked-still (entry ∷ queue) zero (suc j) progress is worked = worked
-worked-still (entry ∷ queue) (suc k) zero progress is worked = worked
-worked-still (entry ∷ queue) (suc k) (suc j) progress is worked = worked-still queue k j progress is worked
 
 pub reply-here : (queue : List Entry) (k : ℕ) (progress : Progress) → k < length queue
     → reply_at (with_progress queue k progress) k ≡ reply_of progress

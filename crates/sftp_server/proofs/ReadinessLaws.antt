@@ -1,29 +1,28 @@
 -- How the notes of a queue change with it.
-use Rattle.std.proofs.Common.{◌≡◌, ◌≢◌, ◌+◌, ◌-◌, ◌<◌, ◌≤◌, ◌&&◌, ℕ, zero, suc, Bool, true, false, List, [], ◌∷◌}
-use Rattle.std.proofs.Common.{Option, Some, None, is_some, length, set, get_or, slice_get, refl, sym, ap, subst, ◌∙◌}
+use Rattle.std.proofs.Common.{◌≡◌, ◌≢◌, ◌+◌, ◌-◌, ◌<◌, ◌≤◌, ℕ, suc, Bool, true, false, List}
+use Rattle.std.proofs.Common.{Option, Some, is_some, length, set, slice_get, refl, sym, ap, subst, ◌∙◌}
 use Rattle.std.proofs.Common.{arith, ◌==◌, nat_lt, ◌⊎◌, inl, inr, drop, length-drop}
-use Rattle.std.proofs.lemmas.Bool.{ltb-true, ltb-false, and_parts}
-use Rattle.std.proofs.lemmas.Bool.{true≢false, cases_Bool, eq-eqb, eqb-true, eqb-false}
+use Rattle.std.proofs.lemmas.Bool.{ltb-true, ltb-false, and_parts, true≢false, cases_Bool, eqb-true, eqb-false}
 use Rattle.std.proofs.lemmas.List.{length-set, get_or-set_other}
 use Rattle.sftp_wire.specs.declared.packets.Ask.{Ask}
 use Rattle.sftp_wire.specs.declared.packets.Reply.{Reply}
 use Rattle.sftp_handles.specs.State.{State}
-use Rattle.sftp_handles.specs.Clash.{Touched, touched, share, untouched, reads_file, writes_file, takes_names, everything}
+use Rattle.sftp_handles.specs.Clash.{Touched, touched, share, untouched, reads_file, writes_file}
+use Rattle.sftp_handles.specs.Clash.{takes_names, everything}
 use Rattle.sftp_handles.specs.Touch.{touched_as}
 use Rattle.sftp_handles.specs.declared.touch.Touch.{Touch}
 use Rattle.sftp_handles.specs.declared.touch.Touch.TheVariants.{Nothing, ReadsFile, WritesFile, TakesNames, Everything}
 use Rattle.sftp_server.specs.declared.queue.Entry.{Entry}
-use Rattle.sftp_server.specs.declared.queue.Progress.{Progress}
-use Rattle.sftp_server.specs.declared.queue.Progress.TheVariants.{Pending, Done, Sent}
+use Rattle.sftp_server.specs.declared.queue.Progress.TheVariants.{Done, Sent}
 use Rattle.sftp_server.specs.declared.readiness.Note.{Note}
 use Rattle.sftp_server.specs.Machine.{is_pending_at, pending_in, reply_at, reply_in, from_unsent}
 use Rattle.sftp_server.specs.Queue.{with_progress}
-use Rattle.sftp_server.specs.Readiness.{blank, note_at, ask_at, touched_at, is_in_way, only_reads, is_all, as_count}
+use Rattle.sftp_server.specs.Readiness.{blank, note_at, ask_at, touched_at, is_in_way, is_all}
 use Rattle.sftp_server.specs.Readiness.{possible_count, IsFree, IsBlocked, IsNoted, AreBlocked, AreBlockedBut}
-use Rattle.sftp_server.specs.Readiness.{IsShut, IsMarked, AreNotes, IsOpened}
+use Rattle.sftp_server.specs.Readiness.{IsMarked, AreNotes, IsOpened}
 use Rattle.sftp_server.proofs.Queues.{length-progress}
 use Rattle.sftp_server.proofs.NotePlaces.{part-set, fails-set, fails-still, passed-before, passes-elsewhere, count-set}
-use Rattle.sftp_server.proofs.NotePlaces.{other-progress, ask-progress, worked-here, worked-still, reply-here}
+use Rattle.sftp_server.proofs.NotePlaces.{other-progress, ask-progress, worked-here, reply-here}
 use Rattle.sftp_server.proofs.NotePlaces.{in_way-fewer, in_way-same, touched-set, reply-within, reply-worked}
 use Rattle.sftp_server.proofs.NotePlaces.{note-drop, get-drop, ask-drop, touched-drop, in_way-drop, count-drop}
 use Rattle.sftp_server.proofs.NotePlaces.{front-drop, sent-front, sent-worked}
@@ -165,6 +164,7 @@ alone queue notes first opened writers possible k j is within pending ready all 
     all-shared (WritesFile number) ask other all = absurd (true≢false (sym all))
     all-shared TakesNames ask other all = absurd (true≢false (sym all))
     all-shared Everything ask other all = share-all other
+
     last-all : (b : Bool) → nat_lt (suc k) opened ≡ b → suc k ≡ opened
     last-all true less = absurd (true≢false (sym all ∙ is.last k (ltb-true (suc k) opened less) pending))
     last-all false less = let more = ltb-false (suc k) opened less in omega (arith, more, within)
@@ -182,6 +182,7 @@ marks-done s s' queue notes first opened writers possible k reply are within pen
   where
     size : k < length queue
     size = omega (arith, within, are.noted.within)
+
     marked-at : (j : ℕ) → ((j == k) ≡ true) ⊎ ((j == k) ≡ false)
         → (note_at (done_notes notes k) j).pending ≡ is_pending_at (with_progress queue k (Done reply)) j
     marked-at j (inl same) =
@@ -192,6 +193,7 @@ marks-done s s' queue notes first opened writers possible k reply are within pen
     marked-at j (inr other) =
         done-other notes k j (eqb-false j k other) ∙ (are.marks.marked j
         ∙ sym (ap pending_in (other-progress queue k j (Done reply) (eqb-false j k other))))
+
     known-at : (j : ℕ) → j < opened → (note_at (done_notes notes k) j).pending ≡ true → (b : Bool)
         → is_all (note_at notes k).touch ≡ b
         → touched_at (with_progress queue k (Done reply)) (done_notes notes k) j
@@ -203,6 +205,7 @@ marks-done s s' queue notes first opened writers possible k reply are within pen
         done-touched queue notes k j reply
         ∙ (are.marks.known j before (was-pending notes k j waits)
         ∙ (sym (still part (ask_at queue j)) ∙ ap (touched s') (sym (ask-progress queue k j (Done reply)))))
+
     replies-at : (j : ℕ) → (note_at (done_notes notes k) j).pending ≡ false → ((j == k) ≡ true) ⊎ ((j == k) ≡ false)
         → (note_at (done_notes notes k) j).possible ≡ is_some (reply_at (with_progress queue k (Done reply)) j)
     replies-at j worked (inl same) =
@@ -295,9 +298,10 @@ noted-sent queue notes first opened writers possible k is within was =
       last = λ j before pending.
           rw (sent-touch notes k j) (is.last j before (sym (sent-pending notes k j) ∙ pending));
       behind = λ j from to.
-          let parts = is.behind j from (subst (λ (n : ℕ). j < n) same to) in
-          (sent-pending notes k j ∙ parts.0,
-          fails-still (λ (n : Note). n.possible) notes k j (sent_note notes k) refl parts.1);
+          let parts = is.behind j from (subst (λ (n : ℕ). j < n) same to) in (
+            sent-pending notes k j ∙ parts.0,
+            fails-still (λ (n : Note). n.possible) notes k j (sent_note notes k) refl parts.1,
+          );
       free = λ j before pending ready.
           sent-free queue notes k j (is.free j before (sym (sent-pending notes k j) ∙ pending)
           (was-possible notes k j ready));
@@ -342,6 +346,7 @@ marks-sent s queue notes opened k are worked within = record {
         subst (λ (n : ℕ). is_pending_at queue n ≡ is_pending_at (with_progress queue k Sent) n)
         (sym (eqb-true j k same)) (worked ∙ sym (worked-here queue k Sent refl))
     marked-at j (inr other) = sym (ap pending_in (other-progress queue k j Sent (eqb-false j k other)))
+
     replies-at : (j : ℕ) → (note_at notes j).pending ≡ false → ((j == k) ≡ true) ⊎ ((j == k) ≡ false)
         → (note_at (sent_notes notes k) j).possible ≡ is_some (reply_at (with_progress queue k Sent) j)
     replies-at j idle (inl same) =
@@ -502,6 +507,7 @@ notes-sent s queue notes first opened writers possible k count reply are is_open
     let never : (j : ℕ) → j < count → (note_at (sent_notes notes k) j).possible ≡ false =
     λ j before. marked.marks.replies j (idle j before) ∙ (sent j before).1 in
     let few : count ≤ length after = omega (arith, all) in
-    rw (front-drop after count all)
-    (notes-drop s after (sent_notes notes k) first opened writers (possible - 1) count marked few idle never,
-    opened-drop after (sent_notes notes k) opened count (opened-marked queue notes opened k is_opened) few idle)
+    rw (front-drop after count all) (
+      notes-drop s after (sent_notes notes k) first opened writers (possible - 1) count marked few idle never,
+      opened-drop after (sent_notes notes k) opened count (opened-marked queue notes opened k is_opened) few idle,
+    )

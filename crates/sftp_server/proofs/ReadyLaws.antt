@@ -1,16 +1,15 @@
 -- What the notes of a queue say of what is ready, and of what is possible.
 use Rattle.std.proofs.Common.{◌≡◌, ◌+◌, ◌<◌, ◌≤◌, ◌++◌, ◌&&◌, ◌||◌, not, nat_lt, ℕ, zero, suc, Bool, true, false}
-use Rattle.std.proofs.Common.{List, [], ◌∷◌}
-use Rattle.std.proofs.Common.{Option, Some, None, is_some, if◌then◌else◌, length, take, drop, get_or, slice_get}
+use Rattle.std.proofs.Common.{List, [], ◌∷◌, Option, Some, None, is_some, if◌then◌else◌, length, take, drop, slice_get}
 use Rattle.std.proofs.Common.{refl, sym, ap, ap₂, ◌∙◌, ◌-◌, arith, length-append, append_assoc}
-use Rattle.std.proofs.lemmas.Bool.{true≢false, ltb-true, ltb-false, and_parts}
-use Rattle.std.proofs.lemmas.Option.{none-some, slice_get_within}
+use Rattle.std.proofs.lemmas.Bool.{true≢false, ltb-true, ltb-false}
+use Rattle.std.proofs.lemmas.Option.{slice_get_within}
 use Rattle.std.proofs.lemmas.List.{take_all, drop_more, get_or_past}
 use Rattle.std.proofs.lemmas.List.Sums.{sum_by-cons}
 use Rattle.sftp_wire.specs.declared.packets.Ask.{Ask}
 use Rattle.sftp_wire.specs.declared.packets.Request.{Request}
 use Rattle.sftp_handles.specs.State.{State}
-use Rattle.sftp_handles.specs.Clash.{Touched, touched, share, clash, everything}
+use Rattle.sftp_handles.specs.Clash.{Touched, touched, share, clash}
 use Rattle.sftp_handles.specs.Touch.{touched_as}
 use Rattle.sftp_handles.specs.declared.touch.Touch.{Touch}
 use Rattle.sftp_handles.specs.declared.touch.Touch.TheVariants.{Nothing, ReadsFile, WritesFile, TakesNames, Everything}
@@ -20,11 +19,11 @@ use Rattle.sftp_server.specs.declared.queue.Entry.{Entry}
 use Rattle.sftp_server.specs.declared.queue.Progress.{Progress}
 use Rattle.sftp_server.specs.declared.queue.Progress.TheVariants.{Pending, Done, Sent}
 use Rattle.sftp_server.specs.declared.readiness.Note.{Note}
-use Rattle.sftp_server.specs.Machine.{Machine, ClashOf, is_pending, is_free_of, ready_in, is_ready, is_pending_at}
+use Rattle.sftp_server.specs.Machine.{Machine, ClashOf, is_pending, is_free_of, ready_in, is_ready}
 use Rattle.sftp_server.specs.Machine.{pending_in, reply_of, reply_in, reply_at}
 use Rattle.sftp_server.specs.Choices.{choices_at, choices_from, choices_of}
 use Rattle.sftp_server.specs.Readiness.{blank, note_at, ask_in, ask_at, touched_at, is_in_way, is_all, as_count}
-use Rattle.sftp_server.specs.Readiness.{possible_count, IsFree, IsBlocked, IsNoted, IsShut, IsMarked, AreNotes, IsOpened}
+use Rattle.sftp_server.specs.Readiness.{possible_count, IsShut, IsMarked, AreNotes, IsOpened}
 
 -- ---- freeness, position by position
 
@@ -120,6 +119,7 @@ ready-is s queue notes first opened writers possible are is_opened k =
         (blocks-noted s queue notes opened is.blocker entry.request (touched_at queue notes k) are.marks (let before =
         is.before in omega (arith, before, within)) (are.marks.known k within pending ∙ ap (λ (found : Option Entry).
         touched s (ask_in found)) at) ∙ is.in_way)
+
     behind-possible : (entry : Entry) → slice_get queue k ≡ Some entry → opened ≤ k
         → is_free_of clash s (take k queue) entry.request ≡ (note_at notes k).possible
     behind-possible entry at from =
@@ -129,11 +129,13 @@ ready-is s queue notes first opened writers possible are is_opened k =
         free-not clash s queue k shut.last entry.request (omega (arith, here, from))
         (blocks-shut s queue notes opened entry.request are.marks shut)
         ∙ sym (are.noted.behind k from within).1
+
     free-is : (entry : Entry) → slice_get queue k ≡ Some entry → (note_at notes k).pending ≡ true → (b : Bool)
         → nat_lt k opened ≡ b → is_free_of clash s (take k queue) entry.request ≡ (note_at notes k).possible
     free-is entry at pending true less =
         open-possible entry at (ltb-true k opened less) pending (note_at notes k).possible refl
     free-is entry at pending false less = behind-possible entry at (ltb-false k opened less)
+
     pending-by : (entry : Entry) → slice_get queue k ≡ Some entry → (b : Bool) → is_pending entry.progress ≡ b
         → (note_at notes k).pending ≡ is_pending entry.progress
         → (is_pending entry.progress && is_free_of clash s (take k queue) entry.request)
@@ -141,6 +143,7 @@ ready-is s queue notes first opened writers possible are is_opened k =
     pending-by entry at true is marked =
         rw (marked, is) (free-is entry at (marked ∙ is) (nat_lt k opened) refl)
     pending-by entry at false is marked = rw (marked, is) refl
+
     by : (found : Option Entry) → slice_get queue k ≡ found
         → (note_at notes k).pending ≡ pending_in (slice_get queue k)
         → ready_in clash s (take k queue) found ≡ ((note_at notes k).pending && (note_at notes k).possible)
@@ -169,6 +172,7 @@ possible-is machine notes first opened writers possible are is_opened k = by (no
     or_false : (b : Bool) → b ≡ (b || false)
     or_false true = refl
     or_false false = refl
+
     by : (b : Bool) → (note_at notes k).pending ≡ b
         → (note_at notes k).possible ≡ (is_ready clash machine k || is_some (reply_at machine.queue k))
     by true pending =

@@ -1,5 +1,5 @@
 -- A request that does not touch everything changes nothing of what requests touch.
-use Rattle.std.proofs.Common.{◌≡◌, ◌≢◌, ◌<◌, ◌≤◌, nat_lt, ℕ, zero, suc, Bool, true, false, List, [], ◌∷◌}
+use Rattle.std.proofs.Common.{◌≡◌, ◌≢◌, ◌<◌, nat_lt, ℕ, zero, suc, Bool, true, false, List, [], ◌∷◌}
 use Rattle.std.proofs.Common.{Option, Some, None, length, refl, sym, ap, ◌∙◌, ◌⊎◌, inl, inr, ◌+◌, arith}
 use Rattle.std.proofs.lemmas.Bool.{true≢false, ltb-true, ltb-false}
 use Rattle.sftp_wire.specs.declared.packets.Ask.{Ask}
@@ -15,7 +15,7 @@ use Rattle.sftp_handles.specs.Seen.{seen}
 use Rattle.sftp_handles.specs.HandleRequests.{row_of, Change, nothing, rewrites, leaves, closes, change_of}
 use Rattle.sftp_handles.specs.Requests.{changed, after, after_by}
 use Rattle.sftp_handles.specs.Allowed.{Allowed, Refuses, Does}
-use Rattle.sftp_handles.specs.Clash.{Touched, everything, touched, touched_by, touched_through, may_change}
+use Rattle.sftp_handles.specs.Clash.{everything, touched, touched_by, touched_through, may_change}
 use Rattle.sftp_handles.specs.Touch.{touched_as}
 use Rattle.sftp_handles.proofs.Touches.{applied, change-touches, touched-stays}
 use Rattle.sftp_handles.proofs.Exchanges.{handle-of}
