@@ -136,13 +136,22 @@ fn put_handles(text: &str, out: &mut String) -> Result<(), AllocError> {
     Ok(())
 }
 
+/// Writes the quote in front of a text. A text right behind another goes on with that one.
+fn put_quote(out: &mut String) -> Result<(), AllocError> {
+    if out.as_str().ends_with('"') {
+        let _ = out.pop();
+        return Ok(());
+    }
+    out.push('"')
+}
+
 /// Writes what is in quotes, as many times as the text behind the quotes says, and what follows that.
 fn put_quoted(quoted: &str, behind: &str, out: &mut String) -> Result<(), AllocError> {
     let (count, rest) = match behind.strip_prefix('*') {
         Some(more) => take_number(more).unwrap_or((1, behind)),
         None => (1, behind),
     };
-    out.push('"')?;
+    put_quote(out)?;
     for _ in 0..count {
         out.push_str(quoted)?;
     }

@@ -5,6 +5,7 @@
 mod actions;
 mod blocks;
 mod cases;
+mod changes;
 mod compare;
 mod expand;
 mod files;

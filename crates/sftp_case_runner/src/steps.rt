@@ -2,6 +2,7 @@
 use crate::actions::{audit, full, run, serve};
 use crate::blocks::Block;
 use crate::cases::Case;
+use crate::changes::changes;
 use crate::compare::say_bytes;
 use crate::expand::{expand, number_of};
 use crate::files::{END, START, TRANSCRIPT, remove, write};
@@ -45,7 +46,7 @@ const PREPARES: &[&str] = &["input", "before", "pieces", "broken"];
 
 /// The keywords of blocks that run the program.
 const ACTS: &[&str] = &[
-    "serve", "again", "audit", "run", "full", "replies", "codes", "answers",
+    "serve", "again", "audit", "run", "full", "replies", "codes", "answers", "changes",
 ];
 
 /// The keywords of blocks that say what is wanted of the last run.
@@ -195,6 +196,7 @@ fn act_on<R: Files + AllocGlobal, P: Program>(
         "full" => full(rt, program, case, block.words),
         "replies" => replies(rt, program, case, text),
         "codes" => codes(rt, program, case, text),
+        "changes" => changes(rt, program, case, block.words, text),
         _ => answers(rt, program, case, text),
     }
 }

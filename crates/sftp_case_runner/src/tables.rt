@@ -10,7 +10,7 @@ use std::fs;
 use std::fs::Files;
 
 /// What a line says: the text in front of the arrow, and the text behind it.
-fn arrow(line: &str) -> Result<(&str, &str), Trouble> {
+pub fn arrow(line: &str) -> Result<(&str, &str), Trouble> {
     match line.split_once(" => ") {
         Some(parts) => Ok(parts),
         None => Err(Trouble::Form("` => `")),
@@ -40,7 +40,7 @@ fn is_refused(came: &Came, records: usize) -> bool {
 }
 
 /// Says what an audit of a line's session printed.
-fn say_verdict(case: &mut Case, line: &str) -> Result<(), AllocError> {
+pub fn say_verdict(case: &mut Case, line: &str) -> Result<(), AllocError> {
     case.say_line(case.line)?;
     let printed = str::from_utf8(case.came.output.as_slice()).unwrap_or("?");
     let errors = str::from_utf8(case.came.errors.as_slice()).unwrap_or("?");

@@ -1,0 +1,372 @@
+"""Which replies to a request are allowed, which one `serve` gives, and what the request does (docs/PROTOCOL.md)."""
+import struct
+
+from packets import FLAGS
+from trees import ENTRIES, FILE_BYTES, NAMES, Tree, is_bad, with_given
+
+READ_BYTES, HANDLES, NAMES_OF_REPLY = 32_768, 256, 32
+
+CODES = {
+    "BadFlags": (4, 5), "BadPath": (4, 5), "NoEntry": (2,), "NotDir": (2, 4), "Loop": (2, 4), "Exists": (4,),
+    "IsDir": (4,), "NotLink": (4,), "NotFile": (4,), "NotEmpty": (4,), "Root": (4,), "Inside": (4,), "BadHandle": (4,),
+    "WrongKind": (4,), "NotOpenFor": (3, 4), "NoRoom": (4,), "Unknown": (8,),
+}
+
+# The causes of the table of docs/PROTOCOL.md, in the order in which `serve` looks for one.
+TABLE = ["NoEntry", "NotDir", "Loop", "Exists", "IsDir", "NotLink", "NotFile", "NotEmpty", "Root", "Inside", "BadHandle",
+         "WrongKind", "NotOpenFor", "NoRoom", "Unknown"]
+
+OK, EOF = ("STATUS", (0,)), ("STATUS", (1,))
+
+
+class Ask:
+    """A request: what its paths and its handle lead to, and the causes that refuse it."""
+
+    def __init__(self, session, name, values):
+        self.session, self.tree, self.name, self.values = session, session.tree, name, values
+        self.flags_are_bad, self.path_is_bad, self.walks, self.further = False, False, [], set()
+        getattr(self, "judge_" + name.lower().replace("-", "_"))(*values)
+        if not self.causes() and self.has_no_room():
+            self.further.add("NoRoom")
+
+    def causes(self):
+        """The causes in the order in which `serve` looks for one."""
+        causes = ["BadFlags"] if self.flags_are_bad else []
+        causes += ["BadPath"] if self.path_is_bad else []
+        return causes + self.walks + [cause for cause in TABLE if cause in self.further]
+
+    def add(self, cause, holds):
+        if holds:
+            self.further.add(cause)
+
+    def walk(self, path, follow=False):
+        place, cause = self.tree.walk(path, follow)
+        if cause == "BadPath":
+            self.path_is_bad = True
+        elif cause:
+            self.walks.append(cause)
+        return place
+
+    def kind(self, place):
+        return None if place is None else self.tree.kind(place)
+
+    def has_no_room(self):
+        """Whether a limit would be broken after the request."""
+        return getattr(self, "overfills_" + self.name.lower().replace("-", "_"), lambda: False)()
+
+    # Requests by path.
+
+    def needs(self, path, follow):
+        """A place at which something has to be, or None."""
+        self.place = self.walk(path, follow)
+        self.add("NoEntry", self.place is not None and self.kind(self.place) is None)
+        return self.kind(self.place)
+
+    def judge_open(self, path, flags, given):
+        has = {name for name, bit in FLAGS.items() if flags & bit}
+        self.flags_are_bad = (flags > 63 or not has & {"READ", "WRITE"} or has & {"TRUNC", "EXCL"} and "CREAT" not in has
+                              or has & {"TRUNC", "APPEND"} and "WRITE" not in has)
+        self.flags = has
+        self.place = self.walk(path, follow="EXCL" not in has)
+        kind = self.kind(self.place)
+        self.add("NoEntry", self.place is not None and kind is None and "CREAT" not in has)
+        self.add("Exists", kind is not None and "EXCL" in has)
+        self.add("IsDir", kind == "D" and "EXCL" not in has)
+        self.makes = kind is None
+
+    def overfills_open(self):
+        return self.overfills_opendir() or self.makes and self.overfills_mkdir()
+
+    def judge_opendir(self, path):
+        kind = self.needs(path, follow=True)
+        self.add("NotDir", kind not in (None, "D"))
+
+    def overfills_opendir(self):
+        return len(self.session.open) >= HANDLES
+
+    def judge_lstat(self, path):
+        self.needs(path, follow=False)
+
+    def judge_stat(self, path):
+        self.needs(path, follow=True)
+
+    def judge_realpath(self, path):
+        self.place = self.walk(path, follow=True)
+
+    def judge_readlink(self, path):
+        self.add("NotLink", self.needs(path, follow=False) in ("D", "F"))
+
+    def judge_setstat(self, path, given):
+        self.given = given
+        self.add("NotFile", self.needs(path, follow=True) == "D" and "size" in given)
+
+    def overfills_setstat(self):
+        return self.given.get("size", 0) > FILE_BYTES
+
+    def judge_remove(self, path):
+        self.add("IsDir", self.needs(path, follow=False) == "D")
+
+    def judge_rmdir(self, path):
+        kind = self.needs(path, follow=False)
+        self.add("NotDir", kind in ("F", "L"))
+        self.add("NotEmpty", kind == "D" and self.tree.has_entries(self.place))
+        self.add("Root", self.place == ())
+
+    def judge_new(self, path):
+        self.place = self.walk(path)
+        self.add("Exists", self.kind(self.place) is not None)
+
+    def judge_mkdir(self, path, given):
+        self.judge_new(path)
+
+    def judge_symlink(self, target, path):
+        self.path_is_bad = not target or is_bad(target)
+        self.judge_new(path)
+
+    def overfills_mkdir(self):
+        return len(self.place) > NAMES or len(self.tree.nodes) - 1 >= ENTRIES
+
+    overfills_symlink = overfills_hardlink = overfills_mkdir
+
+    def judge_two(self, old, new):
+        self.old, self.place = self.walk(old), self.walk(new)
+        self.add("NoEntry", self.old is not None and self.kind(self.old) is None)
+        self.is_inside = (self.kind(self.old) == "D" and self.place is not None and self.place != self.old
+                          and self.place[:len(self.old)] == self.old)
+
+    def judge_rename(self, old, new):
+        self.judge_two(old, new)
+        self.add("Exists", self.kind(self.place) is not None)
+        self.add("Root", self.old == ())
+        self.add("Inside", self.is_inside)
+
+    def overfills_rename(self):
+        return self.tree.depth_if_moved(self.old, self.place) > NAMES
+
+    def judge_posix_rename(self, old, new):
+        self.judge_two(old, new)
+        self.add("Root", self.old == () or self.place == ())
+        there, taken = self.tree.nodes.get(self.old), self.tree.nodes.get(self.place)
+        both = self.old is not None and self.place is not None
+        self.is_one = both and (self.old == self.place or there == taken and there is not None and there[0] == "F")
+        if both and not self.is_one:
+            kind, other = self.kind(self.old), self.kind(self.place)
+            self.add("Inside", self.is_inside)
+            self.add("NotDir", kind == "D" and other in ("F", "L"))
+            self.add("IsDir", kind in ("F", "L") and other == "D")
+            self.add("NotEmpty", kind == other == "D" and self.tree.has_entries(self.place))
+
+    def overfills_posix_rename(self):
+        return not self.is_one and self.overfills_rename()
+
+    def judge_hardlink(self, old, new):
+        self.judge_two(old, new)
+        self.add("Exists", self.kind(self.place) is not None)
+        self.add("NotFile", self.kind(self.old) in ("D", "L"))
+
+    # Requests by handle.
+
+    def opened(self, handle, kind=None):
+        """What is open by a handle, if it is of a kind: `F` a file, `L` a listing."""
+        self.handle, self.it = handle, self.session.open.get(handle)
+        self.add("BadHandle", self.it is None)
+        self.add("WrongKind", self.it is not None and kind not in (None, self.it.kind))
+        return self.it if self.it is not None and kind in (None, self.it.kind) else None
+
+    def judge_close(self, handle):
+        self.opened(handle)
+
+    def judge_read(self, handle, offset, length):
+        it = self.opened(handle, "F")
+        self.add("NotOpenFor", it is not None and "READ" not in it.flags)
+
+    def judge_write(self, handle, offset, bytes):
+        it = self.opened(handle, "F")
+        self.add("NotOpenFor", it is not None and "WRITE" not in it.flags)
+
+    def overfills_write(self):
+        _, offset, bytes = self.values
+        return bool(bytes) and self.start_of_write(offset) + len(bytes) > FILE_BYTES
+
+    def start_of_write(self, offset):
+        return len(self.tree.files[self.it.file].bytes) if "APPEND" in self.it.flags else offset
+
+    def judge_fstat(self, handle):
+        self.opened(handle, "F")
+
+    def judge_fsetstat(self, handle, given):
+        self.given = given
+        it = self.opened(handle, "F")
+        self.add("NotOpenFor", it is not None and "size" in given and "WRITE" not in it.flags)
+
+    overfills_fsetstat = overfills_setstat
+
+    def judge_readdir(self, handle):
+        self.opened(handle, "L")
+
+    def judge_fsync(self, handle):
+        self.opened(handle, "F")
+
+    def judge_extended(self, name, rest):
+        self.further.add("Unknown")
+
+    # What is answered where no cause holds.
+
+    def said(self):
+        """The kind of the reply with the values that it has to have; of HANDLE none, of a listing what is left."""
+        name, values = self.name, self.values
+        if name in ("OPEN", "OPENDIR"):
+            return "HANDLE", ()
+        if name in ("STAT", "LSTAT"):
+            return "ATTRS", (self.tree.shown(self.place),)
+        if name == "FSTAT":
+            return "ATTRS", (self.tree.shown_file(self.it.file),)
+        if name == "REALPATH":
+            return "NAME", (b"".join(b"/" + name for name in self.place) or b"/",)
+        if name == "READLINK":
+            return "NAME", (self.tree.nodes[self.place][1],)
+        if name == "READ":
+            _, offset, length = values
+            bytes_ = bytes(self.tree.files[self.it.file].bytes)
+            return ("DATA", (bytes_[offset:offset + min(length, READ_BYTES)],)) if offset < len(bytes_) else EOF
+        if name == "READDIR":
+            return ("LISTING", (self.it.left,)) if self.it.left else EOF
+        return OK
+
+    def do(self, values):
+        """Does the request, whose reply has these values; no cause holds."""
+        tree, session = self.tree, self.session
+        if self.name == "OPEN":
+            self.do_open(values[0])
+        elif self.name == "OPENDIR":
+            session.open[values[0]] = Open(left=session.listing(self.place))
+        elif self.name == "CLOSE":
+            session.close(self.handle)
+        elif self.name == "READDIR" and self.it.left:
+            for name, _, _ in values[0]:
+                del self.it.left[name]
+        elif self.name == "WRITE":
+            self.do_write()
+        elif self.name == "FSETSTAT":
+            tree.set_file(self.it.file, self.given)
+        elif self.name == "SETSTAT":
+            self.do_setstat()
+        elif self.name == "MKDIR":
+            tree.nodes[self.place] = "D", with_given((*tree.owner, 0o755), self.values[1])
+        elif self.name == "SYMLINK":
+            tree.nodes[self.place] = "L", self.values[0]
+        elif self.name in ("REMOVE", "RMDIR"):
+            del tree.nodes[self.place]
+        elif self.name == "RENAME" or self.name == "POSIX-RENAME" and not self.is_one:
+            tree.nodes.pop(self.place, None)
+            tree.move(self.old, self.place)
+        elif self.name == "HARDLINK":
+            tree.nodes[self.place] = tree.nodes[self.old]
+
+    def do_open(self, handle):
+        tree = self.tree
+        if self.makes:
+            tree.nodes[self.place] = "F", tree.make_file(with_given((*tree.owner, 0o644), self.values[2]))
+        number = tree.nodes[self.place][1]
+        if "TRUNC" in self.flags:
+            del tree.files[number].bytes[:]
+        self.session.open[handle] = Open(file=number, flags=self.flags)
+
+    def do_write(self):
+        _, offset, data = self.values
+        content, start = self.tree.files[self.it.file].bytes, self.start_of_write(offset)
+        if data:
+            content.extend(bytes(max(0, start - len(content))))
+            content[start:start + len(data)] = data
+
+    def do_setstat(self):
+        kind, value = self.tree.nodes[self.place]
+        if kind == "F":
+            self.tree.set_file(value, self.given)
+        else:
+            self.tree.nodes[self.place] = kind, with_given(value, self.given)
+
+
+class Open:
+    """What is open: a file with the flags of its OPEN, or a listing, which has the names still to be given."""
+
+    def __init__(self, file=None, flags=(), left=None):
+        self.file, self.flags, self.left = file, flags, left
+        self.kind = "F" if left is None else "L"
+
+
+def is_shown(attributes, wanted):
+    """Whether attributes have the size, the owner and the permissions that are wanted; what else they have is free."""
+    return all(attributes.get(name) == value for name, value in wanted.items())
+
+
+class Session:
+    """A tree and what is open. `slots` and `serial` say which handle `serve` gives next."""
+
+    def __init__(self, tree):
+        self.tree, self.open = tree, {}
+        self.free_slots, self.slots, self.serial = [], 0, 0
+
+    def listing(self, place):
+        return {other[-1]: self.tree.shown(other) for other in self.tree.nodes if other and other[:-1] == place}
+
+    def close(self, handle):
+        it = self.open.pop(handle)
+        if len(handle) == 12:
+            self.free_slots.append(struct.unpack(">QI", handle)[0])
+
+    def new_handle(self):
+        """The name that `serve` gives: the slot that was freed last, or a new one, and how many were given before."""
+        slot = self.free_slots.pop() if self.free_slots else self.slots
+        self.slots = max(self.slots, slot + 1)
+        self.serial += 1
+        return struct.pack(">QI", slot, self.serial - 1)
+
+    def answer(self, request):
+        """The reply that `serve` gives, once the request is done."""
+        name, id, values = request
+        ask = Ask(self, name, values)
+        causes = ask.causes()
+        if causes:
+            return "STATUS", id, [CODES[causes[0]][0], (b"", b"")]
+        kind, said = ask.said()
+        if kind == "HANDLE":
+            values = [self.new_handle()]
+        elif kind == "LISTING":
+            kind, values = "NAME", [[(name, name, said[0][name]) for name in sorted(said[0])[:NAMES_OF_REPLY]]]
+        elif kind == "NAME":
+            values = [[(said[0], said[0], {})]]
+        elif kind == "STATUS":
+            values = [said[0], (b"", b"")]
+        else:
+            values = list(said)
+        ask.do(values)
+        return kind, id, values
+
+    def accept(self, request, reply):
+        """Whether a reply is allowed; then the request is done."""
+        name, _, values = request
+        kind, _, answer = reply
+        ask = Ask(self, name, values)
+        causes = ask.causes()
+        if causes:
+            return kind == "STATUS" and any(answer[0] in CODES[cause] for cause in causes)
+        wanted, said = ask.said()
+        if wanted == "HANDLE":
+            is_allowed = kind == "HANDLE" and answer[0] not in self.open
+        elif wanted == "LISTING":
+            is_allowed = kind == "NAME" and bool(answer[0]) and self.lists(said[0], answer[0])
+        elif wanted == "NAME":
+            is_allowed = kind == "NAME" and len(answer[0]) == 1 and answer[0][0][0] == said[0]
+        elif wanted == "ATTRS":
+            is_allowed = kind == "ATTRS" and is_shown(answer[0], said[0])
+        else:
+            is_allowed = kind == wanted and answer[0] == said[0]
+        if is_allowed:
+            ask.do(answer)
+        return is_allowed
+
+    def lists(self, left, items):
+        names = [name for name, _, _ in items]
+        return (len(set(names)) == len(names)
+                and all(name in left and is_shown(it, left[name]) for name, _, it in items))
