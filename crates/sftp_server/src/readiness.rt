@@ -2,6 +2,7 @@
 ghost use Rattle.std.specs.Prelude.{◌≡◌, ◌≢◌, ◌+◌, ◌-◌, ◌<◌, ◌≤◌, ◌&&◌, ◌++◌, ℕ, suc, [], ◌∷◌, true, false};
 ghost use Rattle.std.specs.Prelude.{IsTrue, IfOk, OnOk, length, take, drop, set};
 ghost use Rattle.std.specs.VecDeque.{deque_len, deque_capacity};
+ghost use Rattle.sftp_handles.specs.Clash.{touched};
 ghost use Rattle.sftp_handles.specs.Touch.{touched_as};
 ghost use Rattle.sftp_server.specs.Readiness.{blank, note_at, touched_at, ask_at, is_in_way, IsFree, IsBlockedBack};
 ghost use Rattle.sftp_server.specs.Readiness.{IsPlaced, AreAlike, possible_count, IsNoted, AreBlocked, AreBlockedBut};
@@ -296,17 +297,22 @@ impl Readiness {
         ensures size { self.new.opened ≡ suc self.old.opened }
         ensures possible { self.new.possible ≡ self.old.possible }
     {
-        let touch = match queue.ask(k) {
-            Some(ask) => session.touch(ask),
-            None => unreachable!(),
-        };
         let mut note = self.notes[k];
-        note.touch = touch;
+        note.touch = touch_of(session, queue, k);
         self.notes[k] = note;
-        if !only_reads(touch) {
+        if !self.only_reads(k) {
             self.writers = k + 1;
         }
         self.opened = k + 1;
+    }
+
+    /// Whether the request at this position changes nothing, by its note.
+    fn only_reads(&self, k: usize) -> bool
+        requires { k < length self.now.notes.items }
+        ensures { result ≡ words.only_reads (note_at self.now.notes.items k).touch }
+    {
+        let note = self.notes[k];
+        only_reads(note.touch)
     }
 
     /// Judges whether the open request at this position, which is pending, is ready.
@@ -373,57 +379,61 @@ impl Readiness {
         ensures free { result ≡ 0 → IsFree queue.now self.now.notes.items k }
         ensures blocked { result ≢ 0 → IsBlockedBack queue.now self.now.notes.items k result }
     {
-        let touch = self.notes[k].touch;
         match queue.ask(k) {
-            Some(ask) => self.search(queue, k, touch, ask),
+            Some(ask) => self.search(queue, k, ask),
             None => unreachable!(),
         }
     }
 
-    /// The same, by what the request asks and touches.
-    fn search(&self, queue: &Queue, k: usize, touch: Touch, ask: &Ask) -> usize
+    /// The same, by what the request asks.
+    fn search(&self, queue: &Queue, k: usize, ask: &Ask) -> usize
         requires within { k < self.now.opened }
         requires noted { IsNoted queue.now self.now.notes.items self.now.first_pending self.now.opened self.now.writers
             self.now.possible }
-        requires touch { touch ≡ (note_at self.now.notes.items k).touch }
         requires ask { ask.now ≡ ask_at queue.now k }
         ensures free { result ≡ 0 → IsFree queue.now self.now.notes.items k }
         ensures blocked { result ≢ 0 → IsBlockedBack queue.now self.now.notes.items k result }
     {
-        let mut j = self.start(touch, k);
+        let mut j = self.start(k);
         'down: while j > self.first_pending {
             j -= 1;
-            if self.is_in_way(queue, j, touch, ask) {
+            if self.is_in_way(queue, j, k, ask) {
                 return k - j;
             }
         }
         0
     }
 
-    /// A position before which all requests stand that may clash with the one at `k`, which touches this.
-    fn start(&self, touch: Touch, k: usize) -> usize
+    /// A position before which all requests stand that may clash with the one at `k`.
+    fn start(&self, k: usize) -> usize
+        requires { k < length self.now.notes.items }
         ensures most { result ≤ k }
-        ensures rest { (j : ℕ) → result ≤ j → j < k → (self.now.writers ≤ j) × (words.only_reads touch ≡ true) }
+        ensures rest { (j : ℕ) → result ≤ j → j < k
+            → (self.now.writers ≤ j) × (words.only_reads (note_at self.now.notes.items k).touch ≡ true) }
     {
-        if only_reads(touch) && self.writers < k {
+        if self.only_reads(k) && self.writers < k {
             self.writers
         } else {
             k
         }
     }
 
-    /// Whether the request at this position is pending and clashes with one that asks and touches this.
-    fn is_in_way(&self, queue: &Queue, k: usize, touch: Touch, ask: &Ask) -> bool
-        requires within { k < length queue.now }
+    /// Whether the request at position `j` is pending and clashes with the one at `k`, which asks this.
+    fn is_in_way(&self, queue: &Queue, j: usize, k: usize, ask: &Ask) -> bool
+        requires within { j < length queue.now }
+        requires there { k < length queue.now }
         requires same { length self.now.notes.items ≡ length queue.now }
-        ensures { result ≡ is_in_way queue.now self.now.notes.items k (touched_as touch ask.now) }
+        requires ask { ask.now ≡ ask_at queue.now k }
+        ensures { result
+            ≡ is_in_way queue.now self.now.notes.items j (touched_at queue.now self.now.notes.items k) }
     {
-        let note = self.notes[k];
-        if !note.pending {
+        let earlier = self.notes[j];
+        if !earlier.pending {
             return false;
         }
-        match queue.ask(k) {
-            Some(earlier) => note.touch.shares(earlier, touch, ask),
+        let later = self.notes[k];
+        match queue.ask(j) {
+            Some(first) => earlier.touch.shares(first, later.touch, ask),
             None => unreachable!(),
         }
     }
@@ -439,7 +449,9 @@ impl Readiness {
         ensures writers { self.new.writers ≡ self.old.writers }
         ensures possible { self.new.possible ≡ self.old.possible }
     {
-        'passed: while self.first_pending < self.notes.len() && !self.notes[self.first_pending].pending {
+        'passed: while self.first_pending < self.notes.len()
+            && !self.notes[self.first_pending].pending
+        {
             self.first_pending += 1;
         }
     }
@@ -463,6 +475,17 @@ impl Readiness {
         self.first_pending = self.first_pending.saturating_sub(count);
         self.opened = self.opened.saturating_sub(count);
         self.writers = self.writers.saturating_sub(count);
+    }
+}
+
+/// What the request at this position touches.
+fn touch_of(session: &Session<SlabTable>, queue: &Queue, k: usize) -> Touch
+    requires { k < length queue.now }
+    ensures { touched_as result (ask_at queue.now k) ≡ touched session.now (ask_at queue.now k) }
+{
+    match queue.ask(k) {
+        Some(ask) => session.touch(ask),
+        None => unreachable!(),
     }
 }
 
