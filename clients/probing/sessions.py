@@ -56,7 +56,8 @@ class Session:
 
 
 class Player:
-    """Sends the steps, with up to `in_flight` of them unanswered, and records all that passes."""
+    """Sends the steps, with up to `in_flight` of them unanswered, and records all that passes. Extensions that VERSION
+    does not announce are left out."""
 
     def __init__(self, process, steps, in_flight):
         self.process, self.in_flight = process, in_flight
@@ -79,13 +80,16 @@ class Player:
                 raise NotStarted(f"no VERSION came: {self.session.end}")
             packet = self.next_packet()
         try:
-            number, _ = sftp3.version_of(packet)
+            number, pairs = sftp3.version_of(packet)
         except sftp3.Malformed as error:
             raise NotStarted(f"the first packet is not right: {error}") from error
         if number != 3:
             raise NotStarted(f"the server speaks version {number}, not 3")
         self.session.records.append((b"S", packet))
         self.patience = PATIENCE
+        announced = {name for name, _ in pairs}
+        self.waiting = [step for step in self.waiting
+                        if sftp3.EXTENSIONS.get(step.name) in announced | {None}]
 
     def play(self):
         self.opening()
