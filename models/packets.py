@@ -6,8 +6,8 @@ import re
 import struct
 
 # name: (type, side, whether an id comes first, the name of an extension, fields). Fields: `u` a uint32, `q` a uint64,
-# `s` a string, `h` the string of a handle, `f` flags of OPEN, `a` attributes, `n` names, `m` the message and the language
-# of a STATUS, `p` pairs up to the end, `*` bytes up to the end.
+# `s` a string, `h` the string of a handle, `f` flags of OPEN, `a` attributes, `n` names, `m` the message and the
+# language of a STATUS, `p` pairs up to the end, `*` bytes up to the end.
 LAYOUTS = {
     "INIT": (1, "C", False, None, "up"),
     "VERSION": (2, "S", False, None, "up"),

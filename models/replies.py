@@ -13,8 +13,8 @@ CODES = {
 }
 
 # The causes of the table of docs/PROTOCOL.md, in the order in which `serve` looks for one.
-TABLE = ["NoEntry", "NotDir", "Loop", "Exists", "IsDir", "NotLink", "NotFile", "NotEmpty", "Root", "Inside", "BadHandle",
-         "WrongKind", "NotOpenFor", "NoRoom", "Unknown"]
+TABLE = ["NoEntry", "NotDir", "Loop", "Exists", "IsDir", "NotLink", "NotFile", "NotEmpty", "Root", "Inside",
+         "BadHandle", "WrongKind", "NotOpenFor", "NoRoom", "Unknown"]
 
 OK, EOF = ("STATUS", (0,)), ("STATUS", (1,))
 
@@ -64,8 +64,9 @@ class Ask:
 
     def judge_open(self, path, flags, given):
         has = {name for name, bit in FLAGS.items() if flags & bit}
-        self.flags_are_bad = (flags > 63 or not has & {"READ", "WRITE"} or has & {"TRUNC", "EXCL"} and "CREAT" not in has
-                              or has & {"TRUNC", "APPEND"} and "WRITE" not in has)
+        self.flags_are_bad = bool(flags > 63 or not has & {"READ", "WRITE"}
+                                  or has & {"TRUNC", "EXCL"} and "CREAT" not in has
+                                  or has & {"TRUNC", "APPEND"} and "WRITE" not in has)
         self.flags = has
         self.place = self.walk(path, follow="EXCL" not in has)
         kind = self.kind(self.place)
