@@ -1,13 +1,12 @@
 -- What the calls of the queue say of the core.
-use Rattle.std.proofs.Common.{◌≡◌, ◌==◌, ◌&&◌, ℕ, zero, suc, ◌≤◌, Bool, true, false, List, [], ◌∷◌, ◌++◌}
-use Rattle.std.proofs.Common.{Option, Some, None, length, take, slice_get, refl, sym, ap, subst, ◌∙◌, arith}
-use Rattle.std.proofs.Common.{◌<◌}
-use Rattle.std.proofs.Common.{nat_lt, Result, Ok, Err}
+use Rattle.std.proofs.Common.{◌≡◌, ◌&&◌, ℕ, zero, suc, ◌<◌, ◌≤◌, Bool, true, false, List, [], ◌∷◌, ◌++◌}
+use Rattle.std.proofs.Common.{Option, Some, None, length, nat_lt, refl, sym, ap, subst, ◌∙◌, arith}
+use Rattle.std.proofs.Common.{Result, Ok, Err}
 use Rattle.std.specs.Result.{OnOk, OnErr}
 use Rattle.std.proofs.Common.{length-append}
 use Rattle.std.specs.List.{AllByRecursion}
 use Rattle.std.specs.Option.{IfSome, IfNone}
-use Rattle.std.proofs.lemmas.Bool.{true≢false, eq-eqb, eqb-true, cases_Bool, ltb-true, ltb-false}
+use Rattle.std.proofs.lemmas.Bool.{ltb-true, ltb-false}
 use Rattle.std.proofs.lemmas.Option.{none-some, same_Some}
 use Rattle.sftp_wire.specs.declared.packets.Request.{Request}
 use Rattle.sftp_wire.specs.declared.packets.Reply.{Reply}
@@ -22,7 +21,7 @@ use Rattle.sftp_server.specs.declared.queue.Progress.{Progress}
 use Rattle.sftp_server.specs.declared.queue.Progress.TheVariants.{Pending, Done, Sent}
 use Rattle.sftp_server.specs.Machine.{Machine, is_pending, is_free_of, ready_in, reply_of, reply_at, IsSent, IsWorked}
 use Rattle.sftp_server.specs.Machine.{from_unsent, is_sent}
-use Rattle.sftp_server.specs.Queue.{first_pending_of, next_request_of, with_progress}
+use Rattle.sftp_server.specs.Queue.{request_in, pending_at, with_progress}
 use Rattle.sftp_server.specs.Core.{server_clash, HasGoodReply, IsSendable, IsCore}
 use Rattle.sftp_server.proofs.Queues.{length-progress, from_unsent-short, from_unsent-pushed, front-done}
 use Rattle.sftp_server.proofs.Queues.{from_unsent-again}
@@ -30,92 +29,39 @@ use Rattle.sftp_server.proofs.Machines.Acts.{all-append, all-parts}
 
 -- ---- what is ready
 
-eqb-suc : (n k : ℕ) → (suc n == suc k) ≡ (n == k)
-eqb-suc n k = grind (arith, cases_Bool, eq-eqb, eqb-true)
-
-eqb-zero : (n : ℕ) → (suc n == 0) ≡ false
-eqb-zero n = grind (arith, cases_Bool, eqb-true)
-
-zero-eqb : (k : ℕ) → (0 == suc k) ≡ false
-zero-eqb k = grind (arith, cases_Bool, eqb-true)
-
--- after a pending request nothing is ready
-pub behind_pending : (s : State) (first : Entry) (earlier : List Entry) (found : Option Entry)
-    → is_pending first.progress ≡ true
-    → ready_in server_clash s (first ∷ earlier) found ≡ false
-unfolding is_free_of
-behind_pending s first earlier None pending = refl
-behind_pending s first earlier (Some entry) pending = rw pending (and_false (is_pending entry.progress))
+-- a request is found pending: so the entry is that request, pending
+pending-parts : (entry : Entry) (request : Request) → request_in (Some entry) ≡ Some request
+    → (entry.request ≡ request) × (entry.progress ≡ Pending)
+pending-parts entry request is = by entry.progress refl
   where
-    and_false : (b : Bool) → (b && false) ≡ false
-    and_false true = refl
-    and_false false = refl
+    by : (progress : Progress) → entry.progress ≡ progress → (entry.request ≡ request) × (entry.progress ≡ Pending)
+    by Pending at =
+        let named : Some entry.request ≡ Some request = rw at at is in
+        (same_Some entry.request request named, at)
+    by (Done reply) at = absurd (none-some request (let f : None ≡ Some request = rw at at is in f))
+    by Sent at = absurd (none-some request (let f : None ≡ Some request = rw at at is in f))
 
--- one that is not pending is in nobody's way
-pub behind_worked : (s : State) (first : Entry) (earlier : List Entry) (found : Option Entry)
-    → is_pending first.progress ≡ false
-    → ready_in server_clash s (first ∷ earlier) found ≡ ready_in server_clash s earlier found
-unfolding is_free_of
-behind_worked s first earlier None worked = refl
-behind_worked s first earlier (Some entry) worked = rw worked refl
+-- one that is pending is ready exactly if it is free of those before it
+pub ready-pending : (s : State) (earlier : List Entry) (found : Option Entry) (request : Request)
+    → request_in found ≡ Some request
+    → ready_in server_clash s earlier found ≡ is_free_of server_clash s earlier request
+ready-pending s earlier None request is = absurd (none-some request is)
+ready-pending s earlier (Some entry) request is =
+    let parts = pending-parts entry request is in
+    rw (parts.1, parts.0) refl
 
--- the request at the position is ready exactly if it is the first pending one
-pub ready-first : (s : State) (queue : List Entry) (k first : ℕ) → first_pending_of queue ≡ Some first
-    → ready_in server_clash s (take k queue) (slice_get queue k) ≡ (first == k)
-unfolding first_pending_of is_free_of
-ready-first s [] k first is = absurd (none-some first is)
-ready-first s (entry ∷ queue) zero first is = by (is_pending entry.progress) refl (first_pending_of queue) refl
+-- one that is not pending is not ready
+pub ready-none : (s : State) (earlier : List Entry) (found : Option Entry) → request_in found ≡ None
+    → ready_in server_clash s earlier found ≡ false
+ready-none s earlier None is = refl
+ready-none s earlier (Some entry) is = by entry.progress refl
   where
-    by : (b : Bool) → is_pending entry.progress ≡ b → (found : Option ℕ) → first_pending_of queue ≡ found
-        → (is_pending entry.progress && true) ≡ (first == 0)
-    by true pending found rest =
-        let zeroth : Some 0 ≡ Some first = rw pending at is in
-        rw (pending, ← same_Some 0 first zeroth) refl
-    by false worked None rest =
-        absurd (none-some first (let f : None ≡ Some first = rw (worked, rest) at is in f))
-    by false worked (Some n) rest =
-        let later : Some (suc n) ≡ Some first = rw (worked, rest) at is in
-        rw (worked, ← same_Some (suc n) first later) (sym (eqb-zero n))
-ready-first s (entry ∷ queue) (suc k) first is =
-    by (λ n. ready-first s queue k n) (is_pending entry.progress) refl (first_pending_of queue) refl
-  where
-    by : ((n : ℕ) → first_pending_of queue ≡ Some n
-        → ready_in server_clash s (take k queue) (slice_get queue k) ≡ (n == k))
-        → (b : Bool) → is_pending entry.progress ≡ b → (found : Option ℕ) → first_pending_of queue ≡ found
-        → ready_in server_clash s (entry ∷ take k queue) (slice_get queue k) ≡ (first == suc k)
-    by rest true pending found at =
-        let zeroth : Some 0 ≡ Some first = rw pending at is in
-        behind_pending s entry (take k queue) (slice_get queue k) pending
-        ∙ rw (← same_Some 0 first zeroth) (sym (zero-eqb k))
-    by rest false worked None at =
-        absurd (none-some first (let f : None ≡ Some first = rw (worked, at) at is in f))
-    by rest false worked (Some n) at =
-        let later : Some (suc n) ≡ Some first = rw (worked, at) at is in
-        behind_worked s entry (take k queue) (slice_get queue k) worked
-        ∙ (rest n at ∙ rw (← same_Some (suc n) first later) (sym (eqb-suc n k)))
-
-pub ready-none : (s : State) (queue : List Entry) (k : ℕ) → first_pending_of queue ≡ None
-    → ready_in server_clash s (take k queue) (slice_get queue k) ≡ false
-unfolding first_pending_of is_free_of
-ready-none s [] k is = none_ready s k
-  where
-    none_ready : (s : State) (k : ℕ) → ready_in server_clash s (take k []) (slice_get [] k) ≡ false
-    none_ready s k = refl
-ready-none s (entry ∷ queue) zero is = by (is_pending entry.progress) refl
-  where
-    by : (b : Bool) → is_pending entry.progress ≡ b → (is_pending entry.progress && true) ≡ false
-    by true pending = absurd (none-some 0 (let f : Some 0 ≡ None = rw pending at is in sym f))
-    by false worked = rw worked refl
-ready-none s (entry ∷ queue) (suc k) is =
-    by (ready-none s queue k) (is_pending entry.progress) refl (first_pending_of queue) refl
-  where
-    by : (first_pending_of queue ≡ None → ready_in server_clash s (take k queue) (slice_get queue k) ≡ false)
-        → (b : Bool) → is_pending entry.progress ≡ b → (found : Option ℕ) → first_pending_of queue ≡ found
-        → ready_in server_clash s (entry ∷ take k queue) (slice_get queue k) ≡ false
-    by rest true pending found at = absurd (none-some 0 (let f : Some 0 ≡ None = rw pending at is in sym f))
-    by rest false worked None at = behind_worked s entry (take k queue) (slice_get queue k) worked ∙ rest at
-    by rest false worked (Some n) at =
-        absurd (none-some (suc n) (let f : Some (suc n) ≡ None = rw (worked, at) at is in sym f))
+    by : (progress : Progress) → entry.progress ≡ progress
+        → (is_pending entry.progress && is_free_of server_clash s earlier entry.request) ≡ false
+    by Pending at =
+        absurd (none-some entry.request (let f : Some entry.request ≡ None = rw at at is in sym f))
+    by (Done reply) at = rw at refl
+    by Sent at = rw at refl
 
 -- ---- a request at its position
 
@@ -139,11 +85,6 @@ at-later entry queue k request progress at = record {
   changed = λ next. ap (λ q. entry ∷ q) (at.changed next);
 }
 
-pending-is : (progress : Progress) → is_pending progress ≡ true → progress ≡ Pending
-pending-is Pending is = refl
-pending-is (Done reply) is = absurd (true≢false (sym is))
-pending-is Sent is = absurd (true≢false (sym is))
-
 entry-is : (entry : Entry) (request : Request) (progress : Progress) → entry.request ≡ request
     → entry.progress ≡ progress → entry ≡ record { request = request; progress = progress }
 entry-is entry request progress same is = rw (← same, ← is) refl
@@ -159,29 +100,15 @@ at-front entry queue request progress same is = record {
   changed = λ next. rw same refl;
 }
 
-pub at-first_pending : (queue : List Entry) (k : ℕ) (request : Request) → first_pending_of queue ≡ Some k
-    → next_request_of queue ≡ Some request → IsAt queue k request Pending
-unfolding first_pending_of next_request_of
-at-first_pending [] k request is next = absurd (none-some k is)
-at-first_pending (entry ∷ queue) k request is next =
-    by (λ n at. at-first_pending queue n request at) (is_pending entry.progress) refl (first_pending_of queue) refl
-  where
-    by : ((n : ℕ) → first_pending_of queue ≡ Some n → next_request_of queue ≡ Some request
-        → IsAt queue n request Pending)
-        → (b : Bool) → is_pending entry.progress ≡ b → (found : Option ℕ) → first_pending_of queue ≡ found
-        → IsAt (entry ∷ queue) k request Pending
-    by rest true pending found at =
-        let zeroth : Some 0 ≡ Some k = rw pending at is in
-        let named : Some entry.request ≡ Some request = rw pending at next in
-        rw (← same_Some 0 k zeroth)
-        (at-front entry queue request Pending (same_Some entry.request request named)
-        (pending-is entry.progress pending))
-    by rest false worked None at =
-        absurd (none-some k (let f : None ≡ Some k = rw (worked, at) at is in f))
-    by rest false worked (Some n) at =
-        let later : Some (suc n) ≡ Some k = rw (worked, at) at is in
-        let named : next_request_of queue ≡ Some request = rw worked at next in
-        rw (← same_Some (suc n) k later) (at-later entry queue n request Pending (rest n at named))
+-- the pending request at the position
+pub at-pending : (queue : List Entry) (k : ℕ) (request : Request) → pending_at queue k ≡ Some request
+    → IsAt queue k request Pending
+at-pending [] k request is = absurd (none-some request is)
+at-pending (entry ∷ queue) zero request is =
+    let parts = pending-parts entry request is in
+    at-front entry queue request Pending parts.0 parts.1
+at-pending (entry ∷ queue) (suc k) request is =
+    at-later entry queue k request Pending (at-pending queue k request is)
 
 replied-is : (progress : Progress) (reply : Reply) → reply_of progress ≡ Some reply → progress ≡ Done reply
 replied-is Pending reply is = absurd (none-some reply is)
@@ -213,36 +140,13 @@ sent-step machine after k reply is after_is =
       marked = rw (← found.1.changed Sent) after_is;
     }
 
--- what is ready is the first pending request
-pub ready-is : (s : State) (queue : List Entry) (k : ℕ)
-    → ready_in server_clash s (take k queue) (slice_get queue k) ≡ true → first_pending_of queue ≡ Some k
-ready-is s queue k ready = by (first_pending_of queue) refl
-  where
-    by : (found : Option ℕ) → first_pending_of queue ≡ found → first_pending_of queue ≡ Some k
-    by None at = absurd (true≢false (sym ready ∙ ready-none s queue k at))
-    by (Some first) at =
-        at ∙ ap (λ (n : ℕ). Some n) (eqb-true first k (sym (ready-first s queue k first at) ∙ ready))
-
-pub no_next : (queue : List Entry) → next_request_of queue ≡ None → first_pending_of queue ≡ None
-unfolding first_pending_of next_request_of
-no_next [] none = refl
-no_next (entry ∷ queue) none = by (no_next queue) (is_pending entry.progress) refl
-  where
-    by : (next_request_of queue ≡ None → first_pending_of queue ≡ None) → (b : Bool) → is_pending entry.progress ≡ b
-        → first_pending_of (entry ∷ queue) ≡ None
-    by rest true pending =
-        absurd (none-some entry.request (let f : Some entry.request ≡ None = rw pending at none in sym f))
-    by rest false worked =
-        let later : next_request_of queue ≡ None = rw worked at none in
-        rw (worked, rest later) refl
-
 pub worked-step : (machine after : Machine State) (k : ℕ) (request : Request) (reply : Reply)
-    → first_pending_of machine.queue ≡ Some k → next_request_of machine.queue ≡ Some request
+    → pending_at machine.queue k ≡ Some request
     → Allowed machine.state request reply after.state → HasSpelling (reply_packet reply)
     → after.window ≡ machine.window → after.queue ≡ with_progress machine.queue k (Done reply)
     → IsWorked Allowed machine k after
-worked-step machine after k request reply first next allowed spelled window queue =
-    let at = at-first_pending machine.queue k request first next in
+worked-step machine after k request reply pending allowed spelled window queue =
+    let at = at-pending machine.queue k request pending in
     record {
       front = at.front;
       request = request;
@@ -303,15 +207,14 @@ sendable-worked queue k request reply at same spelled all =
     (all-append IsSendable at.front (changed ∷ at.back) parts.before ((same, spelled), parts.after))
 
 pub core-worked : (window : ℕ) (queue : List Entry) (k : ℕ) (request : Request) (reply : Reply)
-    → first_pending_of queue ≡ Some k → next_request_of queue ≡ Some request → reply.id ≡ request.id
+    → pending_at queue k ≡ Some request → reply.id ≡ request.id
     → HasSpelling (reply_packet reply) → IsCore window queue → IsCore window (with_progress queue k (Done reply))
-core-worked window queue k request reply first next same spelled is = record {
+core-worked window queue k request reply pending same spelled is = record {
   some = is.some;
   bounded = is.bounded;
   few = rw (length-progress queue k (Done reply)) is.few;
   front = front-done queue k reply is.front;
-  sendable = sendable-worked queue k request reply
-      (at-first_pending queue k request first next) same spelled is.sendable;
+  sendable = sendable-worked queue k request reply (at-pending queue k request pending) same spelled is.sendable;
 }
 
 sendable-sent : (queue : List Entry) (k : ℕ) → AllByRecursion IsSendable queue

@@ -4,5 +4,5 @@ pub mod Runs
 pub mod Ledgers
 pub mod Endings
 pub mod Acts
-pub mod InOrder
+pub mod Laws
 pub mod Reached

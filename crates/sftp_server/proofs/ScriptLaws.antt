@@ -29,7 +29,7 @@ use Rattle.sftp_server.specs.Machine.{Delivers}
 use Rattle.sftp_server.specs.Core.{server_clash, started, IsRefusedFor, IsValue, AreDeliverable}
 use Rattle.sftp_server.specs.Scripts.{IsPerformed}
 use Rattle.sftp_server.proofs.Machines.Acts.{all-append, acts-more}
-use Rattle.sftp_server.proofs.Machines.InOrder as in_order
+use Rattle.sftp_server.proofs.Machines.Laws as core_laws
 use Rattle.sftp_server.proofs.Sessions.Stops.{stays-good, each-answered, reached-begins}
 
 -- ---- values
@@ -141,5 +141,5 @@ pub acts-explained : (start : Tree) (acts : List Act) (events : List Event) (cor
     → Good (started start) → AreActs Allowed server_clash (at_start (started start) 1024) acts events core
     → AreDeliverable acts → core.queue ≡ [] → Explained Allowed (started start) events core.state
 acts-explained start acts events core good steps values empty =
-    in_order.explained stays-good each-answered (started start) 1024 events core good (omega arith)
+    core_laws.explained stays-good each-answered (started start) 1024 events core good (omega arith)
     record { acts = acts; deliverable = values; steps = steps } empty

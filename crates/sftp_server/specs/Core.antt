@@ -1,5 +1,5 @@
 -- The core of this server: the general machine over the states of sessions.
-use Rattle.std.specs.Prelude.{◌≡◌, nat_lt, ℕ, ◌≤◌, true, List, [], length, IsTrue}
+use Rattle.std.specs.Prelude.{◌≡◌, nat_lt, ℕ, ◌≤◌, List, [], length, IsTrue}
 use Rattle.std.specs.List.{AllByRecursion}
 use Rattle.sftp_wire.specs.declared.packets.Packet.TheVariants.{Reply as reply_packet}
 use Rattle.sftp_wire.specs.declared.packets.Request.{Request}
@@ -8,6 +8,7 @@ use Rattle.sftp_transcript.specs.declared.events.Event.{Event}
 use Rattle.sftp_tree.specs.Tree.{Tree}
 use Rattle.sftp_handles.specs.State.{State, settled}
 use Rattle.sftp_handles.specs.Allowed.{Allowed}
+use Rattle.sftp_handles.specs.Clash.{clash}
 use Rattle.sftp_server.specs.declared.queue.Entry.{Entry}
 use Rattle.sftp_server.specs.declared.queue.Progress.{Progress}
 use Rattle.sftp_server.specs.declared.queue.Progress.TheVariants.{Pending, Done, Sent}
@@ -19,9 +20,9 @@ use Rattle.sftp_server.specs.declared.refusals.Refuse.TheVariants.{Full, IdInUse
 use Rattle.sftp_server.specs.Machine.{Machine, at_start, ClashOf, AreActs, Delivers, is_unsent, can_take}
 use Rattle.sftp_server.specs.Machine.{from_unsent}
 
--- The server works in the order asked: any two requests clash.
+-- which requests the server does in the order asked: those that share what they touch, unless both only read it
 abbrev pub server_clash : ClashOf State
-server_clash s earlier later = true
+server_clash s earlier later = clash s earlier later
 
 -- the state in which a session begins on a tree: nothing is open
 abbrev pub started : Tree → State

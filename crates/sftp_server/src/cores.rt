@@ -13,10 +13,11 @@ ghost use Rattle.sftp_server.specs.declared.refusals.Refuse.TheVariants.{NoMemor
 ghost use Rattle.sftp_server.specs.Machine.{is_unsent};
 ghost use Rattle.sftp_server.specs.Machine.{at_start, taken, can_take, is_ready, is_pending_at, reply_at, IsWorked};
 ghost use Rattle.sftp_server.specs.Machine.{IsSent, from_unsent};
-ghost use Rattle.sftp_server.specs.Choices.{choices_of};
+ghost use Rattle.sftp_server.specs.Choices.{listed, choices_at, choices_of};
 ghost use Rattle.sftp_server.specs.Core.{server_clash, started, IsRefusedFor};
 ghost use Rattle.sftp_server.specs.Served.{closed_tree};
 
+use crate::choosing::{count_choices, find_choice, is_free};
 use crate::queue::Queue;
 use crate::refusals::{Did, Refuse};
 use sftp_handles::{Session, SlabTable};
@@ -33,8 +34,9 @@ pub(crate) enum Choice {
     Send(usize),
 }
 
-/// A session, and the queue of the requests that are not all answered yet. Requests are done in the order asked;
-/// replies are sent in any order. A request that was answered stays in the queue while an earlier one is unanswered.
+/// A session, and the queue of the requests that are not all answered yet. Requests that clash are done in the order
+/// asked, all others and the replies in any order. A request that was answered stays in the queue while an earlier one
+/// is unanswered.
 #[derive(Drop)]
 pub struct Core {
     session: Session<SlabTable>,
@@ -114,12 +116,12 @@ impl Core {
         }
     }
 
-    /// Whether the request at this position is pending, and no request before it is. Does not allocate.
+    /// Whether the request at this position is pending, and clashes with no earlier one that is. Does not allocate.
     pub fn ready(&self, k: usize) -> bool
         ensures { result ≡ is_ready server_clash self.now k }
     {
-        match self.queue.first_pending() {
-            Some(first) => first == k,
+        match self.queue.pending(k) {
+            Some(request) => is_free(&self.session, &self.queue, k, request),
             None => false,
         }
     }
@@ -133,7 +135,7 @@ impl Core {
         // Only what was ready is done.
         ensures was_ready { IfOk result (λ d. d ≡ did.Done → IsTrue (is_ready server_clash self.old k)) }
         ensures done { IfOk result (λ d. d ≡ did.Done → IsWorked Allowed self.old k self.new) }
-        // It is pending, and an earlier request has to be done first.
+        // It is pending, and an earlier request with which it clashes has to be done first.
         ensures not_ready { IfOk result (λ d. d ≡ did.NotReady →
             IsTrue (is_pending_at self.old.queue k) × (is_ready server_clash self.old k ≡ false)) }
         ensures no_such { IfOk result (λ d. d ≡ did.NoSuch → is_pending_at self.old.queue k ≡ false) }
@@ -144,11 +146,11 @@ impl Core {
         if !self.ready(k) {
             return Ok(self.not_done(k));
         }
-        let Some(request) = self.queue.next_request() else {
+        let Some(request) = self.queue.pending(k) else {
             return Ok(Did::NoSuch);
         };
         let reply = self.session.answer(request)?;
-        self.queue.complete(reply);
+        self.queue.complete(k, reply);
         Ok(Did::Done)
     }
 
@@ -179,10 +181,7 @@ impl Core {
         ensures count { result ≡ length (choices_of server_clash self.now) }
         ensures front { from_unsent self.now.queue ≡ self.now.queue }
     {
-        match self.queue.first_pending() {
-            Some(_) => self.queue.done() + 1,
-            None => self.queue.done(),
-        }
+        count_choices(self)
     }
 
     /// The act of this number, from 0, among those possible, in the order of the queue.
@@ -190,13 +189,26 @@ impl Core {
         requires { number < length (choices_of server_clash self.now) }
         ensures { slice_get (choices_of server_clash self.now) number ≡ Some result }
     {
-        let pending = self.queue.first_pending();
-        match self.queue.done_at(number) {
-            Some(k) => Choice::Send(k),
-            None => match pending {
-                Some(k) => Choice::Work(k),
-                None => unreachable!(),
-            },
+        find_choice(self, number)
+    }
+
+    /// How many requests the queue has.
+    pub(crate) fn len(&self) -> usize
+        ensures { result ≡ length self.now.queue }
+    {
+        self.queue.len()
+    }
+
+    /// The act that is possible at this position, if one is.
+    pub(crate) fn choice_at(&self, k: usize) -> Option<Choice>
+        ensures { listed result ≡ choices_at server_clash self.now k }
+    {
+        if self.ready(k) {
+            Some(Choice::Work(k))
+        } else if self.queue.is_done(k) {
+            Some(Choice::Send(k))
+        } else {
+            None
         }
     }
 

@@ -3,6 +3,7 @@
 #![tactic(auto)]
 
 mod acts;
+mod choosing;
 mod copying;
 mod cores;
 mod ends;

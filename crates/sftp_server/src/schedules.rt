@@ -9,7 +9,7 @@ pub trait Schedule {
     fn pick(&mut self, count: usize) -> usize;
 }
 
-/// The schedule that always chooses the first act, so that requests are answered in the order asked. Its
+/// The schedule that always chooses the first act, so that requests are done and answered in the order asked. Its
 /// choices do not allocate.
 #[derive(Clone, Copy, Debug, Drop)]
 pub struct InOrder;

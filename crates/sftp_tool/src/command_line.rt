@@ -114,7 +114,7 @@ pub(crate) struct ServeOptions<'a> {
     pub(crate) save: Option<&'a str>,
     /// The name of the file to record the session in.
     pub(crate) record: Option<&'a str>,
-    /// The state that a pseudorandom order of replies starts from; without it they come in the order asked.
+    /// The state that a pseudorandom order of work and replies starts from; without it both go in the order asked.
     pub(crate) shuffle: Option<u64>,
 }
 
@@ -252,7 +252,7 @@ fn shuffle_option<'a>(alloc: Global) -> Arg<'a> {
         .value_name("N")
         .value_parser(value_parser!(u64))
         .action(ArgAction::Set)
-        .help("Reply in a pseudorandom order that N fixes, not in the order asked")
+        .help("Work and reply in a pseudorandom order that N fixes, not in the order asked")
 }
 
 fn audit_command<'a>(alloc: Global) -> Result<Command<'a>, AllocError> {

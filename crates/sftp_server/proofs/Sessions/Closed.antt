@@ -25,7 +25,7 @@ use Rattle.sftp_server.specs.Served.{closed_tree}
 use Rattle.sftp_server.specs.Sessions.{StreamBytes, stream_bytes, Passed, Serves, Ahead, IsRunning, IsEnding}
 use Rattle.sftp_server.specs.Sessions.{input_limit, IsFaultAhead, IsUnopenedYet, ended_by}
 use Rattle.sftp_server.specs.Ending.{closed_end}
-use Rattle.sftp_server.proofs.Machines.InOrder.{explained}
+use Rattle.sftp_server.proofs.Machines.Laws.{explained}
 use Rattle.sftp_server.proofs.Sessions.Stops.{stays-good, each-answered, running-kept}
 use Rattle.sftp_server.proofs.Sessions.Stops.{stopped-reader, stopped-writer, stopped-log}
 

@@ -29,7 +29,7 @@ use Rattle.sftp_server.specs.Core.{server_clash, started, IsReached}
 use Rattle.sftp_server.specs.Served.{session_packets, our_version, answered_last, IsListed}
 use Rattle.sftp_server.specs.Sessions.{StreamBytes, stream_bytes, IsLogging, Ahead, IsRunning}
 use Rattle.sftp_server.specs.Sessions.{IsFaultAhead, FailsToSend, SendsOn}
-use Rattle.sftp_server.proofs.Machines.InOrder.{reply-for}
+use Rattle.sftp_server.proofs.Machines.Laws.{reply-for}
 use Rattle.sftp_server.proofs.Machines.Reached.{reached-worked, reached-sent}
 use Rattle.sftp_server.proofs.Sessions.Lists.{session-more, replied-session, events-more}
 use Rattle.sftp_server.proofs.Sessions.Stops.{stays-good, each-answered, reached-begins, running-listed}

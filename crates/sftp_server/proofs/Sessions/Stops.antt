@@ -30,7 +30,7 @@ use Rattle.sftp_server.specs.Served.{session_packets, sent_by, spelled_if, recor
 use Rattle.sftp_server.specs.Served.{IsCutInLast}
 use Rattle.sftp_server.specs.Sessions.{StreamBytes, stream_bytes, Passed, Serves, ended_by, IsLogging, Ahead, IsRunning}
 use Rattle.sftp_server.specs.Sessions.{FailsToSend}
-use Rattle.sftp_server.proofs.Machines.InOrder as in_order
+use Rattle.sftp_server.proofs.Machines.Laws as core_laws
 use Rattle.sftp_server.proofs.Sessions.Lists.{sent-more, recorded-more}
 
 -- ---- streams that kept their bytes since
@@ -67,18 +67,18 @@ paths-lead t kept follow path place bytes is =
     record { named = found.names; above = found.parent_stands }
 
 -- a good state stays good
-pub stays-good : in_order.StaysGood
+pub stays-good : core_laws.StaysGood
 stays-good s request reply end good fit =
     allowed-good paths-lead s request reply end (listing-fits s.tree good.tree) good fit
 
 -- each request has a reply
-pub each-answered : in_order.IsTotal
+pub each-answered : core_laws.IsTotal
 each-answered = some-allowed paths-lead
 
 pub reached-begins : (start : Tree) (events : List Event) (core : Machine State) → Good (started start)
     → IsReached (started start) 1024 events core → BeginsFrom Allowed (settled start []) events
 reached-begins start events core good reached =
-    in_order.begun stays-good each-answered (started start) 1024 events core good (omega arith) reached
+    core_laws.begun stays-good each-answered (started start) 1024 events core good (omega arith) reached
 
 pub begun : {start : Tree} {past now : StreamBytes} {ahead : Ahead} {core : Machine State} {fault : Option SessionFault}
     → (running : IsRunning start past now ahead core fault) → BeginsFrom Allowed (settled start []) running.events

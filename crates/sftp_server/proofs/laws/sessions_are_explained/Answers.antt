@@ -1,4 +1,4 @@
-use Rattle.sftp_server.proofs.Machines.InOrder.{begun, explained, windowed, still-good}
+use Rattle.sftp_server.proofs.Machines.Laws.{begun, explained, windowed, still-good}
 use Rattle.sftp_server.proofs.laws.sessions_are_explained.Goals as goal
 
 pub returns : goal.returns

@@ -1,11 +1,13 @@
--- The laws of a machine in which any two requests clash.
-use Rattle.std.proofs.Common.{◌≡◌, ◌≤◌, ℕ, true, true≢false, List, []}
+-- The laws of the core, from those of steps that do not clash.
+use Rattle.std.proofs.Common.{◌≡◌, ◌≤◌, ◌∙◌, ℕ, true, false, List, []}
 use Rattle.sftp_wire.specs.declared.packets.Request.{Request}
 use Rattle.sftp_wire.specs.declared.packets.Reply.{Reply}
 use Rattle.sftp_tree.specs.AskValues.{IsAsk}
 use Rattle.sftp_handles.specs.State.{State, Good}
 use Rattle.sftp_handles.specs.Allowed.{Allowed}
 use Rattle.sftp_handles.specs.Laws.{IsAskable, IsAnswerable}
+use Rattle.sftp_handles.specs.Clash.{clash, share}
+use Rattle.sftp_handles.proofs.Exchanges.{exchanged, touched-after}
 use Rattle.sftp_transcript.specs.declared.events.Event.{Event}
 use Rattle.sftp_transcript.specs.Explained.{Explained, BeginsFrom, in_window}
 use Rattle.sftp_server.specs.Machine.{Machine, at_start, IsSent}
@@ -31,10 +33,27 @@ module _ (stays : StaysGood) (total : IsTotal) where
       let some = total s request good is.askable in
       record { reply = some.reply; end = some.end; allowed = some.allowed; spelled = some.spelled }
 
-  in-order : Premises Allowed server_clash Good IsValue
-  in-order = record {
-    exchange = λ s mid end p q a b good is_p is_q apart first second. absurd (true≢false apart);
-    steady = λ s end p o q a good is_p is_o is_q apart. absurd (true≢false apart);
+  -- two requests that do not clash may change places
+  change-places : (s mid end : State) (p q : Request) (a b : Reply) → Good s → IsValue p → IsValue q
+      → server_clash s p q ≡ false → Allowed s q b mid → Allowed mid p a end
+      → (other : State) × Allowed s p a other × Allowed other q b end
+  unfolding clash
+  change-places s mid end p q a b good is_p is_q apart first second =
+      let places = exchanged stays s mid end p q a b good is_p.ask is_q.ask apart first second in
+      (places.between, places.first, places.second)
+
+  -- what does not clash with a request makes nothing else clash with it
+  still-apart : (s end : State) (p o q : Request) (a : Reply) → Good s → IsValue p → IsValue o → IsValue q
+      → server_clash s p q ≡ false → server_clash s o q ≡ false → Allowed s p a end → server_clash end o q ≡ false
+  unfolding clash
+  still-apart s end p o q a good is_p is_o is_q apart free does =
+      (λ i. share (touched-after s end p q a o.ask good is_p.ask apart does i)
+      (touched-after s end p q a q.ask good is_p.ask apart does i)) ∙ free
+
+  premises : Premises Allowed server_clash Good IsValue
+  premises = record {
+    exchange = change-places;
+    steady = still-apart;
     stays_good = λ s end p a good is does. stays s p a end good is.ask does;
     total = some-reply;
     same_id = λ s end p a does. does.same_id;
@@ -43,20 +62,20 @@ module _ (stays : StaysGood) (total : IsTotal) where
   follows : (start : State) (window : ℕ) (events : List Event) (core : Machine State) → Good start
       → window ≤ 1024 → IsReached start window events core → Follows Allowed Good IsValue start core events
   follows start window events core good bound reached =
-      let first = follows-start Allowed server_clash Good IsValue in-order start window good bound in
-      follows-acts Allowed server_clash Good IsValue in-order start (at_start start window) [] reached.acts events core
+      let first = follows-start Allowed server_clash Good IsValue premises start window good bound in
+      follows-acts Allowed server_clash Good IsValue premises start (at_start start window) [] reached.acts events core
       first reached.deliverable reached.steps
 
   pub begun : (start : State) (window : ℕ) (events : List Event) (core : Machine State) → Good start
       → window ≤ 1024 → IsReached start window events core → BeginsFrom Allowed start events
   begun start window events core good bound reached =
-      endings.begins Allowed server_clash Good IsValue in-order start core events
+      endings.begins Allowed server_clash Good IsValue premises start core events
       (follows start window events core good bound reached)
 
   pub explained : (start : State) (window : ℕ) (events : List Event) (core : Machine State) → Good start
       → window ≤ 1024 → IsReached start window events core → core.queue ≡ [] → Explained Allowed start events core.state
   explained start window events core good bound reached empty =
-      endings.explained Allowed server_clash Good IsValue in-order start core events
+      endings.explained Allowed server_clash Good IsValue premises start core events
       (follows start window events core good bound reached) empty
 
   pub windowed : (start : State) (window : ℕ) (events : List Event) (core : Machine State) → Good start
@@ -74,5 +93,5 @@ module _ (stays : StaysGood) (total : IsTotal) where
       (after : Machine State) → Good start → window ≤ 1024 → IsReached start window events core
       → (sent : IsSent core k reply after) → IsReplyFor sent.request (done reply)
   reply-for start window events core k reply after good bound reached =
-      follows-reply Allowed server_clash Good IsValue in-order start core events k reply after
+      follows-reply Allowed server_clash Good IsValue premises start core events k reply after
       (follows start window events core good bound reached)
