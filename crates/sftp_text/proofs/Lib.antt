@@ -7,6 +7,7 @@ pub mod FlagLaws
 pub mod ListLaws
 pub mod SpaceLaws
 pub mod FileLaws
+pub mod TextLaws
 pub mod Exact
 pub mod Repeats
 pub mod Numerals

@@ -11,3 +11,4 @@ pub mod Seen
 pub mod Reads
 pub mod Faults
 pub mod Wholes
+pub mod Texts

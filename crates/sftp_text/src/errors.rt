@@ -165,8 +165,12 @@ impl Stop {
 }
 
 impl Fault {
+    ghost use Rattle.sftp_text.specs.Faults.{IsInLine};
+
     /// The fault of a text, in the line of this number.
-    pub(crate) fn at_line(self, line: u64) -> TextFault {
+    pub(crate) fn at_line(self, line: u64) -> TextFault
+        ensures { IsInLine self line result }
+    {
         match self {
             Fault::NoMemory => TextFault::NoMemory,
             Fault::Unread { column, expected } => TextFault::Unread {

@@ -3,6 +3,7 @@
 #![tactic(auto)]
 
 mod attributes;
+mod due;
 mod errors;
 mod fields;
 mod flags;

@@ -1,10 +1,13 @@
 //! Lines of a text.
-ghost use Rattle.std.specs.Prelude.{◌≡◌, ◌<◌, ◌≤◌, length, IfSome};
+ghost use Rattle.std.specs.Prelude.{◌≡◌, ◌<◌, ◌≤◌, [], take, drop, length, IfSome, MatchOption};
 ghost use Rattle.sftp_text.specs.Lines as lines;
+ghost use Rattle.sftp_text.specs.Texts.{first_line, behind_line};
 
 /// Takes a line from the front of a text, without its line feed. `None` at the end of the text.
 pub fn take_line<'a>(text: &mut &'a [u8]) -> Option<&'a [u8]>
-    ensures { IfSome result (λ _. length text.new.now < length text.old.now) }
+    ensures cut { MatchOption result (text.old.now ≡ [])
+        (λ line. (line.now ≡ first_line text.old.now) × (text.new.now ≡ behind_line text.old.now)) }
+    ensures shorter { IfSome result (λ _. length text.new.now < length text.old.now) }
 {
     if text.is_empty() {
         return None;
@@ -18,15 +21,20 @@ pub fn take_line<'a>(text: &mut &'a [u8]) -> Option<&'a [u8]>
 }
 
 /// How many bytes are in front of the first line feed, or of the end.
+#[tactic(auto, using(crate::proofs::TextLaws::searched_start, crate::proofs::TextLaws::searched_next, crate::proofs::TextLaws::searched_within, crate::proofs::TextLaws::line_at_feed, crate::proofs::TextLaws::behind_at_feed, crate::proofs::TextLaws::line_at_end, crate::proofs::TextLaws::behind_at_end))]
 fn line_length(text: &[u8]) -> usize
-    ensures { result ≤ length text.now }
+    ensures within { result ≤ length text.now }
+    ensures line { take result text.now ≡ first_line text.now }
+    ensures behind { drop 1 (drop result text.now) ≡ behind_line text.now }
 {
-    'bytes: for (i, byte) in text.iter().enumerate() {
-        if *byte == b'\n' {
-            return i;
+    let mut left = text;
+    'bytes: while let Some((first, rest)) = left.split_first() {
+        if *first == b'\n' {
+            return text.len() - left.len();
         }
+        left = rest;
     }
-    text.len()
+    text.len() - left.len()
 }
 
 /// Whether a line says nothing: it is blank, or its first byte but spaces is `#`.

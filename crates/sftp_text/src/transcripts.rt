@@ -1,7 +1,8 @@
 //! Whole transcripts as text, a line a record.
-ghost use Rattle.std.specs.Prelude.{◌≡◌, ◌++◌, ◌≤◌, length, MatchOption, OnOk};
+ghost use Rattle.std.specs.Prelude.{◌≡◌, ◌∷◌, ◌++◌, ◌≤◌, length, MatchOption, OnOk};
 ghost use Rattle.sftp_text.specs.Lines as lines;
-ghost use Rattle.sftp_text.specs.Lines.{records_of, records_up_to};
+ghost use Rattle.sftp_text.specs.Lines.{records_of, records_up_to, side_letter, text_read};
+ghost use Rattle.sftp_text.specs.Texts.{GivesLine, GivesText, onto, line_bytes, transcript_onto};
 ghost use Rattle.sftp_text.specs.Wholes.{Shows, lines_onto, next_record, fed_line};
 
 use crate::errors::{Fault, ShowFault, TextFault};
@@ -92,17 +93,21 @@ pub fn put_transcript(bytes: &[u8], text: &mut Vec<u8>) -> Result<(), ShowFault>
 }
 
 /// Appends a record to a transcript.
-fn append_record(side: Side, record: &[u8], bytes: &mut Vec<u8>) -> Result<(), AllocError> {
+fn append_record(side: Side, packet: &[u8], bytes: &mut Vec<u8>) -> Result<(), AllocError>
+    ensures { OnOk result (bytes.new.items ≡ bytes.old.items ++ side_letter side ∷ packet.now) }
+{
     let letter = match side {
         Side::Client => b'C',
         Side::Server => b'S',
     };
     bytes.push(letter)?;
-    bytes.extend_from_slice(record)
+    bytes.extend_from_slice(packet)
 }
 
-/// Reads a line, and appends its record if it has one.
-fn read_next(line: &[u8], record: &mut Vec<u8>, bytes: &mut Vec<u8>) -> Result<(), Fault> {
+/// Reads a line, and appends its record if it has one. `record` is room for the record.
+fn read_next(line: &[u8], record: &mut Vec<u8>, bytes: &mut Vec<u8>) -> Result<(), Fault>
+    ensures { GivesLine result bytes.new.items (onto bytes.old.items (line_bytes line.now)) }
+{
     if is_blank(line) {
         return Ok(());
     }
@@ -119,7 +124,10 @@ fn read_next(line: &[u8], record: &mut Vec<u8>, bytes: &mut Vec<u8>) -> Result<(
 /// # Errors
 ///
 /// `Unread` with the line and the column where a line differs from the grammar; `NoMemory` if memory runs out.
-pub fn read_transcript(text: &[u8], bytes: &mut Vec<u8>) -> Result<(), TextFault> {
+#[tactic(auto, unfolding(crate::specs::Lines::text_read), using(crate::proofs::TextLaws::lines_start, crate::proofs::TextLaws::lines_go_on, crate::proofs::TextLaws::lines_fail, crate::proofs::TextLaws::lines_end))]
+pub fn read_transcript(text: &[u8], bytes: &mut Vec<u8>) -> Result<(), TextFault>
+    ensures { GivesText result bytes.new.items (transcript_onto bytes.old.items (text_read text.now)) }
+{
     let mut rest = text;
     let mut number: u64 = 0;
     let mut record = Vec::new(*bytes.allocator());

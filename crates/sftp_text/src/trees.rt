@@ -1,5 +1,5 @@
 //! Tree files as text: a line for the head, one for the root, and one an entry.
-ghost use Rattle.std.specs.Prelude.{codes};
+ghost use Rattle.std.specs.Prelude.{◌≡◌, [], codes};
 ghost use Rattle.sftp_text.specs.Formats.{◌then◌, word};
 ghost use Rattle.sftp_text.specs.Digits.{number};
 ghost use Rattle.sftp_text.specs.Quoted.{string_text};
@@ -9,7 +9,10 @@ ghost use Rattle.sftp_text.specs.Trees.{entry_line, first_lines};
 ghost use Rattle.sftp_text.specs.Formats.{repeat_to_end};
 ghost use Rattle.sftp_text.specs.Moves.{Moves, FindsKind};
 ghost use Rattle.sftp_text.specs.Reads.{ShowsAs, ShowsWhole, ReadsAs, EndsAt};
+ghost use Rattle.sftp_text.specs.Lines.{whole};
+ghost use Rattle.sftp_text.specs.Texts.{GivesLine, GivesText, onto, form_of, due_after, lines_from};
 
+use crate::due::Due;
 use crate::errors::{Expected, Fault, ShowFault, Stop, TextFault};
 use crate::lines::{is_blank, take_line};
 use crate::numbers::{put_number, put_octal, read_number, read_octal};
@@ -472,12 +475,38 @@ pub fn read_entry(line: &[u8], bytes: &mut Vec<u8>) -> Result<(), Fault>
     }
 }
 
-/// Reads the line that is due: the head, then the root, then entries.
-fn read_next(due: u64, line: &[u8], bytes: &mut Vec<u8>) -> Result<(), Fault> {
+/// Reads a line in the form that is due, and appends its bytes.
+fn read_due(due: Due, line: &[u8], bytes: &mut Vec<u8>) -> Result<(), Fault>
+    ensures { ReadsAs result bytes.new.items ((form_of due).read bytes.old.items line.now) }
+{
     match due {
-        0 => read_head(line, bytes),
-        1 => read_root(line, bytes),
-        _ => read_entry(line, bytes),
+        Due::Head => read_head(line, bytes),
+        Due::Root => read_root(line, bytes),
+        Due::Entry => read_entry(line, bytes),
+    }
+}
+
+/// Which line is due after it.
+fn due_after(due: Due) -> Due
+    ensures { result ≡ due_after due }
+{
+    match due {
+        Due::Head => Due::Root,
+        Due::Root => Due::Entry,
+        Due::Entry => Due::Entry,
+    }
+}
+
+/// Reads a line in the form that is due, and appends its bytes to those of other lines. `part` is room for them.
+fn read_next(due: Due, line: &[u8], part: &mut Vec<u8>, bytes: &mut Vec<u8>) -> Result<(), Fault>
+    ensures { GivesLine result bytes.new.items
+        (onto bytes.old.items (whole ((form_of due).read [] line.now))) }
+{
+    part.clear();
+    read_due(due, line, part)?;
+    match bytes.extend_from_slice(part.as_slice()) {
+        Ok(()) => Ok(()),
+        Err(_) => Err(Fault::NoMemory),
     }
 }
 
@@ -488,29 +517,34 @@ fn read_next(due: u64, line: &[u8], bytes: &mut Vec<u8>) -> Result<(), Fault> {
 ///
 /// `Unread` with the line and the column where a line differs from the grammar; where the head or the root is missing,
 /// the number of the line after the last. `NoMemory` if memory runs out.
-pub fn read_tree(text: &[u8], bytes: &mut Vec<u8>) -> Result<(), TextFault> {
+#[tactic(auto, unfolding(crate::specs::Trees::tree_read), using(crate::proofs::TextLaws::tree_goes_on, crate::proofs::TextLaws::tree_fails, crate::proofs::TextLaws::tree_passes, crate::proofs::TextLaws::tree_ends, crate::proofs::TextLaws::tree_lacks))]
+pub fn read_tree(text: &[u8], bytes: &mut Vec<u8>) -> Result<(), TextFault>
+    ensures { GivesText result bytes.new.items (onto bytes.old.items (trees.tree_read text.now)) }
+{
     let mut rest = text;
     let mut number: u64 = 0;
-    let mut due: u64 = 0;
+    let mut due = Due::Head;
+    let mut part = Vec::new(*bytes.allocator());
     'lines: while let Some(line) = take_line(&mut rest) {
         number = number.saturating_add(1);
         if !is_blank(line) {
-            match read_next(due, line, bytes) {
-                Ok(()) => {}
+            match read_next(due, line, &mut part, bytes) {
+                Ok(()) => due = due_after(due),
                 Err(fault) => return Err(fault.at_line(number)),
             }
-            due = due.saturating_add(1);
         }
     }
-    missing(due, number.saturating_add(1))
+    complete(due, number.saturating_add(1))
 }
 
-/// What is missing at the end of a text, before the line of this number.
-fn missing(due: u64, line: u64) -> Result<(), TextFault> {
+/// Succeeds where no line of a tree file's text is missing at its end, before the line of this number.
+fn complete(due: Due, line: u64) -> Result<(), TextFault>
+    ensures { GivesText result [] (lines_from due []) }
+{
     let expected = match due {
-        0 => Expected::Head,
-        1 => Expected::Root,
-        _ => return Ok(()),
+        Due::Head => Expected::Head,
+        Due::Root => Expected::Root,
+        Due::Entry => return Ok(()),
     };
     Err(TextFault::Unread {
         line,
