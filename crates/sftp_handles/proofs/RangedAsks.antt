@@ -1,5 +1,5 @@
 -- What a request sees that keeps to a range of a file, and when it keeps to one.
-use Rattle.std.proofs.Common.{◌≡◌, nat_le, ℕ, ◌≤◌, Bool, true, false, List, length, Option, Some, None, Result, Ok, Err}
+use Rattle.std.proofs.Common.{◌≡◌, nat_le, ℕ, ◌≤◌, Bool, true, false, List, length, Option, Some, None, Ok, Err}
 use Rattle.std.proofs.Common.{option_map, refl, sym, ap, subst, ◌∙◌}
 use Rattle.std.proofs.lemmas.Bool.{le-leb, leb-true}
 use Rattle.std.proofs.lemmas.Option.{same_Some}

@@ -1,7 +1,7 @@
 -- Requests that keep to ranges of one file that do not meet: the steps of each change no byte of the other's range, and
 -- leave the file its length. So they may change places.
-use Rattle.std.proofs.Common.{◌≡◌, ◌≢◌, ◌==◌, ◌&&◌, not, nat_lt, nat_le, ℕ, ◌+◌, ◌≤◌, min, Bool, true, false, if◌then◌else◌, List, []}
-use Rattle.std.proofs.Common.{length, take, drop, cond, Option, Some, None, unwrap_or, option_map, ◌⊎◌, inl, inr}
+use Rattle.std.proofs.Common.{◌≡◌, ◌&&◌, not, nat_lt, nat_le, ℕ, ◌+◌, ◌≤◌, min, Bool, true, false, if◌then◌else◌, List, []}
+use Rattle.std.proofs.Common.{length, take, drop, cond, Option, Some, None, unwrap_or, option_map}
 use Rattle.std.proofs.Common.{refl, sym, ap, subst, ◌∙◌, arith}
 use Rattle.std.specs.Ordering.{nat_cmp, is_eq}
 use Rattle.std.specs.Cmp.{IsTotalOrder, nat_cmp_total, Equal-is}
@@ -12,33 +12,27 @@ use Rattle.sftp_wire.specs.declared.open_flags.OpenFlags.{OpenFlags}
 use Rattle.sftp_wire.specs.declared.packets.Ask.{Ask}
 use Rattle.sftp_wire.specs.declared.packets.Ask.TheVariants.{Read, Write}
 use Rattle.sftp_wire.specs.declared.packets.Answer.{Answer}
-use Rattle.sftp_wire.specs.declared.packets.Request.{Request}
-use Rattle.sftp_wire.specs.declared.packets.Reply.{Reply}
 use Rattle.sftp_wire.specs.Spelling.{asked_handle}
 use Rattle.sftp_path.specs.Table.{Table, InOrder, get, put}
-use Rattle.sftp_path.proofs.Table.Laws.{get-put, get-put_here, InOrder-put, same_table}
+use Rattle.sftp_path.proofs.Table.Laws.{get-put, InOrder-put, same_table}
 use Rattle.sftp_treefile.specs.declared.limits.TreeLimits.{TreeLimits}
 use Rattle.sftp_tree.specs.AskValues.{IsAsk}
 use Rattle.sftp_tree.specs.declared.file_contents.Content.{Content}
 use Rattle.sftp_tree.specs.Tree.{content_at, content_fits, with_content, limits}
-use Rattle.sftp_tree.specs.FileChanges.{written, written_content}
+use Rattle.sftp_tree.specs.FileChanges.{written_content}
 use Rattle.sftp_tree.specs.Causes.{is_none, when}
-use Rattle.sftp_handles.specs.declared.byte_range.ByteRange.{ByteRange}
 use Rattle.sftp_handles.specs.State.{State, Good}
 use Rattle.sftp_handles.specs.Seen.{file, seen}
 use Rattle.sftp_tree.specs.declared.causes.Cause.TheVariants.{NoRoom}
 use Rattle.sftp_handles.specs.Replies.{refuses, says, gives, ended, ok}
-use Rattle.sftp_handles.specs.HandleRequests.{row_of, goes_to_end, start_of, with_file_room, causes_of, said_of}
-use Rattle.sftp_handles.specs.HandleRequests.{read_from, change_file, change_of}
-use Rattle.sftp_handles.specs.Allowed.{Allowed, step}
-use Rattle.sftp_handles.specs.Clash.{ComesFirst}
-use Rattle.sftp_handles.specs.Ranges.{written_span, span, meet}
+use Rattle.sftp_handles.specs.HandleRequests.{row_of, goes_to_end, start_of, causes_of, said_of}
+use Rattle.sftp_handles.specs.HandleRequests.{read_from, change_file}
+use Rattle.sftp_handles.specs.Allowed.{step}
+use Rattle.sftp_handles.specs.Ranges.{written_span, span}
 use Rattle.sftp_handles.proofs.Touches.{applied}
-use Rattle.sftp_handles.proofs.Exchanges.{decided, outcome, step-applied, StaysGood}
-use Rattle.sftp_handles.proofs.Steps.{allowed-step, step-is_allowed}
-use Rattle.sftp_handles.proofs.Overwrites.{over, over-length, over-nothing, over-behind, over-before, over-over}
+use Rattle.sftp_handles.proofs.Exchanges.{decided, outcome, step-applied}
+use Rattle.sftp_handles.proofs.Overwrites.{over, over-length, over-nothing}
 use Rattle.sftp_handles.proofs.Overwrites.{written-over}
-use Rattle.sftp_handles.proofs.RangedAsks.{Ranged, ranged-of, ranged-sees}
 
 -- ---- entries put twice
 

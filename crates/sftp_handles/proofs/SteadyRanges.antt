@@ -1,11 +1,11 @@
 -- A step leaves the ranges of the requests that do not clash with its own, and so no clash of ranges arises.
-use Rattle.std.proofs.Common.{◌≡◌, ◌≢◌, ◌==◌, ◌&&◌, not, nat_lt, ℕ, ◌≤◌, Bool, true, false, List, length, Option, Some, None}
+use Rattle.std.proofs.Common.{◌≡◌, ◌≢◌, ◌==◌, ◌&&◌, not, nat_lt, ℕ, Bool, true, false, List, length, Option, Some, None}
 use Rattle.std.proofs.Common.{cond, refl, sym, ap, ◌∙◌, inl, inr, ◌⊎◌}
 use Rattle.std.specs.Ordering.{nat_cmp, is_eq}
 use Rattle.std.specs.Cmp.{nat_cmp_total, nat_eq_equiv, Equal-is}
-use Rattle.std.specs.Cmp.Lexicographic.{nat_list_cmp_total, bytes_decides}
+use Rattle.std.specs.Cmp.Lexicographic.{bytes_decides}
 use Rattle.std.specs.FinMap.{nat_cmp-IsAntisymmetric}
-use Rattle.std.proofs.lemmas.Bool.{eqb-true, eqb-false, and_cases, and_parts, and_right, not-true, not_from_true}
+use Rattle.std.proofs.lemmas.Bool.{eqb-true, eqb-false, and_parts, and_right, not-true, not_from_true}
 use Rattle.std.proofs.lemmas.Option.{same_Some}
 use Rattle.sftp_wire.specs.declared.open_flags.OpenFlags.{OpenFlags}
 use Rattle.sftp_wire.specs.declared.packets.Ask.{Ask}
@@ -25,7 +25,7 @@ use Rattle.sftp_handles.specs.State.{State, Good}
 use Rattle.sftp_handles.specs.Seen.{Needed, anything, a_file, a_listing, seen_file, seen_among, seen}
 use Rattle.sftp_handles.specs.HandleRequests.{row_of, Change, nothing, rewrites, leaves, closes}
 use Rattle.sftp_handles.specs.Allowed.{Allowed}
-use Rattle.sftp_handles.specs.Clash.{Touched, reads_file, writes_file, everything, share, may_change, touched_through}
+use Rattle.sftp_handles.specs.Clash.{Touched, writes_file, everything, share, may_change, touched_through}
 use Rattle.sftp_handles.specs.Clash.{touched_by, touched, clash, ComesFirst}
 use Rattle.sftp_handles.specs.Ranges.{span, range_within, range_of, range_by, range, meet, are_apart, range_clash}
 use Rattle.sftp_handles.proofs.Touches.{applied, IsChangeTo, share-mutual, content-stays, open-stays, touched-is}

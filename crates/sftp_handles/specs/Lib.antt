@@ -11,6 +11,7 @@ pub mod Touch
 pub mod Ranges
 pub mod Examples
 pub mod ClashExamples
+pub mod RangeExamples
 pub mod Given
 pub mod Giving
 pub mod Slots

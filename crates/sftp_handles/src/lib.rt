@@ -26,6 +26,7 @@ pub mod order_examples;
 pub mod order_laws;
 mod performing;
 pub mod pin_laws;
+pub mod range_examples;
 pub mod range_laws;
 mod ranging;
 mod reading;

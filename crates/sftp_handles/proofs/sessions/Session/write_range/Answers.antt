@@ -1,4 +1,4 @@
-use Rattle.std.proofs.Common.{◌+◌, Some, length, option_map, refl, sym, ap, ◌∙◌}
+use Rattle.std.proofs.Common.{length, option_map, refl, sym, ap, ◌∙◌}
 use Rattle.sftp_wire.specs.declared.packets.Ask.TheVariants.{Write}
 use Rattle.sftp_tree.specs.Tree.{content_at}
 use Rattle.sftp_handles.specs.Ranges.{written_span, range_within}
