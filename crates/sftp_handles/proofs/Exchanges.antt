@@ -193,7 +193,7 @@ handle-of s ask = handle-by s ask (asked_handle ask)
 pub not-everything : (at other : Touched) → share at other ≡ false → at ≢ everything
 not-everything at other apart is = absurd (let shared : share at other ≡ true = ap (λ x. share x other) is in cc)
 
-limits-stay : (s : State) (handle : List ℕ) (at : Touched) (change : Change) → IsChangeTo s handle at change
+pub limits-stay : (s : State) (handle : List ℕ) (at : Touched) (change : Change) → IsChangeTo s handle at change
     → at ≢ everything → limits (applied s handle change).tree ≡ limits s.tree
 limits-stay s handle at nothing is apart = refl
 limits-stay s handle at (rewrites number next) is apart = refl

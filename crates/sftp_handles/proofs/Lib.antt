@@ -44,3 +44,4 @@ pub mod RangedAsks
 pub mod RangedSteps
 pub mod RangeExchanges
 pub mod SteadyRanges
+pub mod RangesKept

@@ -134,7 +134,7 @@ module _ (s : State) (ask : Ask) (number : ℕ) (before next : Content)
   sized-named None = refl
   sized-named (Some handle) = sized-open (row_of ask).needed (open_at s.handles handle)
 
-  range-sized : range (with_file s number next) ask ≡ range s ask
+  pub range-sized : range (with_file s number next) ask ≡ range s ask
   unfolding range
   range-sized = sized-named (asked_handle ask)
 

@@ -14,7 +14,7 @@ use Rattle.sftp_handles.specs.declared.byte_range.ByteRange.{ByteRange}
 use Rattle.sftp_handles.specs.State.{State}
 use Rattle.sftp_handles.specs.Seen.{Seen, file, seen}
 use Rattle.sftp_handles.specs.HandleRequests.{goes_to_end, row_of}
-use Rattle.sftp_handles.specs.Clash.{clash}
+use Rattle.sftp_handles.specs.Clash.{Touched, writes_file, clash}
 
 -- ---- the range of a request
 
@@ -54,6 +54,12 @@ range_by s ask (Some handle) = range_of (limits s.tree) ask (seen s (row_of ask)
 -- the range that a request keeps to, if it keeps to one within its file
 unfoldable pub range : State → Ask → Option ByteRange
 range s ask = range_by s ask (asked_handle ask)
+
+-- whether a request that touches this and keeps to this range may change the length of its file: it may change the
+-- file, and keeps to no range within it
+abbrev pub may_resize : Touched → Option ByteRange → Bool
+may_resize (writes_file number) None = true
+may_resize _ _ = false
 
 -- ---- clashes
 
