@@ -1,12 +1,8 @@
 -- What the calls of the queue say of the core.
 use Rattle.std.proofs.Common.{◌≡◌, ◌&&◌, ℕ, zero, suc, ◌<◌, ◌≤◌, Bool, true, false, List, [], ◌∷◌, ◌++◌}
-use Rattle.std.proofs.Common.{Option, Some, None, length, nat_lt, refl, sym, ap, subst, ◌∙◌, arith}
-use Rattle.std.proofs.Common.{Result, Ok, Err}
-use Rattle.std.specs.Result.{OnOk, OnErr}
-use Rattle.std.proofs.Common.{length-append}
+use Rattle.std.proofs.Common.{Option, Some, None, length, refl, sym, ap, subst, ◌∙◌, arith, length-append}
 use Rattle.std.specs.List.{AllByRecursion}
 use Rattle.std.specs.Option.{IfSome, IfNone}
-use Rattle.std.proofs.lemmas.Bool.{ltb-true, ltb-false}
 use Rattle.std.proofs.lemmas.Option.{none-some, same_Some}
 use Rattle.sftp_wire.specs.declared.packets.Request.{Request}
 use Rattle.sftp_wire.specs.declared.packets.Reply.{Reply}
@@ -14,8 +10,6 @@ use Rattle.sftp_wire.specs.declared.packets.Packet.TheVariants.{Reply as reply_p
 use Rattle.sftp_wire.specs.Spelling.{HasSpelling}
 use Rattle.sftp_handles.specs.State.{State}
 use Rattle.sftp_handles.specs.Allowed.{Allowed}
-use Rattle.sftp_server.specs.declared.refusals.Refuse.{Refuse}
-use Rattle.sftp_server.specs.declared.refusals.Refuse.TheVariants.{Full}
 use Rattle.sftp_server.specs.declared.queue.Entry.{Entry}
 use Rattle.sftp_server.specs.declared.queue.Progress.{Progress}
 use Rattle.sftp_server.specs.declared.queue.Progress.TheVariants.{Pending, Done, Sent}
@@ -167,7 +161,7 @@ unfolding from_unsent
 core-new window some bounded =
     record { some = some; bounded = bounded; few = omega arith; front = refl; sendable = tt }
 
-core-taken : (window : ℕ) (queue : List Entry) (request : Request) → IsCore window queue
+pub core-taken : (window : ℕ) (queue : List Entry) (request : Request) → IsCore window queue
     → length queue < window → IsCore window (queue ++ record { request = request; progress = Pending } ∷ [])
 core-taken window queue request is room = record {
   some = is.some;
@@ -176,24 +170,6 @@ core-taken window queue request is room = record {
   front = from_unsent-pushed queue request is.front;
   sendable = all-append IsSendable queue (record { request = request; progress = Pending } ∷ []) is.sendable (tt, tt);
 }
-
--- if there is room, the queue is not full
-has_room : (found : Option Refuse) (size window : ℕ) → (window ≤ size → found ≡ Some Full) → found ≡ None
-    → size < window
-has_room found size window full none = by (nat_lt size window) refl
-  where
-    by : (b : Bool) → nat_lt size window ≡ b → size < window
-    by true is = ltb-true size window is
-    by false is = absurd (none-some Full (sym none ∙ full (ltb-false size window is)))
-
-pub core-pushed : (window : ℕ) (queue after : List Entry) (request : Request) (found : Option Refuse)
-    (result : Result (Unit {0}) Request) → IsCore window queue → (window ≤ length queue → found ≡ Some Full)
-    → found ≡ None
-    → OnOk result (after ≡ queue ++ record { request = request; progress = Pending } ∷ [])
-    → OnErr result (after ≡ queue) → IsCore window after
-core-pushed window queue after request found (Ok it) is full none pushed same =
-    rw pushed (core-taken window queue request is (has_room found (length queue) window full none))
-core-pushed window queue after request found (Err back) is full none pushed same = rw same is
 
 sendable-worked : (queue : List Entry) (k : ℕ) (request : Request) (reply : Reply) → IsAt queue k request Pending
     → reply.id ≡ request.id → HasSpelling (reply_packet reply) → AllByRecursion IsSendable queue

@@ -8,7 +8,7 @@ pub mod StillTouched
 pub mod Machines
 pub mod Sessions
 pub mod ChoiceLaws
-pub mod Passes
 pub mod ScriptLaws
 pub mod Worked
 pub mod Notes
+pub mod CoreNotes

@@ -1,6 +1,6 @@
 -- What a machine may do next.
 use Rattle.std.specs.Prelude.{◌+◌, ℕ, zero, suc, List, [], ◌∷◌, ◌++◌}
-use Rattle.std.specs.Prelude.{is_some, Option, Some, None}
+use Rattle.std.specs.Prelude.{is_some}
 use Rattle.std.specs.Prelude.{if◌then◌else◌, IsTrue, length}
 use Rattle.sftp_server.specs.declared.cores.Choice.{Choice}
 use Rattle.sftp_server.specs.declared.cores.Choice.TheVariants.{Work, Send}
@@ -13,11 +13,6 @@ use Rattle.sftp_server.specs.Machine.{Machine, ClashOf, is_ready, reply_at}
 abbrev pub choices_at : {S : Type 0} → ClashOf S → Machine S → ℕ → List Choice
 choices_at clash machine k =
     if is_ready clash machine k then Work k ∷ [] else if is_some (reply_at machine.queue k) then Send k ∷ [] else []
-
--- that act, or none
-abbrev pub listed : Option Choice → List Choice
-listed None = []
-listed (Some choice) = choice ∷ []
 
 -- those at `count` positions from `k` on
 unfoldable pub choices_from : {S : Type 0} → ClashOf S → Machine S → ℕ → ℕ → List Choice

@@ -14,6 +14,7 @@ use Rattle.sftp_handles.specs.Touch.{touched_as}
 use Rattle.sftp_handles.specs.State.{State}
 use Rattle.sftp_server.specs.declared.queue.Entry.{Entry}
 use Rattle.sftp_server.specs.declared.readiness.Note.{Note}
+use Rattle.sftp_server.specs.declared.readiness.Readiness.{Readiness}
 use Rattle.sftp_server.specs.Machine.{is_pending_at, reply_at}
 
 -- ---- what the notes say
@@ -143,6 +144,12 @@ pub record AreNotes (s : State) (queue : List Entry) (notes : List Note) (first_
 -- all requests are open that can be ready
 abbrev pub IsOpened : List Entry → List Note → ℕ → Type 0
 IsOpened queue notes opened = opened < length queue → IsShut notes opened
+
+-- the notes are those of the queue in the state, and all requests are open that can be ready
+abbrev pub KeepsNotes : State → List Entry → Readiness → Type 0
+KeepsNotes s queue r =
+    AreNotes s queue r.notes.items r.first_pending r.opened r.writers r.possible
+    × IsOpened queue r.notes.items r.opened
 
 -- ---- what the steps change
 

@@ -13,12 +13,12 @@ ghost use Rattle.sftp_server.specs.declared.refusals.Refuse.TheVariants.{NoMemor
 ghost use Rattle.sftp_server.specs.Machine.{is_unsent};
 ghost use Rattle.sftp_server.specs.Machine.{at_start, taken, can_take, is_ready, is_pending_at, reply_at, IsWorked};
 ghost use Rattle.sftp_server.specs.Machine.{IsSent, from_unsent};
-ghost use Rattle.sftp_server.specs.Choices.{listed, choices_at, choices_of};
+ghost use Rattle.sftp_server.specs.Choices.{choices_of};
 ghost use Rattle.sftp_server.specs.Core.{server_clash, started, IsRefusedFor};
 ghost use Rattle.sftp_server.specs.Served.{closed_tree};
 
-use crate::choosing::{count_choices, find_choice, is_free};
 use crate::queue::Queue;
+use crate::readiness::Readiness;
 use crate::refusals::{Did, Refuse};
 use sftp_handles::{Session, SlabTable};
 use sftp_tree::{NoMemory, Tree};
@@ -41,6 +41,8 @@ pub(crate) enum Choice {
 pub struct Core {
     session: Session<SlabTable>,
     queue: Queue,
+    /// Which requests of the queue are ready.
+    readiness: Readiness,
     window: usize,
 }
 
@@ -48,12 +50,13 @@ impl Model for Core {
     ghost use Rattle.sftp_handles.specs.State.{State};
     ghost use Rattle.sftp_server.specs.Machine.{Machine};
     ghost use Rattle.sftp_server.specs.Core.{IsCore};
+    ghost use Rattle.sftp_server.specs.Readiness.{KeepsNotes};
 
     ghost Value = { Machine State };
 
     ghost view = { λ c. record { state = c.session; window = c.window; queue = c.queue } };
 
-    ghost invariant = { λ c. IsCore c.window c.queue };
+    ghost invariant = { λ c. IsCore c.window c.queue × KeepsNotes c.session c.queue c.readiness };
 }
 
 impl Core {
@@ -72,6 +75,7 @@ impl Core {
         Ok(Core {
             session: Session::new(tree)?,
             queue: Queue::new(alloc),
+            readiness: Readiness::new(alloc),
             window,
         })
     }
@@ -91,10 +95,33 @@ impl Core {
     {
         match self.refusal(request.id) {
             Some(refuse) => Err((request, refuse)),
-            None => match self.queue.push(request) {
+            None => match self.take(request) {
                 Ok(()) => Ok(()),
                 Err(request) => Err((request, Refuse::NoMemory)),
             },
+        }
+    }
+
+    /// Takes a request for which there is room, and whose id is not in use.
+    ///
+    /// # Errors
+    ///
+    /// The request comes back if memory runs out; the core is as before.
+    fn take(&mut self, request: Request) -> Result<(), Request>
+        requires { IsTrue (can_take self.old request) }
+        ensures taken { OnOk result (self.new ≡ taken self.old request) }
+        ensures returned { IfErr result (λ r. r ≡ request) }
+        ensures err { OnErr result (self.new ≡ self.old) }
+    {
+        if self.readiness.reserve().is_err() {
+            return Err(request);
+        }
+        match self.queue.push(request) {
+            Ok(()) => {
+                self.readiness.push(&self.session, &self.queue);
+                Ok(())
+            }
+            Err(request) => Err(request),
         }
     }
 
@@ -120,10 +147,7 @@ impl Core {
     pub fn ready(&self, k: usize) -> bool
         ensures { result ≡ is_ready server_clash self.now k }
     {
-        match self.queue.pending(k) {
-            Some(request) => is_free(&self.session, &self.queue, k, request),
-            None => false,
-        }
+        self.readiness.is_ready(k)
     }
 
     /// Does the request at this position if it is ready. Unless the result is `Done`, the core is as before.
@@ -151,6 +175,8 @@ impl Core {
         };
         let reply = self.session.answer(request)?;
         self.queue.complete(k, reply);
+        self.readiness.mark_done(k);
+        self.readiness.refresh(&self.session, &self.queue, k);
         Ok(Did::Done)
     }
 
@@ -173,7 +199,14 @@ impl Core {
         ensures spelled { IfSome result (λ reply. HasSpelling (reply_packet reply)) }
         ensures unchanged { IfNone result (self.new ≡ self.old) }
     {
-        self.queue.send(k)
+        let before = self.queue.len();
+        match self.queue.send(k) {
+            Some(reply) => {
+                self.readiness.mark_sent(k, before - self.queue.len());
+                Some(reply)
+            }
+            None => None,
+        }
     }
 
     /// How many acts are possible: requests that are ready, and replies to be sent.
@@ -181,7 +214,7 @@ impl Core {
         ensures count { result ≡ length (choices_of server_clash self.now) }
         ensures front { from_unsent self.now.queue ≡ self.now.queue }
     {
-        count_choices(self)
+        self.readiness.possible()
     }
 
     /// The act of this number, from 0, among those possible, in the order of the queue.
@@ -189,26 +222,11 @@ impl Core {
         requires { number < length (choices_of server_clash self.now) }
         ensures { slice_get (choices_of server_clash self.now) number ≡ Some result }
     {
-        find_choice(self, number)
-    }
-
-    /// How many requests the queue has.
-    pub(crate) fn len(&self) -> usize
-        ensures { result ≡ length self.now.queue }
-    {
-        self.queue.len()
-    }
-
-    /// The act that is possible at this position, if one is.
-    pub(crate) fn choice_at(&self, k: usize) -> Option<Choice>
-        ensures { listed result ≡ choices_at server_clash self.now k }
-    {
-        if self.ready(k) {
-            Some(Choice::Work(k))
-        } else if self.queue.is_done(k) {
-            Some(Choice::Send(k))
+        let k = self.readiness.choice(number);
+        if self.readiness.is_pending(k) {
+            Choice::Work(k)
         } else {
-            None
+            Choice::Send(k)
         }
     }
 
@@ -225,6 +243,7 @@ impl Core {
     {
         if self.queue.len() == 0 {
             drop(self.queue);
+            drop(self.readiness);
             Ok(self.session.into_tree())
         } else {
             Err(self)

@@ -3,7 +3,6 @@
 #![tactic(auto)]
 
 mod acts;
-mod choosing;
 mod copying;
 mod cores;
 mod ends;

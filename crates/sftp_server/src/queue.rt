@@ -1,6 +1,6 @@
 //! The queue of a server: its requests from the first unanswered one on.
 ghost use Rattle.std.specs.Prelude.{◌≡◌, ◌+◌, ◌≤◌, ◌++◌, [], ◌∷◌, IsTrue, false, length};
-ghost use Rattle.std.specs.Prelude.{IfErr, OnOk, OnErr, IfSome, IfNone, is_some, option_copied, slice_get};
+ghost use Rattle.std.specs.Prelude.{IfErr, OnOk, OnErr, IfSome, IfNone, option_copied, slice_get};
 ghost use Rattle.std.specs.Option.{option_map};
 ghost use Rattle.sftp_server.specs.declared.queue.Progress.TheVariants as progress;
 ghost use Rattle.sftp_server.specs.Machine.{is_unsent, is_pending_at, reply_at, from_unsent};
@@ -119,27 +119,6 @@ impl Queue {
         }
     }
 
-    /// Whether the request at this position is pending.
-    pub(crate) fn is_pending(&self, k: usize) -> bool
-        ensures { result ≡ is_pending_at self.now k }
-    {
-        self.pending(k).is_some()
-    }
-
-    /// Whether the request at this position is done, and its reply is not sent yet.
-    pub(crate) fn is_done(&self, k: usize) -> bool
-        ensures { result ≡ is_some (reply_at self.now k) }
-    {
-        match self.entries.get(k) {
-            Some(entry) => match entry.progress {
-                Progress::Pending => false,
-                Progress::Done(_) => true,
-                Progress::Sent => false,
-            },
-            None => false,
-        }
-    }
-
     /// What the request at this position asks.
     pub(crate) fn ask(&self, k: usize) -> Option<&Ask>
         ensures ask { IfSome result (λ ask. ask.now ≡ ask_at self.now k) }
@@ -151,15 +130,22 @@ impl Queue {
         }
     }
 
+    /// Whether the request at this position is pending.
+    pub(crate) fn is_pending(&self, k: usize) -> bool
+        ensures { result ≡ is_pending_at self.now k }
+    {
+        self.pending(k).is_some()
+    }
+
     /// Marks the pending request at this position as done with this reply.
     pub(crate) fn complete(&mut self, k: usize, reply: Reply)
         requires { IsTrue (is_pending_at self.old k) }
         ensures { self.new ≡ with_progress self.old k (progress.Done reply) }
     {
-        match self.entries.get_mut(k) {
-            Some(entry) => drop(replace(&mut entry.progress, Progress::Done(reply))),
-            None => drop(reply),
-        }
+        let Some(entry) = self.entries.get_mut(k) else {
+            unreachable!();
+        };
+        drop(replace(&mut entry.progress, Progress::Done(reply)));
     }
 
     /// The reply of the request at this position, which is then sent, if it is done and not sent. Requests at the front

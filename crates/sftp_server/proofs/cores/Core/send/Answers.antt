@@ -1,22 +1,40 @@
-use Rattle.sftp_server.proofs.CoreSteps.{core-sent, sent-answers, spelled-answers}
+use Rattle.std.proofs.Common.{List, sym, ap}
+use Rattle.sftp_handles.specs.State.{State}
+use Rattle.sftp_server.specs.declared.queue.Entry.{Entry}
+use Rattle.sftp_server.specs.Machine.{Machine}
+use Rattle.sftp_server.proofs.CoreSteps.{core-sent, sent-step, spelled-at}
+use Rattle.sftp_server.proofs.CoreNotes.{sent-shorter, keeps-sent}
 use Rattle.sftp_server.proofs.cores.Core.send.Goals as goal
+
+pub overflow_sub-before : goal.overflow_sub-before
+overflow_sub-before c =
+    rw (c.len.ensures, c.len-before.ensures)
+    (sent-shorter c.self.inside.queue c.send.new.self c.args.k c.in-Some.ensures.sent)
 
 pub invariant_of-self : goal.invariant_of-self
 invariant_of-self c =
-    core-sent c.self.inside.window c.self.inside.queue c.send.new.self c.args.k c.send.result c.self.invariant
-    c.send.ensures.sent c.send.ensures.unchanged
+    let old = c.self.inside in (
+      core-sent old.window old.queue c.send.new.self c.args.k c.send.result c.self.invariant.0 c.send.ensures.sent
+          c.send.ensures.unchanged,
+      keeps-sent old.session old.queue c.send.new.self old.readiness c.mark_sent.new.self c.args.k
+          c.len-before.result c.len.result c.in-Some.reply c.self.invariant.1 (sym c.in-Some.ensures.reply)
+          c.in-Some.ensures.sent c.len-before.ensures c.len.ensures (record {
+            notes = c.mark_sent.ensures.notes;
+            first_pending = c.mark_sent.ensures.first_pending;
+            size = c.mark_sent.ensures.size;
+            writers = c.mark_sent.ensures.writers;
+            possible = c.mark_sent.ensures.possible;
+          }),
+    )
 
-pub returns-clause-sent : goal.returns-clause-sent
-returns-clause-sent c =
-    let before = c.self.inside in
+pub returns-in-Some-clause-sent : goal.returns-in-Some-clause-sent
+returns-in-Some-clause-sent c =
+    let old = c.self.inside in
+    let machine : Machine State = record { state = old.session; window = old.window; queue = old.queue } in
     rw (← c.self.view_is)
-    (sent-answers (record {
-      state = before.session;
-      window = before.window;
-      queue =
-          before.queue;
-    }) c.send.new.self c.args.k c.send.result c.send.ensures.reply c.send.ensures.sent)
+    (sent-step machine (record machine { queue = c.send.new.self }) c.args.k c.in-Some.reply
+    (sym c.in-Some.ensures.reply) (ap (λ (queue : List Entry). record machine { queue = queue }) c.in-Some.ensures.sent))
 
-pub returns-clause-spelled : goal.returns-clause-spelled
-returns-clause-spelled c =
-    spelled-answers c.self.inside.queue c.args.k c.send.result c.self.invariant.sendable c.send.ensures.reply
+pub returns-in-Some-clause-spelled : goal.returns-in-Some-clause-spelled
+returns-in-Some-clause-spelled c =
+    spelled-at c.self.inside.queue c.args.k c.in-Some.reply c.self.invariant.0.sendable (sym c.in-Some.ensures.reply)

@@ -1,8 +1,17 @@
-use Rattle.std.proofs.Common.{◌≡◌, Some, refl, sym, ◌∙◌}
+use Rattle.std.proofs.Common.{◌≡◌, ℕ, true, Some, refl, sym, subst, ◌∙◌}
+use Rattle.sftp_handles.specs.State.{State}
+use Rattle.sftp_server.specs.Machine.{Machine, is_ready}
 use Rattle.sftp_server.specs.Queue.{pending_at}
+use Rattle.sftp_server.specs.Core.{server_clash}
 use Rattle.sftp_server.proofs.Queues.{is-pending, not-pending}
 use Rattle.sftp_server.proofs.CoreSteps.{worked-step, core-worked}
+use Rattle.sftp_server.proofs.CoreNotes.{ready-inside, keeps-done}
 use Rattle.sftp_server.proofs.cores.Core.work.Goals as goal
+
+-- what is ready as the core is seen is ready as it is kept
+was-ready : (k : ℕ) {kept seen : Machine State} → kept ≡ seen → is_ready server_clash seen k ≡ true
+    → is_ready server_clash kept k ≡ true
+was-ready k same ready = subst (λ (m : Machine State). is_ready server_clash m k ≡ true) (sym same) ready
 
 pub returns-in_default-clause-no_such : goal.returns-in_default-clause-no_such
 returns-in_default-clause-no_such c = λ _.
@@ -13,14 +22,86 @@ pub complete-requires : goal.complete-requires
 complete-requires c =
     is-pending c.self.inside.queue c.args.k c.in-Some.request.now (sym c.pending.ensures ∙ rw c.in-Some.is refl)
 
+pub mark_done-requires : goal.mark_done-requires
+mark_done-requires c =
+    let old = c.self.inside in
+    ready-inside old.session old.queue old.readiness c.args.k c.self.invariant.1
+    (was-ready c.args.k c.self.view_is (sym c.ready.ensures ∙ c.if-not-ready.false))
+
+pub refresh-requires-clause-within : goal.refresh-requires-clause-within
+refresh-requires-clause-within c =
+    let old = c.self.inside in
+    let can = keeps-done old.session c.answer.new.self old.queue c.complete.new.self old.readiness c.mark_done.new.self
+    c.args.k c.in-Some.request.now c.in_ok-reply.reply c.self.invariant.1
+    (was-ready c.args.k c.self.view_is (sym c.ready.ensures ∙ c.if-not-ready.false))
+    (sym c.pending.ensures ∙ rw c.in-Some.is refl) c.in_ok-reply.ensures.allowed c.complete.ensures
+    (record {
+      notes = c.mark_done.ensures.notes;
+      first_pending = c.mark_done.ensures.first_pending;
+      size = c.mark_done.ensures.size;
+      writers = c.mark_done.ensures.writers;
+      possible = c.mark_done.ensures.possible;
+    }) in
+    can.within
+
+pub refresh-requires-clause-noted : goal.refresh-requires-clause-noted
+refresh-requires-clause-noted c =
+    let old = c.self.inside in
+    let can = keeps-done old.session c.answer.new.self old.queue c.complete.new.self old.readiness c.mark_done.new.self
+    c.args.k c.in-Some.request.now c.in_ok-reply.reply c.self.invariant.1
+    (was-ready c.args.k c.self.view_is (sym c.ready.ensures ∙ c.if-not-ready.false))
+    (sym c.pending.ensures ∙ rw c.in-Some.is refl) c.in_ok-reply.ensures.allowed c.complete.ensures
+    (record {
+      notes = c.mark_done.ensures.notes;
+      first_pending = c.mark_done.ensures.first_pending;
+      size = c.mark_done.ensures.size;
+      writers = c.mark_done.ensures.writers;
+      possible = c.mark_done.ensures.possible;
+    }) in
+    can.noted
+
+pub refresh-requires-clause-blocked : goal.refresh-requires-clause-blocked
+refresh-requires-clause-blocked c =
+    let old = c.self.inside in
+    let can = keeps-done old.session c.answer.new.self old.queue c.complete.new.self old.readiness c.mark_done.new.self
+    c.args.k c.in-Some.request.now c.in_ok-reply.reply c.self.invariant.1
+    (was-ready c.args.k c.self.view_is (sym c.ready.ensures ∙ c.if-not-ready.false))
+    (sym c.pending.ensures ∙ rw c.in-Some.is refl) c.in_ok-reply.ensures.allowed c.complete.ensures
+    (record {
+      notes = c.mark_done.ensures.notes;
+      first_pending = c.mark_done.ensures.first_pending;
+      size = c.mark_done.ensures.size;
+      writers = c.mark_done.ensures.writers;
+      possible = c.mark_done.ensures.possible;
+    }) in
+    can.blocked
+
+pub refresh-requires-clause-marks : goal.refresh-requires-clause-marks
+refresh-requires-clause-marks c =
+    let old = c.self.inside in
+    let can = keeps-done old.session c.answer.new.self old.queue c.complete.new.self old.readiness c.mark_done.new.self
+    c.args.k c.in-Some.request.now c.in_ok-reply.reply c.self.invariant.1
+    (was-ready c.args.k c.self.view_is (sym c.ready.ensures ∙ c.if-not-ready.false))
+    (sym c.pending.ensures ∙ rw c.in-Some.is refl) c.in_ok-reply.ensures.allowed c.complete.ensures
+    (record {
+      notes = c.mark_done.ensures.notes;
+      first_pending = c.mark_done.ensures.first_pending;
+      size = c.mark_done.ensures.size;
+      writers = c.mark_done.ensures.writers;
+      possible = c.mark_done.ensures.possible;
+    }) in
+    can.marks
+
 pub invariant_of-self-2 : goal.invariant_of-self-2
 invariant_of-self-2 c =
     let queue = c.self.inside.queue in
     let pending : pending_at queue c.args.k ≡ Some c.in-Some.request.now =
-    sym c.pending.ensures ∙ rw c.in-Some.is refl in
-    rw c.complete.ensures
-    (core-worked c.self.inside.window queue c.args.k c.in-Some.request.now c.in_ok-reply.reply pending
-    c.in_ok-reply.ensures.allowed.same_id c.in_ok-reply.ensures.spelled c.self.invariant)
+    sym c.pending.ensures ∙ rw c.in-Some.is refl in (
+      rw c.complete.ensures
+          (core-worked c.self.inside.window queue c.args.k c.in-Some.request.now c.in_ok-reply.reply pending
+          c.in_ok-reply.ensures.allowed.same_id c.in_ok-reply.ensures.spelled c.self.invariant.0),
+      (c.refresh.ensures.notes, c.refresh.ensures.opened),
+    )
 
 pub returns-clause-done : goal.returns-clause-done
 returns-clause-done c = λ _.

@@ -14,8 +14,8 @@ invariant_of-self c =
     (queue-done old.entries.items old.ids.entries c.args.k c.args.reply c.self.invariant
     (rw c.self.view_is c.requires))
 
-pub returns-in-Some : goal.returns-in-Some
-returns-in-Some c =
+pub returns : goal.returns
+returns c =
     let old = c.self.inside in
     let entry = c.in-Some.entry.now in
     let at = slice_get_read old.entries.items old.entries.len c.args.k entry old.entries.ok.0

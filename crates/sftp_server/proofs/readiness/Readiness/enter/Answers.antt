@@ -1,8 +1,16 @@
 use Rattle.std.proofs.Common.{List, suc, subst}
 use Rattle.sftp_server.specs.declared.readiness.Note.{Note}
 use Rattle.sftp_server.specs.Readiness.{IsPlaced}
-use Rattle.sftp_server.proofs.Notes.{entered, entered-blocked, entered-marks, blocked-placed, marks-alike}
+use Rattle.sftp_server.proofs.Notes.{entered, entered-noted, entered-blocked, entered-marks, blocked-placed, marks-alike}
 use Rattle.sftp_server.proofs.readiness.Readiness.enter.Goals as goal
+
+pub place-requires-clause-noted : goal.place-requires-clause-noted
+place-requires-clause-noted c =
+    let old = c.args.self.now in
+    let touch = c.touch.ensures.notes in
+    rw (touch.2, touch.3, c.touch.ensures.first_pending, c.touch.ensures.size, c.touch.ensures.possible)
+    (entered-noted c.args.session.now c.args.queue.now old.notes.items old.first_pending old.opened old.writers
+    old.possible touch.0 c.requires.notes.noted c.requires.some c.requires.last)
 
 pub returns-clause-notes : goal.returns-clause-notes
 returns-clause-notes c =

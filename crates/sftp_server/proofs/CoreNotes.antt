@@ -1,0 +1,202 @@
+-- What the calls of the notes say of the core.
+use Rattle.std.proofs.Common.{◌≡◌, ◌≢◌, ◌++◌, ◌<◌, ◌≤◌, ◌+◌, ◌-◌, ◌&&◌, ◌||◌, nat_lt, ℕ, suc, Bool, true, false, List, [], ◌∷◌}
+use Rattle.std.proofs.Common.{Option, Some, None, is_some, if◌then◌else◌, length, take, drop, set, slice_get, IsTrue}
+use Rattle.std.proofs.Common.{refl, sym, ap, subst, ◌∙◌, arith, true≢false}
+use Rattle.std.proofs.lemmas.Bool.{ltb-true, ltb-false}
+use Rattle.std.proofs.lemmas.Option.{none-some, same_Some}
+use Rattle.std.proofs.lemmas.List.{get_or_past}
+use Rattle.std.proofs.lemmas.List.Sums.{sum_by_more_le}
+use Rattle.sftp_wire.specs.declared.packets.Request.{Request}
+use Rattle.sftp_wire.specs.declared.packets.Reply.{Reply}
+use Rattle.sftp_handles.specs.State.{State}
+use Rattle.sftp_handles.specs.Allowed.{Allowed}
+use Rattle.sftp_server.specs.declared.cores.Choice.{Choice}
+use Rattle.sftp_server.specs.declared.cores.Choice.TheVariants as choices
+use Rattle.sftp_server.specs.declared.queue.Entry.{Entry}
+use Rattle.sftp_server.specs.declared.queue.Progress.TheVariants.{Pending, Done, Sent}
+use Rattle.sftp_server.specs.declared.readiness.Note.{Note}
+use Rattle.sftp_server.specs.declared.readiness.Readiness.{Readiness}
+use Rattle.sftp_server.specs.Machine.{Machine, is_pending, ready_in, reply_at, from_unsent}
+use Rattle.sftp_server.specs.Queue.{request_in, pending_at, with_progress}
+use Rattle.sftp_server.specs.Choices.{choices_of}
+use Rattle.sftp_server.specs.Core.{server_clash}
+use Rattle.sftp_server.specs.Readiness.{blank, note_at, ask_in, as_count, possible_count, IsNoted, AreBlockedBut}
+use Rattle.sftp_server.specs.Readiness.{IsMarked, AreNotes, KeepsNotes}
+use Rattle.sftp_server.proofs.Queues.{length-progress, from_unsent-short}
+use Rattle.sftp_server.proofs.ReadinessLaws.{notes-sent}
+use Rattle.sftp_server.proofs.StillTouched.{ready-open, notes-worked}
+use Rattle.sftp_server.proofs.ReadyLaws.{ready-is, possible-is, possible-count, choice-at}
+use Rattle.sftp_server.proofs.NewNotes.{notes-pushed, notes-start}
+
+-- ---- requests that are taken
+
+pub keeps-start : (s : State) (r : Readiness) → r.notes.items ≡ [] → r.first_pending ≡ 0 → r.opened ≡ 0
+    → r.writers ≡ 0 → r.possible ≡ 0 → KeepsNotes s [] r
+keeps-start s r notes first opened writers possible =
+    rw (notes, first, opened, writers, possible) (notes-start s, λ some. absurd (omega (arith, some)))
+
+-- the notes are the same, but for their room
+pub record AreSameNotes (old new : Readiness) : Type 0 where
+  pub notes : new.notes.items ≡ old.notes.items
+  pub first_pending : new.first_pending ≡ old.first_pending
+  pub size : new.opened ≡ old.opened
+  pub writers : new.writers ≡ old.writers
+  pub possible : new.possible ≡ old.possible
+
+pub keeps-same : (s : State) (queue : List Entry) (old new : Readiness) → KeepsNotes s queue old
+    → AreSameNotes old new → KeepsNotes s queue new
+keeps-same s queue old new keeps same =
+    rw (same.notes, same.first_pending, same.size, same.writers, same.possible) keeps
+
+pub keeps-taken : (s : State) (queue after : List Entry) (request : Request) (old new : Readiness)
+    → KeepsNotes s queue old → AreSameNotes old new
+    → after ≡ queue ++ record { request = request; progress = Pending } ∷ []
+    → AreNotes s after (new.notes.items ++ record blank { pending = true } ∷ []) new.first_pending new.opened
+    new.writers new.possible
+keeps-taken s queue after request old new keeps same pushed =
+    rw (same.notes, same.first_pending, same.size, same.writers, same.possible, pushed)
+    (notes-pushed s queue old.notes.items request old.first_pending old.opened old.writers old.possible keeps.0)
+
+-- ---- what the notes say
+
+pub ready-noted : (s : State) (queue : List Entry) (r : Readiness) (k : ℕ) → KeepsNotes s queue r
+    → ready_in server_clash s (take k queue) (slice_get queue k)
+    ≡ ((note_at r.notes.items k).pending && (note_at r.notes.items k).possible)
+ready-noted s queue r k keeps =
+    ready-is s queue r.notes.items r.first_pending r.opened r.writers r.possible keeps.0 keeps.1 k
+
+pub count-noted : (machine : Machine State) (r : Readiness) → KeepsNotes machine.state machine.queue r
+    → r.possible ≡ length (choices_of server_clash machine)
+count-noted machine r keeps =
+    possible-count machine r.notes.items r.first_pending r.opened r.writers r.possible keeps.0 keeps.1
+
+pub choice-noted : (machine : Machine State) (r : Readiness) (number k : ℕ) (pending : Bool)
+    → KeepsNotes machine.state machine.queue r → possible_count (take k r.notes.items) ≡ number
+    → (note_at r.notes.items k).possible ≡ true → pending ≡ (note_at r.notes.items k).pending
+    → slice_get (choices_of server_clash machine) number ≡ Some (if pending then choices.Work k else choices.Send k)
+choice-noted machine r number k pending keeps count possible is =
+    rw is
+    (choice-at machine r.notes.items r.first_pending r.opened r.writers r.possible keeps.0 keeps.1 number k count
+    possible)
+
+possible-inside : (notes : List Note) (k : ℕ) → (note_at notes k).possible ≡ true → k < length notes
+possible-inside notes k is = by (nat_lt k (length notes)) refl
+  where
+    by : (b : Bool) → nat_lt k (length notes) ≡ b → k < length notes
+    by true less = ltb-true k (length notes) less
+    by false past =
+        absurd (true≢false (sym is
+        ∙ ap (λ (n : Note). n.possible) (get_or_past notes k blank (ltb-false k (length notes) past))))
+
+-- ---- a request is done
+
+and-both : (a b : Bool) → (a && b) ≡ true → (a ≡ true) × (b ≡ true)
+and-both true true is = (refl, refl)
+and-both true false is = absurd (true≢false (sym is))
+and-both false b is = absurd (true≢false (sym is))
+
+pub ready-inside : (s : State) (queue : List Entry) (r : Readiness) (k : ℕ) → KeepsNotes s queue r
+    → ready_in server_clash s (take k queue) (slice_get queue k) ≡ true → k < length r.notes.items
+ready-inside s queue r k keeps ready =
+    possible-inside r.notes.items k
+    (and-both (note_at r.notes.items k).pending (note_at r.notes.items k).possible
+    (sym (ready-noted s queue r k keeps) ∙ ready)).1
+
+-- the request at the position is noted as done
+pub record IsMarkedDone (old new : Readiness) (k : ℕ) : Type 0 where
+  pub notes : new.notes.items ≡ set old.notes.items k (record (note_at old.notes.items k) { pending = false })
+  pub first_pending : new.first_pending ≡ old.first_pending
+  pub size : new.opened ≡ old.opened
+  pub writers : new.writers ≡ old.writers
+  pub possible : new.possible ≡ old.possible
+
+ask-found : (found : Option Entry) (request : Request) → request_in found ≡ Some request
+    → ask_in found ≡ request.ask
+ask-found None request is = absurd (none-some request is)
+ask-found (Some entry) request is = by (is_pending entry.progress) refl
+  where
+    by : (b : Bool) → is_pending entry.progress ≡ b → entry.request.ask ≡ request.ask
+    by true on =
+        let named : Some entry.request ≡ Some request = rw on at is in
+        ap (λ (r : Request). r.ask) (same_Some entry.request request named)
+    by false off = absurd (none-some request (let f : None ≡ Some request = rw off at is in f))
+
+-- what `refresh` asks of the notes
+pub record CanRefresh (s : State) (queue : List Entry) (r : Readiness) (k : ℕ) : Type 0 where
+  pub within : k < r.opened
+  pub noted : IsNoted queue r.notes.items r.first_pending r.opened r.writers r.possible
+  pub blocked : AreBlockedBut queue r.notes.items r.opened k (suc k) (k + (note_at r.notes.items k).waiter)
+  pub marks : IsMarked s queue r.notes.items r.opened
+
+pub keeps-done : (s end : State) (queue after : List Entry) (old new : Readiness) (k : ℕ) (request : Request)
+    (reply : Reply) → KeepsNotes s queue old → ready_in server_clash s (take k queue) (slice_get queue k) ≡ true
+    → pending_at queue k ≡ Some request → Allowed s request reply end
+    → after ≡ with_progress queue k (Done reply) → IsMarkedDone old new k → CanRefresh end after new k
+keeps-done s end queue after old new k request reply keeps ready pending allowed is marked =
+    let both = and-both (note_at old.notes.items k).pending (note_at old.notes.items k).possible
+    (sym (ready-noted s queue old k keeps) ∙ ready) in
+    let before = ready-open s queue old.notes.items old.first_pending old.opened old.writers old.possible k keeps.0
+    both.0 both.1 in
+    let parts = notes-worked s end queue old.notes.items old.first_pending old.opened old.writers old.possible k
+    request reply keeps.0 both.0 both.1 (ask-found (slice_get queue k) request pending) allowed in
+    record {
+      within = rw marked.size before;
+      noted = rw (marked.notes, marked.first_pending, marked.size, marked.writers, marked.possible, is) parts.0;
+      blocked = rw (marked.notes, marked.size, is) parts.1;
+      marks = rw (marked.notes, marked.size, is) parts.2;
+    }
+
+-- ---- a reply is sent
+
+or_true : (b : Bool) → (b || true) ≡ true
+or_true true = refl
+or_true false = refl
+
+reply-possible : (s : State) (queue : List Entry) (r : Readiness) (k : ℕ) (reply : Reply) → KeepsNotes s queue r
+    → reply_at queue k ≡ Some reply → (note_at r.notes.items k).possible ≡ true
+reply-possible s queue r k reply keeps is =
+    let machine : Machine State = record { state = s; window = 0; queue = queue } in
+    let found : is_some (reply_at queue k) ≡ true = ap is_some is in
+    possible-is machine r.notes.items r.first_pending r.opened r.writers r.possible keeps.0 keeps.1 k
+    ∙ rw found (or_true (ready_in server_clash s (take k queue) (slice_get queue k)))
+
+pub reply-inside : (s : State) (queue : List Entry) (r : Readiness) (k : ℕ) (reply : Reply) → KeepsNotes s queue r
+    → reply_at queue k ≡ Some reply → k < length r.notes.items
+reply-inside s queue r k reply keeps is = possible-inside r.notes.items k (reply-possible s queue r k reply keeps is)
+
+pub reply-counted : (s : State) (queue : List Entry) (r : Readiness) (k : ℕ) (reply : Reply) → KeepsNotes s queue r
+    → reply_at queue k ≡ Some reply → 1 ≤ r.possible
+reply-counted s queue r k reply keeps is =
+    let here = reply-possible s queue r k reply keeps is in
+    let one : as_count (note_at r.notes.items k).possible ≡ 1 = ap as_count here in
+    let more = sum_by_more_le (λ (n : Note). as_count n.possible) r.notes.items k blank
+    (possible-inside r.notes.items k here) in
+    let count = keeps.0.noted.counted in
+    omega (arith, one, more, count)
+
+-- a reply was sent, and so many requests left the front
+pub record IsMarkedSent (old new : Readiness) (k count : ℕ) : Type 0 where
+  pub notes : new.notes.items
+      ≡ drop count (set old.notes.items k (record (note_at old.notes.items k) { possible = false }))
+  pub first_pending : new.first_pending ≡ old.first_pending - count
+  pub size : new.opened ≡ old.opened - count
+  pub writers : new.writers ≡ old.writers - count
+  pub possible : new.possible ≡ old.possible - 1
+
+pub sent-shorter : (queue after : List Entry) (k : ℕ) → after ≡ from_unsent (with_progress queue k Sent)
+    → length after ≤ length queue
+sent-shorter queue after k is =
+    let short = from_unsent-short (with_progress queue k Sent) in
+    let same = length-progress queue k Sent in
+    let size = ap length is in
+    omega (arith, short, same, size)
+
+pub keeps-sent : (s : State) (queue after : List Entry) (old new : Readiness) (k before now : ℕ) (reply : Reply)
+    → KeepsNotes s queue old → reply_at queue k ≡ Some reply → after ≡ from_unsent (with_progress queue k Sent)
+    → before ≡ length queue → now ≡ length after → IsMarkedSent old new k (before - now) → KeepsNotes s after new
+keeps-sent s queue after old new k before now reply keeps found is before_is now_is marked =
+    let short = sent-shorter queue after k is in
+    let size : length after ≡ length (from_unsent (with_progress queue k Sent)) = ap length is in
+    rw (marked.notes, marked.first_pending, marked.size, marked.writers, marked.possible, is)
+    (notes-sent s queue old.notes.items old.first_pending old.opened old.writers old.possible k (before - now) reply
+    keeps.0 keeps.1 found (omega (arith, short, size, before_is, now_is)))

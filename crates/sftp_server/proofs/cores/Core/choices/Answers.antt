@@ -1,0 +1,14 @@
+use Rattle.std.proofs.Common.{◌≡◌, length, subst, ◌∙◌}
+use Rattle.sftp_handles.specs.State.{State}
+use Rattle.sftp_server.specs.Machine.{Machine}
+use Rattle.sftp_server.specs.Choices.{choices_of}
+use Rattle.sftp_server.specs.Core.{server_clash}
+use Rattle.sftp_server.proofs.CoreNotes.{count-noted}
+use Rattle.sftp_server.proofs.cores.Core.choices.Goals as goal
+
+pub returns-clause-count : goal.returns-clause-count
+returns-clause-count c =
+    let old = c.self.inside in
+    let machine : Machine State = record { state = old.session; window = old.window; queue = old.queue } in
+    subst (λ (m : Machine State). c.possible.result ≡ length (choices_of server_clash m)) c.self.view_is
+    (c.possible.ensures ∙ count-noted machine old.readiness c.self.invariant.1)
