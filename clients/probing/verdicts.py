@@ -6,7 +6,7 @@ import subprocess
 import sftp3
 
 # The options of a profile, which are passed on if the program has them.
-PROFILE_OPTIONS = ["--profile", "--umask", "--new-owner", "--allow", "--except"]
+PROFILE_OPTIONS = ["--profile", "--umask", "--new-owner", "--allow", "--except", "--symlink"]
 
 
 class Trouble(Exception):
