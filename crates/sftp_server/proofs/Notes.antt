@@ -1,7 +1,6 @@
 -- What the notes of a queue say, and what stays when one of them changes.
-use Rattle.std.proofs.Common.{◌≡◌, ◌≢◌, ◌==◌, ◌&&◌, ◌+◌, ◌-◌, ◌<◌, ◌≤◌, ℕ, zero, suc, Bool, true, false, List, [], ◌∷◌}
-use Rattle.std.proofs.Common.{length, take, set, max, sum_by, nat_lt, if◌then◌else◌}
-use Rattle.std.proofs.Common.{refl, sym, ap, subst, ◌∙◌, arith, true≢false}
+use Rattle.std.proofs.Common.{◌≡◌, ◌≢◌, ◌==◌, ◌&&◌, ◌+◌, ◌-◌, ◌<◌, ◌≤◌, ℕ, suc, Bool, true, false, List, [], ◌∷◌}
+use Rattle.std.proofs.Common.{length, set, max, nat_lt, refl, sym, ap, subst, ◌∙◌, arith, true≢false}
 use Rattle.std.proofs.lemmas.Bool.{eqb-true, eqb-false, ltb-true, ltb-false}
 use Rattle.std.proofs.lemmas.List.{length-set, get_or-set_same, get_or-set_other}
 use Rattle.std.proofs.lemmas.List.Sums.{sum_by-set, sum_by-cons}
@@ -18,8 +17,8 @@ use Rattle.sftp_server.specs.declared.queue.Entry.{Entry}
 use Rattle.sftp_server.specs.declared.readiness.Note.{Note}
 use Rattle.sftp_server.specs.Readiness.{blank, note_at, ask_at, touched_at, is_in_way, IsFree, IsFreeFrom}
 use Rattle.sftp_server.specs.Readiness.{IsBlockedBack, IsBlocked, only_reads, is_all, as_count, possible_count}
-use Rattle.sftp_server.specs.Readiness.{IsNoted, AreBlocked, AreBlockedBut, IsShut, IsMarked, AreNotes}
-use Rattle.sftp_server.specs.Readiness.{held, AreAlike, IsPlaced, IsWaiting, raised, IsTouched}
+use Rattle.sftp_server.specs.Readiness.{IsNoted, AreBlocked, AreBlockedBut, IsShut, IsMarked}
+use Rattle.sftp_server.specs.Readiness.{held, AreAlike, IsPlaced, raised}
 
 -- ---- notes at positions
 

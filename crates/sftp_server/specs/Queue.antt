@@ -1,5 +1,5 @@
 -- What a queue keeps beside its requests.
-use Rattle.std.specs.Prelude.{◌≡◌, nat_eq, ℕ, zero, suc, Bool, true, false, List, [], ◌∷◌}
+use Rattle.std.specs.Prelude.{◌≡◌, nat_eq, ℕ, zero, suc, Bool, false, List, [], ◌∷◌}
 use Rattle.std.specs.Prelude.{is_some, if◌then◌else◌, Option, Some, None, slice_get}
 use Rattle.std.specs.Map.{lookup}
 use Rattle.sftp_wire.specs.declared.packets.Request.{Request}

@@ -260,7 +260,8 @@ impl Readiness {
     fn is_shut(&self) -> bool
         requires { self.now.opened ≤ length self.now.notes.items }
         ensures yes { result ≡ true → IsShut self.now.notes.items self.now.opened }
-        ensures no { result ≡ false → (k : ℕ) → suc k ≡ self.now.opened → (note_at self.now.notes.items k).pending ≡ true
+        ensures no { result ≡ false → (k : ℕ) → suc k ≡ self.now.opened
+            → (note_at self.now.notes.items k).pending ≡ true
             → words.is_all (note_at self.now.notes.items k).touch ≡ false }
     {
         if self.opened == 0 {

@@ -1,6 +1,5 @@
 use Rattle.std.proofs.Common.{◌<◌, ◌∙◌, true, false, length, subst, sym, arith}
 use Rattle.sftp_handles.specs.State.{State}
-use Rattle.sftp_server.specs.declared.cores.Choice.TheVariants as choices
 use Rattle.sftp_server.specs.Machine.{Machine}
 use Rattle.sftp_server.specs.Choices.{choices_of}
 use Rattle.sftp_server.specs.Core.{server_clash}

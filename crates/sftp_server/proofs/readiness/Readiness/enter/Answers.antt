@@ -1,7 +1,8 @@
 use Rattle.std.proofs.Common.{List, suc, subst}
 use Rattle.sftp_server.specs.declared.readiness.Note.{Note}
 use Rattle.sftp_server.specs.Readiness.{IsPlaced}
-use Rattle.sftp_server.proofs.Notes.{entered, entered-noted, entered-blocked, entered-marks, blocked-placed, marks-alike}
+use Rattle.sftp_server.proofs.Notes.{entered, entered-noted, entered-blocked, entered-marks}
+use Rattle.sftp_server.proofs.Notes.{blocked-placed, marks-alike}
 use Rattle.sftp_server.proofs.readiness.Readiness.enter.Goals as goal
 
 pub place-requires-clause-noted : goal.place-requires-clause-noted
