@@ -8,6 +8,7 @@ pub mod Trail
 pub mod StoredFiles
 pub mod Walk
 pub mod WalkRules
+pub mod Ticks
 pub mod Attributes
 pub mod OpenFlags
 pub mod Listings

@@ -1,5 +1,7 @@
 -- Walks, component by component.
-use Rattle.std.proofs.Common.{◌≡◌, ℕ, zero, suc, ◌<◌, Bool, true, false, if◌then◌else◌, List, [], ◌∷◌, ◌++◌, refl, sym, ◌∙◌, ap, subst, Option, Result, Ok, Err, Bor, arith}
+use Rattle.std.proofs.Common.{◌≡◌, ℕ, zero, suc, ◌+◌, ◌<◌, ◌≤◌, Bool, true, false, if◌then◌else◌, List, [], ◌∷◌, ◌++◌, refl, sym, ◌∙◌, ap, subst, Option, Result, Ok, Err, MatchResult, Bor, arith}
+use Rattle.std.specs.Result.{IsErrAnd}
+use Rattle.std.proofs.lemmas.Result.{err_from_is_err_and}
 use Rattle.sftp_path.specs.Place.{Name, Place, components, is_good_path}
 use Rattle.sftp_tree.specs.declared.causes.Cause.{Cause}
 use Rattle.sftp_tree.specs.declared.causes.Cause.TheVariants.{BadPath, Loop}
@@ -10,6 +12,7 @@ use Rattle.sftp_tree.specs.Tree.{Names, Tree}
 use Rattle.sftp_tree.specs.Trail.{IsLentAt}
 use Rattle.sftp_tree.specs.Walk.{Meeting, is_last, start_of, going_on, meets, walk_parts, walk, looked_parts, looked, link_limit, steps_of, reached}
 use Rattle.sftp_tree.specs.Stepping.{meeting, StaysAtLink, LendsEnd}
+use Rattle.sftp_tree.specs.Ticks.{looked_of}
 
 -- ---- the place
 
@@ -76,6 +79,10 @@ behind_link-some names follow left left' at at' target rest rest' some starts go
 pub looked_behind-some : (names : Names) (follow : Bool) (left left' : ℕ) (at at' : Place) (target : List ℕ) (rest rest' : List Name) → left ≡ suc left' → at' ≡ start_of at target → rest' ≡ components target ++ rest → looked_behind names follow left at target rest ≡ looked names follow left' at' rest'
 looked_behind-some names follow left left' at at' target rest rest' some starts goes = cc
 
+pub looked_behind-none : (names : Names) (follow : Bool) (left : ℕ) (at : Place) (target : List ℕ) (rest : List Name) → left ≡ 0 → looked_behind names follow left at target rest ≡ 0
+looked_behind-none names follow zero at target rest none = refl
+looked_behind-none names follow (suc left) at target rest none = cc
+
 -- where the walk is at a link
 pub stays : (met : Met) (target : Bor (List ℕ)) (before after : Place) → StaysAtLink met before after → met ≡ Through target → after ≡ before
 stays met target before after at_link is = subst (λ m. StaysAtLink m before after) is at_link
@@ -88,7 +95,44 @@ lends names met name lent at there is = subst (λ m. LendsEnd names m at) is the
 pub below : (a b : ℕ) → b ≡ suc a → a < b
 below a b e = omega arith
 
+-- ---- what is counted
+
+-- a component was counted, and the walk goes on
+pub counted-on : (ticks more left after whole : ℕ) → ticks + left ≡ whole → more ≡ ticks + 1 → left ≡ suc after → more + after ≡ whole
+counted-on ticks more left after whole so_far one is = omega (arith, so_far, one, is)
+
+-- it was the last one
+pub counted-last : (ticks more left whole : ℕ) → ticks + left ≡ whole → more ≡ ticks + 1 → left ≡ 1 → more ≡ whole
+counted-last ticks more left whole so_far one is = omega (arith, so_far, one, is)
+
+-- no component is left
+pub counted-all : (ticks left whole : ℕ) → ticks + left ≡ whole → left ≡ 0 → ticks ≡ whole
+counted-all ticks left whole so_far is = omega (arith, so_far, is)
+
+-- it was counted, and the walk stops for want of memory
+pub counted-some : (ticks more left after whole : ℕ) → ticks + left ≡ whole → more ≡ ticks + 1 → left ≡ suc after → more ≤ whole
+counted-some ticks more left after whole so_far one is = omega (arith, so_far, one, is)
+
+-- then the result is the error
+pub counted-stopped : {A B : Type 0} (Q : B → Type 0) (result : Result A B) (ticks more left after whole : ℕ) → IsErrAnd result Q → ticks + left ≡ whole → more ≡ ticks + 1 → left ≡ suc after → MatchResult result (λ a. more ≡ whole) (λ e. more ≤ whole)
+counted-stopped Q result ticks more left after whole stopped so_far one is =
+    let p = err_from_is_err_and result stopped in
+    subst (λ r. MatchResult r (λ a. more ≡ whole) (λ e. more ≤ whole)) (sym p.1) (counted-some ticks more left after whole so_far one is)
+
+-- in any case no more than all was counted
+pub counted-most : {A B : Type 0} (result : Result A B) (ticks whole limit : ℕ) → whole ≤ limit → MatchResult result (λ a. ticks ≡ whole) (λ e. ticks ≤ whole) → ticks ≤ limit
+counted-most (Ok a) ticks whole limit few all = omega (arith, few, all)
+counted-most (Err e) ticks whole limit few some = omega (arith, few, some)
+
 -- ---- a whole path
+
+pub looked_of-good : (t : Tree) (follow : Bool) (path : List ℕ) → is_good_path path ≡ true → looked_of t follow path ≡ looked t.names follow link_limit [] (steps_of t path)
+unfolding looked_of
+looked_of-good t follow path good = ap (λ b. if b then looked t.names follow link_limit [] (steps_of t path) else 0) good
+
+pub looked_of-bad : (t : Tree) (follow : Bool) (path : List ℕ) → is_good_path path ≡ false → looked_of t follow path ≡ 0
+unfolding looked_of
+looked_of-bad t follow path bad = ap (λ b. if b then looked t.names follow link_limit [] (steps_of t path) else 0) bad
 
 pub reached-good : (t : Tree) (follow : Bool) (path : List ℕ) → is_good_path path ≡ true → reached t follow path ≡ walk t.names follow link_limit [] (steps_of t path)
 unfolding reached

@@ -1,4 +1,4 @@
-use Rattle.std.proofs.Common.{◌≡◌, [], true}
+use Rattle.std.proofs.Common.{◌≡◌, ◌+◌, [], true}
 use Rattle.std.specs.List.{list_all}
 use Rattle.sftp_path.specs.Place.{is_step}
 use Rattle.sftp_tree.specs.Walk as walks
@@ -8,6 +8,7 @@ abbrev pub invariant-loop-component : goal.invariant-loop-component
 invariant-loop-component l = record {
   names : l.trail.names ≡ l.self.names;
   steps : list_all is_step l.route ≡ true;
+  counted : l.ticks + walks.looked l.self.names l.follow l.links_left l.trail.at l.route ≡ walks.looked l.self.names l.follow 40 [] l.initial.route;
   same : walks.walk l.self.names l.follow 40 [] l.initial.route ≡ walks.walk l.self.names l.follow l.links_left l.trail.at l.route;
 }
 
