@@ -70,9 +70,9 @@ const OPENS: &[&[u8]] = &[
 /// READ of one byte at 0 of handle 0, and of handle 1, and READDIR of handle 2.
 const READ: &[u8] = b"\x05\0\0\0\x0c\0\0\0\0\0\0\0\0\0\0\0\0\0\0\0\0\0\0\0\0\0\0\0\x01";
 
-const READ_OTHER: &[u8] = b"\x05\0\0\0\x0c\0\0\0\x01\0\0\0\0\0\0\0\x01\0\0\0\0\0\0\0\0\0\0\0\x01";
+const READ_OTHER: &[u8] = b"\x05\0\0\0\x0c\0\0\0\0\0\0\0\x01\0\0\0\x01\0\0\0\0\0\0\0\0\0\0\0\x01";
 
-const LIST: &[u8] = b"\x0c\0\0\0\x0c\0\0\0\x02\0\0\0\0\0\0\0\x02";
+const LIST: &[u8] = b"\x0c\0\0\0\x0c\0\0\0\0\0\0\0\x02\0\0\0\x02";
 
 /// Rows 9 and 49 of the rules. A READ waits for a WRITE through another name of its file; READ and FSTAT of one file do
 /// not wait for each other; READDIRs wait for those of their own listing alone; CLOSE waits, and is waited for. The
@@ -95,7 +95,7 @@ const CLASHES: &[Call] = &[
     Call::Ready(1, true),
     Call::Take(5, LIST),
     Call::Take(6, LIST),
-    Call::Take(7, b"\x0c\0\0\0\x0c\0\0\0\x03\0\0\0\0\0\0\0\x03"),
+    Call::Take(7, b"\x0c\0\0\0\x0c\0\0\0\0\0\0\0\x03\0\0\0\x03"),
     Call::Ready(2, true),
     Call::Ready(3, false),
     Call::Ready(4, true),
