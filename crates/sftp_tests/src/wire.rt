@@ -8,7 +8,6 @@ use std::alloc::{AllocError, Global};
 mod framing;
 mod refusals;
 mod replies;
-mod types;
 
 /// What writing a packet after these bytes says, and the bytes then.
 pub(crate) fn written(mut out: Vec<u8>, packet: Packet) -> (Result<(), WireError>, Vec<u8>) {
