@@ -96,7 +96,7 @@ IsUnrecorded old side packet (Wire fault number) new =
     IsUnwritten old new × IsBadPacket side packet (next_number old) (Wire fault number)
 IsUnrecorded old side packet (Io place) new = IsBroken old place new
     ⊎ (IsRecordable side packet
-        × BreaksAt old (opened_text old.records (record_text packet)) (next_number old) place new)
+    × BreaksAt old (opened_text old.records (record_text packet)) (next_number old) place new)
 IsUnrecorded old side packet other new = ⊥
 
 -- ---- the steps of a call
