@@ -1,11 +1,11 @@
-"""The crates of the repository, what each stands on, and copies of some of them, for the scripts that prove in a copy."""
+"""The crates of the repository, what each stands on, and copies of some, for the scripts that prove in a copy."""
 import os
 import re
 import shutil
 from pathlib import Path
 
 TOP = Path(__file__).resolve().parents[1]
-# The lists of crates, each with the folder that has them. Sources of benches end in .txt, so that the gate passes them by.
+# The lists of crates, each with its folder. Sources of benches end in .txt, so that the gate passes them by.
 LISTS = [(TOP / "crates.txt", TOP / "crates"), (TOP / "bench" / "crates" / "list.txt", TOP / "bench" / "crates")]
 SOURCES = ("src", "specs", "proofs")
 # What the gate runs a program on.

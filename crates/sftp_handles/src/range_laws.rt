@@ -31,8 +31,8 @@ pub fn no_range_clash_arises()
         range_clash end earlier later ≡ false }
 {}
 
-/// After a request that does not touch everything, and that cannot change the length of its file, every request keeps to
-/// the range that it kept to before. After any request, those keep to their ranges that share nothing with it.
+/// After a request that does not touch everything, and that cannot change the length of its file, every request keeps
+/// to the range that it kept to before. After any request, those keep to their ranges that share nothing with it.
 pub fn ranges_stay()
     ensures all { (s end : State) (request : Request) (reply : Reply) (ask : Ask) → Good s → IsAsk request.ask →
         touched s request.ask ≢ everything → may_resize (touched s request.ask) (range s request.ask) ≡ false →

@@ -33,8 +33,8 @@ impl ByteRange {
 }
 
 impl<T: HandleTable> Session<T> {
-    /// Whether two requests have to be done in the order asked, if READs and WRITEs of one file whose ranges do not meet
-    /// may change places. It takes no memory.
+    /// Whether two requests have to be done in the order asked, if READs and WRITEs of one file whose ranges do not
+    /// meet may change places. Does not allocate.
     #[tactic(auto, unfolding(crate::specs::Ranges::range_clash))]
     pub fn range_clash(&self, earlier: &Request, later: &Request) -> bool
         ensures { result ≡ ranges.range_clash self.now earlier.now later.now }

@@ -2,8 +2,8 @@
 
 use sftp_tree::FileNo;
 
-/// What a request touches of a session: what it sees or changes. Two requests clash if both touch one thing and not both
-/// only read it.
+/// What a request touches of a session: what it sees or changes. Two requests clash if both touch one thing and not
+/// both only read it.
 #[derive(Clone, Copy, Debug)]
 pub enum Touch {
     /// Nothing: its handle is not open, or is of the wrong kind.

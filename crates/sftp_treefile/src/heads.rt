@@ -68,6 +68,7 @@ pub(crate) fn head_at(alloc: Global, bytes: &[u8]) -> Result<(Head, &[u8]), Tree
     ensures none { IfErr result (λ error. OutOfMemoryOr error (ReadsNone IsHead head_bytes bytes.now)) }
     ensures number { IfErr result (IsAt 0) }
 {
+    // Dear to prove: each step may refuse, and the later ones drop the home.
     let rest = after_opening(bytes)?;
     let limits = usual_limits();
     let (home, rest) = home_at(alloc, rest)?;
