@@ -55,11 +55,14 @@ class Crates:
             shutil.copytree(source, to / "crates" / name / part, symlinks=True, copy_function=link_or_copy)
 
 
+def link(source, target):
+    """Shares a file that nobody changes in place, or copies it where there are no links."""
+    try:
+        return os.link(source, target)
+    except OSError:
+        return shutil.copy2(source, target)
+
+
 def link_or_copy(source, target):
     """A check replaces a file of its kept proofs and never changes one, so a copy may share it."""
-    if source.endswith(".oantt"):
-        try:
-            return os.link(source, target)
-        except OSError:
-            pass
-    return shutil.copy2(source, target)
+    return link(source, target) if source.endswith(".oantt") else shutil.copy2(source, target)
