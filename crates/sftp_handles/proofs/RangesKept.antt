@@ -1,30 +1,48 @@
 -- Which requests keep to the ranges that they kept to before a step.
-use Rattle.std.proofs.Common.{◌≡◌, ◌≢◌, ℕ, Bool, true, false, List, Option, Some, None, refl, sym, ap, ◌∙◌}
+use Rattle.std.proofs.Common.{◌≡◌, ◌≢◌, ◌||◌, nat_lt, ℕ, Bool, true, false, cond, List, [], ◌∷◌, length, Option, Some}
+use Rattle.std.proofs.Common.{None, unwrap_or, refl, sym, ap, subst, ◌∙◌, ◌⊎◌, inl, inr}
+use Rattle.std.specs.Ordering.{nat_cmp, is_eq}
+use Rattle.std.specs.BTreeMap.{is_at}
+use Rattle.std.specs.Map.{lookup}
+use Rattle.std.specs.List.{filter}
+use Rattle.std.specs.Cmp.{Equal-is}
+use Rattle.std.specs.FinMap.{nat_cmp-IsAntisymmetric}
+use Rattle.std.proofs.lemmas.Bool.{true≢false, or_right, lt-ltb, eq-eqb}
+use Rattle.std.proofs.lemmas.Option.{same_Some}
+use Rattle.sftp_wire.specs.declared.open_flags.OpenFlags.{OpenFlags}
 use Rattle.std.specs.Cmp.Lexicographic.{nat_list_cmp_total, bytes_decides}
 use Rattle.sftp_wire.specs.declared.packets.Ask.{Ask}
+use Rattle.sftp_wire.specs.declared.packets.Answer.{Answer}
 use Rattle.sftp_wire.specs.declared.packets.Request.{Request}
 use Rattle.sftp_wire.specs.declared.packets.Reply.{Reply}
 use Rattle.sftp_wire.specs.Spelling.{asked_handle}
 use Rattle.sftp_path.specs.Place.{bytes_cmp, same_bytes}
+use Rattle.sftp_path.specs.Table.{get, retain}
 use Rattle.sftp_path.proofs.Table.Laws.{get-put_here}
+use Rattle.sftp_path.proofs.Table.Counts.{count-found}
 use Rattle.sftp_treefile.specs.declared.limits.TreeLimits.{TreeLimits}
-use Rattle.sftp_tree.specs.AskValues.{IsAsk}
-use Rattle.sftp_tree.specs.Tree.{Files, limits}
+use Rattle.sftp_tree.specs.declared.file_contents.Content.{Content}
+use Rattle.sftp_tree.specs.Tree.{Tree, Files, content_at, with_content, limits, trim, is_named, is_pinned}
 use Rattle.sftp_handles.specs.declared.byte_range.ByteRange.{ByteRange}
-use Rattle.sftp_handles.specs.declared.opens.Open.TheVariants.{Listing}
-use Rattle.sftp_handles.specs.Handles.{Left, open_at, with_open}
-use Rattle.sftp_handles.specs.State.{State, Good}
-use Rattle.sftp_handles.specs.Seen.{Needed, anything, a_file, a_listing, seen_among, seen}
-use Rattle.sftp_handles.specs.HandleRequests.{row_of, Change, nothing, rewrites, leaves, closes}
+use Rattle.sftp_handles.specs.declared.opens.Open.{Open}
+use Rattle.sftp_handles.specs.declared.opens.Open.TheVariants.{File, Listing}
+use Rattle.sftp_handles.specs.Handles.{Left, Handles, open_at, with_open, pins_of, times_open, opens_file}
+use Rattle.sftp_handles.specs.State.{State, settled}
+use Rattle.sftp_handles.specs.Seen.{Needed, anything, a_file, a_listing, file, seen_file, seen_among, seen}
+use Rattle.sftp_handles.specs.HandleRequests.{row_of, Change, nothing, rewrites, leaves, closes, change_of}
+use Rattle.sftp_handles.specs.HandleRequests.{change_file}
+use Rattle.sftp_handles.specs.Requests.{changed, after, after_by}
 use Rattle.sftp_handles.specs.Allowed.{Allowed}
-use Rattle.sftp_handles.specs.Clash.{Touched, writes_file, everything, share, touched}
+use Rattle.sftp_handles.specs.Clash.{Touched, reads_file, writes_file, everything, share, touched, may_change}
+use Rattle.sftp_handles.specs.Clash.{touched_through}
 use Rattle.sftp_handles.specs.Ranges.{range_of, range_by, range, may_resize}
-use Rattle.sftp_handles.proofs.Touches.{applied, IsChangeTo, share-mutual, seen-stays, open-stays}
-use Rattle.sftp_handles.proofs.Exchanges.{changes-of, handle-of, not-everything, limits-stay}
-use Rattle.sftp_handles.proofs.Steps.{allowed-step}
-use Rattle.sftp_handles.proofs.RangedAsks.{ranged-of}
+use Rattle.sftp_handles.proofs.Touches.{applied, IsChangeTo, change-touches, share-mutual, seen-stays, open-stays}
+use Rattle.sftp_handles.proofs.Touches.{touched-is}
+use Rattle.sftp_handles.proofs.Exchanges.{handle-of, not-everything, limits-stay}
+use Rattle.sftp_handles.proofs.Pins.{pins-times}
+use Rattle.sftp_handles.proofs.RangedAsks.{Ranged, ranged-of, ranged-sees}
 use Rattle.sftp_handles.proofs.RangedSteps.{effect}
-use Rattle.sftp_handles.proofs.RangeExchanges.{ends_of, on-file, did, effect-size}
+use Rattle.sftp_handles.proofs.RangeExchanges.{ends_of, on-file, effect-size}
 use Rattle.sftp_handles.proofs.SteadyRanges.{range-sized}
 
 -- ---- a listing gives names
@@ -64,43 +82,130 @@ module _ (s : State) (ask : Ask) (k : List ℕ) (left before : Left)
   unfolding range
   range-left = by-named (asked_handle ask)
 
--- ---- a request that cannot change the length of its file
+-- ---- files that are open are kept
 
-not-resized : (at : Touched) (found : Option ByteRange) (n : ℕ) → may_resize at found ≡ false → found ≡ None
-    → at ≢ writes_file n
-not-resized at found n within none is =
-    absurd (let whole : may_resize at found ≡ true = λ i. may_resize (is i) (none i) in cc)
+by-held : (e : ℕ × Content) (rest left : Files) (n : ℕ) (b c : Bool) → is_eq (nat_cmp n e.0) ≡ c
+    → (c ≡ true → b ≡ true) → lookup (is_at (nat_cmp n)) left ≡ lookup (is_at (nat_cmp n)) rest
+    → lookup (is_at (nat_cmp n)) (cond b (e ∷ left) left) ≡ cond c (Some e.1) (lookup (is_at (nat_cmp n)) rest)
+by-held e rest left n true c is keeps same = λ i. cond (is i) (Some e.1) (same i)
+by-held e rest left n false true is keeps same = absurd (true≢false (sym (keeps refl)))
+by-held e rest left n false false is keeps same = same
 
-by-change : (s : State) (ask : Ask) (k : List ℕ) (at : Touched) (change : Change) → IsChangeTo s k at change
-    → at ≢ everything → ((n : ℕ) → at ≢ writes_file n) → range (applied s k change) ask ≡ range s ask
-by-change s ask k at nothing is part within = refl
-by-change s ask k at (rewrites n next) is part within = absurd (within n is)
-by-change s ask k at (leaves left) is part within = range-left s ask k left is.1.0 is.1.1
-by-change s ask k at closes is part within = absurd (part is)
+get-held : (es : Files) (keeps : ℕ × Content → Bool) (n : ℕ)
+    → ((e : ℕ × Content) → is_eq (nat_cmp n e.0) ≡ true → keeps e ≡ true)
+    → content_at (retain es keeps) n ≡ content_at es n
+unfolding get retain
+get-held [] keeps n held = refl
+get-held (e ∷ es) keeps n held =
+    by-held e es (filter keeps es) n (keeps e) (is_eq (nat_cmp n e.0)) refl (held e) (get-held es keeps n held)
+    ∙ refl
 
-by-range : (s end : State) (request : Request) (reply : Reply) (ask : Ask) (found : Option ByteRange) → Good s
-    → IsAsk request.ask → touched s request.ask ≢ everything → range s request.ask ≡ found
-    → may_resize (touched s request.ask) found ≡ false → Allowed s request reply end → range end ask ≡ range s ask
-by-range s end request reply ask None good fit part is within allowed =
-    let named = handle-of s request.ask part in
-    let one = changes-of s end request.ask named.0 reply.answer named.1 good fit
-    (allowed-step s request reply end allowed) in
-    ap (λ (e : State). range e ask) one.end_is
-    ∙ by-change s ask named.0 (touched s request.ask) one.change one.touches part
-    (λ n. not-resized (touched s request.ask) None n within refl)
-by-range s end request reply ask (Some found) good fit part is within allowed =
-    let r = ranged-of s request.ask found is in
-    let at = on-file s request.ask found r in
-    let one = did s end request reply found.number r.flags r.before (ends_of found) good fit allowed at in
-    ap (λ (e : State). range e ask) one.end_is
-    ∙ range-sized s ask found.number r.before (effect one.done request.ask r.flags r.before) r.there
-    (effect-size s request.ask found.number r.flags r.before (ends_of found) one.done at)
+held-open : (t : Tree) (handles : Handles) (h : List ℕ) (m : ℕ) (flags : OpenFlags)
+    → open_at handles h ≡ Some (File m flags)
+    → content_at (trim (record t { pins = pins_of handles })).files m ≡ content_at t.files m
+held-open t handles h m flags there =
+    get-held t.files (λ e. is_named t.names e.0 || is_pinned (pins_of handles) e.0) m
+    (λ e is.
+    or_right (is_named t.names e.0) (is_pinned (pins_of handles) e.0)
+    (ap (is_pinned (pins_of handles)) (sym (nat_cmp-IsAntisymmetric m e.0 ((Equal-is (nat_cmp m e.0)).0 is)))
+    ∙ (ap (nat_lt 0) (pins-times handles m)
+    ∙ lt-ltb 0 (times_open handles m)
+    (count-found bytes_cmp handles h (File m flags) (opens_file m) there (eq-eqb m m refl)))))
 
-pub ranges-kept : (s end : State) (request : Request) (reply : Reply) (ask : Ask) → Good s → IsAsk request.ask
+module _ (t : Tree) (handles : Handles) (ask : Ask) where
+  settled-open : (h : List ℕ) (needed : Needed) (found : Option Open) → open_at handles h ≡ found
+      → range_of (limits t) ask (seen_among (settled t handles).tree.files needed found)
+      ≡ range_of (limits t) ask (seen_among t.files needed found)
+  settled-open h needed None there = refl
+  settled-open h anything (Some it) there = refl
+  settled-open h a_file (Some (File m flags)) there =
+      ap (λ found. range_of (limits t) ask (seen_file m flags found)) (held-open t handles h m flags there)
+  settled-open h a_file (Some (Listing left)) there = refl
+  settled-open h a_listing (Some (File m flags)) there = refl
+  settled-open h a_listing (Some (Listing left)) there = refl
+
+  settled-named : (named : Option (List ℕ))
+      → range_by (settled t handles) ask named ≡ range_by (record { tree = t; handles = handles }) ask named
+  unfolding seen
+  settled-named None = refl
+  settled-named (Some h) = settled-open h (row_of ask).needed (open_at handles h) refl
+
+  settled-range : range (settled t handles) ask ≡ range (record { tree = t; handles = handles }) ask
+  unfolding range
+  settled-range = settled-named (asked_handle ask)
+
+changed-range : (s : State) (k : List ℕ) (change : Change) (ask : Ask)
+    → range (changed s k change) ask ≡ range (applied s k change) ask
+changed-range s k nothing ask = settled-range s.tree s.handles ask
+changed-range s k (rewrites number next) ask =
+    settled-range (record s.tree { files = with_content s.tree.files number next }) s.handles ask
+changed-range s k (leaves left) ask = settled-range s.tree (with_open s.handles k (Listing left)) ask
+changed-range s k closes ask = refl
+
+-- ---- a step
+
+-- the change that a request through a handle makes if it is done
+abbrev change_in : State → Ask → List ℕ → Answer → Change
+change_in s ask k answer = change_of (row_of ask) (seen s (row_of ask).needed k) answer
+
+done-range : (s : State) (asked ask : Ask) (answer : Answer) (k : List ℕ) → asked_handle asked ≡ Some k
+    → range (after s asked answer) ask ≡ range (applied s k (change_in s asked k answer)) ask
+unfolding after
+done-range s asked ask answer k named =
+    ap (λ (found : Option (List ℕ)). range (after_by s asked answer found) ask) named
+    ∙ changed-range s k (change_in s asked k answer) ask
+
+-- what a request writes that keeps to a range has the length of what was there
+rewritten-by : (asked : Ask) (number n : ℕ) (flags : OpenFlags) (before next : Content) (found : Option Content)
+    → (row_of asked).content flags before ≡ found → change_file number found ≡ rewrites n next
+    → length (effect true asked flags before).bytes ≡ length before.bytes
+    → (number ≡ n) × (length next.bytes ≡ length before.bytes)
+rewritten-by asked number n flags before next None is change sized = absurd cc
+rewritten-by asked number n flags before next (Some content) is change sized =
+    let same : number ≡ n = cc in
+    let one : content ≡ next = cc in
+    (same, ap (λ (c : Content). length c.bytes) (sym one) ∙ (ap (λ found. length (unwrap_or found before).bytes) (sym is) ∙ sized))
+
+of-rewrite : (s : State) (asked ask : Ask) (answer : Answer) (k : List ℕ) (n : ℕ) (next : Content) (at : ByteRange)
+    → asked_handle asked ≡ Some k → (r : Ranged s asked at) → change_in s asked k answer ≡ rewrites n next
+    → range (applied s k (rewrites n next)) ask ≡ range s ask
+of-rewrite s asked ask answer k n next at named r change =
+    let same : r.handle ≡ k = same_Some r.handle k (sym r.asked ∙ named) in
+    let sees : seen s (row_of asked).needed k ≡ file at.number r.flags r.before =
+    ap (seen s (row_of asked).needed) (sym same) ∙ ranged-sees s asked at r in
+    let made : change_file at.number ((row_of asked).content r.flags r.before) ≡ rewrites n next =
+    ap (λ it. change_of (row_of asked) it answer) (sym sees) ∙ change in
+    let sized : length (effect true asked r.flags r.before).bytes ≡ length r.before.bytes =
+    effect-size s asked at.number r.flags r.before (ends_of at) true (on-file s asked at r) in
+    let both = rewritten-by asked at.number n r.flags r.before next ((row_of asked).content r.flags r.before) refl made
+    sized in
+    range-sized s ask n r.before next (ap (content_at s.tree.files) (sym both.0) ∙ r.there) both.1
+
+by-change : (s : State) (asked ask : Ask) (answer : Answer) (k : List ℕ) (change : Change) (found : Option ByteRange)
+    → asked_handle asked ≡ Some k → change_in s asked k answer ≡ change → IsChangeTo s k (touched s asked) change
+    → touched s asked ≢ everything → range s asked ≡ found → may_resize (touched s asked) found ≡ false
+    → range (applied s k change) ask ≡ range s ask
+by-change s asked ask answer k nothing found named made is part at within = refl
+by-change s asked ask answer k (rewrites n next) None named made is part at within =
+    absurd (true≢false (sym (ap (λ (t : Touched). may_resize t None) is) ∙ within))
+by-change s asked ask answer k (rewrites n next) (Some found) named made is part at within =
+    of-rewrite s asked ask answer k n next found named (ranged-of s asked found at) made
+by-change s asked ask answer k (leaves left) found named made is part at within =
+    range-left s ask k left is.1.0 is.1.1
+by-change s asked ask answer k closes found named made is part at within = absurd (part is)
+
+pub ranges-kept : (s end : State) (request : Request) (reply : Reply) (ask : Ask)
     → touched s request.ask ≢ everything → may_resize (touched s request.ask) (range s request.ask) ≡ false
     → Allowed s request reply end → range end ask ≡ range s ask
-ranges-kept s end request reply ask good fit part within allowed =
-    by-range s end request reply ask (range s request.ask) good fit part refl within allowed
+ranges-kept s end request reply ask part within allowed = elim allowed.step [
+  | inl refused ↦ ap (λ (e : State). range e ask) refused.unchanged
+  | inr does ↦
+      let named = handle-of s request.ask part in
+      ap (λ (e : State). range e ask) does.changed
+      ∙ (done-range s request.ask ask reply.answer named.0 named.1
+      ∙ by-change s request.ask ask reply.answer named.0 (change_in s request.ask named.0 reply.answer)
+      (range s request.ask) named.1 refl (change-touches s request.ask named.0 reply.answer named.1) part refl within)
+]
 
 -- ---- a request that shares nothing with the one that was done
 
@@ -116,14 +221,37 @@ module _ (s : State) (ask : Ask) (k : List ℕ) (at : Touched) (change : Change)
   unfolding range
   other-past = other-by (asked_handle ask) refl
 
-pub other-ranges : (s end : State) (request : Request) (reply : Reply) (ask : Ask) → Good s → IsAsk request.ask
+pub other-ranges : (s end : State) (request : Request) (reply : Reply) (ask : Ask)
     → share (touched s request.ask) (touched s ask) ≡ false → Allowed s request reply end
     → range end ask ≡ range s ask
-other-ranges s end request reply ask good fit apart allowed =
-    let part = not-everything (touched s request.ask) (touched s ask) apart in
-    let named = handle-of s request.ask part in
-    let one = changes-of s end request.ask named.0 reply.answer named.1 good fit
-    (allowed-step s request reply end allowed) in
-    ap (λ (e : State). range e ask) one.end_is
-    ∙ other-past s ask named.0 (touched s request.ask) one.change one.touches part
-    (share-mutual (touched s ask) (touched s request.ask) ∙ apart)
+other-ranges s end request reply ask apart allowed = elim allowed.step [
+  | inl refused ↦ ap (λ (e : State). range e ask) refused.unchanged
+  | inr does ↦
+      let part = not-everything (touched s request.ask) (touched s ask) apart in
+      let named = handle-of s request.ask part in
+      ap (λ (e : State). range e ask) does.changed
+      ∙ (done-range s request.ask ask reply.answer named.0 named.1
+      ∙ other-past s ask named.0 (touched s request.ask) (change_in s request.ask named.0 reply.answer)
+      (change-touches s request.ask named.0 reply.answer named.1) part
+      (share-mutual (touched s ask) (touched s request.ask) ∙ apart))
+]
+
+-- ---- what is touched where a range is kept to
+
+touches-by : (changes : Bool) (handle : List ℕ) (number : ℕ) (flags : OpenFlags)
+    → (touched_through a_file changes handle (Some (File number flags)) ≡ reads_file number)
+    ⊎ (touched_through a_file changes handle (Some (File number flags)) ≡ writes_file number)
+touches-by true handle number flags = inr refl
+touches-by false handle number flags = inl refl
+
+pub range-touches : (s : State) (ask : Ask) (at : ByteRange) → range s ask ≡ Some at
+    → (touched s ask ≡ reads_file at.number) ⊎ (touched s ask ≡ writes_file at.number)
+range-touches s ask at is =
+    let r = ranged-of s ask at is in
+    let there : touched s ask
+    ≡ touched_through a_file (may_change ask) r.handle (Some (File at.number r.flags)) =
+    touched-is s ask r.handle r.asked
+    ∙ (λ i. touched_through (r.needed i) (may_change ask) r.handle (r.opened i)) in
+    subst
+    (λ (t : Touched). (t ≡ reads_file at.number) ⊎ (t ≡ writes_file at.number)) (sym there)
+    (touches-by (may_change ask) r.handle at.number r.flags)

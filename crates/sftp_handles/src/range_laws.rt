@@ -1,14 +1,16 @@
 //! Laws of requests that keep to ranges of one file, as theorems on the definitions of steps. The functions do nothing;
 //! each promise is in the contract.
-ghost use Rattle.std.specs.Prelude.{◌≡◌, ◌≢◌, ◌≤◌, ◌+◌, ℕ, List, length, take, drop, false};
+ghost use Rattle.std.specs.Prelude.{◌≡◌, ◌≢◌, ◌≤◌, ◌+◌, ◌⊎◌, ℕ, List, length, take, drop, Some, false};
 ghost use Rattle.sftp_wire.specs.declared.packets.Ask.{Ask};
 ghost use Rattle.sftp_wire.specs.declared.packets.Request.{Request};
 ghost use Rattle.sftp_wire.specs.declared.packets.Reply.{Reply};
 ghost use Rattle.sftp_tree.specs.AskValues.{IsAsk};
 ghost use Rattle.sftp_tree.specs.FileChanges.{written};
+ghost use Rattle.sftp_handles.specs.declared.byte_range.ByteRange.{ByteRange};
 ghost use Rattle.sftp_handles.specs.State.{State, Good};
 ghost use Rattle.sftp_handles.specs.Allowed.{Allowed};
-ghost use Rattle.sftp_handles.specs.Clash.{everything, share, touched, clash, ComesFirst};
+ghost use Rattle.sftp_handles.specs.Clash.{reads_file, writes_file, everything, share, touched};
+ghost use Rattle.sftp_handles.specs.Clash.{clash, ComesFirst};
 ghost use Rattle.sftp_handles.specs.Ranges.{range, may_resize, range_clash};
 
 use crate::laws::good_stays_good;
@@ -34,12 +36,18 @@ pub fn no_range_clash_arises()
 /// After a request that does not touch everything, and that cannot change the length of its file, every request keeps
 /// to the range that it kept to before. After any request, those keep to their ranges that share nothing with it.
 pub fn ranges_stay()
-    ensures all { (s end : State) (request : Request) (reply : Reply) (ask : Ask) → Good s → IsAsk request.ask →
+    ensures all { (s end : State) (request : Request) (reply : Reply) (ask : Ask) →
         touched s request.ask ≢ everything → may_resize (touched s request.ask) (range s request.ask) ≡ false →
         Allowed s request reply end → range end ask ≡ range s ask }
-    ensures others { (s end : State) (request : Request) (reply : Reply) (ask : Ask) → Good s → IsAsk request.ask →
+    ensures others { (s end : State) (request : Request) (reply : Reply) (ask : Ask) →
         share (touched s request.ask) (touched s ask) ≡ false → Allowed s request reply end →
         range end ask ≡ range s ask }
+{}
+
+/// A request that keeps to a range of a file reads that file or writes it, and touches nothing else.
+pub fn ranges_are_of_files()
+    ensures { (s : State) (ask : Ask) (at : ByteRange) → range s ask ≡ Some at →
+        (touched s ask ≡ reads_file at.number) ⊎ (touched s ask ≡ writes_file at.number) }
 {}
 
 /// Whether two requests clash, ranges compared, does not depend on their order.
