@@ -1,5 +1,5 @@
 //! The queue of a server: its requests from the first unanswered one on.
-ghost use Rattle.std.specs.Prelude.{◌≡◌, ◌+◌, ◌≤◌, ◌++◌, [], ◌∷◌, IsTrue, false, length};
+ghost use Rattle.std.specs.Prelude.{◌≡◌, ◌≤◌, ◌++◌, [], ◌∷◌, IsTrue, false, length};
 ghost use Rattle.std.specs.Prelude.{IfErr, OnOk, OnErr, IfSome, IfNone, option_copied, slice_get};
 ghost use Rattle.std.specs.Option.{option_map};
 ghost use Rattle.sftp_server.specs.declared.queue.Progress.TheVariants as progress;
@@ -182,17 +182,13 @@ fn take_reply(entries: &mut VecDeque<Entry>, k: usize) -> Option<(u32, Reply)>
     }
 }
 
-/// Takes the requests off the front that were sent, and returns how many these are.
-fn drop_sent(entries: &mut VecDeque<Entry>) -> usize
-    ensures left { entries.new.items ≡ from_unsent entries.old.items }
-    ensures count { result + length entries.new.items ≡ length entries.old.items }
+/// Takes the requests off the front that were sent.
+fn drop_sent(entries: &mut VecDeque<Entry>)
+    ensures { entries.new.items ≡ from_unsent entries.old.items }
 {
-    let mut count = 0;
     'sent: while is_sent_first(entries) {
         drop(entries.pop_front());
-        count += 1;
     }
-    count
 }
 
 /// Whether the first request was sent.

@@ -4,11 +4,14 @@ use Rattle.sftp_server.proofs.queue.drop_sent.Goals as goal
 
 pub sent-preserved : goal.sent-preserved
 sent-preserved c =
-    let items = c.sent.entries.items in
-    let gone = sent-first items (sym c.is_sent_first.ensures ∙ c.sent-test.true) in
     rw c.pop_front.ensures.rest
-    (gone.0 ∙ c.sent.invariant.0, omega (arith, gone.1, c.sent.invariant.1))
+    ((sent-first c.sent.entries.items (sym c.is_sent_first.ensures ∙ c.sent-test.true)).0 ∙ c.sent.invariant)
 
-pub returns-clause-left : goal.returns-clause-left
-returns-clause-left c =
-    sym (unsent-first c.sent.entries.items (sym c.is_sent_first.ensures ∙ c.sent-test.false)) ∙ c.sent.invariant.0
+pub sent-smaller : goal.sent-smaller
+sent-smaller c =
+    let gone = (sent-first c.sent.entries.items (sym c.is_sent_first.ensures ∙ c.sent-test.true)).1 in
+    rw c.pop_front.ensures.rest (omega (arith, gone))
+
+pub returns : goal.returns
+returns c =
+    sym (unsent-first c.sent.entries.items (sym c.is_sent_first.ensures ∙ c.sent-test.false)) ∙ c.sent.invariant

@@ -10,6 +10,6 @@ invariant_of-self-2 c =
     ≡ (not (nat_eq c.in_ok-id.id id) && is_some (lookup (nat_eq id) old.ids.entries)) =
     λ id. ap is_some (c.swap_remove.ensures.updates.0 id) ∙ struck_or (nat_eq c.in_ok-id.id id) (lookup
     (nat_eq id) old.ids.entries) in
-    rw (c.drop_sent.ensures.left, c.in_ok-id.ensures.marked)
+    rw (c.drop_sent.ensures, c.in_ok-id.ensures.marked)
     (queue-sent old.entries.items old.ids.entries c.swap_remove.new.self.entries c.args.k c.in_ok-id.id
     c.in_ok-id.reply c.self.invariant c.in_ok-id.ensures.id struck)
