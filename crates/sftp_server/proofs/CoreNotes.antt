@@ -1,6 +1,5 @@
 -- What the calls of the notes say of the core.
-use Rattle.std.proofs.Common.{◌≡◌, ◌++◌, ◌<◌, ◌≤◌, ◌+◌, ◌-◌, ◌&&◌, ◌||◌, nat_lt, ℕ, suc, Bool, true, false}
-use Rattle.std.proofs.Common.{List, [], ◌∷◌}
+use Rattle.std.proofs.Common.{◌≡◌, ◌++◌, ◌<◌, ◌≤◌, ◌-◌, ◌&&◌, ◌||◌, nat_lt, ℕ, Bool, true, false, List, [], ◌∷◌}
 use Rattle.std.proofs.Common.{Option, Some, None, is_some, if◌then◌else◌, length, take, drop, set, slice_get}
 use Rattle.std.proofs.Common.{refl, sym, ap, ◌∙◌, arith, true≢false}
 use Rattle.std.proofs.lemmas.Bool.{ltb-true, ltb-false}
@@ -20,10 +19,10 @@ use Rattle.sftp_server.specs.Machine.{Machine, is_pending, ready_in, reply_at, f
 use Rattle.sftp_server.specs.Queue.{request_in, pending_at, with_progress}
 use Rattle.sftp_server.specs.Choices.{choices_of}
 use Rattle.sftp_server.specs.Core.{server_clash}
-use Rattle.sftp_server.specs.Readiness.{blank, note_at, ask_in, as_count, possible_count, IsNoted, AreBlockedBut}
-use Rattle.sftp_server.specs.Readiness.{IsMarked, AreNotes, KeepsNotes}
+use Rattle.sftp_server.specs.Readiness.{blank, note_at, ask_in, as_count, possible_count, CanRefresh, AreNotes}
+use Rattle.sftp_server.specs.Readiness.{KeepsNotes}
 use Rattle.sftp_server.proofs.Queues.{length-progress, from_unsent-short}
-use Rattle.sftp_server.proofs.ReadinessLaws.{notes-sent}
+use Rattle.sftp_server.proofs.SentNotes.{notes-sent}
 use Rattle.sftp_server.proofs.StillTouched.{ready-open, notes-worked}
 use Rattle.sftp_server.proofs.ReadyLaws.{ready-is, possible-is, possible-count, choice-at}
 use Rattle.sftp_server.proofs.NewNotes.{notes-pushed, notes-start}
@@ -121,13 +120,6 @@ ask-found (Some entry) request is = by (is_pending entry.progress) refl
         ap (λ (r : Request). r.ask) (same_Some entry.request request named)
     by false off = absurd (none-some request (let f : None ≡ Some request = rw off at is in f))
 
--- what `refresh` asks of the notes
-pub record CanRefresh (s : State) (queue : List Entry) (r : Readiness) (k : ℕ) : Type 0 where
-  pub within : k < r.opened
-  pub noted : IsNoted queue r.notes.items r.first_pending r.opened r.writers r.possible
-  pub blocked : AreBlockedBut queue r.notes.items r.opened k (suc k) (k + (note_at r.notes.items k).waiter)
-  pub marks : IsMarked s queue r.notes.items r.opened
-
 pub keeps-done : (s end : State) (queue after : List Entry) (old new : Readiness) (k : ℕ) (request : Request)
     (reply : Reply) → KeepsNotes s queue old → ready_in server_clash s (take k queue) (slice_get queue k) ≡ true
     → pending_at queue k ≡ Some request → Allowed s request reply end
@@ -142,8 +134,7 @@ keeps-done s end queue after old new k request reply keeps ready pending allowed
     record {
       within = rw marked.size before;
       noted = rw (marked.notes, marked.first_pending, marked.size, marked.writers, marked.possible, is) parts.0;
-      blocked = rw (marked.notes, marked.size, is) parts.1;
-      marks = rw (marked.notes, marked.size, is) parts.2;
+      done = rw (marked.notes, marked.size, is) parts.1;
     }
 
 -- ---- a reply is sent

@@ -1,9 +1,12 @@
 pub mod Queues
 pub mod CoreSteps
+pub mod RangedNotes
+pub mod StillRanged
 pub mod NotePlaces
-pub mod ReadinessLaws
-pub mod ReadyLaws
+pub mod DoneNotes
+pub mod SentNotes
 pub mod NewNotes
+pub mod ReadyLaws
 pub mod StillTouched
 pub mod Machines
 pub mod Sessions
@@ -11,4 +14,5 @@ pub mod ChoiceLaws
 pub mod ScriptLaws
 pub mod Worked
 pub mod Notes
+pub mod Settling
 pub mod CoreNotes

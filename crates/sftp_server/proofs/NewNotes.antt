@@ -1,19 +1,21 @@
 -- The notes of no requests, and what one request more changes.
 use Rattle.std.proofs.Common.{◌≡◌, ◌+◌, ◌<◌, ◌≤◌, ◌++◌, nat_lt, ℕ, zero, suc, Bool, true, false, List, [], ◌∷◌}
 use Rattle.std.proofs.Common.{Option, is_some, length, slice_get, refl, sym, ap, subst, ◌∙◌, arith, length-append}
+use Rattle.std.proofs.Common.{inl, inr}
 use Rattle.std.proofs.lemmas.Bool.{ltb-true, ltb-false}
 use Rattle.std.proofs.lemmas.List.{get_or_append_left, get_or_push}
 use Rattle.std.proofs.lemmas.List.Sums.{sum_by_push}
 use Rattle.sftp_wire.specs.declared.packets.Request.{Request}
 use Rattle.sftp_handles.specs.State.{State}
-use Rattle.sftp_handles.specs.Clash.{touched}
 use Rattle.sftp_server.specs.declared.queue.Entry.{Entry}
 use Rattle.sftp_server.specs.declared.queue.Progress.TheVariants.{Pending}
 use Rattle.sftp_server.specs.declared.readiness.Note.{Note}
 use Rattle.sftp_server.specs.Machine.{is_pending_at, reply_at}
-use Rattle.sftp_server.specs.Readiness.{blank, note_at, ask_in, touched_at, as_count, possible_count}
-use Rattle.sftp_server.specs.Readiness.{IsFree, IsBlocked, IsNoted, AreNotes}
-use Rattle.sftp_server.proofs.NotePlaces.{in_way-same}
+use Rattle.sftp_server.specs.RangedNotes.{Portion, portion_in, IsPortion, is_behind_by}
+use Rattle.sftp_server.specs.Readiness.{blank, note_at, ask_in, portion_at, portion_now, is_in_way, as_count}
+use Rattle.sftp_server.specs.Readiness.{possible_count, pending_by, is_late, IsFree, IsBlocked, IsStopped, IsNoted}
+use Rattle.sftp_server.specs.Readiness.{IsMarked, AreNotes}
+use Rattle.sftp_server.proofs.NotePlaces.{in_way-same, behind-alike}
 
 -- the note of a request that was just taken
 abbrev pub new_note : Note
@@ -68,9 +70,9 @@ pending-new (entry ∷ queue) (first ∷ notes) request zero same marked = marke
 pending-new (entry ∷ queue) (first ∷ notes) request (suc j) same marked =
     pending-new queue notes request j (omega (arith, same)) (λ i. marked (suc i))
 
-touched-new : (queue : List Entry) (notes : List Note) (request : Request) (j : ℕ) → length notes ≡ length queue
-    → j < length queue → touched_at (with_request queue request) (with_new notes) j ≡ touched_at queue notes j
-touched-new queue notes request j same before =
+portion-new : (queue : List Entry) (notes : List Note) (request : Request) (j : ℕ) → length notes ≡ length queue
+    → j < length queue → portion_at (with_request queue request) (with_new notes) j ≡ portion_at queue notes j
+portion-new queue notes request j same before =
     rw (note-before notes j (omega (arith, same, before)), get-before queue request j before) refl
 
 -- ---- a request is taken
@@ -79,10 +81,10 @@ free-new : (queue : List Entry) (notes : List Note) (request : Request) (j : ℕ
     → j < length queue → IsFree queue notes j → IsFree (with_request queue request) (with_new notes) j
 free-new queue notes request j same within free = λ i before.
     let less : i < length queue = omega (arith, before, within) in
-    rw (touched-new queue notes request j same within)
-    (in_way-same queue (with_request queue request) notes (with_new notes) i (touched_at queue notes j)
+    ap (is_in_way (with_request queue request) (with_new notes) i) (portion-new queue notes request j same within)
+    ∙ (in_way-same queue (with_request queue request) notes (with_new notes) i (portion_at queue notes j)
     (ap (λ (n : Note). n.pending) (note-before notes i (omega (arith, same, less))))
-    (touched-new queue notes request i same less) ∙ free i before)
+    (portion-new queue notes request i same less) ∙ free i before)
 
 new-count : (notes : List Note) → possible_count (with_new notes) ≡ possible_count notes
 new-count notes =
@@ -145,11 +147,63 @@ blocked-new queue notes request j same within is =
       back = rw here is.back;
       before = is.before;
       in_way =
-          rw (touched-new queue notes request j same within)
-          (in_way-same queue (with_request queue request) notes (with_new notes) is.blocker
-          (touched_at queue notes j) (ap (λ (n : Note). n.pending) blocker)
-          (touched-new queue notes request is.blocker same before) ∙ is.in_way);
+          ap (is_in_way (with_request queue request) (with_new notes) is.blocker)
+          (portion-new queue notes request j same within)
+          ∙ (in_way-same queue (with_request queue request) notes (with_new notes) is.blocker
+          (portion_at queue notes j) (ap (λ (n : Note). n.pending) blocker)
+          (portion-new queue notes request is.blocker same before) ∙ is.in_way);
       reached = rw (here, blocker) is.reached;
+    }
+
+late-new : (queue : List Entry) (notes : List Note) (request : Request) (j : ℕ) → length notes ≡ length queue
+    → j < length queue → is_late (with_request queue request) (with_new notes) j ≡ is_late queue notes j
+late-new queue notes request j same within =
+    ap (λ (p : Portion). is_behind_by (pending_by (with_new notes)) (portion_at (with_request queue request)
+    (with_new notes)) j p.touched) (portion-new queue notes request j same within)
+    ∙ behind-alike (pending_by notes) (pending_by (with_new notes)) (portion_at queue notes)
+    (portion_at (with_request queue request) (with_new notes)) j (portion_at queue notes j).touched
+    (λ i less. ap (λ (n : Note). n.pending) (note-before notes i (omega (arith, less, within, same))))
+    (λ i less. portion-new queue notes request i same (omega (arith, less, within)))
+
+stopped-new : (queue : List Entry) (notes : List Note) (request : Request) (j : ℕ) → length notes ≡ length queue
+    → j < length queue → IsStopped queue notes j → IsStopped (with_request queue request) (with_new notes) j
+stopped-new queue notes request j same within (inl is) = inl (blocked-new queue notes request j same within is)
+stopped-new queue notes request j same within (inr late) =
+    inr (late-new queue notes request j same within ∙ late)
+
+now-new : (s : State) (queue : List Entry) (request : Request) (j : ℕ) → j < length queue
+    → portion_now s (with_request queue request) j ≡ portion_now s queue j
+now-new s queue request j within =
+    ap (λ (found : Option Entry). portion_in s (ask_in found)) (get-before queue request j within)
+
+marks-new : (s : State) (queue : List Entry) (notes : List Note) (request : Request) (opened : ℕ)
+    → length notes ≡ length queue → opened ≤ length queue → IsMarked s queue notes opened
+    → IsMarked s (with_request queue request) (with_new notes) opened
+marks-new s queue notes request opened same within are =
+    let inside : (j : ℕ) → j < opened → j < length queue = λ j before. omega (arith, before, within) in
+    let waits : (j : ℕ) → j < opened → (note_at (with_new notes) j).pending ≡ (note_at notes j).pending = λ j before.
+    ap (λ (n : Note). n.pending) (note-before notes j (omega (arith, inside j before, same))) in
+    record {
+      asked = record {
+        marked = λ j. pending-new queue notes request j same are.asked.marked;
+        replies = λ j idle.
+            part-new (λ (n : Note). n.possible) notes j refl
+            ∙ (are.asked.replies j (idle-before notes j idle) ∙ ap is_some (sym (reply-new queue request j)));
+      };
+      ranged = λ j before pending.
+          subst IsPortion (sym (portion-new queue notes request j same (inside j before)))
+          (are.ranged j before (sym (waits j before) ∙ pending));
+      known = record {
+        touches = λ j before pending.
+            ap (λ (p : Portion). p.touched) (portion-new queue notes request j same (inside j before))
+            ∙ (are.known.touches j before (sym (waits j before) ∙ pending)
+            ∙ ap (λ (p : Portion). p.touched) (sym (now-new s queue request j (inside j before))));
+        ranges = λ j before pending front.
+            ap (λ (p : Portion). p.range) (portion-new queue notes request j same (inside j before))
+            ∙ (are.known.ranges j before (sym (waits j before) ∙ pending)
+            (sym (late-new queue notes request j same (inside j before)) ∙ front)
+            ∙ ap (λ (p : Portion). p.range) (sym (now-new s queue request j (inside j before))));
+      };
     }
 
 -- A request was taken, and is pending. Whether it is open is not yet judged.
@@ -164,20 +218,9 @@ notes-pushed s queue notes request first opened writers possible are =
       noted = noted-new queue notes request first opened writers possible are.noted;
       blocked = λ j before pending waits.
           let here = note-before notes j (omega (arith, inside j before, same)) in
-          blocked-new queue notes request j same (inside j before)
+          stopped-new queue notes request j same (inside j before)
           (are.blocked j before (rw here at pending) (rw here at waits));
-      marks = record {
-        marked = λ j. pending-new queue notes request j same are.marks.marked;
-        known = λ j before pending.
-            let here = note-before notes j (omega (arith, inside j before, same)) in
-            touched-new queue notes request j same (inside j before)
-            ∙ (are.marks.known j before (rw here at pending)
-            ∙ ap (λ (found : Option Entry). touched s (ask_in found)) (sym (get-before queue request j
-            (inside j before))));
-        replies = λ j idle.
-            part-new (λ (n : Note). n.possible) notes j refl
-            ∙ (are.marks.replies j (idle-before notes j idle) ∙ ap is_some (sym (reply-new queue request j)));
-      };
+      marks = marks-new s queue notes request opened same are.noted.within are.marks;
     }
 
 -- nothing was asked yet
@@ -196,8 +239,11 @@ notes-start s = record {
   };
   blocked = λ j before. absurd (omega (arith, before));
   marks = record {
-    marked = λ j. refl;
-    known = λ j before. absurd (omega (arith, before));
-    replies = λ j worked. refl;
+    asked = record { marked = λ j. refl; replies = λ j worked. refl };
+    ranged = λ j before. absurd (omega (arith, before));
+    known = record {
+      touches = λ j before. absurd (omega (arith, before));
+      ranges = λ j before. absurd (omega (arith, before));
+    };
   };
 }

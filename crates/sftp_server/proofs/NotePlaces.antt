@@ -1,13 +1,13 @@
 -- Notes and requests at their positions, after one is replaced.
 use Rattle.std.proofs.Common.{◌≡◌, ◌≢◌, ◌+◌, ◌<◌, ◌&&◌, ℕ, zero, suc, Bool, true, false, List, [], ◌∷◌}
 use Rattle.std.proofs.Common.{Option, Some, None, is_some, length, set, slice_get, refl, sym, ap, ◌∙◌}
-use Rattle.std.proofs.Common.{arith, ◌-◌, take, drop}
-use Rattle.std.proofs.lemmas.Bool.{true≢false}
+use Rattle.std.proofs.Common.{◌||◌, arith, ◌-◌, take, drop}
+use Rattle.std.proofs.lemmas.Bool.{true≢false, and_left}
 use Rattle.std.proofs.lemmas.Option.{none-some}
 use Rattle.std.proofs.lemmas.List.{get_or-drop}
 use Rattle.std.proofs.lemmas.List.Sums.{sum_by-set, sum_by-cons, sum_by-take-drop}
 use Rattle.sftp_wire.specs.declared.packets.Reply.{Reply}
-use Rattle.sftp_handles.specs.Clash.{Touched, share}
+use Rattle.sftp_handles.specs.Clash.{Touched, untouched, reads_file, writes_file, takes_names, everything}
 use Rattle.sftp_server.specs.declared.queue.Entry.{Entry}
 use Rattle.sftp_server.specs.declared.queue.Progress.{Progress}
 use Rattle.sftp_server.specs.declared.readiness.Note.{Note}
@@ -15,8 +15,11 @@ use Rattle.sftp_server.specs.declared.queue.Progress.TheVariants.{Pending, Done,
 use Rattle.sftp_server.specs.Machine.{is_pending, is_sent, is_pending_at, pending_in, reply_of, reply_in}
 use Rattle.sftp_server.specs.Machine.{reply_at, from_unsent}
 use Rattle.sftp_server.specs.Queue.{with_progress, sent_in}
-use Rattle.sftp_server.specs.Readiness.{blank, note_at, ask_in, ask_at, touched_at, is_in_way, as_count, possible_count}
+use Rattle.sftp_server.specs.Readiness.{portion_at, is_late, pending_by}
+use Rattle.sftp_server.specs.Readiness.{blank, note_at, ask_in, ask_at, is_in_way, as_count, possible_count}
+use Rattle.sftp_server.specs.RangedNotes.{Portion, portions_clash, resizes, any_below, is_behind_by, AreKnown}
 use Rattle.sftp_server.proofs.Queues.{from_unsent-short}
+use Rattle.sftp_server.proofs.RangedNotes.{same-below}
 
 -- ---- one note is replaced
 
@@ -129,29 +132,84 @@ and-fewer true b c was clear = and-right b c clear
 and-fewer false true c was clear = absurd (true≢false (sym (was refl)))
 and-fewer false false c was clear = refl
 
--- What is not in the way is not in the way after the change either, if it touches the same, and is pending only if it
--- was before.
-pub in_way-fewer : (queue queue' : List Entry) (notes notes' : List Note) (j : ℕ) (at : Touched)
+-- What is not in the way is not in the way after the change either, if its note says the same, and it is pending only
+-- if it was before.
+pub in_way-fewer : (queue queue' : List Entry) (notes notes' : List Note) (j : ℕ) (at : Portion)
     → ((note_at notes' j).pending ≡ true → (note_at notes j).pending ≡ true)
-    → touched_at queue' notes' j ≡ touched_at queue notes j
+    → portion_at queue' notes' j ≡ portion_at queue notes j
     → is_in_way queue notes j at ≡ false → is_in_way queue' notes' j at ≡ false
-in_way-fewer queue queue' notes notes' j at fewer touches clear =
-    rw touches (and-fewer (note_at notes j).pending (note_at notes' j).pending (share (touched_at queue notes j) at)
-    fewer clear)
+in_way-fewer queue queue' notes notes' j at fewer same clear =
+    ap (λ (p : Portion). (note_at notes' j).pending && portions_clash p at) same
+    ∙ and-fewer (note_at notes j).pending (note_at notes' j).pending (portions_clash (portion_at queue notes j) at)
+    fewer clear
 
--- what is in the way is so after the change too, if it touches the same and is as pending
-pub in_way-same : (queue queue' : List Entry) (notes notes' : List Note) (j : ℕ) (at : Touched)
+-- what is in the way is so after the change too, if its note says the same and it is as pending
+pub in_way-same : (queue queue' : List Entry) (notes notes' : List Note) (j : ℕ) (at : Portion)
     → (note_at notes' j).pending ≡ (note_at notes j).pending
-    → touched_at queue' notes' j ≡ touched_at queue notes j
+    → portion_at queue' notes' j ≡ portion_at queue notes j
     → is_in_way queue' notes' j at ≡ is_in_way queue notes j at
-in_way-same queue queue' notes notes' j at pending touches = rw (pending, touches) refl
+in_way-same queue queue' notes notes' j at pending same = λ i. pending i && portions_clash (same i) at
 
--- what a request touches by its note stays if neither the note's touch nor what it asks changes
-pub touched-set : (queue : List Entry) (notes : List Note) (k j : ℕ) (progress : Progress) (note : Note)
-    → note.touch ≡ (note_at notes k).touch
-    → touched_at (with_progress queue k progress) (set notes k note) j ≡ touched_at queue notes j
-touched-set queue notes k j progress note same =
-    rw (part-set (λ (n : Note). n.touch) notes k j note same, ask-progress queue k j progress) refl
+-- what a request touches by its note stays, and its range, if neither what the note says nor what it asks changes
+pub portion-set : (queue : List Entry) (notes : List Note) (k j : ℕ) (progress : Progress) (note : Note)
+    → note.touch ≡ (note_at notes k).touch → note.range ≡ (note_at notes k).range
+    → portion_at (with_progress queue k progress) (set notes k note) j ≡ portion_at queue notes j
+portion-set queue notes k j progress note touch range =
+    rw (
+      part-set (λ (n : Note). n.touch) notes k j note touch,
+      part-set (λ (n : Note). n.range) notes k j note range,
+      ask-progress queue k j progress,
+    ) refl
+
+-- ---- what is behind a request that may change the length of its file
+
+-- whether one is behind another is as before, if those before it are as pending and their notes say the same
+pub behind-alike : (pending pending' : ℕ → Bool) (noted noted' : ℕ → Portion) (k : ℕ) (at : Touched)
+    → ((j : ℕ) → j < k → pending' j ≡ pending j) → ((j : ℕ) → j < k → noted' j ≡ noted j)
+    → is_behind_by pending' noted' k at ≡ is_behind_by pending noted k at
+behind-alike pending pending' noted noted' k (reads_file m) alike same =
+    same-below k (λ j. pending' j && resizes m (noted' j)) (λ j. pending j && resizes m (noted j))
+    (λ j less i. alike j less i && resizes m (same j less i))
+behind-alike pending pending' noted noted' k (writes_file m) alike same =
+    same-below k (λ j. pending' j && resizes m (noted' j)) (λ j. pending j && resizes m (noted j))
+    (λ j less i. alike j less i && resizes m (same j less i))
+behind-alike pending pending' noted noted' k untouched alike same = refl
+behind-alike pending pending' noted noted' k (takes_names handle) alike same = refl
+behind-alike pending pending' noted noted' k everything alike same = refl
+
+none-below : (n : ℕ) (test : ℕ → Bool) → ((j : ℕ) → j < n → test j ≡ false) → any_below n test ≡ false
+none-below zero test none = refl
+none-below (suc n) test none =
+    rw (none n (omega arith), none-below n test (λ j less. none j (omega (arith, less)))) refl
+
+-- if none in front passes, it does not matter
+below-drop : (n k : ℕ) (test : ℕ → Bool) → ((j : ℕ) → j < n → test j ≡ false)
+    → any_below (n + k) test ≡ any_below k (λ j. test (n + j))
+below-drop n zero test none =
+    let same : n + 0 ≡ n = omega arith in
+    ap (λ (m : ℕ). any_below m test) same ∙ none-below n test none
+below-drop n (suc k) test none =
+    let same : n + suc k ≡ suc (n + k) = omega arith in
+    ap (λ (m : ℕ). any_below m test) same ∙ ap (λ (b : Bool). test (n + k) || b) (below-drop n k test none)
+
+behind-front : (pending : ℕ → Bool) (noted : ℕ → Portion) (n k : ℕ) (at : Touched)
+    → ((j : ℕ) → j < n → pending j ≡ false)
+    → is_behind_by pending noted (n + k) at ≡ is_behind_by (λ j. pending (n + j)) (λ j. noted (n + j)) k at
+behind-front pending noted n k (reads_file m) idle =
+    below-drop n k (λ j. pending j && resizes m (noted j))
+    (λ j less. and_left (pending j) (resizes m (noted j)) (idle j less))
+behind-front pending noted n k (writes_file m) idle =
+    below-drop n k (λ j. pending j && resizes m (noted j))
+    (λ j less. and_left (pending j) (resizes m (noted j)) (idle j less))
+behind-front pending noted n k untouched idle = refl
+behind-front pending noted n k (takes_names handle) idle = refl
+behind-front pending noted n k everything idle = refl
+
+-- what is known stays so
+pub known-alike : (pending pending' : ℕ → Bool) (noted noted' now now' : ℕ → Portion) (opened : ℕ)
+    → pending' ≡ pending → noted' ≡ noted → now' ≡ now → AreKnown pending noted now opened
+    → AreKnown pending' noted' now' opened
+known-alike pending pending' noted noted' now now' opened alike same still known = rw (alike, same, still) known
 
 -- ---- requests leave the front
 
@@ -168,13 +226,26 @@ get-drop (suc n) (entry ∷ queue) j =
 pub ask-drop : (n : ℕ) (queue : List Entry) (j : ℕ) → ask_at (drop n queue) j ≡ ask_at queue (n + j)
 ask-drop n queue j = ap ask_in (get-drop n queue j)
 
-pub touched-drop : (n : ℕ) (queue : List Entry) (notes : List Note) (j : ℕ)
-    → touched_at (drop n queue) (drop n notes) j ≡ touched_at queue notes (n + j)
-touched-drop n queue notes j = rw (note-drop n notes j, ask-drop n queue j) refl
+pub portion-drop : (n : ℕ) (queue : List Entry) (notes : List Note) (j : ℕ)
+    → portion_at (drop n queue) (drop n notes) j ≡ portion_at queue notes (n + j)
+portion-drop n queue notes j = rw (note-drop n notes j, ask-drop n queue j) refl
 
-pub in_way-drop : (n : ℕ) (queue : List Entry) (notes : List Note) (j : ℕ) (at : Touched)
+pub in_way-drop : (n : ℕ) (queue : List Entry) (notes : List Note) (j : ℕ) (at : Portion)
     → is_in_way (drop n queue) (drop n notes) j at ≡ is_in_way queue notes (n + j) at
 in_way-drop n queue notes j at = rw (note-drop n notes j, ask-drop n queue j) refl
+
+-- whether a request is behind another is as before if nothing that is pending was in front
+pub late-drop : (n : ℕ) (queue : List Entry) (notes : List Note) (k : ℕ)
+    → ((j : ℕ) → j < n → (note_at notes j).pending ≡ false)
+    → is_late (drop n queue) (drop n notes) k ≡ is_late queue notes (n + k)
+late-drop n queue notes k idle =
+    ap (λ (p : Portion). is_behind_by (pending_by (drop n notes)) (portion_at (drop n queue) (drop n notes)) k
+    p.touched) (portion-drop n queue notes k)
+    ∙ (behind-alike (λ j. (note_at notes (n + j)).pending) (pending_by (drop n notes))
+    (λ j. portion_at queue notes (n + j)) (portion_at (drop n queue) (drop n notes)) k (portion_at queue notes
+    (n + k)).touched (λ j less. ap (λ (note : Note). note.pending) (note-drop n notes j))
+    (λ j less. portion-drop n queue notes j)
+    ∙ sym (behind-front (pending_by notes) (portion_at queue notes) n k (portion_at queue notes (n + k)).touched idle))
 
 -- where nothing is possible in front, as much is possible without it
 none-possible : (n : ℕ) (notes : List Note) → ((j : ℕ) → j < n → (note_at notes j).possible ≡ false)

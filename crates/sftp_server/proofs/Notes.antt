@@ -1,16 +1,18 @@
 -- What the notes of a queue say, and what stays when one of them changes.
 use Rattle.std.proofs.Common.{◌≡◌, ◌≢◌, ◌==◌, ◌&&◌, ◌+◌, ◌-◌, ◌<◌, ◌≤◌, ℕ, suc, Bool, true, false, List, [], ◌∷◌}
-use Rattle.std.proofs.Common.{length, set, max, nat_lt, refl, sym, ap, subst, ◌∙◌, arith, true≢false}
-use Rattle.std.proofs.lemmas.Bool.{eqb-true, eqb-false, ltb-true, ltb-false}
+use Rattle.std.proofs.Common.{not, Option, inl, inr, length, set, max, nat_lt, refl, sym, ap, subst, ◌∙◌, arith, true≢false}
+use Rattle.std.proofs.lemmas.Bool.{eqb-true, eqb-false, ltb-true, ltb-false, and_left}
 use Rattle.std.proofs.lemmas.List.{length-set, get_or-set_same, get_or-set_other}
 use Rattle.std.proofs.lemmas.List.Sums.{sum_by-set, sum_by-cons}
 use Rattle.std.proofs.lemmas.Option.{slice_get_read, get_or_from_slice_get}
 use Rattle.std.proofs.Math.Nat.{le-max_left, le-max_right}
 use Rattle.std.specs.Prelude.{get_or}
 use Rattle.sftp_wire.specs.declared.packets.Ask.{Ask}
+use Rattle.sftp_handles.specs.declared.byte_range.ByteRange.{ByteRange}
 use Rattle.sftp_handles.specs.declared.touch.Touch.{Touch}
 use Rattle.sftp_handles.specs.declared.touch.Touch.TheVariants.{Nothing, ReadsFile, WritesFile, TakesNames, Everything}
 use Rattle.sftp_handles.specs.Clash.{touched, share}
+use Rattle.sftp_handles.specs.Ranges.{range, are_apart}
 use Rattle.sftp_handles.specs.Touch.{touched_as}
 use Rattle.sftp_handles.specs.State.{State}
 use Rattle.sftp_server.specs.declared.queue.Entry.{Entry}
@@ -18,7 +20,13 @@ use Rattle.sftp_server.specs.declared.readiness.Note.{Note}
 use Rattle.sftp_server.specs.Readiness.{blank, note_at, ask_at, touched_at, is_in_way, IsFree, IsFreeFrom}
 use Rattle.sftp_server.specs.Readiness.{IsBlockedBack, IsBlocked, only_reads, is_all, as_count, possible_count}
 use Rattle.sftp_server.specs.Readiness.{IsNoted, AreBlocked, AreBlockedBut, IsShut, IsMarked}
-use Rattle.sftp_server.specs.Readiness.{held, AreAlike, IsPlaced, raised}
+use Rattle.sftp_server.specs.Readiness.{held, AreAlike, IsPlaced, raised, portion_at}
+use Rattle.sftp_server.specs.Readiness.{pending_by, is_late, IsStopped, portion_now, IsMarkedAsked, HaveTheirRanges}
+use Rattle.sftp_server.specs.Readiness.{IsMarkedBut, AreNotes}
+use Rattle.sftp_server.specs.RangedNotes.{Portion, portions_clash, IsPortion, is_behind_by, is_behind, AreKnown}
+use Rattle.sftp_server.specs.RangedNotes.{AreKnownBut}
+use Rattle.sftp_server.proofs.RangedNotes.{behind-local}
+use Rattle.sftp_server.proofs.StillRanged.{portion-sound}
 
 -- ---- notes at positions
 
@@ -71,21 +79,24 @@ set-field f notes k j note inside same =
 -- ---- notes that are alike
 
 pub alike-self : (notes : List Note) → AreAlike notes notes
-alike-self notes = record { touch = λ k. refl; pending = λ k. refl; replies = λ k is. refl }
+alike-self notes = record { touch = λ k. refl; range = λ k. refl; pending = λ k. refl; replies = λ k is. refl }
 
 pub alike-then : (a b c : List Note) → AreAlike a b → AreAlike b c → AreAlike a c
 alike-then a b c first second = record {
   touch = λ k. second.touch k ∙ first.touch k;
+  range = λ k. second.range k ∙ first.range k;
   pending = λ k. second.pending k ∙ first.pending k;
   replies = λ k is. second.replies k (first.pending k ∙ is) ∙ first.replies k is;
 }
 
 pub alike-set : (notes : List Note) (k : ℕ) (note : Note) → k < length notes
-    → note.touch ≡ (note_at notes k).touch → note.pending ≡ (note_at notes k).pending
+    → note.touch ≡ (note_at notes k).touch → note.range ≡ (note_at notes k).range
+    → note.pending ≡ (note_at notes k).pending
     → ((note_at notes k).pending ≡ false → note.possible ≡ (note_at notes k).possible)
     → AreAlike notes (set notes k note)
-alike-set notes k note inside touch pending replies = record {
+alike-set notes k note inside touch range pending replies = record {
   touch = λ j. set-field (λ (n : Note). n.touch) notes k j note inside touch;
+  range = λ j. set-field (λ (n : Note). n.range) notes k j note inside range;
   pending = λ j. set-field (λ (n : Note). n.pending) notes k j note inside pending;
   replies = λ j is. by_place j k ((note_at (set notes k note) j).possible ≡ (note_at notes j).possible) (here j is)
       (λ apart. ap (λ (n : Note). n.possible) (set-other notes k j note apart));
@@ -98,24 +109,69 @@ alike-set notes k note inside touch pending replies = record {
         (ap (λ (n : Note). n.possible) (set-same notes k note inside)
         ∙ replies (subst (λ (i : ℕ). (note_at notes i).pending ≡ false) at is))
 
+pub portion-alike : (queue : List Entry) (before after : List Note) (k : ℕ) → AreAlike before after
+    → portion_at queue after k ≡ portion_at queue before k
+portion-alike queue before after k alike =
+    λ i. record { touched = touched_as (alike.touch k i) (ask_at queue k); range = alike.range k i }
+
 pub meets-alike : (queue : List Entry) (before after : List Note) (j k : ℕ) → AreAlike before after
-    → is_in_way queue after j (touched_at queue after k) ≡ is_in_way queue before j (touched_at queue before k)
+    → is_in_way queue after j (portion_at queue after k) ≡ is_in_way queue before j (portion_at queue before k)
 meets-alike queue before after j k alike = λ i.
-    (alike.pending j i) && share (touched_as (alike.touch j i) (ask_at queue j))
-    (touched_as (alike.touch k i) (ask_at queue k))
+    (alike.pending j i)
+    && portions_clash (portion-alike queue before after j alike i) (portion-alike queue before after k alike i)
+
+pub late-alike : (queue : List Entry) (before after : List Note) (k : ℕ) → AreAlike before after
+    → is_late queue after k ≡ is_late queue before k
+late-alike queue before after k alike = λ i.
+    is_behind (λ j. alike.pending j i) (λ j. portion-alike queue before after j alike i) k
 
 pub free-alike : (queue : List Entry) (before after : List Note) (k : ℕ) → AreAlike before after
     → IsFree queue before k → IsFree queue after k
 free-alike queue before after k alike free = λ j lt. meets-alike queue before after j k alike ∙ free j lt
 
+pub asked-alike : (queue : List Entry) (before after : List Note) → IsMarkedAsked queue before
+    → AreAlike before after → IsMarkedAsked queue after
+asked-alike queue before after is alike = record {
+  marked = λ k. alike.pending k ∙ is.marked k;
+  replies = λ k worked. alike.replies k (sym (alike.pending k) ∙ worked)
+      ∙ is.replies k (sym (alike.pending k) ∙ worked);
+}
+
+pub ranged-alike : (queue : List Entry) (before after : List Note) (o : ℕ) → HaveTheirRanges queue before o
+    → AreAlike before after → HaveTheirRanges queue after o
+ranged-alike queue before after o is alike k lt pending =
+    subst IsPortion (sym (portion-alike queue before after k alike)) (is k lt (sym (alike.pending k) ∙ pending))
+
+-- of two lists of notes that are alike, by which requests are pending and what each touches
+pub pending-alike : (before after : List Note) → AreAlike before after → pending_by after ≡ pending_by before
+pending-alike before after alike = λ i k. alike.pending k i
+
+pub portions-alike : (queue : List Entry) (before after : List Note) → AreAlike before after
+    → portion_at queue after ≡ portion_at queue before
+portions-alike queue before after alike = λ i k. portion-alike queue before after k alike i
+
 pub marks-alike : (s : State) (queue : List Entry) (before after : List Note) (o : ℕ) → IsMarked s queue before o
     → AreAlike before after → IsMarked s queue after o
 marks-alike s queue before after o is alike = record {
-  marked = λ k. alike.pending k ∙ is.marked k;
-  known = λ k lt pending. ap (λ (t : Touch). touched_as t (ask_at queue k)) (alike.touch k)
-      ∙ is.known k lt (sym (alike.pending k) ∙ pending);
-  replies = λ k worked. alike.replies k (sym (alike.pending k) ∙ worked)
-      ∙ is.replies k (sym (alike.pending k) ∙ worked);
+  asked = asked-alike queue before after is.asked alike;
+  ranged = ranged-alike queue before after o is.ranged alike;
+  known =
+      subst (λ (f : ℕ → Bool). AreKnown f (portion_at queue after) (portion_now s queue) o)
+      (sym (pending-alike before after alike))
+      (subst (λ (g : ℕ → Portion). AreKnown (pending_by before) g (portion_now s queue) o)
+      (sym (portions-alike queue before after alike)) is.known);
+}
+
+pub marks_but-alike : (s : State) (queue : List Entry) (before after : List Note) (o number next : ℕ)
+    → IsMarkedBut s queue before o number next → AreAlike before after → IsMarkedBut s queue after o number next
+marks_but-alike s queue before after o number next is alike = record {
+  asked = asked-alike queue before after is.asked alike;
+  ranged = ranged-alike queue before after o is.ranged alike;
+  known =
+      subst (λ (f : ℕ → Bool). AreKnownBut f (portion_at queue after) (portion_now s queue) o number next)
+      (sym (pending-alike before after alike))
+      (subst (λ (g : ℕ → Portion). AreKnownBut (pending_by before) g (portion_now s queue) o number next)
+      (sym (portions-alike queue before after alike)) is.known);
 }
 
 noted-alike : (queue : List Entry) (before after : List Note) (f o w p q : ℕ) → IsNoted queue before f o w p
@@ -150,6 +206,21 @@ noted-passed queue notes f g o w p is front passed = record {
   free = is.free;
 }
 
+-- those that waited were looked at again, and those at the front were passed that are not pending
+pub refreshed : (s : State) (queue : List Entry) (before after last : List Note) (f g o w p end_o end_w end_p : ℕ)
+    → last ≡ after → end_o ≡ o → end_w ≡ w → end_p ≡ p → IsNoted queue after f o w p → AreBlocked queue after o
+    → AreAlike before after → IsMarked s queue before o → g ≤ length last
+    → ((k : ℕ) → k < g → (note_at last k).pending ≡ false) → AreNotes s queue last g end_o end_w end_p
+refreshed s queue before after last f g o w p end_o end_w end_p same o_is w_is p_is is blocked alike marks front passed =
+    rw (o_is, w_is, p_is)
+    (subst (λ (notes : List Note). AreNotes s queue notes g o w p) (sym same) record {
+      noted = noted-passed queue after f g o w p is
+          (let size = ap length same in let all = is.same_length in omega (arith, front, size, all))
+          (λ k lt. ap (λ (notes : List Note). (note_at notes k).pending) (sym same) ∙ passed k lt);
+      blocked = blocked;
+      marks = marks-alike s queue before after o marks alike;
+    })
+
 count-one : (b : Bool) → as_count b ≤ 1
 count-one true = omega arith
 count-one false = omega arith
@@ -175,7 +246,7 @@ module _ (queue : List Entry) (notes : List Note) (f o w p k : ℕ) (is : IsNote
 
   allowed-alike : AreAlike notes (allowed notes k)
   allowed-alike =
-      alike-set notes k (record (note_at notes k) { possible = true }) inside refl refl
+      alike-set notes k (record (note_at notes k) { possible = true }) inside refl refl refl
       (λ worked. absurd (true≢false (sym pending ∙ worked)))
 
   possible-other : (j : ℕ) → j ≢ k → (note_at (allowed notes k) j).possible ≡ (note_at notes j).possible
@@ -230,12 +301,12 @@ module _ (queue : List Entry) (notes : List Note) (f o w p k back : ℕ) (is : I
   within-once = let size = length-set notes k waits in let within = within-notes in omega (arith, size, within)
 
   once-alike : AreAlike notes once
-  once-alike = alike-set notes k waits within-notes refl refl (λ _. refl)
+  once-alike = alike-set notes k waits within-notes refl refl refl (λ _. refl)
 
   held-alike : AreAlike notes (held notes k back)
   held-alike =
       alike-then notes once (held notes k back) once-alike
-      (alike-set once (k - back) grown within-once refl refl (λ _. refl))
+      (alike-set once (k - back) grown within-once refl refl refl (λ _. refl))
 
   same-possible : (j : ℕ) → (note_at (held notes k back) j).possible ≡ (note_at notes j).possible
   same-possible j =
@@ -321,6 +392,12 @@ blocked-kept queue before after j k is placed apart = record {
       omega (arith, same, grows, reached);
 }
 
+pub stopped-kept : (queue : List Entry) (before after : List Note) (j k : ℕ) → IsStopped queue before j
+    → IsPlaced queue before after k → j ≢ k → IsStopped queue after j
+stopped-kept queue before after j k (inl is) placed apart = inl (blocked-kept queue before after j k is placed apart)
+stopped-kept queue before after j k (inr late) placed apart =
+    inr (late-alike queue before after j placed.alike ∙ late)
+
 -- one was passed that does not wait for the request that is done
 pub but-passed : (queue : List Entry) (notes : List Note) (o done from to : ℕ)
     → AreBlockedBut queue notes o done from to
@@ -343,16 +420,16 @@ pub but-placed : (queue : List Entry) (before after : List Note) (o done from to
     → AreBlockedBut queue before o done from to → IsPlaced queue before after from
     → AreBlockedBut queue after o done (suc from) to
 but-placed queue before after o done from to but placed j lt on off other =
-    by_place j from (IsBlocked queue after j) here there
+    by_place j from (IsStopped queue after j) here there
   where
-    here : j ≡ from → IsBlocked queue after j
+    here : j ≡ from → IsStopped queue after j
     here at =
-        subst (λ (i : ℕ). IsBlocked queue after i) (sym at)
-        (placed.blocked (subst (λ (i : ℕ). (note_at after i).possible ≡ false) at off))
+        subst (λ (i : ℕ). IsStopped queue after i) (sym at)
+        (inl (placed.blocked (subst (λ (i : ℕ). (note_at after i).possible ≡ false) at off)))
 
-    there : j ≢ from → IsBlocked queue after j
+    there : j ≢ from → IsStopped queue after j
     there apart =
-        blocked-kept queue before after j from
+        stopped-kept queue before after j from
         (but j lt (sym (placed.alike.pending j) ∙ on) (sym (placed.possible j apart) ∙ off)
         (λ later within same. other (beyond j from later apart) within
         (ap (λ (n : ℕ). done + n) (placed.blocker j apart) ∙ same)))
@@ -387,16 +464,16 @@ but-end queue notes o done from to last but past reached j lt on off =
 pub blocked-placed : (queue : List Entry) (before after : List Note) (k : ℕ) → AreBlocked queue before k
     → IsPlaced queue before after k → AreBlocked queue after (suc k)
 blocked-placed queue before after k blocked placed j lt on off =
-    by_place j k (IsBlocked queue after j) here there
+    by_place j k (IsStopped queue after j) here there
   where
-    here : j ≡ k → IsBlocked queue after j
+    here : j ≡ k → IsStopped queue after j
     here at =
-        subst (λ (i : ℕ). IsBlocked queue after i) (sym at)
-        (placed.blocked (subst (λ (i : ℕ). (note_at after i).possible ≡ false) at off))
+        subst (λ (i : ℕ). IsStopped queue after i) (sym at)
+        (inl (placed.blocked (subst (λ (i : ℕ). (note_at after i).possible ≡ false) at off)))
 
-    there : j ≢ k → IsBlocked queue after j
+    there : j ≢ k → IsStopped queue after j
     there apart =
-        blocked-kept queue before after j k
+        stopped-kept queue before after j k
         (blocked j (below j k lt apart) (sym (placed.alike.pending j) ∙ on) (sym (placed.possible j apart) ∙ off))
         placed apart
 
@@ -431,19 +508,21 @@ pub start-free : (queue : List Entry) (notes : List Note) (f o w p k from : ℕ)
     → ((j : ℕ) → from ≤ j → j < k → (w ≤ j) × (only_reads (note_at notes k).touch ≡ true))
     → IsFreeFrom queue notes k from
 start-free queue notes f o w p k from is within rest j later before =
-    no_way (note_at notes j).pending (share (touched_at queue notes j) (touched_at queue notes k))
+    no_way (note_at notes j).pending (portions_clash (portion_at queue notes j) (portion_at queue notes k))
     (λ on.
     let both = rest j later before in
-    reads-apart (note_at notes j).touch (note_at notes k).touch (ask_at queue j) (ask_at queue k)
-    (is.reads j both.0 (omega (arith, before, within)) on) both.1)
+    and_left (share (touched_at queue notes j) (touched_at queue notes k))
+    (not (are_apart (note_at notes j).range (note_at notes k).range))
+    (reads-apart (note_at notes j).touch (note_at notes k).touch (ask_at queue j) (ask_at queue k)
+    (is.reads j both.0 (omega (arith, before, within)) on) both.1))
 
 -- one more is not in the way
 pub free-lower : (queue : List Entry) (notes : List Note) (k from lower : ℕ) → from ≡ suc lower
-    → IsFreeFrom queue notes k from → is_in_way queue notes lower (touched_at queue notes k) ≡ false
+    → IsFreeFrom queue notes k from → is_in_way queue notes lower (portion_at queue notes k) ≡ false
     → IsFreeFrom queue notes k lower
 free-lower queue notes k from lower is free none j later before =
-    by_place j lower (is_in_way queue notes j (touched_at queue notes k) ≡ false)
-    (λ at. subst (λ (i : ℕ). is_in_way queue notes i (touched_at queue notes k) ≡ false) (sym at) none)
+    by_place j lower (is_in_way queue notes j (portion_at queue notes k) ≡ false)
+    (λ at. subst (λ (i : ℕ). is_in_way queue notes i (portion_at queue notes k) ≡ false) (sym at) none)
     (λ apart. free j (let past = beyond j lower later apart in omega (arith, past, is)) before)
 
 -- none from the first pending request on is in the way
@@ -451,9 +530,9 @@ pub free-all : (queue : List Entry) (notes : List Note) (f o w p k from : ℕ) �
     → IsFreeFrom queue notes k from → IsFree queue notes k
 free-all queue notes f o w p k from is passed free j before = by (nat_lt j from) refl
   where
-    by : (b : Bool) → nat_lt j from ≡ b → is_in_way queue notes j (touched_at queue notes k) ≡ false
+    by : (b : Bool) → nat_lt j from ≡ b → is_in_way queue notes j (portion_at queue notes k) ≡ false
     by true lt =
-        worked_away (note_at notes j).pending (share (touched_at queue notes j) (touched_at queue notes k))
+        worked_away (note_at notes j).pending (portions_clash (portion_at queue notes j) (portion_at queue notes k))
         (is.passed j (let early = ltb-true j from lt in omega (arith, early, passed)))
     by false later = free j (ltb-false j from later) before
 
@@ -470,11 +549,11 @@ shut-at notes o note some within is pending all =
 
 -- ---- one request more is opened
 
-module _ (s : State) (queue : List Entry) (notes : List Note) (f k w p : ℕ) (t : Touch)
+module _ (s : State) (queue : List Entry) (notes : List Note) (f k w p : ℕ) (t : Touch) (r : Option ByteRange)
     (is : IsNoted queue notes f k w p) (some : k < length queue)
     (last : (j : ℕ) → suc j ≡ k → (note_at notes j).pending ≡ true → is_all (note_at notes j).touch ≡ false) where
   abbrev opened_note : Note
-  opened_note = record (note_at notes k) { touch = t }
+  opened_note = record (note_at notes k) { touch = t; range = r }
 
   abbrev pub entered : List Note
   entered = set notes k opened_note
@@ -484,6 +563,12 @@ module _ (s : State) (queue : List Entry) (notes : List Note) (f k w p : ℕ) (t
 
   touch-here : (note_at entered k).touch ≡ t
   touch-here = ap (λ (n : Note). n.touch) (set-same notes k opened_note here-within)
+
+  portion-here : portion_at queue entered k ≡ record { touched = touched_as t (ask_at queue k); range = r }
+  portion-here = λ i. record {
+    touched = touched_as (set-same notes k opened_note here-within i).touch (ask_at queue k);
+    range = (set-same notes k opened_note here-within i).range;
+  }
 
   pending-same : (j : ℕ) → (note_at entered j).pending ≡ (note_at notes j).pending
   pending-same j = set-field (λ (n : Note). n.pending) notes k j opened_note here-within refl
@@ -503,11 +588,23 @@ module _ (s : State) (queue : List Entry) (notes : List Note) (f k w p : ℕ) (t
   touch-same : (j : ℕ) → j < k → (note_at entered j).touch ≡ (note_at notes j).touch
   touch-same j lt = ap (λ (n : Note). n.touch) (set-other notes k j opened_note (early j lt))
 
-  meets-same : (i j : ℕ) → i < k → j < k → is_in_way queue entered i (touched_at queue entered j)
-      ≡ is_in_way queue notes i (touched_at queue notes j)
+  portion-same : (j : ℕ) → j < k → portion_at queue entered j ≡ portion_at queue notes j
+  portion-same j lt = λ i. record {
+    touched = touched_as (set-other notes k j opened_note (early j lt) i).touch (ask_at queue j);
+    range = (set-other notes k j opened_note (early j lt) i).range;
+  }
+
+  meets-same : (i j : ℕ) → i < k → j < k → is_in_way queue entered i (portion_at queue entered j)
+      ≡ is_in_way queue notes i (portion_at queue notes j)
   meets-same i j lt_i lt_j = λ x.
-      (pending-same i x) && share (touched_as (touch-same i lt_i x) (ask_at queue i))
-      (touched_as (touch-same j lt_j x) (ask_at queue j))
+      (pending-same i x) && portions_clash (portion-same i lt_i x) (portion-same j lt_j x)
+
+  late-same : (j : ℕ) → j < k → is_late queue entered j ≡ is_late queue notes j
+  late-same j lt =
+      ap (λ (x : Portion). is_behind_by (pending_by entered) (portion_at queue entered) j x.touched) (portion-same j lt)
+      ∙ behind-local (pending_by entered) (pending_by notes) (portion_at queue entered) (portion_at queue notes) j
+      (touched_at queue notes j) (λ i less. pending-same i)
+      (λ i less. portion-same i (omega (arith, less, lt)))
 
   reads-more : (j : ℕ) → raised w k t ≤ j → j < suc k → (note_at entered j).pending ≡ true
       → only_reads (note_at entered j).touch ≡ true
@@ -563,33 +660,62 @@ module _ (s : State) (queue : List Entry) (notes : List Note) (f k w p : ℕ) (t
   pub entered-waits : (note_at entered k).possible ≡ false
   entered-waits = possible-same k ∙ (is.behind k (omega arith) some).1
 
+  still-blocked : (j : ℕ) → j < k → IsBlocked queue notes j → IsBlocked queue entered j
+  still-blocked j lt old = record {
+    blocker = old.blocker;
+    back = ap (λ (n : ℕ). old.blocker + n) (blocker-same j) ∙ old.back;
+    before = old.before;
+    in_way = let before = old.before in meets-same old.blocker j (omega (arith, before, lt)) lt ∙ old.in_way;
+    reached =
+        let same = blocker-same j in
+        let reach = waiter-same old.blocker in
+        let reached = old.reached in
+        omega (arith, same, reach, reached);
+  }
+
+  still-stopped : (j : ℕ) → j < k → IsStopped queue notes j → IsStopped queue entered j
+  still-stopped j lt (inl old) = inl (still-blocked j lt old)
+  still-stopped j lt (inr late) = inr (late-same j lt ∙ late)
+
   pub entered-blocked : AreBlocked queue notes k → AreBlocked queue entered k
   entered-blocked blocked j lt on off =
-      let old = blocked j lt (sym (pending-same j) ∙ on) (sym (possible-same j) ∙ off) in
-      let before = old.before in
-      record {
-        blocker = old.blocker;
-        back = ap (λ (n : ℕ). old.blocker + n) (blocker-same j) ∙ old.back;
-        before = old.before;
-        in_way = meets-same old.blocker j (omega (arith, before, lt)) lt ∙ old.in_way;
-        reached =
-            let same = blocker-same j in
-            let reach = waiter-same old.blocker in
-            let reached = old.reached in
-            omega (arith, same, reach, reached);
-      }
+      still-stopped j lt (blocked j lt (sym (pending-same j) ∙ on) (sym (possible-same j) ∙ off))
 
-  pub entered-marks : touched_as t (ask_at queue k) ≡ touched s (ask_at queue k) → IsMarked s queue notes k
-      → IsMarked s queue entered (suc k)
-  entered-marks known marks = record {
-    marked = λ j. pending-same j ∙ marks.marked j;
-    known = λ j lt on.
-        by_place j k (touched_at queue entered j ≡ touched s (ask_at queue j))
-        (λ at.
-        subst (λ (i : ℕ). touched_at queue entered i ≡ touched s (ask_at queue i)) (sym at)
-        (ap (λ (u : Touch). touched_as u (ask_at queue k)) touch-here ∙ known))
-        (λ apart.
-        ap (λ (u : Touch). touched_as u (ask_at queue j)) (touch-same j (below j k lt apart))
-        ∙ marks.known j (below j k lt apart) (sym (pending-same j) ∙ on));
-    replies = λ j worked. possible-same j ∙ marks.replies j (sym (pending-same j) ∙ worked);
-  }
+  pub entered-marks : touched_as t (ask_at queue k) ≡ touched s (ask_at queue k) → r ≡ range s (ask_at queue k)
+      → IsMarked s queue notes k → IsMarked s queue entered (suc k)
+  entered-marks touches ranges marks =
+      let whole : portion_at queue entered k ≡ portion_now s queue k =
+      portion-here ∙ (λ i. record { touched = touches i; range = ranges i }) in
+      record {
+        asked = record {
+          marked = λ j. pending-same j ∙ marks.asked.marked j;
+          replies = λ j worked. possible-same j ∙ marks.asked.replies j (sym (pending-same j) ∙ worked);
+        };
+        ranged = λ j lt on.
+            by_place j k (IsPortion (portion_at queue entered j))
+            (λ at.
+            subst (λ (i : ℕ). IsPortion (portion_at queue entered i)) (sym at)
+            (subst IsPortion (sym whole) (portion-sound s (ask_at queue k))))
+            (λ apart.
+            subst IsPortion (sym (portion-same j (below j k lt apart)))
+            (marks.ranged j (below j k lt apart) (sym (pending-same j) ∙ on)));
+        known = record {
+          touches = λ j lt on.
+              by_place j k ((portion_at queue entered j).touched ≡ (portion_now s queue j).touched)
+              (λ at.
+              subst (λ (i : ℕ). (portion_at queue entered i).touched ≡ (portion_now s queue i).touched) (sym at)
+              (ap (λ (x : Portion). x.touched) whole))
+              (λ apart.
+              ap (λ (x : Portion). x.touched) (portion-same j (below j k lt apart))
+              ∙ marks.known.touches j (below j k lt apart) (sym (pending-same j) ∙ on));
+          ranges = λ j lt on front.
+              by_place j k ((portion_at queue entered j).range ≡ (portion_now s queue j).range)
+              (λ at.
+              subst (λ (i : ℕ). (portion_at queue entered i).range ≡ (portion_now s queue i).range) (sym at)
+              (ap (λ (x : Portion). x.range) whole))
+              (λ apart.
+              ap (λ (x : Portion). x.range) (portion-same j (below j k lt apart))
+              ∙ marks.known.ranges j (below j k lt apart) (sym (pending-same j) ∙ on)
+              (sym (late-same j (below j k lt apart)) ∙ front));
+        };
+      }

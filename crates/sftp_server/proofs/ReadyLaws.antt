@@ -1,18 +1,16 @@
 -- What the notes of a queue say of what is ready, and of what is possible.
 use Rattle.std.proofs.Common.{◌≡◌, ◌+◌, ◌<◌, ◌≤◌, ◌++◌, ◌&&◌, ◌||◌, not, nat_lt, ℕ, zero, suc, Bool, true, false}
-use Rattle.std.proofs.Common.{List, [], ◌∷◌, Option, Some, None, is_some, if◌then◌else◌, length, take, drop, slice_get}
+use Rattle.std.proofs.Common.{List, [], ◌∷◌, ◌⊎◌, inl, inr}
+use Rattle.std.proofs.Common.{Option, Some, None, is_some, if◌then◌else◌, length, take, drop, slice_get}
 use Rattle.std.proofs.Common.{refl, sym, ap, ap₂, ◌∙◌, ◌-◌, arith, length-append, append_assoc}
-use Rattle.std.proofs.lemmas.Bool.{true≢false, ltb-true, ltb-false}
+use Rattle.std.proofs.lemmas.Bool.{true≢false, ltb-true, ltb-false, and_from}
 use Rattle.std.proofs.lemmas.Option.{slice_get_within}
 use Rattle.std.proofs.lemmas.List.{take_all, drop_more, get_or_past}
 use Rattle.std.proofs.lemmas.List.Sums.{sum_by-cons}
-use Rattle.sftp_wire.specs.declared.packets.Ask.{Ask}
 use Rattle.sftp_wire.specs.declared.packets.Request.{Request}
 use Rattle.sftp_handles.specs.State.{State}
-use Rattle.sftp_handles.specs.Clash.{Touched, touched, share, clash}
-use Rattle.sftp_handles.specs.Touch.{touched_as}
-use Rattle.sftp_handles.specs.declared.touch.Touch.{Touch}
-use Rattle.sftp_handles.specs.declared.touch.Touch.TheVariants.{Nothing, ReadsFile, WritesFile, TakesNames, Everything}
+use Rattle.sftp_handles.specs.Clash.{Touched, touched, share, clash, everything}
+use Rattle.sftp_handles.specs.Ranges.{range, range_clash}
 use Rattle.sftp_server.specs.declared.cores.Choice.{Choice}
 use Rattle.sftp_server.specs.declared.cores.Choice.TheVariants as choices
 use Rattle.sftp_server.specs.declared.queue.Entry.{Entry}
@@ -22,8 +20,13 @@ use Rattle.sftp_server.specs.declared.readiness.Note.{Note}
 use Rattle.sftp_server.specs.Machine.{Machine, ClashOf, is_pending, is_free_of, ready_in, is_ready}
 use Rattle.sftp_server.specs.Machine.{pending_in, reply_of, reply_in, reply_at}
 use Rattle.sftp_server.specs.Choices.{choices_at, choices_from, choices_of}
-use Rattle.sftp_server.specs.Readiness.{blank, note_at, ask_in, ask_at, touched_at, is_in_way, is_all, as_count}
-use Rattle.sftp_server.specs.Readiness.{possible_count, IsShut, IsMarked, AreNotes, IsOpened}
+use Rattle.sftp_server.specs.RangedNotes.{portion_in, portions_clash, stands_in_way, IsHindered}
+use Rattle.sftp_server.specs.Readiness.{blank, note_at, ask_in, ask_at, portion_at, portion_now, as_count}
+use Rattle.sftp_server.specs.Readiness.{possible_count, pending_by, is_late, IsStopped, IsShut, IsMarkedAsked, IsMarked}
+use Rattle.sftp_server.specs.Readiness.{AreNotes, IsOpened}
+use Rattle.sftp_server.proofs.RangedNotes.{clear-is, hindered-is, clash-left, all-none}
+use Rattle.sftp_server.proofs.StillRanged.{portion-sound}
+use Rattle.sftp_server.proofs.DoneNotes.{all-touched}
 
 -- ---- freeness, position by position
 
@@ -56,89 +59,90 @@ free-not clash s (entry ∷ queue) (suc k) (suc j) request before blocks =
     and_false true = refl
     and_false false = refl
 
--- what blocks a request, by what both touch
-blocks-touched : (s : State) (found : Option Entry) (request : Request)
-    → blocks_in clash s found request ≡ (pending_in found && share (touched s (ask_in found)) (touched s request.ask))
-unfolding clash
-blocks-touched s None request = refl
-blocks-touched s (Some entry) request = refl
+-- what blocks a request, by what both touch and which ranges they keep to
+blocks-portions : (s : State) (found : Option Entry) (request : Request)
+    → blocks_in range_clash s found request
+    ≡ (pending_in found && portions_clash (portion_in s (ask_in found)) (portion_in s request.ask))
+unfolding range_clash clash
+blocks-portions s None request = refl
+blocks-portions s (Some entry) request = refl
 
--- a pending request of the open part blocks a later one if it is in its way
-blocks-noted : (s : State) (queue : List Entry) (notes : List Note) (opened j : ℕ) (request : Request) (at : Touched)
-    → IsMarked s queue notes opened → j < opened → at ≡ touched s request.ask
-    → blocks_in clash s (slice_get queue j) request ≡ is_in_way queue notes j at
-blocks-noted s queue notes opened j request at are before is =
-    blocks-touched s (slice_get queue j) request
-    ∙ (rw (← is, ← are.marked j) (by (note_at notes j).pending refl))
-  where
-    by : (b : Bool) → (note_at notes j).pending ≡ b
-        → ((note_at notes j).pending && share (touched s (ask_at queue j)) at)
-        ≡ ((note_at notes j).pending && share (touched_at queue notes j) at)
-    by true pending = rw (are.known j before pending) refl
-    by false idle = rw idle refl
+-- the request at a position blocks a later one if it stands in its way now
+blocks-now : (s : State) (queue : List Entry) (notes : List Note) (j k : ℕ) (entry : Entry)
+    → IsMarkedAsked queue notes → slice_get queue k ≡ Some entry
+    → blocks_in range_clash s (slice_get queue j) entry.request
+    ≡ stands_in_way (pending_by notes) (portion_now s queue) j k
+blocks-now s queue notes j k entry are at =
+    let named : ask_at queue k ≡ entry.request.ask = ap ask_in at in
+    blocks-portions s (slice_get queue j) entry.request
+    ∙ (λ i. sym (are.marked j) i && portions_clash (portion_now s queue j) (portion_in s (sym named i)))
 
 -- the last open request, which touches everything, blocks each later one
-blocks-shut : (s : State) (queue : List Entry) (notes : List Note) (opened : ℕ) (request : Request)
-    → IsMarked s queue notes opened → (shut : IsShut notes opened)
-    → blocks_in clash s (slice_get queue shut.last) request ≡ true
-blocks-shut s queue notes opened request are shut =
-    blocks-noted s queue notes opened shut.last request (touched s request.ask) are
-    (let here = shut.position in omega (arith, here)) refl
-    ∙ rw shut.pending (shared (note_at notes shut.last).touch (ask_at queue shut.last) (touched s request.ask)
-    shut.touches)
-  where
-    shared : (touch : Touch) (ask : Ask) (other : Touched) → is_all touch ≡ true
-        → share (touched_as touch ask) other ≡ true
-    shared Nothing ask other all = absurd (true≢false (sym all))
-    shared (ReadsFile number) ask other all = absurd (true≢false (sym all))
-    shared (WritesFile number) ask other all = absurd (true≢false (sym all))
-    shared TakesNames ask other all = absurd (true≢false (sym all))
-    shared Everything ask other all = refl
+blocks-shut : (s : State) (queue : List Entry) (notes : List Note) (opened k : ℕ) (entry : Entry)
+    → IsMarked s queue notes opened → (shut : IsShut notes opened) → slice_get queue k ≡ Some entry
+    → blocks_in range_clash s (slice_get queue shut.last) entry.request ≡ true
+blocks-shut s queue notes opened k entry are shut at =
+    let here = shut.position in
+    let all : touched s (ask_at queue shut.last) ≡ everything =
+    sym (are.known.touches shut.last (omega (arith, here)) shut.pending)
+    ∙ all-touched (note_at notes shut.last).touch (ask_at queue shut.last) shut.touches in
+    let none = all-none (touched s (ask_at queue shut.last)) (range s (ask_at queue shut.last)) (portion-sound s
+    (ask_at queue shut.last)) all in
+    blocks-now s queue notes shut.last k entry are.asked at
+    ∙ and_from (note_at notes shut.last).pending
+    (portions_clash (portion_now s queue shut.last) (portion_now s queue k)) shut.pending
+    (clash-left (portion_now s queue shut.last) (portion_now s queue k) none
+    ∙ ap (λ (at : Touched). share at (touched s (ask_at queue k)) && not false) all)
 
 -- ---- what is ready
 
+-- what waits by its note is hindered, or is behind a request that may change the length of its file
+stopped-hindered : (queue : List Entry) (notes : List Note) (k : ℕ) → IsStopped queue notes k
+    → IsHindered (pending_by notes) (portion_at queue notes) k ⊎ (is_late queue notes k ≡ true)
+stopped-hindered queue notes k (inl is) = inl (is.blocker, is.before, is.in_way)
+stopped-hindered queue notes k (inr late) = inr late
+
 pub ready-is : (s : State) (queue : List Entry) (notes : List Note) (first opened writers possible : ℕ)
     → AreNotes s queue notes first opened writers possible → IsOpened queue notes opened → (k : ℕ)
-    → ready_in clash s (take k queue) (slice_get queue k)
+    → ready_in range_clash s (take k queue) (slice_get queue k)
     ≡ ((note_at notes k).pending && (note_at notes k).possible)
 ready-is s queue notes first opened writers possible are is_opened k =
-    by (slice_get queue k) refl (are.marks.marked k)
+    by (slice_get queue k) refl (are.marks.asked.marked k)
   where
     open-possible : (entry : Entry) → slice_get queue k ≡ Some entry → k < opened
         → (note_at notes k).pending ≡ true → (b : Bool) → (note_at notes k).possible ≡ b
-        → is_free_of clash s (take k queue) entry.request ≡ b
+        → is_free_of range_clash s (take k queue) entry.request ≡ b
     open-possible entry at within pending true ready =
-        free-more clash s queue k entry.request (λ j before.
-        blocks-noted s queue notes opened j entry.request (touched_at queue notes k) are.marks (omega
-        (arith, before, within)) (are.marks.known k within pending ∙ ap (λ (found : Option Entry). touched s
-        (ask_in found)) at)
-        ∙ are.noted.free k within pending ready j before)
+        let clear = clear-is (pending_by notes) (portion_at queue notes) (portion_now s queue) opened are.marks.known k
+        within pending (portion-sound s (ask_at queue k)) (are.noted.free k within pending ready) in
+        free-more range_clash s queue k entry.request (λ j before.
+        blocks-now s queue notes j k entry are.marks.asked at ∙ clear j before)
     open-possible entry at within pending false waits =
-        let is = are.blocked k within pending waits in
-        free-not clash s queue k is.blocker entry.request is.before
-        (blocks-noted s queue notes opened is.blocker entry.request (touched_at queue notes k) are.marks (let before =
-        is.before in omega (arith, before, within)) (are.marks.known k within pending ∙ ap (λ (found : Option Entry).
-        touched s (ask_in found)) at) ∙ is.in_way)
+        let found = hindered-is (pending_by notes) (portion_at queue notes) (portion_now s queue) opened are.marks.known
+        k within pending (portion-sound s (ask_at queue k)) (stopped-hindered queue notes k (are.blocked k within
+        pending waits)) in
+        free-not range_clash s queue k found.0 entry.request found.1
+        (blocks-now s queue notes found.0 k entry are.marks.asked at ∙ found.2)
 
     behind-possible : (entry : Entry) → slice_get queue k ≡ Some entry → opened ≤ k
-        → is_free_of clash s (take k queue) entry.request ≡ (note_at notes k).possible
+        → is_free_of range_clash s (take k queue) entry.request ≡ (note_at notes k).possible
     behind-possible entry at from =
         let within = slice_get_within queue k entry at in
         let shut = is_opened (omega (arith, from, within)) in
         let here = shut.position in
-        free-not clash s queue k shut.last entry.request (omega (arith, here, from))
-        (blocks-shut s queue notes opened entry.request are.marks shut)
+        free-not range_clash s queue k shut.last entry.request (omega (arith, here, from))
+        (blocks-shut s queue notes opened k entry are.marks shut at)
         ∙ sym (are.noted.behind k from within).1
 
     free-is : (entry : Entry) → slice_get queue k ≡ Some entry → (note_at notes k).pending ≡ true → (b : Bool)
-        → nat_lt k opened ≡ b → is_free_of clash s (take k queue) entry.request ≡ (note_at notes k).possible
+        → nat_lt k opened ≡ b → is_free_of range_clash s (take k queue) entry.request ≡ (note_at notes k).possible
     free-is entry at pending true less =
         open-possible entry at (ltb-true k opened less) pending (note_at notes k).possible refl
     free-is entry at pending false less = behind-possible entry at (ltb-false k opened less)
 
     pending-by : (entry : Entry) → slice_get queue k ≡ Some entry → (b : Bool) → is_pending entry.progress ≡ b
         → (note_at notes k).pending ≡ is_pending entry.progress
-        → (is_pending entry.progress && is_free_of clash s (take k queue) entry.request)
+        → (is_pending entry.progress && is_free_of range_clash s (take k queue) entry.request)
         ≡ ((note_at notes k).pending && (note_at notes k).possible)
     pending-by entry at true is marked =
         rw (marked, is) (free-is entry at (marked ∙ is) (nat_lt k opened) refl)
@@ -146,7 +150,7 @@ ready-is s queue notes first opened writers possible are is_opened k =
 
     by : (found : Option Entry) → slice_get queue k ≡ found
         → (note_at notes k).pending ≡ pending_in (slice_get queue k)
-        → ready_in clash s (take k queue) found ≡ ((note_at notes k).pending && (note_at notes k).possible)
+        → ready_in range_clash s (take k queue) found ≡ ((note_at notes k).pending && (note_at notes k).possible)
     by None at marked =
         let idle : (note_at notes k).pending ≡ false = marked ∙ ap pending_in at in
         rw idle refl
@@ -166,7 +170,7 @@ pending-no_reply (Some entry) pending = by entry.progress pending
 
 pub possible-is : (machine : Machine State) (notes : List Note) (first opened writers possible : ℕ)
     → AreNotes machine.state machine.queue notes first opened writers possible → IsOpened machine.queue notes opened
-    → (k : ℕ) → (note_at notes k).possible ≡ (is_ready clash machine k || is_some (reply_at machine.queue k))
+    → (k : ℕ) → (note_at notes k).possible ≡ (is_ready range_clash machine k || is_some (reply_at machine.queue k))
 possible-is machine notes first opened writers possible are is_opened k = by (note_at notes k).pending refl
   where
     or_false : (b : Bool) → b ≡ (b || false)
@@ -174,16 +178,16 @@ possible-is machine notes first opened writers possible are is_opened k = by (no
     or_false false = refl
 
     by : (b : Bool) → (note_at notes k).pending ≡ b
-        → (note_at notes k).possible ≡ (is_ready clash machine k || is_some (reply_at machine.queue k))
+        → (note_at notes k).possible ≡ (is_ready range_clash machine k || is_some (reply_at machine.queue k))
     by true pending =
         rw (
           ready-is machine.state machine.queue notes first opened writers possible are is_opened k,
           pending,
-          pending-no_reply (slice_get machine.queue k) (sym (are.marks.marked k) ∙ pending),
+          pending-no_reply (slice_get machine.queue k) (sym (are.marks.asked.marked k) ∙ pending),
         ) (or_false (note_at notes k).possible)
     by false idle =
         rw (ready-is machine.state machine.queue notes first opened writers possible are is_opened k, idle)
-        (are.marks.replies k idle)
+        (are.marks.asked.replies k idle)
 
 choices-length : {S : Type 0} (clash : ClashOf S) (machine : Machine S) (k : ℕ)
     → length (choices_at clash machine k)
@@ -201,7 +205,7 @@ choices-length clash machine k = by (is_ready clash machine k) refl (is_some (re
 count-part : (machine : Machine State) (notes : List Note) (first opened writers possible : ℕ)
     → AreNotes machine.state machine.queue notes first opened writers possible → IsOpened machine.queue notes opened
     → (k count : ℕ) → k + count ≤ length notes
-    → length (choices_from clash machine k count) ≡ possible_count (take count (drop k notes))
+    → length (choices_from range_clash machine k count) ≡ possible_count (take count (drop k notes))
 unfolding choices_from
 count-part machine notes first opened writers possible are is_opened k zero within = refl
 count-part machine notes first opened writers possible are is_opened k (suc count) within =
@@ -210,15 +214,15 @@ count-part machine notes first opened writers possible are is_opened k (suc coun
     (arith, within)) in
     let cut : drop k notes ≡ note_at notes k ∷ drop (suc k) notes =
     drop_more notes k blank (omega (arith, within)) ∙ ap (λ (n : ℕ). note_at notes k ∷ drop n notes) one in
-    length-append (choices_at clash machine k) (choices_from clash machine (suc k) count)
-    ∙ (ap₂ (λ (a b : ℕ). a + b) (choices-length clash machine k
+    length-append (choices_at range_clash machine k) (choices_from range_clash machine (suc k) count)
+    ∙ (ap₂ (λ (a b : ℕ). a + b) (choices-length range_clash machine k
     ∙ ap as_count (sym (possible-is machine notes first opened writers possible are is_opened k))) rest
     ∙ (sym (sum_by-cons (λ (n : Note). as_count n.possible) (note_at notes k) (take count (drop (suc k) notes)))
     ∙ ap (λ (ns : List Note). possible_count (take (suc count) ns)) (sym cut)))
 
 pub possible-count : (machine : Machine State) (notes : List Note) (first opened writers possible : ℕ)
     → AreNotes machine.state machine.queue notes first opened writers possible → IsOpened machine.queue notes opened
-    → possible ≡ length (choices_of clash machine)
+    → possible ≡ length (choices_of range_clash machine)
 possible-count machine notes first opened writers possible are is_opened =
     let same = are.noted.same_length in
     let count = count-part machine notes first opened writers possible are is_opened 0 (length machine.queue)
@@ -251,13 +255,13 @@ get-behind (x ∷ front) back (suc n) is = get-behind front back n (omega (arith
 choice-here : (machine : Machine State) (notes : List Note) (first opened writers possible : ℕ)
     → AreNotes machine.state machine.queue notes first opened writers possible → IsOpened machine.queue notes opened
     → (k : ℕ) (rest : List Choice) → (note_at notes k).possible ≡ true
-    → slice_get (choices_at clash machine k ++ rest) 0
+    → slice_get (choices_at range_clash machine k ++ rest) 0
     ≡ Some (if (note_at notes k).pending then choices.Work k else choices.Send k)
 choice-here machine notes first opened writers possible are is_opened k rest is =
     by (note_at notes k).pending refl
   where
     by : (b : Bool) → (note_at notes k).pending ≡ b
-        → slice_get (choices_at clash machine k ++ rest) 0
+        → slice_get (choices_at range_clash machine k ++ rest) 0
         ≡ Some (if (note_at notes k).pending then choices.Work k else choices.Send k)
     by true pending =
         rw (ready-is machine.state machine.queue notes first opened writers possible are is_opened k, pending, is) refl
@@ -265,7 +269,7 @@ choice-here machine notes first opened writers possible are is_opened k rest is 
         rw (
           ready-is machine.state machine.queue notes first opened writers possible are is_opened k,
           idle,
-          ← are.marks.replies k idle,
+          ← are.marks.asked.replies k idle,
           is,
         ) refl
 
@@ -282,7 +286,7 @@ possible-within notes k is = by (nat_lt k (length notes)) refl
 pub choice-at : (machine : Machine State) (notes : List Note) (first opened writers possible : ℕ)
     → AreNotes machine.state machine.queue notes first opened writers possible → IsOpened machine.queue notes opened
     → (number k : ℕ) → possible_count (take k notes) ≡ number → (note_at notes k).possible ≡ true
-    → slice_get (choices_of clash machine) number
+    → slice_get (choices_of range_clash machine) number
     ≡ Some (if (note_at notes k).pending then choices.Work k else choices.Send k)
 unfolding choices_from
 choice-at machine notes first opened writers possible are is_opened number k before is =
@@ -292,8 +296,9 @@ choice-at machine notes first opened writers possible are is_opened number k bef
     let here : 0 + k ≡ k = omega arith in
     let count = count-part machine notes first opened writers possible are is_opened 0 k (omega (arith, within)) in
     ap (λ (acts : List Choice). slice_get acts number)
-    (ap (choices_from clash machine 0) size ∙ choices-split clash machine 0 k (suc (length machine.queue - suc k)))
-    ∙ (get-behind (choices_from clash machine 0 k) (choices_from clash machine (0 + k) (suc (length
+    (ap (choices_from range_clash machine 0) size
+    ∙ choices-split range_clash machine 0 k (suc (length machine.queue - suc k)))
+    ∙ (get-behind (choices_from range_clash machine 0 k) (choices_from range_clash machine (0 + k) (suc (length
     machine.queue - suc k))) number (count ∙ before)
-    ∙ rw here (choice-here machine notes first opened writers possible are is_opened k (choices_from clash machine
+    ∙ rw here (choice-here machine notes first opened writers possible are is_opened k (choices_from range_clash machine
     (suc k) (length machine.queue - suc k)) is))

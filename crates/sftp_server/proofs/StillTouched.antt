@@ -1,22 +1,19 @@
 -- A request that does not touch everything changes nothing of what requests touch.
 use Rattle.std.proofs.Common.{◌≡◌, ◌≢◌, ◌<◌, nat_lt, ℕ, zero, suc, Bool, true, false, List, [], ◌∷◌}
-use Rattle.std.proofs.Common.{Option, Some, None, length, refl, sym, ap, ◌∙◌, ◌⊎◌, inl, inr, ◌+◌, arith}
+use Rattle.std.proofs.Common.{Option, Some, None, length, refl, sym, ap, ◌∙◌, ◌⊎◌, inl, inr, arith}
 use Rattle.std.proofs.lemmas.Bool.{true≢false, ltb-true, ltb-false}
 use Rattle.sftp_wire.specs.declared.packets.Ask.{Ask}
 use Rattle.sftp_wire.specs.declared.packets.Answer.{Answer}
 use Rattle.sftp_wire.specs.declared.packets.Request.{Request}
 use Rattle.sftp_wire.specs.declared.packets.Reply.{Reply}
 use Rattle.sftp_wire.specs.Spelling.{asked_handle}
-use Rattle.sftp_handles.specs.declared.touch.Touch.{Touch}
-use Rattle.sftp_handles.specs.declared.touch.Touch.TheVariants.{Nothing, ReadsFile, WritesFile, TakesNames, Everything}
 use Rattle.sftp_handles.specs.Handles.{Handles, open_at}
 use Rattle.sftp_handles.specs.State.{State}
 use Rattle.sftp_handles.specs.Seen.{seen}
 use Rattle.sftp_handles.specs.HandleRequests.{row_of, Change, nothing, rewrites, leaves, closes, change_of}
 use Rattle.sftp_handles.specs.Requests.{changed, after, after_by}
 use Rattle.sftp_handles.specs.Allowed.{Allowed, Refuses, Does}
-use Rattle.sftp_handles.specs.Clash.{everything, touched, touched_by, touched_through, may_change}
-use Rattle.sftp_handles.specs.Touch.{touched_as}
+use Rattle.sftp_handles.specs.Clash.{Touched, everything, touched, touched_by, touched_through, may_change}
 use Rattle.sftp_handles.proofs.Touches.{applied, change-touches, touched-stays}
 use Rattle.sftp_handles.proofs.Exchanges.{handle-of}
 use Rattle.sftp_server.specs.declared.queue.Entry.{Entry}
@@ -24,8 +21,13 @@ use Rattle.sftp_server.specs.declared.queue.Progress.TheVariants.{Done}
 use Rattle.sftp_server.specs.declared.readiness.Note.{Note}
 use Rattle.sftp_server.specs.Machine.{is_pending_at}
 use Rattle.sftp_server.specs.Queue.{with_progress}
-use Rattle.sftp_server.specs.Readiness.{note_at, ask_at, is_all, IsNoted, IsMarked, AreNotes, AreBlockedBut}
-use Rattle.sftp_server.proofs.ReadinessLaws.{done_notes, marked-done}
+use Rattle.sftp_server.specs.Readiness.{note_at, ask_at, IsNoted, IsDone, AreNotes}
+use Rattle.sftp_server.specs.RangedNotes.{is_on, resizes_by}
+use Rattle.sftp_server.proofs.RangedNotes.{resizes-on}
+use Rattle.sftp_server.proofs.StillRanged.{ranges-still, other-ranges-still}
+use Rattle.sftp_server.proofs.DoneNotes.{IsStep, done_notes, marked-done}
+use Rattle.sftp_handles.specs.declared.byte_range.ByteRange.{ByteRange}
+use Rattle.sftp_handles.specs.Ranges.{range}
 
 -- ---- a step
 
@@ -68,24 +70,26 @@ touched-past s end request reply ask part allowed = by allowed.step
         ap (λ (e : State). touched e ask) does.changed
         ∙ touched-done s request.ask ask reply.answer named.0 named.1 part
 
+-- what a step leaves as it was, by what was asked
+pub step-leaves : (s end : State) (request : Request) (reply : Reply) (asked : Ask) → asked ≡ request.ask
+    → Allowed s request reply end → IsStep s end asked
+step-leaves s end request reply asked named allowed =
+    let touches : touched s request.ask ≢ everything → (ask : Ask) → touched end ask ≡ touched s ask = λ part ask.
+    touched-past s end request reply ask part allowed in
+    rw named record {
+      touches = touches;
+      kept = λ part keeps ask. ranges-still s end request reply ask part keeps allowed;
+      resized = λ number is ask other.
+          other-ranges-still s end request reply ask number is other
+          (touches (resizing-part number (touched s request.ask) (range s request.ask) is) ask) allowed;
+    }
+  where
+    resizing-part : (number : ℕ) (at : Touched) (found : Option ByteRange) → resizes_by number at found ≡ true
+        → at ≢ everything
+    resizing-part number at found is all =
+        true≢false (sym (resizes-on number at found is) ∙ ap (λ (t : Touched). is_on number t) all)
+
 -- ---- what the notes say of it
-
-not-all : (touch : Touch) (ask : Ask) → is_all touch ≡ false → touched_as touch ask ≢ everything
-not-all Nothing ask part is = absurd cc
-not-all (ReadsFile number) ask part is = absurd cc
-not-all (WritesFile number) ask part is = absurd cc
-not-all TakesNames ask part is = absurd cc
-not-all Everything ask part is = absurd (true≢false part)
-
--- after an open request was done that by its note does not touch everything, all touches are as before
-pub touched-still : (s end : State) (queue : List Entry) (notes : List Note) (opened k : ℕ) (request : Request)
-    (reply : Reply) → IsMarked s queue notes opened → k < opened → (note_at notes k).pending ≡ true
-    → ask_at queue k ≡ request.ask → Allowed s request reply end → is_all (note_at notes k).touch ≡ false
-    → (ask : Ask) → touched end ask ≡ touched s ask
-touched-still s end queue notes opened k request reply are before pending named allowed part ask =
-    touched-past s end request reply ask
-    (λ is. not-all (note_at notes k).touch (ask_at queue k) part
-    (are.known k before pending ∙ (ap (touched s) named ∙ is))) allowed
 
 pending-within : (queue : List Entry) (k : ℕ) → is_pending_at queue k ≡ true → k < length queue
 pending-within [] k is = absurd (true≢false (sym is))
@@ -103,7 +107,7 @@ ready-open s queue notes first opened writers possible k are pending ready = by 
     by false less =
         absurd (true≢false (sym ready
         ∙ (are.noted.behind k (ltb-false k opened less)
-        (pending-within queue k (sym (are.marks.marked k) ∙ pending))).1))
+        (pending-within queue k (sym (are.marks.asked.marked k) ∙ pending))).1))
 
 -- A request that was ready was done with this reply: what is known before the notes are looked through again.
 pub notes-worked : (s end : State) (queue : List Entry) (notes : List Note) (first opened writers possible k : ℕ)
@@ -111,10 +115,8 @@ pub notes-worked : (s end : State) (queue : List Entry) (notes : List Note) (fir
     → (note_at notes k).pending ≡ true → (note_at notes k).possible ≡ true → ask_at queue k ≡ request.ask
     → Allowed s request reply end
     → IsNoted (with_progress queue k (Done reply)) (done_notes notes k) first opened writers possible
-    × AreBlockedBut (with_progress queue k (Done reply)) (done_notes notes k) opened k (suc k)
-    (k + (note_at (done_notes notes k) k).waiter)
-    × IsMarked end (with_progress queue k (Done reply)) (done_notes notes k) opened
+    × IsDone end (with_progress queue k (Done reply)) (done_notes notes k) opened k
 notes-worked s end queue notes first opened writers possible k request reply are pending ready named allowed =
-    let before = ready-open s queue notes first opened writers possible k are pending ready in
-    marked-done s end queue notes first opened writers possible k reply are before pending ready
-    (touched-still s end queue notes opened k request reply are.marks before pending named allowed)
+    marked-done s end queue notes first opened writers possible k reply are
+    (ready-open s queue notes first opened writers possible k are pending ready) pending ready
+    (step-leaves s end request reply (ask_at queue k) named allowed)

@@ -8,7 +8,7 @@ use Rattle.sftp_transcript.specs.declared.events.Event.{Event}
 use Rattle.sftp_tree.specs.Tree.{Tree}
 use Rattle.sftp_handles.specs.State.{State, settled}
 use Rattle.sftp_handles.specs.Allowed.{Allowed}
-use Rattle.sftp_handles.specs.Clash.{clash}
+use Rattle.sftp_handles.specs.Ranges.{range_clash}
 use Rattle.sftp_server.specs.declared.queue.Entry.{Entry}
 use Rattle.sftp_server.specs.declared.queue.Progress.{Progress}
 use Rattle.sftp_server.specs.declared.queue.Progress.TheVariants.{Pending, Done, Sent}
@@ -20,9 +20,10 @@ use Rattle.sftp_server.specs.declared.refusals.Refuse.TheVariants.{Full, IdInUse
 use Rattle.sftp_server.specs.Machine.{Machine, at_start, ClashOf, AreActs, Delivers, is_unsent, can_take}
 use Rattle.sftp_server.specs.Machine.{from_unsent}
 
--- which requests the server does in the order asked: those that share what they touch, unless both only read it
+-- which requests the server does in the order asked: those that share what they touch, unless both only read it, or keep
+-- to ranges of one file that do not meet
 abbrev pub server_clash : ClashOf State
-server_clash s earlier later = clash s earlier later
+server_clash s earlier later = range_clash s earlier later
 
 -- the state in which a session begins on a tree: nothing is open
 abbrev pub started : Tree → State

@@ -4,6 +4,7 @@ pub mod Choices
 pub mod Schedules
 pub mod Core
 pub mod Readiness
+pub mod RangedNotes
 pub mod Served
 pub mod Sessions
 pub mod Fronts

@@ -3,14 +3,20 @@ ghost use Rattle.std.specs.Prelude.{◌≡◌, ◌≢◌, ◌+◌, ◌-◌, ◌<
 ghost use Rattle.std.specs.Prelude.{IsTrue, IfOk, OnOk, length, take, drop, set};
 ghost use Rattle.std.specs.VecDeque.{deque_len, deque_capacity};
 ghost use Rattle.sftp_handles.specs.Clash.{touched};
+ghost use Rattle.sftp_handles.specs.Ranges as ranges;
+ghost use Rattle.sftp_handles.specs.Ranges.{range};
 ghost use Rattle.sftp_handles.specs.Touch.{touched_as};
-ghost use Rattle.sftp_server.specs.Readiness.{blank, note_at, touched_at, ask_at, is_in_way, IsFree, IsBlockedBack};
+ghost use Rattle.sftp_server.specs.Readiness.{blank, note_at, portion_at, ask_at, is_in_way, IsFree, IsBlockedBack};
 ghost use Rattle.sftp_server.specs.Readiness.{IsPlaced, AreAlike, possible_count, IsNoted, AreBlocked, AreBlockedBut};
 ghost use Rattle.sftp_server.specs.Readiness.{IsShut, IsMarked, AreNotes, IsOpened, IsTouched};
+ghost use Rattle.sftp_server.specs.Readiness.{CanRefresh, IsSettling, IsSettled, IsMarkedBut, AreNotReadyOn};
+ghost use Rattle.sftp_server.specs.Readiness.{AreBlockedButOn};
 ghost use Rattle.sftp_server.specs.Readiness as words;
+ghost use Rattle.sftp_server.specs.RangedNotes.{resizes};
 
 use crate::queue::Queue;
-use sftp_handles::{Session, SlabTable, Touch};
+use sftp_handles::{ByteRange, Session, SlabTable, Touch};
+use sftp_tree::FileNo;
 use sftp_wire::Ask;
 use std::alloc::{AllocError, Global};
 use std::collections::VecDeque;
@@ -20,6 +26,9 @@ use std::collections::VecDeque;
 pub struct Note {
     /// What it touches, while it is open and pending.
     pub touch: Touch,
+    /// The range of its file that it keeps to, if it keeps to one. It may be out of date behind a pending request that
+    /// may change the length of the file.
+    pub range: Option<ByteRange>,
     /// It is not done yet.
     pub pending: bool,
     /// It is ready, or it is done and its reply is not sent yet.
@@ -140,6 +149,7 @@ impl Readiness {
     {
         self.notes.push_back_reserved(Note {
             touch: Touch::Nothing,
+            range: None,
             pending: true,
             possible: false,
             blocker: 0,
@@ -165,19 +175,143 @@ impl Readiness {
 
     /// Looks again at the requests that may be ready since the one at this position is done.
     pub(crate) fn refresh(&mut self, session: &Session<SlabTable>, queue: &Queue, k: usize)
-        requires within { k < self.old.opened }
-        requires noted { IsNoted queue.now self.old.notes.items self.old.first_pending self.old.opened self.old.writers
-            self.old.possible }
-        requires blocked { AreBlockedBut queue.now self.old.notes.items self.old.opened k (suc k)
-            (k + (note_at self.old.notes.items k).waiter) }
-        requires marks { IsMarked session.now queue.now self.old.notes.items self.old.opened }
+        requires { CanRefresh session.now queue.now self.old k }
         ensures notes { AreNotes session.now queue.now self.new.notes.items self.new.first_pending self.new.opened
             self.new.writers self.new.possible }
         ensures opened { IsOpened queue.now self.new.notes.items self.new.opened }
     {
+        self.settle(session, queue, k);
         self.wake(queue, k);
         self.pass();
         self.open_more(session, queue);
+    }
+
+    /// Looks again at the requests on a file, if the one at `k`, which is done, may have changed the length of that.
+    fn settle(&mut self, session: &Session<SlabTable>, queue: &Queue, k: usize)
+        requires { CanRefresh session.now queue.now self.old k }
+        ensures settled { IsSettled session.now queue.now self.new.notes.items self.new.first_pending self.new.opened
+            self.new.writers self.new.possible k (k + (note_at self.old.notes.items k).waiter) }
+        ensures reach { (note_at self.old.notes.items k).waiter ≤ (note_at self.new.notes.items k).waiter }
+        ensures size { self.new.opened ≡ self.old.opened }
+    {
+        match self.resized(k) {
+            Some(file) => self.settle_file(session, queue, k, file),
+            None => {}
+        }
+    }
+
+    /// The file whose length the request at this position may change, by its note.
+    fn resized(&self, k: usize) -> Option<FileNo>
+        requires { k < length self.now.notes.items }
+        ensures { result
+            ≡ words.resized_file (note_at self.now.notes.items k).touch (note_at self.now.notes.items k).range }
+    {
+        let note = self.notes[k];
+        match &note.touch {
+            Touch::WritesFile(file) => match &note.range {
+                Some(_) => None,
+                None => Some(*file),
+            },
+            Touch::Nothing => None,
+            Touch::ReadsFile(_) => None,
+            Touch::TakesNames => None,
+            Touch::Everything => None,
+        }
+    }
+
+    /// Looks again at the requests on a file behind the one at `k`, up to and with the first that may still change the
+    /// length of the file: those behind that one are not ready anyway.
+    fn settle_file(&mut self, session: &Session<SlabTable>, queue: &Queue, k: usize, file: FileNo)
+        requires within { k < self.old.opened }
+        requires settling { IsSettling session.now queue.now self.old.notes.items self.old.first_pending
+            self.old.opened self.old.writers self.old.possible k (k + (note_at self.old.notes.items k).waiter) file
+            (suc k) }
+        ensures settled { IsSettled session.now queue.now self.new.notes.items self.new.first_pending self.new.opened
+            self.new.writers self.new.possible k (k + (note_at self.old.notes.items k).waiter) }
+        ensures reach { (note_at self.old.notes.items k).waiter ≤ (note_at self.new.notes.items k).waiter }
+        ensures size { self.new.opened ≡ self.old.opened }
+    {
+        let mut q = k;
+        'each: while q + 1 < self.opened {
+            q += 1;
+            if self.look_again(session, queue, q, file) {
+                return;
+            }
+        }
+    }
+
+    /// Looks again at the request at this position, if it is pending and on the file. Returns whether it may still change
+    /// the length of the file.
+    fn look_again(
+        &mut self,
+        session: &Session<SlabTable>,
+        queue: &Queue,
+        q: usize,
+        file: FileNo,
+    ) -> bool
+        requires within { q < self.old.opened }
+        requires noted { IsNoted queue.now self.old.notes.items self.old.first_pending self.old.opened self.old.writers
+            self.old.possible }
+        requires waits { AreNotReadyOn queue.now self.old.notes.items self.old.opened file q }
+        requires marks { IsMarkedBut session.now queue.now self.old.notes.items self.old.opened file q }
+        ensures settling { (done to : ℕ) → AreBlockedButOn queue.now self.old.notes.items self.old.opened done to file q
+            → IsSettling session.now queue.now self.new.notes.items self.new.first_pending self.new.opened
+            self.new.writers self.new.possible done to file (suc q) }
+        ensures stops { result ≡ true → ((note_at self.new.notes.items q).pending ≡ true)
+            × (resizes file (portion_at queue.now self.new.notes.items q) ≡ true) }
+        ensures reach { (j : ℕ) → (note_at self.old.notes.items j).waiter ≤ (note_at self.new.notes.items j).waiter }
+        ensures size { self.new.opened ≡ self.old.opened }
+    {
+        if !self.is_on(q, file) {
+            return false;
+        }
+        self.measure(session, queue, q);
+        self.place(queue, q);
+        self.resizes(q, file)
+    }
+
+    /// Whether the request at this position is pending, and on the file by its note.
+    fn is_on(&self, q: usize, file: FileNo) -> bool
+        requires { q < length self.now.notes.items }
+        ensures { result ≡ ((note_at self.now.notes.items q).pending
+            && words.touches_file file (note_at self.now.notes.items q).touch) }
+    {
+        let note = self.notes[q];
+        note.pending && touches_file(note.touch, file)
+    }
+
+    /// Notes the range that the request at this position keeps to now.
+    fn measure(&mut self, session: &Session<SlabTable>, queue: &Queue, q: usize)
+        requires within { q < length queue.now }
+        requires same { length self.old.notes.items ≡ length queue.now }
+        ensures notes { words.IsMeasured session.now queue.now q self.old.notes.items self.new.notes.items }
+        ensures first_pending { self.new.first_pending ≡ self.old.first_pending }
+        ensures size { self.new.opened ≡ self.old.opened }
+        ensures writers { self.new.writers ≡ self.old.writers }
+        ensures possible { self.new.possible ≡ self.old.possible }
+    {
+        let mut note = self.notes[q];
+        note.range = range_of(session, queue, q);
+        self.notes[q] = note;
+    }
+
+    /// Whether the request at this position may change the length of the file, by its note.
+    fn resizes(&self, q: usize, file: FileNo) -> bool
+        requires { q < length self.now.notes.items }
+        ensures { result ≡ words.resizes_noted file (note_at self.now.notes.items q).touch
+            (note_at self.now.notes.items q).range }
+    {
+        let note = self.notes[q];
+        match &note.touch {
+            Touch::WritesFile(number) => match &note.range {
+                Some(_) => false,
+                None => *number == file,
+            },
+            Touch::Nothing => false,
+            Touch::ReadsFile(_) => false,
+            Touch::TakesNames => false,
+            Touch::Everything => false,
+        }
     }
 
     /// Looks again at the open requests that waited for the one at this position.
@@ -300,6 +434,7 @@ impl Readiness {
     {
         let mut note = self.notes[k];
         note.touch = touch_of(session, queue, k);
+        note.range = range_of(session, queue, k);
         self.notes[k] = note;
         if !self.only_reads(k) {
             self.writers = k + 1;
@@ -426,7 +561,7 @@ impl Readiness {
         requires same { length self.now.notes.items ≡ length queue.now }
         requires ask { ask.now ≡ ask_at queue.now k }
         ensures { result
-            ≡ is_in_way queue.now self.now.notes.items j (touched_at queue.now self.now.notes.items k) }
+            ≡ is_in_way queue.now self.now.notes.items j (portion_at queue.now self.now.notes.items k) }
     {
         let earlier = self.notes[j];
         if !earlier.pending {
@@ -434,7 +569,8 @@ impl Readiness {
         }
         let later = self.notes[k];
         match queue.ask(j) {
-            Some(first) => earlier.touch.shares(first, later.touch, ask),
+            Some(first) => earlier.touch.shares(first, later.touch, ask)
+                && !are_apart(earlier.range, later.range),
             None => unreachable!(),
         }
     }
@@ -490,6 +626,30 @@ fn touch_of(session: &Session<SlabTable>, queue: &Queue, k: usize) -> Touch
     }
 }
 
+/// The range of its file that the request at this position keeps to.
+fn range_of(session: &Session<SlabTable>, queue: &Queue, k: usize) -> Option<ByteRange>
+    requires { k < length queue.now }
+    ensures { result ≡ range session.now (ask_at queue.now k) }
+{
+    match queue.ask(k) {
+        Some(ask) => session.range(ask),
+        None => unreachable!(),
+    }
+}
+
+/// Whether both are ranges of one file that have no byte in common.
+fn are_apart(range: Option<ByteRange>, other: Option<ByteRange>) -> bool
+    ensures { result ≡ ranges.are_apart range other }
+{
+    match range {
+        Some(range) => match other {
+            Some(other) => range.is_apart(other),
+            None => false,
+        },
+        None => false,
+    }
+}
+
 /// Takes so many notes off the front.
 fn drop_front(notes: &mut VecDeque<Note>, count: usize)
     ensures { notes.new.items ≡ drop count notes.old.items }
@@ -498,6 +658,19 @@ fn drop_front(notes: &mut VecDeque<Note>, count: usize)
     'each: while left > 0 {
         notes.pop_front();
         left -= 1;
+    }
+}
+
+/// Whether the file is touched, and nothing else.
+fn touches_file(touch: Touch, file: FileNo) -> bool
+    ensures { result ≡ words.touches_file file touch }
+{
+    match &touch {
+        Touch::ReadsFile(number) => *number == file,
+        Touch::WritesFile(number) => *number == file,
+        Touch::Nothing => false,
+        Touch::TakesNames => false,
+        Touch::Everything => false,
     }
 }
 

@@ -1,13 +1,12 @@
 -- The laws of the core, from those of steps that do not clash.
-use Rattle.std.proofs.Common.{◌≡◌, ◌≤◌, ◌∙◌, ℕ, true, false, List, []}
+use Rattle.std.proofs.Common.{◌≡◌, ◌≤◌, ℕ, true, false, List, []}
 use Rattle.sftp_wire.specs.declared.packets.Request.{Request}
 use Rattle.sftp_wire.specs.declared.packets.Reply.{Reply}
 use Rattle.sftp_tree.specs.AskValues.{IsAsk}
 use Rattle.sftp_handles.specs.State.{State, Good}
 use Rattle.sftp_handles.specs.Allowed.{Allowed}
 use Rattle.sftp_handles.specs.Laws.{IsAskable, IsAnswerable}
-use Rattle.sftp_handles.specs.Clash.{clash, share}
-use Rattle.sftp_handles.proofs.Exchanges.{exchanged, touched-after}
+use Rattle.sftp_handles.proofs.SteadyRanges.{ranges-exchanged, still-free}
 use Rattle.sftp_transcript.specs.declared.events.Event.{Event}
 use Rattle.sftp_transcript.specs.Explained.{Explained, BeginsFrom, in_window}
 use Rattle.sftp_server.specs.Machine.{Machine, at_start, IsSent}
@@ -37,18 +36,15 @@ module _ (stays : StaysGood) (total : IsTotal) where
   change-places : (s mid end : State) (p q : Request) (a b : Reply) → Good s → IsValue p → IsValue q
       → server_clash s p q ≡ false → Allowed s q b mid → Allowed mid p a end
       → (other : State) × Allowed s p a other × Allowed other q b end
-  unfolding clash
   change-places s mid end p q a b good is_p is_q apart first second =
-      let places = exchanged stays s mid end p q a b good is_p.ask is_q.ask apart first second in
+      let places = ranges-exchanged stays s mid end p q a b good is_p.ask is_q.ask apart first second in
       (places.between, places.first, places.second)
 
   -- what does not clash with a request makes nothing else clash with it
   still-apart : (s end : State) (p o q : Request) (a : Reply) → Good s → IsValue p → IsValue o → IsValue q
       → server_clash s p q ≡ false → server_clash s o q ≡ false → Allowed s p a end → server_clash end o q ≡ false
-  unfolding clash
   still-apart s end p o q a good is_p is_o is_q apart free does =
-      (λ i. share (touched-after s end p q a o.ask good is_p.ask apart does i)
-      (touched-after s end p q a q.ask good is_p.ask apart does i)) ∙ free
+      still-free s end p o q a good is_p.ask does apart free
 
   premises : Premises Allowed server_clash Good IsValue
   premises = record {

@@ -20,6 +20,7 @@ use Rattle.sftp_handles.specs.Handles.{pins_of}
 use Rattle.sftp_handles.specs.Requests.{causes, told_to, answers, after}
 use Rattle.sftp_handles.specs.Allowed.{Allowed}
 use Rattle.sftp_handles.specs.Clash.{clash, touched}
+use Rattle.sftp_handles.specs.Ranges.{range, range_clash}
 use Rattle.sftp_handles.proofs.TotalSteps.PlaceTexts.{bytes-by}
 use Rattle.sftp_transcript.specs.Explained.{Explained, turn_after, in_window, requests_before_reply, exchanges_of}
 use Rattle.sftp_transcript.specs.Explained.{leading_pairs, next_reply}
@@ -199,7 +200,7 @@ first_sends = record {
 
 pub keeps_order : AreActs Allowed server_clash (at_start (started blank) 1024) made_and_removed answered_backwards
     (at_start (started blank) 1024)
-unfolding is_unsent is_free_of clash touched
+unfolding is_unsent is_free_of range_clash clash touched range
 keeps_order =
     let asked_first = mkdir 1 (codes "/a") in
     let asked_second = rmdir 2 (codes "/a") in

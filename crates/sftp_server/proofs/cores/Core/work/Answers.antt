@@ -28,11 +28,11 @@ mark_done-requires c =
     ready-inside old.session old.queue old.readiness c.args.k c.self.invariant.1
     (was-ready c.args.k c.self.view_is (sym c.ready.ensures ∙ c.if-not-ready.false))
 
-pub refresh-requires-clause-within : goal.refresh-requires-clause-within
-refresh-requires-clause-within c =
+pub refresh-requires : goal.refresh-requires
+refresh-requires c =
     let old = c.self.inside in
-    let can = keeps-done old.session c.answer.new.self old.queue c.complete.new.self old.readiness c.mark_done.new.self
-    c.args.k c.in-Some.request.now c.in_ok-reply.reply c.self.invariant.1
+    keeps-done old.session c.answer.new.self old.queue c.complete.new.self old.readiness c.mark_done.new.self c.args.k
+    c.in-Some.request.now c.in_ok-reply.reply c.self.invariant.1
     (was-ready c.args.k c.self.view_is (sym c.ready.ensures ∙ c.if-not-ready.false))
     (sym c.pending.ensures ∙ rw c.in-Some.is refl) c.in_ok-reply.ensures.allowed c.complete.ensures
     (record {
@@ -41,56 +41,7 @@ refresh-requires-clause-within c =
       size = c.mark_done.ensures.size;
       writers = c.mark_done.ensures.writers;
       possible = c.mark_done.ensures.possible;
-    }) in
-    can.within
-
-pub refresh-requires-clause-noted : goal.refresh-requires-clause-noted
-refresh-requires-clause-noted c =
-    let old = c.self.inside in
-    let can = keeps-done old.session c.answer.new.self old.queue c.complete.new.self old.readiness c.mark_done.new.self
-    c.args.k c.in-Some.request.now c.in_ok-reply.reply c.self.invariant.1
-    (was-ready c.args.k c.self.view_is (sym c.ready.ensures ∙ c.if-not-ready.false))
-    (sym c.pending.ensures ∙ rw c.in-Some.is refl) c.in_ok-reply.ensures.allowed c.complete.ensures
-    (record {
-      notes = c.mark_done.ensures.notes;
-      first_pending = c.mark_done.ensures.first_pending;
-      size = c.mark_done.ensures.size;
-      writers = c.mark_done.ensures.writers;
-      possible = c.mark_done.ensures.possible;
-    }) in
-    can.noted
-
-pub refresh-requires-clause-blocked : goal.refresh-requires-clause-blocked
-refresh-requires-clause-blocked c =
-    let old = c.self.inside in
-    let can = keeps-done old.session c.answer.new.self old.queue c.complete.new.self old.readiness c.mark_done.new.self
-    c.args.k c.in-Some.request.now c.in_ok-reply.reply c.self.invariant.1
-    (was-ready c.args.k c.self.view_is (sym c.ready.ensures ∙ c.if-not-ready.false))
-    (sym c.pending.ensures ∙ rw c.in-Some.is refl) c.in_ok-reply.ensures.allowed c.complete.ensures
-    (record {
-      notes = c.mark_done.ensures.notes;
-      first_pending = c.mark_done.ensures.first_pending;
-      size = c.mark_done.ensures.size;
-      writers = c.mark_done.ensures.writers;
-      possible = c.mark_done.ensures.possible;
-    }) in
-    can.blocked
-
-pub refresh-requires-clause-marks : goal.refresh-requires-clause-marks
-refresh-requires-clause-marks c =
-    let old = c.self.inside in
-    let can = keeps-done old.session c.answer.new.self old.queue c.complete.new.self old.readiness c.mark_done.new.self
-    c.args.k c.in-Some.request.now c.in_ok-reply.reply c.self.invariant.1
-    (was-ready c.args.k c.self.view_is (sym c.ready.ensures ∙ c.if-not-ready.false))
-    (sym c.pending.ensures ∙ rw c.in-Some.is refl) c.in_ok-reply.ensures.allowed c.complete.ensures
-    (record {
-      notes = c.mark_done.ensures.notes;
-      first_pending = c.mark_done.ensures.first_pending;
-      size = c.mark_done.ensures.size;
-      writers = c.mark_done.ensures.writers;
-      possible = c.mark_done.ensures.possible;
-    }) in
-    can.marks
+    })
 
 pub invariant_of-self-2 : goal.invariant_of-self-2
 invariant_of-self-2 c =

@@ -1,6 +1,7 @@
-use Rattle.std.proofs.Common.{List, suc, subst}
+use Rattle.std.proofs.Common.{List, suc, refl, subst}
+use Rattle.sftp_handles.specs.Ranges.{range}
 use Rattle.sftp_server.specs.declared.readiness.Note.{Note}
-use Rattle.sftp_server.specs.Readiness.{IsPlaced}
+use Rattle.sftp_server.specs.Readiness.{ask_at, IsPlaced}
 use Rattle.sftp_server.proofs.Notes.{entered, entered-noted, entered-blocked, entered-marks}
 use Rattle.sftp_server.proofs.Notes.{blocked-placed, marks-alike}
 use Rattle.sftp_server.proofs.readiness.Readiness.enter.Goals as goal
@@ -11,7 +12,8 @@ place-requires-clause-noted c =
     let touch = c.touch.ensures.notes in
     rw (touch.2, touch.3, c.touch.ensures.first_pending, c.touch.ensures.size, c.touch.ensures.possible)
     (entered-noted c.args.session.now c.args.queue.now old.notes.items old.first_pending old.opened old.writers
-    old.possible touch.0 c.requires.notes.noted c.requires.some c.requires.last)
+    old.possible touch.0 (range c.args.session.now (ask_at c.args.queue.now old.opened)) c.requires.notes.noted
+    c.requires.some c.requires.last)
 
 pub returns-clause-notes : goal.returns-clause-notes
 returns-clause-notes c =
@@ -20,8 +22,9 @@ returns-clause-notes c =
     let old = c.args.self.now in
     let k = old.opened in
     let touch = c.touch.ensures.notes.0 in
+    let own = range s (ask_at queue k) in
     let is = c.requires.notes.noted in
-    let before = entered s queue old.notes.items old.first_pending k old.writers old.possible touch is c.requires.some
+    let before = entered s queue old.notes.items old.first_pending k old.writers old.possible touch own is c.requires.some
     c.requires.last in
     let after = c.place.new.self.notes.items in
     let placed : IsPlaced queue before after k =
@@ -29,9 +32,9 @@ returns-clause-notes c =
     record {
       noted = c.place.ensures.noted;
       blocked = rw (c.place.ensures.size, c.touch.ensures.size) (blocked-placed queue before after k
-          (entered-blocked s queue old.notes.items old.first_pending k old.writers old.possible touch is c.requires.some
+          (entered-blocked s queue old.notes.items old.first_pending k old.writers old.possible touch own is c.requires.some
           c.requires.last c.requires.notes.blocked) placed);
       marks = rw (c.place.ensures.size, c.touch.ensures.size) (marks-alike s queue before after (suc k)
-          (entered-marks s queue old.notes.items old.first_pending k old.writers old.possible touch is c.requires.some
-          c.requires.last c.touch.ensures.notes.1 c.requires.notes.marks) placed.alike);
+          (entered-marks s queue old.notes.items old.first_pending k old.writers old.possible touch own is c.requires.some
+          c.requires.last c.touch.ensures.notes.1 refl c.requires.notes.marks) placed.alike);
     }

@@ -1,5 +1,5 @@
 use Rattle.std.proofs.Common.{arith}
-use Rattle.sftp_server.proofs.Notes.{count-few, allowed-noted, held-noted}
+use Rattle.sftp_server.proofs.Notes.{count-few, allowed-noted, allowed-placed, held-noted, held-placed}
 use Rattle.sftp_server.proofs.readiness.Readiness.place.Goals as goal
 
 pub allow-requires-clause-count : goal.allow-requires-clause-count
@@ -31,5 +31,20 @@ returns-else-back-eq0-clause-noted c =
       c.hold.ensures.writers,
       c.hold.ensures.possible,
     ) (held-noted c.args.queue.now old.notes.items old.first_pending old.opened old.writers old.possible c.args.k
+    c.look-back.result c.requires.noted c.requires.within
+    (c.look-back.ensures.blocked (λ none. omega (arith, none, c.if-back-eq0.false))))
+
+pub returns-then-back-eq0-clause-placed : goal.returns-then-back-eq0-clause-placed
+returns-then-back-eq0-clause-placed c =
+    let old = c.args.self.now in
+    rw c.allow.ensures.notes
+    (allowed-placed c.args.queue.now old.notes.items old.first_pending old.opened old.writers old.possible c.args.k
+    c.requires.noted c.requires.within c.requires.pending c.requires.waits)
+
+pub returns-else-back-eq0-clause-placed : goal.returns-else-back-eq0-clause-placed
+returns-else-back-eq0-clause-placed c =
+    let old = c.args.self.now in
+    rw c.hold.ensures.notes
+    (held-placed c.args.queue.now old.notes.items old.first_pending old.opened old.writers old.possible c.args.k
     c.look-back.result c.requires.noted c.requires.within
     (c.look-back.ensures.blocked (λ none. omega (arith, none, c.if-back-eq0.false))))

@@ -1,0 +1,459 @@
+-- How the notes of a queue change once a request is done.
+use Rattle.std.proofs.Common.{◌≡◌, ◌≢◌, ◌+◌, ◌<◌, ◌≤◌, ◌&&◌, not, ◌==◌, nat_lt, ℕ, suc, Bool, true, false, List}
+use Rattle.std.proofs.Common.{Option, is_some, length, set, refl, sym, ap, subst, ◌∙◌, arith, ◌⊎◌, inl, inr}
+use Rattle.std.proofs.lemmas.Bool.{ltb-true, ltb-false, and_from, true≢false, cases_Bool, eqb-true, eqb-false}
+use Rattle.std.proofs.lemmas.List.{length-set, get_or-set_other}
+use Rattle.sftp_wire.specs.declared.packets.Ask.{Ask}
+use Rattle.sftp_wire.specs.declared.packets.Reply.{Reply}
+use Rattle.sftp_handles.specs.State.{State}
+use Rattle.sftp_handles.specs.Clash.{Touched, touched, share, untouched, reads_file, writes_file}
+use Rattle.sftp_handles.specs.Clash.{takes_names, everything}
+use Rattle.sftp_handles.specs.Touch.{touched_as}
+use Rattle.sftp_handles.specs.Ranges.{range}
+use Rattle.sftp_handles.specs.declared.touch.Touch.{Touch}
+use Rattle.sftp_handles.specs.declared.touch.Touch.TheVariants.{Nothing, ReadsFile, WritesFile, TakesNames, Everything}
+use Rattle.sftp_server.specs.declared.queue.Entry.{Entry}
+use Rattle.sftp_server.specs.declared.queue.Progress.TheVariants.{Done}
+use Rattle.sftp_server.specs.declared.readiness.Note.{Note}
+use Rattle.sftp_server.specs.Machine.{is_pending_at, pending_in, reply_at, reply_in}
+use Rattle.sftp_server.specs.Queue.{with_progress}
+use Rattle.sftp_server.specs.RangedNotes.{Portion, portion_in, portions_clash, is_on, IsPortion, resizes, is_behind}
+use Rattle.sftp_server.specs.RangedNotes.{AreKnown, AreKnownBut, without}
+use Rattle.sftp_server.specs.Readiness.{blank, note_at, ask_at, touched_at, portion_at, portion_now, is_in_way, is_all}
+use Rattle.sftp_server.specs.Readiness.{possible_count, pending_by, is_late, IsFree, IsBlocked, IsStopped, IsNoted}
+use Rattle.sftp_server.specs.Readiness.{AreBlocked, AreBlockedBut, AreBlockedButOn, AreNotReadyOn, IsMarkedAsked}
+use Rattle.sftp_server.specs.Readiness.{HaveTheirRanges, IsMarked, IsMarkedBut, IsDone, AreNotes}
+use Rattle.sftp_server.proofs.Queues.{length-progress}
+use Rattle.sftp_server.proofs.RangedNotes.{resizes-on, resizes-one, resizes-clashes, clash-right, all-none}
+use Rattle.sftp_server.proofs.RangedNotes.{clear-front, behind-without, known-kept, known-resized}
+use Rattle.sftp_server.proofs.NotePlaces.{part-set, fails-set, fails-still, passed-before, passes-elsewhere, count-set}
+use Rattle.sftp_server.proofs.NotePlaces.{other-progress, ask-progress, worked-here, reply-here}
+use Rattle.sftp_server.proofs.NotePlaces.{in_way-fewer, in_way-same, portion-set}
+
+-- the notes after the request at the position was done
+abbrev pub done_note : List Note → ℕ → Note
+done_note notes k = record (note_at notes k) { pending = false }
+
+abbrev pub done_notes : List Note → ℕ → List Note
+done_notes notes k = set notes k (done_note notes k)
+
+-- What a step leaves as it was, by what is asked: what requests touch, and the ranges of their files that they keep to.
+pub record IsStep (before after : State) (asked : Ask) : Type 0 where
+  pub touches : touched before asked ≢ everything → (ask : Ask) → touched after ask ≡ touched before ask
+  pub kept : touched before asked ≢ everything → ((number : ℕ) → resizes number (portion_in before asked) ≡ false)
+      → (ask : Ask) → range after ask ≡ range before ask
+  pub resized : (number : ℕ) → resizes number (portion_in before asked) ≡ true → (ask : Ask)
+      → is_on number (touched before ask) ≡ false → range after ask ≡ range before ask
+
+-- ---- one note
+
+-- it was pending before, and is not the one that was done
+was-pending : (notes : List Note) (k j : ℕ) → (note_at (done_notes notes k) j).pending ≡ true
+    → (note_at notes j).pending ≡ true
+was-pending notes k j = passed-before (λ (n : Note). n.pending) notes k j (done_note notes k) refl
+
+is-other : (notes : List Note) (k j : ℕ) → (note_at (done_notes notes k) j).pending ≡ true → j ≢ k
+is-other notes k j = passes-elsewhere (λ (n : Note). n.pending) notes k j (done_note notes k) refl refl
+
+done-other : (notes : List Note) (k j : ℕ) → j ≢ k
+    → (note_at (done_notes notes k) j).pending ≡ (note_at notes j).pending
+done-other notes k j other = ap (λ (n : Note). n.pending) (get_or-set_other notes k j (done_note notes k) blank other)
+
+done-here : (notes : List Note) (k : ℕ) → (note_at (done_notes notes k) k).pending ≡ false
+done-here notes k = fails-set (λ (n : Note). n.pending) notes k (done_note notes k) refl refl
+
+done-pending : (notes : List Note) (k j : ℕ) → pending_by (done_notes notes k) j ≡ without (pending_by notes) k j
+done-pending notes k j = by (cases_Bool (j == k))
+  where
+    and_false : (b : Bool) → false ≡ (b && false)
+    and_false true = refl
+    and_false false = refl
+
+    and_true : (b : Bool) → b ≡ (b && true)
+    and_true true = refl
+    and_true false = refl
+
+    by : ((j == k) ≡ true) ⊎ ((j == k) ≡ false)
+        → (note_at (done_notes notes k) j).pending ≡ ((note_at notes j).pending && not (j == k))
+    by (inl same) =
+        ap (λ (n : ℕ). (note_at (done_notes notes k) n).pending) (eqb-true j k same)
+        ∙ (done-here notes k ∙ rw same (and_false (note_at notes j).pending))
+    by (inr other) =
+        done-other notes k j (eqb-false j k other) ∙ rw other (and_true (note_at notes j).pending)
+
+done-touch : (notes : List Note) (k j : ℕ) → (note_at (done_notes notes k) j).touch ≡ (note_at notes j).touch
+done-touch notes k j = part-set (λ (n : Note). n.touch) notes k j (done_note notes k) refl
+
+done-possible : (notes : List Note) (k j : ℕ) → (note_at (done_notes notes k) j).possible ≡ (note_at notes j).possible
+done-possible notes k j = part-set (λ (n : Note). n.possible) notes k j (done_note notes k) refl
+
+done-blocker : (notes : List Note) (k j : ℕ) → (note_at (done_notes notes k) j).blocker ≡ (note_at notes j).blocker
+done-blocker notes k j = part-set (λ (n : Note). n.blocker) notes k j (done_note notes k) refl
+
+done-waiter : (notes : List Note) (k j : ℕ) → (note_at (done_notes notes k) j).waiter ≡ (note_at notes j).waiter
+done-waiter notes k j = part-set (λ (n : Note). n.waiter) notes k j (done_note notes k) refl
+
+done-portion : (queue : List Entry) (notes : List Note) (k j : ℕ) (reply : Reply)
+    → portion_at (with_progress queue k (Done reply)) (done_notes notes k) j ≡ portion_at queue notes j
+done-portion queue notes k j reply = portion-set queue notes k j (Done reply) (done_note notes k) refl refl
+
+done-count : (notes : List Note) (k : ℕ) → k < length notes
+    → possible_count (done_notes notes k) ≡ possible_count notes
+done-count notes k within = let sum = count-set notes k (done_note notes k) within in omega (arith, sum)
+
+-- ---- what all notes keep
+
+-- one that is free stays so
+done-free : (queue : List Entry) (notes : List Note) (k j : ℕ) (reply : Reply) → IsFree queue notes j
+    → IsFree (with_progress queue k (Done reply)) (done_notes notes k) j
+done-free queue notes k j reply free = λ i before.
+    ap (is_in_way (with_progress queue k (Done reply)) (done_notes notes k) i) (done-portion queue notes k j reply)
+    ∙ in_way-fewer queue (with_progress queue k (Done reply)) notes (done_notes notes k) i (portion_at queue notes j)
+    (was-pending notes k i) (done-portion queue notes k i reply) (free i before)
+
+done-behind : (notes : List Note) (k j : ℕ) → k < j → (note_at notes j).pending ≡ true
+    → (note_at notes j).possible ≡ false
+    → ((note_at (done_notes notes k) j).pending ≡ true) × ((note_at (done_notes notes k) j).possible ≡ false)
+done-behind notes k j after pending possible = (
+  done-other notes k j (λ same. omega (arith, after, same)) ∙ pending,
+  done-possible notes k j ∙ possible,
+)
+
+noted-done : (queue : List Entry) (notes : List Note) (first opened writers possible k : ℕ) (reply : Reply)
+    → IsNoted queue notes first opened writers possible → k < opened
+    → IsNoted (with_progress queue k (Done reply)) (done_notes notes k) first opened writers possible
+noted-done queue notes first opened writers possible k reply is within =
+    let same = length-progress queue k (Done reply) in
+    record {
+      same_length = length-set notes k (done_note notes k) ∙ (is.same_length ∙ sym same);
+      within = rw same is.within;
+      front = rw same is.front;
+      passed = λ j before.
+          fails-still (λ (n : Note). n.pending) notes k j (done_note notes k) refl (is.passed j before);
+      reads = λ j from to pending.
+          rw (done-touch notes k j) (is.reads j from to (was-pending notes k j pending));
+      counted = is.counted ∙ sym (done-count notes k (omega (arith, within, is.within, is.same_length)));
+      last = λ j before pending. rw (done-touch notes k j) (is.last j before (was-pending notes k j pending));
+      behind = λ j from to.
+          let parts = is.behind j from (subst (λ (n : ℕ). j < n) same to) in
+          done-behind notes k j (omega (arith, within, from)) parts.0 parts.1;
+      free = λ j before pending ready.
+          done-free queue notes k j reply (is.free j before (was-pending notes k j pending)
+          (sym (done-possible notes k j) ∙ ready));
+    }
+
+-- ---- what waits
+
+-- one that did not wait for the request that was done waits as before
+done-blocked : (queue : List Entry) (notes : List Note) (k j : ℕ) (reply : Reply)
+    → (is : IsBlocked queue notes j) → is.blocker ≢ k
+    → IsBlocked (with_progress queue k (Done reply)) (done_notes notes k) j
+done-blocked queue notes k j reply is other = record {
+  blocker = is.blocker;
+  back = rw (done-blocker notes k j) is.back;
+  before = is.before;
+  in_way =
+      ap (is_in_way (with_progress queue k (Done reply)) (done_notes notes k) is.blocker)
+      (done-portion queue notes k j reply)
+      ∙ (in_way-same queue (with_progress queue k (Done reply)) notes (done_notes notes k) is.blocker
+      (portion_at queue notes j) (done-other notes k is.blocker other) (done-portion queue notes k is.blocker reply)
+      ∙ is.in_way);
+  reached = rw (done-blocker notes k j, done-waiter notes k is.blocker) is.reached;
+}
+
+-- what did not wait for it by its note waited for another one
+other-blocker : (queue : List Entry) (notes : List Note) (k j : ℕ) → (is : IsBlocked queue notes j)
+    → (suc k ≤ j → j ≤ k + (note_at (done_notes notes k) k).waiter
+    → k + (note_at (done_notes notes k) j).blocker ≢ j)
+    → is.blocker ≢ k
+other-blocker queue notes k j is other = λ same.
+    let waiter = done-waiter notes k k in
+    let here : k + (note_at notes j).blocker ≡ j = subst (λ (b : ℕ). b + (note_at notes j).blocker ≡ j) same is.back in
+    let reached : (note_at notes j).blocker ≤ (note_at notes k).waiter =
+    subst (λ (b : ℕ). (note_at notes j).blocker ≤ (note_at notes b).waiter) same is.reached in
+    let after : k < j = subst (λ (b : ℕ). b < j) same is.before in
+    other (omega (arith, after)) (omega (arith, here, reached, waiter))
+    (ap (λ (b : ℕ). k + b) (done-blocker notes k j) ∙ here)
+
+-- whether a request is behind one that may change the length of its file is as before, if the one that was done may not
+done-late : (queue : List Entry) (notes : List Note) (k j : ℕ) (reply : Reply)
+    → ((m : ℕ) → is_on m (touched_at queue notes j) ≡ true → resizes m (portion_at queue notes k) ≡ false)
+    → is_late (with_progress queue k (Done reply)) (done_notes notes k) j ≡ is_late queue notes j
+done-late queue notes k j reply keeps =
+    (λ i. is_behind (λ n. done-pending notes k n i) (λ n. done-portion queue notes k n reply i) j)
+    ∙ behind-without (pending_by notes) (portion_at queue notes) k j (touched_at queue notes j) keeps
+
+blocked-kept : (queue : List Entry) (notes : List Note) (opened k : ℕ) (reply : Reply)
+    → AreBlocked queue notes opened → ((number : ℕ) → resizes number (portion_at queue notes k) ≡ false)
+    → AreBlockedBut (with_progress queue k (Done reply)) (done_notes notes k) opened k (suc k)
+    (k + (note_at (done_notes notes k) k).waiter)
+blocked-kept queue notes opened k reply are keeps = λ j before pending possible other.
+    by j other (are j before (was-pending notes k j pending) (sym (done-possible notes k j) ∙ possible))
+  where
+    by : (j : ℕ) → (suc k ≤ j → j ≤ k + (note_at (done_notes notes k) k).waiter
+        → k + (note_at (done_notes notes k) j).blocker ≢ j)
+        → IsStopped queue notes j → IsStopped (with_progress queue k (Done reply)) (done_notes notes k) j
+    by j other (inl is) = inl (done-blocked queue notes k j reply is (other-blocker queue notes k j is other))
+    by j other (inr late) = inr (done-late queue notes k j reply (λ m on. keeps m) ∙ late)
+
+-- a request that may change the length of its file is in the way of all that are on it, and these in its way
+resizing-before : (queue : List Entry) (notes : List Note) (k j number : ℕ)
+    → resizes number (portion_at queue notes k) ≡ true → is_on number (touched_at queue notes j) ≡ true
+    → (note_at notes j).pending ≡ true → IsFree queue notes k → j < k → ⊥
+resizing-before queue notes k j number is on waits free before =
+    let clash = (resizes-clashes number (portion_at queue notes k) (portion_at queue notes j) is on).1 in
+    true≢false (sym (and_from (note_at notes j).pending (portions_clash (portion_at queue notes j)
+    (portion_at queue notes k)) waits clash) ∙ free j before)
+
+resizing-after : (queue : List Entry) (notes : List Note) (k j number : ℕ)
+    → resizes number (portion_at queue notes k) ≡ true → is_on number (touched_at queue notes j) ≡ true
+    → (note_at notes k).pending ≡ true → IsFree queue notes j → k < j → ⊥
+resizing-after queue notes k j number is on waits free after =
+    let clash = (resizes-clashes number (portion_at queue notes k) (portion_at queue notes j) is on).0 in
+    true≢false (sym (and_from (note_at notes k).pending (portions_clash (portion_at queue notes k)
+    (portion_at queue notes j)) waits clash) ∙ free k after)
+
+blocked-resized : (queue : List Entry) (notes : List Note) (opened k number : ℕ) (reply : Reply)
+    → AreBlocked queue notes opened → IsFree queue notes k → resizes number (portion_at queue notes k) ≡ true
+    → AreBlockedButOn (with_progress queue k (Done reply)) (done_notes notes k) opened k
+    (k + (note_at (done_notes notes k) k).waiter) number (suc k)
+blocked-resized queue notes opened k number reply are free is = λ j before pending possible other next.
+    by j (was-pending notes k j pending) (is-other notes k j pending) other
+    (λ on. next (ap (λ (p : Portion). is_on number p.touched) (done-portion queue notes k j reply) ∙ on))
+    (are j before (was-pending notes k j pending) (sym (done-possible notes k j) ∙ possible))
+  where
+    not-on : (j : ℕ) → (note_at notes j).pending ≡ true → j ≢ k
+        → (is_on number (touched_at queue notes j) ≡ true → j < suc k) → (b : Bool)
+        → is_on number (touched_at queue notes j) ≡ b → is_on number (touched_at queue notes j) ≡ false
+    not-on j waits apart next false on = on
+    not-on j waits apart next true on =
+        let less : j < k = let near = next on in omega (arith, near, apart) in
+        absurd (resizing-before queue notes k j number is on waits free less)
+
+    by : (j : ℕ) → (note_at notes j).pending ≡ true → j ≢ k
+        → (suc k ≤ j → j ≤ k + (note_at (done_notes notes k) k).waiter
+        → k + (note_at (done_notes notes k) j).blocker ≢ j)
+        → (is_on number (touched_at queue notes j) ≡ true → j < suc k)
+        → IsStopped queue notes j → IsStopped (with_progress queue k (Done reply)) (done_notes notes k) j
+    by j waits apart other next (inl blocked) =
+        inl (done-blocked queue notes k j reply blocked (other-blocker queue notes k j blocked other))
+    by j waits apart other next (inr late) =
+        let off = not-on j waits apart next (is_on number (touched_at queue notes j)) refl in
+        inr (done-late queue notes k j reply (λ m on.
+        resizes-one number m (touched_at queue notes k) (note_at notes k).range is (λ same.
+        true≢false (sym on ∙ (ap (λ (n : ℕ). is_on n (touched_at queue notes j)) same ∙ off)))) ∙ late)
+
+not-ready : (queue : List Entry) (notes : List Note) (first opened writers possible k number : ℕ) (reply : Reply)
+    → IsNoted queue notes first opened writers possible → (note_at notes k).pending ≡ true
+    → resizes number (portion_at queue notes k) ≡ true
+    → AreNotReadyOn (with_progress queue k (Done reply)) (done_notes notes k) opened number (suc k)
+not-ready queue notes first opened writers possible k number reply noted waits is = λ j from before pending on.
+    by j (omega (arith, from)) before (was-pending notes k j pending)
+    (sym (ap (λ (p : Portion). is_on number p.touched) (done-portion queue notes k j reply)) ∙ on)
+    (note_at notes j).possible refl
+  where
+    by : (j : ℕ) → k < j → j < opened → (note_at notes j).pending ≡ true
+        → is_on number (touched_at queue notes j) ≡ true → (b : Bool) → (note_at notes j).possible ≡ b
+        → (note_at (done_notes notes k) j).possible ≡ false
+    by j after before pending on false ready = done-possible notes k j ∙ ready
+    by j after before pending on true ready =
+        absurd (resizing-after queue notes k j number is on waits (noted.free j before pending ready) after)
+
+-- ---- what is known
+
+share-all : (other : Touched) → share other everything ≡ true
+share-all untouched = refl
+share-all (reads_file number) = refl
+share-all (writes_file number) = refl
+share-all (takes_names handle) = refl
+share-all everything = refl
+
+pub all-touched : (touch : Touch) (ask : Ask) → is_all touch ≡ true → touched_as touch ask ≡ everything
+all-touched Nothing ask all = absurd (true≢false (sym all))
+all-touched (ReadsFile number) ask all = absurd (true≢false (sym all))
+all-touched (WritesFile number) ask all = absurd (true≢false (sym all))
+all-touched TakesNames ask all = absurd (true≢false (sym all))
+all-touched Everything ask all = refl
+
+not-all : (touch : Touch) (ask : Ask) → is_all touch ≡ false → touched_as touch ask ≢ everything
+not-all Nothing ask part is = absurd cc
+not-all (ReadsFile number) ask part is = absurd cc
+not-all (WritesFile number) ask part is = absurd cc
+not-all TakesNames ask part is = absurd cc
+not-all Everything ask part is = absurd (true≢false part)
+
+-- nothing but the last open request touches everything, and it is ready only if it is the only one that is pending
+alone : (queue : List Entry) (notes : List Note) (first opened writers possible k j : ℕ)
+    → IsNoted queue notes first opened writers possible → HaveTheirRanges queue notes opened → k < opened
+    → (note_at notes k).pending ≡ true → (note_at notes k).possible ≡ true → is_all (note_at notes k).touch ≡ true
+    → j < opened → (note_at notes j).pending ≡ true → j ≢ k → ⊥
+alone queue notes first opened writers possible k j is ranged within pending ready all before waits other =
+    let here : suc k ≡ opened = last-all (nat_lt (suc k) opened) refl in
+    let touches = all-touched (note_at notes k).touch (ask_at queue k) all in
+    let none = all-none (touched_at queue notes k) (note_at notes k).range (ranged k within pending) touches in
+    let clash = clash-right (portion_at queue notes j) (portion_at queue notes k) none in
+    let shared : share (touched_at queue notes j) (touched_at queue notes k) ≡ true =
+    ap (share (touched_at queue notes j)) touches ∙ share-all (touched_at queue notes j) in
+    true≢false (sym (and_from (note_at notes j).pending (portions_clash (portion_at queue notes j)
+    (portion_at queue notes k)) waits
+    (clash ∙ and_from (share (touched_at queue notes j) (touched_at queue notes k)) (not false) shared refl))
+    ∙ is.free k within pending ready j (omega (arith, here, before, other)))
+  where
+    last-all : (b : Bool) → nat_lt (suc k) opened ≡ b → suc k ≡ opened
+    last-all true less = absurd (true≢false (sym all ∙ is.last k (ltb-true (suc k) opened less) pending))
+    last-all false less = let more = ltb-false (suc k) opened less in omega (arith, more, within)
+
+-- what is known of the notes before is known of the notes after it, as far as the requests' portions
+known-done : (s : State) (queue : List Entry) (notes : List Note) (opened k : ℕ) (reply : Reply)
+    → AreKnown (without (pending_by notes) k) (portion_at queue notes) (portion_now s queue) opened
+    → AreKnown (pending_by (done_notes notes k)) (portion_at (with_progress queue k (Done reply)) (done_notes notes k))
+    (portion_now s (with_progress queue k (Done reply))) opened
+known-done s queue notes opened k reply known =
+    let pending : pending_by (done_notes notes k) ≡ without (pending_by notes) k = λ i j. done-pending notes k j i in
+    let noted : portion_at (with_progress queue k (Done reply)) (done_notes notes k) ≡ portion_at queue notes =
+    λ i j. done-portion queue notes k j reply i in
+    let now : portion_now s (with_progress queue k (Done reply)) ≡ portion_now s queue =
+    λ i j. portion_in s (ask-progress queue k j (Done reply) i) in
+    rw (pending, noted, now) known
+
+known-done_but : (s : State) (queue : List Entry) (notes : List Note) (opened k number : ℕ) (reply : Reply)
+    → AreKnownBut (without (pending_by notes) k) (portion_at queue notes) (portion_now s queue) opened number (suc k)
+    → AreKnownBut (pending_by (done_notes notes k))
+    (portion_at (with_progress queue k (Done reply)) (done_notes notes k))
+    (portion_now s (with_progress queue k (Done reply))) opened number (suc k)
+known-done_but s queue notes opened k number reply known =
+    let pending : pending_by (done_notes notes k) ≡ without (pending_by notes) k = λ i j. done-pending notes k j i in
+    let noted : portion_at (with_progress queue k (Done reply)) (done_notes notes k) ≡ portion_at queue notes =
+    λ i j. done-portion queue notes k j reply i in
+    let now : portion_now s (with_progress queue k (Done reply)) ≡ portion_now s queue =
+    λ i j. portion_in s (ask-progress queue k j (Done reply) i) in
+    rw (pending, noted, now) known
+
+asked-done : (queue : List Entry) (notes : List Note) (k : ℕ) (reply : Reply) → IsMarkedAsked queue notes
+    → k < length queue → (note_at notes k).possible ≡ true
+    → IsMarkedAsked (with_progress queue k (Done reply)) (done_notes notes k)
+asked-done queue notes k reply are size ready = record {
+  marked = λ j. marked-at j (cases_Bool (j == k));
+  replies = λ j worked. replies-at j worked (cases_Bool (j == k));
+}
+  where
+    marked-at : (j : ℕ) → ((j == k) ≡ true) ⊎ ((j == k) ≡ false)
+        → (note_at (done_notes notes k) j).pending ≡ is_pending_at (with_progress queue k (Done reply)) j
+    marked-at j (inl same) =
+        subst (λ (n : ℕ). (note_at (done_notes notes k) n).pending
+        ≡ is_pending_at (with_progress queue k (Done reply)) n) (sym (eqb-true j k same))
+        (done-here notes k ∙ sym (worked-here queue k (Done reply) refl))
+    marked-at j (inr other) =
+        done-other notes k j (eqb-false j k other) ∙ (are.marked j
+        ∙ sym (ap pending_in (other-progress queue k j (Done reply) (eqb-false j k other))))
+
+    replies-at : (j : ℕ) → (note_at (done_notes notes k) j).pending ≡ false → ((j == k) ≡ true) ⊎ ((j == k) ≡ false)
+        → (note_at (done_notes notes k) j).possible ≡ is_some (reply_at (with_progress queue k (Done reply)) j)
+    replies-at j worked (inl same) =
+        subst (λ (n : ℕ). (note_at (done_notes notes k) n).possible
+        ≡ is_some (reply_at (with_progress queue k (Done reply)) n)) (sym (eqb-true j k same))
+        (done-possible notes k k ∙ (ready ∙ sym (ap is_some (reply-here queue k (Done reply) size))))
+    replies-at j worked (inr other) =
+        done-possible notes k j
+        ∙ (are.replies j (sym (done-other notes k j (eqb-false j k other)) ∙ worked)
+        ∙ sym (ap (λ (found : Option Entry). is_some (reply_in found)) (other-progress queue k j (Done reply)
+        (eqb-false j k other))))
+
+ranged-done : (queue : List Entry) (notes : List Note) (opened k : ℕ) (reply : Reply)
+    → HaveTheirRanges queue notes opened
+    → HaveTheirRanges (with_progress queue k (Done reply)) (done_notes notes k) opened
+ranged-done queue notes opened k reply ranged = λ j before pending.
+    subst IsPortion (sym (done-portion queue notes k j reply)) (ranged j before (was-pending notes k j pending))
+
+-- ---- the request that was done
+
+module _ (s end : State) (queue : List Entry) (notes : List Note) (first opened writers possible k : ℕ) (reply : Reply)
+    (are : AreNotes s queue notes first opened writers possible) (within : k < opened)
+    (pending : (note_at notes k).pending ≡ true) (ready : (note_at notes k).possible ≡ true)
+    (step : IsStep s end (ask_at queue k)) where
+  free : IsFree queue notes k
+  free = are.noted.free k within pending ready
+
+  -- its note says what it touches now, and the range that it keeps to
+  own : portion_at queue notes k ≡ portion_in s (ask_at queue k)
+  own =
+      let touches = are.marks.known.touches k within pending in
+      let front = clear-front (pending_by notes) (portion_at queue notes) k free in
+      let ranges = are.marks.known.ranges k within pending front in
+      λ i. record { touched = touches i; range = ranges i }
+
+  part : is_all (note_at notes k).touch ≡ false → touched s (ask_at queue k) ≢ everything
+  part is all =
+      not-all (note_at notes k).touch (ask_at queue k) is (ap (λ (p : Portion). p.touched) own ∙ all)
+
+  asked : IsMarkedAsked (with_progress queue k (Done reply)) (done_notes notes k)
+  asked = asked-done queue notes k reply are.marks.asked (omega (arith, within, are.noted.within)) ready
+
+  ranged : HaveTheirRanges (with_progress queue k (Done reply)) (done_notes notes k) opened
+  ranged = ranged-done queue notes opened k reply are.marks.ranged
+
+  kept-by : ((number : ℕ) → resizes number (portion_at queue notes k) ≡ false) → (b : Bool)
+      → is_all (note_at notes k).touch ≡ b
+      → AreKnown (without (pending_by notes) k) (portion_at queue notes) (portion_now end queue) opened
+  kept-by keeps false is =
+      known-kept (pending_by notes) (portion_at queue notes) (portion_now s queue) (portion_now end queue) opened k
+      are.marks.known keeps (λ j before waits. step.touches (part is) (ask_at queue j))
+      (λ j before waits.
+      step.kept (part is) (λ number. ap (resizes number) (sym own) ∙ keeps number) (ask_at queue j))
+  kept-by keeps true all =
+      let none : (j : ℕ) → j < opened → without (pending_by notes) k j ≡ true → ⊥ = λ j before waits.
+      let on = done-pending notes k j ∙ waits in
+      alone queue notes first opened writers possible k j are.noted are.marks.ranged within pending ready all before
+      (was-pending notes k j on) (is-other notes k j on) in
+      record {
+        touches = λ j before waits. absurd (none j before waits);
+        ranges = λ j before waits front. absurd (none j before waits);
+      }
+
+  kept : ((number : ℕ) → resizes number (portion_at queue notes k) ≡ false)
+      → IsMarked end (with_progress queue k (Done reply)) (done_notes notes k) opened
+  kept keeps = record {
+    asked = asked;
+    ranged = ranged;
+    known = known-done end queue notes opened k reply (kept-by keeps (is_all (note_at notes k).touch) refl);
+  }
+
+  resizing-part : (number : ℕ) → resizes number (portion_at queue notes k) ≡ true
+      → touched s (ask_at queue k) ≢ everything
+  resizing-part number is all =
+      true≢false (sym (resizes-on number (touched_at queue notes k) (note_at notes k).range is)
+      ∙ ap (λ (t : Touched). is_on number t) (ap (λ (p : Portion). p.touched) own ∙ all))
+
+  resized : (number : ℕ) → resizes number (portion_at queue notes k) ≡ true
+      → IsMarkedBut end (with_progress queue k (Done reply)) (done_notes notes k) opened number (suc k)
+  resized number is = record {
+    asked = asked;
+    ranged = ranged;
+    known =
+        known-done_but end queue notes opened k number reply
+        (known-resized (pending_by notes) (portion_at queue notes) (portion_now s queue) (portion_now end queue) opened
+        k are.marks.known number pending free is
+        (λ j before waits. step.touches (resizing-part number is) (ask_at queue j))
+        (λ j before waits other.
+        step.resized number (ap (resizes number) (sym own) ∙ is) (ask_at queue j) other));
+  }
+
+  -- The request at the position was ready and was done: what is known before the notes are looked through again.
+  pub marked-done : IsNoted (with_progress queue k (Done reply)) (done_notes notes k) first opened writers possible
+      × IsDone end (with_progress queue k (Done reply)) (done_notes notes k) opened k
+  marked-done = (
+    noted-done queue notes first opened writers possible k reply are.noted within,
+    record {
+      kept = λ keeps.
+          let before : (number : ℕ) → resizes number (portion_at queue notes k) ≡ false = λ number.
+          ap (resizes number) (sym (done-portion queue notes k k reply)) ∙ keeps number in
+          (kept before, blocked-kept queue notes opened k reply are.blocked before);
+      resized = λ number is.
+          let before : resizes number (portion_at queue notes k) ≡ true =
+          ap (resizes number) (sym (done-portion queue notes k k reply)) ∙ is in (
+            resized number before,
+            blocked-resized queue notes opened k number reply are.blocked free before,
+            not-ready queue notes first opened writers possible k number reply are.noted pending before,
+          );
+    },
+  )

@@ -1,0 +1,14 @@
+use Rattle.std.proofs.Common.{◌≡◌, ◌-◌, ◌+◌, ◌<◌, ◌≤◌, suc}
+use Rattle.sftp_server.specs.Readiness.{note_at, IsSettling}
+use Rattle.sftp_server.proofs.readiness.Readiness.settle_file.Given as goal
+
+abbrev pub invariant-each : goal.invariant-each
+invariant-each l =
+    IsSettling l.session l.queue l.self.notes.items l.self.first_pending l.self.opened l.self.writers l.self.possible l.k
+    (l.k + (note_at l.fn.self.notes.items l.k).waiter) l.file (suc l.q)
+    × ((note_at l.fn.self.notes.items l.k).waiter ≤ (note_at l.self.notes.items l.k).waiter)
+    × (l.self.opened ≡ l.fn.self.opened)
+    × (l.q < l.self.opened)
+
+abbrev pub decreases-each : goal.decreases-each
+decreases-each l = l.self.opened - l.q
