@@ -1,20 +1,22 @@
 -- Tables of handles as they are kept in slots, by the numbers of the slots.
-use Rattle.std.proofs.Common.{◌≡◌, ◌≢◌, ◌⊎◌, ◌+◌, ◌<◌, ◌^◌, ℕ, zero, suc, Bool, true, false, cond, List}
+use Rattle.std.proofs.Common.{◌≡◌, ◌≢◌, ◌⊎◌, ◌+◌, ◌<◌, ◌^◌, ◌++◌, ℕ, zero, suc, Bool, true, false, cond, List}
 use Rattle.std.proofs.Common.{[], ◌∷◌, length, map, get_or, Option, None, Some, is_some, refl, sym, ap, subst, ◌∙◌}
 use Rattle.std.proofs.Common.{inl, inr, zero-add, arith}
 use Rattle.std.specs.Prelude.{◌==◌, ◌-◌, ◌/◌, take, drop, if◌then◌else◌, bytes_eq, IsSome}
-use Rattle.std.specs.Int.{w32, from_be_bytes, byte_at, bytes_high_first}
+use Rattle.std.specs.Int.{w32, w64, from_be_bytes, byte_at, bytes_high_first}
 use Rattle.std.specs.Cmp.Lexicographic.{nat_list_cmp_total, nat_list_eq_equiv}
 use Rattle.std.proofs.Math.Nat.{mod-lt}
 use Rattle.std.proofs.lemmas.Bool.{cases_eq, eq-eqb, eqb-true}
-use Rattle.std.proofs.lemmas.Nat.{from_be_bytes-to_be_bytes_4}
+use Rattle.std.proofs.lemmas.List.{length-take, length-drop, take-append-drop}
+use Rattle.std.proofs.lemmas.Nat.{be_bytes_4, be_bytes_8, from_be_bytes-to_be_bytes_4}
 use Rattle.std.proofs.lemmas.Map.Text.{is_eq-slice_cmp}
 use Rattle.std.proofs.lemmas.Slice.Eq.{bytes_eq-Decides}
 use Rattle.byteorder.specs.Endian.{big_number}
-use Rattle.byteorder.specs.Numbers.{big_number-reads_back}
+use Rattle.byteorder.specs.Numbers.{big_from-take, big_number-reads_back}
 use Rattle.slab.specs.Slab.{Slab, get, with_value, Updates, entries_from, entries, slab_len}
 use Rattle.slab.proofs.SlabLemmas.{length-entries, Updates-with_value}
 use Rattle.sftp_wire.specs.Spelling.{uint32, uint64, AreBytes}
+use Rattle.sftp_wire.proofs.Bytes.Numbers.{IsBytes, IsBytes-take, IsBytes-drop, big_number-four}
 use Rattle.sftp_path.specs.Place.{bytes_cmp}
 use Rattle.sftp_path.specs.Table.{from_entries, size}
 use Rattle.sftp_path.proofs.Order.{bytes_cmp-same}
@@ -28,6 +30,10 @@ use Rattle.sftp_handles.specs.Slots.{IsNameAt, IsNewest, IsNumbered}
 use Rattle.sftp_handles.proofs.TotalSteps.PlaceTexts.{bytes-joined}
 
 -- ---- names
+
+-- `byteorder` and std read a number of eight bytes alike
+big-eight : (bytes : List ℕ) → big_number 8 bytes ≡ from_be_bytes w64 bytes
+big-eight bytes = omega arith
 
 -- a name begins with the number of its slot
 name-number : (number serial : ℕ) → number < 2 ^ 64 → big_number 8 (slot_name number serial) ≡ number
@@ -49,6 +55,38 @@ names-apart name number serial fits differs = by (bytes_eq name (slot_name numbe
 pub length-name : (number serial : ℕ) → length (slot_name number serial) ≡ 12
 unfolding slot_name
 length-name number serial = refl
+
+-- the serial stands behind the number, up to the end of the name
+pub serial-read : (name : List ℕ) → length name ≡ 12
+    → big_number 4 (take (length name - 8) (drop 8 name)) ≡ big_number 4 (drop 8 name)
+serial-read name size = big_from-take 0 4 (length name - 8) (drop 8 name) (omega (arith, size))
+
+-- a name of 12 bytes is that of the slot and of the serial that stand in it
+pub name-read : (name : List ℕ) (number serial : ℕ) → length name ≡ 12 → IsBytes name
+    → number ≡ big_number 8 name → serial ≡ big_number 4 (drop 8 name) → name ≡ slot_name number serial
+unfolding slot_name
+name-read name number serial size are number_is serial_is =
+    let front : uint64 number ≡ take 8 name =
+    be_bytes_8 (take 8 name) number (let n = length-take 8 name in omega (arith, n, size))
+    (IsBytes-take 8 name are)
+    (number_is ∙ (sym (big_from-take 0 8 8 name (omega arith)) ∙ big-eight (take 8 name))) in
+    let back : uint32 serial ≡ drop 8 name =
+    be_bytes_4 (drop 8 name) serial (let n = length-drop 8 name in omega (arith, n, size))
+    (IsBytes-drop 8 name are) (serial_is ∙ big_number-four (drop 8 name)) in
+    sym (ap (λ bytes. bytes ++ uint32 serial) front ∙ (ap (λ bytes. take 8 name ++ bytes) back ∙ take-append-drop 8 name))
+
+-- another serial stands in a name that is not the slot's
+pub name-differs : (name : List ℕ) (number serial found : ℕ) → serial < 2 ^ 32 → found ≡ big_number 4 (drop 8 name)
+    → found ≢ serial → bytes_eq name (slot_name number serial) ≡ false
+unfolding slot_name
+name-differs name number serial found fits found_is differs = by (bytes_eq name (slot_name number serial)) refl
+  where
+    by : (b : Bool) → bytes_eq name (slot_name number serial) ≡ b → b ≡ false
+    by false is = refl
+    by true is =
+        let same = (bytes_eq-Decides name (slot_name number serial)).0 is in
+        absurd (differs (found_is
+        ∙ (ap (λ bytes. big_number 4 (drop 8 bytes)) same ∙ big_number-reads_back 4 serial [] fits)))
 
 -- ---- what is open
 

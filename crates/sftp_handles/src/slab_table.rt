@@ -158,8 +158,7 @@ fn slot_of(opens: &Slab<Slot>, name: &[u8]) -> Option<usize>
     }
     let number = BigEndian::read_u64(name) as usize;
     let slot = opens.get(number)?;
-    let spelled = name_of(number, slot.serial);
-    if name == spelled.as_slice() {
+    if BigEndian::read_u32(&name[8..]) == slot.serial {
         Some(number)
     } else {
         None

@@ -1,9 +1,6 @@
-use Rattle.std.proofs.Common.{◌≡◌, ◌∙◌, sym, ap, false, None, Some, option_copied}
-use Rattle.std.specs.Prelude.{bytes_eq}
-use Rattle.std.proofs.lemmas.Slice.Eq.{bytes_eq-Decides}
+use Rattle.std.proofs.Common.{◌≡◌, ◌∙◌, sym, ap, None, Some, option_copied, arith}
 use Rattle.slab.specs.Slab.{get}
-use Rattle.sftp_handles.specs.Slots.{slot_name}
-use Rattle.sftp_handles.proofs.SlotTables.{open-length, open-free, open-other}
+use Rattle.sftp_handles.proofs.SlotTables.{name-read, serial-read, name-differs, open-length, open-free, open-other}
 use Rattle.sftp_handles.proofs.slab_table.slot_of.Goals as goal
 
 pub returns-then-name-ne12-clause-absent : goal.returns-then-name-ne12-clause-absent
@@ -17,20 +14,22 @@ returns-in_err-slot-clause-absent c =
     rw c.from_residual.ensures
     (open-free c.args.opens.now c.args.name.now c.read_u64-number.result c.requires c.read_u64-number.ensures free)
 
-pub returns-then-eq-clause-found : goal.returns-then-eq-clause-found
-returns-then-eq-clause-found c =
+pub returns-then-read_u32-slot-clause-found : goal.returns-then-read_u32-slot-clause-found
+returns-then-read_u32-slot-clause-found c =
     let found : get c.args.opens.now c.read_u64-number.result ≡ Some c.in_ok-slot.slot.now =
     sym c.get.ensures ∙ ap option_copied c.in_ok-slot.was in
     rw found
-    ((bytes_eq-Decides c.args.name.now c.as_slice.result.now).0 (sym c.eq.ensures ∙ c.if-eq.true)
-    ∙ (c.as_slice.ensures ∙ c.name_of-spelled.ensures))
+    (name-read c.args.name.now c.read_u64-number.result c.in_ok-slot.slot.now.serial
+    (omega (arith, c.if-name-ne12.false)) (λ i. omega (arith, c.type_inv.name i)) c.read_u64-number.ensures
+    (sym c.if-read_u32-slot.true ∙ (c.read_u32.ensures ∙ serial-read c.args.name.now (omega
+    (arith, c.if-name-ne12.false)))))
 
-pub returns-else-eq-clause-absent : goal.returns-else-eq-clause-absent
-returns-else-eq-clause-absent c =
+pub returns-else-read_u32-slot-clause-absent : goal.returns-else-read_u32-slot-clause-absent
+returns-else-read_u32-slot-clause-absent c =
     let number = c.read_u64-number.result in
     let slot = c.in_ok-slot.slot.now in
     let found : get c.args.opens.now number ≡ Some slot = sym c.get.ensures ∙ ap option_copied c.in_ok-slot.was in
-    let differs : bytes_eq c.args.name.now (slot_name number slot.serial) ≡ false =
-    ap (bytes_eq c.args.name.now) (sym (c.as_slice.ensures ∙ c.name_of-spelled.ensures))
-    ∙ (sym c.eq.ensures ∙ c.if-eq.false) in
-    open-other c.args.opens.now c.args.name.now number slot c.requires c.read_u64-number.ensures found differs
+    open-other c.args.opens.now c.args.name.now number slot c.requires c.read_u64-number.ensures found
+    (name-differs c.args.name.now number slot.serial c.read_u32.result (omega arith)
+    (c.read_u32.ensures ∙ serial-read c.args.name.now (omega (arith, c.if-name-ne12.false)))
+    c.if-read_u32-slot.false)
