@@ -1,0 +1,164 @@
+"""What is checked of scripts and documents without the built program: that scripts can be read, that links and file
+names lead to files, and that lines are within 120 columns. Each check yields a line for each mistake."""
+import re
+import shutil
+import subprocess
+from pathlib import Path
+
+TOP = Path(__file__).resolve().parents[1]
+COLUMNS = 120
+MANUAL = "packaging/sftpv3.1.in"
+# Diaries and drafts name files as they were when they were written.
+DATED = ("docs/measurements/", "docs/drafts/", "CHANGELOG.md")
+# Files that no person writes line by line, and `crates.txt`, in which a crate is a line.
+UNBROKEN = re.compile(
+    r"\.(cases|edit|tree|transcript)$|/proofs/|^docs/drafts/|(^|/)(crates|list)\.txt$|^LICENSE$|/TRIED$")
+# Definitions with a byte string, a list or a comment that is longer, and how many. It may only become less.
+LONGER = {
+    "crates/sftp_handles/specs/Clash.antt": 1, "crates/sftp_server/specs/Core.antt": 1,
+    "crates/sftp_server/specs/RangedNotes.antt": 1, "crates/sftp_server/specs/Readiness.antt": 3,
+    "crates/sftp_server/src/readiness.rt": 1, "crates/sftp_text/specs/Layouts.antt": 1,
+    "crates/sftp_text/specs/Quoted.antt": 1, "crates/sftp_text/specs/Reads.antt": 1,
+    "crates/sftp_text/specs/Texts.antt": 1, "crates/sftp_text/specs/Trees.antt": 1,
+    "crates/sftp_text/specs/Wholes.antt": 1, "crates/sftp_tool/specs/Status.antt": 1,
+    "crates/sftp_transcript/specs/Log.antt": 1, "crates/sftp_tree/specs/PictureExamples.antt": 1,
+    "crates/sftp_tree/src/walk_examples.rt": 1, "crates/sftp_treefile/specs/Examples.antt": 2,
+    "crates/sftp_wire/specs/Examples.antt": 1,
+}
+
+
+def files():
+    """Returns the names of all files of the repository, from its top, without what git ignores."""
+    words = ["git", "-C", str(TOP), "ls-files", "-z", "--cached", "--others", "--exclude-standard"]
+    try:
+        listed = subprocess.run(words, stdout=subprocess.PIPE, stderr=subprocess.DEVNULL, check=True).stdout
+        names = listed.decode().split("\0")
+    except (OSError, subprocess.CalledProcessError):
+        # without git: what builds leave is in folders `out`
+        found = [it.relative_to(TOP) for it in TOP.rglob("*")]
+        names = sorted(str(it) for it in found if it.parts[0] != ".git" and "out" not in it.parts)
+    return [it for it in names if it and (TOP / it).is_file() and not (TOP / it).is_symlink()]
+
+
+def text(name):
+    return (TOP / name).read_text(errors="replace")
+
+
+def scripts(names, kind):
+    """Returns the scripts whose first line names an interpreter of this kind, and for Python its modules."""
+    heads = {it: (TOP / it).open("rb").readline(80) for it in names}
+    is_script = re.compile(rb"#!.*\b" + kind.encode() + rb"[0-9.]*\s*$")
+    return [it for it in names if is_script.match(heads[it]) or kind == "python" and it.endswith(".py")]
+
+
+def wrong_python(names):
+    for name in scripts(names, "python"):
+        try:
+            compile(text(name), name, "exec")
+        except SyntaxError as error:
+            yield f"{name}:{error.lineno}: {error.msg}"
+
+
+def wrong_shell(names):
+    for name in [*scripts(names, "sh"), *scripts(names, "bash")]:
+        words = ["shellcheck", "--format=gcc", name] if shutil.which("shellcheck") else ["sh", "-n", name]
+        ran = subprocess.run(words, cwd=TOP, stdout=subprocess.PIPE, stderr=subprocess.STDOUT, text=True)
+        if ran.returncode:
+            yield from ran.stdout.splitlines() or [f"{name}: {' '.join(words[:2])} refuses it"]
+
+
+def wrong_columns(names):
+    for name in names:
+        if UNBROKEN.search(name):
+            continue
+        long = [number for number, line in enumerate(text(name).splitlines(), 1)
+                if len(line) > COLUMNS and not re.match(r"\s*#!?\[tactic\(", line)]
+        if len(long) > LONGER.get(name, 0):
+            yield f"{name}:{long[0]}: more than {COLUMNS} columns"
+
+
+def without_blocks(page):
+    """Returns the lines of a page, those of its blocks of code as empty ones."""
+    lines, is_code = [], False
+    for line in page.splitlines():
+        is_fence = line.lstrip().startswith("```")
+        is_code = is_code != is_fence
+        lines.append("" if is_fence or is_code else line)
+    return lines
+
+
+def anchors(name):
+    """Returns the anchors of a page's headings, as a browser of the repository makes them."""
+    heads = [it.lstrip("#").strip().lower() for it in without_blocks(text(name)) if re.match("#+ ", it)]
+    return {re.sub(r"[^\w\- ]", "", it).replace(" ", "-") for it in heads}
+
+
+def wrong_links(pages):
+    for name in pages:
+        for number, line in enumerate(without_blocks(text(name)), 1):
+            for target in re.findall(r"\]\(([^)\s]+)\)", line):
+                path, _, anchor = target.partition("#")
+                if re.match("[a-z]+:", target):
+                    continue
+                file = (TOP / name).parent / path if path else TOP / name
+                if not file.exists():
+                    yield f"{name}:{number}: no file {path}"
+                elif anchor and anchor not in anchors(file.resolve().relative_to(TOP)):
+                    yield f"{name}:{number}: no heading {target}"
+
+
+def stands_for(word, names):
+    """Returns whether the word names a file or a folder: from the top, or as the last part of a longer name."""
+    if re.search(r"[A-Z]{3}|[{}<>$]", re.sub(r"[A-Z]+\.md|TRIED|README|LICENSE|CHANGELOG|HANDLES", "", word)):
+        return True
+    if any(TOP.glob(word.rstrip("/"))):
+        return True
+    part = f"/{word.rstrip('/')}"
+    return any(f"/{it}".endswith(part) or f"{part}/" in f"/{it}" for it in names)
+
+
+def wrong_quotes(pages):
+    """Finds blocks ```rust FILE that are not in that file as they stand."""
+    for name in pages:
+        for found in re.finditer(r"(?ms)^```rust (\S+)\n(.*?)^```", text(name)):
+            if found[2] not in text(found[1]):
+                yield f"{name}: {found[1]} does not have the lines\n{found[2]}"
+
+
+def wrong_names(pages, names):
+    """Finds words in `code` that look like files of the repository and are none."""
+    tops = "|".join(sorted({re.escape(it.split("/")[0]) for it in names if "/" in it} | {"examples"}))
+    looks = re.compile(rf"(?:\./)?((?:{tops})/[\w./*{{}}-]+|[\w./*-]+\.(?:rt|antt|md|py|cases))$")
+    for name in pages:
+        if name.startswith(DATED):
+            continue
+        for number, line in enumerate(without_blocks(text(name)), 1):
+            for word in re.findall(r"`([^`\s]+)`", line):
+                found = looks.match(word)
+                if found and not stands_for(found[1], names):
+                    yield f"{name}:{number}: no file {word}"
+
+
+def skipped():
+    """Yields a line for each program that is not there, and what is therefore not checked."""
+    if not shutil.which("shellcheck"):
+        yield "shellcheck is not installed: of shell scripts only the syntax is checked"
+    if not shutil.which("mandoc"):
+        yield "mandoc is not installed: the manual page is not checked"
+
+
+def wrong_manual():
+    if shutil.which("mandoc") and (TOP / MANUAL).is_file():
+        words = ["mandoc", "-T", "lint", "-W", "warning", MANUAL]
+        ran = subprocess.run(words, cwd=TOP, stdout=subprocess.PIPE, text=True)
+        yield from ran.stdout.splitlines()
+
+
+def mistakes():
+    """Returns a line for each mistake of a script or a document, and what was checked, in words."""
+    names = files()
+    pages = [it for it in names if it.endswith(".md")]
+    found = [*wrong_python(names), *wrong_shell(names), *wrong_columns(names), *wrong_links(pages),
+             *wrong_names(pages, names), *wrong_quotes(pages), *wrong_manual()]
+    count = sum(len(scripts(names, it)) for it in ("python", "sh", "bash"))
+    return found, f"{count} scripts, {len(pages)} documents and the columns of {len(names)} files"
