@@ -11,10 +11,10 @@ from texts import TOP
 INIT = bytes.fromhex("000000050100000003")
 
 
-def called(words, program, **how):
+def called(words, program):
     """Runs a command of the repository with this program. Returns its status, and what it printed."""
-    ran = subprocess.run([str(it) for it in words], cwd=TOP, env={**os.environ, "SFTPV3": str(program)},
-                         stdin=subprocess.DEVNULL, stdout=subprocess.PIPE, stderr=subprocess.STDOUT, **how)
+    ran = subprocess.run([str(it) for it in words], cwd=TOP, env={**os.environ, "SFTPV3": str(program), "DESTDIR": ""},
+                         stdin=subprocess.DEVNULL, stdout=subprocess.PIPE, stderr=subprocess.STDOUT)
     return ran.returncode, ran.stdout.decode(errors="replace")
 
 
