@@ -168,9 +168,7 @@ impl Readiness {
         ensures writers { self.new.writers ≡ self.old.writers }
         ensures possible { self.new.possible ≡ self.old.possible }
     {
-        let mut note = self.notes[k];
-        note.pending = false;
-        self.notes[k] = note;
+        self.notes[k].pending = false;
     }
 
     /// Looks again at the requests that may be ready since the one at this position is done.
@@ -206,7 +204,7 @@ impl Readiness {
         ensures { result
             ≡ words.resized_file (note_at self.now.notes.items k).touch (note_at self.now.notes.items k).range }
     {
-        let note = self.notes[k];
+        let note = &self.notes[k];
         match &note.touch {
             Touch::WritesFile(file) => match &note.range {
                 Some(_) => None,
@@ -276,8 +274,8 @@ impl Readiness {
         ensures { result ≡ ((note_at self.now.notes.items q).pending
             && words.touches_file file (note_at self.now.notes.items q).touch) }
     {
-        let note = self.notes[q];
-        note.pending && touches_file(note.touch, file)
+        let note = &self.notes[q];
+        note.pending && touches_file(&note.touch, file)
     }
 
     /// Notes the range that the request at this position keeps to now.
@@ -290,9 +288,8 @@ impl Readiness {
         ensures writers { self.new.writers ≡ self.old.writers }
         ensures possible { self.new.possible ≡ self.old.possible }
     {
-        let mut note = self.notes[q];
+        let note = &mut self.notes[q];
         note.range = range_of(session, queue, q);
-        self.notes[q] = note;
     }
 
     /// Whether the request at this position may change the length of the file, by its note.
@@ -301,7 +298,7 @@ impl Readiness {
         ensures { result ≡ words.resizes_noted file (note_at self.now.notes.items q).touch
             (note_at self.now.notes.items q).range }
     {
-        let note = self.notes[q];
+        let note = &self.notes[q];
         match &note.touch {
             Touch::WritesFile(number) => match &note.range {
                 Some(_) => false,
@@ -360,7 +357,7 @@ impl Readiness {
         ensures no { result ≡ false → (note_at self.now.notes.items q).pending ≡ true
             → (note_at self.now.notes.items q).possible ≡ false → k + (note_at self.now.notes.items q).blocker ≢ q }
     {
-        let note = self.notes[q];
+        let note = &self.notes[q];
         note.pending && !note.possible && note.blocker == q - k
     }
 
@@ -401,8 +398,8 @@ impl Readiness {
         if self.opened == 0 {
             return false;
         }
-        let note = self.notes[self.opened - 1];
-        note.pending && is_all(note.touch)
+        let note = &self.notes[self.opened - 1];
+        note.pending && is_all(&note.touch)
     }
 
     /// Opens one request more.
@@ -432,10 +429,9 @@ impl Readiness {
         ensures size { self.new.opened ≡ suc self.old.opened }
         ensures possible { self.new.possible ≡ self.old.possible }
     {
-        let mut note = self.notes[k];
+        let note = &mut self.notes[k];
         note.touch = touch_of(session, queue, k);
         note.range = range_of(session, queue, k);
-        self.notes[k] = note;
         if !self.only_reads(k) {
             self.writers = k + 1;
         }
@@ -447,8 +443,7 @@ impl Readiness {
         requires { k < length self.now.notes.items }
         ensures { result ≡ words.only_reads (note_at self.now.notes.items k).touch }
     {
-        let note = self.notes[k];
-        only_reads(note.touch)
+        only_reads(&self.notes[k].touch)
     }
 
     /// Judges whether the open request at this position, which is pending, is ready.
@@ -482,9 +477,7 @@ impl Readiness {
         ensures writers { self.new.writers ≡ self.old.writers }
         ensures possible { self.new.possible ≡ suc self.old.possible }
     {
-        let mut note = self.notes[k];
-        note.possible = true;
-        self.notes[k] = note;
+        self.notes[k].possible = true;
         self.possible += 1;
     }
 
@@ -499,12 +492,9 @@ impl Readiness {
         ensures writers { self.new.writers ≡ self.old.writers }
         ensures possible { self.new.possible ≡ self.old.possible }
     {
-        let mut note = self.notes[k];
-        note.blocker = back;
-        self.notes[k] = note;
-        let mut earlier = self.notes[k - back];
+        self.notes[k].blocker = back;
+        let earlier = &mut self.notes[k - back];
         earlier.waiter = earlier.waiter.max(back);
-        self.notes[k - back] = earlier;
     }
 
     /// How far back a pending request is that clashes with the open one at this position, or 0 if none does.
@@ -563,11 +553,11 @@ impl Readiness {
         ensures { result
             ≡ is_in_way queue.now self.now.notes.items j (portion_at queue.now self.now.notes.items k) }
     {
-        let earlier = self.notes[j];
+        let earlier = &self.notes[j];
         if !earlier.pending {
             return false;
         }
-        let later = self.notes[k];
+        let later = &self.notes[k];
         match queue.ask(j) {
             Some(first) => earlier.touch.shares(first, later.touch, ask)
                 && !are_apart(earlier.range, later.range),
@@ -604,9 +594,7 @@ impl Readiness {
         ensures writers { self.new.writers ≡ self.old.writers - count }
         ensures possible { self.new.possible ≡ self.old.possible - 1 }
     {
-        let mut note = self.notes[k];
-        note.possible = false;
-        self.notes[k] = note;
+        self.notes[k].possible = false;
         self.possible -= 1;
         drop_front(&mut self.notes, count);
         self.first_pending = self.first_pending.saturating_sub(count);
@@ -662,10 +650,10 @@ fn drop_front(notes: &mut VecDeque<Note>, count: usize)
 }
 
 /// Whether the file is touched, and nothing else.
-fn touches_file(touch: Touch, file: FileNo) -> bool
-    ensures { result ≡ words.touches_file file touch }
+fn touches_file(touch: &Touch, file: FileNo) -> bool
+    ensures { result ≡ words.touches_file file touch.now }
 {
-    match &touch {
+    match touch {
         Touch::ReadsFile(number) => *number == file,
         Touch::WritesFile(number) => *number == file,
         Touch::Nothing => false,
@@ -675,8 +663,8 @@ fn touches_file(touch: Touch, file: FileNo) -> bool
 }
 
 /// Whether a request that touches this changes nothing.
-fn only_reads(touch: Touch) -> bool
-    ensures { result ≡ words.only_reads touch }
+fn only_reads(touch: &Touch) -> bool
+    ensures { result ≡ words.only_reads touch.now }
 {
     match touch {
         Touch::Nothing => true,
@@ -688,8 +676,8 @@ fn only_reads(touch: Touch) -> bool
 }
 
 /// Whether a request that touches this touches everything.
-fn is_all(touch: Touch) -> bool
-    ensures { result ≡ words.is_all touch }
+fn is_all(touch: &Touch) -> bool
+    ensures { result ≡ words.is_all touch.now }
 {
     match touch {
         Touch::Nothing => false,
