@@ -22,7 +22,7 @@ use Rattle.sftp_server.specs.Readiness.{IsBlockedBack, IsBlocked, only_reads, is
 use Rattle.sftp_server.specs.Readiness.{IsNoted, AreBlocked, AreBlockedBut, IsShut, IsMarked}
 use Rattle.sftp_server.specs.Readiness.{held, AreAlike, IsPlaced, raised, portion_at}
 use Rattle.sftp_server.specs.Readiness.{pending_by, is_late, IsStopped, portion_now, IsMarkedAsked, HaveTheirRanges}
-use Rattle.sftp_server.specs.Readiness.{IsMarkedBut, AreNotes}
+use Rattle.sftp_server.specs.Readiness.{IsMarkedBut}
 use Rattle.sftp_server.specs.RangedNotes.{Portion, portions_clash, IsPortion, is_behind_by, is_behind, AreKnown}
 use Rattle.sftp_server.specs.RangedNotes.{AreKnownBut}
 use Rattle.sftp_server.proofs.RangedNotes.{behind-local}
@@ -206,20 +206,24 @@ noted-passed queue notes f g o w p is front passed = record {
   free = is.free;
 }
 
--- those that waited were looked at again, and those at the front were passed that are not pending
-pub refreshed : (s : State) (queue : List Entry) (before after last : List Note) (f g o w p end_o end_w end_p : ℕ)
-    → last ≡ after → end_o ≡ o → end_w ≡ w → end_p ≡ p → IsNoted queue after f o w p → AreBlocked queue after o
-    → AreAlike before after → IsMarked s queue before o → g ≤ length last
-    → ((k : ℕ) → k < g → (note_at last k).pending ≡ false) → AreNotes s queue last g end_o end_w end_p
-refreshed s queue before after last f g o w p end_o end_w end_p same o_is w_is p_is is blocked alike marks front passed =
+-- those at the front were passed that are not pending
+pub front-passed : (queue : List Entry) (before after : List Note) (f g o w p end_o end_w end_p : ℕ)
+    → after ≡ before → end_o ≡ o → end_w ≡ w → end_p ≡ p → IsNoted queue before f o w p → g ≤ length after
+    → ((k : ℕ) → k < g → (note_at after k).pending ≡ false) → IsNoted queue after g end_o end_w end_p
+front-passed queue before after f g o w p end_o end_w end_p same o_is w_is p_is is front passed =
     rw (o_is, w_is, p_is)
-    (subst (λ (notes : List Note). AreNotes s queue notes g o w p) (sym same) record {
-      noted = noted-passed queue after f g o w p is
-          (let size = ap length same in let all = is.same_length in omega (arith, front, size, all))
-          (λ k lt. ap (λ (notes : List Note). (note_at notes k).pending) (sym same) ∙ passed k lt);
-      blocked = blocked;
-      marks = marks-alike s queue before after o marks alike;
-    })
+    (subst (λ (notes : List Note). IsNoted queue notes g o w p) (sym same) (noted-passed queue before f g o w p is
+    (let size = ap length same in let all = is.same_length in omega (arith, front, size, all))
+    (λ k lt. ap (λ (notes : List Note). (note_at notes k).pending) (sym same) ∙ passed k lt)))
+
+-- those that still wait are the same by the same notes
+pub blocked-by : (queue : List Entry) (before after : List Note) (o end_o done from : ℕ) → after ≡ before → end_o ≡ o
+    → AreBlockedBut queue before o done from (done + (note_at before done).waiter)
+    → AreBlockedBut queue after end_o done from (done + (note_at after done).waiter)
+blocked-by queue before after o end_o done from same o_is but =
+    subst (λ (e : ℕ). AreBlockedBut queue after e done from (done + (note_at after done).waiter)) (sym o_is)
+    (subst (λ (notes : List Note). AreBlockedBut queue notes o done from (done + (note_at notes done).waiter))
+    (sym same) but)
 
 count-one : (b : Bool) → as_count b ≤ 1
 count-one true = omega arith

@@ -179,8 +179,8 @@ impl Readiness {
         ensures opened { IsOpened queue.now self.new.notes.items self.new.opened }
     {
         self.settle(session, queue, k);
-        self.wake(queue, k);
         self.pass();
+        self.wake(queue, k);
         self.open_more(session, queue);
     }
 
@@ -238,8 +238,8 @@ impl Readiness {
         }
     }
 
-    /// Looks again at the request at this position, if it is pending and on the file. Returns whether it may still change
-    /// the length of the file.
+    /// Looks again at the request at this position, if it is pending and on the file. Returns whether it may still
+    /// change the length of the file.
     fn look_again(
         &mut self,
         session: &Session<SlabTable>,
@@ -429,10 +429,11 @@ impl Readiness {
         ensures size { self.new.opened ≡ suc self.old.opened }
         ensures possible { self.new.possible ≡ self.old.possible }
     {
+        let (touch, range) = portion_of(session, queue, k);
         let note = &mut self.notes[k];
-        note.touch = touch_of(session, queue, k);
-        note.range = range_of(session, queue, k);
-        if !self.only_reads(k) {
+        note.touch = touch;
+        note.range = range;
+        if !only_reads(&touch) {
             self.writers = k + 1;
         }
         self.opened = k + 1;
@@ -520,10 +521,11 @@ impl Readiness {
         ensures free { result ≡ 0 → IsFree queue.now self.now.notes.items k }
         ensures blocked { result ≢ 0 → IsBlockedBack queue.now self.now.notes.items k result }
     {
+        let later = &self.notes[k];
         let mut j = self.start(k);
         'down: while j > self.first_pending {
             j -= 1;
-            if self.is_in_way(queue, j, k, ask) {
+            if self.is_in_way(queue, j, k, later, ask) {
                 return k - j;
             }
         }
@@ -544,11 +546,13 @@ impl Readiness {
         }
     }
 
-    /// Whether the request at position `j` is pending and clashes with the one at `k`, which asks this.
-    fn is_in_way(&self, queue: &Queue, j: usize, k: usize, ask: &Ask) -> bool
+    /// Whether the request at position `j` is pending and clashes with the one at `k`, whose note `later` is and which
+    /// asks this.
+    fn is_in_way(&self, queue: &Queue, j: usize, k: usize, later: &Note, ask: &Ask) -> bool
         requires within { j < length queue.now }
         requires there { k < length queue.now }
         requires same { length self.now.notes.items ≡ length queue.now }
+        requires later { later.now ≡ note_at self.now.notes.items k }
         requires ask { ask.now ≡ ask_at queue.now k }
         ensures { result
             ≡ is_in_way queue.now self.now.notes.items j (portion_at queue.now self.now.notes.items k) }
@@ -557,10 +561,10 @@ impl Readiness {
         if !earlier.pending {
             return false;
         }
-        let later = &self.notes[k];
         match queue.ask(j) {
-            Some(first) => earlier.touch.shares(first, later.touch, ask)
-                && !are_apart(earlier.range, later.range),
+            // Ranges come first: of one file that is transferred, most are apart.
+            Some(first) => !are_apart(earlier.range, later.range)
+                && earlier.touch.shares(first, later.touch, ask),
             None => unreachable!(),
         }
     }
@@ -603,13 +607,14 @@ impl Readiness {
     }
 }
 
-/// What the request at this position touches.
-fn touch_of(session: &Session<SlabTable>, queue: &Queue, k: usize) -> Touch
+/// What the request at this position touches, and the range of its file that it keeps to.
+fn portion_of(session: &Session<SlabTable>, queue: &Queue, k: usize) -> (Touch, Option<ByteRange>)
     requires { k < length queue.now }
-    ensures { touched_as result (ask_at queue.now k) ≡ touched session.now (ask_at queue.now k) }
+    ensures touch { touched_as result.0 (ask_at queue.now k) ≡ touched session.now (ask_at queue.now k) }
+    ensures range { result.1 ≡ range session.now (ask_at queue.now k) }
 {
     match queue.ask(k) {
-        Some(ask) => session.touch(ask),
+        Some(ask) => (session.touch(ask), session.range(ask)),
         None => unreachable!(),
     }
 }
