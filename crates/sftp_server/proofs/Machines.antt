@@ -3,6 +3,7 @@ pub mod Histories
 pub mod Runs
 pub mod Ledgers
 pub mod Endings
+pub mod Kept
 pub mod Acts
 pub mod Laws
 pub mod Reached

@@ -12,20 +12,13 @@ use Rattle.sftp_server.specs.declared.taking.Front.{Front}
 use Rattle.sftp_server.specs.declared.taking.Front.TheVariants.{Taken, Full, Waiting, Fault}
 use Rattle.sftp_server.specs.Machine.{Machine}
 use Rattle.sftp_server.specs.Served.{closed_tree}
-use Rattle.sftp_server.specs.Sessions.{StreamBytes, Ahead, input_limit, IsRunning, IsEnding, Serves, ended_by}
+use Rattle.sftp_server.specs.Sessions.{StreamBytes, Ahead, input_limit, IsRunning, IsEnding, Stops, tree_left}
 use Rattle.sftp_server.specs.Fronts.{fault_of}
 
 -- how a session ended, by its last state and its fault, if it has one
 abbrev pub closed_end : State → Option SessionFault → Ended
 closed_end last None = ends.Finished (closed_tree last)
 closed_end last (Some fault) = ends.Fault (closed_tree last) fault
-
--- the session ended by itself
-abbrev pub IsClosed : Ended → Type 0
-IsClosed (ends.Finished tree) = Unit {0}
-IsClosed (ends.Fault tree fault) = Unit {0}
-IsClosed (ends.Io stream) = ⊥
-IsClosed ends.NoMemory = ⊥
 
 -- the session goes on, or it comes to its end
 abbrev pub IsNext : Tree → StreamBytes → StreamBytes → Ahead → Machine State → Next → Type 0
@@ -38,7 +31,7 @@ ReadsOn then now ahead0 ahead1 result =
     (start : Tree) (past : StreamBytes) (core : Machine State) → IsRunning start past then ahead0 core None
     → core.queue ≡ []
     → MatchResult result (λ next. IsNext start past now ahead1 core next)
-    (λ stop. Serves start past now (ended_by stop))
+    (λ stop. Stops start past now stop (tree_left core))
 
 -- the same, with what was found in front
 abbrev pub EndsOn : StreamBytes → StreamBytes → Ahead → Ahead → Front → Result Next Stop → Type 0
@@ -46,14 +39,15 @@ EndsOn then now ahead0 ahead1 front result =
     (start : Tree) (past : StreamBytes) (core : Machine State)
     → IsRunning start past then ahead0 core (fault_of front) → core.queue ≡ []
     → MatchResult result (λ next. IsNext start past now ahead1 core next)
-    (λ stop. Serves start past now (ended_by stop))
+    (λ stop. Stops start past now stop (tree_left core))
 
 -- From an open session, a call leads to the end, or stops it.
 abbrev pub RunsOut : StreamBytes → StreamBytes → Ahead → Machine State → Machine State
     → Result (Option SessionFault) Stop → Type 0
 RunsOut then now ahead core0 core1 result =
     (start : Tree) (past : StreamBytes) → IsRunning start past then ahead core0 None
-    → MatchResult result (λ fault. IsEnding start past now core1 fault) (λ stop. Serves start past now (ended_by stop))
+    → MatchResult result (λ fault. IsEnding start past now core1 fault)
+    (λ stop. Stops start past now stop (tree_left core1))
 
 -- how a batch goes on: the bytes in front stay, or the reader gives more, of which there are then not too many
 abbrev pub GoesOn : Front → Ahead → Ahead → ℕ → ℕ → Type 0

@@ -13,7 +13,7 @@ use Rattle.sftp_server.specs.declared.refusals.Refuse.TheVariants as refusals
 use Rattle.sftp_server.specs.declared.taking.Front.{Front}
 use Rattle.sftp_server.specs.declared.taking.Front.TheVariants.{Taken, Full, Waiting, Fault}
 use Rattle.sftp_server.specs.Machine.{Machine}
-use Rattle.sftp_server.specs.Sessions.{StreamBytes, stream_bytes, Ahead, IsRunning, Serves, ended_by}
+use Rattle.sftp_server.specs.Sessions.{StreamBytes, stream_bytes, Ahead, IsRunning, Stops, tree_left}
 
 abbrev pub fault_of : Front → Option SessionFault
 fault_of Taken = None
@@ -43,4 +43,4 @@ TakesOn ahead0 ahead1 core0 core1 logged0 logged1 result =
     → IsRunning start past (stream_bytes left written logged0) ahead0 core0 None
     → MatchResult result
     (λ front. IsRunning start past (stream_bytes left written logged1) ahead1 core1 (fault_of front))
-    (λ stop. Serves start past (stream_bytes left written logged1) (ended_by stop))
+    (λ stop. Stops start past (stream_bytes left written logged1) stop (tree_left core1))

@@ -6,6 +6,7 @@ pub mod Core
 pub mod Readiness
 pub mod RangedNotes
 pub mod Served
+pub mod Left
 pub mod Sessions
 pub mod Fronts
 pub mod Ending

@@ -13,7 +13,7 @@ use Rattle.sftp_server.specs.declared.opening.First.TheVariants.{Init, Fault}
 use Rattle.sftp_server.specs.Machine.{at_start}
 use Rattle.sftp_server.specs.Core.{started}
 use Rattle.sftp_server.specs.Served.{IsUnopenedBy}
-use Rattle.sftp_server.specs.Sessions.{StreamBytes, stream_bytes, Ahead, Serves, ended_by, IsRunning, IsUnopenedYet}
+use Rattle.sftp_server.specs.Sessions.{StreamBytes, stream_bytes, Ahead, Stops, tree_left, IsRunning, IsUnopenedYet}
 use Rattle.sftp_server.specs.Sessions.{BeginsWithGreeting}
 
 -- what the bytes begin with; `over`: no more will come
@@ -39,7 +39,7 @@ ReadsFirst left0 left1 ahead0 ahead1 result =
     (start : Tree) (past : StreamBytes) (written logged : Option (List ℕ))
     → IsUnopenedYet past (stream_bytes left0 written logged) ahead0
     → MatchResult result (λ _. IsUnopenedYet past (stream_bytes left1 written logged) ahead1)
-    (λ stop. Serves start past (stream_bytes left1 written logged) (ended_by stop))
+    (λ stop. Stops start past (stream_bytes left1 written logged) stop None)
 
 -- From a session that was not opened yet, whatever the reader has left, a call opens it, or stops it.
 abbrev pub OpensOn : Ahead → Ahead → Option (List ℕ) → Option (List ℕ) → Option (List ℕ) → Option (List ℕ)
@@ -49,4 +49,5 @@ OpensOn ahead0 ahead1 written0 written1 logged0 logged1 result =
     → IsUnopenedYet past (stream_bytes left written0 logged0) ahead0
     → MatchResult result
     (λ _. IsRunning start past (stream_bytes left written1 logged1) ahead1 (at_start (started start) 1024) None)
-    (λ stop. Serves start past (stream_bytes left written1 logged1) (ended_by stop))
+    (λ stop. Stops start past (stream_bytes left written1 logged1) stop
+    (tree_left (at_start (started start) 1024)))

@@ -18,6 +18,7 @@ use Rattle.sftp_tree.specs.Tree.{Tree}
 use Rattle.sftp_handles.specs.State.{State, Good}
 use Rattle.sftp_server.specs.declared.ends.Ended.{Ended}
 use Rattle.sftp_server.specs.declared.ends.Ended.TheVariants as ends
+use Rattle.sftp_server.specs.declared.ends.SessionEnd.{SessionEnd}
 use Rattle.sftp_server.specs.declared.ends.SessionFault.{SessionFault}
 use Rattle.sftp_server.specs.declared.ends.SessionFault.TheVariants as faults
 use Rattle.sftp_server.specs.declared.ends.Stream.{Stream}
@@ -28,7 +29,8 @@ use Rattle.sftp_server.specs.declared.queue.Entry.{Entry}
 use Rattle.sftp_server.specs.Machine.{Machine, is_unsent}
 use Rattle.sftp_server.specs.Core.{started, IsReached}
 use Rattle.sftp_server.specs.Served.{session_packets, sent_by, recorded, IsGreeting, answered_last, BeginsWithId}
-use Rattle.sftp_server.specs.Served.{BeginsWithInit, EndsSession, Served}
+use Rattle.sftp_server.specs.Served.{BeginsWithInit, EndsSession, Served, closed_tree}
+use Rattle.sftp_server.specs.Left.{IsLeft}
 
 -- ---- the streams
 
@@ -59,11 +61,40 @@ pub record Serves (start : Tree) (past now : StreamBytes) (ended : Ended) : Type
   pub passed : Passed past now input output log
   pub served : Served start input (IsAtEnd now.left) output log ended
 
+-- what was read, written and logged between two moments is that of a session on this tree that left this one, if any
+pub record Leaves (start : Tree) (past now : StreamBytes) (left : Option Tree) : Type 0 where
+  pub input : List ℕ
+  pub output : List ℕ
+  pub log : List ℕ
+  pub passed : Passed past now input output log
+  pub is_left : IsLeft start input output log left
+
+-- The tree that a session left, beside its end: none if the end has a tree.
+abbrev pub LeavesAt : Tree → StreamBytes → StreamBytes → Ended → Option Tree → Type 0
+LeavesAt start past now (ends.Finished end) left = left ≡ None
+LeavesAt start past now (ends.Fault end fault) left = left ≡ None
+LeavesAt start past now (ends.Io stream) left = Leaves start past now left
+LeavesAt start past now ends.NoMemory left = Leaves start past now left
+
+-- a session ended so, and left that
+abbrev pub IsSessionEnd : Tree → StreamBytes → StreamBytes → SessionEnd → Type 0
+IsSessionEnd start past now end =
+    Serves start past now end.ended × LeavesAt start past now end.ended end.left
+
 -- ---- what stops a session before its end
 
 abbrev pub ended_by : Stop → Ended
 ended_by (stops.Io stream) = ends.Io stream
 ended_by stops.NoMemory = ends.NoMemory
+
+-- a session was stopped so, and left this tree, if any
+pub record Stops (start : Tree) (past now : StreamBytes) (stop : Stop) (left : Option Tree) : Type 0 where
+  pub served : Serves start past now (ended_by stop)
+  pub leaves : Leaves start past now left
+
+-- the tree that a core leaves, once nothing is open
+abbrev pub tree_left : Machine State → Option Tree
+tree_left core = Some (closed_tree core.state)
 
 abbrev pub is_same_stream : Stream → Stream → Bool
 is_same_stream streams.Reader streams.Reader = true
@@ -197,9 +228,4 @@ SendsOn core0 core1 written0 written1 logged0 logged1 result =
     (start : Tree) (past : StreamBytes) (left : Option (List ℕ)) (ahead : Ahead) (fault : Option SessionFault)
     → IsRunning start past (stream_bytes left written0 logged0) ahead core0 fault
     → MatchResult result (λ _. IsRunning start past (stream_bytes left written1 logged1) ahead core1 fault)
-    (λ stop. Serves start past (stream_bytes left written1 logged1) (ended_by stop))
-
--- a call served a session to its end, or it was stopped
-abbrev pub ServesOn : Tree → StreamBytes → StreamBytes → Result Ended Stop → Type 0
-ServesOn start past now result =
-    MatchResult result (λ ended. Serves start past now ended) (λ stop. Serves start past now (ended_by stop))
+    (λ stop. Stops start past (stream_bytes left written1 logged1) stop (tree_left core1))

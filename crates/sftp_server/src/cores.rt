@@ -242,11 +242,19 @@ impl Core {
         ensures same { IfErr result (λ core. core ≡ self) }
     {
         if self.queue.len() == 0 {
-            drop(self.queue);
-            drop(self.readiness);
-            Ok(self.session.into_tree())
+            Ok(self.into_tree())
         } else {
             Err(self)
         }
+    }
+
+    /// The tree of the session with nothing open, whatever is unanswered. Requests that are pending are not done. Does
+    /// not allocate.
+    pub(crate) fn into_tree(self) -> Tree
+        ensures { result ≡ closed_tree self.state }
+    {
+        drop(self.queue);
+        drop(self.readiness);
+        self.session.into_tree()
     }
 }

@@ -23,6 +23,16 @@ pub enum Ended {
     NoMemory,
 }
 
+/// How a session ended, and the tree that it left if it was stopped.
+#[derive(Debug, Drop)]
+pub struct SessionEnd {
+    /// How it ended.
+    pub ended: Ended,
+    /// If it ended by `Io` or `NoMemory`, the tree of the requests that were done, with nothing open. `None` if no
+    /// session was opened, so that nothing was written or logged; and at the other ends, which have a tree themselves.
+    pub left: Option<Tree>,
+}
+
 /// How a client broke the protocol (draft-ietf-secsh-filexfer-02, sections 3 and 4).
 #[derive(Clone, Copy, Debug, PartialEq, Eq, Error)]
 pub enum SessionFault {
@@ -69,6 +79,17 @@ impl Stop {
         match self {
             Stop::Io(stream) => Ended::Io(stream),
             Stop::NoMemory => Ended::NoMemory,
+        }
+    }
+
+    /// The end of a session that was stopped so, and left this tree.
+    pub(crate) fn leaving(self, left: Option<Tree>) -> SessionEnd
+        ensures ended { result.ended ≡ ended_by self }
+        ensures left { result.left ≡ left }
+    {
+        SessionEnd {
+            ended: self.ended(),
+            left,
         }
     }
 }

@@ -10,18 +10,21 @@ ghost use Rattle.sftp_wire.specs.declared.packets.Packet.{Packet};
 ghost use Rattle.sftp_transcript.specs.Transcript.{IsRecord};
 ghost use Rattle.sftp_server.specs.Core.{IsReached};
 ghost use Rattle.sftp_server.specs.Served.{IsOpened};
+ghost use Rattle.sftp_server.specs.Left.{LeadsTo};
 
 use sftp_handles::laws::{good_stays_good, some_reply};
 
 /// Whatever acts a core does, from a good state with nothing asked: the events so far are the beginning of an explained
-/// session, and once the queue is empty they are explained and end in the state of the core. The window is never
-/// exceeded, and the state stays good.
+/// session, and once the queue is empty they are explained and end in the state of the core. The requests done so far
+/// lead to that state, one at a time in the order asked. The window is never exceeded, and the state stays good.
 pub fn sessions_are_explained()
     ensures begun { (start : State) (window : ℕ) (events : List Event) (core : Machine State) →
         Good start → window ≤ 1024 → IsReached start window events core → BeginsFrom Allowed start events }
     ensures explained { (start : State) (window : ℕ) (events : List Event) (core : Machine State) →
         Good start → window ≤ 1024 → IsReached start window events core → core.queue ≡ [] →
         Explained Allowed start events core.state }
+    ensures done { (start : State) (window : ℕ) (events : List Event) (core : Machine State) →
+        Good start → window ≤ 1024 → IsReached start window events core → LeadsTo Allowed start events core.state }
     ensures in_window { (start : State) (window : ℕ) (events : List Event) (core : Machine State) →
         Good start → window ≤ 1024 → IsReached start window events core → IsTrue (in_window events) }
     ensures good { (start : State) (window : ℕ) (events : List Event) (core : Machine State) →

@@ -23,8 +23,8 @@ mod working;
 
 pub use acts::Act;
 pub use cores::Core;
-pub use ends::{Ended, SessionFault, Stream};
+pub use ends::{Ended, SessionEnd, SessionFault, Stream};
 pub use refusals::{Did, Refuse};
 pub use schedules::{InOrder, Schedule, Shuffle};
 pub use scripts::run_script;
-pub use serving::serve;
+pub use serving::{serve, serve_keeping_tree};

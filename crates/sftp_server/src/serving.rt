@@ -6,11 +6,12 @@ ghost use Rattle.sftp_server.specs.declared.ends.Stream.TheVariants as streams;
 ghost use Rattle.sftp_server.specs.declared.taking.Front.TheVariants as fronts;
 ghost use Rattle.sftp_server.specs.declared.serving.Next.TheVariants as nexts;
 ghost use Rattle.sftp_server.specs.Sessions.{stream_bytes, IsUnused, IsLogging, Serves, CountsCall, CountsEnd};
-ghost use Rattle.sftp_server.specs.Sessions.{StreamBytes, input_limit, IsUnopenedYet, BeginsWithGreeting, ServesOn};
-ghost use Rattle.sftp_server.specs.Ending.{closed_end, IsClosed, EndsOn, ReadsOn, RunsOut, GoesOn};
+ghost use Rattle.sftp_server.specs.Sessions.{StreamBytes, input_limit, IsUnopenedYet, BeginsWithGreeting};
+ghost use Rattle.sftp_server.specs.Sessions.{LeavesAt, IsSessionEnd};
+ghost use Rattle.sftp_server.specs.Ending.{closed_end, EndsOn, ReadsOn, RunsOut, GoesOn};
 
 use crate::cores::Core;
-use crate::ends::{Ended, SessionFault, Stop};
+use crate::ends::{Ended, SessionEnd, SessionFault, Stop};
 use crate::input::Input;
 use crate::opening::{First, await_init, greet};
 use crate::schedules::Schedule;
@@ -62,27 +63,32 @@ pub fn serve<R: Source, W: Sink, L: Sink, S: Schedule>(
     ensures counts_writer { CountsEnd streams.Writer result (W.failures writer.old) (W.failures writer.new) }
     ensures counts_log { CountsEnd streams.Log result log.old.failures log.new.failures }
 {
-    match run(tree, reader, writer, log, schedule) {
-        Ok(ended) => ended,
-        Err(stop) => stop.ended(),
-    }
+    let SessionEnd { ended, left } = serve_keeping_tree(tree, reader, writer, log, schedule);
+    drop(left);
+    ended
 }
 
-/// Serves a session to its end.
-fn run<R: Source, W: Sink, L: Sink, S: Schedule>(
+/// Serves a session as `serve` does, and returns the tree also if a stream failed or memory ran out, so that nothing
+/// that was uploaded is lost. That tree is the one to which the requests that were done lead, one at a time in the
+/// order asked; each request whose reply was written, even in part, is among them (draft, section 6.1).
+///
+/// `log` has no records yet, and no call on it failed. Failures are counted up to 2^64 - 1.
+pub fn serve_keeping_tree<R: Source, W: Sink, L: Sink, S: Schedule>(
     tree: Tree,
     reader: &mut R,
     writer: &mut W,
     log: &mut Writer<L>,
     schedule: &mut S,
-) -> Result<Ended, Stop>
+) -> SessionEnd
     requires { IsUnused log.old }
-    ensures served { ServesOn tree (stream_bytes (R.left reader.old) (W.written writer.old) log.old.bytes)
-        (stream_bytes (R.left reader.new) (W.written writer.new) log.new.bytes) result }
-    ensures closed { IfOk result IsClosed }
-    ensures counts_reader { CountsCall streams.Reader result (R.failures reader.old) (R.failures reader.new) }
-    ensures counts_writer { CountsCall streams.Writer result (W.failures writer.old) (W.failures writer.new) }
-    ensures counts_log { CountsCall streams.Log result log.old.failures log.new.failures }
+    ensures served { Serves tree (stream_bytes (R.left reader.old) (W.written writer.old) log.old.bytes)
+        (stream_bytes (R.left reader.new) (W.written writer.new) log.new.bytes) result.ended }
+    ensures left { LeavesAt tree (stream_bytes (R.left reader.old) (W.written writer.old) log.old.bytes)
+        (stream_bytes (R.left reader.new) (W.written writer.new) log.new.bytes) result.ended result.left }
+    // A stream fails once if the session ends because of it, and otherwise never.
+    ensures counts_reader { CountsEnd streams.Reader result.ended (R.failures reader.old) (R.failures reader.new) }
+    ensures counts_writer { CountsEnd streams.Writer result.ended (W.failures writer.old) (W.failures writer.new) }
+    ensures counts_log { CountsEnd streams.Log result.ended log.old.failures log.new.failures }
 {
     // Dear to prove: the tree, or what was read, is dropped at each way out.
     let alloc = tree.allocator();
@@ -90,17 +96,20 @@ fn run<R: Source, W: Sink, L: Sink, S: Schedule>(
         Ok(input) => input,
         Err(stop) => {
             drop(tree);
-            return Err(stop);
+            return stop.leaving(None);
         }
     };
     match await_init(alloc, &mut input, reader) {
         Ok(First::Init(count)) => serve_from(
             tree, &mut input, count, reader, writer, log, schedule,
         ),
-        Ok(First::Fault(fault)) => Ok(Ended::Fault(tree, fault)),
+        Ok(First::Fault(fault)) => SessionEnd {
+            ended: Ended::Fault(tree, fault),
+            left: None,
+        },
         Err(stop) => {
             drop(tree);
-            Err(stop)
+            stop.leaving(None)
         }
     }
 }
@@ -114,38 +123,36 @@ fn serve_from<R: Source, W: Sink, L: Sink, S: Schedule>(
     writer: &mut W,
     log: &mut Writer<L>,
     schedule: &mut S,
-) -> Result<Ended, Stop>
+) -> SessionEnd
     requires unused { IsUnused log.old }
     requires whole { BeginsWithGreeting input.old.held count }
     // For any session that has only read so far.
     ensures served { (past : StreamBytes)
         → IsUnopenedYet past (stream_bytes (R.left reader.old) (W.written writer.old) log.old.bytes) input.old
-        → ServesOn tree past (stream_bytes (R.left reader.new) (W.written writer.new) log.new.bytes) result }
-    ensures closed { IfOk result IsClosed }
-    ensures counts_reader { CountsCall streams.Reader result (R.failures reader.old) (R.failures reader.new) }
-    ensures counts_writer { CountsCall streams.Writer result (W.failures writer.old) (W.failures writer.new) }
-    ensures counts_log { CountsCall streams.Log result log.old.failures log.new.failures }
+        → IsSessionEnd tree past (stream_bytes (R.left reader.new) (W.written writer.new) log.new.bytes) result }
+    ensures counts_reader { CountsEnd streams.Reader result.ended (R.failures reader.old) (R.failures reader.new) }
+    ensures counts_writer { CountsEnd streams.Writer result.ended (W.failures writer.old) (W.failures writer.new) }
+    ensures counts_log { CountsEnd streams.Log result.ended log.old.failures log.new.failures }
 {
     // Dear to prove: the core and the room for a packet are dropped at each way out.
     let alloc = tree.allocator();
-    let mut core = Core::new(tree, WINDOW)?;
+    let Ok(mut core) = Core::new(tree, WINDOW) else {
+        return Stop::NoMemory.leaving(None);
+    };
     let Ok(mut output) = Vec::with_capacity(alloc, PACKET_LIMIT) else {
         drop(core);
-        return Err(Stop::NoMemory);
+        return Stop::NoMemory.leaving(None);
     };
     match greet(alloc, input, count, &mut output, writer, log) {
         Ok(()) => {}
-        Err(stop) => {
-            drop(core);
-            return Err(stop);
-        }
+        Err(stop) => return stop.leaving(Some(core.into_tree())),
     }
     match serve_requests(input, &mut core, &mut output, reader, writer, log, schedule) {
-        Ok(fault) => Ok(end(core, fault)),
-        Err(stop) => {
-            drop(core);
-            Err(stop)
-        }
+        Ok(fault) => SessionEnd {
+            ended: end(core, fault),
+            left: None,
+        },
+        Err(stop) => stop.leaving(Some(core.into_tree())),
     }
 }
 

@@ -204,6 +204,7 @@ fn deliver(
     ensures moved { OnOk result (input.new ≡ ahead_without count input.old) }
     ensures err { IfErr result (λ stop. stop ≡ stops.NoMemory) }
     ensures same { OnErr result (input.new ≡ input.old) }
+    ensures kept { OnErr result (core.new ≡ core.old) }
 {
     match core.deliver(request) {
         Ok(()) => {

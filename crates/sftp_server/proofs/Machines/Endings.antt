@@ -1,6 +1,6 @@
 -- A machine can go on until each request is answered, and its session is then explained.
 use Rattle.std.proofs.Common.{◌≡◌, true, List, [], ◌∷◌, ◌++◌, Some, None, refl, sym, ap, subst, ◌∙◌}
-use Rattle.std.proofs.Common.{append_assoc, append-nil}
+use Rattle.std.proofs.Common.{append_assoc, append-nil, inr}
 use Rattle.std.specs.List.{AllByRecursion}
 use Rattle.std.proofs.lemmas.Bool.{and_from}
 use Rattle.sftp_wire.specs.declared.packets.Request.{Request}
@@ -79,7 +79,7 @@ module _ {S : Type 0} (step : StepOf S) (clash : ClashOf S) (good : S → Type 0
         pairs = (request, first.reply) ∷ rest.pairs;
         end = rest.end;
         more = Replied first.reply ∷ rest.more;
-        finishes = (first.reply, first.end, rest.pairs, first.allowed, rest.finishes, refl);
+        finishes = inr (first.reply, first.end, rest.pairs, first.allowed, rest.finishes, refl);
         recordable = (first.spelled, rest.recordable);
         answers = answers-next request first.reply items rest.pairs rest.more same rest.answers;
       }

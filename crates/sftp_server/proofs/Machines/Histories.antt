@@ -1,5 +1,5 @@
 -- The requests of a machine with all that is known of their replies, and what a machine keeps of them.
-use Rattle.std.proofs.Common.{◌≡◌, ◌≤◌, List, [], ◌∷◌, ◌++◌, map, Option, Some, None}
+use Rattle.std.proofs.Common.{◌≡◌, ◌⊎◌, ◌≤◌, List, [], ◌∷◌, ◌++◌, map, Option, Some, None}
 use Rattle.std.specs.List.{AllByRecursion}
 use Rattle.sftp_wire.specs.declared.packets.Packet.TheVariants.{Reply as reply_packet}
 use Rattle.sftp_wire.specs.declared.packets.Request.{Request}
@@ -79,19 +79,20 @@ IsReplyFor request (sent reply) = Unit {0}
 abbrev pub IsItem : (Request → Type 0) → Item → Type 0
 IsItem value item = value item.0 × IsReplyFor item.0 item.1
 
--- The pending requests, done one after the other from this state with any replies, lead to the end. The pairs are all
--- requests with their replies.
+-- Some of the pending requests, done one after the other from this state with any replies, lead to the end; the others
+-- are left out. The pairs are the requests that are done then, with their replies.
 abbrev pub Finishes : {S : Type 0} → StepOf S → S → List Item → List Pair → S → Type 0
 Finishes step s [] pairs end = (pairs ≡ []) × (end ≡ s)
 Finishes {S} step s ((request, pending) ∷ items) pairs end =
-    (reply : Reply) × (mid : S) × (others : List Pair) × step s request reply mid × Finishes step mid items others end
-    × (pairs ≡ (request, reply) ∷ others)
+    Finishes step s items pairs end
+    ⊎ ((reply : Reply) × (mid : S) × (others : List Pair) × step s request reply mid
+    × Finishes step mid items others end × (pairs ≡ (request, reply) ∷ others))
 Finishes step s ((request, done reply) ∷ items) pairs end =
     (others : List Pair) × Finishes step s items others end × (pairs ≡ (request, reply) ∷ others)
 Finishes step s ((request, sent reply) ∷ items) pairs end =
     (others : List Pair) × Finishes step s items others end × (pairs ≡ (request, reply) ∷ others)
 
--- however the pending requests are done, all requests are a run from the start
+-- whichever of the pending requests are done, and however, the requests done are a run from the start
 abbrev pub RunsOn : {S : Type 0} → StepOf S → S → List Pair → S → List Item → Type 0
 RunsOn {S} step start past s items =
     (pairs : List Pair) (end : S) → Finishes step s items pairs end → Run step start (past ++ pairs) end

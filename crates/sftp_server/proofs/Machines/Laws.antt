@@ -11,10 +11,12 @@ use Rattle.sftp_transcript.specs.declared.events.Event.{Event}
 use Rattle.sftp_transcript.specs.Explained.{Explained, BeginsFrom, in_window}
 use Rattle.sftp_server.specs.Machine.{Machine, at_start, IsSent}
 use Rattle.sftp_server.specs.Core.{server_clash, IsValue, IsReached}
+use Rattle.sftp_server.specs.Left.{LeadsTo}
 use Rattle.sftp_server.proofs.Machines.Premises.{Premises, HasReply}
 use Rattle.sftp_server.proofs.Machines.Histories.{Follows, done, IsReplyFor}
 use Rattle.sftp_server.proofs.Machines.Acts.{follows-start, follows-acts, follows-reply}
 use Rattle.sftp_server.proofs.Machines.Endings as endings
+use Rattle.sftp_server.proofs.Machines.Kept as kept
 
 -- a good state stays good
 abbrev pub StaysGood : Type 0
@@ -73,6 +75,12 @@ module _ (stays : StaysGood) (total : IsTotal) where
   explained start window events core good bound reached empty =
       endings.explained Allowed server_clash Good IsValue premises start core events
       (follows start window events core good bound reached) empty
+
+  -- the requests done so far, in the order asked, lead to the core's state
+  pub leads-to : (start : State) (window : ℕ) (events : List Event) (core : Machine State) → Good start
+      → window ≤ 1024 → IsReached start window events core → LeadsTo Allowed start events core.state
+  leads-to start window events core good bound reached =
+      kept.leads-to Allowed Good IsValue start core events (follows start window events core good bound reached)
 
   pub windowed : (start : State) (window : ℕ) (events : List Event) (core : Machine State) → Good start
       → window ≤ 1024 → IsReached start window events core → in_window events ≡ true

@@ -1,6 +1,6 @@
 -- How the run of all requests goes on with each act.
-use Rattle.std.proofs.Common.{◌≡◌, not, true, false, List, [], ◌∷◌, ◌++◌, refl, sym, ap, subst, ◌∙◌}
-use Rattle.std.proofs.Common.{append_assoc}
+use Rattle.std.proofs.Common.{◌≡◌, ◌⊎◌, not, true, false, List, [], ◌∷◌, ◌++◌, refl, sym, ap, subst, ◌∙◌}
+use Rattle.std.proofs.Common.{append_assoc, inl, inr}
 use Rattle.std.specs.List.{AllByRecursion}
 use Rattle.std.proofs.lemmas.Bool.{and_parts, and_from, not-true, not_from_false}
 use Rattle.sftp_wire.specs.declared.packets.Request.{Request}
@@ -33,9 +33,12 @@ pub record DoneLast {S : Type 0} (step : StepOf S) (s : S) (items : List Item) (
   pub last : step mid request reply end
   pub pairs_are : pairs ≡ others ++ (request, reply) ∷ []
 
+-- the request is left out, or it is done last
 finishes-asked : {S : Type 0} (step : StepOf S) (s end : S) (items : List Item) (request : Request) (pairs : List Pair)
-    → Finishes step s (items ++ (request, pending) ∷ []) pairs end → DoneLast step s items request pairs end
-finishes-asked step s end [] request pairs f = record {
+    → Finishes step s (items ++ (request, pending) ∷ []) pairs end
+    → Finishes step s items pairs end ⊎ DoneLast step s items request pairs end
+finishes-asked step s end [] request pairs (inl f) = inl f
+finishes-asked step s end [] request pairs (inr f) = inr record {
   others = [];
   mid = s;
   reply = f.0;
@@ -43,43 +46,70 @@ finishes-asked step s end [] request pairs f = record {
   last = subst (λ m. step s request f.0 m) (sym f.4.1) f.3;
   pairs_are = f.5 ∙ ap (λ (ps : List Pair). (request, f.0) ∷ ps) f.4.0;
 }
-finishes-asked step s end ((first, pending) ∷ items) request pairs f =
-    let rest = finishes-asked step f.1 end items request f.2 f.4 in
-    record {
-      others = (first, f.0) ∷ rest.others;
-      mid = rest.mid;
-      reply = rest.reply;
-      before = (f.0, f.1, rest.others, f.3, rest.before, refl);
-      last = rest.last;
-      pairs_are = f.5 ∙ ap (λ (ps : List Pair). (first, f.0) ∷ ps) rest.pairs_are;
-    }
+finishes-asked step s end ((first, pending) ∷ items) request pairs (inl f) =
+    elim (finishes-asked step s end items request pairs f) [
+      | inl out ↦ inl (inl out)
+      | inr rest ↦ inr record {
+        others = rest.others;
+        mid = rest.mid;
+        reply = rest.reply;
+        before = inl rest.before;
+        last = rest.last;
+        pairs_are = rest.pairs_are;
+      }
+    ]
+finishes-asked step s end ((first, pending) ∷ items) request pairs (inr f) =
+    elim (finishes-asked step f.1 end items request f.2 f.4) [
+      | inl out ↦ inl (inr (f.0, f.1, f.2, f.3, out, f.5))
+      | inr rest ↦ inr record {
+        others = (first, f.0) ∷ rest.others;
+        mid = rest.mid;
+        reply = rest.reply;
+        before = inr (f.0, f.1, rest.others, f.3, rest.before, refl);
+        last = rest.last;
+        pairs_are = f.5 ∙ ap (λ (ps : List Pair). (first, f.0) ∷ ps) rest.pairs_are;
+      }
+    ]
 finishes-asked step s end ((first, done reply) ∷ items) request pairs f =
-    let rest = finishes-asked step s end items request f.0 f.1 in
-    record {
-      others = (first, reply) ∷ rest.others;
-      mid = rest.mid;
-      reply = rest.reply;
-      before = (rest.others, rest.before, refl);
-      last = rest.last;
-      pairs_are = f.2 ∙ ap (λ (ps : List Pair). (first, reply) ∷ ps) rest.pairs_are;
-    }
+    elim (finishes-asked step s end items request f.0 f.1) [
+      | inl out ↦ inl (f.0, out, f.2)
+      | inr rest ↦ inr record {
+        others = (first, reply) ∷ rest.others;
+        mid = rest.mid;
+        reply = rest.reply;
+        before = (rest.others, rest.before, refl);
+        last = rest.last;
+        pairs_are = f.2 ∙ ap (λ (ps : List Pair). (first, reply) ∷ ps) rest.pairs_are;
+      }
+    ]
 finishes-asked step s end ((first, sent reply) ∷ items) request pairs f =
-    let rest = finishes-asked step s end items request f.0 f.1 in
-    record {
-      others = (first, reply) ∷ rest.others;
-      mid = rest.mid;
-      reply = rest.reply;
-      before = (rest.others, rest.before, refl);
-      last = rest.last;
-      pairs_are = f.2 ∙ ap (λ (ps : List Pair). (first, reply) ∷ ps) rest.pairs_are;
-    }
+    elim (finishes-asked step s end items request f.0 f.1) [
+      | inl out ↦ inl (f.0, out, f.2)
+      | inr rest ↦ inr record {
+        others = (first, reply) ∷ rest.others;
+        mid = rest.mid;
+        reply = rest.reply;
+        before = (rest.others, rest.before, refl);
+        last = rest.last;
+        pairs_are = f.2 ∙ ap (λ (ps : List Pair). (first, reply) ∷ ps) rest.pairs_are;
+      }
+    ]
+
+-- a run that ends with this request
+run-last : {S : Type 0} (step : StepOf S) (start s end : S) (past : List Pair) (items : List Item) (request : Request)
+    (pairs : List Pair) → RunsOn step start past s items → DoneLast step s items request pairs end
+    → Run step start (past ++ pairs) end
+run-last step start s end past items request pairs runs d =
+    rw (d.pairs_are, ← append_assoc past d.others ((request, d.reply) ∷ []))
+    (run-append step start d.mid end (past ++ d.others) request d.reply (runs d.others d.mid d.before) d.last)
 
 pub runs-asked : {S : Type 0} (step : StepOf S) (start s : S) (past : List Pair) (items : List Item) (request : Request)
     → RunsOn step start past s items → RunsOn step start past s (items ++ (request, pending) ∷ [])
 runs-asked step start s past items request runs pairs end f =
-    let d = finishes-asked step s end items request pairs f in
-    rw (d.pairs_are, ← append_assoc past d.others ((request, d.reply) ∷ []))
-    (run-append step start d.mid end (past ++ d.others) request d.reply (runs d.others d.mid d.before) d.last)
+    elim (finishes-asked step s end items request pairs f) [
+      | inl out ↦ runs pairs end out
+      | inr d ↦ run-last step start s end past items request pairs runs d
+    ]
 
 -- ---- a request done
 
@@ -102,7 +132,7 @@ module _ {S : Type 0} (step : StepOf S) (clash : ClashOf S) (good : S → Type 0
   free-kept ((o, sent reply) ∷ items) s end p q a fine is_p is_q all apart does free =
       free-kept items s end p q a fine is_p is_q all.1 apart does free
 
-  -- a request that was done before pending ones of which it is free could as well be done after them
+  -- a request that was done before pending ones of which it is free could as well be done after those that are done
   finishes-worked : (front : List Item) (s next end : S) (request : Request) (reply : Reply) (back : List Item)
       (pairs : List Pair) → good s → value request → AllByRecursion (IsItem value) front
       → is_free_of clash s (entries_of front) request ≡ true → step s request reply next
@@ -110,15 +140,18 @@ module _ {S : Type 0} (step : StepOf S) (clash : ClashOf S) (good : S → Type 0
       → Finishes step s (front ++ (request, pending) ∷ back) pairs end
   unfolding is_free_of
   finishes-worked [] s next end request reply back pairs fine is all free does f =
-      (reply, next, f.0, does, f.1, f.2)
-  finishes-worked ((p, pending) ∷ front) s next end request reply back pairs fine is all free does f =
+      inr (reply, next, f.0, does, f.1, f.2)
+  finishes-worked ((p, pending) ∷ front) s next end request reply back pairs fine is all free does (inl f) =
+      let parts = and_parts (not (clash s p request)) (is_free_of clash s (entries_of front) request) free in
+      inl (finishes-worked front s next end request reply back pairs fine is all.1 parts.1 does f)
+  finishes-worked ((p, pending) ∷ front) s next end request reply back pairs fine is all free does (inr f) =
       let parts = and_parts (not (clash s p request)) (is_free_of clash s (entries_of front) request) free in
       let apart = not-true (clash s p request) parts.0 in
       let swapped = laws.exchange s next f.1 p request f.0 reply fine all.0.0 is apart does f.3 in
       let still = laws.stays_good s swapped.0 p f.0 fine all.0.0 swapped.1 in
       let later = free-kept front s swapped.0 p request f.0 fine all.0.0 is all.1 apart swapped.1 parts.1 in
       let rest = finishes-worked front swapped.0 f.1 end request reply back f.2 still is all.1 later swapped.2 f.4 in
-      (f.0, swapped.0, f.2, swapped.1, rest, f.5)
+      inr (f.0, swapped.0, f.2, swapped.1, rest, f.5)
   finishes-worked ((p, done given) ∷ front) s next end request reply back pairs fine is all free does f =
       (f.0, finishes-worked front s next end request reply back f.0 fine is all.1 free does f.1, f.2)
   finishes-worked ((p, sent given) ∷ front) s next end request reply back pairs fine is all free does f =
@@ -138,8 +171,10 @@ finishes-sent : {S : Type 0} (step : StepOf S) (s end : S) (front : List Item) (
     (back : List Item) (pairs : List Pair) → Finishes step s (front ++ (request, sent reply) ∷ back) pairs end
     → Finishes step s (front ++ (request, done reply) ∷ back) pairs end
 finishes-sent step s end [] request reply back pairs f = f
-finishes-sent step s end ((p, pending) ∷ front) request reply back pairs f =
-    (f.0, f.1, f.2, f.3, finishes-sent step f.1 end front request reply back f.2 f.4, f.5)
+finishes-sent step s end ((p, pending) ∷ front) request reply back pairs (inl f) =
+    inl (finishes-sent step s end front request reply back pairs f)
+finishes-sent step s end ((p, pending) ∷ front) request reply back pairs (inr f) =
+    inr (f.0, f.1, f.2, f.3, finishes-sent step f.1 end front request reply back f.2 f.4, f.5)
 finishes-sent step s end ((p, done given) ∷ front) request reply back pairs f =
     (f.0, finishes-sent step s end front request reply back f.0 f.1, f.2)
 finishes-sent step s end ((p, sent given) ∷ front) request reply back pairs f =

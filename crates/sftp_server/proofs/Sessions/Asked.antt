@@ -1,7 +1,7 @@
 -- A request is taken in a running session, or a fault is found in front.
 use Rattle.std.proofs.Common.{◌≡◌, ◌<◌, ◌≤◌, ◌⊎◌, ℕ, ◌+◌, List, [], ◌∷◌}
-use Rattle.std.proofs.Common.{◌++◌, length, take, drop, Option, Some, None, Result, Ok, Err, IfOk, IfErr, OnOk, IsTrue}
-use Rattle.std.proofs.Common.{inl, inr, refl, sym, ap, ◌∙◌, subst, subst₂, arith, append_assoc}
+use Rattle.std.proofs.Common.{◌++◌, length, take, drop, Option, Some, None, Result, Ok, Err, IfOk, IfErr, OnOk, OnErr}
+use Rattle.std.proofs.Common.{IsTrue, inl, inr, refl, sym, ap, ◌∙◌, subst, subst₂, arith, append_assoc}
 use Rattle.std.specs.Io.KnownBytes.{Appends, Consumes}
 use Rattle.std.specs.List.{AllByRecursion}
 use Rattle.std.proofs.KnownBytes.{Appends-trans}
@@ -25,7 +25,6 @@ use Rattle.sftp_tree.specs.Tree.{Tree}
 use Rattle.sftp_tree.proofs.Requests.AskValues.{encoded-ask}
 use Rattle.sftp_handles.specs.State.{State}
 use Rattle.sftp_handles.proofs.TotalSteps.SpelledRequests.{spelled-askable}
-use Rattle.sftp_server.specs.declared.ends.Ended.TheVariants as ends
 use Rattle.sftp_server.specs.declared.ends.SessionFault.{SessionFault}
 use Rattle.sftp_server.specs.declared.ends.SessionFault.TheVariants as faults
 use Rattle.sftp_server.specs.declared.ends.Stop.{Stop}
@@ -38,12 +37,13 @@ use Rattle.sftp_server.specs.declared.refusals.Refuse.TheVariants as refusals
 use Rattle.sftp_server.specs.Machine.{Machine, taken, can_take, is_unsent}
 use Rattle.sftp_server.specs.Core.{started, IsValue, IsReached}
 use Rattle.sftp_server.specs.Fronts.{fault_of, found_refused, TakesOn}
-use Rattle.sftp_server.specs.Served.{session_packets, sent_by, recorded}
-use Rattle.sftp_server.specs.Sessions.{StreamBytes, stream_bytes, Serves, ended_by, IsLogging, Ahead}
+use Rattle.sftp_server.specs.Served.{session_packets, sent_by, recorded, IsListed, IsBeginning, IsCutInLast}
+use Rattle.sftp_server.specs.Sessions.{StreamBytes, stream_bytes, Passed, Stops, tree_left, IsLogging, Ahead}
 use Rattle.sftp_server.specs.Sessions.{ahead_without, IsRunning, IsFaultAhead}
 use Rattle.sftp_server.proofs.Machines.Reached.{reached-taken}
 use Rattle.sftp_server.proofs.Sessions.Lists.{asked-session, session-more, events-more}
-use Rattle.sftp_server.proofs.Sessions.Stops.{no-opening, reached-begins, stopped-no-memory}
+use Rattle.sftp_server.proofs.Sessions.Stops.{no-opening, reached-begins, reached-leaves, is-beginning}
+use Rattle.sftp_server.proofs.Sessions.Stops.{stopped-no-memory}
 
 -- what holds of a request that can be encoded
 pub request-value : (request : Request) → HasSpelling (request_packet request) → IsValue request
@@ -141,48 +141,69 @@ module _ (start : Tree) (past : StreamBytes) (left written : Option (List ℕ)) 
 
   -- memory ran out once the request was logged
   pub asked-no-memory : IsAppended log0 (record_text (request_packet request)) log1
-      → Serves start past (stream_bytes left written log1.bytes) ends.NoMemory
+      → Stops start past (stream_bytes left written log1.bytes) stops.NoMemory (tree_left core)
   asked-no-memory logged = stopped-no-memory (asked logged)
 
   -- the log failed in the record of the request
   pub asked-in-part : AppendsPart log0.bytes log1.bytes (record_text (request_packet request))
-      → Serves start past (stream_bytes left written log1.bytes) (ends.Io streams.Log)
+      → Stops start past (stream_bytes left written log1.bytes) (stops.Io streams.Log) (tree_left core)
   asked-in-part fails =
       let session = asked-session running.init running.events request in
+      let passed : Passed past (stream_bytes left written log1.bytes) (sent_by Client before ++ ahead.held)
+      (sent_by Server before) (recorded before ++ fails.part) =
       record {
-        input = sent_by Client before ++ ahead.held;
-        output = sent_by Server before;
-        log = recorded before ++ fails.part;
-        passed = record {
-          read = running.passed.read;
-          written = running.passed.written;
-          logged =
-              Appends-trans past.logged log0.bytes log1.bytes (recorded before) fails.part running.passed.logged
-              fails.appended;
-        };
+        read = running.passed.read;
+        written = running.passed.written;
+        logged =
+            Appends-trans past.logged log0.bytes log1.bytes (recorded before) fails.part running.passed.logged
+            fails.appended;
+      } in
+      let listed : IsListed start after = (
+        running.greeting,
+        refl,
+        events,
+        refl,
+        spelled-more,
+        reached-begins start events (taken core request) running.good reached-more,
+      ) in
+      let cut : IsCutInLast after (recorded before ++ fails.part) =
+      inr (
+        before,
+        request_packet request,
+        fails.part,
+        session-more running.init running.events (Asked request ∷ []),
+        (fails.rest, fails.parts),
+        refl,
+      ) in
+      record {
         served = record {
-          packets = after;
-          rest = drop count ahead.held;
-          listed = (
-            running.greeting,
-            refl,
-            events,
-            refl,
-            spelled-more,
-            reached-begins start events (taken core request) running.good reached-more,
-          );
-          read = read-more;
-          left = (
-            sym session.server,
-            inr (
-              before,
-              request_packet request,
-              fails.part,
-              session-more running.init running.events (Asked request ∷ []),
-              (fails.rest, fails.parts),
-              refl,
-            ),
-          );
+          input = sent_by Client before ++ ahead.held;
+          output = sent_by Server before;
+          log = recorded before ++ fails.part;
+          passed = passed;
+          served = record {
+            packets = after;
+            rest = drop count ahead.held;
+            listed = listed;
+            read = read-more;
+            left = (sym session.server, cut);
+          };
+        };
+        leaves = record {
+          input = sent_by Client before ++ ahead.held;
+          output = sent_by Server before;
+          log = recorded before ++ fails.part;
+          passed = passed;
+          is_left = record {
+            packets = after;
+            rest = drop count ahead.held;
+            listed = listed;
+            read = read-more;
+            written = subst (λ (bytes : List ℕ). IsBeginning (sent_by Server before) bytes) (sym session.server)
+                (is-beginning (sent_by Server before));
+            logged = cut;
+            tree = reached-leaves start running.init events (taken core request) running.good reached-more;
+          };
         };
       }
 
@@ -261,18 +282,19 @@ pub takes-delivered : (ahead0 ahead1 : Ahead) (core0 core1 : Machine State) (log
     → IsTrue (can_take core0 request) → IsLogging log0 → IsAppended log0 (record_text (request_packet request)) log1
     → IfOk result (λ front. front ≡ Taken) → OnOk result (core1 ≡ taken core0 request)
     → OnOk result (ahead1 ≡ ahead_without count ahead0) → IfErr result (λ stop. stop ≡ stops.NoMemory)
-    → TakesOn ahead0 ahead1 core0 core1 log0.bytes log1.bytes result
+    → OnErr result (core1 ≡ core0) → TakesOn ahead0 ahead1 core0 core1 log0.bytes log1.bytes result
 takes-delivered ahead0 ahead1 core0 core1 log0 log1 request count (Ok found) front can logging logged ok took moved
-    err =
+    err kept =
     λ start past left written running.
     let now : StreamBytes = stream_bytes left written log1.bytes in
     subst (λ (f : Front). IsRunning start past now ahead1 core1 (fault_of f)) (sym ok)
     (subst₂ (λ (a : Ahead) (m : Machine State). IsRunning start past now a m None) (sym moved) (sym took)
     (asked start past left written log0 log1 ahead0 core0 request count running front can logging logged))
 takes-delivered ahead0 ahead1 core0 core1 log0 log1 request count (Err stop) front can logging logged ok took moved
-    err =
+    err kept =
     λ start past left written running.
-    subst (λ (s : Stop). Serves start past (stream_bytes left written log1.bytes) (ended_by s)) (sym err)
+    subst₂ (λ (s : Stop) (m : Machine State). Stops start past (stream_bytes left written log1.bytes) s (tree_left m))
+    (sym err) (sym kept)
     (asked-no-memory start past left written log0 log1 ahead0 core0 request count running front can logging logged)
 
 -- a request that was delivered takes bytes

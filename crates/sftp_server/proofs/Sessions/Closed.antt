@@ -1,6 +1,6 @@
 -- A session reads on, or comes to its end.
 use Rattle.std.proofs.Common.{◌≡◌, ◌≢◌, ◌==◌, ◌+◌, ◌*◌, ℕ, Bool, true, false, List, [], ◌∷◌, ◌++◌, length}
-use Rattle.std.proofs.Common.{Option, Some, None, Ok, refl, sym, ap, ◌∙◌, subst, append_assoc, append-nil, inl, inr}
+use Rattle.std.proofs.Common.{Option, Some, None, Ok, refl, sym, ap, ◌∙◌, subst, subst₂, append_assoc, append-nil, inl, inr}
 use Rattle.std.proofs.Common.{true≢false, arith}
 use Rattle.std.proofs.lemmas.Bool.{eqb-true}
 use Rattle.std.specs.Io.KnownBytes.{Consumes, IsAtEnd, Keeps}
@@ -12,6 +12,8 @@ use Rattle.sftp_transcript.specs.declared.events.Event.{Event}
 use Rattle.sftp_tree.specs.Tree.{Tree}
 use Rattle.sftp_handles.specs.State.{State}
 use Rattle.sftp_server.specs.declared.ends.Ended.TheVariants as ends
+use Rattle.sftp_server.specs.declared.ends.Ended.{Ended}
+use Rattle.sftp_server.specs.declared.ends.SessionEnd.{SessionEnd}
 use Rattle.sftp_server.specs.declared.ends.SessionFault.{SessionFault}
 use Rattle.sftp_server.specs.declared.ends.SessionFault.TheVariants as faults
 use Rattle.sftp_server.specs.declared.ends.Stream.TheVariants as streams
@@ -23,11 +25,13 @@ use Rattle.sftp_server.specs.Core.{started}
 use Rattle.sftp_server.specs.Served.{session_packets, sent_by, recorded, EndsSession, IsUnopenedBy, IsOpened, IsServed}
 use Rattle.sftp_server.specs.Served.{closed_tree}
 use Rattle.sftp_server.specs.Sessions.{StreamBytes, stream_bytes, Passed, Serves, Ahead, IsRunning, IsEnding}
-use Rattle.sftp_server.specs.Sessions.{input_limit, IsFaultAhead, IsUnopenedYet, ended_by}
+use Rattle.sftp_server.specs.Sessions.{input_limit, IsFaultAhead, IsUnopenedYet, ended_by, Stops, tree_left}
+use Rattle.sftp_server.specs.Sessions.{Leaves, LeavesAt, IsSessionEnd}
 use Rattle.sftp_server.specs.Ending.{closed_end}
 use Rattle.sftp_server.proofs.Machines.Laws.{explained}
 use Rattle.sftp_server.proofs.Sessions.Stops.{stays-good, each-answered, running-kept}
 use Rattle.sftp_server.proofs.Sessions.Stops.{stopped-reader, stopped-writer, stopped-log}
+use Rattle.sftp_server.proofs.Sessions.Opened.{unopened-no_memory}
 
 -- ---- what streams passed
 
@@ -118,9 +122,9 @@ running-more start past left0 left1 written0 written1 logged ahead0 ahead1 core 
 pub reader-stops : (start : Tree) (past : StreamBytes) (left0 left1 written logged : Option (List ℕ)) (ahead : Ahead)
     (core : Machine State) (fault : Option SessionFault) (stop : Stop)
     → IsRunning start past (stream_bytes left0 written logged) ahead core fault → Keeps left0 left1
-    → stop ≡ stops.Io streams.Reader → Serves start past (stream_bytes left1 written logged) (ended_by stop)
+    → stop ≡ stops.Io streams.Reader → Stops start past (stream_bytes left1 written logged) stop (tree_left core)
 reader-stops start past left0 left1 written logged ahead core fault stop running kept is =
-    subst (λ (s : Stop). Serves start past (stream_bytes left1 written logged) (ended_by s)) (sym is)
+    subst (λ (s : Stop). Stops start past (stream_bytes left1 written logged) s (tree_left core)) (sym is)
     (stopped-reader
     (running-kept start past (stream_bytes left0 written logged) (stream_bytes left1 written logged) ahead core fault
     running kept (Keeps-refl written) (Keeps-refl logged)))
@@ -128,17 +132,17 @@ reader-stops start past left0 left1 written logged ahead core fault stop running
 pub writer-stops : (start : Tree) (past : StreamBytes) (left written0 written1 logged : Option (List ℕ)) (ahead : Ahead)
     (core : Machine State) (fault : Option SessionFault) (stop : Stop)
     → IsRunning start past (stream_bytes left written0 logged) ahead core fault → Keeps written0 written1
-    → stop ≡ stops.Io streams.Writer → Serves start past (stream_bytes left written1 logged) (ended_by stop)
+    → stop ≡ stops.Io streams.Writer → Stops start past (stream_bytes left written1 logged) stop (tree_left core)
 writer-stops start past left written0 written1 logged ahead core fault stop running kept is =
-    subst (λ (s : Stop). Serves start past (stream_bytes left written1 logged) (ended_by s)) (sym is)
+    subst (λ (s : Stop). Stops start past (stream_bytes left written1 logged) s (tree_left core)) (sym is)
     (stopped-writer (running-written start past left written0 written1 logged ahead core fault running kept))
 
 pub log-stops : (start : Tree) (past : StreamBytes) (left written logged0 logged1 : Option (List ℕ)) (ahead : Ahead)
     (core : Machine State) (fault : Option SessionFault) (stop : Stop)
     → IsRunning start past (stream_bytes left written logged0) ahead core fault → Keeps logged0 logged1
-    → stop ≡ stops.Io streams.Log → Serves start past (stream_bytes left written logged1) (ended_by stop)
+    → stop ≡ stops.Io streams.Log → Stops start past (stream_bytes left written logged1) stop (tree_left core)
 log-stops start past left written logged0 logged1 ahead core fault stop running kept is =
-    subst (λ (s : Stop). Serves start past (stream_bytes left written logged1) (ended_by s)) (sym is)
+    subst (λ (s : Stop). Stops start past (stream_bytes left written logged1) s (tree_left core)) (sym is)
     (stopped-log (running-logged start past left written logged0 logged1 ahead core fault running kept))
 
 -- ---- the end of a session
@@ -289,21 +293,39 @@ unopened start past now ahead fault yet by = record {
 }
 
 -- memory ran out before the first packet was logged
-no_memory-unopened : (start : Tree) (past now : StreamBytes) (ahead : Ahead) → IsUnopenedYet past now ahead
-    → Serves start past now ends.NoMemory
-unfolding sent_by
-no_memory-unopened start past now ahead yet = record {
-  input = ahead.held;
-  output = [];
-  log = [];
-  passed = yet.0;
-  served = record { packets = []; rest = ahead.held; listed = tt; read = refl; left = (refl, inl (refl, refl)) };
-}
-
 pub unopened-stops : (start : Tree) (past now : StreamBytes) (ahead : Ahead) (stop : Stop)
-    → IsUnopenedYet past now ahead → stop ≡ stops.NoMemory → Serves start past now (ended_by stop)
+    → IsUnopenedYet past now ahead → stop ≡ stops.NoMemory → Stops start past now stop None
 unopened-stops start past now ahead stop yet is =
-    subst (λ (s : Stop). Serves start past now (ended_by s)) (sym is) (no_memory-unopened start past now ahead yet)
+    subst (λ (s : Stop). Stops start past now s None) (sym is) (unopened-no_memory start past now ahead yet)
+
+-- ---- what a session leaves
+
+leaves-at : (start : Tree) (past now : StreamBytes) (stop : Stop) (left : Option Tree) → Leaves start past now left
+    → LeavesAt start past now (ended_by stop) left
+leaves-at start past now (stops.Io stream) left leaves = leaves
+leaves-at start past now stops.NoMemory left leaves = leaves
+
+-- the session was stopped
+pub stopped-end : (start : Tree) (past now : StreamBytes) (stop : Stop) (left : Option Tree) (end : SessionEnd)
+    → end.ended ≡ ended_by stop → end.left ≡ left → Stops start past now stop left → IsSessionEnd start past now end
+stopped-end start past now stop left end ended is stopped = (
+  subst (Serves start past now) (sym ended) stopped.served,
+  subst₂ (LeavesAt start past now) (sym ended) (sym is) (leaves-at start past now stop left stopped.leaves),
+)
+
+closed-leaves : (start : Tree) (past now : StreamBytes) (last : State) (fault : Option SessionFault)
+    → LeavesAt start past now (closed_end last fault) None
+closed-leaves start past now last None = refl
+closed-leaves start past now last (Some fault) = refl
+
+-- the session ended by itself
+pub closed-session : (start : Tree) (past now : StreamBytes) (core : Machine State) (fault : Option SessionFault)
+    (ended : Ended) → ended ≡ closed_end core.state fault → IsEnding start past now core fault
+    → IsSessionEnd start past now (record { ended = ended; left = None })
+closed-session start past now core fault ended is ending = (
+  subst (Serves start past now) (sym is) (closed start past now core fault ending),
+  subst (λ (e : Ended). LeavesAt start past now e None) (sym is) (closed-leaves start past now core.state fault),
+)
 
 -- nothing was read yet
 pub unopened-at_start : (now : StreamBytes) → IsUnopenedYet now now (record { held = []; place = 0 })

@@ -24,7 +24,6 @@ use Rattle.sftp_tree.specs.Tree.{Tree}
 use Rattle.sftp_handles.specs.State.{State, Good, settled}
 use Rattle.sftp_handles.specs.Allowed.{Allowed}
 use Rattle.sftp_handles.proofs.TotalSteps.PlaceTexts.{bytes-by}
-use Rattle.sftp_server.specs.declared.ends.Ended.TheVariants as ends
 use Rattle.sftp_server.specs.declared.ends.SessionFault.TheVariants as faults
 use Rattle.sftp_server.specs.declared.ends.Stop.{Stop}
 use Rattle.sftp_server.specs.declared.ends.Stop.TheVariants as stops
@@ -34,12 +33,14 @@ use Rattle.sftp_server.specs.declared.opening.First.TheVariants as firsts
 use Rattle.sftp_server.specs.Machine.{at_start}
 use Rattle.sftp_server.specs.Core.{started}
 use Rattle.sftp_server.specs.Served.{our_version, sent_by, spelled_if, recorded, IsGreeting, IsNoGreeting, IsListed}
-use Rattle.sftp_server.specs.Sessions.{StreamBytes, stream_bytes, Passed, Serves, ended_by, IsLogging, Ahead}
+use Rattle.sftp_server.specs.Served.{closed_tree, IsCutInLast}
+use Rattle.sftp_server.specs.Left.{AreDone, IsAfterDone}
+use Rattle.sftp_server.specs.Sessions.{StreamBytes, stream_bytes, Passed, Leaves, Stops, tree_left, IsLogging, Ahead}
 use Rattle.sftp_server.specs.Sessions.{input_limit, ahead_without, IsRunning, IsUnopenedYet, BeginsWithGreeting, FailsToSend}
 use Rattle.sftp_server.specs.Opening.{IsFirst, IsInFront, IsGreetingOf}
 use Rattle.sftp_server.proofs.Machines.Reached.{reached-start}
 use Rattle.sftp_server.proofs.Sessions.Lists.{sent-one, recorded-more}
-use Rattle.sftp_server.proofs.Sessions.Stops.{cut-whole, client-silent, server-sent, stopped-sending}
+use Rattle.sftp_server.proofs.Sessions.Stops.{cut-whole, is-beginning, client-silent, server-sent, stopped-sending}
 
 -- ---- before the first packet is complete
 
@@ -63,26 +64,51 @@ pub record OnlyReads (left0 left1 : Option (List ℕ)) (ahead0 ahead1 : Ahead) (
   pub failures : failures1 ≡ failures0
 
 -- a session that stops before it is opened
-pub unopened-no_memory : (start : Tree) (past now : StreamBytes) (ahead : Ahead) → IsUnopenedYet past now ahead
-    → Serves start past now ends.NoMemory
+unopened-leaves : (start : Tree) (past now : StreamBytes) (ahead : Ahead) → IsUnopenedYet past now ahead
+    → Leaves start past now None
 unfolding sent_by
-unopened-no_memory start past now ahead unopened = record {
+unopened-leaves start past now ahead unopened = record {
   input = ahead.held;
   output = [];
   log = [];
   passed = unopened.0;
-  served = record { packets = []; rest = ahead.held; listed = tt; read = refl; left = (refl, inl (refl, refl)) };
+  is_left = record {
+    packets = [];
+    rest = ahead.held;
+    listed = tt;
+    read = refl;
+    written = ([], refl);
+    logged = inl (refl, refl);
+    tree = refl;
+  };
+}
+
+pub unopened-no_memory : (start : Tree) (past now : StreamBytes) (ahead : Ahead) → IsUnopenedYet past now ahead
+    → Stops start past now stops.NoMemory None
+unfolding sent_by
+unopened-no_memory start past now ahead unopened = record {
+  leaves = unopened-leaves start past now ahead unopened;
+  served = record {
+    input = ahead.held;
+    output = [];
+    log = [];
+    passed = unopened.0;
+    served = record { packets = []; rest = ahead.held; listed = tt; read = refl; left = (refl, inl (refl, refl)) };
+  };
 }
 
 pub unopened-reader : (start : Tree) (past now : StreamBytes) (ahead : Ahead) → IsUnopenedYet past now ahead
-    → Serves start past now (ends.Io streams.Reader)
+    → Stops start past now (stops.Io streams.Reader) None
 unfolding sent_by
 unopened-reader start past now ahead unopened = record {
-  input = ahead.held;
-  output = [];
-  log = [];
-  passed = unopened.0;
-  served = record { packets = []; rest = ahead.held; listed = tt; read = refl; left = (refl, refl) };
+  leaves = unopened-leaves start past now ahead unopened;
+  served = record {
+    input = ahead.held;
+    output = [];
+    log = [];
+    passed = unopened.0;
+    served = record { packets = []; rest = ahead.held; listed = tt; read = refl; left = (refl, refl) };
+  };
 }
 
 -- where no packet is in front yet there is room for more bytes
@@ -98,11 +124,11 @@ stopped-so (Err error) P Q stop is holds = subst Q (sym is) holds
 
 pub unopened-stopped : (start : Tree) (past now : StreamBytes) (ahead : Ahead) (stop : Stop)
     → IsUnopenedYet past now ahead → (stop ≡ stops.NoMemory) ⊎ (stop ≡ stops.Io streams.Reader)
-    → Serves start past now (ended_by stop)
+    → Stops start past now stop None
 unopened-stopped start past now ahead stop unopened why = elim why [
-  | inl memory ↦ subst (λ (s : Stop). Serves start past now (ended_by s)) (sym memory)
+  | inl memory ↦ subst (λ (s : Stop). Stops start past now s None) (sym memory)
       (unopened-no_memory start past now ahead unopened)
-  | inr reader ↦ subst (λ (s : Stop). Serves start past now (ended_by s)) (sym reader)
+  | inr reader ↦ subst (λ (s : Stop). Stops start past now s None) (sym reader)
       (unopened-reader start past now ahead unopened)
 ]
 
@@ -199,49 +225,97 @@ init-logged past left written logged0 logged1 ahead count greets unopened logged
       place = ap (λ (place : ℕ). place_after place count) unopened.1 ∙ ap (place_after 0) counted;
     }
 
+-- the tree of a session in which no request was done
+abbrev pub first_left : Tree → Option Tree
+first_left start = tree_left (at_start (started start) 1024)
+
+nothing-done : (start : Tree) → IsAfterDone start [] (closed_tree (started start))
+unfolding AreDone exchanges_of
+nothing-done start = record {
+  last = started start;
+  leads = record { done = []; are_done = refl; run = refl };
+  end_is = refl;
+}
+
 -- the log fails in its record
 pub init-unlogged : (start : Tree) (past : StreamBytes) (left written logged0 logged1 : Option (List ℕ)) (ahead : Ahead)
     (count : ℕ) → (greets : BeginsWithGreeting ahead.held count)
     → IsUnopenedYet past (stream_bytes left written logged0) ahead
     → AppendsPart logged0 logged1 (opened_text 0 (record_text greets.init))
-    → Serves start past (stream_bytes left written logged1) (ends.Io streams.Log)
+    → Stops start past (stream_bytes left written logged1) (stops.Io streams.Log) (first_left start)
 init-unlogged start past left written logged0 logged1 ahead count greets unopened logged =
     let init = greets.init in
+    let passed : Passed past (stream_bytes left written logged1) ahead.held [] logged.part =
     record {
-      input = ahead.held;
-      output = [];
-      log = logged.part;
-      passed = record {
-        read = unopened.0.read;
-        written = unopened.0.written;
-        logged = Appends-trans past.logged logged0 logged1 [] logged.part unopened.0.logged logged.appended;
-      };
+      read = unopened.0.read;
+      written = unopened.0.written;
+      logged = Appends-trans past.logged logged0 logged1 [] logged.part unopened.0.logged logged.appended;
+    } in
+    let cut : IsCutInLast (init ∷ []) logged.part =
+    inr ([], init, logged.part, refl, (logged.rest, logged.parts), refl) in
+    let silent = init-silent init greets.greeting.0 in
+    record {
       served = record {
-        packets = init ∷ [];
-        rest = drop count ahead.held;
-        listed = greets.greeting;
-        read = init-read ahead.held count greets;
-        left = (
-          sym (init-silent init greets.greeting.0),
-          inr ([], init, logged.part, refl, (logged.rest, logged.parts), refl),
-        );
+        input = ahead.held;
+        output = [];
+        log = logged.part;
+        passed = passed;
+        served = record {
+          packets = init ∷ [];
+          rest = drop count ahead.held;
+          listed = greets.greeting;
+          read = init-read ahead.held count greets;
+          left = (sym silent, cut);
+        };
+      };
+      leaves = record {
+        input = ahead.held;
+        output = [];
+        log = logged.part;
+        passed = passed;
+        is_left = record {
+          packets = init ∷ [];
+          rest = drop count ahead.held;
+          listed = greets.greeting;
+          read = init-read ahead.held count greets;
+          written = ([], silent);
+          logged = cut;
+          tree = ([], refl, nothing-done start);
+        };
       };
     }
 
 -- memory runs out after it
 pub init-no_memory : (start : Tree) (init : Packet) (past now : StreamBytes) (ahead : Ahead)
-    → IsInitLogged init past now ahead → Serves start past now ends.NoMemory
+    → IsInitLogged init past now ahead → Stops start past now stops.NoMemory (first_left start)
 init-no_memory start init past now ahead logged = record {
-  input = sent_by Client (init ∷ []) ++ ahead.held;
-  output = sent_by Server (init ∷ []);
-  log = recorded (init ∷ []);
-  passed = logged.passed;
   served = record {
-    packets = init ∷ [];
-    rest = ahead.held;
-    listed = logged.greeting;
-    read = refl;
-    left = (refl, cut-whole (init ∷ []));
+    input = sent_by Client (init ∷ []) ++ ahead.held;
+    output = sent_by Server (init ∷ []);
+    log = recorded (init ∷ []);
+    passed = logged.passed;
+    served = record {
+      packets = init ∷ [];
+      rest = ahead.held;
+      listed = logged.greeting;
+      read = refl;
+      left = (refl, cut-whole (init ∷ []));
+    };
+  };
+  leaves = record {
+    input = sent_by Client (init ∷ []) ++ ahead.held;
+    output = sent_by Server (init ∷ []);
+    log = recorded (init ∷ []);
+    passed = logged.passed;
+    is_left = record {
+      packets = init ∷ [];
+      rest = ahead.held;
+      listed = logged.greeting;
+      read = refl;
+      written = is-beginning (sent_by Server (init ∷ []));
+      logged = cut-whole (init ∷ []);
+      tree = ([], refl, nothing-done start);
+    };
   };
 }
 
@@ -290,10 +364,11 @@ pub version-unsent : (start : Tree) (init : Packet) (past : StreamBytes) (left w
     (log0 log1 : Log) (ahead : Ahead) (stop : Stop) → IsLogging log0
     → IsInitLogged init past (stream_bytes left written0 log0.bytes) ahead
     → FailsToSend our_version written0 written1 log0 log1 stop
-    → Serves start past (stream_bytes left written1 log1.bytes) (ended_by stop)
+    → Stops start past (stream_bytes left written1 log1.bytes) stop (first_left start)
 version-unsent start init past left written0 written1 log0 log1 ahead stop logging logged fails =
-    stopped-sending start past left written0 written1 log0 log1 init [] our_version ahead.held stop logging
-    logged.greeting (version-listed start init logged.greeting) version-server logged.passed fails
+    stopped-sending start past left written0 written1 log0 log1 init [] our_version ahead.held stop (first_left start)
+    logging logged.greeting (version-listed start init logged.greeting) version-server logged.passed
+    ([], refl, nothing-done start) ([], refl, nothing-done start) fails
 
 -- VERSION was sent
 pub version-sent : (start : Tree) (init : Packet) (past : StreamBytes)
@@ -335,7 +410,7 @@ pub version-done : (start : Tree) (init : Packet) (past : StreamBytes) (left wri
     → IfErr result (λ stop. FailsToSend packet written0 written1 log0 log1 stop)
     → MatchResult result
     (λ _. IsRunning start past (stream_bytes left written1 log1.bytes) ahead (at_start (started start) 1024) None)
-    (λ stop. Serves start past (stream_bytes left written1 log1.bytes) (ended_by stop))
+    (λ stop. Stops start past (stream_bytes left written1 log1.bytes) stop (first_left start))
 version-done start init past left written0 written1 log0 log1 ahead packet (Ok done) good is logging logged written
     recorded_too fails =
     version-sent start init past left written0 written1 log0.bytes log1.bytes ahead good logged

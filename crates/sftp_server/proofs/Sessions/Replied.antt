@@ -1,11 +1,12 @@
 -- A request is done, or a reply is sent, in a running session.
 use Rattle.std.proofs.Common.{◌≡◌, ◌⊎◌, ◌==◌, ◌&&◌, ◌||◌, not, ℕ, Bool, true, false, List, [], ◌∷◌, ◌++◌, length, map}
-use Rattle.std.proofs.Common.{Option, Some, None, Result, Ok, Err, OnOk, IfErr, IsTrue, if◌then◌else◌}
-use Rattle.std.proofs.Common.{inl, inr, refl, sym, ap, subst, ◌∙◌, arith}
+use Rattle.std.proofs.Common.{Option, Some, None, Result, Ok, Err, OnOk, OnErr, IfErr, IsTrue, if◌then◌else◌}
+use Rattle.std.proofs.Common.{inl, inr, refl, sym, ap, subst, subst₂, ◌∙◌, arith}
 use Rattle.std.specs.Io.KnownBytes.{Appends, Consumes}
 use Rattle.std.proofs.KnownBytes.{Appends-trans}
 use Rattle.std.specs.List.{AllByRecursion}
 use Rattle.sftp_wire.specs.declared.errors.WireError.TheVariants.{Unreadable}
+use Rattle.sftp_wire.specs.declared.packets.Packet.{Packet}
 use Rattle.sftp_wire.specs.declared.packets.Packet.TheVariants.{Reply as reply_packet}
 use Rattle.sftp_wire.specs.declared.packets.Request.{Request}
 use Rattle.sftp_wire.specs.declared.packets.Reply.{Reply}
@@ -27,13 +28,14 @@ use Rattle.sftp_server.specs.declared.queue.Progress.TheVariants.{Pending, Done,
 use Rattle.sftp_server.specs.Machine.{Machine, is_sent, is_unsent, is_ready, reply_at, from_unsent, IsWorked, IsSent}
 use Rattle.sftp_server.specs.Core.{server_clash, started, IsReached}
 use Rattle.sftp_server.specs.Served.{session_packets, our_version, answered_last, IsListed}
+use Rattle.sftp_server.specs.Left.{IsLeftAfter}
 use Rattle.sftp_server.specs.Sessions.{StreamBytes, stream_bytes, IsLogging, Ahead, IsRunning}
-use Rattle.sftp_server.specs.Sessions.{IsFaultAhead, FailsToSend, SendsOn}
+use Rattle.sftp_server.specs.Sessions.{IsFaultAhead, FailsToSend, SendsOn, tree_left}
 use Rattle.sftp_server.proofs.Machines.Laws.{reply-for}
 use Rattle.sftp_server.proofs.Machines.Reached.{reached-worked, reached-sent}
 use Rattle.sftp_server.proofs.Sessions.Lists.{session-more, replied-session, events-more}
 use Rattle.sftp_server.proofs.Sessions.Stops.{stays-good, each-answered, reached-begins, running-listed}
-use Rattle.sftp_server.proofs.Sessions.Stops.{stopped-no-memory, stopped-sending}
+use Rattle.sftp_server.proofs.Sessions.Stops.{reached-leaves, stopped-no-memory, stopped-sending}
 
 -- ---- the unsent requests
 
@@ -162,9 +164,9 @@ sends-worked core0 core1 k written logged ready worked start past left ahead fau
     running-worked start past (stream_bytes left written logged) ahead core0 core1 k fault running ready worked
 
 -- memory ran out, and nothing changed
-pub sends-nothing : (core0 core1 : Machine State) (written logged : Option (List ℕ))
-    → SendsOn core0 core1 written written logged logged (Err stops.NoMemory)
-sends-nothing core0 core1 written logged start past left ahead fault running = stopped-no-memory running
+pub sends-nothing : (core : Machine State) (written logged : Option (List ℕ))
+    → SendsOn core core written written logged logged (Err stops.NoMemory)
+sends-nothing core written logged start past left ahead fault running = stopped-no-memory running
 
 -- ---- a reply is sent
 
@@ -185,6 +187,20 @@ module _ {start : Tree} {past now : StreamBytes} {ahead : Ahead} {core0 core1 : 
 
   spelled : AllByRecursion IsEvent events
   spelled = events-more running.events (Replied reply) running.spelled for-request.1
+
+  -- the tree that the core leaves is that after the packets so far, and after the reply
+  leaves : IsLeftAfter start (session_packets running.init running.events) (tree_left core1)
+  leaves =
+      subst (λ (m : Machine State). IsLeftAfter start (session_packets running.init running.events) (tree_left m))
+      (sym sent.marked)
+      (reached-leaves start running.init running.events core0 running.good running.reached)
+
+  leaves-replied : IsLeftAfter start (session_packets running.init running.events ++ reply_packet reply ∷ [])
+      (tree_left core1)
+  leaves-replied =
+      subst (λ (packets : List Packet). IsLeftAfter start packets (tree_left core1))
+      (session-more running.init running.events (Replied reply ∷ []))
+      (reached-leaves start running.init events core1 running.good reached)
 
   -- the packets so far and the reply
   listed-replied : IsListed start (session_packets running.init running.events ++ reply_packet reply ∷ [])
@@ -237,8 +253,8 @@ replied core0 core1 k reply written0 written1 log0 log1 (Err stop) at sent loggi
     ahead fault running =
     stopped-sending start past left written0 written1 log0 log1 running.init
     (our_version ∷ map packet_of running.events)
-    (reply_packet reply) ahead.held stop logging (running-listed running) (listed-replied running at sent) refl
-    running.passed fails
+    (reply_packet reply) ahead.held stop (tree_left core1) logging (running-listed running)
+    (listed-replied running at sent) refl running.passed (leaves running at sent) (leaves-replied running at sent) fails
 
 -- ---- call after call
 
@@ -256,9 +272,9 @@ sends-more core0 core1 core2 written0 written1 written2 logged0 logged1 logged2 
 pub worked-on : (core0 core1 : Machine State) (k : ℕ) (written logged : Option (List ℕ))
     (result : Result (Unit {0}) Stop) → is_ready server_clash core0 k ≡ true
     → OnOk result (IsWorked Allowed core0 k core1) → IfErr result (λ stop. stop ≡ stops.NoMemory)
-    → SendsOn core0 core1 written written logged logged result
-worked-on core0 core1 k written logged (Ok done) ready worked stopped =
+    → OnErr result (core1 ≡ core0) → SendsOn core0 core1 written written logged logged result
+worked-on core0 core1 k written logged (Ok done) ready worked stopped same =
     sends-worked core0 core1 k written logged ready worked
-worked-on core0 core1 k written logged (Err stop) ready worked stopped =
-    subst (λ (s : Stop). SendsOn core0 core1 written written logged logged (Err s)) (sym stopped)
-    (sends-nothing core0 core1 written logged)
+worked-on core0 core1 k written logged (Err stop) ready worked stopped same =
+    subst₂ (λ (s : Stop) (m : Machine State). SendsOn core0 m written written logged logged (Err s)) (sym stopped)
+    (sym same) (sends-nothing core0 written logged)

@@ -1,6 +1,6 @@
 -- A session that stops where a stream fails or memory runs out.
 use Rattle.std.proofs.Common.{◌≡◌, ◌≢◌, ℕ, Bool, if◌then◌else◌, List, [], ◌∷◌, ◌++◌, Option, refl, sym, ap, ◌∙◌}
-use Rattle.std.proofs.Common.{inl, inr, arith, append-nil, ne_eqb}
+use Rattle.std.proofs.Common.{inl, inr, arith, append-nil, append_assoc, ne_eqb}
 use Rattle.std.specs.Io.KnownBytes.{Keeps}
 use Rattle.std.proofs.KnownBytes.{Appends-trans, Appends-kept, Consumes-kept, Keeps-refl}
 use Rattle.sftp_wire.specs.declared.packets.Packet.{Packet}
@@ -19,7 +19,6 @@ use Rattle.sftp_handles.specs.Allowed.{Allowed}
 use Rattle.sftp_handles.proofs.GoodLaws.{allowed-good}
 use Rattle.sftp_handles.proofs.FirstListings.{listing-fits}
 use Rattle.sftp_handles.proofs.TotalSteps.SomeReplies.{some-allowed}
-use Rattle.sftp_server.specs.declared.ends.Ended.TheVariants as ends
 use Rattle.sftp_server.specs.declared.ends.SessionFault.{SessionFault}
 use Rattle.sftp_server.specs.declared.ends.Stop.{Stop}
 use Rattle.sftp_server.specs.declared.ends.Stop.TheVariants as stops
@@ -27,9 +26,10 @@ use Rattle.sftp_server.specs.declared.ends.Stream.TheVariants as streams
 use Rattle.sftp_server.specs.Machine.{Machine}
 use Rattle.sftp_server.specs.Core.{started, IsReached}
 use Rattle.sftp_server.specs.Served.{session_packets, sent_by, spelled_if, recorded, opened_record, IsListed}
-use Rattle.sftp_server.specs.Served.{IsCutInLast}
-use Rattle.sftp_server.specs.Sessions.{StreamBytes, stream_bytes, Passed, Serves, ended_by, IsLogging, Ahead, IsRunning}
-use Rattle.sftp_server.specs.Sessions.{FailsToSend}
+use Rattle.sftp_server.specs.Served.{IsBeginning, IsCutInLast, closed_tree}
+use Rattle.sftp_server.specs.Left.{IsAfterDone, IsLeftAfter}
+use Rattle.sftp_server.specs.Sessions.{StreamBytes, stream_bytes, Passed, IsLogging, Ahead, IsRunning}
+use Rattle.sftp_server.specs.Sessions.{FailsToSend, Leaves, Stops, tree_left}
 use Rattle.sftp_server.proofs.Machines.Laws as core_laws
 use Rattle.sftp_server.proofs.Sessions.Lists.{sent-more, recorded-more}
 
@@ -120,70 +120,119 @@ cut-whole (first ∷ packets) =
       ap recorded split.2 ∙ recorded-behind split.0 split.1,
     )
 
+-- ---- the tree of the requests done
+
+pub after-done : (start : Tree) (events : List Event) (core : Machine State) → Good (started start)
+    → IsReached (started start) 1024 events core → IsAfterDone start events (closed_tree core.state)
+after-done start events core good reached =
+    record {
+      last = core.state;
+      leads = core_laws.leads-to stays-good each-answered (started start) 1024 events core good (omega arith) reached;
+      end_is = refl;
+    }
+
+-- a core that was reached leaves this tree
+pub reached-leaves : (start : Tree) (init : Packet) (events : List Event) (core : Machine State) → Good (started start)
+    → IsReached (started start) 1024 events core → IsLeftAfter start (session_packets init events) (tree_left core)
+reached-leaves start init events core good reached = (events, refl, after-done start events core good reached)
+
 -- ---- a session that stops between packets
+
+-- a whole is its own beginning
+pub is-beginning : (whole : List ℕ) → IsBeginning whole whole
+is-beginning whole = ([], sym (append-nil whole))
 
 module _ {start : Tree} {past now : StreamBytes} {ahead : Ahead} {core : Machine State} {fault : Option SessionFault}
     (running : IsRunning start past now ahead core fault) where
   abbrev packets : List Packet
   packets = session_packets running.init running.events
 
-  pub stopped-no-memory : Serves start past now ends.NoMemory
+  pub running-leaves : Leaves start past now (tree_left core)
+  running-leaves = record {
+    input = sent_by Client packets ++ ahead.held;
+    output = sent_by Server packets;
+    log = recorded packets;
+    passed = running.passed;
+    is_left = record {
+      packets = packets;
+      rest = ahead.held;
+      listed = running-listed running;
+      read = refl;
+      written = is-beginning (sent_by Server packets);
+      logged = cut-whole packets;
+      tree = reached-leaves start running.init running.events core running.good running.reached;
+    };
+  }
+
+  pub stopped-no-memory : Stops start past now stops.NoMemory (tree_left core)
   stopped-no-memory = record {
-    input = sent_by Client packets ++ ahead.held;
-    output = sent_by Server packets;
-    log = recorded packets;
-    passed = running.passed;
+    leaves = running-leaves;
     served = record {
-      packets = packets;
-      rest = ahead.held;
-      listed = running-listed running;
-      read = refl;
-      left = (refl, cut-whole packets);
+      input = sent_by Client packets ++ ahead.held;
+      output = sent_by Server packets;
+      log = recorded packets;
+      passed = running.passed;
+      served = record {
+        packets = packets;
+        rest = ahead.held;
+        listed = running-listed running;
+        read = refl;
+        left = (refl, cut-whole packets);
+      };
     };
   }
 
-  pub stopped-reader : Serves start past now (ends.Io streams.Reader)
+  pub stopped-reader : Stops start past now (stops.Io streams.Reader) (tree_left core)
   stopped-reader = record {
-    input = sent_by Client packets ++ ahead.held;
-    output = sent_by Server packets;
-    log = recorded packets;
-    passed = running.passed;
+    leaves = running-leaves;
     served = record {
-      packets = packets;
-      rest = ahead.held;
-      listed = running-listed running;
-      read = refl;
-      left = (refl, refl);
+      input = sent_by Client packets ++ ahead.held;
+      output = sent_by Server packets;
+      log = recorded packets;
+      passed = running.passed;
+      served = record {
+        packets = packets;
+        rest = ahead.held;
+        listed = running-listed running;
+        read = refl;
+        left = (refl, refl);
+      };
     };
   }
 
-  pub stopped-writer : Serves start past now (ends.Io streams.Writer)
+  pub stopped-writer : Stops start past now (stops.Io streams.Writer) (tree_left core)
   stopped-writer = record {
-    input = sent_by Client packets ++ ahead.held;
-    output = sent_by Server packets;
-    log = recorded packets;
-    passed = running.passed;
+    leaves = running-leaves;
     served = record {
-      packets = packets;
-      rest = ahead.held;
-      listed = running-listed running;
-      read = refl;
-      left = (refl, inl refl);
+      input = sent_by Client packets ++ ahead.held;
+      output = sent_by Server packets;
+      log = recorded packets;
+      passed = running.passed;
+      served = record {
+        packets = packets;
+        rest = ahead.held;
+        listed = running-listed running;
+        read = refl;
+        left = (refl, inl refl);
+      };
     };
   }
 
-  pub stopped-log : Serves start past now (ends.Io streams.Log)
+  pub stopped-log : Stops start past now (stops.Io streams.Log) (tree_left core)
   stopped-log = record {
-    input = sent_by Client packets ++ ahead.held;
-    output = sent_by Server packets;
-    log = recorded packets;
-    passed = running.passed;
+    leaves = running-leaves;
     served = record {
-      packets = packets;
-      rest = ahead.held;
-      listed = running-listed running;
-      read = refl;
-      left = (refl, cut-whole packets);
+      input = sent_by Client packets ++ ahead.held;
+      output = sent_by Server packets;
+      log = recorded packets;
+      passed = running.passed;
+      served = record {
+        packets = packets;
+        rest = ahead.held;
+        listed = running-listed running;
+        read = refl;
+        left = (refl, cut-whole packets);
+      };
     };
   }
 
@@ -207,77 +256,157 @@ pub no-opening : (records : ℕ) (text : List ℕ) → records ≢ 0 → opened_
 no-opening records text some =
     ap (λ (first : Bool). (if first then transcript_opening else []) ++ text) (ne_eqb records 0 some)
 
--- some packets were written and logged, and the next could not be
+-- a beginning of the next packet was written
+pub part-written : (packets : List Packet) (packet : Packet) (part : List ℕ) → side_of packet ≡ Server
+    → IsBeginning part (spelling packet)
+    → IsBeginning (sent_by Server packets ++ part) (sent_by Server (packets ++ packet ∷ []))
+part-written packets packet part side begins = (
+  begins.0,
+  server-sent packets packet side ∙ ap (λ (bytes : List ℕ). sent_by Server packets ++ bytes) begins.1
+      ∙ sym (append_assoc (sent_by Server packets) part begins.0),
+)
+
+-- some packets were written and logged, and the next could not be; the tree left is that after each of them
 pub stopped-sending : (start : Tree) (past : StreamBytes) (left written0 written1 : Option (List ℕ)) (log0 log1 : Log)
-    (first : Packet) (others : List Packet) (packet : Packet) (rest : List ℕ) (stop : Stop) → IsLogging log0
-    → IsListed start (first ∷ others) → IsListed start ((first ∷ others) ++ packet ∷ []) → side_of packet ≡ Server
+    (first : Packet) (others : List Packet) (packet : Packet) (rest : List ℕ) (stop : Stop) (tree : Option Tree)
+    → IsLogging log0 → IsListed start (first ∷ others) → IsListed start ((first ∷ others) ++ packet ∷ [])
+    → side_of packet ≡ Server
     → Passed past (stream_bytes left written0 log0.bytes) (sent_by Client (first ∷ others) ++ rest)
-    (sent_by Server (first ∷ others)) (recorded (first ∷ others)) → FailsToSend packet written0 written1 log0 log1 stop
-    → Serves start past (stream_bytes left written1 log1.bytes) (ended_by stop)
-stopped-sending start past left written0 written1 log0 log1 first others packet rest (stops.Io streams.Reader) logging
-    listed more side passed fails =
+    (sent_by Server (first ∷ others)) (recorded (first ∷ others)) → IsLeftAfter start (first ∷ others) tree
+    → IsLeftAfter start ((first ∷ others) ++ packet ∷ []) tree → FailsToSend packet written0 written1 log0 log1 stop
+    → Stops start past (stream_bytes left written1 log1.bytes) stop tree
+stopped-sending start past left written0 written1 log0 log1 first others packet rest (stops.Io streams.Reader) tree
+    logging listed more side passed leaves leaves_more fails =
     absurd fails
-stopped-sending start past left written0 written1 log0 log1 first others packet rest (stops.Io streams.Writer) logging
-    listed more side passed fails =
+stopped-sending start past left written0 written1 log0 log1 first others packet rest (stops.Io streams.Writer) tree
+    logging listed more side passed leaves leaves_more fails =
     let packets : List Packet = first ∷ others in
+    let all : Passed past (stream_bytes left written1 log1.bytes) (sent_by Client packets ++ rest)
+    (sent_by Server packets ++ fails.0.part) (recorded packets) =
     record {
-      input = sent_by Client packets ++ rest;
-      output = sent_by Server packets ++ fails.0.part;
-      log = recorded packets;
-      passed = record {
-        read = passed.read;
-        written = Appends-trans past.written written0 written1 (sent_by Server packets) fails.0.part passed.written
-            fails.0.appended;
-        logged = Appends-kept past.logged log0.bytes log1.bytes (recorded packets) passed.logged fails.1;
-      };
+      read = passed.read;
+      written = Appends-trans past.written written0 written1 (sent_by Server packets) fails.0.part passed.written
+          fails.0.appended;
+      logged = Appends-kept past.logged log0.bytes log1.bytes (recorded packets) passed.logged fails.1;
+    } in
+    record {
       served = record {
-        packets = packets;
-        rest = rest;
-        listed = listed;
-        read = refl;
-        left = (refl, inr (packet, fails.0.part, side, more, (fails.0.rest, fails.0.parts), refl));
+        input = sent_by Client packets ++ rest;
+        output = sent_by Server packets ++ fails.0.part;
+        log = recorded packets;
+        passed = all;
+        served = record {
+          packets = packets;
+          rest = rest;
+          listed = listed;
+          read = refl;
+          left = (refl, inr (packet, fails.0.part, side, more, (fails.0.rest, fails.0.parts), refl));
+        };
+      };
+      leaves = record {
+        input = sent_by Client packets ++ rest;
+        output = sent_by Server packets ++ fails.0.part;
+        log = recorded packets;
+        passed = all;
+        is_left = record {
+          packets = packets ++ packet ∷ [];
+          rest = rest;
+          listed = more;
+          read = ap (λ (l : List ℕ). l ++ rest) (sym (client-silent packets packet side));
+          written = part-written packets packet fails.0.part side (fails.0.rest, fails.0.parts);
+          logged = inr (
+            packets,
+            packet,
+            [],
+            refl,
+            (opened_record packets packet, refl),
+            sym (append-nil (recorded packets)),
+          );
+          tree = leaves_more;
+        };
       };
     }
-stopped-sending start past left written0 written1 log0 log1 first others packet rest (stops.Io streams.Log) logging
-    listed more side passed fails =
+stopped-sending start past left written0 written1 log0 log1 first others packet rest (stops.Io streams.Log) tree
+    logging listed more side passed leaves leaves_more fails =
     let packets : List Packet = first ∷ others in
     let text = no-opening log0.records (record_text packet) logging.begun in
+    let read : sent_by Client packets ++ rest ≡ sent_by Client (packets ++ packet ∷ []) ++ rest =
+    ap (λ (l : List ℕ). l ++ rest) (sym (client-silent packets packet side)) in
+    let cut : IsCutInLast (packets ++ packet ∷ []) (recorded packets ++ fails.1.part) =
+    inr (packets, packet, fails.1.part, refl, (fails.1.rest, sym text ∙ fails.1.parts), refl) in
+    let all : Passed past (stream_bytes left written1 log1.bytes) (sent_by Client packets ++ rest)
+    (sent_by Server packets ++ spelling packet) (recorded packets ++ fails.1.part) =
     record {
-      input = sent_by Client packets ++ rest;
-      output = sent_by Server packets ++ spelling packet;
-      log = recorded packets ++ fails.1.part;
-      passed = record {
-        read = passed.read;
-        written = Appends-trans past.written written0 written1 (sent_by Server packets) (spelling packet) passed.written
-            fails.0;
-        logged = Appends-trans past.logged log0.bytes log1.bytes (recorded packets) fails.1.part passed.logged
-            fails.1.appended;
-      };
+      read = passed.read;
+      written = Appends-trans past.written written0 written1 (sent_by Server packets) (spelling packet) passed.written
+          fails.0;
+      logged = Appends-trans past.logged log0.bytes log1.bytes (recorded packets) fails.1.part passed.logged
+          fails.1.appended;
+    } in
+    record {
       served = record {
-        packets = packets ++ packet ∷ [];
-        rest = rest;
-        listed = more;
-        read = ap (λ (l : List ℕ). l ++ rest) (sym (client-silent packets packet side));
-        left = (
-          sym (server-sent packets packet side),
-          inr (packets, packet, fails.1.part, refl, (fails.1.rest, sym text ∙ fails.1.parts), refl),
-        );
+        input = sent_by Client packets ++ rest;
+        output = sent_by Server packets ++ spelling packet;
+        log = recorded packets ++ fails.1.part;
+        passed = all;
+        served = record {
+          packets = packets ++ packet ∷ [];
+          rest = rest;
+          listed = more;
+          read = read;
+          left = (sym (server-sent packets packet side), cut);
+        };
+      };
+      leaves = record {
+        input = sent_by Client packets ++ rest;
+        output = sent_by Server packets ++ spelling packet;
+        log = recorded packets ++ fails.1.part;
+        passed = all;
+        is_left = record {
+          packets = packets ++ packet ∷ [];
+          rest = rest;
+          listed = more;
+          read = read;
+          written = part-written packets packet (spelling packet) side (is-beginning (spelling packet));
+          logged = cut;
+          tree = leaves_more;
+        };
       };
     }
-stopped-sending start past left written0 written1 log0 log1 first others packet rest stops.NoMemory logging listed more
-    side passed fails =
+stopped-sending start past left written0 written1 log0 log1 first others packet rest stops.NoMemory tree logging listed
+    more side passed leaves leaves_more fails =
     let packets : List Packet = first ∷ others in
+    let all : Passed past (stream_bytes left written1 log1.bytes) (sent_by Client packets ++ rest)
+    (sent_by Server packets) (recorded packets) =
+    passed-kept past (stream_bytes left written0 log0.bytes) (stream_bytes left written1 log1.bytes) _ _ _
+    passed (Keeps-refl left) fails.0 fails.1 in
     record {
-      input = sent_by Client packets ++ rest;
-      output = sent_by Server packets;
-      log = recorded packets;
-      passed = passed-kept past (stream_bytes left written0 log0.bytes) (stream_bytes left written1 log1.bytes) _ _ _
-          passed (Keeps-refl left) fails.0 fails.1;
       served = record {
-        packets = packets;
-        rest = rest;
-        listed = listed;
-        read = refl;
-        left = (refl, cut-whole packets);
+        input = sent_by Client packets ++ rest;
+        output = sent_by Server packets;
+        log = recorded packets;
+        passed = all;
+        served = record {
+          packets = packets;
+          rest = rest;
+          listed = listed;
+          read = refl;
+          left = (refl, cut-whole packets);
+        };
+      };
+      leaves = record {
+        input = sent_by Client packets ++ rest;
+        output = sent_by Server packets;
+        log = recorded packets;
+        passed = all;
+        is_left = record {
+          packets = packets;
+          rest = rest;
+          listed = listed;
+          read = refl;
+          written = is-beginning (sent_by Server packets);
+          logged = cut-whole packets;
+          tree = leaves;
+        };
       };
     }

@@ -1,9 +1,9 @@
 use Rattle.std.proofs.Common.{sym, subst}
 use Rattle.sftp_wire.specs.Spelling.{HasSpelling}
 use Rattle.sftp_server.specs.declared.ends.Stop.{Stop}
-use Rattle.sftp_server.specs.Sessions.{stream_bytes, Ahead, Serves, ended_by}
+use Rattle.sftp_server.specs.Sessions.{stream_bytes, Ahead, Stops}
 use Rattle.sftp_server.proofs.Sessions.Opened.{IsInitLogged, init-client, init-taken, init-logged, init-unlogged}
-use Rattle.sftp_server.proofs.Sessions.Opened.{init-no_memory, stopped-so, version-spelled, version-done}
+use Rattle.sftp_server.proofs.Sessions.Opened.{init-no_memory, stopped-so, version-spelled, version-done, first_left}
 use Rattle.sftp_server.proofs.opening.greet.Goals as goal
 
 pub returns-in_err-log_init-clause-running : goal.returns-in_err-log_init-clause-running
@@ -13,7 +13,7 @@ returns-in_err-log_init-clause-running g c = λ start past left good unopened.
     let logged1 = c.log_init.new.log.bytes in
     let init_taken = init-taken c.args.input.now.held c.args.count whole in
     stopped-so c.from_residual.result _ _ c.in_err-log_init.field-0.0 c.from_residual.ensures.1
-    (subst (λ (stop : Stop). Serves start past (stream_bytes left written logged1) (ended_by stop))
+    (subst (λ (stop : Stop). Stops start past (stream_bytes left written logged1) stop (first_left start))
     (sym c.in_err-log_init.ensures.err)
     (init-unlogged start past left written c.args.log.now.bytes logged1 c.args.input.now c.args.count whole unopened
     (c.in_err-log_init.ensures.logged whole.init (init-client whole.init whole.greeting.0) init_taken.0)))
@@ -26,7 +26,7 @@ returns-in_err-version-clause-running g c = λ start past left good unopened.
     let init_taken = init-taken c.args.input.now.held c.args.count whole in
     stopped-so c.from_residual-in_err-version.result _ _ c.in_err-version.field-0.0
     c.from_residual-in_err-version.ensures.1
-    (subst (λ (stop : Stop). Serves start past (stream_bytes left written logged1) (ended_by stop))
+    (subst (λ (stop : Stop). Stops start past (stream_bytes left written logged1) stop (first_left start))
     (sym c.in_err-version.ensures.err)
     (init-no_memory start whole.init past (stream_bytes left written logged1) _
     (init-logged past left written c.args.log.now.bytes logged1 c.args.input.now c.args.count whole unopened

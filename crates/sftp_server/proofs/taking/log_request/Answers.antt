@@ -12,7 +12,7 @@ returns-in-Ok-clause-running g c =
     takes-delivered c.args.input.now c.deliver.new.input c.args.core.now c.deliver.new.core c.args.log.now
     c.record_bytes.new.self c.args.request c.args.count c.deliver.result c.requires.whole c.requires.can
     c.requires.logging (c.in-Ok.ensures packet refl spelled) c.deliver.ensures.ok c.deliver.ensures.taken
-    c.deliver.ensures.moved c.deliver.ensures.err
+    c.deliver.ensures.moved c.deliver.ensures.err c.deliver.ensures.kept
 
 pub returns-in-Ok-clause-falls : goal.returns-in-Ok-clause-falls
 returns-in-Ok-clause-falls g c =

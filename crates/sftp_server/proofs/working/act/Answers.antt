@@ -13,7 +13,7 @@ pub returns-in-Work-clause-running : goal.returns-in-Work-clause-running
 returns-in-Work-clause-running g c =
     worked-on c.args.core.now c.work.new.core c.in-Work.k _ _ c.work.result
     (subst (λ (choice : Choice). IsPossible server_clash c.args.core.now choice) c.in-Work.is c.requires.possible)
-    c.work.ensures.done c.work.ensures.err
+    c.work.ensures.done c.work.ensures.err c.work.ensures.same
 
 pub returns-in-Work-clause-falls : goal.returns-in-Work-clause-falls
 returns-in-Work-clause-falls g c =
