@@ -19,12 +19,6 @@ const VERSION_WITH_FSYNC: &[u8] = b"\0\0\0\x1f\x02\0\0\0\x03\0\0\0\x11fsync@open
 /// STAT `/`: as in all requests here, the byte of its type and what follows the id.
 const STAT: &[u8] = b"\x11\0\0\0\x01/";
 
-/// A request to write the file of the empty handle out.
-const FSYNC: &[u8] = b"\xc8\0\0\0\x11fsync@openssh.com\0\0\0\0";
-
-/// A request for another name.
-const HARDLINK: &[u8] = b"\xc8\0\0\0\x14hardlink@openssh.com\0\0\0\0\0\0\0\0";
-
 /// An extension `x` without data.
 const UNKNOWN: &[u8] = b"\xc8\0\0\0\x01x";
 
@@ -106,10 +100,9 @@ fn starts(alloc: Global, pairing: &mut Pairing, version: &[u8]) -> bool {
 
 /// Whether replies are paired by their ids, each once and of a kind that the request may get.
 fn pairs_by_ids(alloc: Global, pairing: &mut Pairing) -> bool {
-    let read = b"\x05\0\0\0\0\0\0\0\0\0\0\0\0\0\0\0\x0a";
     starts(alloc, pairing, VERSION)
         && sent(alloc, pairing, STAT) == Ok(0)
-        && sent(alloc, pairing, read) == Ok(1)
+        && sent(alloc, pairing, READ) == Ok(1)
         && refused(alloc, pairing, 0, b'd') == Some(ClientError::WrongReply)
         && refused(alloc, pairing, 5, b's') == Some(ClientError::UnknownId)
         && refused(alloc, pairing, 0, b'a').is_none()
@@ -216,55 +209,41 @@ fn first_packets(rt: HostRuntime) -> Result<(), Fail> {
     Ok(())
 }
 
+const WRITE: &[u8] = b"\x06\0\0\0\x0c\0\0\0\0\0\0\0\0\0\0\0\0\0\0\0\0\0\0\0\0\0\0\0\x03abc";
+
+const READ: &[u8] = b"\x05\0\0\0\x0c\0\0\0\0\0\0\0\0\0\0\0\0\0\0\0\0\0\0\0\0\0\0\0\x0a";
+
+const FSETSTAT: &[u8] = b"\x0a\0\0\0\x0c\0\0\0\0\0\0\0\0\0\0\0\0\0\0\0\0";
+
+const FSYNC: &[u8] = b"\xc8\0\0\0\x11fsync@openssh.com\0\0\0\x0c\0\0\0\0\0\0\0\0\0\0\0\0";
+
+const HARDLINK: &[u8] = b"\xc8\0\0\0\x14hardlink@openssh.com\0\0\0\x01f\0\0\0\x01g";
+
+const POSIX_RENAME: &[u8] = b"\xc8\0\0\0\x18posix-rename@openssh.com\0\0\0\x01k\0\0\0\x01f";
+
+const READDIR: &[u8] = b"\x0c\0\0\0\x0c\0\0\0\0\0\0\0\x01\0\0\0\x01";
+
 /// Every request, with its name and the letters of the kinds of replies that it may get, as a session on the blank tree
 /// in which each gets a reply of its last kind. A handle is a slot and how many were opened before.
 const SESSION: &[(&str, &[u8], &[u8])] = &[
     ("mkdir", b"\x0e\0\0\0\x02/d\0\0\0\0", b"s"),
     ("open", b"\x03\0\0\0\x01f\0\0\0\x0b\0\0\0\0", b"sh"),
-    (
-        "write",
-        b"\x06\0\0\0\x0c\0\0\0\0\0\0\0\0\0\0\0\0\0\0\0\0\0\0\0\0\0\0\0\x03abc",
-        b"s",
-    ),
-    (
-        "read",
-        b"\x05\0\0\0\x0c\0\0\0\0\0\0\0\0\0\0\0\0\0\0\0\0\0\0\0\0\0\0\0\x0a",
-        b"sd",
-    ),
+    ("write", WRITE, b"s"),
+    ("read", READ, b"sd"),
     ("fstat", b"\x08\0\0\0\x0c\0\0\0\0\0\0\0\0\0\0\0\0", b"sa"),
-    (
-        "fsetstat",
-        b"\x0a\0\0\0\x0c\0\0\0\0\0\0\0\0\0\0\0\0\0\0\0\0",
-        b"s",
-    ),
-    (
-        "fsync",
-        b"\xc8\0\0\0\x11fsync@openssh.com\0\0\0\x0c\0\0\0\0\0\0\0\0\0\0\0\0",
-        b"s",
-    ),
+    ("fsetstat", FSETSTAT, b"s"),
+    ("fsync", FSYNC, b"s"),
     ("stat", b"\x11\0\0\0\x01f", b"sa"),
     ("lstat", b"\x07\0\0\0\x01f", b"sa"),
     ("setstat", b"\x09\0\0\0\x01f\0\0\0\0", b"s"),
     ("symlink", b"\x14\0\0\0\x01f\0\0\0\x01l", b"s"),
     ("readlink", b"\x13\0\0\0\x01l", b"sn"),
     ("realpath", b"\x10\0\0\0\x01l", b"sn"),
-    (
-        "hardlink",
-        b"\xc8\0\0\0\x14hardlink@openssh.com\0\0\0\x01f\0\0\0\x01g",
-        b"s",
-    ),
+    ("hardlink", HARDLINK, b"s"),
     ("rename", b"\x12\0\0\0\x01g\0\0\0\x01k", b"s"),
-    (
-        "posix rename",
-        b"\xc8\0\0\0\x18posix-rename@openssh.com\0\0\0\x01k\0\0\0\x01f",
-        b"s",
-    ),
+    ("posix rename", POSIX_RENAME, b"s"),
     ("opendir", b"\x0b\0\0\0\x01/", b"sh"),
-    (
-        "readdir",
-        b"\x0c\0\0\0\x0c\0\0\0\0\0\0\0\x01\0\0\0\x01",
-        b"sn",
-    ),
+    ("readdir", READDIR, b"sn"),
     ("close", b"\x04\0\0\0\x0c\0\0\0\0\0\0\0\0\0\0\0\0", b"s"),
     ("remove", b"\x0d\0\0\0\x01l", b"s"),
     ("rmdir", b"\x0f\0\0\0\x02/d", b"s"),
@@ -287,26 +266,6 @@ fn gets_kinds(alloc: Global, pairing: &mut Pairing, asked: &[u8], kinds: &[u8]) 
         }
     }
     true
-}
-
-/// The name of the first request that may not get the kinds of its row.
-fn first_with_other_kinds(alloc: Global, pairing: &mut Pairing) -> Option<&'static str> {
-    for (name, asked, kinds) in SESSION {
-        if !gets_kinds(alloc, pairing, asked, kinds) {
-            return Some(*name);
-        }
-    }
-    None
-}
-
-#[test]
-fn kinds_of_replies(rt: HostRuntime) -> Result<(), Fail> {
-    let mut pairing = Pairing::new(rt.alloc())?;
-    let started = starts(rt.alloc(), &mut pairing, ALL_EXTENSIONS);
-    let wrong = first_with_other_kinds(rt.alloc(), &mut pairing);
-    drop(pairing);
-    assert!(rt; started && wrong.is_none(), "{wrong:?}");
-    Ok(())
 }
 
 /// What a server answers to a request, as the session sends it.
@@ -353,39 +312,20 @@ fn is_answered(
     is_kind && is_paired
 }
 
-/// The name of the first request whose reply is not of the last kind of its row, or not paired.
-fn first_unanswered(
+/// The name of the first request that may get other kinds than its row says, or whose reply is not of the last kind.
+fn first_wrong(
     alloc: Global,
     pairing: &mut Pairing,
     session: &mut Session<SlabTable>,
 ) -> Option<&'static str> {
     for (name, packet, kinds) in SESSION {
-        if !is_answered(alloc, pairing, session, packet, kinds.last()) {
+        if !gets_kinds(alloc, pairing, packet, kinds)
+            || !is_answered(alloc, pairing, session, packet, kinds.last())
+        {
             return Some(*name);
         }
     }
     None
-}
-
-/// The same on a new session of a server, on the blank tree.
-fn wrong_in_session(
-    alloc: Global,
-    pairing: &mut Pairing,
-) -> Result<Option<&'static str>, NoMemory> {
-    let mut session: Session<SlabTable> = Session::new(Tree::blank(alloc)?)?;
-    let wrong = first_unanswered(alloc, pairing, &mut session);
-    drop(session);
-    Ok(wrong)
-}
-
-#[test]
-fn session_of_every_request(rt: HostRuntime) -> Result<(), Fail> {
-    let mut pairing = Pairing::new(rt.alloc())?;
-    let started = starts(rt.alloc(), &mut pairing, ALL_EXTENSIONS);
-    let wrong = wrong_in_session(rt.alloc(), &mut pairing);
-    drop(pairing);
-    assert!(rt; started && wrong == Ok(None), "{wrong:?}");
-    Ok(())
 }
 
 /// Whether a session pairs a server's reply, which is of this kind, with the request of this packet.
@@ -428,20 +368,24 @@ fn pairs_in_reverse(
     is_third && is_second && is_first
 }
 
-/// The same on a new session of a server, on the blank tree.
-fn pairs_on_a_session(alloc: Global, pairing: &mut Pairing) -> Result<bool, NoMemory> {
+/// On a server's new session: whether those replies are paired, and the first request that does not get what it should.
+fn wrong_in_session(
+    alloc: Global,
+    pairing: &mut Pairing,
+) -> Result<(bool, Option<&'static str>), NoMemory> {
     let mut session: Session<SlabTable> = Session::new(Tree::blank(alloc)?)?;
-    let paired = pairs_in_reverse(alloc, pairing, &mut session);
+    let reversed = pairs_in_reverse(alloc, pairing, &mut session);
+    let wrong = first_wrong(alloc, pairing, &mut session);
     drop(session);
-    Ok(paired)
+    Ok((reversed, wrong))
 }
 
 #[test]
-fn replies_in_reverse_order(rt: HostRuntime) -> Result<(), Fail> {
+fn session_of_every_request(rt: HostRuntime) -> Result<(), Fail> {
     let mut pairing = Pairing::new(rt.alloc())?;
-    let started = starts(rt.alloc(), &mut pairing, VERSION);
-    let paired = pairs_on_a_session(rt.alloc(), &mut pairing);
+    let started = starts(rt.alloc(), &mut pairing, ALL_EXTENSIONS);
+    let wrong = wrong_in_session(rt.alloc(), &mut pairing);
     drop(pairing);
-    assert!(rt; started && paired == Ok(true));
+    assert!(rt; started && wrong == Ok((true, None)), "{wrong:?}");
     Ok(())
 }

@@ -1,16 +1,21 @@
 //! What the core of a server takes and does, and which acts the schedules choose.
 use crate::scripts::request;
 use sftp_path::NoMemory;
-use sftp_server::{Core, Did, InOrder, Refuse, Schedule, Shuffle};
+use sftp_server::{Core, Did, Refuse, Schedule, Shuffle};
 use sftp_tree::Tree;
 use sftp_wire::Request;
 use std::alloc::Global;
 use std::test::Fail;
 
+mod readiness;
+
 /// A call, and what it gives: why a STAT with this id is not taken, that this request is taken, whether the request at
-/// this position is ready, what comes of work on it, and the id of the reply that is sent for it.
+/// this position is ready, what comes of work on it, and the id of the reply that is sent for it. Or that STATs with so
+/// many ids are taken, or that all handles are opened.
 #[derive(Clone, Copy)]
 enum Call {
+    Fill(u32),
+    Open,
     Deliver(u32, Option<Refuse>),
     Take(u32, &'static [u8]),
     Ready(usize, bool),
@@ -24,6 +29,7 @@ const STAT: &[u8] = b"\x11\0\0\0\x01/";
 /// With 1,024 requests in the queue there is room again once the first is answered, and not when a later one is. A full
 /// queue is the first cause of a refusal.
 const WINDOW: &[Call] = &[
+    Call::Fill(1_024),
     Call::Deliver(7, Some(Refuse::Full)),
     Call::Work(0, Did::Done),
     Call::Work(1, Did::Done),
@@ -58,13 +64,17 @@ const ORDER: &[Call] = &[
     Call::Send(0, None),
 ];
 
-/// Opens `/f` as handle 0, names it `/g` too, opens that as handle 1, and `/` as the handles 2 and 3.
+/// Opens `/f` as handle 0, names it `/g` too, opens that to read as handle 1, `/` as the handles 2 and 3, `/f` to
+/// append as handle 4, and `/h` as handle 5, and to append as handle 6.
 const OPENS: &[&[u8]] = &[
     b"\x03\0\0\0\x02/f\0\0\0\x0b\0\0\0\0",
     b"\xc8\0\0\0\x14hardlink@openssh.com\0\0\0\x02/f\0\0\0\x02/g",
     b"\x03\0\0\0\x02/g\0\0\0\x01\0\0\0\0",
     b"\x0b\0\0\0\x01/",
     b"\x0b\0\0\0\x01/",
+    b"\x03\0\0\0\x02/f\0\0\0\x06\0\0\0\0",
+    b"\x03\0\0\0\x02/h\0\0\0\x0b\0\0\0\0",
+    b"\x03\0\0\0\x02/h\0\0\0\x06\0\0\0\0",
 ];
 
 /// READ of one byte at 0 of handle 0, and of handle 1, and READDIR of handle 2.
@@ -74,10 +84,11 @@ const READ_OTHER: &[u8] = b"\x05\0\0\0\x0c\0\0\0\0\0\0\0\x01\0\0\0\x01\0\0\0\0\0
 
 const LIST: &[u8] = b"\x0c\0\0\0\x0c\0\0\0\0\0\0\0\x02\0\0\0\x02";
 
-/// Rows 9 and 49 of the rules. A READ waits for a WRITE through another name of its file; READ and FSTAT of one file do
-/// not wait for each other; READDIRs wait for those of their own listing alone; CLOSE waits, and is waited for. The
-/// requests are WRITE and READ through both handles; FSTAT, READ; READDIRs of the handles 2, 2, 3; READ, CLOSE, READ.
+/// A READ waits for a WRITE through another name of its file; READ and FSTAT of one file do not wait for each other;
+/// READDIRs wait for those of their own listing alone; CLOSE waits, and is waited for. The requests are WRITE and READ
+/// through both handles; FSTAT, READ; READDIRs of the handles 2, 2, 3; READ, CLOSE, READ.
 const CLASHES: &[Call] = &[
+    Call::Open,
     Call::Take(
         1,
         b"\x06\0\0\0\x0c\0\0\0\0\0\0\0\0\0\0\0\0\0\0\0\0\0\0\0\0\0\0\0\x01x",
@@ -117,7 +128,10 @@ const WORK: Call = Call::Work(0, Did::Done);
 const SEND: Call = Call::Send(0, Some(0));
 
 /// Calls after which a core finishes, or does not.
-const ENDS: &[(&str, &[Call], bool)] = &[
+const QUEUES: &[(&str, &[Call], bool)] = &[
+    ("full window", WINDOW, false),
+    ("order", ORDER, true),
+    ("clashes", CLASHES, false),
     ("nothing asked", &[], true),
     ("a request is pending", &[ASK], false),
     ("a reply is not sent", &[ASK, WORK], false),
@@ -155,6 +169,8 @@ fn sent(core: &mut Core, k: usize) -> Option<u32> {
 
 fn gives(alloc: Global, core: &mut Core, call: Call) -> Result<bool, NoMemory> {
     match call {
+        Call::Fill(count) => takes(alloc, core, count),
+        Call::Open => opens(alloc, core),
         Call::Deliver(id, refuse) => Ok(refusal(alloc, core, id, STAT)? == refuse),
         Call::Take(id, part) => Ok(refusal(alloc, core, id, part)?.is_none()),
         Call::Ready(k, ready) => Ok(core.ready(k) == ready),
@@ -183,70 +199,40 @@ fn takes(alloc: Global, core: &mut Core, count: u32) -> Result<bool, NoMemory> {
     Ok(true)
 }
 
-/// Whether a core on the blank tree finishes after the calls, which all give what they have to.
-fn finishes(alloc: Global, calls: &[Call]) -> Result<bool, NoMemory> {
-    let mut core = Core::new(Tree::blank(alloc)?, 1)?;
-    let wrong = first_wrong(alloc, &mut core, calls);
-    let end = core.finish();
-    let finished = end.is_ok();
-    drop(end);
-    Ok(wrong?.is_none() && finished)
-}
-
-#[test]
-fn full_window(rt: HostRuntime) -> Result<(), Fail> {
-    let mut core = Core::new(Tree::blank(rt.alloc())?, 1_024)?;
-    let taken = takes(rt.alloc(), &mut core, 1_024);
-    let wrong = first_wrong(rt.alloc(), &mut core, WINDOW);
-    drop(core);
-    assert!(rt; taken == Ok(true) && wrong == Ok(None), "{wrong:?}");
-    Ok(())
-}
-
-#[test]
-fn work_in_order(rt: HostRuntime) -> Result<(), Fail> {
-    let mut core = Core::new(Tree::blank(rt.alloc())?, 2)?;
-    let wrong = first_wrong(rt.alloc(), &mut core, ORDER);
-    drop(core);
-    assert!(rt; wrong == Ok(None), "{wrong:?}");
-    Ok(())
-}
-
 /// Whether each request is taken, done and answered before the next one.
 fn opens(alloc: Global, core: &mut Core) -> Result<bool, NoMemory> {
     for part in OPENS {
-        if first_wrong(alloc, core, &[Call::Take(0, part), WORK, SEND])?.is_some() {
+        let refusal = refusal(alloc, core, 0, part)?;
+        if refusal.is_some() || core.work(0)? != Did::Done || sent(core, 0) != Some(0) {
             return Ok(false);
         }
     }
     Ok(true)
 }
 
-#[test]
-fn requests_that_clash(rt: HostRuntime) -> Result<(), Fail> {
-    let mut core = Core::new(Tree::blank(rt.alloc())?, 1_024)?;
-    let opened = opens(rt.alloc(), &mut core);
-    let wrong = first_wrong(rt.alloc(), &mut core, CLASHES);
-    drop(core);
-    assert!(rt; opened == Ok(true) && wrong == Ok(None), "{wrong:?}");
-    Ok(())
+/// The first wrong call on a core with the blank tree, and whether the core finishes then.
+fn run(alloc: Global, calls: &[Call]) -> Result<(Option<usize>, bool), NoMemory> {
+    let mut core = Core::new(Tree::blank(alloc)?, 1_024)?;
+    let wrong = first_wrong(alloc, &mut core, calls);
+    let end = core.finish();
+    let finished = end.is_ok();
+    drop(end);
+    Ok((wrong?, finished))
 }
 
 #[test]
-fn ends_of_cores(rt: HostRuntime) -> Result<(), Fail> {
-    for (name, calls, ends) in ENDS {
-        assert!(rt; finishes(rt.alloc(), calls)? == *ends, "{name}");
+fn calls_of_cores(rt: HostRuntime) -> Result<(), Fail> {
+    for (name, calls, ends) in QUEUES {
+        let (wrong, finished) = run(rt.alloc(), calls)?;
+        assert!(rt; wrong.is_none() && finished == *ends, "{name}: {wrong:?}");
     }
     Ok(())
 }
 
+/// The first choices of two seeds.
 #[test]
-fn picks_of_schedules(rt: HostRuntime) -> Result<(), Fail> {
-    for count in [1, 2, 1_024] {
-        assert!(rt; InOrder.pick(count) == 0, "{count}");
-    }
+fn picks_of_schedules(rt: HostRuntime) {
     for (state, number) in [(0, 167_951_807), (1, 908_834_774)] {
         assert!(rt; Shuffle(state).pick(5) == number, "{state}");
     }
-    Ok(())
 }

@@ -3,25 +3,6 @@ use sftp_path::{Name, NoMemory, Place, absolute, is_name, place_of_text};
 use std::alloc::Global;
 use std::test::Fail;
 
-/// What is done with a place, and what it has to be then.
-#[derive(Clone, Copy)]
-enum Step<'a> {
-    /// It goes down to this name, by `enter`.
-    Enter(&'a [u8]),
-    /// The same by `enter_component`.
-    EnterComponent(&'a [u8]),
-    /// It goes up.
-    Leave,
-    /// It is the root.
-    IsRoot,
-    /// It has this text and so many names.
-    Is(&'a [u8], usize),
-    /// The place of this text is before it, and is above it if this says so.
-    IsAfter(&'a [u8], bool),
-    /// The place of this text is after it, and is below it if this says so.
-    IsBefore(&'a [u8], bool),
-}
-
 /// The place of a text, or the root if it is empty or no place's.
 fn place_of(alloc: Global, text: &[u8]) -> Result<Place, NoMemory> {
     Ok(match place_of_text(alloc, text)? {
@@ -30,12 +11,14 @@ fn place_of(alloc: Global, text: &[u8]) -> Result<Place, NoMemory> {
     })
 }
 
-/// Whether a place is that of a text.
-fn is_same(alloc: Global, place: &Place, text: &[u8]) -> Result<bool, NoMemory> {
+/// Whether a place is before that of a text, is after it, is in it, and contains it.
+fn relation(alloc: Global, place: &Place, text: &[u8]) -> Result<[bool; 4], NoMemory> {
     let other = place_of(alloc, text)?;
-    let is_same = *place == other && place.starts_with(&other);
+    let is_in = place.starts_with(&other);
+    let contains = other.starts_with(place);
+    let relation = [*place < other, *place > other, is_in, contains];
     drop(other);
-    Ok(is_same)
+    Ok(relation)
 }
 
 /// Whether a place has a copy, of this text.
@@ -53,32 +36,9 @@ fn is_there(alloc: Global, place: &Place, text: &[u8], depth: usize) -> Result<b
     Ok(
         place.depth() == depth
             && absolute(alloc, place.names())?.as_slice() == text
-            && is_same(alloc, place, text)?
+            && relation(alloc, place, text)? == [false, false, true, true]
             && copies(alloc, place, text)?,
     )
-}
-
-/// Whether two places lie in this order, and the first is above the second if `nested` says so.
-fn are_in_order(first: &Place, second: &Place, nested: bool) -> bool {
-    *first < *second && second.starts_with(first) == nested && !first.starts_with(second)
-}
-
-/// Whether the place of a text is before another, or after it, and one is above the other if `nested` says so.
-fn is_beside(
-    alloc: Global,
-    place: &Place,
-    text: &[u8],
-    before: bool,
-    nested: bool,
-) -> Result<bool, NoMemory> {
-    let other = place_of(alloc, text)?;
-    let holds = if before {
-        are_in_order(&other, place, nested)
-    } else {
-        are_in_order(place, &other, nested)
-    };
-    drop(other);
-    Ok(holds)
 }
 
 /// Goes down by `enter`, and says whether the component is a name.
@@ -101,63 +61,41 @@ fn enters_component(place: &mut Place, component: &[u8]) -> Result<bool, NoMemor
     Ok(true)
 }
 
-/// Whether a step gives what it has to.
-fn holds(alloc: Global, place: &mut Place, step: &Step) -> Result<bool, NoMemory> {
-    match step {
-        Step::Enter(name) => enters(alloc, place, name),
-        Step::EnterComponent(name) => enters_component(place, name),
-        Step::Leave => {
-            place.leave();
-            Ok(true)
-        }
-        Step::IsRoot => Ok(*place == Place::root(alloc)),
-        Step::Is(text, depth) => is_there(alloc, place, text, *depth),
-        Step::IsAfter(text, lies_above) => is_beside(alloc, place, text, true, *lies_above),
-        Step::IsBefore(text, lies_below) => is_beside(alloc, place, text, false, *lies_below),
+/// Goes up by so many names, or to the root.
+fn leaves(place: &mut Place, count: usize) -> bool {
+    for _ in 0..count {
+        place.leave();
     }
+    true
 }
 
-/// The first of these steps that does not give what it has to.
-fn first_wrong(
-    alloc: Global,
-    place: &mut Place,
-    steps: &[Step],
-) -> Result<Option<usize>, NoMemory> {
-    for (index, step) in steps.iter().enumerate() {
-        if !holds(alloc, place, step)? {
-            return Ok(Some(index));
-        }
-    }
-    Ok(None)
+/// Whether a place goes from `/a` on its way. `/a/z` is before `/a!`, though its text is greater.
+fn goes_its_way(alloc: Global, place: &mut Place) -> Result<bool, NoMemory> {
+    Ok(
+        is_there(alloc, place, b"/a", 1)?
+            && enters(alloc, place, b"b")?
+            && is_there(alloc, place, b"/a/b", 2)?
+            && relation(alloc, place, b"/a")? == [false, true, true, false]
+            && leaves(place, 1)
+            && is_there(alloc, place, b"/a", 1)?
+            && enters_component(place, b"\xff")?
+            && is_there(alloc, place, b"/a/\xff", 2)?
+            && leaves(place, 1)
+            && enters_component(place, b"z")?
+            && is_there(alloc, place, b"/a/z", 2)?
+            && relation(alloc, place, b"/a!")? == [true, false, false, false]
+            && leaves(place, 3)
+            && is_there(alloc, place, b"/", 0)?
+            && *place == Place::root(alloc)
+            && relation(alloc, place, b"/a")? == [true, false, false, true],
+    )
 }
-
-/// From `/a` on. `/a/z` is before `/a!`, though its text is greater.
-const WAY: &[Step] = &[
-    Step::Is(b"/a", 1),
-    Step::Enter(b"b"),
-    Step::Is(b"/a/b", 2),
-    Step::IsAfter(b"/a", true),
-    Step::Leave,
-    Step::Is(b"/a", 1),
-    Step::EnterComponent(b"\xff"),
-    Step::Is(b"/a/\xff", 2),
-    Step::Leave,
-    Step::EnterComponent(b"z"),
-    Step::Is(b"/a/z", 2),
-    Step::IsBefore(b"/a!", false),
-    Step::Leave,
-    Step::Leave,
-    Step::Leave,
-    Step::Is(b"/", 0),
-    Step::IsRoot,
-    Step::IsBefore(b"/a", true),
-];
 
 #[test]
 fn ways_through_places(rt: HostRuntime) -> Result<(), Fail> {
     let mut place = place_of(rt.alloc(), b"/a")?;
-    let wrong = first_wrong(rt.alloc(), &mut place, WAY);
+    let goes = goes_its_way(rt.alloc(), &mut place);
     drop(place);
-    assert!(rt; wrong == Ok(None), "{wrong:?}");
+    assert!(rt; goes?);
     Ok(())
 }

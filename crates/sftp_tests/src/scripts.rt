@@ -116,13 +116,6 @@ fn act(alloc: Global, step: Step) -> Result<Act, NoMemory> {
     }
 }
 
-fn push_acts(alloc: Global, acts: &mut Vec<Act>, steps: &[Step]) -> Result<(), NoMemory> {
-    for step in steps {
-        acts.push(act(alloc, *step)?)?;
-    }
-    Ok(())
-}
-
 fn packet_of(event: Event) -> Packet {
     match event {
         Event::Asked(request) => Packet::Request(request),
@@ -184,7 +177,9 @@ fn holds(alloc: Global, row: &Row) -> Result<bool, NoMemory> {
 
 /// What comes of these steps, on a blank tree.
 fn ran(alloc: Global, acts: &mut Vec<Act>, steps: &[Step]) -> Result<(Vec<Event>, Core), NoMemory> {
-    push_acts(alloc, acts, steps)?;
+    for step in steps {
+        acts.push(act(alloc, *step)?)?;
+    }
     run_script(Tree::blank(alloc)?, acts.as_slice())
 }
 

@@ -4,7 +4,7 @@ use crate::audit::BLANK;
 use crate::streams::{Input, Room};
 use sftp_audit::audit;
 use sftp_path::NoMemory;
-use sftp_server::{Ended, Schedule, Stream, serve};
+use sftp_server::{Ended, Schedule, SessionEnd, Stream, serve_keeping_tree};
 use sftp_transcript::{Tally, Writer};
 use sftp_tree::Tree;
 use std::alloc::Global;
@@ -36,7 +36,7 @@ enum End {
     NoMemory,
 }
 
-/// What came of a session: what it wrote and logged, how it ended, and the tree file of its end, if it has a tree.
+/// What came of a session: what it wrote and logged, how it ended, and the tree file that it left, if it left one.
 #[derive(Debug, Drop)]
 struct Outcome {
     written: Vec<u8>,
@@ -54,13 +54,13 @@ fn end_of(ended: &Ended) -> End {
     }
 }
 
-/// The tree file of a session's end; empty if the session has no tree then.
-fn file_of(alloc: Global, ended: &Ended) -> Result<Vec<u8>, NoMemory> {
-    match ended {
-        Ended::Finished(tree) => tree.write(),
-        Ended::Fault(tree, _) => tree.write(),
-        Ended::Io(_) => Ok(Vec::new(alloc)),
-        Ended::NoMemory => Ok(Vec::new(alloc)),
+/// The tree file of a session's end, or of what the session left; empty if it has no tree then.
+fn file_of(alloc: Global, end: &SessionEnd) -> Result<Vec<u8>, NoMemory> {
+    match (&end.ended, &end.left) {
+        (Ended::Finished(tree), _) => tree.write(),
+        (Ended::Fault(tree, _), _) => tree.write(),
+        (_, Some(tree)) => tree.write(),
+        (_, None) => Ok(Vec::new(alloc)),
     }
 }
 
@@ -76,10 +76,10 @@ fn session<S: Schedule>(
     let mut writer = Tally::new(output);
     let mut record = Writer::new(alloc, Tally::new(log))?;
     let tree = Tree::blank(alloc)?;
-    let ended = serve(tree, &mut reader, &mut writer, &mut record, schedule);
-    let end = end_of(&ended);
-    let file = file_of(alloc, &ended);
-    drop(ended);
+    let served = serve_keeping_tree(tree, &mut reader, &mut writer, &mut record, schedule);
+    let end = end_of(&served.ended);
+    let file = file_of(alloc, &served);
+    drop(served);
     let Room { bytes: written, .. } = writer.into_inner();
     let Room { bytes: logged, .. } = record.into_sink().into_inner();
     Ok(Outcome {

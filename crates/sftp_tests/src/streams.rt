@@ -45,25 +45,32 @@ pub(crate) struct Room {
     pub(crate) bytes: Vec<u8>,
     size: usize,
     room: usize,
-    pub(crate) fails: bool,
-    pub(crate) flushes: bool,
+    fails: bool,
+    flushes: bool,
 }
 
 impl Room {
     /// Room enough.
     pub(crate) fn ample(alloc: Global) -> Room {
-        Room::of(alloc, usize::MAX, usize::MAX)
+        Room::of(alloc, usize::MAX, usize::MAX, true)
     }
 
-    /// Room for so many bytes, of which so many are taken a call.
-    pub(crate) fn of(alloc: Global, room: usize, size: usize) -> Room {
+    /// Room for so many bytes, of which so many are taken a call. Then it fails, if it does.
+    pub(crate) fn of(alloc: Global, room: usize, size: usize, fails: bool) -> Room {
         Room {
             bytes: Vec::new(alloc),
             size,
             room,
-            fails: true,
+            fails,
             flushes: true,
         }
+    }
+
+    /// Room enough that cannot be flushed.
+    pub(crate) fn stuck(alloc: Global) -> Room {
+        let mut stuck = Room::ample(alloc);
+        stuck.flushes = false;
+        stuck
     }
 }
 

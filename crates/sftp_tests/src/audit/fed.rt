@@ -56,13 +56,13 @@ fn feed(
 }
 
 /// Whether each of the records is taken, with so many requests kept after it.
-fn keeps(alloc: Global, auditor: &mut Auditor, records: &[(&[u8], usize)]) -> bool {
-    for (record, kept) in records {
+fn keeps(alloc: Global, auditor: &mut Auditor, records: &[&[u8]], kept: &[usize]) -> bool {
+    for (record, kept) in records.iter().zip(kept) {
         if feed(alloc, auditor, record) != Some((Ok(()), *kept)) {
             return false;
         }
     }
-    true
+    records.len() == kept.len()
 }
 
 /// Whether a record is refused so, and each later one too, and nothing is kept.
@@ -92,79 +92,55 @@ fn ends(auditor: Auditor, wanted: Result<&[u8], Refusal>) -> bool {
     holds
 }
 
-/// Whether each of the records is taken, with so many requests kept after it, and the session ends so.
-fn ends_after(alloc: Global, records: &[(&[u8], usize)], wanted: Result<&[u8], Refusal>) -> bool {
-    let Some(mut auditor) = auditor(alloc) else {
-        return false;
-    };
-    let kept = keeps(alloc, &mut auditor, records);
-    let ended = ends(auditor, wanted);
-    kept && ended
-}
-
-/// What is kept is settled by the reply to the oldest request.
-fn settles(alloc: Global) -> bool {
-    let records: [(&[u8], usize); 6] = [
-        (MAKE_A, 1),
-        (MAKE_B, 2),
-        (REMOVE_A, 3),
-        (FAILED_3, 3),
-        (DONE_2, 3),
-        (DONE, 0),
-    ];
-    ends_after(alloc, &records, Ok(TWO_DIRECTORIES))
-}
-
-/// A reply that is not allowed is found once all requests before its own are answered, and is named by its own record.
-fn names_the_reply(alloc: Global) -> bool {
-    let Some(mut auditor) = auditor(alloc) else {
-        return false;
-    };
-    let records: [(&[u8], usize); 5] = [
-        (MAKE_A, 1),
-        (MAKE_B, 2),
-        (REMOVE_A, 3),
-        (DONE_3, 3),
-        (DONE_2, 3),
-    ];
-    let kept = keeps(alloc, &mut auditor, &records);
-    let refusal = Refusal::NotAllowed { record: 6 };
-    let refused = refuses(alloc, &mut auditor, DONE, refusal);
-    let ended = ends(auditor, Err(refusal));
-    kept && refused && ended
-}
-
-/// Whether each of the records is taken, with so many requests kept after it, and then this record is refused so.
-fn refuses_after(
+/// Whether each of the records is taken, with so many requests kept after it. Then the next one, if there is one, is
+/// refused as the session is at its end, and the session ends so.
+fn ends_after(
     alloc: Global,
-    records: &[(&[u8], usize)],
-    record: &[u8],
-    refusal: Refusal,
+    records: &[&[u8]],
+    kept: &[usize],
+    next: &[u8],
+    wanted: Result<&[u8], Refusal>,
 ) -> bool {
     let Some(mut auditor) = auditor(alloc) else {
         return false;
     };
-    let kept = keeps(alloc, &mut auditor, records);
-    let refused = refuses(alloc, &mut auditor, record, refusal);
-    drop(auditor);
-    kept && refused
+    let kept = keeps(alloc, &mut auditor, records, kept);
+    let refused = match wanted {
+        Err(refusal) if !next.is_empty() => refuses(alloc, &mut auditor, next, refusal),
+        _ => true,
+    };
+    let ended = ends(auditor, wanted);
+    kept && refused && ended
+}
+
+/// What is kept is settled by the reply to the oldest request.
+fn settles(alloc: Global) -> bool {
+    let records = [MAKE_A, MAKE_B, REMOVE_A, FAILED_3, DONE_2, DONE];
+    let kept = [1, 2, 3, 3, 3, 0];
+    ends_after(alloc, &records, &kept, b"", Ok(TWO_DIRECTORIES))
+}
+
+/// A reply that is not allowed is found once all requests before its own are answered, and is named by its own record.
+fn names_the_reply(alloc: Global) -> bool {
+    let records = [MAKE_A, MAKE_B, REMOVE_A, DONE_3, DONE_2];
+    let refusal = Refusal::NotAllowed { record: 6 };
+    ends_after(alloc, &records, &[1, 2, 3, 3, 3], DONE, Err(refusal))
 }
 
 /// An id may be used again once its request is answered. A second reply, and a second request, are refused.
 fn takes_turns(alloc: Global) -> bool {
-    let answered: [(&[u8], usize); 2] = [(STAT, 1), (ATTRS, 0)];
-    let again: [(&[u8], usize); 3] = [(STAT, 1), (ATTRS, 0), (STAT, 1)];
-    let unknown = Refusal::UnknownReply { record: 5 };
-    let in_use = Refusal::IdInUse { record: 6 };
-    refuses_after(alloc, &answered, ATTRS, unknown) && refuses_after(alloc, &again, STAT, in_use)
+    let unknown = Err(Refusal::UnknownReply { record: 5 });
+    let in_use = Err(Refusal::IdInUse { record: 6 });
+    ends_after(alloc, &[STAT, ATTRS], &[1, 0], ATTRS, unknown)
+        && ends_after(alloc, &[STAT, ATTRS, STAT], &[1, 0, 1], STAT, in_use)
 }
 
 /// A request without a reply is named by its record: the oldest one.
 fn misses_a_reply(alloc: Global) -> bool {
-    let second: [(&[u8], usize); 3] = [(MAKE_A, 1), (STAT, 2), (DONE, 1)];
-    let both: [(&[u8], usize); 3] = [(MAKE_A, 1), (STAT, 2), (ATTRS, 2)];
-    ends_after(alloc, &second, Err(Refusal::Unanswered { record: 4 }))
-        && ends_after(alloc, &both, Err(Refusal::Unanswered { record: 3 }))
+    let second = Err(Refusal::Unanswered { record: 4 });
+    let first = Err(Refusal::Unanswered { record: 3 });
+    ends_after(alloc, &[MAKE_A, STAT, DONE], &[1, 2, 1], b"", second)
+        && ends_after(alloc, &[MAKE_A, STAT, ATTRS], &[1, 2, 2], b"", first)
 }
 
 #[test]
@@ -181,11 +157,16 @@ fn stat(id: u32) -> [u8; 15] {
     [b'C', 0, 0, 0, 10, 17, a, b, c, d, 0, 0, 0, 1, b'/']
 }
 
-/// A transcript of so many requests, with ids from 6 on.
-fn stats(alloc: Global, count: u32) -> Result<Vec<u8>, AllocError> {
+/// A transcript of so many requests, with ids from 6 on, or each STAT with its reply at once.
+fn stats(alloc: Global, count: u32, answered: bool) -> Result<Vec<u8>, AllocError> {
     let mut transcript = recorded(alloc, &[])?;
     for step in 0..count {
-        transcript.extend_from_slice(&stat(step.wrapping_add(6)))?;
+        if answered {
+            transcript.extend_from_slice(STAT)?;
+            transcript.extend_from_slice(ATTRS)?;
+        } else {
+            transcript.extend_from_slice(&stat(step.wrapping_add(6)))?;
+        }
     }
     Ok(transcript)
 }
@@ -217,7 +198,7 @@ fn is_full(alloc: Global, transcript: &[u8], next: u32, refusal: Refusal) -> boo
         return false;
     };
     let asked = takes_all(alloc, &mut auditor, transcript, 1_024, 1_024);
-    let kept = keeps(alloc, &mut auditor, &[(ATTRS, 1_024)]);
+    let kept = keeps(alloc, &mut auditor, &[ATTRS], &[1_024]);
     let refused = refuses(alloc, &mut auditor, &stat(next), refusal);
     drop(auditor);
     asked && kept && refused
@@ -225,26 +206,14 @@ fn is_full(alloc: Global, transcript: &[u8], next: u32, refusal: Refusal) -> boo
 
 #[test]
 fn windows(rt: HostRuntime) -> Result<(), Fail> {
-    let asked = stats(rt.alloc(), 1_024)?;
+    let asked = stats(rt.alloc(), 1_024, false)?;
     let window = Refusal::Window { record: 1_028 };
     let in_use = Refusal::IdInUse { record: 1_028 };
     for (next, refusal) in [(5_000, window), (7, window), (6, in_use)] {
-        assert!(rt;
-            is_full(rt.alloc(), asked.as_slice(), next, refusal),
-            "{next}"
-        );
+        let full = is_full(rt.alloc(), asked.as_slice(), next, refusal);
+        assert!(rt; full, "{next}");
     }
     Ok(())
-}
-
-/// A transcript of so many requests, each with its reply at once.
-fn pairs(alloc: Global, count: u32) -> Result<Vec<u8>, AllocError> {
-    let mut transcript = recorded(alloc, &[])?;
-    for _ in 0..count {
-        transcript.extend_from_slice(STAT)?;
-        transcript.extend_from_slice(ATTRS)?;
-    }
-    Ok(transcript)
 }
 
 /// Whether a session of many requests, each with its reply at once, keeps at most one, and ends as it began.
@@ -259,7 +228,7 @@ fn forgets(alloc: Global, transcript: &[u8], count: u32) -> bool {
 
 #[test]
 fn long_sessions(rt: HostRuntime) -> Result<(), Fail> {
-    let transcript = pairs(rt.alloc(), 1_100)?;
+    let transcript = stats(rt.alloc(), 1_100, true)?;
     assert!(rt; forgets(rt.alloc(), transcript.as_slice(), 2_200));
     Ok(())
 }

@@ -1,6 +1,7 @@
 //! Audits of streams: what is judged however the reads are cut, and where the source fails.
 use super::{BLANK, DONE, MAKE_A, WITH_A, recorded};
 use crate::streams::Input;
+use crate::transcript::{SESSION, record_at};
 use sftp_audit::{Accepted, AuditError, Refusal, TranscriptError, audit_stream};
 use sftp_transcript::{Reader, Tally};
 use std::alloc::Global;
@@ -20,26 +21,12 @@ fn in_bytes(alloc: Global, tree: &[u8], transcript: &[u8]) -> Result<Accepted, A
     audit_stream(alloc, tree, &mut records)
 }
 
-/// The number of the record at which the source of the first bytes fails.
-fn failed_in(count: usize) -> u64 {
-    match count {
-        0..=7 => 0,
-        8..=17 => 1,
-        18..=27 => 2,
-        28..=47 => 3,
-        48..=69 => 4,
-        _ => 5,
-    }
-}
-
-/// The source fails in the record in hand, also where the session so far is good. The first 70 bytes are the opening,
-/// INIT, VERSION, MKDIR and its STATUS.
+/// The source fails in the record in hand, also where the session so far is good.
 #[test]
 fn sources_fail(rt: HostRuntime) -> Result<(), Fail> {
-    let transcript = recorded(rt.alloc(), &[MAKE_A, DONE])?;
-    for count in 0..=transcript.len() {
-        let judged = torn(rt.alloc(), BLANK, &transcript.as_slice()[..count]);
-        let record = failed_in(count);
+    for count in 0..=SESSION.len() {
+        let judged = torn(rt.alloc(), BLANK, &SESSION[..count]);
+        let record = record_at(count);
         assert!(rt;
             matches!(judged, Err(AuditError::Transcript(TranscriptError::Io { record: at })) if at == record),
             "{count}"
@@ -62,8 +49,7 @@ fn judges_what_was_read(rt: HostRuntime) -> Result<(), Fail> {
 
 #[test]
 fn reads_in_pieces(rt: HostRuntime) -> Result<(), Fail> {
-    let transcript = recorded(rt.alloc(), &[MAKE_A, DONE])?;
-    let accepted = in_bytes(rt.alloc(), BLANK, transcript.as_slice())?;
+    let accepted = in_bytes(rt.alloc(), BLANK, SESSION)?;
     assert!(rt; accepted.requests == 1);
     assert!(rt; accepted.tree.as_slice() == WITH_A);
     Ok(())

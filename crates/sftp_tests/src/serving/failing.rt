@@ -1,5 +1,6 @@
-//! Sessions of which one stream fails, at each place: what was written and logged until then.
+//! Sessions of which one stream fails, at each place: what was written and logged until then, and the tree left.
 use super::{DONE, End, INIT, MKDIR, Outcome, VERSION, session};
+use crate::audit::{BLANK, WITH_A};
 use crate::streams::{Input, Room};
 use sftp_server::{InOrder, Stream};
 use std::alloc::Global;
@@ -17,6 +18,12 @@ const WRITTEN: &[&[u8]] = &[VERSION, DONE];
 
 const LOGGED: &[&[u8]] = &[b"SFTPTR01C", INIT, b"S", VERSION, b"C", MKDIR, b"S", DONE];
 
+const READER: End = End::Io(Stream::Reader);
+
+const WRITER: End = End::Io(Stream::Writer);
+
+const LOG: End = End::Io(Stream::Log);
+
 /// Whether the bytes are the first `count` of these parts.
 fn is_front(bytes: &[u8], count: usize, parts: &[&[u8]]) -> bool {
     let mut rest = bytes;
@@ -30,56 +37,62 @@ fn is_front(bytes: &[u8], count: usize, parts: &[&[u8]]) -> bool {
     rest.is_empty() && bytes.len() == count
 }
 
-/// Whether a session ended because of this stream, with so many bytes written and logged.
-fn stops(outcome: &Outcome, stream: Stream, written: usize, logged: usize) -> bool {
-    outcome.end == End::Io(stream)
-        && is_front(outcome.written.as_slice(), written, WRITTEN)
-        && is_front(outcome.logged.as_slice(), logged, LOGGED)
+/// The tree file that is left with so many bytes logged: MKDIR is done once it is logged; before INIT nothing is left.
+fn left(end: End, logged: usize) -> &'static [u8] {
+    match logged {
+        0 if end == READER => &[],
+        0..=135 => BLANK,
+        _ => WITH_A,
+    }
 }
 
-/// The session with a reader that fails after so many bytes.
-fn torn_input(alloc: Global, count: usize) -> Result<Outcome, Fail> {
-    let input = Input::whole(INPUT.get(..count).unwrap_or(INPUT), true);
-    let output = Room::ample(alloc);
-    session(alloc, input, output, Room::ample(alloc), &mut InOrder)
+/// Whether a session ended so, with so many bytes written and logged, and with the tree of the requests done.
+fn ends(outcome: &Outcome, end: End, written: usize, logged: usize) -> bool {
+    outcome.end == end
+        && is_front(outcome.written.as_slice(), written, WRITTEN)
+        && is_front(outcome.logged.as_slice(), logged, LOGGED)
+        && outcome.tree.as_slice() == left(end, logged)
+}
+
+/// The session of this input with these writers.
+fn over(alloc: Global, input: Input, output: Room, log: Room) -> Result<Outcome, Fail> {
+    session(alloc, input, output, log, &mut InOrder)
 }
 
 #[test]
 fn reader_fails(rt: HostRuntime) -> Result<(), Fail> {
+    let alloc = rt.alloc();
     for count in 0..=28 {
         let (written, logged) = match count {
             0..=8 => (0, 0),
             9..=27 => (97, 116),
             _ => (118, 158),
         };
-        let outcome = torn_input(rt.alloc(), count)?;
-        assert!(rt; stops(&outcome, Stream::Reader, written, logged), "{count}");
+        let torn = Input::whole(INPUT.get(..count).unwrap_or(INPUT), true);
+        let outcome = over(alloc, torn, Room::ample(alloc), Room::ample(alloc))?;
+        assert!(rt; ends(&outcome, READER, written, logged), "{count}");
     }
     Ok(())
 }
 
-/// The session of these bytes with these writers.
-fn over(alloc: Global, input: &[u8], output: Room, log: Room) -> Result<Outcome, Fail> {
-    session(alloc, Input::whole(input, false), output, log, &mut InOrder)
-}
-
 /// The session with a writer and a log that have room for so many bytes and take so many a call.
 fn narrow(alloc: Global, writer: usize, log: usize, size: usize) -> Result<Outcome, Fail> {
-    let output = Room::of(alloc, writer, size);
-    let record = Room::of(alloc, log, size);
-    over(alloc, INPUT, output, record)
+    let output = Room::of(alloc, writer, size, true);
+    let record = Room::of(alloc, log, size, true);
+    over(alloc, Input::whole(INPUT, false), output, record)
 }
 
 #[test]
 fn writer_fails(rt: HostRuntime) -> Result<(), Fail> {
-    for count in 0..118 {
-        let logged = if count < 97 { 18 } else { 136 };
+    for count in 0..=118 {
+        let (end, logged) = match count {
+            0..=96 => (WRITER, 18),
+            97..=117 => (WRITER, 136),
+            _ => (End::Finished, 158),
+        };
         for size in [usize::MAX, 1] {
             let outcome = narrow(rt.alloc(), count, usize::MAX, size)?;
-            assert!(rt;
-                stops(&outcome, Stream::Writer, count, logged),
-                "{count} {size}"
-            );
+            assert!(rt; ends(&outcome, end, count, logged), "{count} {size}");
         }
     }
     Ok(())
@@ -87,18 +100,16 @@ fn writer_fails(rt: HostRuntime) -> Result<(), Fail> {
 
 #[test]
 fn log_fails(rt: HostRuntime) -> Result<(), Fail> {
-    for count in 0..158 {
-        let written = match count {
-            0..=17 => 0,
-            18..=135 => 97,
-            _ => 118,
+    for count in 0..=158 {
+        let (end, written) = match count {
+            0..=17 => (LOG, 0),
+            18..=135 => (LOG, 97),
+            136..=157 => (LOG, 118),
+            _ => (End::Finished, 118),
         };
         for size in [usize::MAX, 1] {
             let outcome = narrow(rt.alloc(), usize::MAX, count, size)?;
-            assert!(rt;
-                stops(&outcome, Stream::Log, written, count),
-                "{count} {size}"
-            );
+            assert!(rt; ends(&outcome, end, written, count), "{count} {size}");
         }
     }
     Ok(())
@@ -106,48 +117,26 @@ fn log_fails(rt: HostRuntime) -> Result<(), Fail> {
 
 #[test]
 fn streams_take_nothing(rt: HostRuntime) -> Result<(), Fail> {
-    let mut full = Room::of(rt.alloc(), 100, usize::MAX);
-    full.fails = false;
-    let outcome = over(rt.alloc(), INPUT, full, Room::ample(rt.alloc()))?;
-    assert!(rt; stops(&outcome, Stream::Writer, 100, 136));
-    let mut full = Room::of(rt.alloc(), 100, usize::MAX);
-    full.fails = false;
-    let outcome = over(rt.alloc(), INPUT, Room::ample(rt.alloc()), full)?;
-    assert!(rt; stops(&outcome, Stream::Log, 97, 100));
+    let alloc = rt.alloc();
+    let full = Room::of(alloc, 100, usize::MAX, false);
+    let outcome = over(alloc, Input::whole(INPUT, false), full, Room::ample(alloc))?;
+    assert!(rt; ends(&outcome, WRITER, 100, 136));
+    let full = Room::of(alloc, 100, usize::MAX, false);
+    let outcome = over(alloc, Input::whole(INPUT, false), Room::ample(alloc), full)?;
+    assert!(rt; ends(&outcome, LOG, 97, 100));
     Ok(())
-}
-
-/// Room that cannot be flushed.
-fn stuck(alloc: Global) -> Room {
-    let mut room = Room::ample(alloc);
-    room.flushes = false;
-    room
 }
 
 #[test]
 fn flush_fails(rt: HostRuntime) -> Result<(), Fail> {
     let alloc = rt.alloc();
     for input in [INPUT, FAULTY] {
-        let writer = over(alloc, input, stuck(alloc), Room::ample(alloc))?;
-        assert!(rt; stops(&writer, Stream::Writer, 118, 158), "{input:?}");
-        let log = over(alloc, input, Room::ample(alloc), stuck(alloc))?;
-        assert!(rt; stops(&log, Stream::Log, 118, 158), "{input:?}");
-    }
-    Ok(())
-}
-
-/// Whether a session that finished wrote and logged all of it.
-fn is_whole(outcome: &Outcome) -> bool {
-    outcome.end == End::Finished
-        && is_front(outcome.written.as_slice(), 118, WRITTEN)
-        && is_front(outcome.logged.as_slice(), 158, LOGGED)
-}
-
-#[test]
-fn nothing_fails(rt: HostRuntime) -> Result<(), Fail> {
-    for size in [usize::MAX, 1] {
-        let outcome = narrow(rt.alloc(), usize::MAX, usize::MAX, size)?;
-        assert!(rt; is_whole(&outcome), "{size}");
+        let whole = Input::whole(input, false);
+        let writer = over(alloc, whole, Room::stuck(alloc), Room::ample(alloc))?;
+        assert!(rt; ends(&writer, WRITER, 118, 158), "{input:?}");
+        let whole = Input::whole(input, false);
+        let log = over(alloc, whole, Room::ample(alloc), Room::stuck(alloc))?;
+        assert!(rt; ends(&log, LOG, 118, 158), "{input:?}");
     }
     Ok(())
 }

@@ -1,17 +1,18 @@
 //! A session whose replies a schedule of given choices puts in order, and the audit of what was logged.
-use super::{Outcome, VERSION, accepted_requests, session};
+use super::{End, Outcome, VERSION, accepted_requests, session};
+use crate::audit::BLANK;
 use crate::streams::{Input, Room};
-use sftp_server::{InOrder, Schedule};
+use sftp_server::{Schedule, Stream};
 use std::alloc::Global;
 use std::test::Fail;
 
 /// INIT, and MKDIR of `/a` to `/d` with the ids from 0 to 3.
-const INPUT: &[u8] = b"\0\0\0\x05\x01\0\0\0\x03\
+const MKDIRS: &[u8] = b"\0\0\0\x05\x01\0\0\0\x03\
 \0\0\0\x0f\x0e\0\0\0\0\0\0\0\x02/a\0\0\0\0\0\0\0\x0f\x0e\0\0\0\x01\0\0\0\x02/b\0\0\0\0\
 \0\0\0\x0f\x0e\0\0\0\x02\0\0\0\x02/c\0\0\0\0\0\0\0\x0f\x0e\0\0\0\x03\0\0\0\x02/d\0\0\0\0";
 
-/// INIT, and row 48 of the rules: OPEN of `/f` and `/g`, which are new here, with the ids 1 and 2, and READs of the
-/// handles 0 and 1 with the ids 3 and 4.
+/// INIT, OPEN of `/f` and `/g`, which are new, with the ids 1 and 2, and READs of the handles 0 and 1 with the ids 3
+/// and 4.
 const OPENS_AND_READS: &[u8] = b"\0\0\0\x05\x01\0\0\0\x03\
 \0\0\0\x13\x03\0\0\0\x01\0\0\0\x02/f\0\0\0\x09\0\0\0\0\
 \0\0\0\x13\x03\0\0\0\x02\0\0\0\x02/g\0\0\0\x09\0\0\0\0\
@@ -36,10 +37,17 @@ impl Schedule for Choices<'_> {
     }
 }
 
-fn served<S: Schedule>(alloc: Global, input: &[u8], schedule: &mut S) -> Result<Outcome, Fail> {
+/// The session of this input, by these choices, with a client that takes so many bytes.
+fn served(alloc: Global, input: &[u8], rest: &[usize], room: usize) -> Result<Outcome, Fail> {
     let input = Input::whole(input, false);
-    let output = Room::ample(alloc);
-    session(alloc, input, output, Room::ample(alloc), schedule)
+    let output = Room::of(alloc, room, usize::MAX, true);
+    session(
+        alloc,
+        input,
+        output,
+        Room::ample(alloc),
+        &mut Choices { rest },
+    )
 }
 
 /// Whether the replies after VERSION, which are short, have these ids.
@@ -55,37 +63,45 @@ fn has_ids(outcome: &Outcome, ids: [u8; 4]) -> bool {
     rest.is_empty()
 }
 
-#[test]
-fn schedule_is_followed(rt: HostRuntime) -> Result<(), Fail> {
-    let in_order = served(rt.alloc(), INPUT, &mut InOrder)?;
-    assert!(rt; has_ids(&in_order, [0, 1, 2, 3]));
-    // The acts: work 0; of send 0 and work 1 the second; of send 0, send 1 and work 2 the third; then send 1, send 2,
-    // send 0, work 3 and send 3.
-    let rest = &[0, 1, 2, 1, 1, 0, 0, 0];
-    let outcome = served(rt.alloc(), INPUT, &mut Choices { rest })?;
-    assert!(rt; has_ids(&outcome, [1, 2, 0, 3]));
-    assert!(rt; accepted_requests(rt.alloc(), &outcome) == Some(4));
-    Ok(())
-}
-
-/// The choices, and the order of the replies that they lead to: those of row 48, then always the last act, then no send
-/// while there is work, then always a send first.
-const SCHEDULES: &[(&[usize], [u8; 4])] = &[
-    (&[0, 1, 3, 3, 0, 0, 0, 0], [4, 1, 2, 3]),
-    (&[0, 1, 3, 3, 2, 2, 1, 0], [4, 3, 2, 1]),
-    (&[0, 1, 2, 3, 0, 0, 0, 0], [1, 2, 3, 4]),
-    (&[0, 0, 0, 0, 0, 0, 0, 0], [1, 2, 3, 4]),
+/// The input, the choices, and the order of the replies that follows. With the MKDIRs the acts are work 0, work 1 (of
+/// two acts), work 2 (of three), then send 1, send 2, send 0, work 3 and send 3. With OPENs and READs, the READ of `/g`
+/// first passes that of `/f`; then the last act always comes first, then all work before a send, then each send first.
+const SCHEDULES: &[(&[u8], &[usize], [u8; 4])] = &[
+    (MKDIRS, &[], [0, 1, 2, 3]),
+    (MKDIRS, &[0, 1, 2, 1, 1, 0, 0, 0], [1, 2, 0, 3]),
+    (OPENS_AND_READS, &[0, 1, 3, 3, 0, 0, 0, 0], [4, 1, 2, 3]),
+    (OPENS_AND_READS, &[0, 1, 3, 3, 2, 2, 1, 0], [4, 3, 2, 1]),
+    (OPENS_AND_READS, &[0, 1, 2, 3, 0, 0, 0, 0], [1, 2, 3, 4]),
+    (OPENS_AND_READS, &[], [1, 2, 3, 4]),
 ];
 
 #[test]
-fn requests_are_done_out_of_order(rt: HostRuntime) -> Result<(), Fail> {
-    for (rest, ids) in SCHEDULES {
-        let outcome = served(rt.alloc(), OPENS_AND_READS, &mut Choices { rest })?;
-        assert!(rt; has_ids(&outcome, *ids), "{rest:?}");
-        assert!(rt;
-            accepted_requests(rt.alloc(), &outcome) == Some(4),
-            "{rest:?}"
-        );
+fn schedules_are_followed(rt: HostRuntime) -> Result<(), Fail> {
+    for (input, rest, ids) in SCHEDULES {
+        let outcome = served(rt.alloc(), input, rest, usize::MAX)?;
+        let accepted = accepted_requests(rt.alloc(), &outcome);
+        assert!(rt; has_ids(&outcome, *ids) && accepted == Some(4), "{rest:?}");
     }
+    Ok(())
+}
+
+/// The entries of `/a` to `/d` in a tree file, 19 bytes each.
+const ENTRIES: &[u8] =
+    b"\0\0\0\x02/aD\0\0\0\0\0\0\0\0\0\0\x01\xed\0\0\0\x02/bD\0\0\0\0\0\0\0\0\0\0\x01\xed\
+\0\0\0\x02/cD\0\0\0\0\0\0\0\0\0\0\x01\xed\0\0\0\x02/dD\0\0\0\0\0\0\0\0\0\0\x01\xed";
+
+/// Whether a session stopped since its client went away, and left a tree with these entries.
+fn leaves(outcome: &Outcome, entries: &[u8]) -> bool {
+    outcome.end == End::Io(Stream::Writer) && outcome.tree.get(BLANK.len()..) == Some(entries)
+}
+
+#[test]
+fn nothing_done_is_lost(rt: HostRuntime) -> Result<(), Fail> {
+    // Each reply is sent before the next request is done; there is room for VERSION and the first.
+    let in_turn = served(rt.alloc(), MKDIRS, &[], VERSION.len() + 21)?;
+    assert!(rt; leaves(&in_turn, &ENTRIES[..38]));
+    // All requests are done before the first reply, for which there is no room.
+    let at_once = served(rt.alloc(), MKDIRS, &[0, 1, 2, 3], VERSION.len())?;
+    assert!(rt; leaves(&at_once, ENTRIES));
     Ok(())
 }

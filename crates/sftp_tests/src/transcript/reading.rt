@@ -1,13 +1,10 @@
 //! Transcript files that are read: from sources that fail at each place or give one byte a call, and that end anywhere.
+use super::{SESSION, record_at};
 use crate::streams::Input;
 use sftp_transcript::{Event, Memory, Reader, Source, Tally, TranscriptError};
 use sftp_wire::{Packet, Side};
 use std::alloc::Global;
 use std::test::Fail;
-
-/// The greeting, MKDIR of `/a` with the id 1 as the third record, and STATUS 0 as the fourth: 28, 20 and 22 bytes.
-const SESSION: &[u8] = b"SFTPTR01C\0\0\0\x05\x01\0\0\0\x03S\0\0\0\x05\x02\0\0\0\x03\
-C\0\0\0\x0f\x0e\0\0\0\x01\0\0\0\x02/a\0\0\0\0S\0\0\0\x11\x65\0\0\0\x01\0\0\0\0\0\0\0\0\0\0\0\0";
 
 /// What a reader gives next: which event, the end, or an error.
 #[derive(Clone, Copy, PartialEq, Eq)]
@@ -45,17 +42,6 @@ fn four<R: Source + Drop>(alloc: Global, source: R) -> Result<[Given; 4], Transc
     Ok([first, second, third, fourth])
 }
 
-/// The number of the record that the byte at this place is in, if the place is no end of a record.
-fn record_at(place: usize) -> u64 {
-    match place {
-        0..=7 => 0,
-        8..=17 => 1,
-        18..=27 => 2,
-        28..=47 => 3,
-        _ => 4,
-    }
-}
-
 /// The events that are whole in so many bytes, and then three times this.
 fn events_then(place: usize, last: Given) -> [Given; 4] {
     match place {
@@ -90,25 +76,13 @@ fn reads_up_to_each_end(rt: HostRuntime) -> Result<(), Fail> {
 fn stops_where_the_source_fails(rt: HostRuntime) -> Result<(), Fail> {
     for place in 0..=SESSION.len() {
         let rest = SESSION.get(..place).unwrap_or(SESSION);
-        let record = if place == SESSION.len() {
-            5
-        } else {
-            record_at(place)
-        };
         let torn = four(rt.alloc(), Tally::new(Input::torn(rest)))?;
+        let record = record_at(place);
         let failed = Given::Refused(TranscriptError::Io { record });
         assert!(rt; torn == events_then(place, failed), "{place}");
     }
     Ok(())
 }
-
-/// The side and the packet's length of each record: INIT, VERSION, MKDIR and STATUS.
-const RECORDS: [(Side, usize); 4] = [
-    (Side::Client, 9),
-    (Side::Server, 9),
-    (Side::Client, 19),
-    (Side::Server, 21),
-];
 
 /// The side and the packet's length of the next record; `None` at the end, and where it cannot be read.
 fn next_head<R: Source>(reader: &mut Reader<R>) -> Option<(Side, usize)> {
@@ -127,14 +101,13 @@ fn head_of(
     }
 }
 
-/// Whether a reader gives each record, and then the end.
+/// Whether a reader gives INIT, VERSION, MKDIR and STATUS as records, and then the end.
 fn gives_records<R: Source>(reader: &mut Reader<R>) -> bool {
-    for (side, length) in RECORDS {
-        if next_head(reader) != Some((side, length)) {
-            return false;
-        }
-    }
-    next_of(reader) == Given::End
+    next_head(reader) == Some((Side::Client, 9))
+        && next_head(reader) == Some((Side::Server, 9))
+        && next_head(reader) == Some((Side::Client, 19))
+        && next_head(reader) == Some((Side::Server, 21))
+        && next_of(reader) == Given::End
 }
 
 /// Whether a reader gives a record, an event, a record, and the end.

@@ -36,9 +36,7 @@ fn counts_failed_reads(rt: HostRuntime) {
 #[test]
 fn counts_failed_writes(rt: HostRuntime) {
     for fails in [true, false] {
-        let mut room = Room::of(rt.alloc(), 1, 1);
-        room.fails = fails;
-        let mut narrow = Tally::new(room);
+        let mut narrow = Tally::new(Room::of(rt.alloc(), 1, 1, fails));
         assert!(rt; narrow.write(b"") == Ok(0), "{fails}");
         assert!(rt; narrow.write(b"ab") == Ok(1), "{fails}");
         assert!(rt; narrow.write(b"b") == Err(Failed), "{fails}");

@@ -1,12 +1,10 @@
 //! Records that are written: to sinks that fail at each place, and packets that have no record.
+use crate::audit::OPENING;
 use crate::streams::Room;
 use sftp_transcript::{Sink, Tally, TranscriptError, Writer};
 use sftp_wire::{Ask, ByteString, Fault, Packet, Pairs, Request, Side};
 use std::alloc::Global;
 use std::test::Fail;
-
-/// The opening, INIT 3 of the client and VERSION 3 of the server, which have no extensions.
-const GREETING: &[u8] = b"SFTPTR01C\0\0\0\x05\x01\0\0\0\x03S\0\0\0\x05\x02\0\0\0\x03";
 
 /// VERSION 3.
 const VERSION: &[u8] = b"\0\0\0\x05\x02\0\0\0\x03";
@@ -45,14 +43,12 @@ fn expected(room: usize) -> [Written; 3] {
 
 /// Whether a sink of this room has what fits, and each call gives what it has to.
 fn is_greeting(alloc: Global, room: usize, fails: bool) -> Result<bool, TranscriptError> {
-    let mut sink = Room::of(alloc, room, 1);
-    sink.fails = fails;
-    let (written, bytes, failures) = greeting(alloc, sink)?;
-    let front = GREETING.get(..room).unwrap_or(GREETING);
+    let (written, bytes, failures) = greeting(alloc, Room::of(alloc, room, 1, fails))?;
+    let front = OPENING.get(..room).unwrap_or(OPENING);
     Ok(
         written == expected(room)
             && bytes.as_slice() == front
-            && failures == if room < GREETING.len() { 1 } else { 0 },
+            && failures == if room < OPENING.len() { 1 } else { 0 },
     )
 }
 
@@ -68,11 +64,9 @@ fn stops_where_the_sink_fails(rt: HostRuntime) -> Result<(), Fail> {
 /// All records are written, and the flush fails.
 #[test]
 fn stops_where_the_flush_fails(rt: HostRuntime) -> Result<(), Fail> {
-    let mut sink = Room::ample(rt.alloc());
-    sink.flushes = false;
-    let (written, bytes, failures) = greeting(rt.alloc(), sink)?;
+    let (written, bytes, failures) = greeting(rt.alloc(), Room::stuck(rt.alloc()))?;
     assert!(rt; written == [Ok(()), Ok(()), Err(TranscriptError::Io { record: 2 })]);
-    assert!(rt; bytes.as_slice() == GREETING && failures == 1);
+    assert!(rt; bytes.as_slice() == OPENING && failures == 1);
     Ok(())
 }
 

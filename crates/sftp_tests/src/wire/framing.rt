@@ -24,6 +24,8 @@ const WAITING: &str = "Ok(None)";
 enum Call<'a> {
     /// So many of the bytes are taken.
     Push(&'a [u8], usize),
+    /// Each of the bytes is taken by itself, and no packet comes.
+    Bytes(&'a [u8]),
     /// The words of `{:?}`.
     Next(&'a str),
     Room(usize),
@@ -39,10 +41,20 @@ fn given(alloc: Global, frames: &mut FrameBuf) -> Result<String, AllocError> {
     words
 }
 
+fn takes_bytes(alloc: Global, frames: &mut FrameBuf, bytes: &[u8]) -> Result<bool, AllocError> {
+    for byte in bytes {
+        if frames.push(&[*byte]) != 1 || given(alloc, frames)?.as_str() != WAITING {
+            return Ok(false);
+        }
+    }
+    Ok(true)
+}
+
 /// Whether a call gives what it has to.
 fn holds(alloc: Global, frames: &mut FrameBuf, call: &Call) -> Result<bool, AllocError> {
     Ok(match call {
         Call::Push(bytes, taken) => frames.push(bytes) == *taken,
+        Call::Bytes(bytes) => takes_bytes(alloc, frames, bytes)?,
         Call::Next(words) => given(alloc, frames)?.as_str() == *words,
         Call::Room(room) => frames.room() == *room,
         Call::Place(place) => frames.place() == *place,
@@ -68,23 +80,9 @@ fn first_wrong(
 const BYTES: &[Call] = &[
     Call::Next(WAITING),
     Call::Room(34_000),
-    Call::Push(b"\0", 1),
-    Call::Next(WAITING),
-    Call::Push(b"\0", 1),
-    Call::Next(WAITING),
-    Call::Push(b"\0", 1),
-    Call::Next(WAITING),
-    Call::Push(b"\x05", 1),
-    Call::Next(WAITING),
+    Call::Bytes(b"\0\0\0\x05"),
     Call::Room(33_996),
-    Call::Push(b"\x01", 1),
-    Call::Next(WAITING),
-    Call::Push(b"\0", 1),
-    Call::Next(WAITING),
-    Call::Push(b"\0", 1),
-    Call::Next(WAITING),
-    Call::Push(b"\0", 1),
-    Call::Next(WAITING),
+    Call::Bytes(b"\x01\0\0\0"),
     Call::Lent(None),
     Call::Room(33_992),
     Call::Push(b"\x03", 1),
@@ -196,10 +194,8 @@ fn streams_of_calls(rt: HostRuntime) -> Result<(), Fail> {
 
 /// The bytes of CLOSE with that id, of the empty handle.
 fn close(id: u32) -> [u8; 13] {
-    let [first, second, third, fourth] = id.to_be_bytes();
-    [
-        0x00, 0x00, 0x00, 0x09, 0x04, first, second, third, fourth, 0x00, 0x00, 0x00, 0x00,
-    ]
+    let [a, b, c, d] = id.to_be_bytes();
+    [0, 0, 0, 9, 4, a, b, c, d, 0, 0, 0, 0]
 }
 
 /// Whether the buffer takes CLOSE with each of the ids from 0 on that it has room for: 2,615 packets of 13 bytes.

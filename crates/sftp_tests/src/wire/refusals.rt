@@ -1,6 +1,6 @@
 //! Packets that are not written, packets after other bytes, and the texts of errors.
-use super::{long, no_attributes, reply, request, text, written};
-use sftp_wire::{Answer, Ask, ByteString, Fault, Packet, WireError};
+use super::{long, on_handle, reply, request, text, written};
+use sftp_wire::{Answer, Ask, Fault, Packet, WireError};
 use std::alloc::{AllocError, Global};
 use std::test::Fail;
 
@@ -13,34 +13,10 @@ fn is_refused(kept: Vec<u8>, packet: Packet, expected: WireError) -> bool {
     said == Err(expected) && out.as_slice() == KEPT
 }
 
-/// The requests that hold a handle, by their types; FSYNC for the type of extensions.
-fn with_handle(alloc: Global, kind: u8, handle: ByteString) -> Ask {
-    match kind {
-        4 => Ask::Close { handle },
-        5 => Ask::Read {
-            handle,
-            offset: 0,
-            len: 1,
-        },
-        6 => Ask::Write {
-            handle,
-            offset: 0,
-            bytes: ByteString::new(Vec::new(alloc)),
-        },
-        8 => Ask::Fstat { handle },
-        10 => Ask::Fsetstat {
-            handle,
-            attrs: no_attributes(),
-        },
-        12 => Ask::Readdir { handle },
-        _ => Ask::Fsync { handle },
-    }
-}
-
-/// Whether a request of that type with a handle of 257 bytes is too long.
+/// Whether a request of that kind with a handle of 257 bytes is too long.
 fn is_too_long(alloc: Global, kind: u8) -> Result<bool, AllocError> {
     let before = Vec::from_slice(alloc, KEPT)?;
-    let ask = with_handle(alloc, kind, long(alloc, 257)?);
+    let ask = on_handle(kind, long(alloc, 257)?, 0, long(alloc, 1)?);
     Ok(is_refused(before, request(1, ask), WireError::TooLong))
 }
 
@@ -59,8 +35,8 @@ fn is_too_long_in(alloc: Global, length: usize, handle: bool) -> Result<bool, Al
 /// Handles of 257 bytes, and a packet of 34,001.
 #[test]
 fn too_long(rt: HostRuntime) -> Result<(), Fail> {
-    for kind in [4, 5, 6, 8, 10, 12, 200_u8] {
-        assert!(rt; is_too_long(rt.alloc(), kind)?, "type {kind}");
+    for kind in *b"crwtsdf" {
+        assert!(rt; is_too_long(rt.alloc(), kind)?, "kind {kind}");
     }
     assert!(rt;
         is_too_long_in(rt.alloc(), 257, true)? && is_too_long_in(rt.alloc(), 33_988, false)?
@@ -94,10 +70,8 @@ const HIDDEN: &[(&[u8], usize, WireError)] = &[
 #[test]
 fn known_extensions_as_unknown_ones(rt: HostRuntime) -> Result<(), Fail> {
     for (name, length, expected) in HIDDEN {
-        assert!(rt;
-            is_hidden(rt.alloc(), name, *length, *expected)?,
-            "{name:?} and {length} bytes"
-        );
+        let hidden = is_hidden(rt.alloc(), name, *length, *expected)?;
+        assert!(rt; hidden, "{name:?} and {length} bytes");
     }
     Ok(())
 }
