@@ -115,6 +115,13 @@ def stands_for(word, names):
     return any(f"/{it}".endswith(part) or f"{part}/" in f"/{it}" for it in names)
 
 
+def unlisted(pages):
+    """Finds pages of docs/ that README.md does not lead to."""
+    for name in pages:
+        if re.fullmatch(r"docs/[^/]+", name) and f"({name})" not in text("README.md"):
+            yield f"README.md: no link to {name}"
+
+
 def wrong_quotes(pages):
     """Finds blocks ```rust FILE that are not in that file as they stand."""
     for name in pages:
@@ -157,6 +164,7 @@ def mistakes():
     names = files()
     pages = [it for it in names if it.endswith(".md")]
     found = [*wrong_python(names), *wrong_shell(names), *wrong_columns(names), *wrong_links(pages),
-             *wrong_names(pages, names), *wrong_quotes(pages), *wrong_manual()]
+             *wrong_names(pages, names), *wrong_quotes(pages), *unlisted(pages),
+             *wrong_manual()]
     count = sum(len(scripts(names, it)) for it in ("python", "sh", "bash"))
     return found, f"{count} scripts, {len(pages)} documents and the columns of {len(names)} files"
