@@ -131,10 +131,14 @@ pub(crate) struct AuditFiles<'a> {
     pub(crate) explains: bool,
 }
 
-/// Parses the command line, whose first word is the program's name. Asking for help or the version is not
-/// an error.
-pub(crate) fn parse(alloc: Global, words: &[String]) -> Result<Request<'_>, Failure<'_>> {
-    match matched(alloc, words) {
+/// Parses the command line, whose first word is the program's name, of the program of this version. Asking for help or
+/// the version is not an error.
+pub(crate) fn parse<'a>(
+    alloc: Global,
+    version: &'a str,
+    words: &'a [String],
+) -> Result<Request<'a>, Failure<'a>> {
+    match matched(alloc, version, words) {
         Ok(request) => Ok(request),
         Err(error) => {
             let request = help_or_usage(alloc, &error);
@@ -157,8 +161,8 @@ fn help_or_usage<'a>(alloc: Global, error: &Error) -> Result<Request<'a>, Failur
     }
 }
 
-fn matched(alloc: Global, words: &[String]) -> Result<Request<'_>, Error> {
-    let mut command = command(alloc)?;
+fn matched<'a>(alloc: Global, version: &'a str, words: &'a [String]) -> Result<Request<'a>, Error> {
+    let mut command = command(alloc, version)?;
     let request = matched_by(&mut command, words);
     drop(command);
     request
@@ -209,9 +213,9 @@ fn audit_files<'a>(given: &ArgMatches<'a>) -> Option<AuditFiles<'a>> {
     })
 }
 
-fn command<'a>(alloc: Global) -> Result<Command<'a>, AllocError> {
+fn command<'a>(alloc: Global, version: &'a str) -> Result<Command<'a>, AllocError> {
     let command = Command::new(alloc, "sftpv3")
-        .version("0.1.0")
+        .version(version)
         .about(ABOUT)
         .after_help(STATUSES)
         .subcommand_required(true);

@@ -17,6 +17,9 @@ use messages::{Ending, Failure};
 use std::fs::Files;
 use std::io::{Read, Write};
 
+/// The version of the program.
+pub const VERSION: &str = "0.2.0";
+
 /// Runs the command line `words`, whose first word is the program's name, and returns the exit status:
 ///
 /// - 0: the session was served or is accepted, the file was written, or help or the version was shown;
@@ -41,7 +44,26 @@ where
     E: Write,
     ensures { result ≤ 3 }
 {
-    match perform(rt, words, input, output, errors) {
+    run_versioned(rt, VERSION, words, input, output, errors)
+}
+
+/// Does what `run` does, as the program of this version: the text that `--version` prints.
+pub fn run_versioned<R, I, O, E>(
+    rt: &R,
+    version: &str,
+    words: &[String],
+    input: &mut I,
+    output: &mut O,
+    errors: &mut E,
+) -> u8
+where
+    R: Files + AllocGlobal,
+    I: Read,
+    O: Write,
+    E: Write,
+    ensures { result ≤ 3 }
+{
+    match perform(rt, version, words, input, output, errors) {
         Ok(ending) => ending.status(),
         Err(failure) => {
             let status = failure.status();
@@ -54,12 +76,13 @@ where
 
 fn perform<'a, R: Files + AllocGlobal, I: Read, O: Write, E: Write>(
     rt: &R,
+    version: &'a str,
     words: &'a [String],
     input: &mut I,
     output: &mut O,
     errors: &mut E,
 ) -> Result<Ending, Failure<'a>> {
-    let request = command_line::parse(rt.alloc(), words)?;
+    let request = command_line::parse(rt.alloc(), version, words)?;
     let ending = perform_request(rt, &request, input, output, errors);
     drop(request);
     ending

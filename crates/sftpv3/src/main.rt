@@ -5,9 +5,12 @@ ghost use Rattle.std.specs.Prelude.{◌≡◌, ◌≢◌, ◌≤◌, IfOk, IfErr
 ghost use Rattle.std.specs.IoError.{error_kind};
 ghost use Rattle.std.specs.declared.io.ErrorKind.TheVariants.{InvalidData};
 
+mod version;
+
 use std::io::{BufWriter, ErrorKind};
 use std::process::ExitCode;
 use std::{env, io};
+use version::VERSION;
 
 /// The size of the output buffer in bytes. It holds the replies to some 20 READDIRs; a DATA of 32 KiB is written
 /// without a further copy.
@@ -30,7 +33,14 @@ fn run(rt: &HostRuntime) -> io::Result<u8>
     let mut output = BufWriter::with_capacity(rt.alloc(), OUTPUT_BUFFER, rt.stdout())?;
     let mut input = rt.stdin();
     let mut errors = rt.stderr();
-    Ok(sftp_tool::run(rt, words.as_slice(), &mut input, &mut output, &mut errors))
+    Ok(sftp_tool::run_versioned(
+        rt,
+        VERSION,
+        words.as_slice(),
+        &mut input,
+        &mut output,
+        &mut errors,
+    ))
 }
 
 /// The exit status of the process: that of the run, or 2 or 3 if it did not start.
