@@ -17,23 +17,29 @@ tree_failure error = failures.Tree error
 
 -- the file of this name cannot be read
 abbrev pub IsUnreadFile : List ℕ → Failure → Type 0
-IsUnreadFile name (failures.CannotRead file) = file.now ≡ name
+IsUnreadFile name (failures.CannotRead file _) = file.now ≡ name
 IsUnreadFile name _ = ⊥
 
 -- the file or stream of this name cannot be written
 abbrev pub IsUnwrittenFile : List ℕ → Failure → Type 0
-IsUnwrittenFile name (failures.CannotWrite file) = file.now ≡ name
+IsUnwrittenFile name (failures.CannotWrite file _) = file.now ≡ name
 IsUnwrittenFile name _ = ⊥
+
+-- the file of this name cannot be replaced, and is unchanged
+abbrev pub IsUnreplacedFile : List ℕ → Failure → Type 0
+IsUnreplacedFile name (failures.CannotReplace file _) = file.now ≡ name
+IsUnreplacedFile name _ = ⊥
 
 -- a file cannot be read, or memory ran out
 abbrev pub IsUnread : Failure → Type 0
-IsUnread (failures.CannotRead _) = Unit {0}
+IsUnread (failures.CannotRead _ _) = Unit {0}
 IsUnread failures.OutOfMemory = Unit {0}
 IsUnread _ = ⊥
 
 -- a file or a stream cannot be written, or memory ran out
 abbrev pub IsUnwritten : Failure → Type 0
-IsUnwritten (failures.CannotWrite _) = Unit {0}
+IsUnwritten (failures.CannotWrite _ _) = Unit {0}
+IsUnwritten (failures.CannotReplace _ _) = Unit {0}
 IsUnwritten failures.OutOfMemory = Unit {0}
 IsUnwritten _ = ⊥
 

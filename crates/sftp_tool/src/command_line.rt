@@ -11,14 +11,17 @@ const STATUSES: &str = "Exit status:
   0  the session was served or is accepted, the file was written, or help or the version was shown
   1  the session is refused, or the client broke the protocol
   2  bad usage, or a malformed or unknown input file or text
-  3  a file or a stream cannot be read or written, or memory ran out";
+  3  a file or a stream cannot be read or written, or memory ran out
+
+With status 3, a second line on standard error has the system's reason, if it is known.";
 
 const ABOUT_SERVE: &str =
     "Serves one session over standard input and output, on a file tree in memory";
 
 const AFTER_SERVE: &str =
     "Nothing but packets is written to standard output, so sshd can run this as a subsystem, and
-'sftp -D' and sshfs as their server. The tree file itself does not change; --save keeps the changes.
+'sftp -D' and sshfs as their server. The tree file itself does not change; --save keeps the changes. The file is
+replaced whole: the tree goes into FILE.new beside it, which is then renamed. If that fails, FILE is unchanged.
 
 If the client breaks the protocol, the requests before that are answered, the tree is saved, and
 'sftpv3: session fault: FAULT' is printed on standard error. FAULT is one of:

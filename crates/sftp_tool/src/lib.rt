@@ -7,6 +7,7 @@ ghost use Rattle.std.specs.Prelude.{◌≤◌};
 mod command_line;
 mod explaining;
 mod messages;
+mod saving;
 mod serving;
 mod showing;
 mod subcommands;

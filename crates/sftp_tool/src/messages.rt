@@ -4,7 +4,7 @@ ghost use Rattle.std.specs.IoError.{error_kind};
 ghost use Rattle.std.specs.declared.io.ErrorKind.TheVariants as kinds;
 ghost use Rattle.sftp_tool.specs.declared.messages.Failure.TheVariants as failures;
 ghost use Rattle.sftp_tool.specs.Failures.{tree_failure, IsTranscriptFailure};
-ghost use Rattle.sftp_tool.specs.Failures.{IsUnreadFile, IsUnwritten, IsUnwrittenFile};
+ghost use Rattle.sftp_tool.specs.Failures.{IsUnreadFile, IsUnwritten, IsUnwrittenFile, IsUnreplacedFile};
 
 use sftp_audit::{TranscriptError, TreeError};
 use sftp_server::SessionFault;
@@ -51,12 +51,16 @@ pub(crate) enum Failure<'a> {
     /// The client broke the protocol.
     #[error("sftpv3: session fault: {0}")]
     Session(SessionFault),
-    /// The file or stream with this name cannot be read.
+    /// The file or stream with this name cannot be read. The number is the system's for the error, if it gave one.
     #[error("sftpv3: cannot read {0}")]
-    CannotRead(&'a str),
-    /// The file or stream with this name cannot be written.
+    CannotRead(&'a str, Option<i32>),
+    /// The file or stream with this name cannot be written. The number is the system's for the error, if it gave one.
     #[error("sftpv3: cannot write {0}")]
-    CannotWrite(&'a str),
+    CannotWrite(&'a str, Option<i32>),
+    /// The file with this name cannot be replaced, and is unchanged. The number is the system's for the error, if it
+    /// gave one.
+    #[error("sftpv3: cannot write {0}")]
+    CannotReplace(&'a str, Option<i32>),
     /// Memory ran out.
     #[error("sftpv3: out of memory")]
     OutOfMemory,
@@ -92,7 +96,8 @@ impl Failure<'_> {
             | Failure::Transcript(_)
             | Failure::Text(_)
             | Failure::UnknownFile => 2,
-            Failure::CannotRead(_) | Failure::CannotWrite(_) | Failure::OutOfMemory => 3,
+            Failure::CannotRead(..) | Failure::CannotWrite(..) => 3,
+            Failure::CannotReplace(..) | Failure::OutOfMemory => 3,
         }
     }
 }
@@ -105,7 +110,7 @@ impl<'a> Failure<'a> {
     {
         match error.kind() {
             io::ErrorKind::OutOfMemory => Failure::OutOfMemory,
-            _ => Failure::CannotRead(name),
+            _ => Failure::CannotRead(name, error.raw_os_error()),
         }
     }
 
@@ -116,7 +121,18 @@ impl<'a> Failure<'a> {
     {
         match error.kind() {
             io::ErrorKind::OutOfMemory => Failure::OutOfMemory,
-            _ => Failure::CannotWrite(name),
+            _ => Failure::CannotWrite(name, error.raw_os_error()),
+        }
+    }
+
+    /// Why the file `name` could not be replaced. It is unchanged. When memory runs out, the file is not to blame.
+    pub(crate) fn replacing(name: &'a str, error: &io::Error) -> Failure<'a>
+        ensures memory { error_kind error.now ≡ kinds.OutOfMemory → result ≡ failures.OutOfMemory }
+        ensures file { error_kind error.now ≢ kinds.OutOfMemory → IsUnreplacedFile name.now result }
+    {
+        match error.kind() {
+            io::ErrorKind::OutOfMemory => Failure::OutOfMemory,
+            _ => Failure::CannotReplace(name, error.raw_os_error()),
         }
     }
 }
@@ -129,7 +145,7 @@ impl<'a> Failure<'a> {
     {
         match error {
             TranscriptError::NoMemory => Failure::OutOfMemory,
-            TranscriptError::Io { .. } => Failure::CannotRead(name),
+            TranscriptError::Io { .. } => Failure::CannotRead(name, None),
             fault => Failure::Transcript(fault),
         }
     }
@@ -162,12 +178,35 @@ impl From<TreeError> for Failure<'_> {
     }
 }
 
-/// Writes the reason of a failure. If the stream cannot be written, there is nothing left to do.
+/// Writes the line of a failure, and a second one with what else is known of it. If the stream cannot be written, there
+/// is nothing left to do.
 pub(crate) fn report<E: Write>(errors: &mut E, failure: &Failure<'_>) {
     let _ = match failure {
         Failure::Usage(text) => write_flushed(errors, text.as_str()),
         other => write_flushed(errors, format_args!("{other}\n")),
     };
+    let _ = report_details(errors, failure);
+}
+
+/// Writes what the system says of a failure, if that is known, and that a file is unchanged.
+fn report_details<E: Write>(errors: &mut E, failure: &Failure<'_>) -> io::Result<()> {
+    match failure {
+        Failure::CannotRead(_, Some(code)) => put_reason(errors, *code, ""),
+        Failure::CannotWrite(_, Some(code)) => put_reason(errors, *code, ""),
+        Failure::CannotReplace(_, Some(code)) => {
+            put_reason(errors, *code, "; the file is unchanged")
+        }
+        Failure::CannotReplace(_, None) => {
+            write_flushed(errors, "sftpv3: the file is unchanged\n")
+        }
+        _ => Ok(()),
+    }
+}
+
+/// Writes what an error means that has this number for the system, and then the effect of it.
+fn put_reason<E: Write>(errors: &mut E, code: i32, effect: &str) -> io::Result<()> {
+    let reason = io::Error::from_raw_os_error(code);
+    write_flushed(errors, format_args!("sftpv3: reason: {reason}{effect}\n"))
 }
 
 /// Writes a text and flushes it.

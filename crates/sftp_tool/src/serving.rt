@@ -5,7 +5,8 @@ ghost use Rattle.sftp_tool.specs.declared.messages.Ending.TheVariants as endings
 
 use crate::command_line::ServeOptions;
 use crate::messages::{Ending, Failure, STANDARD_INPUT, STANDARD_OUTPUT};
-use crate::subcommands::{read, write};
+use crate::saving::write;
+use crate::subcommands::read;
 use sftp_server::{Ended, InOrder, Schedule, SessionFault, Shuffle, Stream};
 use sftp_transcript::{Tally, Writer};
 use sftp_tree::Tree;
@@ -75,7 +76,7 @@ fn session<L: Write + Drop, I: Read, O: Write>(
 }
 
 /// What the end of a session means for the run. The tree is saved if the session ended by itself.
-fn end<'a, R: Files>(
+fn end<'a, R: Files + AllocGlobal>(
     rt: &R,
     ended: Ended,
     options: &ServeOptions<'a>,
@@ -91,7 +92,7 @@ fn end<'a, R: Files>(
 }
 
 /// Writes the tree at the end of a session, which may have had a fault, to the file, if one is named.
-fn saved<'a, R: Files>(
+fn saved<'a, R: Files + AllocGlobal>(
     rt: &R,
     tree: Tree,
     name: Option<&'a str>,
@@ -109,7 +110,11 @@ fn saved<'a, R: Files>(
 }
 
 /// Writes a tree to the file, if one is named.
-fn save<'a, R: Files>(rt: &R, tree: &Tree, name: Option<&'a str>) -> Result<(), Failure<'a>> {
+fn save<'a, R: Files + AllocGlobal>(
+    rt: &R,
+    tree: &Tree,
+    name: Option<&'a str>,
+) -> Result<(), Failure<'a>> {
     match name {
         Some(name) => {
             let bytes = tree.write()?;
@@ -124,10 +129,10 @@ fn save<'a, R: Files>(rt: &R, tree: &Tree, name: Option<&'a str>) -> Result<(), 
 /// Why a session could not go on when this stream failed.
 fn stream_failure<'a>(stream: Stream, options: &ServeOptions<'a>) -> Failure<'a> {
     match stream {
-        Stream::Reader => Failure::CannotRead(STANDARD_INPUT),
-        Stream::Writer => Failure::CannotWrite(STANDARD_OUTPUT),
+        Stream::Reader => Failure::CannotRead(STANDARD_INPUT, None),
+        Stream::Writer => Failure::CannotWrite(STANDARD_OUTPUT, None),
         // Without a file, recording never fails.
-        Stream::Log => Failure::CannotWrite(options.record.unwrap_or("the record")),
+        Stream::Log => Failure::CannotWrite(options.record.unwrap_or("the record"), None),
     }
 }
 

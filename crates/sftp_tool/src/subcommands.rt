@@ -6,6 +6,7 @@ ghost use Rattle.sftp_tool.specs.Failures.{IsOutcome, IsUnread, IsUnwritten};
 use crate::command_line::AuditFiles;
 use crate::explaining::explain;
 use crate::messages::{Ending, Failure, print};
+use crate::saving::write;
 use sftp_audit::{Accepted, AuditError, Refusal};
 use sftp_transcript::{Reader, Tally};
 use std::alloc::Global;
@@ -94,7 +95,7 @@ pub(crate) fn help<'a, O: Write>(text: &str, output: &mut O) -> Result<Ending, F
 }
 
 /// Writes the final tree, if a file is named for it, and then says that the session is accepted.
-fn accept<'a, R: Files, O: Write>(
+fn accept<'a, R: Files + AllocGlobal, O: Write>(
     rt: &R,
     accepted: &Accepted,
     out: Option<&'a str>,
@@ -152,15 +153,5 @@ pub(crate) fn read<'a, R: Files + AllocGlobal>(
     match fs::read(rt, name) {
         Ok(bytes) => Ok(bytes),
         Err(error) => Err(Failure::reading(name, &error)),
-    }
-}
-
-/// Writes bytes to the file `name`.
-pub(crate) fn write<'a, R: Files>(rt: &R, name: &'a str, bytes: &[u8]) -> Result<(), Failure<'a>>
-    ensures { IfErr result IsUnwritten }
-{
-    match fs::write(rt, name, bytes) {
-        Ok(()) => Ok(()),
-        Err(error) => Err(Failure::writing(name, &error)),
     }
 }

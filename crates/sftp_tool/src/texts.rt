@@ -3,7 +3,8 @@ ghost use Rattle.std.specs.Prelude.{◌≡◌, IfOk};
 ghost use Rattle.sftp_tool.specs.declared.messages.Ending.TheVariants as endings;
 
 use crate::messages::{Ending, Failure, STANDARD_INPUT, STANDARD_OUTPUT};
-use crate::subcommands::{read, write};
+use crate::saving::write;
+use crate::subcommands::read;
 use sftp_audit::{TranscriptError, TreeError};
 use sftp_show::Quoted;
 use sftp_text::{
