@@ -1,19 +1,21 @@
 -- The exit status of each outcome of a run.
 use Rattle.std.specs.Prelude.{ℕ}
 use Rattle.sftp_tool.specs.declared.messages.Ending.{Ending}
-use Rattle.sftp_tool.specs.declared.messages.Ending.TheVariants.{Done, Refused}
+use Rattle.sftp_tool.specs.declared.messages.Ending.TheVariants.{Done, Refused, Different}
 use Rattle.sftp_tool.specs.declared.messages.Failure.{Failure}
 use Rattle.sftp_tool.specs.declared.messages.Failure.TheVariants as failures
 
 abbrev pub ending_status : Ending → ℕ
 ending_status Done = 0
 ending_status Refused = 1
+ending_status Different = 1
 
 -- 1: the client broke the protocol; 2: bad usage or a malformed input file or text; 3: a file, a stream or memory failed
 abbrev pub failure_status : Failure → ℕ
 failure_status (failures.Usage _) = 2
 failure_status (failures.Session _) = 1
 failure_status (failures.Tree _) = 2
+failure_status (failures.TreeOf _ _) = 2
 failure_status (failures.Transcript _) = 2
 failure_status (failures.Text _) = 2
 failure_status failures.UnknownFile = 2

@@ -8,8 +8,9 @@ const ABOUT: &str =
     "Serves sessions of the SSH File Transfer Protocol, version 3, and audits recorded ones";
 
 const STATUSES: &str = "Exit status:
-  0  the session was served or is accepted, the file was written, or help or the version was shown
-  1  the session is refused, or the client broke the protocol
+  0  the session was served or is accepted, the file was written, the trees are the same, or help or the version was
+     shown
+  1  the session is refused, the client broke the protocol, or the trees differ
   2  bad usage, or a malformed or unknown input file or text
   3  a file or a stream cannot be read or written, or memory ran out
 
@@ -74,6 +75,22 @@ Bytes other than printable ASCII, and \" and \\, are shown as \\x and two hexade
 With --full, a line has all that its record or entry holds, and 'make' makes the same file of the lines. A record that
 is no packet of the protocol is shown as raw and its bytes in hexadecimal.";
 
+const ABOUT_DIFF: &str = "Prints how two tree files differ, a line for each path";
+
+const AFTER_DIFF: &str = "A line has the path, and then one or more of
+
+  added, removed                    the path is in B alone, in A alone
+  kind D -> L                       D directory, F file, L link
+  first name \"/f\" -> \"/g\"         the path names another file: its names begin with another one
+  owner 0,0 -> 1000,1000            the uid and the gid
+  permissions 0755 -> 0700
+  length 3 -> 5                     of a file, in bytes
+  content from byte N               the first byte that differs, from 0
+  target \"a\" -> \"b\"               of a link
+
+If the home differs or the owner of new entries, the first line begins with head and has home and owner. The bytes of a
+file are compared at its first name. The exit status is 0 if the trees are the same, and 1 if they differ.";
+
 const ABOUT_BLANK: &str = "Writes the tree file of a tree that holds only the root directory";
 
 const AFTER_AUDIT: &str =
@@ -104,6 +121,8 @@ pub(crate) enum Request<'a> {
     Show { file: &'a str, full: bool },
     /// Make a transcript or a tree file from its text.
     Make { file: &'a str },
+    /// Show how two tree files differ.
+    Diff { old: &'a str, new: &'a str },
     /// Print this text: help or the version.
     Help(String),
 }
@@ -188,6 +207,7 @@ fn requested<'a>(matches: &ArgMatches<'a>) -> Option<Request<'a>> {
         "audit" => audit_files(given).map(Request::Audit),
         "show" => show_request(given),
         "make" => given.get_str("file").map(|file| Request::Make { file }),
+        "diff" => diff_request(given),
         _ => given.get_str("file").map(|file| Request::Blank { file }),
     }
 }
@@ -196,6 +216,12 @@ fn show_request<'a>(given: &ArgMatches<'a>) -> Option<Request<'a>> {
     let file = given.get_str("file")?;
     let full = given.get_flag("full");
     Some(Request::Show { file, full })
+}
+
+fn diff_request<'a>(given: &ArgMatches<'a>) -> Option<Request<'a>> {
+    let old = given.get_str("old")?;
+    let new = given.get_str("new")?;
+    Some(Request::Diff { old, new })
 }
 
 fn serve_options<'a>(given: &ArgMatches<'a>) -> Option<ServeOptions<'a>> {
@@ -226,6 +252,7 @@ fn command<'a>(alloc: Global, version: &'a str) -> Result<Command<'a>, AllocErro
     let command = with_subcommand(command, audit_command(alloc))?;
     let command = with_subcommand(command, show_command(alloc))?;
     let command = with_subcommand(command, make_command(alloc))?;
+    let command = with_subcommand(command, diff_command(alloc))?;
     with_subcommand(command, blank_command(alloc))
 }
 
@@ -317,6 +344,22 @@ fn make_command<'a>(alloc: Global) -> Result<Command<'a>, AllocError> {
         .about(ABOUT_MAKE)
         .after_help(AFTER_MAKE)
         .arg(file_argument(alloc).help("The file to write"))
+}
+
+fn diff_command<'a>(alloc: Global) -> Result<Command<'a>, AllocError> {
+    Command::new(alloc, "diff")
+        .about(ABOUT_DIFF)
+        .after_help(AFTER_DIFF)
+        .arg(tree_argument(alloc, "old", "A").help("The tree file of before"))?
+        .arg(tree_argument(alloc, "new", "B").help("The tree file of after"))
+}
+
+/// The argument of this name that is shown as `label`.
+fn tree_argument<'a>(alloc: Global, name: &'a str, label: &'a str) -> Arg<'a> {
+    Arg::new(alloc, name)
+        .value_name(label)
+        .action(ArgAction::Set)
+        .required(true)
 }
 
 fn blank_command<'a>(alloc: Global) -> Result<Command<'a>, AllocError> {

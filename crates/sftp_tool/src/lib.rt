@@ -5,6 +5,7 @@
 ghost use Rattle.std.specs.Prelude.{◌≤◌};
 
 mod command_line;
+mod diffing;
 mod explaining;
 mod messages;
 mod saving;
@@ -23,8 +24,10 @@ pub const VERSION: &str = "0.2.0";
 
 /// Runs the command line `words`, whose first word is the program's name, and returns the exit status:
 ///
-/// - 0: the session was served or is accepted, the file was written, or help or the version was shown;
-/// - 1: the session is refused, and `output` says why; or the client broke the protocol, and `errors` says how;
+/// - 0: the session was served or is accepted, the file was written, the trees are the same, or help or the version was
+///   shown;
+/// - 1: the session is refused, and `output` says why; the trees differ, and `output` says how; or the client broke the
+///   protocol, and `errors` says how;
 /// - 2: bad usage, or a malformed or unknown file or text;
 /// - 3: a file or a stream cannot be read or written, or memory ran out.
 ///
@@ -103,6 +106,7 @@ fn perform_request<'a, R: Files + AllocGlobal, I: Read, O: Write, E: Write>(
         Request::Make { file } => texts::make(rt, file, input),
         Request::Show { file, full: false } => showing::show(rt, file, output),
         Request::Show { file, full: true } => texts::show_full(rt, file, output),
+        Request::Diff { old, new } => diffing::diff(rt, old, new, output),
         Request::Help(text) => subcommands::help(text.as_str(), output),
     }
 }

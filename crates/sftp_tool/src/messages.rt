@@ -24,10 +24,12 @@ pub(crate) const STANDARD_OUTPUT: &str = "standard output";
 /// The outcome of a run that did what was asked.
 #[derive(Clone, Copy)]
 pub(crate) enum Ending {
-    /// The session was served or is accepted, the file was written, or the text was shown.
+    /// The session was served or is accepted, the file was written, the text was shown, or the trees are the same.
     Done,
     /// The session is refused.
     Refused,
+    /// The trees differ.
+    Different,
 }
 
 /// Why a run did not do what was asked.
@@ -39,6 +41,9 @@ pub(crate) enum Failure<'a> {
     /// The tree file is malformed.
     #[error("sftpv3: tree: {0}")]
     Tree(TreeError),
+    /// The tree file with this name is malformed.
+    #[error("sftpv3: tree {0}: {1}")]
+    TreeOf(&'a str, TreeError),
     /// The transcript is malformed.
     #[error("sftpv3: transcript: {0}")]
     Transcript(TranscriptError),
@@ -77,6 +82,7 @@ impl Ending {
         match self {
             Ending::Done => 0,
             Ending::Refused => 1,
+            Ending::Different => 1,
         }
     }
 }
@@ -93,6 +99,7 @@ impl Failure<'_> {
             Failure::Session(_) => 1,
             Failure::Usage(_)
             | Failure::Tree(_)
+            | Failure::TreeOf(..)
             | Failure::Transcript(_)
             | Failure::Text(_)
             | Failure::UnknownFile => 2,

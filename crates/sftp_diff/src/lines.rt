@@ -1,0 +1,117 @@
+//! The lines of what differs between two tree files.
+
+use crate::differences::{Difference, OwnerDifference, apart, put_owners, put_texts};
+use crate::order::{Step, next_step};
+use sftp_show::Quoted;
+use sftp_treefile::{Row, TreeFile};
+use std::io::Write;
+use std::{fmt, io};
+
+/// How the heads of two tree files differ: the homes, and who owns what is made.
+#[derive(Clone, Copy)]
+struct HeadDifference<'a>(&'a TreeFile, &'a TreeFile);
+
+impl HeadDifference<'_> {
+    /// Whether the heads are the same.
+    fn is_none(&self) -> bool {
+        self.0.home.as_slice() == self.1.home.as_slice()
+            && self.0.uid == self.1.uid
+            && self.0.gid == self.1.gid
+    }
+}
+
+impl fmt::Display for HeadDifference<'_> {
+    fn fmt<W: fmt::Write>(&self, f: &mut fmt::Formatter<W>) -> fmt::Result {
+        let homes = apart(Some(self.0.home.as_slice()), Some(self.1.home.as_slice()));
+        put_texts("home", homes, f)?;
+        put_owners((self.0.uid, self.0.gid), (self.1.uid, self.1.gid), f)
+    }
+}
+
+/// Writes how a new tree file differs from an old one, in the order of the places: a line for the head if it differs,
+/// and one for each place whose entries differ, each with a line feed. Takes time linear in the length of both files,
+/// and no memory.
+///
+/// Where both entries are further names, no bytes are compared: those of a file are compared at its first name.
+///
+/// # Errors
+///
+/// That of the output.
+pub fn put_differences<O: Write>(old: &TreeFile, new: &TreeFile, output: &mut O) -> io::Result<()> {
+    put_head(old, new, output)?;
+    put_rows(old.rows.as_slice(), new.rows.as_slice(), output)
+}
+
+/// Writes how the heads and the roots differ.
+fn put_head<O: Write>(old: &TreeFile, new: &TreeFile, output: &mut O) -> io::Result<()> {
+    let head = HeadDifference(old, new);
+    if !head.is_none() {
+        writeln!(output, "head{head}")?;
+    }
+    let root = OwnerDifference(old.root, new.root);
+    if !root.is_none() {
+        writeln!(output, "\"/\"{root}")?;
+    }
+    Ok(())
+}
+
+/// Writes how the entries of two trees differ, which are these rows.
+fn put_rows<O: Write>(old_rows: &[Row], new_rows: &[Row], output: &mut O) -> io::Result<()> {
+    let (mut old, mut new) = (old_rows, new_rows);
+    for _ in 0..old_rows.len().saturating_add(new_rows.len()) {
+        match next_step(old, new) {
+            Step::End => return Ok(()),
+            Step::Removed => {
+                put_alone(old, "removed", output)?;
+                old = tail(old);
+            }
+            Step::Added => {
+                put_alone(new, "added", output)?;
+                new = tail(new);
+            }
+            Step::Kept => {
+                put_kept(old_rows, old, new_rows, new, output)?;
+                old = tail(old);
+                new = tail(new);
+            }
+        }
+    }
+    Ok(())
+}
+
+/// The rows but for the first.
+fn tail(rows: &[Row]) -> &[Row] {
+    rows.get(1..).unwrap_or(&[])
+}
+
+/// Writes what happened to the first of these rows, which one of the trees alone has.
+fn put_alone<O: Write>(rows: &[Row], what: &str, output: &mut O) -> io::Result<()> {
+    match rows.first() {
+        Some(row) => {
+            let path = Quoted(row.path.as_slice());
+            writeln!(output, "{path} {what}")
+        }
+        None => Ok(()),
+    }
+}
+
+/// Writes how the first rows differ, which have one place, if they do.
+fn put_kept<O: Write>(
+    old_rows: &[Row],
+    old: &[Row],
+    new_rows: &[Row],
+    new: &[Row],
+    output: &mut O,
+) -> io::Result<()> {
+    match (old.first(), new.first()) {
+        (Some(old), Some(new)) => {
+            let difference = Difference::of(old_rows, old, new_rows, new);
+            if difference.is_none() {
+                return Ok(());
+            }
+            let path = Quoted(old.path.as_slice());
+            writeln!(output, "{path}{difference}")
+        }
+        _ => Ok(()),
+    }
+}

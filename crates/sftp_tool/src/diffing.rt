@@ -1,0 +1,94 @@
+//! The subcommand `diff`: how two tree files differ, as lines of text.
+ghost use Rattle.std.specs.Prelude.{◌≡◌, ◌≢◌};
+ghost use Rattle.sftp_tool.specs.declared.messages.Ending.TheVariants as endings;
+
+use crate::messages::{Ending, Failure, STANDARD_OUTPUT};
+use crate::subcommands::read;
+use sftp_audit::TreeError;
+use sftp_diff::put_differences;
+use sftp_treefile::{TreeFile, read_rows};
+use std::alloc::Global;
+use std::fs::Files;
+use std::io;
+use std::io::Write;
+
+/// Shows how two tree files differ. Both are read and judged before any line is written.
+pub(crate) fn diff<'a, R: Files + AllocGlobal, O: Write>(
+    rt: &R,
+    old: &'a str,
+    new: &'a str,
+    output: &mut O,
+) -> Result<Ending, Failure<'a>> {
+    let old_bytes = read(rt, old)?;
+    match read(rt, new) {
+        Ok(new_bytes) => {
+            let files = (old, old_bytes.as_slice());
+            let ending = diff_bytes(rt.alloc(), files, (new, new_bytes.as_slice()), output);
+            drop(old_bytes);
+            drop(new_bytes);
+            ending
+        }
+        Err(failure) => {
+            drop(old_bytes);
+            Err(failure)
+        }
+    }
+}
+
+/// Shows how two tree files differ that have these names and bytes.
+fn diff_bytes<'a, O: Write>(
+    alloc: Global,
+    old: (&'a str, &[u8]),
+    new: (&'a str, &[u8]),
+    output: &mut O,
+) -> Result<Ending, Failure<'a>> {
+    let old_file = tree_of(alloc, old.0, old.1)?;
+    match tree_of(alloc, new.0, new.1) {
+        Ok(new_file) => {
+            let shown = show(&old_file, &new_file, output);
+            drop(old_file);
+            drop(new_file);
+            shown?;
+            Ok(compared(old.1, new.1))
+        }
+        Err(failure) => {
+            drop(old_file);
+            Err(failure)
+        }
+    }
+}
+
+/// What the tree file `name` says that has these bytes.
+fn tree_of<'a>(alloc: Global, name: &'a str, bytes: &[u8]) -> Result<TreeFile, Failure<'a>> {
+    match read_rows(alloc, bytes) {
+        Ok(file) => Ok(file),
+        Err(TreeError::NoMemory) => Err(Failure::OutOfMemory),
+        Err(error) => Err(Failure::TreeOf(name, error)),
+    }
+}
+
+/// Whether two tree files say the same. A tree has one tree file, so they do if they have the same bytes.
+fn compared(old: &[u8], new: &[u8]) -> Ending
+    ensures same { result ≡ endings.Done → old.now ≡ new.now }
+    ensures different { result ≢ endings.Done → old.now ≢ new.now }
+{
+    if old == new {
+        Ending::Done
+    } else {
+        Ending::Different
+    }
+}
+
+/// Prints how a new tree file differs from an old one.
+fn show<'a, O: Write>(old: &TreeFile, new: &TreeFile, output: &mut O) -> Result<(), Failure<'a>> {
+    match put_flushed(old, new, output) {
+        Ok(()) => Ok(()),
+        Err(error) => Err(Failure::writing(STANDARD_OUTPUT, &error)),
+    }
+}
+
+fn put_flushed<O: Write>(old: &TreeFile, new: &TreeFile, output: &mut O) -> io::Result<()> {
+    put_differences(old, new, output)?;
+    output.flush()?;
+    Ok(())
+}
