@@ -24,6 +24,9 @@ const AFTER_SERVE: &str =
 'sftp -D' and sshfs as their server. The tree file itself does not change; --save keeps the changes. The file is
 replaced whole: the tree goes into FILE.new beside it, which is then renamed. If that fails, FILE is unchanged.
 
+With --verbose, standard error has a line when the session opens, and one when it ends: how, the number of requests, the
+bytes read and written, the number of entries in the tree, and whether the tree was saved.
+
 If the client breaks the protocol, the requests before that are answered, the tree is saved, and
 'sftpv3: session fault: FAULT' is printed on standard error. FAULT is one of:
   KIND at PLACE  the packet at this byte of the input cannot be read
@@ -138,6 +141,8 @@ pub(crate) struct ServeOptions<'a> {
     pub(crate) record: Option<&'a str>,
     /// The state that a pseudorandom order of work and replies starts from; without it both go in the order asked.
     pub(crate) shuffle: Option<u64>,
+    /// Whether standard error says when the session opens and how it ends.
+    pub(crate) is_verbose: bool,
 }
 
 /// The names of the files of `audit`.
@@ -230,6 +235,7 @@ fn serve_options<'a>(given: &ArgMatches<'a>) -> Option<ServeOptions<'a>> {
         save: given.get_str("save"),
         record: given.get_str("record"),
         shuffle: given.get_one("shuffle"),
+        is_verbose: given.get_flag("verbose"),
     })
 }
 
@@ -277,7 +283,15 @@ fn serve_command<'a>(alloc: Global) -> Result<Command<'a>, AllocError> {
         .arg(tree_option(alloc))?
         .arg(file_option(alloc, "save").help("The file to write the final tree to"))?
         .arg(file_option(alloc, "record").help("The file to record the session in, for audit"))?
-        .arg(shuffle_option(alloc))
+        .arg(shuffle_option(alloc))?
+        .arg(verbose_option(alloc))
+}
+
+fn verbose_option<'a>(alloc: Global) -> Arg<'a> {
+    Arg::new(alloc, "verbose")
+        .long("verbose")
+        .action(ArgAction::SetTrue)
+        .help("Print on standard error when the session opens and how it ends")
 }
 
 fn shuffle_option<'a>(alloc: Global) -> Arg<'a> {

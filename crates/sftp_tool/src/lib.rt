@@ -8,11 +8,14 @@ mod command_line;
 mod diffing;
 mod explaining;
 mod messages;
+mod recording;
 mod saving;
 mod serving;
 mod showing;
 mod subcommands;
+mod summaries;
 mod texts;
+mod watching;
 
 use command_line::Request;
 use messages::{Ending, Failure};
@@ -100,7 +103,7 @@ fn perform_request<'a, R: Files + AllocGlobal, I: Read, O: Write, E: Write>(
     errors: &mut E,
 ) -> Result<Ending, Failure<'a>> {
     match request {
-        Request::Serve(options) => serving::serve(rt, options, input, output),
+        Request::Serve(options) => serving::serve(rt, options, input, output, errors),
         Request::Audit(files) => subcommands::audit(rt, files, output, errors),
         Request::Blank { file } => subcommands::blank(rt, file),
         Request::Make { file } => texts::make(rt, file, input),

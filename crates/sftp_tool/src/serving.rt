@@ -4,30 +4,34 @@ ghost use Rattle.sftp_server.specs.Sessions.{IsUnused};
 ghost use Rattle.sftp_tool.specs.declared.messages.Ending.TheVariants as endings;
 
 use crate::command_line::ServeOptions;
-use crate::messages::{Ending, Failure, STANDARD_INPUT, STANDARD_OUTPUT};
+use crate::messages::{Ending, Failure, STANDARD_INPUT, STANDARD_OUTPUT, report, write_flushed};
+use crate::recording::{Record, Recording};
 use crate::saving::write;
 use crate::subcommands::read;
-use sftp_server::{Ended, InOrder, Schedule, SessionFault, Shuffle, Stream};
+use crate::summaries::{Close, Summary, Traffic};
+use crate::watching::{Announcing, Watched};
+use sftp_server::{Ended, InOrder, Schedule, Shuffle, Stream};
 use sftp_transcript::{Tally, Writer};
 use sftp_tree::Tree;
+use sftp_wire::{take_number, take_string};
 use std::fs::Files;
-use std::io::{BufWriter, Read, Write};
-use std::{fs, io};
+use std::io::{Read, Write};
 
 /// Serves a session. The tree file is read and judged before the file of the record is made.
-pub(crate) fn serve<'a, R: Files + AllocGlobal, I: Read, O: Write>(
+pub(crate) fn serve<'a, R: Files + AllocGlobal, I: Read, O: Write, E: Write>(
     rt: &R,
     options: &ServeOptions<'a>,
     input: &mut I,
     output: &mut O,
+    errors: &mut E,
 ) -> Result<Ending, Failure<'a>>
     ensures { IfOk result (λ ending. ending ≡ endings.Done) }
 {
     let tree = read_tree(rt, options.tree)?;
     match new_log(rt, options.record) {
         Ok(log) => {
-            let ended = session(tree, log, Order::new(options.shuffle), input, output);
-            end(rt, ended, options)
+            let (ended, traffic) = session(tree, log, options, input, output, errors);
+            end(rt, ended, traffic, options, errors)
         }
         Err(failure) => {
             drop(tree);
@@ -48,135 +52,201 @@ fn read_tree<'a, R: Files + AllocGlobal>(rt: &R, name: &'a str) -> Result<Tree, 
 fn new_log<'a, R: Files + AllocGlobal>(
     rt: &R,
     name: Option<&'a str>,
-) -> Result<Writer<Tally<Recording<R::File>>>, Failure<'a>>
+) -> Result<Writer<Tally<Record<R::File>>>, Failure<'a>>
     ensures { IfOk result IsUnused }
 {
     let recording = Recording::new(rt, name)?;
-    match Writer::new(rt.alloc(), Tally::new(recording)) {
+    match Writer::new(rt.alloc(), Tally::new(Record::new(recording))) {
         Ok(log) => Ok(log),
         Err(_no_memory) => Err(Failure::OutOfMemory),
     }
 }
 
-/// Serves a session on a tree, and returns how it ended.
-fn session<L: Write + Drop, I: Read, O: Write>(
+/// Serves a session on a tree, and returns how it ended and what went through its streams.
+fn session<L: Write + Drop, I: Read, O: Write, E: Write>(
     tree: Tree,
-    mut log: Writer<Tally<Recording<L>>>,
-    mut order: Order,
+    mut log: Writer<Tally<Record<L>>>,
+    options: &ServeOptions<'_>,
     input: &mut I,
     output: &mut O,
-) -> Ended
+    errors: &mut E,
+) -> (Ended, Traffic)
     requires { IsUnused log }
 {
-    let mut reader = Tally::new(input);
-    let mut writer = Tally::new(output);
+    let mut order = Order::new(options.shuffle);
+    let mut reader = Tally::new(Watched::new(input));
+    let output = Announcing::new(output, errors, options.is_verbose);
+    let mut writer = Tally::new(Watched::new(output));
     let ended = sftp_server::serve(tree, &mut reader, &mut writer, &mut log, &mut order);
-    drop(log);
-    ended
+    let reader = reader.into_inner();
+    let writer = writer.into_inner();
+    let record = log.into_sink().into_inner();
+    let traffic = Traffic {
+        requests: record.request_count(),
+        input: reader.flow(),
+        output: writer.flow(),
+        record: record.flow(),
+    };
+    drop(reader);
+    drop(writer);
+    drop(record);
+    (ended, traffic)
 }
 
 /// What the end of a session means for the run. The tree is saved if the session ended by itself.
-fn end<'a, R: Files + AllocGlobal>(
+fn end<'a, R: Files + AllocGlobal, E: Write>(
     rt: &R,
     ended: Ended,
+    traffic: Traffic,
     options: &ServeOptions<'a>,
+    errors: &mut E,
 ) -> Result<Ending, Failure<'a>>
     ensures { IfOk result (λ ending. ending ≡ endings.Done) }
 {
-    match ended {
-        Ended::Finished(tree) => saved(rt, tree, options.save, None),
-        Ended::Fault(tree, fault) => saved(rt, tree, options.save, Some(fault)),
-        Ended::Io(stream) => Err(stream_failure(stream, options)),
-        Ended::NoMemory => Err(Failure::OutOfMemory),
+    let (tree, close) = parts(ended);
+    let saved = save_any(rt, &tree, options);
+    if options.is_verbose {
+        let summary = Summary {
+            close,
+            traffic,
+            entries: entries_of(&saved),
+            is_saved: tree.is_some() && options.save.is_some() && saved.is_ok(),
+        };
+        let _ = write_flushed(errors, format_args!("sftpv3: {summary}\n"));
     }
-}
-
-/// Writes the tree at the end of a session, which may have had a fault, to the file, if one is named.
-fn saved<'a, R: Files + AllocGlobal>(
-    rt: &R,
-    tree: Tree,
-    name: Option<&'a str>,
-    fault: Option<SessionFault>,
-) -> Result<Ending, Failure<'a>>
-    ensures { IfOk result (λ ending. ending ≡ endings.Done) }
-{
-    let saved = save(rt, &tree, name);
     drop(tree);
-    saved?;
-    match fault {
-        Some(fault) => Err(Failure::Session(fault)),
-        None => Ok(Ending::Done),
+    conclude(close, saved, traffic, options, errors)
+}
+
+/// The tree that a session left, if it is known, and how the session ended.
+fn parts(ended: Ended) -> (Option<Tree>, Close) {
+    match ended {
+        Ended::Finished(tree) => (Some(tree), Close::Finished),
+        Ended::Fault(tree, fault) => (Some(tree), Close::Fault(fault)),
+        Ended::Io(stream) => (None, Close::Io(stream)),
+        Ended::NoMemory => (None, Close::NoMemory),
     }
 }
 
-/// Writes a tree to the file, if one is named.
+/// The number of entries that was counted.
+fn entries_of(saved: &Result<Option<u32>, Failure<'_>>) -> Option<u32> {
+    match saved {
+        Ok(entries) => *entries,
+        Err(_) => None,
+    }
+}
+
+/// What the end of a session and of saving its tree mean for the run. Where a stream failed or memory ran out, a
+/// failure to save is reported before.
+fn conclude<'a, E: Write>(
+    close: Close,
+    saved: Result<Option<u32>, Failure<'a>>,
+    traffic: Traffic,
+    options: &ServeOptions<'a>,
+    errors: &mut E,
+) -> Result<Ending, Failure<'a>>
+    ensures { IfOk result (λ ending. ending ≡ endings.Done) }
+{
+    match close {
+        Close::Finished => {
+            saved?;
+            Ok(Ending::Done)
+        }
+        Close::Fault(fault) => {
+            saved?;
+            Err(Failure::Session(fault))
+        }
+        Close::Io(stream) => {
+            report_unsaved(errors, saved);
+            Err(stream_failure(stream, traffic, options))
+        }
+        Close::NoMemory => {
+            report_unsaved(errors, saved);
+            Err(Failure::OutOfMemory)
+        }
+    }
+}
+
+/// Reports why a tree was not saved, if it was to be.
+fn report_unsaved<E: Write>(errors: &mut E, saved: Result<Option<u32>, Failure<'_>>) {
+    if let Err(failure) = &saved {
+        report(errors, failure);
+    }
+    drop(saved);
+}
+
+/// Writes a tree, if there is one, to the file that is named for it, if one is. Returns how many entries it has, if
+/// they were counted.
+fn save_any<'a, R: Files + AllocGlobal>(
+    rt: &R,
+    tree: &Option<Tree>,
+    options: &ServeOptions<'a>,
+) -> Result<Option<u32>, Failure<'a>> {
+    match (tree, options.save) {
+        (Some(tree), Some(name)) => Ok(Some(save(rt, tree, name)?)),
+        (Some(tree), None) if options.is_verbose => Ok(counted(tree)),
+        _ => Ok(None),
+    }
+}
+
+/// Writes a tree to the file `name`, and returns how many entries it has.
 fn save<'a, R: Files + AllocGlobal>(
     rt: &R,
     tree: &Tree,
-    name: Option<&'a str>,
-) -> Result<(), Failure<'a>> {
-    match name {
-        Some(name) => {
-            let bytes = tree.write()?;
-            let written = write(rt, name, bytes.as_slice());
+    name: &'a str,
+) -> Result<u32, Failure<'a>> {
+    let bytes = tree.write()?;
+    let written = write(rt, name, bytes.as_slice());
+    let entries = entry_count(bytes.as_slice());
+    drop(bytes);
+    written?;
+    Ok(entries)
+}
+
+/// How many entries a tree has, unless memory runs out.
+fn counted(tree: &Tree) -> Option<u32> {
+    match tree.write() {
+        Ok(bytes) => {
+            let entries = entry_count(bytes.as_slice());
             drop(bytes);
-            written
+            Some(entries)
         }
-        None => Ok(()),
+        Err(_no_memory) => None,
     }
 }
+
+/// The number of entries that a tree file says it has.
+fn entry_count(file: &[u8]) -> u32 {
+    match take_string(behind(file, OPENING_LENGTH)) {
+        Some((_home, rest)) => match take_number(behind(rest, OWNER_LENGTH)) {
+            Some((count, _rest)) => count,
+            None => 0,
+        },
+        None => 0,
+    }
+}
+
+/// The bytes behind the first ones.
+fn behind(bytes: &[u8], count: usize) -> &[u8] {
+    bytes.get(count..).unwrap_or(&[])
+}
+
+/// The length of the opening of a tree file.
+const OPENING_LENGTH: usize = 8;
+
+/// The length of the owner of new entries in a tree file: a user and a group.
+const OWNER_LENGTH: usize = 8;
 
 /// Why a session could not go on when this stream failed.
-fn stream_failure<'a>(stream: Stream, options: &ServeOptions<'a>) -> Failure<'a> {
+fn stream_failure<'a>(stream: Stream, traffic: Traffic, options: &ServeOptions<'a>) -> Failure<'a> {
     match stream {
-        Stream::Reader => Failure::CannotRead(STANDARD_INPUT, None),
-        Stream::Writer => Failure::CannotWrite(STANDARD_OUTPUT, None),
+        Stream::Reader => Failure::CannotRead(STANDARD_INPUT, traffic.input.code),
+        Stream::Writer => Failure::CannotWrite(STANDARD_OUTPUT, traffic.output.code),
         // Without a file, recording never fails.
-        Stream::Log => Failure::CannotWrite(options.record.unwrap_or("the record"), None),
-    }
-}
-
-/// Where the record of a session goes.
-#[derive(Drop)]
-enum Recording<L: Write + Drop> {
-    /// To this file.
-    File(BufWriter<L>),
-    /// Nowhere.
-    Nowhere,
-}
-
-impl<L: Write + Drop> Recording<L> {
-    /// To a new file of that name, if there is one.
-    fn new<'a, R: Files<File = L> + AllocGlobal>(
-        rt: &R,
-        name: Option<&'a str>,
-    ) -> Result<Recording<L>, Failure<'a>> {
-        match name {
-            Some(name) => match fs::create(rt, name) {
-                Ok(file) => match BufWriter::new(rt.alloc(), file) {
-                    Ok(writer) => Ok(Recording::File(writer)),
-                    Err(error) => Err(Failure::writing(name, &error)),
-                },
-                Err(error) => Err(Failure::writing(name, &error)),
-            },
-            None => Ok(Recording::Nowhere),
-        }
-    }
-}
-
-impl<L: Write + Drop> Write for Recording<L> {
-    fn write(&mut self, bytes: &[u8]) -> io::Result<usize> {
-        match self {
-            Recording::File(writer) => writer.write(bytes),
-            Recording::Nowhere => Ok(bytes.len()),
-        }
-    }
-
-    fn flush(&mut self) -> io::Result<()> {
-        match self {
-            Recording::File(writer) => writer.flush(),
-            Recording::Nowhere => Ok(()),
-        }
+        Stream::Log => Failure::CannotWrite(
+            options.record.unwrap_or("the record"),
+            traffic.record.code,
+        ),
     }
 }
 

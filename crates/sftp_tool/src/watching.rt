@@ -1,0 +1,107 @@
+//! Streams that count what goes through them, and keep what the system says of their failures.
+use crate::messages::write_flushed;
+use std::io;
+use std::io::{Read, Write};
+
+/// A reader or a writer, how many bytes it read or wrote, capped at 2^64 - 1, and the system's number for the last
+/// error if it gave one.
+#[derive(Drop)]
+pub(crate) struct Watched<T> {
+    inner: T,
+    bytes: u64,
+    code: Option<i32>,
+}
+
+impl<T> Watched<T> {
+    /// Nothing is read or written yet.
+    pub(crate) fn new(inner: T) -> Watched<T> {
+        Watched {
+            inner,
+            bytes: 0,
+            code: None,
+        }
+    }
+
+    /// What went through.
+    pub(crate) fn flow(&self) -> Flow {
+        Flow {
+            bytes: self.bytes,
+            code: self.code,
+        }
+    }
+
+    /// Keeps how a call ended that read or wrote bytes.
+    fn keep(&mut self, done: &io::Result<usize>) {
+        match done {
+            Ok(count) => self.bytes = self.bytes.saturating_add(*count as u64),
+            Err(error) => self.code = error.raw_os_error(),
+        }
+    }
+}
+
+impl<R: Read> Read for Watched<R> {
+    fn read(&mut self, buffer: &mut [u8]) -> io::Result<usize> {
+        let done = self.inner.read(buffer);
+        self.keep(&done);
+        done
+    }
+}
+
+impl<W: Write> Write for Watched<W> {
+    fn write(&mut self, bytes: &[u8]) -> io::Result<usize> {
+        let done = self.inner.write(bytes);
+        self.keep(&done);
+        done
+    }
+
+    fn flush(&mut self) -> io::Result<()> {
+        match self.inner.flush() {
+            Ok(()) => Ok(()),
+            Err(error) => {
+                self.code = error.raw_os_error();
+                Err(error)
+            }
+        }
+    }
+}
+
+/// What went through a stream: how many bytes, and the system's number for the last error if it gave one.
+#[derive(Clone, Copy)]
+pub(crate) struct Flow {
+    pub(crate) bytes: u64,
+    pub(crate) code: Option<i32>,
+}
+
+/// A writer that says on another one, if it is to, that the session is open. The first bytes that a session writes are
+/// its VERSION.
+#[derive(Drop)]
+pub(crate) struct Announcing<'a, W, E> {
+    output: &'a mut W,
+    errors: &'a mut E,
+    is_due: bool,
+}
+
+impl<'a, W, E> Announcing<'a, W, E> {
+    pub(crate) fn new(output: &'a mut W, errors: &'a mut E, is_due: bool) -> Announcing<'a, W, E> {
+        Announcing {
+            output,
+            errors,
+            is_due,
+        }
+    }
+}
+
+impl<W: Write, E: Write> Write for Announcing<'_, W, E> {
+    fn write(&mut self, bytes: &[u8]) -> io::Result<usize> {
+        let done = self.output.write(bytes);
+        if self.is_due && done.is_ok() {
+            self.is_due = false;
+            let _ = write_flushed(self.errors, "sftpv3: session opened\n");
+        }
+        done
+    }
+
+    fn flush(&mut self) -> io::Result<()> {
+        self.output.flush()
+    }
+}
