@@ -1,7 +1,7 @@
 -- The exit status of each outcome of a run.
 use Rattle.std.specs.Prelude.{ℕ}
 use Rattle.sftp_tool.specs.declared.messages.Ending.{Ending}
-use Rattle.sftp_tool.specs.declared.messages.Ending.TheVariants.{Done, Refused, Different}
+use Rattle.sftp_tool.specs.declared.messages.Ending.TheVariants.{Done, Refused, Different, Explained}
 use Rattle.sftp_tool.specs.declared.messages.Failure.{Failure}
 use Rattle.sftp_tool.specs.declared.messages.Failure.TheVariants as failures
 
@@ -9,6 +9,7 @@ abbrev pub ending_status : Ending → ℕ
 ending_status Done = 0
 ending_status Refused = 1
 ending_status Different = 1
+ending_status Explained = 2
 
 -- 1: the client broke the protocol; 2: bad usage or a malformed input file or text; 3: a file, a stream or memory failed
 abbrev pub failure_status : Failure → ℕ

@@ -76,7 +76,10 @@ belongs to, or the target of a link.
 Bytes other than printable ASCII, and \" and \\, are shown as \\x and two hexadecimal digits.
 
 With --full, a line has all that its record or entry holds, and 'make' makes the same file of the lines. A record that
-is no packet of the protocol is shown as raw and its bytes in hexadecimal.";
+is no packet of the protocol is shown as raw and its bytes in hexadecimal.
+
+With --explain, a line on standard error says where a malformed file is so: the field of the fault, and the place of its
+first byte in the file, from 0.";
 
 const ABOUT_DIFF: &str = "Prints how two tree files differ, a line for each path";
 
@@ -109,7 +112,8 @@ KIND is one of:
 With --explain, standard error says more of a refusal: the lines of the request and of the reply, as 'show' prints them;
 for UnknownReply, the last request of the id, and its reply; for IdInUse and Window, the unanswered request; and for
 NotAllowed, the causes that refuse the request with the status codes that they allow, the reply that is expected, and
-how the reply found differs. For this the transcript is read again, so it cannot be a pipe.";
+how the reply found differs. For this the transcript is read again, so it cannot be a pipe. If the tree file or the
+transcript is malformed, a line has the field of the fault, and the place of its first byte in the file, from 0.";
 
 /// What a command line asks for.
 #[derive(Drop)]
@@ -119,13 +123,25 @@ pub(crate) enum Request<'a> {
     /// Audit a session.
     Audit(AuditFiles<'a>),
     /// Write the blank tree to a file.
-    Blank { file: &'a str },
-    /// Show what a transcript or a tree file holds: all of it, or a line for each record or entry that sums it up.
-    Show { file: &'a str, full: bool },
+    Blank {
+        file: &'a str,
+    },
+    /// Show what a transcript or a tree file holds: all of it, or a line for each record or entry that sums it up. If
+    /// the file is malformed, say on standard error where, if that is asked for.
+    Show {
+        file: &'a str,
+        full: bool,
+        explains: bool,
+    },
     /// Make a transcript or a tree file from its text.
-    Make { file: &'a str },
+    Make {
+        file: &'a str,
+    },
     /// Show how two tree files differ.
-    Diff { old: &'a str, new: &'a str },
+    Diff {
+        old: &'a str,
+        new: &'a str,
+    },
     /// Print this text: help or the version.
     Help(String),
 }
@@ -154,7 +170,7 @@ pub(crate) struct AuditFiles<'a> {
     pub(crate) transcript: &'a str,
     /// The file to write the final tree to.
     pub(crate) out: Option<&'a str>,
-    /// Whether a refusal is explained on standard error.
+    /// Whether a refusal is explained on standard error, and where a file is malformed.
     pub(crate) explains: bool,
 }
 
@@ -220,7 +236,12 @@ fn requested<'a>(matches: &ArgMatches<'a>) -> Option<Request<'a>> {
 fn show_request<'a>(given: &ArgMatches<'a>) -> Option<Request<'a>> {
     let file = given.get_str("file")?;
     let full = given.get_flag("full");
-    Some(Request::Show { file, full })
+    let explains = given.get_flag("explain");
+    Some(Request::Show {
+        file,
+        full,
+        explains,
+    })
 }
 
 fn diff_request<'a>(given: &ArgMatches<'a>) -> Option<Request<'a>> {
@@ -310,7 +331,10 @@ fn audit_command<'a>(alloc: Global) -> Result<Command<'a>, AllocError> {
         .arg(tree_option(alloc))?
         .arg(transcript_option(alloc))?
         .arg(out_option(alloc))?
-        .arg(explain_option(alloc))
+        .arg(explain_option(
+            alloc,
+            "Print on standard error why the session is refused, or where a file is malformed",
+        ))
 }
 
 fn tree_option<'a>(alloc: Global) -> Arg<'a> {
@@ -331,11 +355,11 @@ fn out_option<'a>(alloc: Global) -> Arg<'a> {
     )
 }
 
-fn explain_option<'a>(alloc: Global) -> Arg<'a> {
+fn explain_option<'a>(alloc: Global, help: &'a str) -> Arg<'a> {
     Arg::new(alloc, "explain")
         .long("explain")
         .action(ArgAction::SetTrue)
-        .help("Print on standard error why the session is refused")
+        .help(help)
 }
 
 fn show_command<'a>(alloc: Global) -> Result<Command<'a>, AllocError> {
@@ -343,6 +367,10 @@ fn show_command<'a>(alloc: Global) -> Result<Command<'a>, AllocError> {
         .about(ABOUT_SHOW)
         .after_help(AFTER_SHOW)
         .arg(full_option(alloc))?
+        .arg(explain_option(
+            alloc,
+            "Print on standard error where a malformed file is so",
+        ))?
         .arg(file_argument(alloc).help("The transcript or the tree file"))
 }
 

@@ -12,6 +12,7 @@ mod recording;
 mod saving;
 mod serving;
 mod showing;
+mod spotting;
 mod subcommands;
 mod summaries;
 mod texts;
@@ -19,6 +20,8 @@ mod watching;
 
 use command_line::Request;
 use messages::{Ending, Failure};
+use sftp_faults::Spot;
+use spotting::spot_of;
 use std::fs::Files;
 use std::io::{Read, Write};
 
@@ -91,8 +94,55 @@ fn perform<'a, R: Files + AllocGlobal, I: Read, O: Write, E: Write>(
 ) -> Result<Ending, Failure<'a>> {
     let request = command_line::parse(rt.alloc(), version, words)?;
     let ending = perform_request(rt, &request, input, output, errors);
+    let explained = explained(rt, &request, ending, errors);
     drop(request);
-    ending
+    explained
+}
+
+/// The same outcome; if a file is malformed and the request asks for it, `errors` has said so, and where.
+fn explained<'a, R: Files + AllocGlobal, E: Write>(
+    rt: &R,
+    request: &Request<'a>,
+    ending: Result<Ending, Failure<'a>>,
+    errors: &mut E,
+) -> Result<Ending, Failure<'a>> {
+    match ending {
+        Ok(ending) => Ok(ending),
+        Err(failure) => match spot_of_request(rt, request, &failure) {
+            Some(spot) => {
+                messages::report(errors, &failure);
+                let _ = messages::write_flushed(errors, format_args!("fault: {spot}\n"));
+                drop(failure);
+                Ok(Ending::Explained)
+            }
+            None => Err(failure),
+        },
+    }
+}
+
+/// Where the fault is that made a request fail, if it asks for that.
+fn spot_of_request<R: Files + AllocGlobal>(
+    rt: &R,
+    request: &Request<'_>,
+    failure: &Failure<'_>,
+) -> Option<Spot> {
+    match explained_files(request) {
+        Some((tree, transcript)) => spot_of(rt, tree, transcript, failure),
+        None => None,
+    }
+}
+
+/// The tree file and the transcript whose faults the request wants explained.
+fn explained_files<'a>(request: &Request<'a>) -> Option<(&'a str, &'a str)> {
+    match request {
+        Request::Audit(files) if files.explains => Some((files.tree, files.transcript)),
+        Request::Show {
+            file,
+            explains: true,
+            ..
+        } => Some((*file, *file)),
+        _ => None,
+    }
 }
 
 fn perform_request<'a, R: Files + AllocGlobal, I: Read, O: Write, E: Write>(
@@ -107,8 +157,16 @@ fn perform_request<'a, R: Files + AllocGlobal, I: Read, O: Write, E: Write>(
         Request::Audit(files) => subcommands::audit(rt, files, output, errors),
         Request::Blank { file } => subcommands::blank(rt, file),
         Request::Make { file } => texts::make(rt, file, input),
-        Request::Show { file, full: false } => showing::show(rt, file, output),
-        Request::Show { file, full: true } => texts::show_full(rt, file, output),
+        Request::Show {
+            file,
+            full: false,
+            ..
+        } => showing::show(rt, file, output),
+        Request::Show {
+            file,
+            full: true,
+            ..
+        } => texts::show_full(rt, file, output),
         Request::Diff { old, new } => diffing::diff(rt, old, new, output),
         Request::Help(text) => subcommands::help(text.as_str(), output),
     }

@@ -21,7 +21,7 @@ pub(crate) const STANDARD_INPUT: &str = "standard input";
 /// How messages call standard output.
 pub(crate) const STANDARD_OUTPUT: &str = "standard output";
 
-/// The outcome of a run that did what was asked.
+/// The outcome of a run that did what was asked, or that has said itself why it did not.
 #[derive(Clone, Copy)]
 pub(crate) enum Ending {
     /// The session was served or is accepted, the file was written, the text was shown, or the trees are the same.
@@ -30,6 +30,8 @@ pub(crate) enum Ending {
     Refused,
     /// The trees differ.
     Different,
+    /// A file is malformed, and standard error says so, and where.
+    Explained,
 }
 
 /// Why a run did not do what was asked.
@@ -77,12 +79,13 @@ impl Ending {
     /// The exit status.
     pub(crate) fn status(self) -> u8
         ensures by_ending { result ≡ ending_status self }
-        ensures bound { result ≤ 1 }
+        ensures bound { result ≤ 2 }
     {
         match self {
             Ending::Done => 0,
             Ending::Refused => 1,
             Ending::Different => 1,
+            Ending::Explained => 2,
         }
     }
 }

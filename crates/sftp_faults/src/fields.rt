@@ -1,0 +1,94 @@
+//! Bytes that are read field by field, up to one that is not whole.
+
+use crate::spots::Spot;
+use sftp_wire::{take_number, take_string};
+
+/// The bytes of a file that are not read yet, and the place of the first one.
+#[derive(Clone, Copy)]
+pub(crate) struct Fields<'a> {
+    rest: &'a [u8],
+    place: u64,
+}
+
+impl<'a> Fields<'a> {
+    pub(crate) fn new(bytes: &'a [u8]) -> Fields<'a> {
+        Fields {
+            rest: bytes,
+            place: 0,
+        }
+    }
+
+    /// The bytes that are not read yet.
+    pub(crate) fn rest(&self) -> &'a [u8] {
+        self.rest
+    }
+
+    /// The next field under this name.
+    pub(crate) fn spot(&self, field: &'static str) -> Spot {
+        Spot {
+            field,
+            place: self.place,
+        }
+    }
+
+    /// Goes on where these bytes are left.
+    fn go_on(&mut self, rest: &'a [u8]) {
+        let passed = self.rest.len().saturating_sub(rest.len());
+        self.place = self.place.saturating_add(passed as u64);
+        self.rest = rest;
+    }
+
+    /// Keeps only so many bytes of those that are not read yet.
+    pub(crate) fn cut(&mut self, count: usize) {
+        self.rest = self.rest.get(..count).unwrap_or(self.rest);
+    }
+
+    /// Passes so many bytes.
+    pub(crate) fn pass(&mut self, count: usize, field: &'static str) -> Result<(), Spot> {
+        match self.rest.get(count..) {
+            Some(rest) => {
+                self.go_on(rest);
+                Ok(())
+            }
+            None => Err(self.spot(field)),
+        }
+    }
+
+    /// Reads a byte.
+    pub(crate) fn byte(&mut self, field: &'static str) -> Result<u8, Spot> {
+        match self.rest.split_first() {
+            Some((byte, rest)) => {
+                self.go_on(rest);
+                Ok(*byte)
+            }
+            None => Err(self.spot(field)),
+        }
+    }
+
+    /// Reads a uint32.
+    pub(crate) fn number(&mut self, field: &'static str) -> Result<u32, Spot> {
+        match take_number(self.rest) {
+            Some((number, rest)) => {
+                self.go_on(rest);
+                Ok(number)
+            }
+            None => Err(self.spot(field)),
+        }
+    }
+
+    /// Passes a uint64.
+    pub(crate) fn long(&mut self, field: &'static str) -> Result<(), Spot> {
+        self.pass(8, field)
+    }
+
+    /// Reads a string.
+    pub(crate) fn text(&mut self, field: &'static str) -> Result<&'a [u8], Spot> {
+        match take_string(self.rest) {
+            Some((text, rest)) => {
+                self.go_on(rest);
+                Ok(text)
+            }
+            None => Err(self.spot(field)),
+        }
+    }
+}

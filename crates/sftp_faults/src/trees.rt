@@ -1,0 +1,184 @@
+//! Where the fault of a tree file is.
+
+use crate::fields::Fields;
+use crate::spots::Spot;
+use sftp_path::{DEPTH_LIMIT, good_path, place_of_text};
+use sftp_treefile::{TreeError, TreeLimits, usual_limits};
+use std::alloc::Global;
+
+/// All the bits of permissions.
+const PERMISSIONS: u32 = 0o7777;
+
+/// The length of `SFTREE01`.
+const OPENING: usize = 8;
+
+/// The field in which a file has this fault, which is its first one. `None` if memory runs out.
+pub fn spot_in_tree(alloc: Global, bytes: &[u8], error: TreeError) -> Option<Spot> {
+    let mut fields = Fields::new(bytes);
+    match error {
+        TreeError::NoMemory => None,
+        TreeError::Magic { .. } => Some(fields.spot("opening")),
+        TreeError::Order { entry } | TreeError::Parent { entry } => {
+            Some(path_spot(&mut fields, entry))
+        }
+        TreeError::Trailing { entry } => Some(end_spot(&mut fields, entry)),
+        TreeError::Short { entry } | TreeError::Value { entry } => {
+            match judge(alloc, &mut fields, entry) {
+                Ok(()) => None,
+                Err(spot) => Some(spot),
+            }
+        }
+    }
+}
+
+/// Where the path of an entry is.
+fn path_spot(fields: &mut Fields<'_>, entry: u32) -> Spot {
+    match pass_before(fields, entry) {
+        Ok(()) => fields.spot("path"),
+        Err(spot) => spot,
+    }
+}
+
+/// Where the bytes behind the last entry are. The number is one more than that entry's.
+fn end_spot(fields: &mut Fields<'_>, entry: u32) -> Spot {
+    match pass_before(fields, entry) {
+        Ok(()) => fields.spot("the end of the entries"),
+        Err(spot) => spot,
+    }
+}
+
+/// Passes the head and the entries before this one.
+fn pass_before(fields: &mut Fields<'_>, entry: u32) -> Result<(), Spot> {
+    pass_head(fields)?;
+    for _ in 1..entry {
+        pass_entry(fields)?;
+    }
+    Ok(())
+}
+
+fn pass_head(fields: &mut Fields<'_>) -> Result<(), Spot> {
+    fields.pass(OPENING, "opening")?;
+    fields.text("home")?;
+    fields.pass(12, "number of entries")?;
+    pass_owner(fields)
+}
+
+fn pass_owner(fields: &mut Fields<'_>) -> Result<(), Spot> {
+    fields.number("uid")?;
+    fields.number("gid")?;
+    fields.number("permissions")?;
+    Ok(())
+}
+
+fn pass_entry(fields: &mut Fields<'_>) -> Result<(), Spot> {
+    fields.text("path")?;
+    match fields.byte("kind")? {
+        b'D' => pass_owner(fields),
+        b'F' => pass_file(fields),
+        b'H' => fields.pass(4, "number of the first name"),
+        _ => pass_text(fields, "target"),
+    }
+}
+
+fn pass_file(fields: &mut Fields<'_>) -> Result<(), Spot> {
+    pass_owner(fields)?;
+    pass_text(fields, "bytes")
+}
+
+fn pass_text(fields: &mut Fields<'_>, field: &'static str) -> Result<(), Spot> {
+    fields.text(field)?;
+    Ok(())
+}
+
+/// The first field of the entry, or of the head for 0, that is not whole or out of its range. Only the number of a
+/// first name is not judged: where all else is good, it is what is out of its range.
+fn judge(alloc: Global, fields: &mut Fields<'_>, entry: u32) -> Result<(), Spot> {
+    let limits = usual_limits();
+    if entry == 0 {
+        return judge_head(alloc, limits, fields);
+    }
+    pass_before(fields, entry)?;
+    judge_entry(alloc, limits, fields)
+}
+
+fn judge_head(alloc: Global, limits: TreeLimits, fields: &mut Fields<'_>) -> Result<(), Spot> {
+    fields.pass(OPENING, "opening")?;
+    judge_place(alloc, fields, "home", 0)?;
+    fields.number("uid")?;
+    fields.number("gid")?;
+    judge_count(limits, fields)?;
+    judge_owner(fields)
+}
+
+fn judge_count(limits: TreeLimits, fields: &mut Fields<'_>) -> Result<(), Spot> {
+    let spot = fields.spot("number of entries");
+    let count = fields.number("number of entries")?;
+    if count > limits.entries {
+        return Err(spot);
+    }
+    Ok(())
+}
+
+fn judge_owner(fields: &mut Fields<'_>) -> Result<(), Spot> {
+    fields.number("uid")?;
+    fields.number("gid")?;
+    let spot = fields.spot("permissions");
+    let permissions = fields.number("permissions")?;
+    if permissions > PERMISSIONS {
+        return Err(spot);
+    }
+    Ok(())
+}
+
+fn judge_entry(alloc: Global, limits: TreeLimits, fields: &mut Fields<'_>) -> Result<(), Spot> {
+    judge_place(alloc, fields, "path", 1)?;
+    let spot = fields.spot("kind");
+    match fields.byte("kind")? {
+        b'D' => judge_owner(fields),
+        b'F' => judge_file(limits, fields),
+        b'H' => Err(fields.spot("number of the first name")),
+        b'L' => judge_target(fields),
+        _ => Err(spot),
+    }
+}
+
+/// Judges the text of a place that has at least so many names.
+fn judge_place(
+    alloc: Global,
+    fields: &mut Fields<'_>,
+    field: &'static str,
+    least: usize,
+) -> Result<(), Spot> {
+    let spot = fields.spot(field);
+    let text = fields.text(field)?;
+    match place_of_text(alloc, text) {
+        Ok(Some(place)) => {
+            let depth = place.depth();
+            drop(place);
+            if depth < least || depth > DEPTH_LIMIT {
+                return Err(spot);
+            }
+            Ok(())
+        }
+        _ => Err(spot),
+    }
+}
+
+fn judge_file(limits: TreeLimits, fields: &mut Fields<'_>) -> Result<(), Spot> {
+    judge_owner(fields)?;
+    let spot = fields.spot("bytes");
+    let bytes = fields.text("bytes")?;
+    if bytes.len() > limits.file_bytes as usize {
+        return Err(spot);
+    }
+    Ok(())
+}
+
+fn judge_target(fields: &mut Fields<'_>) -> Result<(), Spot> {
+    let spot = fields.spot("target");
+    let target = fields.text("target")?;
+    if target.is_empty() || !good_path(target) {
+        return Err(spot);
+    }
+    Ok(())
+}

@@ -1,0 +1,145 @@
+//! `--explain` for malformed files: the field of the fault, and its place in the file.
+ghost use Rattle.std.specs.Prelude.{◌<◌, IfSome, IsSome, MatchResult};
+ghost use Rattle.sftp_transcript.specs.Ahead.{size_of};
+
+use crate::messages::Failure;
+use crate::subcommands::{open, read};
+use sftp_faults::{Spot, spot_in_record, spot_in_tree};
+use sftp_transcript::{OPENING, Reader, Source, Tally, TranscriptError};
+use sftp_treefile::TreeError;
+use sftp_wire::{PACKET_LIMIT, Packet, Side};
+use std::fs::Files;
+use std::io::{Read, Seek, SeekFrom};
+
+/// Where the fault is that made a run fail, if it is that of one of these files and can be found.
+pub(crate) fn spot_of<R: Files + AllocGlobal>(
+    rt: &R,
+    tree: &str,
+    transcript: &str,
+    failure: &Failure<'_>,
+) -> Option<Spot> {
+    match failure {
+        Failure::Tree(error) => tree_spot(rt, tree, *error),
+        Failure::Transcript(error) => transcript_spot(rt, transcript, *error),
+        _ => None,
+    }
+}
+
+/// Where the fault of a tree file is, if it can be read again.
+fn tree_spot<R: Files + AllocGlobal>(rt: &R, name: &str, error: TreeError) -> Option<Spot> {
+    match read(rt, name) {
+        Ok(bytes) => {
+            let spot = spot_in_tree(rt.alloc(), bytes.as_slice(), error);
+            drop(bytes);
+            spot
+        }
+        Err(failure) => {
+            drop(failure);
+            None
+        }
+    }
+}
+
+/// Where the fault of a transcript is, if it can be read again from its start.
+fn transcript_spot<R: Files + AllocGlobal>(
+    rt: &R,
+    name: &str,
+    error: TranscriptError,
+) -> Option<Spot> {
+    let start = start_of_fault(rt, name, error)?;
+    let mut bytes = Vec::new(rt.alloc());
+    let spot = match read_from(rt, name, start, &mut bytes) {
+        Some(()) => spot_in_record(bytes.as_slice(), error),
+        None => None,
+    };
+    drop(bytes);
+    spot.map(|spot| spot.behind(start))
+}
+
+/// The place of the record that has this fault of a transcript; of the opening it is 0.
+fn start_of_fault<R: Files + AllocGlobal>(
+    rt: &R,
+    name: &str,
+    error: TranscriptError,
+) -> Option<u64> {
+    match error {
+        TranscriptError::Magic { .. } => Some(0),
+        _ => start_of_record(rt, name),
+    }
+}
+
+/// Where the first record begins that cannot be read.
+fn start_of_record<R: Files + AllocGlobal>(rt: &R, name: &str) -> Option<u64> {
+    match open(rt, name) {
+        Ok(file) => match Reader::new(rt.alloc(), Tally::new(file)) {
+            Ok(mut records) => {
+                let start = end_of_records(&mut records);
+                drop(records);
+                Some(start)
+            }
+            Err(_) => None,
+        },
+        Err(failure) => {
+            drop(failure);
+            None
+        }
+    }
+}
+
+/// Where the records end that can be read. The reader has read nothing yet.
+fn end_of_records<R: Source>(records: &mut Reader<R>) -> u64 {
+    let mut end = OPENING.len() as u64;
+    'records: while let Some(length) = record_length(records) {
+        end = end.saturating_add(length as u64).saturating_add(1);
+    }
+    end
+}
+
+/// The number of bytes of the next record's packet, if there is one.
+fn record_length<R: Source>(records: &mut Reader<R>) -> Option<usize>
+    ensures { IfSome result (λ _. size_of records.new.ahead < size_of records.old.ahead) }
+{
+    let next = records.next_record();
+    let length = length_of(&next);
+    drop(next);
+    length
+}
+
+/// The number of bytes of a record's packet, if this is one.
+fn length_of(next: &Result<Option<(Side, Packet, usize)>, TranscriptError>) -> Option<usize>
+    ensures { IfSome result (λ _. MatchResult next.now IsSome (λ _. ⊥)) }
+{
+    match next {
+        Ok(Some((_side, _packet, length))) => Some(*length),
+        Ok(None) => None,
+        Err(_) => None,
+    }
+}
+
+/// Appends the bytes of a file from a place on, as many as the longest record has.
+fn read_from<R: Files>(rt: &R, name: &str, start: u64, bytes: &mut Vec<u8>) -> Option<()> {
+    match open(rt, name) {
+        Ok(mut file) => {
+            let read = read_record(&mut file, start, bytes);
+            drop(file);
+            read
+        }
+        Err(failure) => {
+            drop(failure);
+            None
+        }
+    }
+}
+
+fn read_record<F: Read + Seek>(file: &mut F, start: u64, bytes: &mut Vec<u8>) -> Option<()> {
+    if file.seek(SeekFrom::Start(start)).is_err() {
+        return None;
+    }
+    match file.take(RECORD_LIMIT).read_to_end(bytes) {
+        Ok(_) => Some(()),
+        Err(_) => None,
+    }
+}
+
+/// The most bytes of a record: its direction and its packet.
+const RECORD_LIMIT: u64 = PACKET_LIMIT as u64 + 1;
