@@ -10,7 +10,7 @@ use crate::saving::write;
 use crate::subcommands::read;
 use crate::summaries::{Close, Summary, Traffic};
 use crate::watching::{Announcing, Watched};
-use sftp_server::{Ended, InOrder, Schedule, Shuffle, Stream};
+use sftp_server::{Ended, InOrder, Schedule, SessionEnd, Shuffle, Stream, serve_keeping_tree};
 use sftp_transcript::{Tally, Writer};
 use sftp_tree::Tree;
 use sftp_wire::{take_number, take_string};
@@ -30,8 +30,8 @@ pub(crate) fn serve<'a, R: Files + AllocGlobal, I: Read, O: Write, E: Write>(
     let tree = read_tree(rt, options.tree)?;
     match new_log(rt, options.record) {
         Ok(log) => {
-            let (ended, traffic) = session(tree, log, options, input, output, errors);
-            end(rt, ended, traffic, options, errors)
+            let (end, traffic) = session(tree, log, options, input, output, errors);
+            conclude(rt, end, traffic, options, errors)
         }
         Err(failure) => {
             drop(tree);
@@ -70,14 +70,14 @@ fn session<L: Write + Drop, I: Read, O: Write, E: Write>(
     input: &mut I,
     output: &mut O,
     errors: &mut E,
-) -> (Ended, Traffic)
+) -> (SessionEnd, Traffic)
     requires { IsUnused log }
 {
     let mut order = Order::new(options.shuffle);
     let mut reader = Tally::new(Watched::new(input));
     let output = Announcing::new(output, errors, options.is_verbose);
     let mut writer = Tally::new(Watched::new(output));
-    let ended = sftp_server::serve(tree, &mut reader, &mut writer, &mut log, &mut order);
+    let end = serve_keeping_tree(tree, &mut reader, &mut writer, &mut log, &mut order);
     let reader = reader.into_inner();
     let writer = writer.into_inner();
     let record = log.into_sink().into_inner();
@@ -90,20 +90,20 @@ fn session<L: Write + Drop, I: Read, O: Write, E: Write>(
     drop(reader);
     drop(writer);
     drop(record);
-    (ended, traffic)
+    (end, traffic)
 }
 
-/// What the end of a session means for the run. The tree is saved if the session ended by itself.
-fn end<'a, R: Files + AllocGlobal, E: Write>(
+/// What the end of a session means for the run. The tree that it left is saved, unless the session was not opened.
+fn conclude<'a, R: Files + AllocGlobal, E: Write>(
     rt: &R,
-    ended: Ended,
+    end: SessionEnd,
     traffic: Traffic,
     options: &ServeOptions<'a>,
     errors: &mut E,
 ) -> Result<Ending, Failure<'a>>
     ensures { IfOk result (λ ending. ending ≡ endings.Done) }
 {
-    let (tree, close) = parts(ended);
+    let (tree, close) = parts(end);
     let saved = save_any(rt, &tree, options);
     if options.is_verbose {
         let summary = Summary {
@@ -115,16 +115,23 @@ fn end<'a, R: Files + AllocGlobal, E: Write>(
         let _ = write_flushed(errors, format_args!("sftpv3: {summary}\n"));
     }
     drop(tree);
-    conclude(close, saved, traffic, options, errors)
+    outcome(close, saved, traffic, options, errors)
 }
 
-/// The tree that a session left, if it is known, and how the session ended.
-fn parts(ended: Ended) -> (Option<Tree>, Close) {
+/// The tree that a session left, if it is to be saved, and how the session ended.
+fn parts(end: SessionEnd) -> (Option<Tree>, Close) {
+    let SessionEnd { ended, left } = end;
     match ended {
-        Ended::Finished(tree) => (Some(tree), Close::Finished),
-        Ended::Fault(tree, fault) => (Some(tree), Close::Fault(fault)),
-        Ended::Io(stream) => (None, Close::Io(stream)),
-        Ended::NoMemory => (None, Close::NoMemory),
+        Ended::Finished(tree) => {
+            drop(left);
+            (Some(tree), Close::Finished)
+        }
+        Ended::Fault(tree, fault) => {
+            drop(left);
+            (Some(tree), Close::Fault(fault))
+        }
+        Ended::Io(stream) => (left, Close::Io(stream)),
+        Ended::NoMemory => (left, Close::NoMemory),
     }
 }
 
@@ -138,7 +145,7 @@ fn entries_of(saved: &Result<Option<u32>, Failure<'_>>) -> Option<u32> {
 
 /// What the end of a session and of saving its tree mean for the run. Where a stream failed or memory ran out, a
 /// failure to save is reported before.
-fn conclude<'a, E: Write>(
+fn outcome<'a, E: Write>(
     close: Close,
     saved: Result<Option<u32>, Failure<'a>>,
     traffic: Traffic,
