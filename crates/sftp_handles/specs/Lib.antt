@@ -19,5 +19,6 @@ pub mod FirstNames
 pub mod Found
 pub mod Marked
 pub mod Judged
+pub mod Fitting
 pub mod Answered
 pub mod Opening

@@ -1,12 +1,12 @@
--- What the replies to requests on paths say can be said.
-use Rattle.std.proofs.Common.{◌≡◌, nat_le, ℕ, ◌+◌, ◌^◌, ◌<◌, true, false, List, length, Option, Some, None, Result}
+-- What the replies to requests on paths say fits a reply.
+use Rattle.std.proofs.Common.{◌≡◌, nat_le, ℕ, ◌+◌, true, false, List, length, Option, Some, None, Result}
 use Rattle.std.proofs.Common.{Ok, Err, is_some, refl, ap, sym, subst, ◌∙◌, arith, IsTrue, leb-true}
 use Rattle.std.specs.Option.{option_map}
 use Rattle.std.proofs.lemmas.Option.{same_Some}
 use Rattle.sftp_wire.specs.declared.attributes.Attrs.{Attrs}
 use Rattle.sftp_wire.specs.declared.packets.Ask.{Ask}
 use Rattle.sftp_wire.specs.declared.packets.Ask.TheVariants.{Stat, Lstat, Realpath, Readlink}
-use Rattle.sftp_path.specs.Place.{Place, place_cmp, absolute}
+use Rattle.sftp_path.specs.Place.{Place, place_cmp}
 use Rattle.sftp_path.specs.Table.{size}
 use Rattle.sftp_path.proofs.Order.{place_cmp-same}
 use Rattle.sftp_treefile.specs.declared.limits.TreeLimits.{TreeLimits}
@@ -29,11 +29,10 @@ use Rattle.sftp_tree.proofs.CauseLaws.Places.{free-at}
 use Rattle.sftp_tree.proofs.Requests.Trees.{PathsLeadWell}
 use Rattle.sftp_handles.specs.State.{State, Good, has_handle_left}
 use Rattle.sftp_handles.specs.Replies.{shows, names, opens}
+use Rattle.sftp_handles.specs.Fitting.{FitsSaid}
 use Rattle.sftp_handles.specs.Requests.{said_by, told_to}
 use Rattle.sftp_handles.proofs.FirstListings.{node-shown, short-target}
 use Rattle.sftp_handles.proofs.TotalSteps.PlaceTexts.{bytes-by, text-fits}
-use Rattle.sftp_handles.proofs.TotalSteps.SaidReplies.{IsSayable, ok-sayable, name-sayable, attributes-sayable}
-use Rattle.sftp_handles.proofs.TotalSteps.SaidReplies.{new-sayable}
 
 -- ---- what is at a place
 
@@ -71,89 +70,88 @@ node-kept t kept place standing is =
           (each-all test t.names (fits-parts t kept.within_limits).links) is,
     )
 
-module _ (s : State) (id : ℕ) (good : Good s) (small : id < 2 ^ 32) where
+module _ (s : State) (good : Good s) where
   -- ---- by where the path leads
 
-  -- what is said of a place can be said
-  abbrev pub IsSayableAt : Ask → Place → Type 0
-  IsSayableAt ask place = IsSayable id (said_by s.handles (told_at s.tree ask place))
+  -- what is said of a place fits
+  abbrev pub FitsAt : Ask → Place → Type 0
+  FitsAt ask place = FitsSaid (said_by s.handles (told_at s.tree ask place))
 
-  told-by : (ask : Ask)
-      → ((place : Place) → led s.tree ask ≡ Some (Ok place) → IsSayableAt ask place)
+  told-by : (ask : Ask) → ((place : Place) → led s.tree ask ≡ Some (Ok place) → FitsAt ask place)
       → (end : Option (Result Place Cause)) → led s.tree ask ≡ end
-      → IsSayable id (said_by s.handles (led_to done end (told_at s.tree ask)))
-  told-by ask at None leads = ok-sayable id small
+      → FitsSaid (said_by s.handles (led_to done end (told_at s.tree ask)))
+  told-by ask at None leads = tt
   told-by ask at (Some (Ok place)) leads = at place leads
-  told-by ask at (Some (Err cause)) leads = ok-sayable id small
+  told-by ask at (Some (Err cause)) leads = tt
 
-  pub path-sayable : (ask : Ask)
-      → ((place : Place) → led s.tree ask ≡ Some (Ok place) → IsSayableAt ask place)
-      → IsSayable id (said_by s.handles (told_to s.tree ask))
+  pub path-fits : (ask : Ask) → ((place : Place) → led s.tree ask ≡ Some (Ok place) → FitsAt ask place)
+      → FitsSaid (said_by s.handles (told_to s.tree ask))
   unfolding told_to
-  path-sayable ask at = told-by ask at (led s.tree ask) refl
+  path-fits ask at = told-by ask at (led s.tree ask) refl
 
   -- ---- attributes
 
-  shows-node : (standing : Node) → IsNode s.tree.files standing → link_fits standing ≡ true
-      → IsSayable id (shows (shown s.tree standing))
-  shows-node standing node link =
+  node-fits : (standing : Node) → IsNode s.tree.files standing → link_fits standing ≡ true
+      → FitsSaid (shows (shown s.tree standing))
+  node-fits standing node link =
       let given = node-shows s.tree standing node in
-      let fits = node-shown s.tree standing given.0 good.tree node link given.1 in
-      subst (λ o. IsSayable id (shows o)) (sym given.1) (attributes-sayable id given.0 small fits.0 fits.1)
+      subst (λ o. FitsSaid (shows o)) (sym given.1) (node-shown s.tree standing given.0 good.tree node link given.1)
 
-  pub shows-there : (place : Place) → needing_causes (node_at s.tree.names place) NoEntry ≡ false
-      → IsSayable id (shows (shown_at s.tree (node_at s.tree.names place)))
-  shows-there place none =
+  shown-fits : (place : Place) → needing_causes (node_at s.tree.names place) NoEntry ≡ false
+      → FitsSaid (shows (shown_at s.tree (node_at s.tree.names place)))
+  shown-fits place none =
       let found = there (node_at s.tree.names place) none in
       let kept = node-kept s.tree good.tree place found.0 found.1 in
-      subst (λ o. IsSayable id (shows (shown_at s.tree o))) (sym found.1) (shows-node found.0 kept.0 kept.1)
+      subst (λ o. FitsSaid (shows (shown_at s.tree o))) (sym found.1) (node-fits found.0 kept.0 kept.1)
 
   -- a request for attributes
-  pub stat-sayable : (path : List ℕ) (place : Place) → IsFree s.tree (Stat path)
-      → led s.tree (Stat path) ≡ Some (Ok place) → IsSayableAt (Stat path) place
-  stat-sayable path place free leads =
-      shows-there place ((free-at s.tree (Stat path) place free leads refl).none NoEntry)
+  pub stat-fits : (path : List ℕ) (place : Place) → IsFree s.tree (Stat path)
+      → led s.tree (Stat path) ≡ Some (Ok place) → FitsAt (Stat path) place
+  stat-fits path place free leads =
+      shown-fits place ((free-at s.tree (Stat path) place free leads refl).none NoEntry)
 
-  pub lstat-sayable : (path : List ℕ) (place : Place) → IsFree s.tree (Lstat path)
-      → led s.tree (Lstat path) ≡ Some (Ok place) → IsSayableAt (Lstat path) place
-  lstat-sayable path place free leads =
-      shows-there place ((free-at s.tree (Lstat path) place free leads refl).none NoEntry)
+  pub lstat-fits : (path : List ℕ) (place : Place) → IsFree s.tree (Lstat path)
+      → led s.tree (Lstat path) ≡ Some (Ok place) → FitsAt (Lstat path) place
+  lstat-fits path place free leads =
+      shown-fits place ((free-at s.tree (Lstat path) place free leads refl).none NoEntry)
 
   -- ---- names
 
   names-target : (linktarget : List ℕ) → IsNode s.tree.files (Link linktarget) → link_fits (Link linktarget) ≡ true
-      → IsSayable id (names (Some linktarget))
+      → FitsSaid (names (Some linktarget))
   names-target linktarget bytes link =
       let short = short-target linktarget link in
-      name-sayable id linktarget small
-      (record { bytes_fit = bytes-by linktarget bytes; length_fits = omega (arith, short) }) (omega (arith, short))
+      record {
+        string = record { bytes_fit = bytes-by linktarget bytes; length_fits = omega (arith, short) };
+        short = omega (arith, short);
+      }
 
-  pub target-sayable : (path : List ℕ) (place : Place) → IsFree s.tree (Readlink path)
-      → led s.tree (Readlink path) ≡ Some (Ok place) → IsSayableAt (Readlink path) place
-  target-sayable path place free leads =
+  pub target-fits : (path : List ℕ) (place : Place) → IsFree s.tree (Readlink path)
+      → led s.tree (Readlink path) ≡ Some (Ok place) → FitsAt (Readlink path) place
+  target-fits path place free leads =
       let none = (free-at s.tree (Readlink path) place free leads refl).none in
       let found = link-there (node_at s.tree.names place) (none NoEntry) (none NotLink) in
       let kept = node-kept s.tree good.tree place (Link found.0) found.1 in
-      subst (λ o. IsSayable id (names (target_of o))) (sym found.1) (names-target found.0 kept.0 kept.1)
+      subst (λ o. FitsSaid (names (target_of o))) (sym found.1) (names-target found.0 kept.0 kept.1)
 
   leads-to : (path : List ℕ) (place : Place) → led s.tree (Realpath path) ≡ Some (Ok place)
       → reached s.tree true path ≡ Ok place
   unfolding led
   leads-to path place leads = same_Some (reached s.tree true path) (Ok place) leads
 
-  pub text-sayable : PathsLeadWell → (path : List ℕ) (place : Place) → IsTrue (are_bytes path)
-      → led s.tree (Realpath path) ≡ Some (Ok place) → IsSayableAt (Realpath path) place
-  text-sayable paths-lead path place bytes leads =
+  pub place-fits : PathsLeadWell → (path : List ℕ) (place : Place) → IsTrue (are_bytes path)
+      → led s.tree (Realpath path) ≡ Some (Ok place) → FitsAt (Realpath path) place
+  place-fits paths-lead path place bytes leads =
       let well = paths-lead s.tree good.tree true path place bytes (leads-to path place leads) in
       let fits = text-fits s.tree place good.tree well.named well.above in
-      name-sayable id (absolute place) small fits.0 (omega (arith, fits.1))
+      record { string = fits.0; short = fits.1 }
 
   -- ---- handles
 
-  pub handle-left : has_handle_left s ≡ true → IsSayable id (opens s.handles)
-  handle-left room =
+  pub handles-fit : has_handle_left s ≡ true → FitsSaid (opens s.handles)
+  handles-fit room =
       let few : nat_le (size s.handles + 1) 256 ≡ true =
       ap (λ (bounds : TreeLimits). nat_le (size s.handles + 1) bounds.open_handles) (sym good.tree.well_formed.limits)
       ∙ room in
       let less = leb-true (size s.handles + 1) 256 few in
-      new-sayable id s.handles small good.ordered (omega (arith, less))
+      record { ordered = good.ordered; few = omega (arith, less) }

@@ -24,6 +24,7 @@ use Rattle.sftp_handles.specs.Handles.{Left, Handles, open_at, is_open}
 use Rattle.sftp_handles.specs.State.{IsItem, is_plain}
 use Rattle.sftp_handles.specs.Replies.{Said, ok, shows, names, gives, ended, lists, opens, says, same_attributes}
 use Rattle.sftp_handles.specs.Replies.{is_left, has_attributes}
+use Rattle.sftp_handles.specs.Fitting.{FitsSaid}
 use Rattle.sftp_handles.proofs.TotalSteps.PlaceTexts.{name-parts}
 use Rattle.sftp_handles.proofs.TotalSteps.NewHandles.{zeros, zeros-bytes, zeros-length, name-left}
 
@@ -51,10 +52,10 @@ unfolding spelling
 status-spelled id code small code_small =
     record { fields = (small, (code_small, empty, empty)); whole = lit≤ tt; handle = tt; canonical = refl }
 
-pub ok-sayable : (id : ℕ) → id < 2 ^ 32 → IsSayable id ok
+ok-sayable : (id : ℕ) → id < 2 ^ 32 → IsSayable id ok
 ok-sayable id small = record { answer = status_of 0; says = refl; spelled = status-spelled id 0 small (lit< tt) }
 
-pub ended-sayable : (id : ℕ) → id < 2 ^ 32 → IsSayable id ended
+ended-sayable : (id : ℕ) → id < 2 ^ 32 → IsSayable id ended
 ended-sayable id small = record { answer = status_of 1; says = refl; spelled = status-spelled id 1 small (lit< tt) }
 
 -- ---- attributes
@@ -106,7 +107,7 @@ said-sayable id size uid gid permissions small fits = record {
   spelled = attributes-spelled id size uid gid permissions small fits;
 }
 
-pub attributes-sayable : (id : ℕ) (attrs : Attrs) → id < 2 ^ 32 → FitsAttrs attrs → IsTrue (is_plain attrs)
+attributes-sayable : (id : ℕ) (attrs : Attrs) → id < 2 ^ 32 → FitsAttrs attrs → IsTrue (is_plain attrs)
     → IsSayable id (shows (Some attrs))
 attributes-sayable id attrs small fits plain =
     let is = plain-said attrs.size attrs.owner attrs.permissions attrs.times attrs.extended plain in
@@ -134,7 +135,7 @@ name-length id text = omega arith
 pub nothing-fits : FitsAttrs no_attributes
 nothing-fits = record { size = tt; owner = tt; permissions = tt; times = tt; extended = tt }
 
-pub name-sayable : (id : ℕ) (text : List ℕ) → id < 2 ^ 32 → FitsString text → length text ≤ 33000
+name-sayable : (id : ℕ) (text : List ℕ) → id < 2 ^ 32 → FitsString text → length text ≤ 33000
     → IsSayable id (names (Some text))
 name-sayable id text small fits short = record {
   answer = name_of text no_attributes;
@@ -208,7 +209,7 @@ first-sayable id name size uid gid permissions left small item =
       spelled = item-spelled id name size uid gid permissions small parts.1 parts.0 item.1;
     }
 
-pub listing-sayable : (id : ℕ) (name : Name) (attrs : Attrs) (left : Left) → id < 2 ^ 32 → IsItem (name, attrs)
+listing-sayable : (id : ℕ) (name : Name) (attrs : Attrs) (left : Left) → id < 2 ^ 32 → IsItem (name, attrs)
     → IsSayable id (lists ((name, attrs) ∷ left))
 listing-sayable id name attrs left small item =
     let is = plain-said attrs.size attrs.owner attrs.permissions attrs.times attrs.extended item.2 in
@@ -223,7 +224,7 @@ pub data-length : (id : ℕ) (bytes : List ℕ)
 unfolding spelling
 data-length id bytes = omega arith
 
-pub data-sayable : (id : ℕ) (bytes : List ℕ) → id < 2 ^ 32 → AreBytes bytes → length bytes ≤ 32768
+data-sayable : (id : ℕ) (bytes : List ℕ) → id < 2 ^ 32 → AreBytes bytes → length bytes ≤ 32768
     → IsSayable id (gives bytes)
 data-sayable id bytes small are few = record {
   answer = replies.Data bytes;
@@ -264,9 +265,23 @@ handle-sayable id handles handle small are short absent = record {
       };
 }
 
-pub new-sayable : (id : ℕ) (handles : Handles) → id < 2 ^ 32 → InOrder bytes_cmp handles → size handles < 256
+new-sayable : (id : ℕ) (handles : Handles) → id < 2 ^ 32 → InOrder bytes_cmp handles → size handles < 256
     → IsSayable id (opens handles)
 new-sayable id handles small order few =
     let free = name-left 256 handles order few in
     handle-sayable id handles (zeros free.count) small (zeros-bytes free.count)
     (omega (arith, free.few, zeros-length free.count)) free.absent
+
+-- ---- what fits
+
+pub fits-sayable : (id : ℕ) (said : Said) → id < 2 ^ 32 → FitsSaid said → IsSayable id said
+fits-sayable id ok small fits = ok-sayable id small
+fits-sayable id (shows None) small fits = absurd fits
+fits-sayable id (shows (Some attrs)) small fits = attributes-sayable id attrs small fits.0 fits.1
+fits-sayable id (names None) small fits = absurd fits
+fits-sayable id (names (Some text)) small fits = name-sayable id text small fits.string (omega (arith, fits.short))
+fits-sayable id (gives bytes) small fits = data-sayable id bytes small fits.string.bytes_fit fits.short
+fits-sayable id ended small fits = ended-sayable id small
+fits-sayable id (lists []) small fits = absurd fits
+fits-sayable id (lists (e ∷ es)) small fits = listing-sayable id e.0 e.1 es small fits
+fits-sayable id (opens handles) small fits = new-sayable id handles small fits.ordered fits.few

@@ -1,5 +1,5 @@
--- What the replies to requests through handles say can be said.
-use Rattle.std.proofs.Common.{◌≡◌, nat_lt, ℕ, zero, suc, ◌^◌, ◌<◌, ◌≤◌, Bool, true, false, if◌then◌else◌, min, List, []}
+-- What the replies to requests through handles say fits a reply.
+use Rattle.std.proofs.Common.{◌≡◌, nat_lt, ℕ, zero, suc, ◌≤◌, Bool, true, false, if◌then◌else◌, min, List, []}
 use Rattle.std.proofs.Common.{◌∷◌, length, take, drop, Option, Some, None, refl, ap, IsTrue, arith}
 use Rattle.std.specs.Ordering.{nat_cmp}
 use Rattle.std.specs.FinMap.{nat_cmp-IsAntisymmetric}
@@ -15,7 +15,6 @@ use Rattle.sftp_treefile.specs.Limits.{usual_limits}
 use Rattle.sftp_treefile.specs.TreeFile.{are_bytes}
 use Rattle.sftp_tree.specs.declared.file_contents.Content.{Content}
 use Rattle.sftp_tree.specs.Tree.{IsContent, content_at, limits}
-use Rattle.sftp_tree.specs.Attributes.{shown_content}
 use Rattle.sftp_tree.specs.FileChanges.{bytes_at}
 use Rattle.sftp_tree.proofs.PlaceTables.Each.{each-get}
 use Rattle.sftp_tree.proofs.WellFormedTrees.Fields.{bytes-dropped}
@@ -25,12 +24,11 @@ use Rattle.sftp_handles.specs.Handles.{Left, open_at}
 use Rattle.sftp_handles.specs.State.{State, Good, IsHandle, IsLeft}
 use Rattle.sftp_handles.specs.Seen.{Needed, anything, a_file, a_listing, seen, seen_among, seen_file}
 use Rattle.sftp_handles.specs.Replies.{gives, ended}
+use Rattle.sftp_handles.specs.Fitting.{FitsData, FitsSaid}
 use Rattle.sftp_handles.specs.HandleRequests.{row_of, said_of, listed}
 use Rattle.sftp_handles.specs.Requests.{seen_by}
 use Rattle.sftp_handles.proofs.FirstListings.{content-shown}
 use Rattle.sftp_handles.proofs.TotalSteps.PlaceTexts.{bytes-by}
-use Rattle.sftp_handles.proofs.TotalSteps.SaidReplies.{IsSayable, ok-sayable, ended-sayable, data-sayable}
-use Rattle.sftp_handles.proofs.TotalSteps.SaidReplies.{attributes-sayable, listing-sayable}
 
 -- ---- the bytes that a READ gives
 
@@ -43,54 +41,61 @@ bytes-taken (suc n) (b ∷ bytes) are = (are.0, bytes-taken n bytes are.1)
 pub few-taken : (len limit : ℕ) (bytes : List ℕ) → length (take (min len limit) bytes) ≤ limit
 few-taken len limit bytes = omega (arith, length-take (min len limit) bytes)
 
-module _ (s : State) (id : ℕ) (good : Good s) (small : id < 2 ^ 32) where
+module _ (s : State) (good : Good s) where
   read-limit : (limits s.tree).read_bytes ≡ usual_limits.read_bytes
   read-limit = ap (λ (bounds : TreeLimits). bounds.read_bytes) good.tree.well_formed.limits
 
-  read-by : (offset len : ℕ) (bytes : List ℕ) → IsTrue (are_bytes bytes) → (b : Bool)
-      → IsSayable id (if b then gives (bytes_at (limits s.tree) offset len bytes) else ended)
-  read-by offset len bytes are true =
+  data-fits : (offset len : ℕ) (bytes : List ℕ) → IsTrue (are_bytes bytes)
+      → FitsData (bytes_at (limits s.tree) offset len bytes)
+  data-fits offset len bytes are =
       let few = few-taken len (limits s.tree).read_bytes (drop offset bytes) in
-      data-sayable id (bytes_at (limits s.tree) offset len bytes) small
-      (bytes-taken (min len (limits s.tree).read_bytes) (drop offset bytes)
-      (bytes-by (drop offset bytes) (bytes-dropped offset bytes are)))
-      (omega (arith, few, read-limit))
-  read-by offset len bytes are false = ended-sayable id small
+      record {
+        string =
+            record {
+              bytes_fit =
+                  bytes-taken (min len (limits s.tree).read_bytes) (drop offset bytes)
+                  (bytes-by (drop offset bytes) (bytes-dropped offset bytes are));
+              length_fits = omega (arith, few, read-limit);
+            };
+        short = omega (arith, few, read-limit);
+      }
+
+  read-fits : (offset len : ℕ) (bytes : List ℕ) → IsTrue (are_bytes bytes) → (b : Bool)
+      → FitsSaid (if b then gives (bytes_at (limits s.tree) offset len bytes) else ended)
+  read-fits offset len bytes are true = data-fits offset len bytes are
+  read-fits offset len bytes are false = tt
 
   -- what is said of a file
-  told-sayable : (ask : Ask) (number : ℕ) (content : Content) → content_at s.tree.files number ≡ Some content
-      → IsSayable id ((row_of ask).told (limits s.tree) content)
-  told-sayable (Read handle offset len) number content there =
+  told-fits : (ask : Ask) (number : ℕ) (content : Content) → content_at s.tree.files number ≡ Some content
+      → FitsSaid ((row_of ask).told (limits s.tree) content)
+  told-fits (Read handle offset len) number content there =
       let is = each-get nat_cmp nat_cmp-IsAntisymmetric (λ e. IsContent e.1) s.tree.files number content
       good.tree.well_formed.contents there in
-      read-by offset len content.bytes is.1 (nat_lt offset (length content.bytes))
-  told-sayable (Fstat handle) number content there =
-      let shown = content-shown s.tree number content good.tree there in
-      attributes-sayable id (shown_content content) small shown.0 shown.1
-  told-sayable other number content there = ok-sayable id small
+      read-fits offset len content.bytes is.1 (nat_lt offset (length content.bytes))
+  told-fits (Fstat handle) number content there = content-shown s.tree number content good.tree there
+  told-fits other number content there = tt
 
-  left-sayable : (left : Left) → IsLeft left → IsSayable id (listed left)
-  left-sayable [] is = ended-sayable id small
-  left-sayable (e ∷ es) is = listing-sayable id e.0 e.1 es small is.items.0
+  left-fits : (left : Left) → IsLeft left → FitsSaid (listed left)
+  left-fits [] is = tt
+  left-fits (e ∷ es) is = is.items.0
 
   module _ (ask : Ask) (handle : List ℕ) where
     of-number : (number : ℕ) (flags : OpenFlags) (found : Option Content) → content_at s.tree.files number ≡ found
-        → IsSayable id (said_of (limits s.tree) (row_of ask) (seen_file number flags found))
-    of-number number flags None there = ok-sayable id small
-    of-number number flags (Some content) there = told-sayable ask number content there
+        → FitsSaid (said_of (limits s.tree) (row_of ask) (seen_file number flags found))
+    of-number number flags None there = tt
+    of-number number flags (Some content) there = told-fits ask number content there
 
     of-open : (needed : Needed) (found : Option Open) → open_at s.handles handle ≡ found
-        → IsSayable id (said_of (limits s.tree) (row_of ask) (seen_among s.tree.files needed found))
-    of-open needed None there = ok-sayable id small
-    of-open anything (Some it) there = ok-sayable id small
-    of-open a_file (Some (File number flags)) there =
-        of-number number flags (content_at s.tree.files number) refl
-    of-open a_file (Some (Listing left)) there = ok-sayable id small
-    of-open a_listing (Some (File number flags)) there = ok-sayable id small
+        → FitsSaid (said_of (limits s.tree) (row_of ask) (seen_among s.tree.files needed found))
+    of-open needed None there = tt
+    of-open anything (Some it) there = tt
+    of-open a_file (Some (File number flags)) there = of-number number flags (content_at s.tree.files number) refl
+    of-open a_file (Some (Listing left)) there = tt
+    of-open a_listing (Some (File number flags)) there = tt
     of-open a_listing (Some (Listing left)) there =
         let it = each-get bytes_cmp bytes_cmp-same IsHandle s.handles handle (Listing left) good.handles there in
-        left-sayable left it.1
+        left-fits left it.1
 
-    pub handle-sayable : IsSayable id (said_of (limits s.tree) (row_of ask) (seen_by s ask handle))
+    pub seen-fits : FitsSaid (said_of (limits s.tree) (row_of ask) (seen_by s ask handle))
     unfolding seen
-    handle-sayable = of-open (row_of ask).needed (open_at s.handles handle) refl
+    seen-fits = of-open (row_of ask).needed (open_at s.handles handle) refl

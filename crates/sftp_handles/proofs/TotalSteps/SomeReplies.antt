@@ -15,12 +15,13 @@ use Rattle.sftp_tree.specs.Requests as paths
 use Rattle.sftp_tree.proofs.Requests.Trees.{PathsLeadWell}
 use Rattle.sftp_handles.specs.State.{State, Good, has_handle_left}
 use Rattle.sftp_handles.specs.Requests.{causes, answers, after, said_to}
+use Rattle.sftp_handles.specs.Fitting.{FitsSaid}
 use Rattle.sftp_handles.specs.Laws.{IsAskable, IsAnswerable}
 use Rattle.sftp_handles.proofs.GoodSteps.{room-of}
-use Rattle.sftp_handles.proofs.TotalSteps.SaidReplies.{IsSayable, reply_of, status_of, status-spelled, ok-sayable}
-use Rattle.sftp_handles.proofs.TotalSteps.SeenReplies.{handle-sayable}
-use Rattle.sftp_handles.proofs.TotalSteps.PathReplies.{path-sayable, stat-sayable, lstat-sayable, target-sayable}
-use Rattle.sftp_handles.proofs.TotalSteps.PathReplies.{text-sayable, handle-left}
+use Rattle.sftp_handles.proofs.TotalSteps.SaidReplies.{reply_of, status_of, status-spelled, fits-sayable}
+use Rattle.sftp_handles.proofs.TotalSteps.SeenReplies.{seen-fits}
+use Rattle.sftp_handles.proofs.TotalSteps.PathReplies.{path-fits, stat-fits, lstat-fits, target-fits, place-fits}
+use Rattle.sftp_handles.proofs.TotalSteps.PathReplies.{handles-fit}
 
 -- ---- where a cause holds
 
@@ -79,55 +80,52 @@ refused s id ask small one =
 
 -- ---- where none holds
 
-answered : (s : State) (id : ℕ) (ask : Ask) → is_none (causes s ask) ≡ true
-    → IsSayable id (said_to s ask (asked_handle ask)) → IsAnswerable s (request_of id ask)
+answered : (s : State) (id : ℕ) (ask : Ask) → id < 2 ^ 32 → is_none (causes s ask) ≡ true
+    → FitsSaid (said_to s ask (asked_handle ask)) → IsAnswerable s (request_of id ask)
 unfolding answers
-answered s id ask free said = record {
-  reply = reply_of id said.answer;
-  end = after s ask said.answer;
-  allowed =
-      record {
-        same_id = refl;
-        step = inr (record { free = free; answered = said.says; changed = refl });
-      };
-  spelled = said.spelled;
-}
+answered s id ask small free fits =
+    let said = fits-sayable id (said_to s ask (asked_handle ask)) small fits in
+    record {
+      reply = reply_of id said.answer;
+      end = after s ask said.answer;
+      allowed =
+          record {
+            same_id = refl;
+            step = inr (record { free = free; answered = said.says; changed = refl });
+          };
+      spelled = said.spelled;
+    }
 
-sayable : PathsLeadWell → (s : State) (id : ℕ) (ask : Ask) → Good s → id < 2 ^ 32
+-- what the reply to a request says fits one
+said-fits : PathsLeadWell → (s : State) (ask : Ask) → Good s
     → IfSome (path_of ask) (λ path. IsTrue (are_bytes path)) → is_none (causes s ask) ≡ true
-    → IsSayable id (said_to s ask (asked_handle ask))
+    → FitsSaid (said_to s ask (asked_handle ask))
 unfolding causes
-sayable paths-lead s id (asks.Close handle) good small bytes free =
-    handle-sayable s id good small (asks.Close handle) handle
-sayable paths-lead s id (asks.Read handle offset len) good small bytes free =
-    handle-sayable s id good small (asks.Read handle offset len) handle
-sayable paths-lead s id (asks.Write handle offset data_bytes) good small bytes free =
-    handle-sayable s id good small (asks.Write handle offset data_bytes) handle
-sayable paths-lead s id (asks.Fstat handle) good small bytes free =
-    handle-sayable s id good small (asks.Fstat handle) handle
-sayable paths-lead s id (asks.Fsetstat handle attrs) good small bytes free =
-    handle-sayable s id good small (asks.Fsetstat handle attrs) handle
-sayable paths-lead s id (asks.Readdir handle) good small bytes free =
-    handle-sayable s id good small (asks.Readdir handle) handle
-sayable paths-lead s id (asks.Fsync handle) good small bytes free =
-    handle-sayable s id good small (asks.Fsync handle) handle
-sayable paths-lead s id (asks.Open path pflags attrs) good small bytes free =
+said-fits paths-lead s (asks.Close handle) good bytes free = seen-fits s good (asks.Close handle) handle
+said-fits paths-lead s (asks.Read handle offset len) good bytes free =
+    seen-fits s good (asks.Read handle offset len) handle
+said-fits paths-lead s (asks.Write handle offset data_bytes) good bytes free =
+    seen-fits s good (asks.Write handle offset data_bytes) handle
+said-fits paths-lead s (asks.Fstat handle) good bytes free = seen-fits s good (asks.Fstat handle) handle
+said-fits paths-lead s (asks.Fsetstat handle attrs) good bytes free =
+    seen-fits s good (asks.Fsetstat handle attrs) handle
+said-fits paths-lead s (asks.Readdir handle) good bytes free = seen-fits s good (asks.Readdir handle) handle
+said-fits paths-lead s (asks.Fsync handle) good bytes free = seen-fits s good (asks.Fsync handle) handle
+said-fits paths-lead s (asks.Open path pflags attrs) good bytes free =
     let left = (room-of (paths.causes s.tree (asks.Open path pflags attrs)) (has_handle_left s) free).1 in
-    path-sayable s id good small (asks.Open path pflags attrs) (λ place leads. handle-left s id good small left)
-sayable paths-lead s id (asks.Opendir path) good small bytes free =
+    path-fits s good (asks.Open path pflags attrs) (λ place leads. handles-fit s good left)
+said-fits paths-lead s (asks.Opendir path) good bytes free =
     let left = (room-of (paths.causes s.tree (asks.Opendir path)) (has_handle_left s) free).1 in
-    path-sayable s id good small (asks.Opendir path) (λ place leads. handle-left s id good small left)
-sayable paths-lead s id (asks.Stat path) good small bytes free =
-    path-sayable s id good small (asks.Stat path) (λ place. stat-sayable s id good small path place free)
-sayable paths-lead s id (asks.Lstat path) good small bytes free =
-    path-sayable s id good small (asks.Lstat path) (λ place. lstat-sayable s id good small path place free)
-sayable paths-lead s id (asks.Readlink path) good small bytes free =
-    path-sayable s id good small (asks.Readlink path) (λ place. target-sayable s id good small path place free)
-sayable paths-lead s id (asks.Realpath path) good small bytes free =
-    path-sayable s id good small (asks.Realpath path)
-    (λ place. text-sayable s id good small paths-lead path place bytes)
-sayable paths-lead s id other good small bytes free =
-    path-sayable s id good small other (λ place leads. ok-sayable id small)
+    path-fits s good (asks.Opendir path) (λ place leads. handles-fit s good left)
+said-fits paths-lead s (asks.Stat path) good bytes free =
+    path-fits s good (asks.Stat path) (λ place. stat-fits s good path place free)
+said-fits paths-lead s (asks.Lstat path) good bytes free =
+    path-fits s good (asks.Lstat path) (λ place. lstat-fits s good path place free)
+said-fits paths-lead s (asks.Readlink path) good bytes free =
+    path-fits s good (asks.Readlink path) (λ place. target-fits s good path place free)
+said-fits paths-lead s (asks.Realpath path) good bytes free =
+    path-fits s good (asks.Realpath path) (λ place. place-fits s good paths-lead path place bytes)
+said-fits paths-lead s other good bytes free = path-fits s good other (λ place leads. tt)
 
 pub some-allowed : PathsLeadWell → (s : State) (request : Request) → Good s → IsAskable request
     → IsAnswerable s request
@@ -136,5 +134,5 @@ some-allowed paths-lead s request good askable = by (list_any (causes s request.
     by : (b : Bool) → list_any (causes s request.ask) every_cause ≡ b → IsAnswerable s request
     by true one = refused s request.id request.ask askable.id one
     by false none =
-        answered s request.id request.ask (ap not none)
-        (sayable paths-lead s request.id request.ask good askable.id askable.path (ap not none))
+        answered s request.id request.ask askable.id (ap not none)
+        (said-fits paths-lead s request.ask good askable.path (ap not none))
