@@ -1,5 +1,5 @@
 -- The answers that are given are steps: refusals with a code that their cause allows, and what was done.
-use Rattle.std.proofs.Common.{◌≡◌, ◌&&◌, ℕ, List, [], Some, IsTrue, lit<}
+use Rattle.std.proofs.Common.{◌≡◌, ◌&&◌, ℕ, false, [], Some, None, IsTrue, lit<}
 use Rattle.std.proofs.lemmas.Bool.{and_from, not-false}
 use Rattle.sftp_wire.specs.declared.packets.Ask.{Ask}
 use Rattle.sftp_wire.specs.declared.packets.Ask.TheVariants as asks
@@ -7,13 +7,15 @@ use Rattle.sftp_wire.specs.declared.packets.Answer.{Answer}
 use Rattle.sftp_tree.specs.declared.causes.Cause.{Cause}
 use Rattle.sftp_tree.specs.declared.causes.Cause.TheVariants.{Unknown}
 use Rattle.sftp_tree.specs.Causes.{CauseSet, allows, allow}
+use Rattle.sftp_handles.specs.declared.kinds.Kind.TheVariants as kinds
 use Rattle.sftp_handles.specs.State.{State}
 use Rattle.sftp_handles.specs.Requests.{causes}
 use Rattle.sftp_handles.specs.Allowed.{step}
-use Rattle.sftp_handles.specs.Judged.{IsDone}
+use Rattle.sftp_handles.specs.Judged.{IsDone, IsJudged, refusal_code}
+use Rattle.sftp_handles.specs.Kinds.{kind_of}
 use Rattle.sftp_handles.specs.Answered.{IsAnswered, status_of}
 use Rattle.sftp_handles.proofs.Steps.{done-step}
-use Rattle.sftp_handles.proofs.Judgements.{some-holds, refused-step}
+use Rattle.sftp_handles.proofs.Judgements.{some-holds, refused-step, judged-refused, unlike}
 use Rattle.sftp_handles.proofs.SeenAnswers.{cause-holds}
 use Rattle.sftp_handles.proofs.AnswersSpelled.{spelled-status}
 
@@ -32,9 +34,15 @@ refusal-step s ask cause code holds allowed =
     refused-step s ask (status_of code) (allow-by (causes s ask) cause code holds allowed)
 
 -- an extension that is not known is refused
-pub unknown-refused : (s : State) (name rest : List ℕ) → IsTrue (causes s (asks.Unknown name rest) Unknown)
+pub unknown-refused : (s : State) (ask : Ask) → kind_of ask ≡ kinds.Unknown → IsTrue (causes s ask Unknown)
 unfolding causes
-unknown-refused s name rest = cause-holds Unknown
+unknown-refused s (asks.Unknown name rest) is = cause-holds Unknown
+unknown-refused s other is = absurd cc
+
+pub judged-unknown : (s : State) (ask : Ask) (answer : Answer) → kind_of ask ≡ kinds.Unknown
+    → refusal_code answer ≡ None → IsJudged s ask answer false s
+judged-unknown s ask answer is code =
+    judged-refused s ask answer Unknown (unknown-refused s ask is) (unlike s ask answer code)
 
 -- ---- what was done
 

@@ -19,17 +19,17 @@ use Rattle.sftp_handles.specs.declared.opens.Open.TheVariants.{File, Listing}
 use Rattle.sftp_handles.specs.Handles.{Left, Handles, open_at, with_open}
 use Rattle.sftp_handles.specs.State.{State, Good, IsHandle, IsLeft, settled}
 use Rattle.sftp_handles.specs.Seen.{a_listing, seen, seen_among}
-use Rattle.sftp_handles.specs.Replies.{names_in, names_given, are_some_left, says, struck}
+use Rattle.sftp_handles.specs.Replies.{names_in, names_given, are_some_left, gives_some, has_code, says, struck}
 use Rattle.sftp_handles.specs.HandleRequests.{row_of, causes_of, said_of, change_of}
 use Rattle.sftp_handles.specs.Requests.{causes, answers, after, changed}
-use Rattle.sftp_handles.specs.Judged.{IsJudged, IsJudgedCode}
+use Rattle.sftp_handles.specs.Judged.{IsJudged, IsJudgedCode, refusal_code}
 use Rattle.sftp_handles.specs.Giving.{IsListing, gives_names, with_struck}
 use Rattle.sftp_handles.proofs.Pins.{pins-listing_again}
 use Rattle.sftp_handles.proofs.GoodStates.{left-struck, good-listing}
 use Rattle.sftp_handles.proofs.NewStates.{state_of}
 use Rattle.sftp_handles.proofs.Strikes.{struck-none}
 use Rattle.sftp_handles.proofs.Swaps.{opened-back}
-use Rattle.sftp_handles.proofs.Judgements.{allow-one, not-allowed, judged-none, judged-done}
+use Rattle.sftp_handles.proofs.Judgements.{allow-one, unlike, not-allowed, judged-none, judged-done}
 
 -- ---- what is open under the handle
 
@@ -157,6 +157,38 @@ judged-not_given s handle items none =
     (not-allowed s (Readdir handle) (Name items) refl
     (λ free.
     ap (λ b. b && answers s (Readdir handle) (Name items)) (sym free) ∙ (readdir-given s handle items ∙ none)))
+
+-- an answer that gives no names, and does not say that there are none
+free-unlisted : (s : State) (handle : List ℕ) (answer : Answer) (found : Option Open)
+    → ((left : Left) → gives_some left answer ≡ false) → has_code 1 answer ≡ false
+    → (is_none (causes_of (limits s.tree) (row_of (Readdir handle)) (seen_among s.tree.files a_listing found))
+    && says (said_of (limits s.tree) (row_of (Readdir handle)) (seen_among s.tree.files a_listing found)) answer)
+    ≡ false
+unfolding when no_causes
+free-unlisted s handle answer None none end = refl
+free-unlisted s handle answer (Some (File number flags)) none end = refl
+free-unlisted s handle answer (Some (Listing [])) none end = end
+free-unlisted s handle answer (Some (Listing (e ∷ es))) none end = none (e ∷ es)
+
+readdir-unlisted : (s : State) (handle : List ℕ) (answer : Answer)
+    → ((left : Left) → gives_some left answer ≡ false) → has_code 1 answer ≡ false
+    → (is_none (causes s (Readdir handle)) && answers s (Readdir handle) answer) ≡ false
+unfolding causes answers seen
+readdir-unlisted s handle answer none end = free-unlisted s handle answer (open_at s.handles handle) none end
+
+gives-none : (answer : Answer) → ((items : List NameItem) → answer ≡ Name items → ⊥) → (left : Left)
+    → gives_some left answer ≡ false
+gives-none (Name items) other left = absurd (other items refl)
+gives-none answer other left = refl
+
+pub judged-unlisted : (s : State) (handle : List ℕ) (answer : Answer) → refusal_code answer ≡ None
+    → has_code 1 answer ≡ false → ((items : List NameItem) → answer ≡ Name items → ⊥)
+    → IsJudged s (Readdir handle) answer false s
+judged-unlisted s handle answer code end other =
+    judged-none s (Readdir handle) answer
+    (not-allowed s (Readdir handle) answer (unlike s (Readdir handle) answer code)
+    (λ free.
+    ap (λ b. b && answers s (Readdir handle) answer) (sym free) ∙ readdir-unlisted s handle answer (gives-none answer other) end))
 
 -- the names come from a listing, in order
 listing-in : (s : State) (handle : List ℕ) (items : List NameItem) (found : Option Open) → Good s

@@ -1,11 +1,12 @@
 -- Judgements: whether an answer is allowed, and the state then, by the causes and by what the answer says.
-use Rattle.std.proofs.Common.{◌≡◌, ◌==◌, ◌&&◌, ℕ, Bool, true, false, List, [], ◌∷◌, Some, None, refl, sym, ap, ◌∙◌}
-use Rattle.std.proofs.Common.{IsTrue}
+use Rattle.std.proofs.Common.{◌≡◌, ◌==◌, ◌&&◌, nat_lt, ℕ, zero, suc, Bool, true, false, if◌then◌else◌, List, [], ◌∷◌}
+use Rattle.std.proofs.Common.{Some, None, refl, sym, ap, subst, ◌∙◌, IsTrue, arith}
 use Rattle.std.specs.List.{list_any}
-use Rattle.std.proofs.lemmas.Bool.{and_parts}
+use Rattle.std.proofs.lemmas.Bool.{and_parts, both_ways, eqb-true, lt-ltb, ltb-true, ne_eqb}
+use Rattle.std.proofs.lemmas.Option.{same_Some}
 use Rattle.sftp_wire.specs.declared.packets.Ask.{Ask}
 use Rattle.sftp_wire.specs.declared.packets.Answer.{Answer}
-use Rattle.sftp_wire.specs.declared.packets.Answer.TheVariants.{Status, Extended}
+use Rattle.sftp_wire.specs.declared.packets.Answer.TheVariants.{Status}
 use Rattle.sftp_wire.specs.declared.packets.Request.{Request}
 use Rattle.sftp_wire.specs.declared.packets.Reply.{Reply}
 use Rattle.sftp_wire.specs.Spelling.{asked_handle}
@@ -14,10 +15,10 @@ use Rattle.sftp_tree.specs.declared.causes.Cause.TheVariants.{BadFlags}
 use Rattle.sftp_tree.specs.Causes.{CauseSet, every_cause, allows, allow, is_none}
 use Rattle.sftp_tree.proofs.CauseLaws.Sets.{none-each}
 use Rattle.sftp_handles.specs.State.{State}
-use Rattle.sftp_handles.specs.Replies.{Said, ok, shows, names, gives, ended, lists, opens, says, refuses}
+use Rattle.sftp_handles.specs.Replies.{Said, ok, shows, names, gives, ended, lists, opens, says, refuses, has_code}
 use Rattle.sftp_handles.specs.Requests.{causes, said_to, answers, after}
 use Rattle.sftp_handles.specs.Allowed.{Does, Allowed, stepped, step}
-use Rattle.sftp_handles.specs.Judged.{IsJudged, IsJudgedCode, IsDone}
+use Rattle.sftp_handles.specs.Judged.{IsJudged, IsJudgedCode, IsDone, refusal_code}
 use Rattle.sftp_handles.proofs.Steps.{done-step, allowed-step, step-is_allowed}
 
 -- ---- causes
@@ -127,15 +128,15 @@ judged-still s ask answer false unlike still is = judged-none s ask answer (not-
 -- a status of another code than 0 and 1 says nothing of a request that was done
 pub says-other : (said : Said) (code : ℕ) (message language : List ℕ) → (code == 0) ≡ false → (code == 1) ≡ false
     → says said (Status code message language) ≡ false
-says-other ok code message language zero one = zero
-says-other (shows None) code message language zero one = refl
-says-other (shows (Some shown)) code message language zero one = refl
-says-other (names None) code message language zero one = refl
-says-other (names (Some text)) code message language zero one = refl
-says-other (gives bytes) code message language zero one = refl
-says-other ended code message language zero one = one
-says-other (lists left) code message language zero one = refl
-says-other (opens handles) code message language zero one = refl
+says-other ok code message language not_ok not_end = not_ok
+says-other (shows None) code message language not_ok not_end = refl
+says-other (shows (Some shown)) code message language not_ok not_end = refl
+says-other (names None) code message language not_ok not_end = refl
+says-other (names (Some text)) code message language not_ok not_end = refl
+says-other (gives bytes) code message language not_ok not_end = refl
+says-other ended code message language not_ok not_end = not_end
+says-other (lists left) code message language not_ok not_end = refl
+says-other (opens handles) code message language not_ok not_end = refl
 
 answers-other : (s : State) (ask : Ask) (code : ℕ) (message language : List ℕ) → (code == 0) ≡ false
     → (code == 1) ≡ false → answers s ask (Status code message language) ≡ false
@@ -145,11 +146,50 @@ answers-other s ask code message language = says-other (said_to s ask (asked_han
 -- so it is allowed exactly if a cause that holds allows its code
 pub judged-other : (s : State) (ask : Ask) (code : ℕ) (allowed : Bool) → (code == 0) ≡ false → (code == 1) ≡ false
     → allow (causes s ask) code ≡ allowed → IsJudgedCode s ask code allowed s
-judged-other s ask code true zero one is message language =
+judged-other s ask code true not_ok not_end is message language =
     judged-some s ask (Status code message language) s (refused-step s ask (Status code message language) is)
-judged-other s ask code false zero one is message language =
+judged-other s ask code false not_ok not_end is message language =
     judged-none s ask (Status code message language)
-    (not-answered s ask (Status code message language) (answers-other s ask code message language zero one) is)
+    (not-answered s ask (Status code message language) (answers-other s ask code message language not_ok not_end) is)
+
+-- a status with a code that can refuse is allowed exactly if a cause that holds allows the code
+judged-code : (s : State) (ask : Ask) (c code : ℕ) (message language : List ℕ) (allowed above : Bool) → nat_lt 1 c ≡ above
+    → (if above then Some c else None) ≡ Some code → allow (causes s ask) code ≡ allowed
+    → IsJudged s ask (Status c message language) allowed s
+judged-code s ask c code message language allowed true above is judged =
+    let less = ltb-true 1 c above in
+    judged-other s ask c allowed (ne_eqb c 0 (λ e. absurd (omega (arith, less, e))))
+    (ne_eqb c 1 (λ e. absurd (omega (arith, less, e))))
+    (ap (allow (causes s ask)) (same_Some c code is) ∙ judged) message language
+judged-code s ask c code message language allowed false above is judged = absurd cc
+
+pub judged-refusal : (s : State) (ask : Ask) (answer : Answer) (code : ℕ) (allowed : Bool)
+    → refusal_code answer ≡ Some code → allow (causes s ask) code ≡ allowed → IsJudged s ask answer allowed s
+judged-refusal s ask (Status c message language) code allowed is judged =
+    judged-code s ask c code message language allowed (nat_lt 1 c) refl is judged
+judged-refusal s ask other code allowed is judged = absurd cc
+
+few-codes : (set : CauseSet) (c : ℕ) (above : Bool) → nat_lt 1 c ≡ above
+    → (if above then Some c else None) ≡ None → allow set c ≡ false
+few-codes set zero above above_is is = allow-zero set
+few-codes set (suc zero) above above_is is = allow-one set
+few-codes set (suc (suc c)) true above_is is = absurd cc
+few-codes set (suc (suc c)) false above_is is =
+    absurd (both_ways (nat_lt 1 (suc (suc c))) above_is (lt-ltb 1 (suc (suc c)) (omega arith)))
+
+-- no cause allows another answer
+pub unlike : (s : State) (ask : Ask) (answer : Answer) → refusal_code answer ≡ None
+    → refuses (causes s ask) answer ≡ false
+unlike s ask (Status c message language) is = few-codes (causes s ask) c (nat_lt 1 c) refl is
+unlike s ask other is = refl
+
+-- a status with a code is any with that code
+pub judged-coded : (s : State) (ask : Ask) (answer : Answer) (code : ℕ) (allowed : Bool) (end : State)
+    → has_code code answer ≡ true → IsJudgedCode s ask code allowed end → IsJudged s ask answer allowed end
+judged-coded s ask (Status c message language) code allowed end is judged =
+    subst (λ (n : ℕ). IsJudged s ask (Status n message language) allowed end) (sym (eqb-true c code is))
+    (judged message language)
+judged-coded s ask other code allowed end is judged = absurd cc
 
 -- a request that is done
 pub judged-ok : (s : State) (ask : Ask) (end : State) → IsDone s ask end → IsJudgedCode s ask 0 true end
@@ -162,25 +202,12 @@ pub judged-not_ok : (s : State) (ask : Ask) (cause : Cause) → IsTrue (causes s
 judged-not_ok s ask cause holds message language =
     judged-refused s ask (Status 0 message language) cause holds (allow-zero (causes s ask))
 
--- ---- replies of extensions
+-- ---- what the reply says
 
-says-extended : (said : Said) (bytes : List ℕ) → says said (Extended bytes) ≡ false
-says-extended ok bytes = refl
-says-extended (shows None) bytes = refl
-says-extended (shows (Some shown)) bytes = refl
-says-extended (names None) bytes = refl
-says-extended (names (Some text)) bytes = refl
-says-extended (gives given) bytes = refl
-says-extended ended bytes = refl
-says-extended (lists left) bytes = refl
-says-extended (opens handles) bytes = refl
-
--- no request has such an answer
-pub judged-extended : (s : State) (ask : Ask) (bytes : List ℕ) → IsJudged s ask (Extended bytes) false s
+pub answers-said : (s : State) (ask : Ask) (said : Said) (answer : Answer) → said_to s ask (asked_handle ask) ≡ said
+    → answers s ask answer ≡ says said answer
 unfolding answers
-judged-extended s ask bytes =
-    judged-none s ask (Extended bytes)
-    (not-answered s ask (Extended bytes) (says-extended (said_to s ask (asked_handle ask)) bytes) refl)
+answers-said s ask said answer is = ap (λ said. says said answer) is
 
 -- ---- replies
 

@@ -18,12 +18,9 @@ pub mod SeenCauses
 pub mod SeenAnswers
 pub mod OkReplies
 pub mod OpenChanges
-pub mod StillAnswers
-pub mod OtherAnswers
 pub mod Opened
 pub mod HandleReplies
 pub mod Swaps
-pub mod Ends
 pub mod GivenNames
 pub mod FirstNames
 pub mod FirstStruck
@@ -32,7 +29,7 @@ pub mod HandleRoom
 pub mod NewHandles
 pub mod TotalSteps
 pub mod AnswersSpelled
-pub mod AnswersShown
+pub mod QueryReplies
 pub mod AnswersSteps
 pub mod NameReplies
 pub mod OpenReplies

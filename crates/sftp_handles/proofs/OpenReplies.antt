@@ -1,25 +1,28 @@
 -- OPEN and OPENDIR: the reply that gives a new handle, and why there is none.
-use Rattle.std.proofs.Common.{◌≡◌, ◌&&◌, ◌||◌, not, ℕ, ◌+◌, ◌≤◌, Bool, true, false, List, length, refl, ap}
-use Rattle.std.proofs.Common.{arith, IsTrue, nat_le, Some, None, leb-true}
+use Rattle.std.proofs.Common.{◌≡◌, ◌&&◌, ◌||◌, not, ℕ, ◌+◌, ◌≤◌, Bool, true, false, List, length, refl, sym, ap, ◌∙◌}
+use Rattle.std.proofs.Common.{arith, IsTrue, nat_le, leb-true}
 use Rattle.std.proofs.lemmas.Bool.{and_parts}
 use Rattle.sftp_wire.specs.declared.packets.Ask.{Ask}
 use Rattle.sftp_wire.specs.declared.packets.Ask.TheVariants.{Open, Opendir}
 use Rattle.sftp_wire.specs.declared.packets.Answer.TheVariants as replies
 use Rattle.sftp_wire.specs.declared.packets.Packet.TheVariants.{Reply as reply_packet}
-use Rattle.sftp_wire.specs.Spelling.{spelling, asked_handle, AreBytes, handle_limit}
+use Rattle.sftp_wire.specs.Spelling.{spelling, AreBytes, handle_limit}
 use Rattle.sftp_tree.specs.declared.causes.Cause.TheVariants.{NoRoom}
 use Rattle.sftp_tree.specs.declared.causes.Refused.{Refused}
 use Rattle.sftp_tree.specs.Causes.{CauseSet, is_none, when}
 use Rattle.sftp_tree.specs.Requests as paths
 use Rattle.sftp_tree.specs.Refusals as refusals_of
+use Rattle.sftp_handles.specs.declared.kinds.Kind.TheVariants as kinds
 use Rattle.sftp_handles.specs.State.{State, has_handle_left}
-use Rattle.sftp_handles.specs.Handles.{is_open}
-use Rattle.sftp_handles.specs.Replies.{Said, ok, shows, names, gives, ended, lists, opens, says}
-use Rattle.sftp_handles.specs.Requests.{causes, answers, said_to, with_handle_room}
+use Rattle.sftp_handles.specs.Handles.{Handles, is_open}
+use Rattle.sftp_handles.specs.Replies.{opens, is_new_handle}
+use Rattle.sftp_handles.specs.Requests.{causes, with_handle_room}
 use Rattle.sftp_handles.specs.Allowed.{Does}
-use Rattle.sftp_handles.specs.Laws.{is_opening}
+use Rattle.sftp_handles.specs.Kinds.{kind_of}
 use Rattle.sftp_handles.specs.Judged.{IsRefusal}
 use Rattle.sftp_handles.specs.Answered.{IsSpelledAnswer, IsAnswered}
+use Rattle.sftp_handles.proofs.HandleReplies.{opens-said}
+use Rattle.sftp_handles.proofs.Judgements.{answers-said}
 use Rattle.sftp_handles.proofs.Opened.{refused-file, refused-listing}
 use Rattle.sftp_handles.proofs.TotalSteps.SaidReplies.{reply_of}
 
@@ -40,7 +43,7 @@ room-refuses s set none full =
     no-room (is_none set && not (has_handle_left s)) set (lacks (is_none set) (has_handle_left s) none full)
 
 -- a request that no other cause refuses
-pub handles-refuse : (s : State) (ask : Ask) → IsTrue (is_opening ask) → IsTrue (is_none (paths.causes s.tree ask))
+pub handles-refuse : (s : State) (ask : Ask) → kind_of ask ≡ kinds.Open → IsTrue (is_none (paths.causes s.tree ask))
     → has_handle_left s ≡ false → IsTrue (causes s ask NoRoom)
 unfolding causes
 handles-refuse s (Open path pflags attrs) opening none full =
@@ -49,7 +52,7 @@ handles-refuse s (Opendir path) opening none full = room-refuses s (paths.causes
 handles-refuse s other opening none full = absurd cc
 
 -- one that another cause refuses
-pub path-refuses : (s : State) (ask : Ask) (refused : Refused) → IsTrue (is_opening ask)
+pub path-refuses : (s : State) (ask : Ask) (refused : Refused) → kind_of ask ≡ kinds.Open
     → refusals_of.IsRefusal s.tree ask refused → IsRefusal s ask refused
 path-refuses s (Open path pflags attrs) refused opening holds =
     refused-file s s.tree path pflags attrs refused refl holds
@@ -73,23 +76,17 @@ handle-spelled handle bytes short id small = record {
 }
 
 -- it is not too long
-said-short : (said : Said) (handle : List ℕ) → says said (replies.Handle handle) ≡ true → length handle ≤ handle_limit
-said-short ok handle is = absurd cc
-said-short (shows None) handle is = absurd cc
-said-short (shows (Some shown)) handle is = absurd cc
-said-short (names None) handle is = absurd cc
-said-short (names (Some text)) handle is = absurd cc
-said-short (gives bytes) handle is = absurd cc
-said-short ended handle is = absurd cc
-said-short (lists left) handle is = absurd cc
-said-short (opens handles) handle is =
+new-short : (handles : Handles) (handle : List ℕ) → is_new_handle handles (replies.Handle handle) ≡ true
+    → length handle ≤ handle_limit
+new-short handles handle is =
     leb-true (length handle) handle_limit
     (and_parts (nat_le (length handle) handle_limit) (not (is_open handles handle)) is).0
 
-pub handle-answered : (s : State) (ask : Ask) (handle : List ℕ) (end : State) → Does s ask (replies.Handle handle) end
-    → AreBytes handle → IsAnswered s ask (replies.Handle handle) end
-unfolding answers
-handle-answered s ask handle end does bytes = record {
-  does = does;
-  spelled = handle-spelled handle bytes (said-short (said_to s ask (asked_handle ask)) handle does.answered);
-}
+pub handle-answered : (s : State) (ask : Ask) (handle : List ℕ) (end : State) → kind_of ask ≡ kinds.Open
+    → Does s ask (replies.Handle handle) end → AreBytes handle → IsAnswered s ask (replies.Handle handle) end
+handle-answered s ask handle end is does bytes =
+    let said = answers-said s ask (opens s.handles) (replies.Handle handle) (opens-said s ask is does.free) in
+    record {
+      does = does;
+      spelled = handle-spelled handle bytes (new-short s.handles handle (sym said ∙ does.answered));
+    }

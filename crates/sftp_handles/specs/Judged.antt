@@ -1,6 +1,6 @@
 -- What the code finds out about the answer to a request. Words of private contracts.
-use Rattle.std.specs.Prelude.{◌≡◌, ℕ, Bool, true, false, if◌then◌else◌, List, Some, None, Result, Ok, Err}
-use Rattle.std.specs.Prelude.{IsTrue}
+use Rattle.std.specs.Prelude.{◌≡◌, ℕ, nat_lt, Bool, true, false, if◌then◌else◌, List, Option, Some, None, Result}
+use Rattle.std.specs.Prelude.{Ok, Err, IsTrue}
 use Rattle.sftp_wire.specs.declared.packets.Ask.{Ask}
 use Rattle.sftp_wire.specs.declared.packets.Ask.TheVariants as asks
 use Rattle.sftp_wire.specs.declared.packets.Answer.{Answer}
@@ -11,6 +11,11 @@ use Rattle.sftp_tree.specs.declared.causes.Refused.TheVariants as refusals
 use Rattle.sftp_handles.specs.State.{State}
 use Rattle.sftp_handles.specs.Requests.{causes}
 use Rattle.sftp_handles.specs.Allowed.{Does, step}
+
+-- the code of a status that says neither OK nor that the end was reached
+abbrev pub refusal_code : Answer → Option ℕ
+refusal_code (replies.Status code message language) = if nat_lt 1 code then Some code else None
+refusal_code other = None
 
 -- `ok` says whether the answer is allowed, and `end` is the state then
 pub record IsJudged (s : State) (ask : Ask) (answer : Answer) (ok : Bool) (end : State) : Type 0 where

@@ -19,6 +19,8 @@ pub mod FirstNames
 pub mod Found
 pub mod Marked
 pub mod Judged
+pub mod Kinds
 pub mod Fitting
+pub mod Payloads
 pub mod Answered
 pub mod Opening

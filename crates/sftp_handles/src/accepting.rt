@@ -1,13 +1,18 @@
 //! Which replies of another server a session allows (draft, sections 6 and 7).
-ghost use Rattle.std.specs.Prelude.{◌≡◌, false, IsTrue, IfOk, OnErr};
+ghost use Rattle.std.specs.Prelude.{◌≡◌, false, None, IsTrue, IfOk, OnErr};
+ghost use Rattle.sftp_wire.specs.declared.packets.Ask.TheVariants.{Readdir};
+ghost use Rattle.sftp_handles.specs.declared.kinds.Kind.TheVariants as variants;
+ghost use Rattle.sftp_handles.specs.Kinds as kinds;
 ghost use Rattle.sftp_handles.specs.State as state;
 ghost use Rattle.sftp_handles.specs.Allowed.{Allowed};
-ghost use Rattle.sftp_handles.specs.Judged.{IsJudged, IsJudgedCode};
+ghost use Rattle.sftp_handles.specs.Judged.{IsJudged, refusal_code, is_done};
 
+use crate::answers::has_code;
 use crate::given_table::GivenTable;
+use crate::kinds::{Kind, kind_of};
 use crate::sessions::Session;
 use crate::tables::HandleTable;
-use sftp_tree::NoMemory;
+use sftp_tree::{NoMemory, Refused};
 use sftp_wire::{Answer, Ask, Reply, Request};
 
 impl Session<GivenTable> {
@@ -43,33 +48,142 @@ impl<T: HandleTable> Session<T> {
         ensures ok { IfOk result (λ ok. IsJudged self.old ask.now answer.now ok self.new) }
         ensures err { OnErr result (self.new ≡ self.old) }
     {
-        match answer {
-            Answer::Status { code, .. } => self.judge_status(ask, *code),
-            Answer::Handle(handle) => self.judge_handle(ask, handle.as_slice()),
-            Answer::Data(bytes) => Ok(self.judge_data(ask, bytes.as_slice())),
-            Answer::Name(names) => self.judge_names(ask, names),
-            Answer::Attrs(attrs) => self.judge_attrs(ask, attrs),
-            Answer::Extended(_) => Ok(false),
+        match refusal_code(answer) {
+            Some(code) => {
+                let causes = self.causes(ask)?;
+                Ok(causes.allow(code))
+            }
+            None => self.judge_done(ask, answer),
         }
     }
 
-    /// Whether a status of this code is an allowed answer: the request is done, it has come to an end, or a cause that
-    /// holds allows the code.
+    /// Whether an answer that refuses nothing is allowed.
     ///
     /// # Errors
     ///
     /// `NoMemory` if memory runs out; the session is then as before.
-    fn judge_status(&mut self, ask: &Ask, code: u32) -> Result<bool, NoMemory>
-        ensures ok { IfOk result (λ ok. IsJudgedCode self.old ask.now code ok self.new) }
+    fn judge_done(&mut self, ask: &Ask, answer: &Answer) -> Result<bool, NoMemory>
+        requires table { IsTrue T.takes_want }
+        requires unlike { refusal_code answer.now ≡ None }
+        ensures ok { IfOk result (λ ok. IsJudged self.old ask.now answer.now ok self.new) }
         ensures err { OnErr result (self.new ≡ self.old) }
     {
-        if code == 0 {
-            return self.perform(ask);
+        match kind_of(ask) {
+            Kind::Change => self.judge_change(ask, answer),
+            Kind::Open => self.judge_open(ask, answer),
+            Kind::List => self.judge_list(ask, answer),
+            Kind::Query => self.judge_query(ask, answer),
+            Kind::Unknown => Ok(false),
         }
-        if code == 1 {
-            return Ok(self.has_ended(ask));
+    }
+
+    /// Whether an answer to a change is allowed: it is done, and the answer says OK.
+    ///
+    /// # Errors
+    ///
+    /// `NoMemory` if memory runs out; the session is then as before.
+    fn judge_change(&mut self, ask: &Ask, answer: &Answer) -> Result<bool, NoMemory>
+        requires kind { kinds.kind_of ask.now ≡ variants.Change }
+        requires unlike { refusal_code answer.now ≡ None }
+        ensures ok { IfOk result (λ ok. IsJudged self.old ask.now answer.now ok self.new) }
+        ensures err { OnErr result (self.new ≡ self.old) }
+    {
+        if !has_code(answer, 0) {
+            return Ok(false);
         }
-        let causes = self.causes(ask)?;
-        Ok(causes.allow(code))
+        is_done(self.do_ok(ask))
+    }
+
+    /// Whether an answer to OPEN or OPENDIR is allowed: it gives a new handle, which is then open.
+    ///
+    /// # Errors
+    ///
+    /// `NoMemory` if memory runs out; the session is then as before.
+    fn judge_open(&mut self, ask: &Ask, answer: &Answer) -> Result<bool, NoMemory>
+        requires table { IsTrue T.takes_want }
+        requires kind { kinds.kind_of ask.now ≡ variants.Open }
+        requires unlike { refusal_code answer.now ≡ None }
+        ensures ok { IfOk result (λ ok. IsJudged self.old ask.now answer.now ok self.new) }
+        ensures err { OnErr result (self.new ≡ self.old) }
+    {
+        match answer {
+            Answer::Handle(handle) => self.judge_handle(ask, handle.as_slice()),
+            _ => Ok(false),
+        }
+    }
+
+    /// Whether an answer to READDIR is allowed.
+    ///
+    /// # Errors
+    ///
+    /// `NoMemory` if memory runs out; the session is then as before.
+    fn judge_list(&mut self, ask: &Ask, answer: &Answer) -> Result<bool, NoMemory>
+        requires kind { kinds.kind_of ask.now ≡ variants.List }
+        requires unlike { refusal_code answer.now ≡ None }
+        ensures ok { IfOk result (λ ok. IsJudged self.old ask.now answer.now ok self.new) }
+        ensures err { OnErr result (self.new ≡ self.old) }
+    {
+        match ask {
+            Ask::Readdir { handle } => self.judge_listing(handle.as_slice(), answer),
+            _ => unreachable!(),
+        }
+    }
+
+    /// Whether an answer to READDIR is allowed: it gives names that the listing still has to give, which are then
+    /// struck out, or says that there are none.
+    ///
+    /// # Errors
+    ///
+    /// `NoMemory` if memory runs out; the session is then as before.
+    fn judge_listing(&mut self, handle: &[u8], answer: &Answer) -> Result<bool, NoMemory>
+        requires { refusal_code answer.now ≡ None }
+        ensures ok { IfOk result (λ ok. IsJudged self.old (Readdir handle.now) answer.now ok self.new) }
+        ensures err { OnErr result (self.new ≡ self.old) }
+    {
+        if has_code(answer, 1) {
+            return Ok(self.has_given_all(handle));
+        }
+        match answer {
+            Answer::Name(names) => self.give_names(handle, names),
+            _ => Ok(false),
+        }
+    }
+
+    /// Whether an answer to a query is allowed: it carries what the request asks for.
+    ///
+    /// # Errors
+    ///
+    /// `NoMemory` if memory runs out.
+    fn judge_query(&self, ask: &Ask, answer: &Answer) -> Result<bool, NoMemory>
+        requires kind { kinds.kind_of ask.now ≡ variants.Query }
+        requires unlike { refusal_code answer.now ≡ None }
+        ensures { IfOk result (λ ok. IsJudged self.now ask.now answer.now ok self.now) }
+    {
+        match self.payload(ask) {
+            Ok(payload) => Ok(payload.is_in(answer)),
+            Err(Refused::Cause(_)) => Ok(false),
+            Err(Refused::NoMemory) => Err(NoMemory),
+        }
+    }
+}
+
+/// The code of a status that can refuse: not that of OK, nor that of the end.
+fn refusal_code(answer: &Answer) -> Option<u32>
+    ensures { result ≡ refusal_code answer.now }
+{
+    match answer {
+        Answer::Status { code, .. } => { if *code > 1 { Some(*code) } else { None } }
+        _ => None,
+    }
+}
+
+/// Whether a call was done, and not refused by a cause.
+fn is_done(outcome: Result<(), Refused>) -> Result<bool, NoMemory>
+    ensures { result ≡ is_done outcome }
+{
+    match outcome {
+        Ok(()) => Ok(true),
+        Err(Refused::Cause(_)) => Ok(false),
+        Err(Refused::NoMemory) => Err(NoMemory),
     }
 }

@@ -1,13 +1,16 @@
 //! The answers that this program's own sessions give (draft, sections 6 and 7).
-ghost use Rattle.std.specs.Prelude.{◌≡◌, ◌^◌, ◌<◌, false, Some, IsTrue, IfOk, IfErr, OnErr};
+ghost use Rattle.std.specs.Prelude.{◌≡◌, ◌^◌, ◌<◌, false, Some, IfOk, IfErr, OnErr};
 ghost use Rattle.sftp_wire.specs.declared.packets.Packet.TheVariants.{Reply as reply_packet};
 ghost use Rattle.sftp_wire.specs.Spelling.{HasSpelling};
+ghost use Rattle.sftp_handles.specs.declared.kinds.Kind.TheVariants.{Change};
+ghost use Rattle.sftp_handles.specs.Kinds as kinds;
 ghost use Rattle.sftp_handles.specs.Allowed.{Allowed, step};
 ghost use Rattle.sftp_handles.specs.Judged.{IsRefusal};
-ghost use Rattle.sftp_handles.specs.Answered.{IsSpelledAnswer, IsAnswered, says_ok};
+ghost use Rattle.sftp_handles.specs.Answered.{IsSpelledAnswer, IsAnswered};
 
+use crate::answers::status;
+use crate::kinds::{Kind, kind_of};
 use crate::sessions::Session;
-use crate::showing::status;
 use crate::slab_table::SlabTable;
 use crate::tables::HandleTable;
 use sftp_tree::{Cause, NoMemory, Refused};
@@ -61,38 +64,12 @@ impl<T: HandleTable> Session<T> {
         ensures refused { IfErr result (IsRefusal self.old ask.now) }
         ensures kept { OnErr result (self.new ≡ self.old) }
     {
-        // Dear to prove: an arm for each request that tells something, each with a result of its own.
-        match ask {
-            Ask::Open {
-                path,
-                pflags,
-                attrs,
-            } => self.answer_open(ask, path.as_slice(), *pflags, attrs),
-            Ask::Opendir { path } => self.answer_opendir(ask, path.as_slice()),
-            Ask::Readdir { handle } => self.answer_readdir(handle.as_slice()),
-            Ask::Stat { path } => self.answer_stat(path.as_slice(), true),
-            Ask::Lstat { path } => self.answer_stat(path.as_slice(), false),
-            Ask::Fstat { handle } => self.answer_fstat(handle.as_slice()),
-            Ask::Read {
-                handle,
-                offset,
-                len,
-            } => self.answer_read(handle.as_slice(), *offset, *len),
-            Ask::Realpath { path } => self.answer_real_path(path.as_slice()),
-            Ask::Readlink { path } => self.answer_read_link(path.as_slice()),
-            Ask::Unknown { .. } => Err(Refused::Cause(Cause::Unknown)),
-            Ask::Close { .. }
-            | Ask::Write { .. }
-            | Ask::Setstat { .. }
-            | Ask::Fsetstat { .. }
-            | Ask::Remove { .. }
-            | Ask::Mkdir { .. }
-            | Ask::Rmdir { .. }
-            | Ask::Rename { .. }
-            | Ask::Symlink { .. }
-            | Ask::PosixRename { .. }
-            | Ask::Hardlink { .. }
-            | Ask::Fsync { .. } => self.answer_ok(ask),
+        match kind_of(ask) {
+            Kind::Change => self.answer_change(ask),
+            Kind::Open => self.answer_open(ask),
+            Kind::List => self.answer_list(ask),
+            Kind::Query => self.answer_query(ask),
+            Kind::Unknown => Err(Refused::Cause(Cause::Unknown)),
         }
     }
 
@@ -101,8 +78,8 @@ impl<T: HandleTable> Session<T> {
     /// # Errors
     ///
     /// A cause that refuses the request, or `NoMemory` if memory runs out. The session is then as before.
-    fn answer_ok(&mut self, ask: &Ask) -> Result<Answer, Refused>
-        requires { IsTrue (says_ok ask.now) }
+    fn answer_change(&mut self, ask: &Ask) -> Result<Answer, Refused>
+        requires { kinds.kind_of ask.now ≡ Change }
         ensures done { IfOk result (λ answer. IsAnswered self.old ask.now answer self.new) }
         ensures refused { IfErr result (IsRefusal self.old ask.now) }
         ensures kept { OnErr result (self.new ≡ self.old) }

@@ -1,7 +1,7 @@
 //! READDIR: the names that a listing gives, and its end (draft, section 6.7).
 ghost use Rattle.std.specs.Prelude.{◌≡◌, ◌≤◌, [], Some, is_some, length, IsTrue, IfOk, IfSome, OnErr};
 ghost use Rattle.std.specs.Vec.{vec_capacity};
-ghost use Rattle.sftp_wire.specs.declared.packets.Ask.TheVariants.{Read, Readdir};
+ghost use Rattle.sftp_wire.specs.declared.packets.Ask.TheVariants.{Readdir};
 ghost use Rattle.sftp_wire.specs.declared.packets.Answer.TheVariants as replies;
 ghost use Rattle.sftp_handles.specs.declared.opens.Open.TheVariants as opens;
 ghost use Rattle.sftp_handles.specs.FirstNames.{AreFirst, AreFirstNames};
@@ -16,7 +16,7 @@ use crate::sessions::Session;
 use crate::tables::HandleTable;
 use sftp_path::Name;
 use sftp_tree::NoMemory;
-use sftp_wire::{Ask, ByteString, NameItem, Names};
+use sftp_wire::{ByteString, NameItem, Names};
 use std::alloc::Global;
 
 impl<T: HandleTable> Session<T> {
@@ -58,54 +58,8 @@ impl<T: HandleTable> Session<T> {
         }
     }
 
-    /// Whether a request has come to an end: it is READ at the end of a file or past it, or READDIR of a listing that
-    /// has nothing left to give. Does not allocate.
-    pub(crate) fn has_ended(&self, ask: &Ask) -> bool
-        ensures { IsJudgedCode self.now ask.now 1 result self.now }
-    {
-        match ask {
-            Ask::Read {
-                handle,
-                offset,
-                len,
-            } => self.is_at_end(handle.as_slice(), *offset, *len),
-            Ask::Readdir { handle } => self.has_given_all(handle.as_slice()),
-            Ask::Open { .. } => false,
-            Ask::Close { .. } => false,
-            Ask::Write { .. } => false,
-            Ask::Lstat { .. } => false,
-            Ask::Fstat { .. } => false,
-            Ask::Setstat { .. } => false,
-            Ask::Fsetstat { .. } => false,
-            Ask::Opendir { .. } => false,
-            Ask::Remove { .. } => false,
-            Ask::Mkdir { .. } => false,
-            Ask::Rmdir { .. } => false,
-            Ask::Realpath { .. } => false,
-            Ask::Stat { .. } => false,
-            Ask::Rename { .. } => false,
-            Ask::Readlink { .. } => false,
-            Ask::Symlink { .. } => false,
-            Ask::PosixRename { .. } => false,
-            Ask::Hardlink { .. } => false,
-            Ask::Fsync { .. } => false,
-            Ask::Unknown { .. } => false,
-        }
-    }
-
-    /// READ: whether the offset is the end of the file or past it.
-    fn is_at_end(&self, handle: &[u8], offset: u64, len: u32) -> bool
-        ensures { IsJudgedCode self.now (Read handle.now offset len) 1 result self.now }
-    {
-        match self.read_open(handle, offset, len) {
-            Ok(None) => true,
-            Ok(Some(_)) => false,
-            Err(_) => false,
-        }
-    }
-
     /// READDIR: whether a listing is open that has nothing left to give.
-    fn has_given_all(&self, handle: &[u8]) -> bool
+    pub(crate) fn has_given_all(&self, handle: &[u8]) -> bool
         ensures { IsJudgedCode self.now (Readdir handle.now) 1 result self.now }
     {
         match self.table.find(handle) {

@@ -1,71 +1,43 @@
 //! The answers to OPEN, OPENDIR and READDIR (draft, sections 6.3 and 6.7).
-ghost use Rattle.std.specs.Prelude.{◌≡◌, false, [], IfOk, IfErr, OnOk, OnErr, IsTrue};
+ghost use Rattle.std.specs.Prelude.{◌≡◌, false, IfOk, IfErr, OnOk, OnErr, IsTrue};
 ghost use Rattle.sftp_wire.specs.declared.packets.Ask.TheVariants as asks;
-ghost use Rattle.sftp_wire.specs.declared.packets.Answer.TheVariants as replies;
 ghost use Rattle.sftp_handles.specs.Handles.{open_at};
 ghost use Rattle.sftp_handles.specs.State as state;
-ghost use Rattle.sftp_handles.specs.Laws.{is_opening};
+ghost use Rattle.sftp_handles.specs.declared.kinds.Kind.TheVariants as variants;
+ghost use Rattle.sftp_handles.specs.Kinds as kinds;
 ghost use Rattle.sftp_handles.specs.FirstNames.{AreFirstNames};
 ghost use Rattle.sftp_handles.specs.Judged.{IsRefusal};
 ghost use Rattle.sftp_handles.specs.Answered.{IsAnswered};
 
+use crate::answers::{new_handle, status};
 use crate::giving::give_first;
 use crate::not_opened::NotOpened;
 use crate::opens::Open;
 use crate::sessions::Session;
-use crate::showing::status;
 use crate::tables::HandleTable;
 use sftp_tree::{Cause, Refused};
-use sftp_wire::{Answer, Ask, Attrs, ByteString};
-use std::alloc::Global;
+use sftp_wire::{Answer, Ask, ByteString};
 
 /// How many names a reply to READDIR gives at most.
 pub const NAMES_IN_REPLY: usize = 32;
 
 impl<T: HandleTable> Session<T> {
-    /// OPEN: a new handle.
+    /// OPEN and OPENDIR: a new handle.
     ///
     /// # Errors
     ///
     /// `Cause` with the first cause that holds. `NoMemory` if memory runs out. The session is then as before.
-    pub(crate) fn answer_open(
-        &mut self,
-        ask: &Ask,
-        path: &[u8],
-        pflags: u32,
-        attrs: &Attrs,
-    ) -> Result<Answer, Refused>
+    pub(crate) fn answer_open(&mut self, ask: &Ask) -> Result<Answer, Refused>
         requires table { T.takes_want ≡ false }
-        requires asked { ask.now ≡ asks.Open path.now pflags attrs.now }
+        requires kind { kinds.kind_of ask.now ≡ variants.Open }
         ensures done { IfOk result (λ answer. IsAnswered self.old ask.now answer self.new) }
         ensures refused { IfErr result (IsRefusal self.old ask.now) }
         ensures kept { OnErr result (self.new ≡ self.old) }
     {
         self.check_handles(ask)?;
         let want = Vec::new(self.tree.allocator());
-        match self.open_file(path, pflags, attrs, want) {
-            Ok(name) => Ok(handle_reply(name)),
-            Err(NotOpened::Refused(refused)) => Err(refused),
-            Err(NotOpened::Taken) => unreachable!(),
-        }
-    }
-
-    /// OPENDIR: a new handle.
-    ///
-    /// # Errors
-    ///
-    /// `Cause` with the first cause that holds. `NoMemory` if memory runs out. The session is then as before.
-    pub(crate) fn answer_opendir(&mut self, ask: &Ask, path: &[u8]) -> Result<Answer, Refused>
-        requires table { T.takes_want ≡ false }
-        requires asked { ask.now ≡ asks.Opendir path.now }
-        ensures done { IfOk result (λ answer. IsAnswered self.old ask.now answer self.new) }
-        ensures refused { IfErr result (IsRefusal self.old ask.now) }
-        ensures kept { OnErr result (self.new ≡ self.old) }
-    {
-        self.check_handles(ask)?;
-        let want = Vec::new(self.tree.allocator());
-        match self.open_directory(path, want) {
-            Ok(name) => Ok(handle_reply(name)),
+        match self.open_for(ask, want) {
+            Ok(name) => Ok(new_handle(name)),
             Err(NotOpened::Refused(refused)) => Err(refused),
             Err(NotOpened::Taken) => unreachable!(),
         }
@@ -78,7 +50,7 @@ impl<T: HandleTable> Session<T> {
     /// If there is none, `Cause` with the first cause that holds: one of the path's, or else `NoRoom`. `NoMemory` if
     /// memory runs out.
     fn check_handles(&self, ask: &Ask) -> Result<(), Refused>
-        requires { IsTrue (is_opening ask.now) }
+        requires { kinds.kind_of ask.now ≡ variants.Open }
         ensures left { OnOk result (IsTrue (state.has_handle_left self.now)) }
         ensures refused { IfErr result (IsRefusal self.now ask.now) }
     {
@@ -89,13 +61,30 @@ impl<T: HandleTable> Session<T> {
         Err(Refused::Cause(Cause::NoRoom))
     }
 
+    /// READDIR: the first names, or the code that there are no more.
+    ///
+    /// # Errors
+    ///
+    /// The cause that holds. `NoMemory` if memory runs out. The session is then as before.
+    pub(crate) fn answer_list(&mut self, ask: &Ask) -> Result<Answer, Refused>
+        requires { kinds.kind_of ask.now ≡ variants.List }
+        ensures done { IfOk result (λ answer. IsAnswered self.old ask.now answer self.new) }
+        ensures refused { IfErr result (IsRefusal self.old ask.now) }
+        ensures kept { OnErr result (self.new ≡ self.old) }
+    {
+        match ask {
+            Ask::Readdir { handle } => self.answer_readdir(handle.as_slice()),
+            _ => unreachable!(),
+        }
+    }
+
     /// READDIR: the first names that the listing still has to give, `NAMES_IN_REPLY` or fewer, each with the same long
     /// name and with its attributes; or the code that there are no more.
     ///
     /// # Errors
     ///
     /// The cause that holds. `NoMemory` if memory runs out. The session is then as before.
-    pub(crate) fn answer_readdir(&mut self, handle: &[u8]) -> Result<Answer, Refused>
+    fn answer_readdir(&mut self, handle: &[u8]) -> Result<Answer, Refused>
         ensures done { IfOk result (λ answer. IsAnswered self.old (asks.Readdir handle.now) answer self.new) }
         ensures refused { IfErr result (IsRefusal self.old (asks.Readdir handle.now)) }
         ensures kept { OnErr result (self.new ≡ self.old) }
@@ -128,11 +117,4 @@ impl<T: HandleTable> Session<T> {
             None => Err(Refused::Cause(Cause::BadHandle)),
         }
     }
-}
-
-/// A reply with a new handle. Does not allocate.
-fn handle_reply(name: Vec<u8>) -> Answer
-    ensures { result ≡ replies.Handle name.items }
-{
-    Answer::Handle(ByteString::new(name))
 }

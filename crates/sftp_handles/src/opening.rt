@@ -6,6 +6,8 @@ ghost use Rattle.sftp_wire.specs.declared.packets.Ask.TheVariants as asks;
 ghost use Rattle.sftp_wire.specs.declared.packets.Answer.TheVariants as replies;
 ghost use Rattle.sftp_handles.specs.declared.not_opened.NotOpened.TheVariants as failures;
 ghost use Rattle.sftp_handles.specs.declared.opens.Open.TheVariants as opens;
+ghost use Rattle.sftp_handles.specs.declared.kinds.Kind.TheVariants as variants;
+ghost use Rattle.sftp_handles.specs.Kinds as kinds;
 ghost use Rattle.sftp_handles.specs.Handles as handles;
 ghost use Rattle.sftp_handles.specs.State.{IsLeft, has_handle_left};
 ghost use Rattle.sftp_handles.specs.Allowed.{Does};
@@ -23,13 +25,41 @@ use sftp_tree::{FileNo, NoMemory, Refused};
 use sftp_wire::{Ask, Attrs, HANDLE_LIMIT, OpenFlags};
 
 impl<T: HandleTable> Session<T> {
+    /// OPEN and OPENDIR: opens a file, or a listing of a directory, under a new handle, and returns the handle's name.
+    /// A table that gives names of its own ignores the one that is wanted.
+    ///
+    /// # Errors
+    ///
+    /// `Taken` if the wanted name is open already, and else as the tree's call. The session is then as before.
+    pub(crate) fn open_for(&mut self, ask: &Ask, want: Vec<u8>) -> Result<Vec<u8>, NotOpened>
+        requires kind { kinds.kind_of ask.now ≡ variants.Open }
+        requires short { length want.items ≤ handle_limit }
+        requires room { IsTrue (has_handle_left self.old) }
+        ensures done { IfOk result (λ name. Does self.old ask.now (replies.Handle name.items) self.new) }
+        ensures bytes { IfOk result (λ name. AreBytes name.items) }
+        ensures wanted { IfOk result (λ name. IsTrue T.takes_want → name.items ≡ want.items) }
+        ensures failed { IfErr result (IsNotOpened self.old ask.now want.items) }
+        ensures taken { IfErr result (λ e. e ≡ failures.Taken → IsTrue T.takes_want) }
+        ensures kept { OnErr result (self.new ≡ self.old) }
+    {
+        match ask {
+            Ask::Open {
+                path,
+                pflags,
+                attrs,
+            } => self.open_file(path.as_slice(), *pflags, attrs, want),
+            Ask::Opendir { path } => self.open_directory(path.as_slice(), want),
+            _ => unreachable!(),
+        }
+    }
+
     /// OPEN: opens a file under a new handle, and returns the handle's name. A table that gives names of its own
     /// ignores the one that is wanted.
     ///
     /// # Errors
     ///
     /// `Taken` if the wanted name is open already, and else as the tree's call. The session is then as before.
-    pub(crate) fn open_file(
+    fn open_file(
         &mut self,
         path: &[u8],
         pflags: u32,
@@ -67,11 +97,7 @@ impl<T: HandleTable> Session<T> {
     /// # Errors
     ///
     /// `Taken` if the wanted name is open already, and else as the tree's call. The session is then as before.
-    pub(crate) fn open_directory(
-        &mut self,
-        path: &[u8],
-        want: Vec<u8>,
-    ) -> Result<Vec<u8>, NotOpened>
+    fn open_directory(&mut self, path: &[u8], want: Vec<u8>) -> Result<Vec<u8>, NotOpened>
         requires short { length want.items ≤ handle_limit }
         requires room { IsTrue (has_handle_left self.old) }
         ensures done { IfOk result
@@ -121,90 +147,22 @@ impl<T: HandleTable> Session<T> {
         }
     }
 
-    /// Whether a handle is an allowed answer: the request opens something, and the handle is new. It is then open.
+    /// Whether a handle is an allowed answer to OPEN or OPENDIR. What these open is then open under it.
     ///
     /// # Errors
     ///
     /// `NoMemory` if memory runs out; the session is then as before.
-    #[tactic(auto, using(crate::proofs::HandleReplies::other_handle))]
     pub(crate) fn judge_handle(&mut self, ask: &Ask, handle: &[u8]) -> Result<bool, NoMemory>
-        requires { IsTrue T.takes_want }
+        requires table { IsTrue T.takes_want }
+        requires kind { kinds.kind_of ask.now ≡ variants.Open }
         ensures ok { IfOk result (λ ok. IsJudged self.old ask.now (replies.Handle handle.now) ok self.new) }
         ensures err { OnErr result (self.new ≡ self.old) }
     {
-        match ask {
-            Ask::Open {
-                path,
-                pflags,
-                attrs,
-            } => self.judge_file(path.as_slice(), *pflags, attrs, handle),
-            Ask::Opendir { path } => self.judge_directory(path.as_slice(), handle),
-            Ask::Close { .. }
-            | Ask::Read { .. }
-            | Ask::Write { .. }
-            | Ask::Lstat { .. }
-            | Ask::Fstat { .. }
-            | Ask::Setstat { .. }
-            | Ask::Fsetstat { .. }
-            | Ask::Readdir { .. }
-            | Ask::Remove { .. }
-            | Ask::Mkdir { .. }
-            | Ask::Rmdir { .. }
-            | Ask::Realpath { .. }
-            | Ask::Stat { .. }
-            | Ask::Rename { .. }
-            | Ask::Readlink { .. }
-            | Ask::Symlink { .. }
-            | Ask::PosixRename { .. }
-            | Ask::Hardlink { .. }
-            | Ask::Fsync { .. }
-            | Ask::Unknown { .. } => Ok(false),
-        }
-    }
-
-    /// Whether a handle is an allowed answer to OPEN. The file is then open under it.
-    ///
-    /// # Errors
-    ///
-    /// `NoMemory` if memory runs out; the session is then as before.
-    fn judge_file(
-        &mut self,
-        path: &[u8],
-        pflags: u32,
-        attrs: &Attrs,
-        handle: &[u8],
-    ) -> Result<bool, NoMemory>
-        requires { IsTrue T.takes_want }
-        ensures ok { IfOk result
-            (λ ok. IsJudged self.old (asks.Open path.now pflags attrs.now) (replies.Handle handle.now) ok self.new) }
-        ensures err { OnErr result (self.new ≡ self.old) }
-    {
         if !self.has_place_for(handle) {
             return Ok(false);
         }
         let want = Vec::from_slice(self.tree.allocator(), handle)?;
-        match self.open_file(path, pflags, attrs, want) {
-            Ok(_name) => Ok(true),
-            Err(failed) => not_opened(failed),
-        }
-    }
-
-    /// Whether a handle is an allowed answer to OPENDIR. The listing of the directory is then open under it.
-    ///
-    /// # Errors
-    ///
-    /// `NoMemory` if memory runs out; the session is then as before.
-    fn judge_directory(&mut self, path: &[u8], handle: &[u8]) -> Result<bool, NoMemory>
-        requires { IsTrue T.takes_want }
-        ensures ok { IfOk result
-            (λ ok. IsJudged self.old (asks.Opendir path.now) (replies.Handle handle.now) ok self.new) }
-        ensures err { OnErr result (self.new ≡ self.old) }
-    {
-        if !self.has_place_for(handle) {
-            return Ok(false);
-        }
-        let want = Vec::from_slice(self.tree.allocator(), handle)?;
-        match self.open_directory(path, want) {
+        match self.open_for(ask, want) {
             Ok(_name) => Ok(true),
             Err(failed) => not_opened(failed),
         }

@@ -1,11 +1,10 @@
-use Rattle.std.proofs.Common.{sym, subst, false}
-use Rattle.sftp_wire.specs.declared.packets.Answer.{Answer}
-use Rattle.sftp_handles.specs.Judged.{IsJudged}
-use Rattle.sftp_handles.proofs.Judgements.{judged-extended}
+use Rattle.std.proofs.Common.{sym, ◌∙◌}
+use Rattle.sftp_tree.specs.Causes.{allow}
+use Rattle.sftp_handles.proofs.Judgements.{judged-refusal}
 use Rattle.sftp_handles.proofs.sessions.Session.judge.Goals as goal
 
-pub returns-in-Extended-clause-ok : goal.returns-in-Extended-clause-ok
-returns-in-Extended-clause-ok g c =
-    let s = c.args.self.now in
-    subst (λ (answer : Answer). IsJudged s c.args.ask.now answer false s) (sym c.in-Extended.is)
-    (judged-extended s c.args.ask.now c.in-Extended.field-0)
+pub returns-in_ok-causes-in-Some-clause-ok : goal.returns-in_ok-causes-in-Some-clause-ok
+returns-in_ok-causes-in-Some-clause-ok g c =
+    judged-refusal c.args.self.now c.args.ask.now c.args.answer.now c.in-Some.code c.allow.result
+    (sym c.refusal_code.ensures ∙ c.in-Some.is)
+    (sym (c.allow.ensures ∙ (λ i. allow (λ cause. c.in_ok-causes-in-Some.ensures cause i) c.in-Some.code)))

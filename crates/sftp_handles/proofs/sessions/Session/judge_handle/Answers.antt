@@ -1,21 +1,27 @@
-use Rattle.std.proofs.Common.{sym, ap, subst, ◌∙◌, IfOk}
-use Rattle.sftp_wire.specs.declared.packets.Ask.{Ask}
-use Rattle.sftp_wire.specs.declared.packets.Ask.TheVariants as asks
+use Rattle.std.proofs.Common.{sym, subst, ◌∙◌, IfOk}
 use Rattle.sftp_wire.specs.declared.packets.Answer.TheVariants.{Handle}
 use Rattle.sftp_handles.specs.Judged.{IsJudged}
+use Rattle.sftp_handles.proofs.HandleReplies.{judged-lacking, judged-opened, judged-failed, held}
 use Rattle.sftp_handles.proofs.sessions.Session.judge_handle.Goals as goal
 
-pub returns-in-Open-clause-ok : goal.returns-in-Open-clause-ok
-returns-in-Open-clause-ok g c =
-    subst
-    (λ (ask : Ask). IfOk c.judge_file.result
-    (λ ok. IsJudged c.args.self.now ask (Handle c.args.handle.now) ok c.judge_file.new.self))
-    (ap (λ path. asks.Open path c.in-Open.pflags c.in-Open.attrs) c.as_slice.ensures ∙ sym c.in-Open.is)
-    c.judge_file.ensures.ok
+pub returns-then-not-has_place_for-clause-ok : goal.returns-then-not-has_place_for-clause-ok
+returns-then-not-has_place_for-clause-ok g c =
+    judged-lacking c.args.self.now c.args.ask.now c.args.handle.now c.requires.kind
+    (sym c.has_place_for.ensures ∙ c.if-not-has_place_for.true)
 
-pub returns-in-Opendir-clause-ok : goal.returns-in-Opendir-clause-ok
-returns-in-Opendir-clause-ok g c =
+pub returns-in-Ok-clause-ok : goal.returns-in-Ok-clause-ok
+returns-in-Ok-clause-ok g c =
+    judged-opened c.args.self.now c.args.ask.now _ c.in_ok-want.want.items c.args.handle.now c.open_for.new.self
+    (c.in-Ok.ensures.wanted c.requires.table) c.in_ok-want.ensures.items c.in-Ok.ensures.done
+
+pub returns-in-Err-clause-ok : goal.returns-in-Err-clause-ok
+returns-in-Err-clause-ok g c =
     subst
-    (λ (ask : Ask). IfOk c.judge_directory.result
-    (λ ok. IsJudged c.args.self.now ask (Handle c.args.handle.now) ok c.judge_directory.new.self))
-    (ap asks.Opendir c.as_slice-in-Opendir.ensures ∙ sym c.in-Opendir.is) c.judge_directory.ensures.ok
+    (λ result. IfOk result
+    (λ ok. IsJudged c.args.self.now c.args.ask.now (Handle c.args.handle.now) ok c.open_for.new.self))
+    (sym c.not_opened.ensures)
+    (judged-failed c.args.self.now c.args.ask.now c.in_ok-want.want.items c.args.handle.now c.open_for.new.self
+    c.in-Err.failed c.requires.kind c.in_ok-want.ensures.items c.in-Err.ensures.failed c.in-Err.ensures.kept)
+
+pub returns-in-Err-clause-err : goal.returns-in-Err-clause-err
+returns-in-Err-clause-err g c = held c.not_opened.result c.in-Err.ensures.kept

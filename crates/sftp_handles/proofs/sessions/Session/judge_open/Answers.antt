@@ -1,0 +1,7 @@
+use Rattle.sftp_handles.proofs.HandleReplies.{judged-no_handle}
+use Rattle.sftp_handles.proofs.sessions.Session.judge_open.Goals as goal
+
+pub returns-in_default-clause-ok : goal.returns-in_default-clause-ok
+returns-in_default-clause-ok g c =
+    judged-no_handle c.args.self.now c.args.ask.now c.args.answer.now c.requires.kind c.requires.unlike
+    c.in_default.not-Handle

@@ -1,0 +1,26 @@
+use Rattle.std.proofs.Common.{◌≡◌, ℕ, List, Some, refl, sym, subst}
+use Rattle.sftp_wire.specs.declared.packets.Ask.TheVariants.{Readlink}
+use Rattle.sftp_tree.specs.Requests as paths
+use Rattle.sftp_tree.specs.Refusals.{IsFree}
+use Rattle.sftp_tree.specs.Refusals as of_tree
+use Rattle.sftp_handles.specs.State.{State, Good}
+use Rattle.sftp_handles.specs.Replies.{names}
+use Rattle.sftp_handles.specs.Payloads.{Carries}
+use Rattle.sftp_handles.proofs.QueryReplies.{carries-target, path-refusal}
+use Rattle.sftp_handles.proofs.sessions.Session.link_payload.Goals as goal
+
+pub returns-in-Ok-clause-carried : goal.returns-in-Ok-clause-carried
+returns-in-Ok-clause-carried g c =
+    let s = c.args.self.now in
+    let ask = Readlink c.args.path.now in
+    let target = c.in-Ok.target.items in
+    subst (λ (x : List ℕ). Carries s ask (names (Some x))) (sym c.new.ensures)
+    (carries-target s c.args.path.now target (subst Good c.self.view_is c.self.invariant)
+    (subst (λ (s : State). IsFree s.tree ask) c.self.view_is c.in-Ok.ensures.free)
+    (subst (λ (s : State). paths.target_to s.tree ask ≡ Some target) c.self.view_is c.in-Ok.ensures.target))
+
+pub returns-in-Err-clause-refused : goal.returns-in-Err-clause-refused
+returns-in-Err-clause-refused g c =
+    let ask = Readlink c.args.path.now in
+    path-refusal c.args.self.now ask refl refl c.in-Err.refused
+    (subst (λ (s : State). of_tree.IsRefusal s.tree ask c.in-Err.refused) c.self.view_is c.in-Err.ensures.refused)

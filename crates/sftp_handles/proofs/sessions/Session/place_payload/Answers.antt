@@ -1,0 +1,32 @@
+use Rattle.std.proofs.Common.{◌≡◌, ℕ, List, Some, sym, subst}
+use Rattle.sftp_wire.specs.declared.packets.Ask.TheVariants.{Realpath}
+use Rattle.sftp_path.proofs.PathTexts.GoodPaths.{list_all-octets}
+use Rattle.sftp_tree.specs.Requests as paths
+use Rattle.sftp_tree.specs.Refusals.{IsFree}
+use Rattle.sftp_tree.specs.Refusals as of_tree
+use Rattle.sftp_handles.specs.State.{State, Good}
+use Rattle.sftp_handles.specs.Replies.{names}
+use Rattle.sftp_handles.specs.Payloads.{Carries}
+use Rattle.sftp_handles.proofs.QueryReplies.{carries-place, path-refusal}
+use Rattle.sftp_handles.proofs.sessions.Session.place_payload.Goals as goal
+use Rattle.std.proofs.Common.{refl}
+
+pub returns-in-Ok-clause-carried : goal.returns-in-Ok-clause-carried
+returns-in-Ok-clause-carried g c =
+    let s = c.args.self.now in
+    let ask = Realpath c.args.path.now in
+    let text = c.in-Ok.text.items in
+    subst (λ (x : List ℕ). Carries s ask (names (Some x))) (sym c.new.ensures)
+    (carries-place (λ t kept follow path place bytes is. record {
+      named = c.walks_give_places.ensures.names t follow path place kept bytes is;
+      above = c.walks_give_places.ensures.parent t follow path place kept bytes is;
+    }) s c.args.path.now text (subst Good c.self.view_is c.self.invariant)
+    (list_all-octets c.args.path.now c.type_inv.path)
+    (subst (λ (s : State). IsFree s.tree ask) c.self.view_is c.in-Ok.ensures.free)
+    (subst (λ (s : State). paths.text_to s.tree ask ≡ Some text) c.self.view_is c.in-Ok.ensures.text))
+
+pub returns-in-Err-clause-refused : goal.returns-in-Err-clause-refused
+returns-in-Err-clause-refused g c =
+    let ask = Realpath c.args.path.now in
+    path-refusal c.args.self.now ask refl refl c.in-Err.refused
+    (subst (λ (s : State). of_tree.IsRefusal s.tree ask c.in-Err.refused) c.self.view_is c.in-Err.ensures.refused)

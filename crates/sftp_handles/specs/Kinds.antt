@@ -1,0 +1,29 @@
+-- The kinds of requests, by what their replies say where no cause refuses them. Words of private contracts.
+use Rattle.sftp_wire.specs.declared.packets.Ask.{Ask}
+use Rattle.sftp_wire.specs.declared.packets.Ask.TheVariants as asks
+use Rattle.sftp_handles.specs.declared.kinds.Kind.{Kind}
+use Rattle.sftp_handles.specs.declared.kinds.Kind.TheVariants.{Change, Open, List, Query, Unknown}
+
+abbrev pub kind_of : Ask → Kind
+kind_of (asks.Open path pflags attrs) = Open
+kind_of (asks.Opendir path) = Open
+kind_of (asks.Readdir handle) = List
+kind_of (asks.Read handle offset len) = Query
+kind_of (asks.Stat path) = Query
+kind_of (asks.Lstat path) = Query
+kind_of (asks.Fstat handle) = Query
+kind_of (asks.Realpath path) = Query
+kind_of (asks.Readlink path) = Query
+kind_of (asks.Close handle) = Change
+kind_of (asks.Write handle offset bytes) = Change
+kind_of (asks.Setstat path attrs) = Change
+kind_of (asks.Fsetstat handle attrs) = Change
+kind_of (asks.Remove path) = Change
+kind_of (asks.Mkdir path attrs) = Change
+kind_of (asks.Rmdir path) = Change
+kind_of (asks.Rename oldpath newpath) = Change
+kind_of (asks.Symlink targetpath linkpath) = Change
+kind_of (asks.PosixRename oldpath newpath) = Change
+kind_of (asks.Hardlink oldpath newpath) = Change
+kind_of (asks.Fsync handle) = Change
+kind_of (asks.Unknown name rest) = Unknown

@@ -1,0 +1,79 @@
+//! What the replies to queries carry (draft, section 7).
+ghost use Rattle.std.specs.Prelude.{◌≡◌, IfOk};
+ghost use Rattle.sftp_handles.specs.Replies as spec;
+ghost use Rattle.sftp_handles.specs.Fitting.{FitsSaid};
+ghost use Rattle.sftp_handles.specs.Payloads.{said_in};
+ghost use Rattle.sftp_handles.specs.Answered.{IsReplyOf};
+
+use crate::answers::{has_code, one_name, status};
+use crate::shown::same_attributes;
+use sftp_tree::NoMemory;
+use sftp_wire::{Answer, Attrs, ByteString, Names};
+use std::alloc::Global;
+
+/// What the reply to a query carries.
+#[derive(Drop)]
+pub(crate) enum Payload<'a> {
+    /// The attributes of what was asked for.
+    Attrs(Attrs),
+    /// A text, as the only name.
+    Name(ByteString),
+    /// Bytes of a file, lent.
+    Data(&'a [u8]),
+    /// That the end was reached.
+    End,
+}
+
+impl<'a> Payload<'a> {
+    /// Whether an answer carries this. Times and extended pairs of attributes, long names and the attributes of an only
+    /// name are free.
+    pub(crate) fn is_in(&self, answer: &Answer) -> bool
+        ensures { result ≡ spec.says (said_in self.now) answer.now }
+    {
+        match self {
+            Payload::Attrs(shown) => match answer {
+                Answer::Attrs(attrs) => same_attributes(shown, attrs),
+                _ => false,
+            },
+            Payload::Name(text) => match answer {
+                Answer::Name(names) => is_one_name(text.as_slice(), names),
+                _ => false,
+            },
+            Payload::Data(bytes) => match answer {
+                Answer::Data(given) => *bytes == given.as_slice(),
+                _ => false,
+            },
+            Payload::End => has_code(answer, 1),
+        }
+    }
+
+    /// The answer that carries this.
+    ///
+    /// # Errors
+    ///
+    /// `NoMemory` if memory runs out.
+    pub(crate) fn answer(self, alloc: Global) -> Result<Answer, NoMemory>
+        requires { FitsSaid (said_in self) }
+        ensures { IfOk result (IsReplyOf (said_in self.entry)) }
+    {
+        match self {
+            Payload::Attrs(shown) => Ok(Answer::Attrs(shown)),
+            Payload::Name(text) => one_name(alloc, text),
+            Payload::Data(bytes) => {
+                let copy = ByteString::from_slice(alloc, bytes)?;
+                Ok(Answer::Data(copy))
+            }
+            Payload::End => Ok(status(alloc, 1)),
+        }
+    }
+}
+
+/// Whether there is one name, with these bytes. Its long name and its attributes are free.
+fn is_one_name(text: &[u8], names: &Names) -> bool
+    ensures { result ≡ spec.is_one_name text.now names.now }
+{
+    match names.as_slice() {
+        [item] => text == item.filename.as_slice(),
+        _ => false,
+    }
+}
