@@ -15,6 +15,8 @@ mod cores;
 #[cfg(test)]
 mod handles;
 #[cfg(test)]
+mod memory;
+#[cfg(test)]
 mod path;
 #[cfg(test)]
 mod scripts;
@@ -26,5 +28,7 @@ mod streams;
 mod transcript;
 #[cfg(test)]
 mod treefile;
+#[cfg(test)]
+mod walks;
 #[cfg(test)]
 mod wire;
