@@ -225,7 +225,7 @@ blocked-by queue before after o end_o done from same o_is but =
     (subst (λ (notes : List Note). AreBlockedBut queue notes o done from (done + (note_at notes done).waiter))
     (sym same) but)
 
-count-one : (b : Bool) → as_count b ≤ 1
+pub count-one : (b : Bool) → as_count b ≤ 1
 count-one true = omega arith
 count-one false = omega arith
 

@@ -2,7 +2,7 @@
 ghost use Rattle.std.specs.Prelude.{◌≡◌, ◌≢◌, ◌+◌, ◌-◌, ◌<◌, ◌≤◌, ◌&&◌, ◌++◌, ℕ, suc, [], ◌∷◌, true, false};
 ghost use Rattle.std.specs.Prelude.{IsTrue, IfOk, OnOk, length, take, drop, set};
 ghost use Rattle.std.specs.VecDeque.{deque_len, deque_capacity};
-ghost use Rattle.sftp_handles.specs.Clash.{touched};
+ghost use Rattle.sftp_handles.specs.Clash.{touched, share};
 ghost use Rattle.sftp_handles.specs.Ranges as ranges;
 ghost use Rattle.sftp_handles.specs.Ranges.{range};
 ghost use Rattle.sftp_handles.specs.Touch.{touched_as};
@@ -17,7 +17,6 @@ ghost use Rattle.sftp_server.specs.RangedNotes.{resizes};
 use crate::queue::Queue;
 use sftp_handles::{ByteRange, Session, SlabTable, Touch};
 use sftp_tree::FileNo;
-use sftp_wire::Ask;
 use std::alloc::{AllocError, Global};
 use std::collections::VecDeque;
 
@@ -109,12 +108,12 @@ impl Readiness {
         let mut before = 0;
         let mut k = 0;
         'each: while k < self.notes.len() {
-            if self.notes[k].possible {
-                if before == number {
-                    return k;
-                }
-                before += 1;
+            // Out of order no branch by `possible` is foreseen, so the flag is added.
+            let upto = before + as_count(self.notes[k].possible);
+            if upto > number {
+                return k;
             }
+            before = upto;
             k += 1;
         }
         unreachable!()
@@ -506,26 +505,14 @@ impl Readiness {
         ensures free { result ≡ 0 → IsFree queue.now self.now.notes.items k }
         ensures blocked { result ≢ 0 → IsBlockedBack queue.now self.now.notes.items k result }
     {
-        match queue.ask(k) {
-            Some(ask) => self.search(queue, k, ask),
-            None => unreachable!(),
+        if k <= self.first_pending {
+            return 0;
         }
-    }
-
-    /// The same, by what the request asks.
-    fn search(&self, queue: &Queue, k: usize, ask: &Ask) -> usize
-        requires within { k < self.now.opened }
-        requires noted { IsNoted queue.now self.now.notes.items self.now.first_pending self.now.opened self.now.writers
-            self.now.possible }
-        requires ask { ask.now ≡ ask_at queue.now k }
-        ensures free { result ≡ 0 → IsFree queue.now self.now.notes.items k }
-        ensures blocked { result ≢ 0 → IsBlockedBack queue.now self.now.notes.items k result }
-    {
         let later = &self.notes[k];
         let mut j = self.start(k);
         'down: while j > self.first_pending {
             j -= 1;
-            if self.is_in_way(queue, j, k, later, ask) {
+            if self.is_in_way(queue, j, k, later) {
                 return k - j;
             }
         }
@@ -546,27 +533,21 @@ impl Readiness {
         }
     }
 
-    /// Whether the request at position `j` is pending and clashes with the one at `k`, whose note `later` is and which
-    /// asks this.
-    fn is_in_way(&self, queue: &Queue, j: usize, k: usize, later: &Note, ask: &Ask) -> bool
+    /// Whether the request at position `j` is pending and clashes with the one at `k`, whose note `later` is.
+    fn is_in_way(&self, queue: &Queue, j: usize, k: usize, later: &Note) -> bool
         requires within { j < length queue.now }
         requires there { k < length queue.now }
         requires same { length self.now.notes.items ≡ length queue.now }
         requires later { later.now ≡ note_at self.now.notes.items k }
-        requires ask { ask.now ≡ ask_at queue.now k }
         ensures { result
             ≡ is_in_way queue.now self.now.notes.items j (portion_at queue.now self.now.notes.items k) }
     {
         let earlier = &self.notes[j];
-        if !earlier.pending {
+        // Ranges come first: of one file that is transferred, most are apart.
+        if !earlier.pending || are_apart(earlier.range, later.range) {
             return false;
         }
-        match queue.ask(j) {
-            // Ranges come first: of one file that is transferred, most are apart.
-            Some(first) => !are_apart(earlier.range, later.range)
-                && earlier.touch.shares(first, later.touch, ask),
-            None => unreachable!(),
-        }
+        shares(queue, j, k, earlier.touch, later.touch)
     }
 
     /// Passes the requests at the front that are not pending.
@@ -619,6 +600,36 @@ fn portion_of(session: &Session<SlabTable>, queue: &Queue, k: usize) -> (Touch, 
     }
 }
 
+/// Whether the requests at two positions, which touch these, touch one thing and not both only read it.
+fn shares(queue: &Queue, j: usize, k: usize, earlier: Touch, later: Touch) -> bool
+    requires within { j < length queue.now }
+    requires there { k < length queue.now }
+    ensures { result ≡ share (touched_as earlier (ask_at queue.now j)) (touched_as later (ask_at queue.now k)) }
+{
+    match (&earlier, &later) {
+        // Only listings need what is asked.
+        (Touch::WritesFile(file), Touch::WritesFile(number)) => *file == *number,
+        _ => shares_by_asks(queue, j, k, earlier, later),
+    }
+}
+
+/// The same, whatever they touch.
+#[cold]
+#[inline(never)]
+fn shares_by_asks(queue: &Queue, j: usize, k: usize, earlier: Touch, later: Touch) -> bool
+    requires within { j < length queue.now }
+    requires there { k < length queue.now }
+    ensures { result ≡ share (touched_as earlier (ask_at queue.now j)) (touched_as later (ask_at queue.now k)) }
+{
+    match queue.ask(j) {
+        Some(first) => match queue.ask(k) {
+            Some(second) => earlier.shares(first, later, second),
+            None => unreachable!(),
+        },
+        None => unreachable!(),
+    }
+}
+
 /// The range of its file that the request at this position keeps to.
 fn range_of(session: &Session<SlabTable>, queue: &Queue, k: usize) -> Option<ByteRange>
     requires { k < length queue.now }
@@ -641,6 +652,13 @@ fn are_apart(range: Option<ByteRange>, other: Option<ByteRange>) -> bool
         },
         None => false,
     }
+}
+
+/// 1 if an act is possible, else 0.
+fn as_count(possible: bool) -> usize
+    ensures { result ≡ words.as_count possible }
+{
+    possible as usize
 }
 
 /// Takes so many notes off the front.

@@ -1,6 +1,6 @@
 use Rattle.std.proofs.Common.{◌-◌, ◌≤◌}
 use Rattle.sftp_server.specs.Readiness.{IsFreeFrom}
-use Rattle.sftp_server.proofs.readiness.Readiness.search.Given as goal
+use Rattle.sftp_server.proofs.readiness.Readiness.look.Given as goal
 
 abbrev pub invariant-down : goal.invariant-down
 invariant-down l = (l.j ≤ l.k) × IsFreeFrom l.queue l.self.notes.items l.k l.j

@@ -1,6 +1,6 @@
 use Rattle.std.proofs.Common.{◌-◌, sym, ◌∙◌, arith}
 use Rattle.sftp_server.proofs.Notes.{free-lower}
-use Rattle.sftp_server.proofs.readiness.Readiness.search.Goals as goal
+use Rattle.sftp_server.proofs.readiness.Readiness.look.Goals as goal
 
 pub down-preserved : goal.down-preserved
 down-preserved c =
