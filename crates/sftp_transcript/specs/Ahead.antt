@@ -19,9 +19,9 @@ pub record Ahead : Type 0 where
 abbrev pub bytes_ahead : Ahead → Option (List ℕ)
 bytes_ahead a = prepend_known a.held a.left
 
--- how many bytes are held at most
+-- how many bytes are held at most: as many as two of the longest packets have
 abbrev pub capacity : ℕ
-capacity = 131072
+capacity = 2 * packet_limit
 
 -- the most bytes of a record: the direction, and then the packet
 abbrev pub record_limit : ℕ

@@ -234,7 +234,7 @@ FitsFields (Reply reply) = (reply.id < 2 ^ 32) × FitsAnswer reply.answer
 
 -- the most bytes of a whole packet, its length field included. This profile's own.
 abbrev pub packet_limit : ℕ
-packet_limit = 34000
+packet_limit = 262144
 
 -- the most bytes of a handle (draft, section 7)
 abbrev pub handle_limit : ℕ

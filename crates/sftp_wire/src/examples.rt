@@ -121,9 +121,9 @@ pub fn replies()
 /// have is the most, and one more is too long.
 pub fn lengths()
     ensures zero { front_of Side.Client (hex (codes "00000000")) ≡ Err Fault.Length }
-    ensures most { front_of Side.Client (hex (codes "000084cc")) ≡ Ok None }
-    ensures beyond { front_of Side.Client (hex (codes "000084cd")) ≡ Err Fault.Length }
-    ensures cut { front_of Side.Client (hex (codes "000084")) ≡ Ok None }
+    ensures most { front_of Side.Client (hex (codes "0003fffc")) ≡ Ok None }
+    ensures beyond { front_of Side.Client (hex (codes "0003fffd")) ≡ Err Fault.Length }
+    ensures cut { front_of Side.Client (hex (codes "0003ff")) ≡ Ok None }
 {}
 
 /// The first fault from left to right: a type of the other side before its fields, attribute flags before the fields

@@ -5,7 +5,7 @@ use crate::names::Names;
 use crate::strings::{ByteString, Pairs};
 
 /// The most bytes of a whole packet, its length field included. This profile's own.
-pub const PACKET_LIMIT: usize = 34_000;
+pub const PACKET_LIMIT: usize = 262_144;
 
 /// The most bytes of a handle (draft, section 7).
 pub const HANDLE_LIMIT: usize = 256;
