@@ -5,7 +5,7 @@ ghost use Rattle.sftp_handles.specs.declared.kinds.Kind.TheVariants as variants;
 ghost use Rattle.sftp_handles.specs.Kinds as kinds;
 ghost use Rattle.sftp_handles.specs.State as state;
 ghost use Rattle.sftp_handles.specs.Allowed.{Allowed};
-ghost use Rattle.sftp_handles.specs.Judged.{IsJudged, refusal_code, is_done};
+ghost use Rattle.sftp_handles.specs.Judged.{IsJudged, refusal_code};
 
 use crate::answers::has_code;
 use crate::given_table::GivenTable;
@@ -75,23 +75,6 @@ impl<T: HandleTable> Session<T> {
             Kind::Query => self.judge_query(ask, answer),
             Kind::Unknown => Ok(false),
         }
-    }
-
-    /// Whether an answer to a change is allowed: it is done, and the answer says OK.
-    ///
-    /// # Errors
-    ///
-    /// `NoMemory` if memory runs out; the session is then as before.
-    fn judge_change(&mut self, ask: &Ask, answer: &Answer) -> Result<bool, NoMemory>
-        requires kind { kinds.kind_of ask.now ≡ variants.Change }
-        requires unlike { refusal_code answer.now ≡ None }
-        ensures ok { IfOk result (λ ok. IsJudged self.old ask.now answer.now ok self.new) }
-        ensures err { OnErr result (self.new ≡ self.old) }
-    {
-        if !has_code(answer, 0) {
-            return Ok(false);
-        }
-        is_done(self.do_ok(ask))
     }
 
     /// Whether an answer to OPEN or OPENDIR is allowed: it gives a new handle, which is then open.
@@ -174,16 +157,5 @@ fn refusal_code(answer: &Answer) -> Option<u32>
     match answer {
         Answer::Status { code, .. } => { if *code > 1 { Some(*code) } else { None } }
         _ => None,
-    }
-}
-
-/// Whether a call was done, and not refused by a cause.
-fn is_done(outcome: Result<(), Refused>) -> Result<bool, NoMemory>
-    ensures { result ≡ is_done outcome }
-{
-    match outcome {
-        Ok(()) => Ok(true),
-        Err(Refused::Cause(_)) => Ok(false),
-        Err(Refused::NoMemory) => Err(NoMemory),
     }
 }

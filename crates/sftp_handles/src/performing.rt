@@ -1,15 +1,33 @@
 //! Requests whose reply says OK.
-ghost use Rattle.std.specs.Prelude.{◌≡◌, IsTrue, IfErr, OnOk, OnErr};
+ghost use Rattle.std.specs.Prelude.{◌≡◌, None, IsTrue, IfOk, IfErr, OnOk, OnErr};
 ghost use Rattle.sftp_handles.specs.declared.kinds.Kind.TheVariants.{Change};
 ghost use Rattle.sftp_handles.specs.Kinds as kinds;
-ghost use Rattle.sftp_handles.specs.Judged.{IsDone, IsRefusal, changes_tree};
+ghost use Rattle.sftp_handles.specs.Judged.{IsJudged, IsDone, IsRefusal, changes_tree, is_done, refusal_code};
 
+use crate::answers::has_code;
 use crate::sessions::Session;
 use crate::tables::HandleTable;
-use sftp_tree::Refused;
-use sftp_wire::Ask;
+use sftp_tree::{NoMemory, Refused};
+use sftp_wire::{Answer, Ask};
 
 impl<T: HandleTable> Session<T> {
+    /// Whether an answer to a change is allowed: it is done, and the answer says OK.
+    ///
+    /// # Errors
+    ///
+    /// `NoMemory` if memory runs out; the session is then as before.
+    pub(crate) fn judge_change(&mut self, ask: &Ask, answer: &Answer) -> Result<bool, NoMemory>
+        requires kind { kinds.kind_of ask.now ≡ Change }
+        requires unlike { refusal_code answer.now ≡ None }
+        ensures ok { IfOk result (λ ok. IsJudged self.old ask.now answer.now ok self.new) }
+        ensures err { OnErr result (self.new ≡ self.old) }
+    {
+        if !has_code(answer, 0) {
+            return Ok(false);
+        }
+        is_done(self.do_ok(ask))
+    }
+
     /// Does a request whose reply says OK.
     ///
     /// # Errors
@@ -56,5 +74,16 @@ impl<T: HandleTable> Session<T> {
     {
         self.tree.carry_out(ask)?;
         Ok(())
+    }
+}
+
+/// Whether a call was done, and not refused by a cause.
+fn is_done(outcome: Result<(), Refused>) -> Result<bool, NoMemory>
+    ensures { result ≡ is_done outcome }
+{
+    match outcome {
+        Ok(()) => Ok(true),
+        Err(Refused::Cause(_)) => Ok(false),
+        Err(Refused::NoMemory) => Err(NoMemory),
     }
 }
