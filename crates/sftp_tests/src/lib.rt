@@ -12,6 +12,7 @@ pub mod audited;
 mod client;
 #[cfg(test)]
 mod cores;
+pub mod from_memory;
 #[cfg(test)]
 mod handles;
 #[cfg(test)]

@@ -1,6 +1,7 @@
 //! Sessions of the server, over streams that fail, and by a schedule of given choices. The bytes are worked out by
 //! hand.
 use crate::audit::BLANK;
+use crate::from_memory::{Session, serve_bytes};
 use crate::streams::{Input, Room};
 use sftp_audit::audit;
 use sftp_path::NoMemory;
@@ -99,4 +100,27 @@ fn accepted_requests(alloc: Global, outcome: &Outcome) -> Option<u64> {
         Ok(_) => None,
         Err(_) => None,
     }
+}
+
+/// Whether a session finished, with the replies to INIT and MKDIR, and a record of one request that is accepted.
+fn is_served(alloc: Global, session: &Session) -> bool {
+    let accepted = audit(alloc, BLANK, session.record.as_slice());
+    let is_accepted = matches!(&accepted, Ok(accepted) if accepted.requests == 1);
+    drop(accepted);
+    let (version, done) = session
+        .replies
+        .as_slice()
+        .split_at(VERSION.len().min(session.replies.len()));
+    end_of(&session.ended) == End::Finished && is_accepted && version == VERSION && done == DONE
+}
+
+#[test]
+fn serves_memory(rt: HostRuntime) -> Result<(), Fail> {
+    let mut sent = Vec::from_slice(rt.alloc(), INIT)?;
+    sent.extend_from_slice(MKDIR)?;
+    let served = serve_bytes(rt.alloc(), Tree::blank(rt.alloc())?, sent.as_slice())?;
+    let is_served = is_served(rt.alloc(), &served);
+    drop(served);
+    assert!(rt; is_served);
+    Ok(())
 }
