@@ -1,6 +1,6 @@
 //! The blocks that run the program once: `serve`, `audit` and `run`.
 use crate::cases::Case;
-use crate::files::{AUDITED, END, TRANSCRIPT, has_bytes, is_same, remove};
+use crate::files::{END, TRANSCRIPT, are_same_trees, has_bytes, remove};
 use crate::records::{OPENING, put_sides};
 use crate::runs::{Came, Fails, Program, SOUND, run_program, words_of};
 use crate::trouble::Trouble;
@@ -11,7 +11,10 @@ use std::fs::Files;
 
 const SERVE: &str = "sftpv3 serve --tree start.tree --save end.tree --record session.transcript";
 
-const AUDIT: &str = "sftpv3 audit --tree start.tree --transcript session.transcript --out";
+const AUDIT: &str = "sftpv3 audit --tree start.tree --transcript session.transcript --out end.tree";
+
+const AUDIT_OF_RECORD: &str =
+    "sftpv3 audit --tree start.tree --transcript session.transcript --out audited.tree";
 
 /// Runs the program on the words of a line and some more, with the input of the case.
 fn run_line<R: Files + AllocGlobal, P: Program>(
@@ -21,9 +24,8 @@ fn run_line<R: Files + AllocGlobal, P: Program>(
     line: &str,
     more: &str,
 ) -> Result<(), Trouble> {
-    let text = format!(in rt.alloc(); "{line} {more}")?;
-    let words = words_of(rt.alloc(), text.as_str())?;
     remove(rt, END)?;
+    let words = words_of(rt.alloc(), line, more)?;
     run_program(
         rt,
         program,
@@ -33,6 +35,7 @@ fn run_line<R: Files + AllocGlobal, P: Program>(
         case.streams,
         &mut case.came,
     );
+    drop(words);
     case.input.clear();
     case.streams = SOUND;
     case.is_pending = true;
@@ -67,18 +70,35 @@ pub fn full<R: Files + AllocGlobal, P: Program>(
         return Err(Trouble::Form("a number of bytes"));
     };
     for room in 0..most {
-        case.streams.output = Fails::At(room);
-        run_line(rt, program, case, line, "")?;
-        case.is_pending = false;
-        if case.came.status != 3 || case.came.errors.as_slice() != UNWRITTEN {
-            case.say_line(case.line)?;
-            write!(
-                case.said,
-                "    with room for {room} bytes it does not fail\n"
-            )?;
-        }
+        run_with_room(rt, program, case, line, room)?;
     }
     Ok(())
+}
+
+/// Runs the program on the words of a line, with room for so many bytes on standard output.
+fn run_with_room<R: Files + AllocGlobal, P: Program>(
+    rt: &R,
+    program: &P,
+    case: &mut Case,
+    line: &str,
+    room: usize,
+) -> Result<(), Trouble> {
+    case.streams.output = Fails::At(room);
+    run_line(rt, program, case, line, "")?;
+    case.is_pending = false;
+    Ok(expect_unwritten(case, room)?)
+}
+
+/// Says that the program did not fail with room for so many bytes, if so.
+fn expect_unwritten(case: &mut Case, room: usize) -> Result<(), AllocError> {
+    if case.came.status == 3 && case.came.errors.as_slice() == UNWRITTEN {
+        return Ok(());
+    }
+    case.say_line(case.line)?;
+    write!(
+        case.said,
+        "    with room for {room} bytes it does not fail\n"
+    )
 }
 
 /// Audits the transcript with these options. The audit has to print this text, and to write the tree at the end if it
@@ -93,10 +113,18 @@ pub fn audit<R: Files + AllocGlobal, P: Program>(
     case.wanted.output.extend_from_slice(text.as_bytes())?;
     case.wanted.status = if text.starts_with("accepted") { 0 } else { 1 };
     run_audit(rt, program, case, options)?;
-    if fs::exists(rt, END)? != (case.came.status == 0) {
-        case.say_line(case.line)?;
-        case.said
-            .push_str("    end.tree is there in place of absent, or absent\n")?;
+    let is_there = fs::exists(rt, END)?;
+    expect_none(case, case.line, END, is_there == (case.came.status == 0))
+}
+
+/// Says that a file is there or is not, if that is not as wanted.
+pub fn expect_none(case: &mut Case, line: usize, name: &str, holds: bool) -> Result<(), Trouble> {
+    if !holds {
+        case.say_line(line)?;
+        write!(
+            case.said,
+            "    {name} is there in place of absent, or absent\n"
+        )?;
     }
     Ok(())
 }
@@ -108,8 +136,7 @@ pub fn run_audit<R: Files + AllocGlobal, P: Program>(
     case: &mut Case,
     options: &str,
 ) -> Result<(), Trouble> {
-    let line = format!(in rt.alloc(); "{AUDIT} {END}")?;
-    run_line(rt, program, case, line.as_str(), options)
+    run_line(rt, program, case, AUDIT, options)
 }
 
 /// Whether a dialogue begins with its own opening.
@@ -141,21 +168,36 @@ pub fn serve<R: Files + AllocGlobal, P: Program>(
     options: &str,
 ) -> Result<(), Trouble> {
     let mut verdict = String::new(rt.alloc());
-    let mut records = String::new(rt.alloc());
-    put_dialogue(case.served.as_str(), &mut records, &mut verdict)?;
-    take_dialogue(case, records.as_str())?;
-    if !verdict.is_empty() {
-        case.wanted.output_form = Form::Free;
-    }
+    let served = serve_dialogue(rt, program, case, options, &mut verdict);
+    drop(verdict);
+    served
+}
+
+/// Does that, and writes the verdict of the dialogue.
+fn serve_dialogue<R: Files + AllocGlobal, P: Program>(
+    rt: &R,
+    program: &P,
+    case: &mut Case,
+    options: &str,
+    verdict: &mut String,
+) -> Result<(), Trouble> {
+    take_dialogue(case, verdict)?;
     run_serve(rt, program, case, options)?;
     audit_record(rt, program, case, verdict.as_str())
 }
 
-/// Takes the records of the client as input, and those of the server as what is wanted.
-fn take_dialogue(case: &mut Case, records: &str) -> Result<(), Trouble> {
+/// Takes the records of the client as input, and those of the server as what is wanted, unless the dialogue has a
+/// verdict in their place.
+fn take_dialogue(case: &mut Case, verdict: &mut String) -> Result<(), Trouble> {
+    let mut records = String::new(*verdict.allocator());
+    put_dialogue(case.served.as_str(), &mut records, verdict)?;
     case.input.clear();
-    case.wanted.output_form = Form::Packets;
-    put_sides(records, &mut case.input, &mut case.wanted.output)
+    case.wanted.output_form = if verdict.is_empty() {
+        Form::Packets
+    } else {
+        Form::Free
+    };
+    put_sides(records.as_str(), &mut case.input, &mut case.wanted.output)
 }
 
 /// Serves a session whose input is that of the case.
@@ -180,9 +222,22 @@ pub fn audit_record<R: Files + AllocGlobal, P: Program>(
         return Ok(());
     }
     let mut came = Came::new(rt.alloc());
-    run_audit_of_record(rt, program, &mut came)?;
-    expect_accepted(case, &came, verdict)?;
+    let judged = judge_record(rt, program, case, &mut came, verdict);
+    drop(came);
+    judged?;
     expect_same_trees(rt, case)
+}
+
+/// Audits what a session has recorded, and says what the audit printed if it did not accept it.
+fn judge_record<R: Files + AllocGlobal, P: Program>(
+    rt: &R,
+    program: &P,
+    case: &mut Case,
+    came: &mut Came,
+    verdict: &str,
+) -> Result<(), Trouble> {
+    run_audit_of_record(rt, program, came)?;
+    Ok(expect_accepted(case, came, verdict)?)
 }
 
 /// Audits what a session has recorded.
@@ -190,10 +245,10 @@ fn run_audit_of_record<R: Files + AllocGlobal, P: Program>(
     rt: &R,
     program: &P,
     came: &mut Came,
-) -> Result<(), Trouble> {
-    let line = format!(in rt.alloc(); "{AUDIT} {AUDITED}")?;
-    let words = words_of(rt.alloc(), line.as_str())?;
+) -> Result<(), AllocError> {
+    let words = words_of(rt.alloc(), AUDIT_OF_RECORD, "")?;
     run_program(rt, program, words.as_slice(), b"", usize::MAX, SOUND, came);
+    drop(words);
     Ok(())
 }
 
@@ -214,10 +269,14 @@ fn expect_accepted(case: &mut Case, came: &Came, verdict: &str) -> Result<(), Al
 
 /// Says that the tree of the audit is not the one that was saved.
 fn expect_same_trees<R: Files + AllocGlobal>(rt: &R, case: &mut Case) -> Result<(), Trouble> {
-    if fs::exists(rt, AUDITED)? && fs::exists(rt, END)? && is_same(rt, AUDITED, END)? {
+    let are_same = are_same_trees(rt)?;
+    Ok(expect_same(case, are_same)?)
+}
+
+fn expect_same(case: &mut Case, are_same: bool) -> Result<(), AllocError> {
+    if are_same {
         return Ok(());
     }
     case.say_line(case.line)?;
-    case.said.push_str("    the tree of the audit is not the one that was saved\n")?;
-    Ok(())
+    case.said.push_str("    the tree of the audit is not the one that was saved\n")
 }

@@ -1,5 +1,5 @@
 //! Cases, and files of them.
-use crate::blocks::{Block, spans_of};
+use crate::blocks::{Block, Span, spans_of};
 use crate::files::{END, START, TRANSCRIPT, remove, write};
 use crate::records::put_tree;
 use crate::runs::{Came, Program, SOUND, Streams};
@@ -108,6 +108,20 @@ fn finish<R: Files + AllocGlobal + Print>(
     print!(rt; "{name}:{line}: {words}\n{said}")
 }
 
+/// Does that, if a case has begun.
+fn finish_last<R: Files + AllocGlobal + Print>(
+    rt: &R,
+    case: &mut Case,
+    name: &str,
+    title: Option<Block<'_>>,
+    count: &mut Count,
+) -> io::Result<()> {
+    match title {
+        Some(title) => finish(rt, case, name, title, count),
+        None => Ok(()),
+    }
+}
+
 /// Makes the files that a case begins with.
 fn make_start<R: Files + AllocGlobal>(rt: &R) -> Result<(), Trouble> {
     let mut bytes = Vec::new(rt.alloc());
@@ -150,33 +164,59 @@ fn take_block<R: Files + AllocGlobal, P: Program>(
 }
 
 /// Runs the cases among the lines of a file.
-fn run_lines<'t, R: Files + AllocGlobal + Print, P: Program>(
+fn run_lines<R: Files + AllocGlobal + Print, P: Program>(
     rt: &R,
     program: &P,
     name: &str,
-    lines: &[&'t str],
+    lines: &[&str],
     case: &mut Case,
     count: &mut Count,
 ) -> io::Result<()> {
     let spans = spans_of(rt.alloc(), lines)?;
+    let ran = run_spans(rt, program, name, lines, spans.as_slice(), case, count);
+    drop(spans);
+    ran
+}
+
+/// Takes the blocks that are here among the lines of a file.
+fn run_spans<'t, R: Files + AllocGlobal + Print, P: Program>(
+    rt: &R,
+    program: &P,
+    name: &str,
+    lines: &[&'t str],
+    spans: &[Span],
+    case: &mut Case,
+    count: &mut Count,
+) -> io::Result<()> {
     let mut title: Option<Block<'t>> = None;
-    for span in spans.as_slice() {
+    for span in spans {
         let block = span.block(lines);
-        if block.keyword != "case" {
+        if block.keyword == "case" {
+            finish_last(rt, case, name, title, count)?;
+            start(rt, case)?;
+            title = Some(block);
+        } else {
             let below = lines.get(span.below()).unwrap_or(&[]);
             take_block(rt, program, case, block, below)?;
-            continue;
         }
-        if let Some(title) = title {
-            finish(rt, case, name, title, count)?;
-        }
-        start(rt, case)?;
-        title = Some(block);
     }
-    match title {
-        Some(title) => finish(rt, case, name, title, count),
-        None => Ok(()),
-    }
+    finish_last(rt, case, name, title, count)
+}
+
+/// Runs the cases of a file that has this text.
+fn run_text<R: Files + AllocGlobal + Print, P: Program>(
+    rt: &R,
+    program: &P,
+    name: &str,
+    text: &str,
+    count: &mut Count,
+) -> io::Result<()> {
+    let lines: Vec<&str> = text.lines().collect(rt.alloc())?;
+    let mut case = Case::new(rt.alloc());
+    let ran = run_lines(rt, program, name, lines.as_slice(), &mut case, count);
+    drop(case);
+    drop(lines);
+    ran
 }
 
 /// Runs the cases of a file.
@@ -187,7 +227,7 @@ pub fn run_file<R: Files + AllocGlobal + Print, P: Program>(
     count: &mut Count,
 ) -> io::Result<()> {
     let text = fs::read_to_string(rt, name)?;
-    let lines: Vec<&str> = text.as_str().lines().collect(rt.alloc())?;
-    let mut case = Case::new(rt.alloc());
-    run_lines(rt, program, name, lines.as_slice(), &mut case, count)
+    let ran = run_text(rt, program, name, text.as_str(), count);
+    drop(text);
+    ran
 }

@@ -4,7 +4,7 @@ use crate::cases::Case;
 use crate::files::{END, is_same, write};
 use crate::records::put_bytes;
 use crate::runs::{Came, Program};
-use crate::tables::{arrow, say_verdict};
+use crate::tables::{arrow, expect_right};
 use crate::trouble::Trouble;
 use std::fs;
 use std::fs::Files;
@@ -49,10 +49,8 @@ fn judge_change<R: Files + AllocGlobal, P: Program>(
     write_change(rt, changed, pieces)?;
     run_audit(rt, program, case, "")?;
     case.is_pending = false;
-    if !is_said(&case.came, verdict) || !is_end(rt, changed.end, case.came.status == 0)? {
-        say_verdict(case, line)?;
-    }
-    Ok(())
+    let is_right = is_said(&case.came, verdict) && is_end(rt, changed.end, case.came.status == 0)?;
+    expect_right(case, line, is_right)
 }
 
 /// Writes a file of these pieces in place of the one that is changed.

@@ -41,6 +41,11 @@ pub fn has_bytes<R: Files + AllocGlobal>(rt: &R, name: &str) -> Result<bool, Tro
     Ok(!bytes.is_empty())
 }
 
+/// Whether both trees of a session's end are there and have the same bytes.
+pub fn are_same_trees<R: Files + AllocGlobal>(rt: &R) -> Result<bool, Trouble> {
+    Ok(fs::exists(rt, AUDITED)? && fs::exists(rt, END)? && is_same(rt, AUDITED, END)?)
+}
+
 /// Whether two files have the same bytes.
 pub fn is_same<R: Files + AllocGlobal>(rt: &R, name: &str, other: &str) -> Result<bool, Trouble> {
     let bytes = fs::read(rt, name)?;

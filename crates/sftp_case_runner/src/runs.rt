@@ -130,17 +130,28 @@ pub fn run_program<R: Files + AllocGlobal, P: Program>(
     came.errors = errors.kept;
 }
 
-/// The words of a line: what is in quotes is one word, and what is outside is cut at spaces.
-pub fn words_of(alloc: Global, line: &str) -> Result<Vec<String>, AllocError> {
+/// The words of a line and of some more: what is in quotes is one word, and what is outside is cut at spaces.
+pub fn words_of(alloc: Global, line: &str, more: &str) -> Result<Vec<String>, AllocError> {
     let mut words = Vec::new(alloc);
+    push_both(line, more, &mut words)?;
+    Ok(words)
+}
+
+fn push_both(line: &str, more: &str, words: &mut Vec<String>) -> Result<(), AllocError> {
+    push_line(line, words)?;
+    push_line(more, words)
+}
+
+fn push_line(line: &str, words: &mut Vec<String>) -> Result<(), AllocError> {
+    let alloc = *words.allocator();
     for (index, part) in line.split('"').enumerate() {
         if index % 2 == 1 {
             words.push(String::from_str(alloc, part)?)?;
         } else {
-            push_words(part, &mut words)?;
+            push_words(part, words)?;
         }
     }
-    Ok(words)
+    Ok(())
 }
 
 fn push_words(part: &str, words: &mut Vec<String>) -> Result<(), AllocError> {

@@ -1,5 +1,5 @@
 //! The blocks of a case, one after the other.
-use crate::actions::{audit, full, run, serve};
+use crate::actions::{audit, expect_none, full, run, serve};
 use crate::blocks::Block;
 use crate::cases::Case;
 use crate::changes::changes;
@@ -11,9 +11,9 @@ use crate::runs::{Fails, Program};
 use crate::tables::{answers, codes, replies};
 use crate::trouble::Trouble;
 use crate::wanted::Form;
-use std::alloc::Global;
-use std::fs;
+use std::alloc::{AllocError, Global};
 use std::fs::Files;
+use std::{fs, mem};
 
 /// Takes a block of a case.
 pub fn take_step<R: Files + AllocGlobal, P: Program>(
@@ -86,6 +86,13 @@ fn put_file(
     }
 }
 
+/// Sets a text of the case to that of these lines.
+fn set_text(text: &mut String, lines: &[&str]) -> Result<(), AllocError> {
+    let new = expand(*text.allocator(), lines, false)?;
+    drop(mem::replace(text, new));
+    Ok(())
+}
+
 /// The file that a block with this keyword is about where it names none.
 fn usual_name(keyword: &str) -> &'static str {
     match keyword {
@@ -107,7 +114,7 @@ fn make_file<R: Files + AllocGlobal>(
         return remove(rt, name);
     }
     if block.keyword == "session" {
-        case.session = expand(rt.alloc(), lines, false)?;
+        set_text(&mut case.session, lines)?;
     }
     let mut bytes = Vec::new(rt.alloc());
     put_file(rt.alloc(), block.keyword, lines, &mut bytes)?;
@@ -126,10 +133,7 @@ fn prepare(
             case.input.clear();
             put_file(alloc, "input", lines, &mut case.input)
         }
-        "before" => {
-            case.before = expand(alloc, lines, false)?;
-            Ok(())
-        }
+        "before" => Ok(set_text(&mut case.before, lines)?),
         "broken" => break_stream(case, block.words),
         _ => match number_of(block.words) {
             Some(size) => {
@@ -175,11 +179,13 @@ fn act<R: Files + AllocGlobal, P: Program>(
         return serve(rt, program, case, block.words);
     }
     if block.keyword == "serve" {
-        case.served = expand(rt.alloc(), lines, false)?;
+        set_text(&mut case.served, lines)?;
         return serve(rt, program, case, block.words);
     }
     let text = expand(rt.alloc(), lines, false)?;
-    act_on(rt, program, case, block, text.as_str())
+    let acted = act_on(rt, program, case, block, text.as_str());
+    drop(text);
+    acted
 }
 
 /// Does what a block with this text says.
@@ -260,16 +266,51 @@ fn compare_file<R: Files + AllocGlobal>(
     case.settle()?;
     let (name, other) = block.words.split_once(' ').unwrap_or((block.words, ""));
     let name = name_or(name, usual_name(block.keyword));
-    if block.keyword == "no" {
-        return expect_none(case, block.number, name, !fs::exists(rt, name)?);
+    match block.keyword {
+        "no" => expect_absent(rt, case, block.number, name),
+        "same" => expect_same(rt, case, block.number, name, other),
+        _ => expect_lines(rt, case, block, name, lines),
     }
+}
+
+/// Says that a file is there, if it is.
+fn expect_absent<R: Files + AllocGlobal>(
+    rt: &R,
+    case: &mut Case,
+    line: usize,
+    name: &str,
+) -> Result<(), Trouble> {
+    let is_there = fs::exists(rt, name)?;
+    expect_none(case, line, name, !is_there)
+}
+
+/// Says how a file differs from the other one, if it does.
+fn expect_same<R: Files + AllocGlobal>(
+    rt: &R,
+    case: &mut Case,
+    line: usize,
+    name: &str,
+    other: &str,
+) -> Result<(), Trouble> {
+    let wanted = fs::read(rt, other)?;
+    let said = expect_file(rt, case, line, name, wanted.as_slice());
+    drop(wanted);
+    said
+}
+
+/// Says how a file differs from the bytes that the lines of a block stand for, if it does.
+fn expect_lines<R: Files + AllocGlobal>(
+    rt: &R,
+    case: &mut Case,
+    block: Block<'_>,
+    name: &str,
+    lines: &[&str],
+) -> Result<(), Trouble> {
     let mut wanted = Vec::new(rt.alloc());
-    if block.keyword == "same" {
-        append_file(rt, other, &mut wanted)?;
-    } else {
-        put_file(rt.alloc(), block.keyword, lines, &mut wanted)?;
-    }
-    expect_file(rt, case, block.number, name, wanted.as_slice())
+    put_file(rt.alloc(), block.keyword, lines, &mut wanted)?;
+    let said = expect_file(rt, case, block.number, name, wanted.as_slice());
+    drop(wanted);
+    said
 }
 
 /// Says how a file differs from these bytes, if it does.
@@ -284,33 +325,22 @@ fn expect_file<R: Files + AllocGlobal>(
         return expect_none(case, line, name, false);
     }
     let came = fs::read(rt, name)?;
-    if came.as_slice() == wanted {
+    let said = expect_bytes(case, line, name, wanted, came.as_slice());
+    drop(came);
+    Ok(said?)
+}
+
+/// Says how these bytes differ from those, if they do.
+fn expect_bytes(
+    case: &mut Case,
+    line: usize,
+    name: &str,
+    wanted: &[u8],
+    came: &[u8],
+) -> Result<(), AllocError> {
+    if came == wanted {
         return Ok(());
     }
     case.say_line(line)?;
-    say_bytes(name, wanted, came.as_slice(), &mut case.said)?;
-    Ok(())
-}
-
-/// Appends the bytes of a file.
-fn append_file<R: Files + AllocGlobal>(
-    rt: &R,
-    name: &str,
-    bytes: &mut Vec<u8>,
-) -> Result<(), Trouble> {
-    let file = fs::read(rt, name)?;
-    bytes.extend_from_slice(file.as_slice())?;
-    Ok(())
-}
-
-/// Says that a file is there or is not, if that is not as wanted.
-fn expect_none(case: &mut Case, line: usize, name: &str, holds: bool) -> Result<(), Trouble> {
-    if !holds {
-        case.say_line(line)?;
-        write!(
-            case.said,
-            "    {name} is there in place of absent, or absent\n"
-        )?;
-    }
-    Ok(())
+    say_bytes(name, wanted, came, &mut case.said)
 }

@@ -40,7 +40,7 @@ fn is_refused(came: &Came, records: usize) -> bool {
 }
 
 /// Says what an audit of a line's session printed.
-pub fn say_verdict(case: &mut Case, line: &str) -> Result<(), AllocError> {
+fn say_verdict(case: &mut Case, line: &str) -> Result<(), AllocError> {
     case.say_line(case.line)?;
     let printed = str::from_utf8(case.came.output.as_slice()).unwrap_or("?");
     let errors = str::from_utf8(case.came.errors.as_slice()).unwrap_or("?");
@@ -57,8 +57,11 @@ fn judge<R: Files + AllocGlobal, P: Program>(
 ) -> Result<usize, Trouble> {
     let session = case.session.as_str();
     let text = format!(in rt.alloc(); "{session}{ask}\n{answer}\n")?;
-    judge_session(rt, program, case, text.as_str())?;
-    Ok(count_records(text.as_str()))
+    let records = count_records(text.as_str());
+    let judged = judge_session(rt, program, case, text.as_str());
+    drop(text);
+    judged?;
+    Ok(records)
 }
 
 /// Audits a session of these records.
@@ -68,12 +71,17 @@ fn judge_session<R: Files + AllocGlobal, P: Program>(
     case: &mut Case,
     text: &str,
 ) -> Result<(), Trouble> {
-    let mut bytes = Vec::new(rt.alloc());
-    put_session(text, &mut bytes)?;
-    write(rt, TRANSCRIPT, bytes.as_slice())?;
+    write_session(rt, text)?;
     run_audit(rt, program, case, "")?;
     case.is_pending = false;
     Ok(())
+}
+
+/// Writes the transcript of a session of these records.
+fn write_session<R: Files + AllocGlobal>(rt: &R, text: &str) -> Result<(), Trouble> {
+    let mut bytes = Vec::new(rt.alloc());
+    put_session(text, &mut bytes)?;
+    write(rt, TRANSCRIPT, bytes.as_slice())
 }
 
 /// Judges the reply of each line.
@@ -103,6 +111,11 @@ fn judge_reply<R: Files + AllocGlobal, P: Program>(
         "NotAllowed" => is_refused(&case.came, records),
         _ => return Err(Trouble::Form("`allowed` or `NotAllowed`")),
     };
+    expect_right(case, line, is_right)
+}
+
+/// Says what an audit of a line's session printed, if it is not right.
+pub fn expect_right(case: &mut Case, line: &str, is_right: bool) -> Result<(), Trouble> {
     if !is_right {
         say_verdict(case, line)?;
     }
@@ -129,13 +142,15 @@ fn judge_alone<R: Files + AllocGlobal, P: Program>(
     program: &P,
     case: &mut Case,
 ) -> Result<(), Trouble> {
-    let session = format!(in rt.alloc(); "{}", case.session.as_str())?;
-    judge_session(rt, program, case, session.as_str())?;
-    if is_accepted(&case.came) {
-        Ok(fs::rename(rt, END, ALONE)?)
-    } else {
-        Ok(say_verdict(case, "the session alone")?)
+    let session = String::from_str(rt.alloc(), case.session.as_str())?;
+    let judged = judge_session(rt, program, case, session.as_str());
+    drop(session);
+    judged?;
+    let is_right = is_accepted(&case.came);
+    if is_right {
+        fs::rename(rt, END, ALONE)?;
     }
+    expect_right(case, "the session alone", is_right)
 }
 
 /// Judges the codes of a line. Those but 0 leave the tree as the session alone does.
@@ -147,9 +162,8 @@ fn judge_codes<R: Files + AllocGlobal, P: Program>(
 ) -> Result<(), Trouble> {
     let (ask, allowed) = arrow(line)?;
     for code in 0..10u32 {
-        if !is_judged(rt, program, case, ask, code, allowed)? {
-            say_verdict(case, line)?;
-        }
+        let is_right = is_judged(rt, program, case, ask, code, allowed)?;
+        expect_right(case, line, is_right)?;
     }
     Ok(())
 }
@@ -265,9 +279,10 @@ fn compare_answer(case: &mut Case, line: &str) -> Result<(), AllocError> {
     if case.came.status == 0 && case.came.errors.is_empty() && is_same {
         return Ok(());
     }
-    let mut answer = String::new(*case.said.allocator());
-    put_packet(came, &mut answer)?;
     case.say_line(case.line)?;
-    let (status, shown) = (case.came.status, answer.as_str());
-    write!(case.said, "    {line}\n    came status {status}, {shown}\n")
+    let status = case.came.status;
+    write!(case.said, "    {line}\n    came status {status}, ")?;
+    let came = behind(case.came.output.as_slice(), case.before.as_str());
+    put_packet(came, &mut case.said)?;
+    case.said.push('\n')
 }

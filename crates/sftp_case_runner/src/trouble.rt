@@ -1,28 +1,34 @@
 //! Why a block cannot be run.
 use sftp_text::{Fault, TextFault};
 use std::alloc::{AllocError, AllocFailed};
-use std::io;
 use std::io::ErrorKind;
-use thiserror::Error;
+use std::{fmt, io};
 
 /// Why a block of a case cannot be run.
-#[derive(Clone, Copy, Debug, Error)]
+#[derive(Clone, Copy)]
 pub enum Trouble {
     /// Memory ran out.
-    #[error("out of memory")]
     NoMemory,
     /// A file cannot be read or written.
-    #[error("a file cannot be used: {0}")]
     Io(ErrorKind),
     /// A line of a record is not in its form.
-    #[error("{0}")]
     Line(Fault),
     /// Lines are not in the form of a transcript or a tree file.
-    #[error("{0}")]
     Text(TextFault),
     /// The block is not in its form: this should be there.
-    #[error("there should be {0}")]
     Form(&'static str),
+}
+
+impl fmt::Display for Trouble {
+    fn fmt<W: fmt::Write>(&self, f: &mut fmt::Formatter<W>) -> fmt::Result {
+        match self {
+            Trouble::NoMemory => f.write_str("out of memory"),
+            Trouble::Io(kind) => write!(f, "a file cannot be used: {kind}"),
+            Trouble::Line(fault) => fmt::Display::fmt(fault, f),
+            Trouble::Text(fault) => fmt::Display::fmt(fault, f),
+            Trouble::Form(words) => write!(f, "there should be {words}"),
+        }
+    }
 }
 
 impl From<AllocError> for Trouble {
