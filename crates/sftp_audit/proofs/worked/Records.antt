@@ -5,7 +5,7 @@ use Rattle.std.specs.List.{list_all, flat_map, AllByRecursion}
 use Rattle.std.proofs.lemmas.Bool.{and_parts}
 use Rattle.std.proofs.lemmas.List.{append-nil}
 use Rattle.sftp_wire.specs.declared.packets.Packet.TheVariants.{Init, Version}
-use Rattle.sftp_wire.specs.Spelling.{spelling, AreBytes, FitsString, FitsPair, FitsAttrs, HasSpelling}
+use Rattle.sftp_wire.specs.Spelling.{spelling, packet_limit, AreBytes, FitsString, FitsPair, FitsAttrs, HasSpelling}
 use Rattle.sftp_wire.specs.Examples.{hex, no_attributes, server_extensions}
 use Rattle.sftp_transcript.specs.declared.events.Event.{Event}
 use Rattle.sftp_transcript.specs.Transcript.{IsEvent, IsRecord, event_record, transcript_opening, packet_of}
@@ -26,19 +26,19 @@ nothing_fits : FitsAttrs no_attributes
 nothing_fits = record { size = tt; owner = tt; permissions = tt; times = tt; extended = tt }
 
 mkdir_spelled : (id : ℕ) (path : List ℕ) → id < 2 ^ 32 → FitsString path
-    → length (spelling (packet_of (mkdir id path))) ≤ 34000 → IsEvent (mkdir id path)
+    → length (spelling (packet_of (mkdir id path))) ≤ packet_limit → IsEvent (mkdir id path)
 mkdir_spelled id path small fits whole =
     record { fields = (small, (fits, nothing_fits)); whole = whole; handle = tt; canonical = refl }
 
 rmdir_spelled : (id : ℕ) (path : List ℕ) → id < 2 ^ 32 → FitsString path
-    → length (spelling (packet_of (rmdir id path))) ≤ 34000 → IsEvent (rmdir id path)
+    → length (spelling (packet_of (rmdir id path))) ≤ packet_limit → IsEvent (rmdir id path)
 rmdir_spelled id path small fits whole =
     record { fields = (small, fits); whole = whole; handle = tt; canonical = refl }
 
 empty : FitsString []
 empty = record { bytes_fit = tt; length_fits = lit< tt }
 
-status_spelled : (id code : ℕ) → id < 2 ^ 32 → code < 2 ^ 32 → length (spelling (packet_of (status id code))) ≤ 34000
+status_spelled : (id code : ℕ) → id < 2 ^ 32 → code < 2 ^ 32 → length (spelling (packet_of (status id code))) ≤ packet_limit
     → IsEvent (status id code)
 status_spelled id code small code_small whole =
     record { fields = (small, (code_small, empty, empty)); whole = whole; handle = tt; canonical = refl }
