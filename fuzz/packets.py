@@ -3,7 +3,7 @@
 Nothing here comes from the program: what it says of a file or a stream is compared with what is said here.
 """
 CLIENT, SERVER = b"C", b"S"
-PACKET_LIMIT, HANDLE_LIMIT = 34_000, 256
+PACKET_LIMIT, HANDLE_LIMIT = 262_144, 256
 TREE_OPENING, TRANSCRIPT_OPENING = b"SFTREE01", b"SFTPTR01"
 
 # The fields behind the type: n and q are numbers of 4 and 8 bytes, s a string, h a handle, a attributes, p pairs of

@@ -5,7 +5,7 @@ from packets import Fault, LAYOUTS, packet_of
 from replies import Session
 from trees import Malformed, tree_of
 
-LONGEST, WINDOW = 33_996, 1024
+LONGEST, WINDOW = 262_140, 1024
 
 
 def records_of(file):

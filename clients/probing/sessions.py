@@ -11,7 +11,7 @@ import sftp3
 # Seconds to wait for VERSION, for a reply, and for a server to end after its input did.
 START, PATIENCE, PARTING = 120, 10, 2
 
-# The most bytes of a packet that are taken in; docs/PROTOCOL.md allows 34,000 in all.
+# The most bytes of a packet that are taken in; docs/PROTOCOL.md allows fewer.
 LARGEST = 1 << 20
 
 

@@ -34,9 +34,9 @@ use Rattle.sftp_server.specs.Left.{IsLeft}
 
 -- ---- the streams
 
--- how many bytes are read ahead at most: three times as many as the longest packet has
+-- how many bytes are held at most: as many as the longest packet has. Each read asks for what is left of them
 abbrev pub input_limit : ℕ
-input_limit = 3 * packet_limit
+input_limit = packet_limit
 
 -- the bytes that a session's input has left, those written, and those logged, each where they are known
 pub record StreamBytes : Type 0 where

@@ -5,7 +5,7 @@ use Rattle.sftp_wire.specs.declared.packets.Answer.TheVariants.{Status, Attrs as
 use Rattle.sftp_wire.specs.declared.packets.Packet.TheVariants.{Request as request_packet, Reply as reply_packet}
 use Rattle.sftp_wire.specs.declared.packets.Request.{Request}
 use Rattle.sftp_wire.specs.declared.packets.Reply.{Reply}
-use Rattle.sftp_wire.specs.Spelling.{spelling, HasSpelling, FitsString}
+use Rattle.sftp_wire.specs.Spelling.{spelling, packet_limit, HasSpelling, FitsString}
 use Rattle.sftp_wire.specs.Examples.{no_attributes}
 use Rattle.sftp_path.specs.Place.{parts, components, is_good_path}
 use Rattle.sftp_path.specs.Table.{retain, get, put, without}
@@ -56,7 +56,7 @@ root_reply = record { id = 7; answer = attributes root_attributes }
 no_text : FitsString []
 no_text = record { bytes_fit = tt; length_fits = lit< tt }
 
-success_spelled : (id : ℕ) → id < 2 ^ 32 → length (spelling (reply_packet (success id))) ≤ 34000
+success_spelled : (id : ℕ) → id < 2 ^ 32 → length (spelling (reply_packet (success id))) ≤ packet_limit
     → HasSpelling (reply_packet (success id))
 success_spelled id small whole = record {
   fields = (small, (lit< tt, no_text, no_text));

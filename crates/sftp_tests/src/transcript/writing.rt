@@ -85,14 +85,14 @@ fn record_stat<L: Sink>(
     written
 }
 
-/// Whether packets of another side, and packets that are too long, are refused, and write nothing. A path of 33,987
+/// Whether packets of another side, and packets that are too long, are refused, and write nothing. A path of 262,131
 /// bytes makes the longest packet.
 fn refuses(alloc: Global) -> Result<bool, TranscriptError> {
     let mut writer = Writer::new(alloc, Tally::new(Room::ample(alloc)))?;
     let other_side = record_stat(alloc, &mut writer, Side::Server, 1);
-    let too_long = record_stat(alloc, &mut writer, Side::Client, 33_988);
+    let too_long = record_stat(alloc, &mut writer, Side::Client, 262_132);
     let first = record_stat(alloc, &mut writer, Side::Client, 1);
-    let second = record_stat(alloc, &mut writer, Side::Client, 33_988);
+    let second = record_stat(alloc, &mut writer, Side::Client, 262_132);
     let bytes = writer.into_sink().into_inner().bytes;
     let wire = |fault, record| Err(TranscriptError::Wire { fault, record });
     Ok(

@@ -79,17 +79,17 @@ fn first_wrong(
 /// INIT comes byte by byte.
 const BYTES: &[Call] = &[
     Call::Next(WAITING),
-    Call::Room(34_000),
+    Call::Room(262_144),
     Call::Bytes(b"\0\0\0\x05"),
-    Call::Room(33_996),
+    Call::Room(262_140),
     Call::Bytes(b"\x01\0\0\0"),
     Call::Lent(None),
-    Call::Room(33_992),
+    Call::Room(262_136),
     Call::Push(b"\x03", 1),
     Call::Lent(Some(INIT)),
     Call::Next(INIT_WORDS),
     Call::Next(WAITING),
-    Call::Room(34_000),
+    Call::Room(262_144),
 ];
 
 const NO_LENGTH: &[Call] = &[
@@ -99,13 +99,13 @@ const NO_LENGTH: &[Call] = &[
 ];
 
 const LONGEST: &[Call] = &[
-    Call::Push(b"\0\0\x84\xcc", 4),
+    Call::Push(b"\0\x03\xff\xfc", 4),
     Call::Lent(None),
     Call::Next(WAITING),
 ];
 
 const LONGER: &[Call] = &[
-    Call::Push(b"\0\0\x84\xcd", 4),
+    Call::Push(b"\0\x03\xff\xfd", 4),
     Call::Lent(None),
     Call::Next("Err(Unreadable { fault: Length, place: 0 })"),
 ];
@@ -125,7 +125,7 @@ const MORE_THAN_A_PACKET: &[Call] = &[
     Call::Next(MKDIR_WORDS),
     Call::Lent(None),
     Call::Next(WAITING),
-    Call::Room(33_995),
+    Call::Room(262_139),
 ];
 
 /// A fault stays at its packet for good, and nothing more is taken.
@@ -198,14 +198,14 @@ fn close(id: u32) -> [u8; 13] {
     [0, 0, 0, 9, 4, a, b, c, d, 0, 0, 0, 0]
 }
 
-/// Whether the buffer takes CLOSE with each of the ids from 0 on that it has room for: 2,615 packets of 13 bytes.
+/// Whether the buffer takes CLOSE with each of the ids from 0 on that it has room for: 20,164 packets of 13 bytes.
 fn is_filled(frames: &mut FrameBuf) -> bool {
-    for id in 0..2615_u32 {
+    for id in 0..20_164_u32 {
         if frames.push(&close(id)) != 13 {
             return false;
         }
     }
-    frames.room() == 5
+    frames.room() == 12
 }
 
 /// The id of the request that comes out.
@@ -221,7 +221,7 @@ fn next_id(frames: &mut FrameBuf) -> Option<u32> {
 
 /// Whether a request comes out with each of the ids from 0 on.
 fn is_emptied(frames: &mut FrameBuf) -> bool {
-    for id in 0..2615_u32 {
+    for id in 0..20_164_u32 {
         if next_id(frames) != Some(id) {
             return false;
         }
@@ -229,17 +229,23 @@ fn is_emptied(frames: &mut FrameBuf) -> bool {
     true
 }
 
-const FULL: &[Call] = &[Call::Push(INIT, 5), Call::Room(0), Call::Push(INIT, 0)];
-
-const REST_OF_INIT: &[Call] = &[
-    Call::Next(WAITING),
-    Call::Room(33_995),
-    Call::Push(b"\0\0\0\x03", 4),
-    Call::Next(INIT_WORDS),
-    Call::Room(34_000),
+const FULL: &[Call] = &[
+    Call::Push(INIT, 9),
+    Call::Push(INIT, 3),
+    Call::Room(0),
+    Call::Push(INIT, 0),
 ];
 
-/// Five bytes of INIT go into the full buffer, and the others once it is empty.
+const REST_OF_INIT: &[Call] = &[
+    Call::Next(INIT_WORDS),
+    Call::Next(WAITING),
+    Call::Room(262_141),
+    Call::Push(b"\x05\x01\0\0\0\x03", 6),
+    Call::Next(INIT_WORDS),
+    Call::Room(262_144),
+];
+
+/// INIT and three bytes of another go into the full buffer, and the rest of that once the buffer is empty.
 fn holds_no_more(alloc: Global, frames: &mut FrameBuf) -> Result<bool, AllocError> {
     Ok(
         is_filled(frames)

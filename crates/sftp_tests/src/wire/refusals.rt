@@ -39,7 +39,7 @@ fn too_long(rt: HostRuntime) -> Result<(), Fail> {
         assert!(rt; is_too_long(rt.alloc(), kind)?, "kind {kind}");
     }
     assert!(rt;
-        is_too_long_in(rt.alloc(), 257, true)? && is_too_long_in(rt.alloc(), 33_988, false)?
+        is_too_long_in(rt.alloc(), 257, true)? && is_too_long_in(rt.alloc(), 262_132, false)?
     );
     Ok(())
 }
@@ -63,8 +63,8 @@ const HIDDEN: &[(&[u8], usize, WireError)] = &[
     (b"posix-rename@openssh.com", 5, WireError::NotCanonical),
     (b"hardlink@openssh.com", 5, WireError::NotCanonical),
     (b"fsync@openssh.com", 5, WireError::NotCanonical),
-    (b"fsync@openssh.com", 33_970, WireError::NotCanonical),
-    (b"fsync@openssh.com", 33_971, WireError::TooLong),
+    (b"fsync@openssh.com", 262_114, WireError::NotCanonical),
+    (b"fsync@openssh.com", 262_115, WireError::TooLong),
 ];
 
 #[test]
@@ -107,11 +107,11 @@ fn writes_behind(alloc: Global) -> Result<bool, AllocError> {
     Ok(said == Ok(()) && out.as_slice() == b"kept\0\0\0\x0b\x0f\0\0\0\x01\0\0\0\x02/a".as_slice())
 }
 
-/// DATA of 34,000 bytes in all, the most that a packet has.
+/// DATA of 262,144 bytes in all, the most that a packet has.
 fn writes_longest(alloc: Global) -> Result<bool, AllocError> {
-    let answer = Answer::Data(long(alloc, 33_987)?);
+    let answer = Answer::Data(long(alloc, 262_131)?);
     let (said, out) = written(Vec::new(alloc), reply(1, answer));
-    Ok(said == Ok(()) && out.len() == 34_000)
+    Ok(said == Ok(()) && out.len() == 262_144)
 }
 
 /// STATUS with texts.
