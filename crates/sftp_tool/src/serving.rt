@@ -29,15 +29,31 @@ pub(crate) fn serve<'a, R: Files + AllocGlobal, I: Read, O: Write, E: Write>(
 {
     let tree = read_tree(rt, options.tree)?;
     match new_log(rt, options.record) {
-        Ok(log) => {
-            let (end, traffic) = session(tree, log, options, input, output, errors);
-            conclude(rt, end, traffic, options, errors)
-        }
+        Ok(log) => serve_tree(rt, tree, log, options, input, output, errors),
         Err(failure) => {
             drop(tree);
             Err(failure)
         }
     }
+}
+
+/// Serves a session on a tree, and says what its end means for the run.
+fn serve_tree<'a, R: Files + AllocGlobal, L: Write + Drop, I: Read, O: Write, E: Write>(
+    rt: &R,
+    tree: Tree,
+    log: Writer<Tally<Record<L>>>,
+    options: &ServeOptions<'a>,
+    input: &mut I,
+    output: &mut O,
+    errors: &mut E,
+) -> Result<Ending, Failure<'a>>
+    requires { IsUnused log }
+    ensures { IfOk result (λ ending. ending ≡ endings.Done) }
+{
+    let served = session(tree, log, options, input, output, errors);
+    let ending = conclude(rt, &served.0, served.1, options, errors);
+    drop(served);
+    ending
 }
 
 /// The tree of the file `name`.
@@ -78,6 +94,16 @@ fn session<L: Write + Drop, I: Read, O: Write, E: Write>(
     let output = Announcing::new(output, errors, options.is_verbose);
     let mut writer = Tally::new(Watched::new(output));
     let end = serve_keeping_tree(tree, &mut reader, &mut writer, &mut log, &mut order);
+    drop(order);
+    (end, traffic_of(reader, writer, log))
+}
+
+/// What went through the streams of a session.
+fn traffic_of<L: Write + Drop, I: Read, O: Write + Drop>(
+    reader: Tally<Watched<&mut I>>,
+    writer: Tally<Watched<O>>,
+    log: Writer<Tally<Record<L>>>,
+) -> Traffic {
     let reader = reader.into_inner();
     let writer = writer.into_inner();
     let record = log.into_sink().into_inner();
@@ -90,21 +116,22 @@ fn session<L: Write + Drop, I: Read, O: Write, E: Write>(
     drop(reader);
     drop(writer);
     drop(record);
-    (end, traffic)
+    traffic
 }
 
 /// What the end of a session means for the run. The tree that it left is saved, unless the session was not opened.
 fn conclude<'a, R: Files + AllocGlobal, E: Write>(
     rt: &R,
-    end: SessionEnd,
+    end: &SessionEnd,
     traffic: Traffic,
     options: &ServeOptions<'a>,
     errors: &mut E,
 ) -> Result<Ending, Failure<'a>>
     ensures { IfOk result (λ ending. ending ≡ endings.Done) }
 {
-    let (tree, close) = parts(end);
-    let saved = save_any(rt, &tree, options);
+    let close = close_of(&end.ended);
+    let tree = tree_left(end);
+    let saved = save_any(rt, tree, options);
     if options.is_verbose {
         let summary = Summary {
             close,
@@ -114,24 +141,26 @@ fn conclude<'a, R: Files + AllocGlobal, E: Write>(
         };
         let _ = write_flushed(errors, format_args!("sftpv3: {summary}\n"));
     }
-    drop(tree);
     outcome(close, saved, traffic, options, errors)
 }
 
-/// The tree that a session left, if it is to be saved, and how the session ended.
-fn parts(end: SessionEnd) -> (Option<Tree>, Close) {
-    let SessionEnd { ended, left } = end;
+/// How a session ended, without its tree.
+fn close_of(ended: &Ended) -> Close {
     match ended {
-        Ended::Finished(tree) => {
-            drop(left);
-            (Some(tree), Close::Finished)
-        }
-        Ended::Fault(tree, fault) => {
-            drop(left);
-            (Some(tree), Close::Fault(fault))
-        }
-        Ended::Io(stream) => (left, Close::Io(stream)),
-        Ended::NoMemory => (left, Close::NoMemory),
+        Ended::Finished(_) => Close::Finished,
+        Ended::Fault(_, fault) => Close::Fault(*fault),
+        Ended::Io(stream) => Close::Io(*stream),
+        Ended::NoMemory => Close::NoMemory,
+    }
+}
+
+/// The tree that a session left, if it is to be saved.
+fn tree_left(end: &SessionEnd) -> Option<&Tree> {
+    match &end.ended {
+        Ended::Finished(tree) => Some(tree),
+        Ended::Fault(tree, _) => Some(tree),
+        Ended::Io(_) => end.left.as_ref(),
+        Ended::NoMemory => end.left.as_ref(),
     }
 }
 
@@ -164,20 +193,23 @@ fn outcome<'a, E: Write>(
             Err(Failure::Session(fault))
         }
         Close::Io(stream) => {
-            report_unsaved(errors, saved);
+            report_unsaved(errors, close, saved);
             Err(stream_failure(stream, traffic, options))
         }
         Close::NoMemory => {
-            report_unsaved(errors, saved);
+            report_unsaved(errors, close, saved);
             Err(Failure::OutOfMemory)
         }
     }
 }
 
-/// Reports why a tree was not saved, if it was to be.
-fn report_unsaved<E: Write>(errors: &mut E, saved: Result<Option<u32>, Failure<'_>>) {
-    if let Err(failure) = &saved {
-        report(errors, failure);
+/// Reports why a tree was not saved, if it was to be. That memory ran out is not reported of a session that ends for the
+/// same reason, which is reported then.
+fn report_unsaved<E: Write>(errors: &mut E, close: Close, saved: Result<Option<u32>, Failure<'_>>) {
+    match (&saved, close) {
+        (Ok(_), _) => {}
+        (Err(Failure::OutOfMemory), Close::NoMemory) => {}
+        (Err(failure), _) => report(errors, failure),
     }
     drop(saved);
 }
@@ -186,7 +218,7 @@ fn report_unsaved<E: Write>(errors: &mut E, saved: Result<Option<u32>, Failure<'
 /// they were counted.
 fn save_any<'a, R: Files + AllocGlobal>(
     rt: &R,
-    tree: &Option<Tree>,
+    tree: Option<&Tree>,
     options: &ServeOptions<'a>,
 ) -> Result<Option<u32>, Failure<'a>> {
     match (tree, options.save) {
