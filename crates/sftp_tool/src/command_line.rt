@@ -102,7 +102,7 @@ const ABOUT_IMPORT: &str =
 
 const AFTER_IMPORT: &str = "The tree of the folder DIR:
 
-  tar -C DIR --sort=name -c . | sftpv3 import FILE
+  tar -C DIR -c . | sftpv3 import FILE
 
 The archive may be ustar, or in the formats of POSIX's pax or of GNU tar, in any order in which a hard link comes after
 its file. The last entry of a path counts. The file is replaced whole, and only if the archive is taken.

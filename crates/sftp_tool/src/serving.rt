@@ -29,31 +29,15 @@ pub(crate) fn serve<'a, R: Files + AllocGlobal, I: Read, O: Write, E: Write>(
 {
     let tree = read_tree(rt, options.tree)?;
     match new_log(rt, options.record) {
-        Ok(log) => serve_tree(rt, tree, log, options, input, output, errors),
+        Ok(log) => {
+            let (end, traffic) = session(tree, log, options, input, output, errors);
+            conclude(rt, end, traffic, options, errors)
+        }
         Err(failure) => {
             drop(tree);
             Err(failure)
         }
     }
-}
-
-/// Serves a session on a tree, and says what its end means for the run.
-fn serve_tree<'a, R: Files + AllocGlobal, L: Write + Drop, I: Read, O: Write, E: Write>(
-    rt: &R,
-    tree: Tree,
-    log: Writer<Tally<Record<L>>>,
-    options: &ServeOptions<'a>,
-    input: &mut I,
-    output: &mut O,
-    errors: &mut E,
-) -> Result<Ending, Failure<'a>>
-    requires { IsUnused log }
-    ensures { IfOk result (λ ending. ending ≡ endings.Done) }
-{
-    let served = session(tree, log, options, input, output, errors);
-    let ending = conclude(rt, &served.0, served.1, options, errors);
-    drop(served);
-    ending
 }
 
 /// The tree of the file `name`.
@@ -94,16 +78,6 @@ fn session<L: Write + Drop, I: Read, O: Write, E: Write>(
     let output = Announcing::new(output, errors, options.is_verbose);
     let mut writer = Tally::new(Watched::new(output));
     let end = serve_keeping_tree(tree, &mut reader, &mut writer, &mut log, &mut order);
-    drop(order);
-    (end, traffic_of(reader, writer, log))
-}
-
-/// What went through the streams of a session.
-fn traffic_of<L: Write + Drop, I: Read, O: Write + Drop>(
-    reader: Tally<Watched<&mut I>>,
-    writer: Tally<Watched<O>>,
-    log: Writer<Tally<Record<L>>>,
-) -> Traffic {
     let reader = reader.into_inner();
     let writer = writer.into_inner();
     let record = log.into_sink().into_inner();
@@ -116,22 +90,21 @@ fn traffic_of<L: Write + Drop, I: Read, O: Write + Drop>(
     drop(reader);
     drop(writer);
     drop(record);
-    traffic
+    (end, traffic)
 }
 
 /// What the end of a session means for the run. The tree that it left is saved, unless the session was not opened.
 fn conclude<'a, R: Files + AllocGlobal, E: Write>(
     rt: &R,
-    end: &SessionEnd,
+    end: SessionEnd,
     traffic: Traffic,
     options: &ServeOptions<'a>,
     errors: &mut E,
 ) -> Result<Ending, Failure<'a>>
     ensures { IfOk result (λ ending. ending ≡ endings.Done) }
 {
-    let close = close_of(&end.ended);
-    let tree = tree_left(end);
-    let saved = save_any(rt, tree, options);
+    let (tree, close) = parts(end);
+    let saved = save_any(rt, &tree, options);
     if options.is_verbose {
         let summary = Summary {
             close,
@@ -141,26 +114,24 @@ fn conclude<'a, R: Files + AllocGlobal, E: Write>(
         };
         let _ = write_flushed(errors, format_args!("sftpv3: {summary}\n"));
     }
+    drop(tree);
     outcome(close, saved, traffic, options, errors)
 }
 
-/// How a session ended, without its tree.
-fn close_of(ended: &Ended) -> Close {
+/// The tree that a session left, if it is to be saved, and how the session ended.
+fn parts(end: SessionEnd) -> (Option<Tree>, Close) {
+    let SessionEnd { ended, left } = end;
     match ended {
-        Ended::Finished(_) => Close::Finished,
-        Ended::Fault(_, fault) => Close::Fault(*fault),
-        Ended::Io(stream) => Close::Io(*stream),
-        Ended::NoMemory => Close::NoMemory,
-    }
-}
-
-/// The tree that a session left, if it is to be saved.
-fn tree_left(end: &SessionEnd) -> Option<&Tree> {
-    match &end.ended {
-        Ended::Finished(tree) => Some(tree),
-        Ended::Fault(tree, _) => Some(tree),
-        Ended::Io(_) => end.left.as_ref(),
-        Ended::NoMemory => end.left.as_ref(),
+        Ended::Finished(tree) => {
+            drop(left);
+            (Some(tree), Close::Finished)
+        }
+        Ended::Fault(tree, fault) => {
+            drop(left);
+            (Some(tree), Close::Fault(fault))
+        }
+        Ended::Io(stream) => (left, Close::Io(stream)),
+        Ended::NoMemory => (left, Close::NoMemory),
     }
 }
 
@@ -203,8 +174,8 @@ fn outcome<'a, E: Write>(
     }
 }
 
-/// Reports why a tree was not saved, if it was to be. That memory ran out is not reported of a session that ends for the
-/// same reason, which is reported then.
+/// Reports why a tree was not saved, if it was to be. Where the session and the tree both ran out of memory, that is
+/// reported once, by the caller.
 fn report_unsaved<E: Write>(errors: &mut E, close: Close, saved: Result<Option<u32>, Failure<'_>>) {
     match (&saved, close) {
         (Ok(_), _) => {}
@@ -218,7 +189,7 @@ fn report_unsaved<E: Write>(errors: &mut E, close: Close, saved: Result<Option<u
 /// they were counted.
 fn save_any<'a, R: Files + AllocGlobal>(
     rt: &R,
-    tree: Option<&Tree>,
+    tree: &Option<Tree>,
     options: &ServeOptions<'a>,
 ) -> Result<Option<u32>, Failure<'a>> {
     match (tree, options.save) {
