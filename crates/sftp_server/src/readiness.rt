@@ -614,8 +614,6 @@ fn shares(queue: &Queue, j: usize, k: usize, earlier: Touch, later: Touch) -> bo
 }
 
 /// The same, whatever they touch.
-#[cold]
-#[inline(never)]
 fn shares_by_asks(queue: &Queue, j: usize, k: usize, earlier: Touch, later: Touch) -> bool
     requires within { j < length queue.now }
     requires there { k < length queue.now }

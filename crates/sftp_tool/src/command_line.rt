@@ -97,6 +97,35 @@ const AFTER_DIFF: &str = "A line has the path, and then one or more of
 If the home differs or the owner of new entries, the first line begins with head and has home and owner. The bytes of a
 file are compared at its first name. The exit status is 0 if the trees are the same, and 1 if they differ.";
 
+const ABOUT_IMPORT: &str =
+    "Writes the tree file of the archive on standard input, which is in a format of tar";
+
+const AFTER_IMPORT: &str = "The tree of the folder DIR:
+
+  tar -C DIR -c . | sftpv3 import FILE
+
+The archive may be ustar, or in the formats of POSIX's pax or of GNU tar, in any order in which a hard link comes after
+its file. The last entry of a path counts. The file is replaced whole, and only if the archive is taken.
+
+An archive that is cut, that cannot be read, or that has what no tree can hold is refused, with the number of the entry
+and its path if it can be read:
+
+  sftpv3: archive: entry 2, \"a/../b\": a path with `..`
+
+Refused are, among others, a wrong checksum, a path with '..', a device, a FIFO, a sparse file, a hard link to a name
+that does not come before it, a directory that is also a file or a link, a name of more than 255 bytes, a path of more
+than 64 names, a file of more than 16,777,216 bytes, and more than 65,536 entries.";
+
+const ABOUT_EXPORT: &str =
+    "Writes the archive of a tree file to standard output, in a format of tar";
+
+const AFTER_EXPORT: &str = "A folder DIR with the files of a tree:
+
+  sftpv3 export FILE | tar -C DIR -x -p
+
+The archive is ustar, with the extended headers of POSIX's pax where a name, a user or a group needs more room. Times
+are 0. The archive has all of the tree but where relative paths start, and who owns what is made with no owner given.";
+
 const ABOUT_BLANK: &str = "Writes the tree file of a tree that holds only the root directory";
 
 const AFTER_AUDIT: &str =
@@ -141,6 +170,14 @@ pub(crate) enum Request<'a> {
     Diff {
         old: &'a str,
         new: &'a str,
+    },
+    /// Make a tree file from an archive.
+    Import {
+        file: &'a str,
+    },
+    /// Make an archive from a tree file.
+    Export {
+        file: &'a str,
     },
     /// Print this text: help or the version.
     Help(String),
@@ -229,6 +266,8 @@ fn requested<'a>(matches: &ArgMatches<'a>) -> Option<Request<'a>> {
         "show" => show_request(given),
         "make" => given.get_str("file").map(|file| Request::Make { file }),
         "diff" => diff_request(given),
+        "import" => given.get_str("file").map(|file| Request::Import { file }),
+        "export" => given.get_str("file").map(|file| Request::Export { file }),
         _ => given.get_str("file").map(|file| Request::Blank { file }),
     }
 }
@@ -280,6 +319,8 @@ fn command<'a>(alloc: Global, version: &'a str) -> Result<Command<'a>, AllocErro
     let command = with_subcommand(command, show_command(alloc))?;
     let command = with_subcommand(command, make_command(alloc))?;
     let command = with_subcommand(command, diff_command(alloc))?;
+    let command = with_subcommand(command, import_command(alloc))?;
+    let command = with_subcommand(command, export_command(alloc))?;
     with_subcommand(command, blank_command(alloc))
 }
 
@@ -402,6 +443,20 @@ fn tree_argument<'a>(alloc: Global, name: &'a str, label: &'a str) -> Arg<'a> {
         .value_name(label)
         .action(ArgAction::Set)
         .required(true)
+}
+
+fn import_command<'a>(alloc: Global) -> Result<Command<'a>, AllocError> {
+    Command::new(alloc, "import")
+        .about(ABOUT_IMPORT)
+        .after_help(AFTER_IMPORT)
+        .arg(file_argument(alloc).help("The tree file to write"))
+}
+
+fn export_command<'a>(alloc: Global) -> Result<Command<'a>, AllocError> {
+    Command::new(alloc, "export")
+        .about(ABOUT_EXPORT)
+        .after_help(AFTER_EXPORT)
+        .arg(file_argument(alloc).help("The tree file"))
 }
 
 fn blank_command<'a>(alloc: Global) -> Result<Command<'a>, AllocError> {

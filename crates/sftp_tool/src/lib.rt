@@ -4,6 +4,7 @@
 
 ghost use Rattle.std.specs.Prelude.{◌≤◌};
 
+mod archives;
 mod command_line;
 mod diffing;
 mod explaining;
@@ -38,8 +39,8 @@ pub const VERSION: &str = "0.2.0";
 /// - 3: a file or a stream cannot be read or written, or memory ran out.
 ///
 /// With status 2 or 3 the reason is written to `errors`. If `errors` cannot be written, the status is the same.
-/// `output` is flushed, unless a session stops because a stream fails or memory runs out. Only `serve` and `make` read
-/// `input`.
+/// `output` is flushed, unless a session stops because a stream fails or memory runs out. Only `serve`, `make` and
+/// `import` read `input`.
 pub fn run<R, I, O, E>(
     rt: &R,
     words: &[String],
@@ -168,6 +169,8 @@ fn perform_request<'a, R: Files + AllocGlobal, I: Read, O: Write, E: Write>(
             ..
         } => texts::show_full(rt, file, output),
         Request::Diff { old, new } => diffing::diff(rt, old, new, output),
+        Request::Import { file } => archives::import(rt, file, input),
+        Request::Export { file } => archives::export(rt, file, output),
         Request::Help(text) => subcommands::help(text.as_str(), output),
     }
 }

@@ -49,7 +49,7 @@ pub(crate) enum Failure<'a> {
     /// The transcript is malformed.
     #[error("sftpv3: transcript: {0}")]
     Transcript(TranscriptError),
-    /// The text of a file is malformed. This says where, and what was expected there.
+    /// The text of a file is malformed, or an archive. This says where, and why.
     #[error("sftpv3: {0}")]
     Text(String),
     /// The file is neither a transcript nor a tree file.

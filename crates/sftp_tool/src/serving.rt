@@ -164,20 +164,23 @@ fn outcome<'a, E: Write>(
             Err(Failure::Session(fault))
         }
         Close::Io(stream) => {
-            report_unsaved(errors, saved);
+            report_unsaved(errors, close, saved);
             Err(stream_failure(stream, traffic, options))
         }
         Close::NoMemory => {
-            report_unsaved(errors, saved);
+            report_unsaved(errors, close, saved);
             Err(Failure::OutOfMemory)
         }
     }
 }
 
-/// Reports why a tree was not saved, if it was to be.
-fn report_unsaved<E: Write>(errors: &mut E, saved: Result<Option<u32>, Failure<'_>>) {
-    if let Err(failure) = &saved {
-        report(errors, failure);
+/// Reports why a tree was not saved, if it was to be. Where the session and the tree both ran out of memory, that is
+/// reported once, by the caller.
+fn report_unsaved<E: Write>(errors: &mut E, close: Close, saved: Result<Option<u32>, Failure<'_>>) {
+    match (&saved, close) {
+        (Ok(_), _) => {}
+        (Err(Failure::OutOfMemory), Close::NoMemory) => {}
+        (Err(failure), _) => report(errors, failure),
     }
     drop(saved);
 }

@@ -105,7 +105,8 @@ fn malformed<'a>(alloc: Global, bytes: &[u8]) -> Failure<'a> {
     }
 }
 
-fn print_bytes<'a, O: Write>(output: &mut O, bytes: &[u8]) -> Result<(), Failure<'a>> {
+/// Writes bytes to standard output.
+pub(crate) fn print_bytes<'a, O: Write>(output: &mut O, bytes: &[u8]) -> Result<(), Failure<'a>> {
     match write_all_flushed(output, bytes) {
         Ok(()) => Ok(()),
         Err(error) => Err(Failure::writing(STANDARD_OUTPUT, &error)),

@@ -1,0 +1,123 @@
+//! The subcommands `import` and `export`: an archive as a tree file, and a tree file as an archive.
+ghost use Rattle.std.specs.Prelude.{◌≡◌, IfOk, MatchResult};
+ghost use Rattle.sftp_treefile.specs.declared.files.TreeFile.{TreeFile as file};
+ghost use Rattle.sftp_treefile.specs.TreeFile.{IsSpelled};
+ghost use Rattle.sftp_tar.specs.Archive.{archive};
+ghost use Rattle.sftp_tool.specs.declared.messages.Ending.TheVariants as endings;
+ghost use Rattle.sftp_tool.specs.declared.messages.Failure.TheVariants as failures;
+
+use crate::messages::{Ending, Failure, STANDARD_INPUT};
+use crate::saving::write;
+use crate::subcommands::read;
+use crate::texts::print_bytes;
+use sftp_show::Quoted;
+use sftp_tar::{ImportError, Refusal};
+use sftp_treefile::{read_rows, write_rows};
+use std::alloc::{AllocError, Global};
+use std::fs::Files;
+use std::io::{Read, Write};
+
+/// Writes the tree file `name` of the archive on standard input. The archive is judged before the file is written.
+pub(crate) fn import<'a, R: Files + AllocGlobal, I: Read>(
+    rt: &R,
+    name: &'a str,
+    input: &mut I,
+) -> Result<Ending, Failure<'a>>
+    ensures { IfOk result (λ ending. ending ≡ endings.Done) }
+{
+    let mut archive = Vec::new(rt.alloc());
+    match input.read_to_end(&mut archive) {
+        Ok(_) => import_from(rt, name, archive),
+        Err(error) => {
+            drop(archive);
+            Err(Failure::reading(STANDARD_INPUT, &error))
+        }
+    }
+}
+
+/// Writes the tree file `name` of an archive.
+fn import_from<'a, R: Files + AllocGlobal>(
+    rt: &R,
+    name: &'a str,
+    archive: Vec<u8>,
+) -> Result<Ending, Failure<'a>>
+    ensures { IfOk result (λ ending. ending ≡ endings.Done) }
+{
+    let tree = tree_of(rt.alloc(), archive)?;
+    let written = write(rt, name, tree.as_slice());
+    drop(tree);
+    written?;
+    Ok(Ending::Done)
+}
+
+/// The tree file of an archive. The archive is let go before the file is made, since both have the bytes of all files.
+fn tree_of<'a>(alloc: Global, archive: Vec<u8>) -> Result<Vec<u8>, Failure<'a>> {
+    let imported = sftp_tar::import(alloc, archive.as_slice());
+    drop(archive);
+    match imported {
+        Ok(file) => {
+            let tree = write_rows(alloc, &file);
+            drop(file);
+            Ok(tree?)
+        }
+        Err(error) => {
+            let failure = archive_failure(alloc, &error);
+            drop(error);
+            Err(failure)
+        }
+    }
+}
+
+/// What the error of an import means for the run.
+fn archive_failure<'a>(alloc: Global, error: &ImportError) -> Failure<'a> {
+    match error {
+        ImportError::NoMemory => Failure::OutOfMemory,
+        ImportError::Refused {
+            entry,
+            path,
+            refusal,
+        } => match refused(alloc, *entry, path.as_slice(), *refusal) {
+            Ok(message) => Failure::Text(message),
+            Err(_no_memory) => Failure::OutOfMemory,
+        },
+    }
+}
+
+/// The message for an entry that is refused. An entry that cannot be read has no path.
+fn refused(alloc: Global, entry: u32, path: &[u8], refusal: Refusal) -> Result<String, AllocError> {
+    if path.is_empty() {
+        format!(in alloc; "archive: entry {entry}: {refusal}")
+    } else {
+        let path = Quoted(path);
+        format!(in alloc; "archive: entry {entry}, {path}: {refusal}")
+    }
+}
+
+/// Writes the archive of the tree file `name` to standard output.
+pub(crate) fn export<'a, R: Files + AllocGlobal, O: Write>(
+    rt: &R,
+    name: &'a str,
+    output: &mut O,
+) -> Result<Ending, Failure<'a>>
+    ensures { IfOk result (λ ending. ending ≡ endings.Done) }
+{
+    let tree = read(rt, name)?;
+    let archive = archive_of(rt.alloc(), tree)?;
+    let printed = print_bytes(output, archive.as_slice());
+    drop(archive);
+    printed?;
+    Ok(Ending::Done)
+}
+
+/// The archive of a tree file.
+fn archive_of<'a>(alloc: Global, tree: Vec<u8>) -> Result<Vec<u8>, Failure<'a>>
+    ensures { (f : file) → IsSpelled f tree.items →
+        MatchResult result (λ made. made.items ≡ archive f) (λ failure. failure ≡ failures.OutOfMemory) }
+{
+    let file = read_rows(alloc, tree.as_slice());
+    drop(tree);
+    let file = file?;
+    let made = sftp_tar::export(alloc, &file);
+    drop(file);
+    Ok(made?)
+}
