@@ -607,8 +607,11 @@ fn shares(queue: &Queue, j: usize, k: usize, earlier: Touch, later: Touch) -> bo
     ensures { result ≡ share (touched_as earlier (ask_at queue.now j)) (touched_as later (ask_at queue.now k)) }
 {
     match (&earlier, &later) {
-        // Only listings need what is asked.
+        // What is asked does not matter where both touch a file.
         (Touch::WritesFile(file), Touch::WritesFile(number)) => *file == *number,
+        (Touch::WritesFile(file), Touch::ReadsFile(number)) => *file == *number,
+        (Touch::ReadsFile(file), Touch::WritesFile(number)) => *file == *number,
+        (Touch::ReadsFile(_), Touch::ReadsFile(_)) => false,
         _ => shares_by_asks(queue, j, k, earlier, later),
     }
 }
