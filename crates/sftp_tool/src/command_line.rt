@@ -1,7 +1,9 @@
 //! The command line: parses the arguments, and has the help texts.
 use crate::messages::Failure;
+use crate::profiles::{profile_of, with_options};
 use clap::error::ErrorKind;
 use clap::{Arg, ArgAction, ArgMatches, Command, Error, value_parser};
+use sftp_profile::Profile;
 use std::alloc::{AllocError, Global};
 
 const ABOUT: &str =
@@ -150,7 +152,7 @@ pub(crate) enum Request<'a> {
     /// Serve a session.
     Serve(ServeOptions<'a>),
     /// Audit a session.
-    Audit(AuditFiles<'a>),
+    Audit(AuditOptions<'a>),
     /// Write the blank tree to a file.
     Blank {
         file: &'a str,
@@ -198,9 +200,9 @@ pub(crate) struct ServeOptions<'a> {
     pub(crate) is_verbose: bool,
 }
 
-/// The names of the files of `audit`.
+/// The options of `audit`.
 #[derive(Clone, Copy)]
-pub(crate) struct AuditFiles<'a> {
+pub(crate) struct AuditOptions<'a> {
     /// The tree file that the session starts from.
     pub(crate) tree: &'a str,
     /// The recorded bytes of the session.
@@ -209,6 +211,8 @@ pub(crate) struct AuditFiles<'a> {
     pub(crate) out: Option<&'a str>,
     /// Whether a refusal is explained on standard error, and where a file is malformed.
     pub(crate) explains: bool,
+    /// Which departures from the strict reading are accepted.
+    pub(crate) profile: Profile,
 }
 
 /// Parses the command line, whose first word is the program's name, of the program of this version. Asking for help or
@@ -262,7 +266,7 @@ fn requested<'a>(matches: &ArgMatches<'a>) -> Option<Request<'a>> {
     let (name, given) = matches.subcommand()?;
     match name {
         "serve" => serve_options(given).map(Request::Serve),
-        "audit" => audit_files(given).map(Request::Audit),
+        "audit" => audit_options(given).map(Request::Audit),
         "show" => show_request(given),
         "make" => given.get_str("file").map(|file| Request::Make { file }),
         "diff" => diff_request(given),
@@ -299,12 +303,13 @@ fn serve_options<'a>(given: &ArgMatches<'a>) -> Option<ServeOptions<'a>> {
     })
 }
 
-fn audit_files<'a>(given: &ArgMatches<'a>) -> Option<AuditFiles<'a>> {
-    Some(AuditFiles {
+fn audit_options<'a>(given: &ArgMatches<'a>) -> Option<AuditOptions<'a>> {
+    Some(AuditOptions {
         tree: given.get_str("tree")?,
         transcript: given.get_str("transcript")?,
         out: given.get_str("out"),
         explains: given.get_flag("explain"),
+        profile: profile_of(given),
     })
 }
 
@@ -366,7 +371,7 @@ fn shuffle_option<'a>(alloc: Global) -> Arg<'a> {
 }
 
 fn audit_command<'a>(alloc: Global) -> Result<Command<'a>, AllocError> {
-    Command::new(alloc, "audit")
+    let command = Command::new(alloc, "audit")
         .about(ABOUT_AUDIT)
         .after_help(AFTER_AUDIT)
         .arg(tree_option(alloc))?
@@ -375,7 +380,8 @@ fn audit_command<'a>(alloc: Global) -> Result<Command<'a>, AllocError> {
         .arg(explain_option(
             alloc,
             "Print on standard error why the session is refused, or where a file is malformed",
-        ))
+        ))?;
+    with_options(alloc, command)
 }
 
 fn tree_option<'a>(alloc: Global) -> Arg<'a> {

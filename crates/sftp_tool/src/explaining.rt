@@ -1,8 +1,9 @@
 //! `audit --explain`: why a session is refused, as lines of text.
-use crate::command_line::AuditFiles;
+use crate::command_line::AuditOptions;
 use crate::messages::{Failure, write_flushed};
 use crate::subcommands::open;
 use sftp_audit::{AuditError, Auditor, NoMemory, Refusal, TreeError, feed_all};
+use sftp_profile::{NAMES, Profile};
 use sftp_show::{
     ExplainError, Found, Record, explain_reply, find_record, last_of_id, number_of_request,
     put_record,
@@ -66,7 +67,7 @@ impl From<NoMemory> for Unexplained {
 /// that fails, the last line says so.
 pub(crate) fn explain<'a, R: Files + AllocGlobal, E: Write>(
     rt: &R,
-    files: &AuditFiles<'a>,
+    files: &AuditOptions<'a>,
     tree: &[u8],
     refusal: Refusal,
     errors: &mut E,
@@ -79,7 +80,7 @@ pub(crate) fn explain<'a, R: Files + AllocGlobal, E: Write>(
 
 fn put_explanation<'a, R: Files + AllocGlobal, E: Write>(
     rt: &R,
-    files: &AuditFiles<'a>,
+    files: &AuditOptions<'a>,
     tree: &[u8],
     refusal: Refusal,
     errors: &mut E,
@@ -93,7 +94,7 @@ fn put_explanation<'a, R: Files + AllocGlobal, E: Write>(
 /// Writes the lines of a refusal that names the record found, if it was found.
 fn put_refusal<'a, R: Files + AllocGlobal, E: Write>(
     rt: &R,
-    files: &AuditFiles<'a>,
+    files: &AuditOptions<'a>,
     tree: &[u8],
     refusal: Refusal,
     found: &Result<Option<Found>, Unexplained>,
@@ -121,7 +122,7 @@ fn record_of(refusal: Refusal) -> u64 {
 /// Writes the lines of a refusal that names this record.
 fn put_reason<'a, R: Files + AllocGlobal, E: Write>(
     rt: &R,
-    files: &AuditFiles<'a>,
+    files: &AuditOptions<'a>,
     tree: &[u8],
     refusal: Refusal,
     found: &Found,
@@ -131,7 +132,10 @@ fn put_reason<'a, R: Files + AllocGlobal, E: Write>(
         Refusal::UnknownReply { .. } => put_unknown_reply(rt, files, &found.record, errors),
         Refusal::IdInUse { .. } => put_used_id(rt, files, &found.record, errors),
         Refusal::Window { .. } => put_late_request(rt, files, found, errors),
-        Refusal::NotAllowed { .. } => put_wrong_reply(rt, files, tree, &found.record, errors),
+        Refusal::NotAllowed { .. } => {
+            put_wrong_reply(rt, files, tree, &found.record, errors)?;
+            put_departures(rt, files, tree, refusal, errors)
+        }
         Refusal::Unanswered { .. } | Refusal::NoMemory => Ok(put_record(
             "request",
             &found.record,
@@ -147,7 +151,7 @@ fn put_reason<'a, R: Files + AllocGlobal, E: Write>(
 /// `OtherTranscript` if the file cannot be opened, and `OutOfMemory`.
 fn records<'a, R: Files + AllocGlobal>(
     rt: &R,
-    files: &AuditFiles<'a>,
+    files: &AuditOptions<'a>,
 ) -> Result<Reader<Tally<R::File>>, Unexplained> {
     match open(rt, files.transcript) {
         Ok(file) => Ok(Reader::new(rt.alloc(), Tally::new(file))?),
@@ -163,7 +167,7 @@ fn records<'a, R: Files + AllocGlobal>(
 /// `OtherTranscript` and `OutOfMemory`.
 fn found<'a, R: Files + AllocGlobal>(
     rt: &R,
-    files: &AuditFiles<'a>,
+    files: &AuditOptions<'a>,
     number: u64,
 ) -> Result<Option<Found>, Unexplained> {
     let mut records = records(rt, files)?;
@@ -179,7 +183,7 @@ fn found<'a, R: Files + AllocGlobal>(
 /// `OtherTranscript` if this record has no id, and `OutOfMemory`.
 fn earlier<'a, R: Files + AllocGlobal>(
     rt: &R,
-    files: &AuditFiles<'a>,
+    files: &AuditOptions<'a>,
     side: Side,
     record: &Record,
 ) -> Result<Option<u64>, Unexplained> {
@@ -196,7 +200,7 @@ fn earlier<'a, R: Files + AllocGlobal>(
 /// `OtherTranscript` and `OutOfMemory`.
 fn number_of_last<'a, R: Files + AllocGlobal>(
     rt: &R,
-    files: &AuditFiles<'a>,
+    files: &AuditOptions<'a>,
     side: Side,
     id: u32,
     number: u64,
@@ -214,7 +218,7 @@ fn number_of_last<'a, R: Files + AllocGlobal>(
 /// `OtherTranscript` if there is none, `Output` and `OutOfMemory`.
 fn put_numbered<'a, R: Files + AllocGlobal, E: Write>(
     rt: &R,
-    files: &AuditFiles<'a>,
+    files: &AuditOptions<'a>,
     label: &str,
     number: u64,
     errors: &mut E,
@@ -245,7 +249,7 @@ fn put_found<E: Write>(
 /// `OtherTranscript` if there is none, `Output` and `OutOfMemory`.
 fn put_earlier<'a, R: Files + AllocGlobal, E: Write>(
     rt: &R,
-    files: &AuditFiles<'a>,
+    files: &AuditOptions<'a>,
     label: &str,
     side: Side,
     record: &Record,
@@ -260,7 +264,7 @@ fn put_earlier<'a, R: Files + AllocGlobal, E: Write>(
 /// `UnknownReply`: the reply, the last request of its id, and the reply to that.
 fn put_unknown_reply<'a, R: Files + AllocGlobal, E: Write>(
     rt: &R,
-    files: &AuditFiles<'a>,
+    files: &AuditOptions<'a>,
     reply: &Record,
     errors: &mut E,
 ) -> Result<(), Unexplained> {
@@ -274,7 +278,7 @@ fn put_unknown_reply<'a, R: Files + AllocGlobal, E: Write>(
 /// The request that the reply is one too many for, and the reply that it has.
 fn put_answered<'a, R: Files + AllocGlobal, E: Write>(
     rt: &R,
-    files: &AuditFiles<'a>,
+    files: &AuditOptions<'a>,
     request: u64,
     reply: &Record,
     errors: &mut E,
@@ -294,7 +298,7 @@ fn put_unasked<E: Write>(errors: &mut E) -> Result<(), Unexplained> {
 /// `IdInUse`: the request, and the unanswered one of the same id.
 fn put_used_id<'a, R: Files + AllocGlobal, E: Write>(
     rt: &R,
-    files: &AuditFiles<'a>,
+    files: &AuditOptions<'a>,
     request: &Record,
     errors: &mut E,
 ) -> Result<(), Unexplained> {
@@ -305,7 +309,7 @@ fn put_used_id<'a, R: Files + AllocGlobal, E: Write>(
 /// `Window`: the request, and the oldest unanswered one, which is the 1,024th before it.
 fn put_late_request<'a, R: Files + AllocGlobal, E: Write>(
     rt: &R,
-    files: &AuditFiles<'a>,
+    files: &AuditOptions<'a>,
     found: &Found,
     errors: &mut E,
 ) -> Result<(), Unexplained> {
@@ -319,7 +323,7 @@ fn put_late_request<'a, R: Files + AllocGlobal, E: Write>(
 /// The number of the record of the 1,024th request before this one.
 fn oldest<'a, R: Files + AllocGlobal>(
     rt: &R,
-    files: &AuditFiles<'a>,
+    files: &AuditOptions<'a>,
     found: &Found,
 ) -> Result<Option<u64>, Unexplained> {
     let mut records = records(rt, files)?;
@@ -332,7 +336,7 @@ fn oldest<'a, R: Files + AllocGlobal>(
 /// `NotAllowed`: the request, its reply, why that is not allowed, and what is.
 fn put_wrong_reply<'a, R: Files + AllocGlobal, E: Write>(
     rt: &R,
-    files: &AuditFiles<'a>,
+    files: &AuditOptions<'a>,
     tree: &[u8],
     reply: &Record,
     errors: &mut E,
@@ -346,7 +350,7 @@ fn put_wrong_reply<'a, R: Files + AllocGlobal, E: Write>(
 /// The request of the record with this number, and its reply.
 fn put_exchange_of<'a, R: Files + AllocGlobal, E: Write>(
     rt: &R,
-    files: &AuditFiles<'a>,
+    files: &AuditOptions<'a>,
     tree: &[u8],
     number: u64,
     reply: &Record,
@@ -361,7 +365,7 @@ fn put_exchange_of<'a, R: Files + AllocGlobal, E: Write>(
 /// The request found, if it was found, and its reply.
 fn put_exchange<'a, R: Files + AllocGlobal, E: Write>(
     rt: &R,
-    files: &AuditFiles<'a>,
+    files: &AuditOptions<'a>,
     tree: &[u8],
     found: &Result<Option<Found>, Unexplained>,
     reply: &Record,
@@ -386,13 +390,13 @@ fn ask_of(found: &Result<Option<Found>, Unexplained>) -> Option<&Ask> {
 /// Why the session does not allow an answer, and what it allows.
 fn put_causes<'a, R: Files + AllocGlobal, E: Write>(
     rt: &R,
-    files: &AuditFiles<'a>,
+    files: &AuditOptions<'a>,
     tree: &[u8],
     ask: &Ask,
     answer: &Answer,
     errors: &mut E,
 ) -> Result<(), Unexplained> {
-    let mut auditor = new_auditor(rt.alloc(), tree)?;
+    let mut auditor = new_auditor(rt.alloc(), files.profile, tree)?;
     let put = put_causes_by(rt, files, &mut auditor, ask, answer, errors);
     drop(auditor);
     put
@@ -401,7 +405,7 @@ fn put_causes<'a, R: Files + AllocGlobal, E: Write>(
 /// Feeds the session to an auditor that has seen nothing of it, and writes why it does not allow an answer.
 fn put_causes_by<'a, R: Files + AllocGlobal, E: Write>(
     rt: &R,
-    files: &AuditFiles<'a>,
+    files: &AuditOptions<'a>,
     auditor: &mut Auditor,
     ask: &Ask,
     answer: &Answer,
@@ -412,10 +416,73 @@ fn put_causes_by<'a, R: Files + AllocGlobal, E: Write>(
     Ok(())
 }
 
-/// An auditor of sessions that start from this tree.
-fn new_auditor(alloc: Global, tree: &[u8]) -> Result<Auditor, Unexplained> {
+/// Writes the names of the departures each of which, accepted besides, makes the session go on behind its refusal.
+fn put_departures<'a, R: Files + AllocGlobal, E: Write>(
+    rt: &R,
+    files: &AuditOptions<'a>,
+    tree: &[u8],
+    refusal: Refusal,
+    errors: &mut E,
+) -> Result<(), Unexplained> {
+    for name in NAMES {
+        if goes_on_with(rt, files, tree, refusal, name)? {
+            put_departure(name, errors)?;
+        }
+    }
+    Ok(())
+}
+
+fn put_departure<E: Write>(name: &str, errors: &mut E) -> Result<(), Unexplained> {
+    match writeln!(errors, "allowed by: {name}") {
+        Ok(()) => Ok(()),
+        Err(_) => Err(Unexplained::Output),
+    }
+}
+
+/// Whether the session goes on behind its refusal if the departure of this name is accepted besides.
+fn goes_on_with<'a, R: Files + AllocGlobal>(
+    rt: &R,
+    files: &AuditOptions<'a>,
+    tree: &[u8],
+    refusal: Refusal,
+    name: &str,
+) -> Result<bool, Unexplained> {
+    let profile = files.profile.with(name, true).unwrap_or(files.profile);
+    if profile == files.profile {
+        return Ok(false);
+    }
+    let mut auditor = new_auditor(rt.alloc(), profile, tree)?;
+    let fed = fed(rt, files, &mut auditor);
+    drop(auditor);
+    Ok(fed? != Some(refusal))
+}
+
+/// Feeds the session to an auditor that has seen nothing of it, and returns the refusal, if it is refused before its
+/// end.
+///
+/// # Errors
+///
+/// `OtherTranscript` if the transcript cannot be read any more, and `OutOfMemory`.
+fn fed<'a, R: Files + AllocGlobal>(
+    rt: &R,
+    files: &AuditOptions<'a>,
+    auditor: &mut Auditor,
+) -> Result<Option<Refusal>, Unexplained> {
+    let mut records = records(rt, files)?;
+    let fed = feed_all(auditor, &mut records);
+    drop(records);
+    match fed {
+        Ok(_) => Ok(None),
+        Err(AuditError::Refused(refusal)) => Ok(Some(refusal)),
+        Err(AuditError::NoMemory) => Err(Unexplained::OutOfMemory),
+        Err(_) => Err(Unexplained::OtherTranscript),
+    }
+}
+
+/// An auditor, by this profile, of sessions that start from this tree.
+fn new_auditor(alloc: Global, profile: Profile, tree: &[u8]) -> Result<Auditor, Unexplained> {
     let tree = Tree::read(alloc, tree)?;
-    Ok(Auditor::new(tree)?)
+    Ok(Auditor::by(profile, tree)?)
 }
 
 /// Feeds the session to an auditor that has seen nothing of it. Its session is then the one in which the wrong reply
@@ -426,15 +493,11 @@ fn new_auditor(alloc: Global, tree: &[u8]) -> Result<Auditor, Unexplained> {
 /// `OtherTranscript` if the session is not refused any more, and `OutOfMemory`.
 fn refuse_again<'a, R: Files + AllocGlobal>(
     rt: &R,
-    files: &AuditFiles<'a>,
+    files: &AuditOptions<'a>,
     auditor: &mut Auditor,
 ) -> Result<(), Unexplained> {
-    let mut records = records(rt, files)?;
-    let fed = feed_all(auditor, &mut records);
-    drop(records);
-    match fed {
-        Err(AuditError::NoMemory) => Err(Unexplained::OutOfMemory),
-        Err(AuditError::Refused(_)) => Ok(()),
-        _ => Err(Unexplained::OtherTranscript),
+    match fed(rt, files, auditor)? {
+        Some(_) => Ok(()),
+        None => Err(Unexplained::OtherTranscript),
     }
 }

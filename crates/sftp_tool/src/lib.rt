@@ -9,6 +9,7 @@ mod command_line;
 mod diffing;
 mod explaining;
 mod messages;
+mod profiles;
 mod recording;
 mod saving;
 mod serving;

@@ -3,11 +3,12 @@ ghost use Rattle.std.specs.Prelude.{◌≡◌, IfOk, IfErr};
 ghost use Rattle.sftp_tool.specs.declared.messages.Ending.TheVariants as endings;
 ghost use Rattle.sftp_tool.specs.Failures.{IsOutcome, IsUnread, IsUnwritten};
 
-use crate::command_line::AuditFiles;
+use crate::command_line::AuditOptions;
 use crate::explaining::explain;
 use crate::messages::{Ending, Failure, print};
 use crate::saving::write;
 use sftp_audit::{Accepted, AuditError, Refusal};
+use sftp_profile::Profile;
 use sftp_transcript::{Reader, Tally};
 use std::alloc::Global;
 use std::fs;
@@ -18,7 +19,7 @@ use std::io::{Read, Write};
 /// as a stream.
 pub(crate) fn audit<'a, R: Files + AllocGlobal, O: Write, E: Write>(
     rt: &R,
-    files: &AuditFiles<'a>,
+    files: &AuditOptions<'a>,
     output: &mut O,
     errors: &mut E,
 ) -> Result<Ending, Failure<'a>> {
@@ -31,13 +32,13 @@ pub(crate) fn audit<'a, R: Files + AllocGlobal, O: Write, E: Write>(
 /// Audits a session that starts from the tree of this file.
 fn audit_from<'a, R: Files + AllocGlobal, O: Write, E: Write>(
     rt: &R,
-    files: &AuditFiles<'a>,
+    files: &AuditOptions<'a>,
     tree: &[u8],
     output: &mut O,
     errors: &mut E,
 ) -> Result<Ending, Failure<'a>> {
     let transcript = open(rt, files.transcript)?;
-    match judge(rt.alloc(), tree, transcript) {
+    match judge(rt.alloc(), files.profile, tree, transcript) {
         Ok(accepted) => {
             let ending = accept(rt, &accepted, files.out, output);
             drop(accepted);
@@ -57,11 +58,12 @@ fn audit_from<'a, R: Files + AllocGlobal, O: Write, E: Write>(
 /// Audits the session of a transcript that is read as a stream.
 fn judge<F: Read + Drop>(
     alloc: Global,
+    profile: Profile,
     tree: &[u8],
     transcript: F,
 ) -> Result<Accepted, AuditError> {
     let mut records = Reader::new(alloc, Tally::new(transcript))?;
-    let accepted = sftp_audit::audit_stream(alloc, tree, &mut records);
+    let accepted = sftp_audit::audit_stream_by(alloc, profile, tree, &mut records);
     drop(records);
     accepted
 }
