@@ -1,2 +1,3 @@
 pub mod RunEnds
 pub mod StepLaws
+pub mod StrictRuns

@@ -15,6 +15,10 @@ use Rattle.sftp_tree.specs.Tree.{Tree, trim}
 use Rattle.sftp_tree.specs.Picture.{IsStart}
 use Rattle.sftp_handles.specs.State.{State, settled}
 use Rattle.sftp_handles.specs.Allowed.{Allowed}
+use Rattle.sftp_profile.specs.declared.profiles.Profile.{Profile}
+use Rattle.sftp_profile.specs.Profiles.{strict}
+use Rattle.sftp_profile.specs.State as judges
+use Rattle.sftp_profile.specs.Permitted.{Permitted}
 use Rattle.sftp_transcript.specs.Transcript.{IsRecord}
 use Rattle.sftp_transcript.specs.Explained.{Explained, exchanges_of}
 use Rattle.sftp_transcript.specs.Sound.{Sound}
@@ -36,6 +40,15 @@ pub record Accounts (tree transcript : List ℕ) (start : Tree) (events : List E
   pub last : State
   pub explained : Explained Allowed (started start) events last
   pub end_is : end ≡ trim (record last.tree { pins = [] })
+
+-- The same under a profile. The start under it is `judges.begun`.
+pub record AccountsBy (profile : Profile) (tree transcript : List ℕ) (start : Tree) (events : List Event) (end : Tree)
+    : Type 0 where
+  pub start_is : IsStart start tree
+  pub events_are : IsRecord events transcript
+  pub last : judges.State
+  pub explained : Explained Permitted (judges.begun profile start) events last
+  pub end_is : end ≡ trim (record last.session.tree { pins = [] })
 
 -- the number of requests, capped at 2^64 - 1
 abbrev pub request_count : List Event → ℕ
@@ -63,40 +76,45 @@ abbrev pub HasStart : List ℕ → Type 0
 HasStart tree = (start : Tree) × IsStart start tree
 
 -- an event is refused after events that are sound: the file records them, then this one, and then anything
-pub record RefusedAt (start : State) (transcript : List ℕ) (refusal : Refusal) : Type 0 where
+pub record RefusedAt (start : judges.State) (transcript : List ℕ) (refusal : Refusal) : Type 0 where
   pub events : List Event
   pub event : Event
   pub rest : List ℕ
   pub begins : BeginsRecord (events ++ event ∷ []) transcript rest
-  pub end : State
-  pub sound : Sound Allowed start events end
+  pub end : judges.State
+  pub sound : Sound Permitted start events end
   pub refuses : Refuses start events event refusal
 
 -- the events of the whole file are sound, but one request has no reply
-pub record RefusedAtEnd (start : State) (transcript : List ℕ) (refusal : Refusal) : Type 0 where
+pub record RefusedAtEnd (start : judges.State) (transcript : List ℕ) (refusal : Refusal) : Type 0 where
   pub events : List Event
   pub recorded : IsRecord events transcript
-  pub end : State
-  pub sound : Sound Allowed start events end
+  pub end : judges.State
+  pub sound : Sound Permitted start events end
   pub lacks : LacksReply events refusal
 
 -- the file has a fault after events that are sound
-pub record FaultAt (start : State) (transcript : List ℕ) (error : TranscriptError) : Type 0 where
+pub record FaultAt (start : judges.State) (transcript : List ℕ) (error : TranscriptError) : Type 0 where
   pub events : List Event
-  pub end : State
-  pub sound : Sound Allowed start events end
+  pub end : judges.State
+  pub sound : Sound Permitted start events end
   pub fault : FaultAfter transcript events error
 
--- What an audit meets first: the bytes are no tree; or, record by record, the fault of a record or the refusal of its
+-- What an audit under a profile meets first: the bytes are no tree; or, record by record, the fault of a record or the refusal of its
 -- event; or, at the end, a request without a reply.
-abbrev pub IsFirstFault : List ℕ → List ℕ → AuditError → Type 0
-IsFirstFault tree transcript (audit_errors.Tree error) = HasStart tree → ⊥
-IsFirstFault tree transcript (audit_errors.Transcript error) =
-    (start : Tree) × IsStart start tree × FaultAt (started start) transcript error
-IsFirstFault tree transcript (audit_errors.Refused refusal) =
+abbrev pub IsFirstFaultBy : Profile → List ℕ → List ℕ → AuditError → Type 0
+IsFirstFaultBy profile tree transcript (audit_errors.Tree error) = HasStart tree → ⊥
+IsFirstFaultBy profile tree transcript (audit_errors.Transcript error) =
+    (start : Tree) × IsStart start tree × FaultAt (judges.begun profile start) transcript error
+IsFirstFaultBy profile tree transcript (audit_errors.Refused refusal) =
     (start : Tree) × IsStart start tree
-    × (RefusedAt (started start) transcript refusal ⊎ RefusedAtEnd (started start) transcript refusal)
-IsFirstFault tree transcript audit_errors.NoMemory = ⊤
+    × (RefusedAt (judges.begun profile start) transcript refusal
+    ⊎ RefusedAtEnd (judges.begun profile start) transcript refusal)
+IsFirstFaultBy profile tree transcript audit_errors.NoMemory = ⊤
+
+-- the same under the strict profile
+abbrev pub IsFirstFault : List ℕ → List ℕ → AuditError → Type 0
+IsFirstFault = IsFirstFaultBy strict
 
 -- the error says that the bytes are no tree
 abbrev pub IsTreeError : AuditError → Type 0
@@ -130,14 +148,14 @@ abbrev pub IsNew : List ℕ → Reading → Type 0
 IsNew bytes s = HasGiven bytes [] bytes s × (s.stage ≡ stages.Opening)
 
 -- the bytes record some events; the auditor stands for these, and `requests` of them are requests
-pub record WasFed (start : State) (transcript : List ℕ) (requests : ℕ) (auditor : Audited) : Type 0 where
+pub record WasFed (start : judges.State) (transcript : List ℕ) (requests : ℕ) (auditor : Audited) : Type 0 where
   pub events : List Event
   pub recorded : IsRecord events transcript
   pub stands : StandsFor start events auditor
   pub counted : requests ≡ request_count events
 
 -- why no further event is fed: the next record has a fault, or its event is refused
-abbrev pub StopsFeed : State → List ℕ → AuditError → Type 0
+abbrev pub StopsFeed : judges.State → List ℕ → AuditError → Type 0
 StopsFeed start transcript (audit_errors.Transcript error) = FaultAt start transcript error
 StopsFeed start transcript (audit_errors.Refused refusal) = RefusedAt start transcript refusal
 StopsFeed start transcript audit_errors.NoMemory = ⊤

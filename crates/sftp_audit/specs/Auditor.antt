@@ -3,8 +3,8 @@
 use Rattle.std.specs.Prelude.{◌≡◌, ℕ, ◌≤◌, ⊤, List, [], ◌∷◌, ◌++◌, length, Option, Some, None}
 use Rattle.sftp_wire.specs.declared.packets.Request.{Request}
 use Rattle.sftp_wire.specs.declared.packets.Reply.{Reply}
-use Rattle.sftp_handles.specs.State.{State}
-use Rattle.sftp_handles.specs.Allowed.{Allowed}
+use Rattle.sftp_profile.specs.State.{State}
+use Rattle.sftp_profile.specs.Permitted.{Permitted}
 use Rattle.sftp_transcript.specs.declared.events.Event.{Event}
 use Rattle.sftp_transcript.specs.declared.events.Event.TheVariants.{Asked, Replied}
 use Rattle.sftp_transcript.specs.Begun.{number_after_events}
@@ -25,7 +25,7 @@ pub record Audited : Type 0 where
 
 -- the events are sound from the start, and this is kept of them
 pub record StandsFor (start : State) (events : List Event) (a : Audited) : Type 0 where
-  pub sound : Sound Allowed start events a.state
+  pub sound : Sound Permitted start events a.state
   pub kept : a.kept ≡ unsettled (recorded_exchanges events)
   pub number : a.number ≡ number_after_events events
   pub unrefused : a.refusal ≡ None
@@ -43,8 +43,8 @@ pub record IsFirstWrong (start : State) (exchanges : List Exchange) (number : �
       ∷ behind
   pub answered : AreAnswered before
   pub mid : State
-  pub run : Run Allowed start (leading_pairs (ledger_of before)) mid
-  pub wrong : (end : State) → Allowed mid request reply end → ⊥
+  pub run : Run Permitted start (leading_pairs (ledger_of before)) mid
+  pub wrong : (end : State) → Permitted mid request reply end → ⊥
 
 -- where the refusal is `NotAllowed`, this is the state in which the reply is not allowed
 abbrev pub IsWrongIn : State → List Exchange → State → Refusal → Type 0
@@ -88,5 +88,5 @@ RefusesToSettle start exchanges other = ⊥
 
 -- the events are sound from the start, and this is kept of them, whatever the number
 pub record IsNoted (start : State) (events : List Event) (a : Audited) : Type 0 where
-  pub sound : Sound Allowed start events a.state
+  pub sound : Sound Permitted start events a.state
   pub kept : a.kept ≡ unsettled (recorded_exchanges events)

@@ -15,6 +15,8 @@ use Rattle.sftp_tree.specs.Picture.{blank}
 use Rattle.sftp_handles.specs.State.{State}
 use Rattle.sftp_handles.specs.Allowed.{Allowed}
 use Rattle.sftp_handles.specs.Examples.{with_text}
+use Rattle.sftp_profile.specs.Profiles.{strict}
+use Rattle.sftp_profile.specs.State.{begun}
 use Rattle.sftp_transcript.specs.Explained.{Explained}
 use Rattle.sftp_audit.specs.declared.exchanges.Exchange.{Exchange}
 use Rattle.sftp_audit.specs.Audit.{started}
@@ -148,9 +150,9 @@ removal_done_bytes =
 
 -- ---- what an auditor keeps
 
--- it has settled requests that lead to this tree, keeps these exchanges, and the next record has this number
+-- under the strict profile it has settled requests that lead to this tree, keeps these exchanges, and the next record has this number
 abbrev pub auditor_with : Tree → List Exchange → ℕ → Audited
-auditor_with tree kept number = record { state = started tree; kept = kept; number = number; refusal = None }
+auditor_with tree kept number = record { state = begun strict tree; kept = kept; number = number; refusal = None }
 
 -- ---- sessions that are not explained
 

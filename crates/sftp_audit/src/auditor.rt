@@ -1,13 +1,13 @@
 //! The auditor: it is fed the events of a session, one after the other, and sees each once.
 ghost use Rattle.std.specs.Prelude.{◌≡◌, ◌≤◌, List, [], ◌∷◌, ◌++◌, length, Some, None, Ok, Err, OnOk, IfOk, IfErr};
 ghost use Rattle.sftp_tree.specs.Tree.{trim};
-ghost use Rattle.sftp_handles.specs.State.{State};
-ghost use Rattle.sftp_handles.specs.Allowed.{Allowed};
+ghost use Rattle.sftp_profile.specs.Profiles.{strict};
+ghost use Rattle.sftp_profile.specs.State.{State, begun};
+ghost use Rattle.sftp_profile.specs.Permitted.{Permitted};
 ghost use Rattle.sftp_transcript.specs.declared.events.Event.{Event};
 ghost use Rattle.sftp_transcript.specs.Begun.{first_number};
 ghost use Rattle.sftp_transcript.specs.Explained.{Explained, window};
 ghost use Rattle.sftp_audit.specs.declared.errors.Refusal.{Refusal};
-ghost use Rattle.sftp_audit.specs.Audit.{started};
 ghost use Rattle.sftp_audit.specs.Exchanges.{recorded_exchanges};
 ghost use Rattle.sftp_audit.specs.Auditor.{StandsFor, Refuses, LacksReply, IsWrongIn, IsNoted};
 
@@ -16,6 +16,7 @@ use crate::exchanges::RecordedReply;
 use crate::ledger::Ledger;
 use crate::settling::settle;
 use sftp_handles::{GivenTable, Session};
+use sftp_profile::{Judge, Profile};
 use sftp_transcript::Event;
 use sftp_tree::{NoMemory, Tree};
 use std::marker::Model;
@@ -23,12 +24,12 @@ use std::marker::Model;
 /// The number of the first event's record: INIT and VERSION have the numbers 1 and 2.
 const FIRST_NUMBER: u64 = 3;
 
-/// An auditor of one session. It keeps the tree with what is open on it, and the requests from the oldest unanswered
+/// An auditor of one session, under a profile. It keeps the tree with what is open on it, and the requests from the oldest unanswered
 /// one on, at most 1,024, with the replies that came; nothing else of the past. A request is done as soon as it and all
 /// before it have their replies.
 #[derive(Drop)]
 pub struct Auditor {
-    session: Session<GivenTable>,
+    judge: Judge,
     ledger: Ledger,
     /// The number of the next event's record, capped at 2^64 - 1.
     number: u64,
@@ -43,13 +44,13 @@ impl Model for Auditor {
 
     ghost Value = { Audited };
 
-    ghost view = { λ a. record { state = a.session; kept = a.ledger; number = a.number; refusal = a.refusal } };
+    ghost view = { λ a. record { state = a.judge; kept = a.ledger; number = a.number; refusal = a.refusal } };
 
     ghost invariant = { λ a. length a.ledger ≤ window };
 }
 
 impl Auditor {
-    /// An auditor of a session that begins on this tree, with nothing open. The pins that the tree came with are taken
+    /// An auditor of a session that begins on this tree, with nothing open, under the strict profile. The pins that the tree came with are taken
     /// away. The first event is that of record 3.
     ///
     /// # Errors
@@ -57,14 +58,28 @@ impl Auditor {
     /// `NoMemory` if memory runs out.
     pub fn new(tree: Tree) -> Result<Auditor, NoMemory>
         ensures fresh { IfOk result (λ auditor. auditor ≡
-            record { state = started tree; kept = []; number = first_number; refusal = None }) }
+            record { state = begun strict tree; kept = []; number = first_number; refusal = None }) }
         // It stands for no events.
-        ensures stands { IfOk result (StandsFor (started tree) []) }
+        ensures stands { IfOk result (StandsFor (begun strict tree) []) }
+    {
+        Auditor::by(Profile::strict(), tree)
+    }
+
+    /// The same under a profile.
+    ///
+    /// # Errors
+    ///
+    /// `NoMemory` if memory runs out.
+    pub fn by(profile: Profile, tree: Tree) -> Result<Auditor, NoMemory>
+        ensures fresh { IfOk result (λ auditor. auditor ≡
+            record { state = begun profile tree; kept = []; number = first_number; refusal = None }) }
+        // It stands for no events.
+        ensures stands { IfOk result (StandsFor (begun profile tree) []) }
     {
         let alloc = tree.allocator();
-        let session = Session::new(tree)?;
+        let judge = Judge::new(profile, tree)?;
         Ok(Auditor {
-            session,
+            judge,
             ledger: Ledger::new(alloc),
             number: FIRST_NUMBER,
             refusal: None,
@@ -138,7 +153,7 @@ impl Auditor {
                     reply,
                     number: self.number,
                 })?;
-                settle(&mut self.ledger, &mut self.session)
+                settle(&mut self.ledger, &mut self.judge)
             }
         }
     }
@@ -146,9 +161,16 @@ impl Auditor {
     /// The session after the requests that are done. After `NotAllowed` it is the one in which the reply is not
     /// allowed.
     pub fn session(&self) -> &Session<GivenTable>
-        ensures { result.now ≡ self.now.state }
+        ensures { result.now ≡ self.now.state.session }
     {
-        &self.session
+        self.judge.session()
+    }
+
+    /// The profile under which the session is judged.
+    pub fn profile(&self) -> Profile
+        ensures { result ≡ self.now.state.profile }
+    {
+        self.judge.profile()
     }
 
     /// The tree where the session ends, as if what is still open were closed. Does not allocate.
@@ -161,7 +183,8 @@ impl Auditor {
         ensures again { (refusal : Refusal) → self.refusal ≡ Some refusal → result ≡ Err refusal }
         // The events are explained, and the result is the tree where their run ends.
         ensures ended { IfOk result (λ end. (start : State) (events : List Event) → StandsFor start events self
-            → (last : State) × Explained Allowed start events last × (end ≡ trim (record last.tree { pins = [] }))) }
+            → (last : State) × Explained Permitted start events last
+            × (end ≡ trim (record last.session.tree { pins = [] }))) }
         // Otherwise a request has no reply.
         ensures unanswered { IfErr result (λ refusal. (start : State) (events : List Event) →
             StandsFor start events self → LacksReply events refusal) }
@@ -180,7 +203,7 @@ impl Auditor {
             }
             None => {
                 drop(self.ledger);
-                Ok(self.session.into_tree())
+                Ok(self.judge.into_tree())
             }
         }
     }

@@ -3,14 +3,16 @@ ghost use Rattle.std.specs.Prelude.{◌≡◌, ◌≢◌, ℕ, [], List, None, f
 ghost use Rattle.sftp_audit.specs.declared.errors.AuditError.TheVariants.{NoMemory};
 ghost use Rattle.sftp_tree.specs.Tree as values;
 ghost use Rattle.sftp_tree.specs.Picture.{picture};
-ghost use Rattle.sftp_handles.specs.State.{State};
+ghost use Rattle.sftp_profile.specs.State.{State};
 ghost use Rattle.sftp_audit.specs.Auditor.{StandsFor};
-ghost use Rattle.sftp_audit.specs.Audit.{Accounts, IsFirstFault, IsNoJudgement, CountsFailure, IsExcusedBy, IsNew};
+ghost use Rattle.sftp_audit.specs.Audit.{Accounts, AccountsBy, IsFirstFault, IsFirstFaultBy, IsNoJudgement};
+ghost use Rattle.sftp_audit.specs.Audit.{CountsFailure, IsExcusedBy, IsNew};
 ghost use Rattle.sftp_audit.specs.Audit.{HasStart, HasRefused, IsTreeError, JudgesTree};
 ghost use Rattle.sftp_audit.specs.Audit.{IsPlain, WasFed, StopsFeed, request_count, is_request};
 
 use crate::auditor::Auditor;
 use crate::errors::AuditError;
+use sftp_profile::Profile;
 use sftp_transcript::{Event, Memory, Reader, Source};
 use sftp_tree::Tree;
 use std::alloc::Global;
@@ -62,8 +64,37 @@ pub fn audit(alloc: Global, tree: &[u8], transcript: &[u8]) -> Result<Accepted, 
     ensures never_fails { IfErr result (IsExcusedBy false) }
     ensures plain { IfErr result IsPlain }
 {
+    audit_by(alloc, Profile::strict(), tree, transcript)
+}
+
+/// Says the same under a profile: whether it permits every reply of a recorded session. The strict profile permits what
+/// `audit` accepts, and no more.
+///
+/// # Errors
+///
+/// Those of `audit`, where a reply is allowed if the profile permits it.
+pub fn audit_by(
+    alloc: Global,
+    profile: Profile,
+    tree: &[u8],
+    transcript: &[u8],
+) -> Result<Accepted, AuditError>
+    // An accepted session accounts for a run, and the result is the tree where it ends.
+    ensures accepted { IfOk result (λ accepted. (start : values.Tree) × (events : List _) × (end : values.Tree)
+        × AccountsBy profile tree.now transcript.now start events end
+        × (accepted.tree.items ≡ picture end)
+        × (accepted.requests ≡ request_count events)) }
+    // A refused session accounts for no run, unless memory ran out.
+    ensures refused { IfErr result (λ e. e ≢ NoMemory → (start : values.Tree) (events : List _) (end : values.Tree)
+        → AccountsBy profile tree.now transcript.now start events end → ⊥) }
+    // The error is the first fault.
+    ensures first { IfErr result (IsFirstFaultBy profile tree.now transcript.now) }
+    // It is never `Io`, since bytes in memory can be read.
+    ensures never_fails { IfErr result (IsExcusedBy false) }
+    ensures plain { IfErr result IsPlain }
+{
     let mut records = Reader::new(alloc, Memory::new(transcript))?;
-    let audited = audit_stream(alloc, tree, &mut records);
+    let audited = audit_stream_by(alloc, profile, tree, &mut records);
     drop(records);
     audited
 }
@@ -99,8 +130,42 @@ pub fn audit_stream<R: Source>(
     ensures may_fail { records.old.fault ≡ None → IfErr result (IsExcusedBy R.may_fail) }
     ensures plain { IfErr result IsPlain }
 {
+    audit_stream_by(alloc, Profile::strict(), tree, records)
+}
+
+/// Audits a session whose transcript is read from a stream, as `audit_by` does. It keeps what `audit_stream` keeps.
+///
+/// # Errors
+///
+/// Those of `audit_by`, and `Transcript` with `Io` if the source fails, which says nothing about the session.
+pub fn audit_stream_by<R: Source>(
+    alloc: Global,
+    profile: Profile,
+    tree: &[u8],
+    records: &mut Reader<R>,
+) -> Result<Accepted, AuditError>
+    // Of a reader that has read nothing yet, whatever bytes its source has.
+    ensures accepted { IfOk result (λ accepted. (transcript : List ℕ) → IsNew transcript records.old →
+        (start : values.Tree) × (events : List _) × (end : values.Tree)
+        × AccountsBy profile tree.now transcript start events end
+        × (accepted.tree.items ≡ picture end)
+        × (accepted.requests ≡ request_count events)) }
+    ensures refused { IfErr result (λ e. (IsNoJudgement e → ⊥) → (transcript : List ℕ) → IsNew transcript records.old →
+        (start : values.Tree) (events : List _) (end : values.Tree)
+        → AccountsBy profile tree.now transcript start events end → ⊥) }
+    ensures first { IfErr result (λ e. (IsNoJudgement e → ⊥) → (transcript : List ℕ) → IsNew transcript records.old →
+        IsFirstFaultBy profile tree.now transcript e) }
+    // The tree file is judged first, whatever the reader did before.
+    ensures judged { MatchResult result (λ _. HasStart tree.now) (JudgesTree tree.now) }
+    // The source failed once where the error is `Io`, and otherwise never.
+    ensures counts { records.old.fault ≡ None → MatchResult result
+        (λ _. records.new.ahead.failures ≡ records.old.ahead.failures)
+        (λ e. CountsFailure e records.old.ahead.failures records.new.ahead.failures) }
+    ensures may_fail { records.old.fault ≡ None → IfErr result (IsExcusedBy R.may_fail) }
+    ensures plain { IfErr result IsPlain }
+{
     // Dear to prove: it has six ways out, each with all that is promised of an audit.
-    let mut auditor = Auditor::new(Tree::read(alloc, tree)?)?;
+    let mut auditor = Auditor::by(profile, Tree::read(alloc, tree)?)?;
     let requests = match feed_all(&mut auditor, records) {
         Ok(requests) => requests,
         Err(error) => {

@@ -5,6 +5,10 @@ ghost use Rattle.sftp_transcript.specs.declared.events.Event.{Event};
 ghost use Rattle.sftp_tree.specs.Tree.{Tree};
 ghost use Rattle.sftp_handles.specs.State.{State};
 ghost use Rattle.sftp_handles.specs.Allowed.{Allowed};
+ghost use Rattle.sftp_profile.specs.declared.profiles.Profile.{Profile};
+ghost use Rattle.sftp_profile.specs.Profiles.{strict};
+ghost use Rattle.sftp_profile.specs.State as judges;
+ghost use Rattle.sftp_profile.specs.Permitted.{Permitted};
 ghost use Rattle.sftp_transcript.specs.Explained.{Explained, exchanges_of};
 ghost use Rattle.sftp_transcript.specs.Sound.{Sound, IsWaiting};
 ghost use Rattle.sftp_audit.specs.declared.errors.AuditError.{AuditError};
@@ -12,13 +16,34 @@ ghost use Rattle.sftp_audit.specs.declared.errors.AuditError.TheVariants as audi
 ghost use Rattle.sftp_audit.specs.declared.errors.Refusal.{Refusal};
 ghost use Rattle.sftp_audit.specs.declared.errors.Refusal.TheVariants.{NoMemory};
 ghost use Rattle.sftp_audit.specs.Auditor.{Refuses};
-ghost use Rattle.sftp_audit.specs.Audit.{Accounts, IsFirstFault, IsTreeError, IsPlain};
+ghost use Rattle.sftp_audit.specs.Audit.{Accounts, AccountsBy, IsFirstFault, IsFirstFaultBy};
+ghost use Rattle.sftp_audit.specs.Audit.{IsTreeError, IsPlain};
 ghost use Rattle.sftp_audit.specs.Exchanges.{recorded_exchanges, ledger_of};
 
 /// A start and the events of a session fix the end, since each reply fixes the state after it.
 pub fn one_end()
     ensures { (s : State) (events : List Event) (a b : State) →
         Explained Allowed s events a → Explained Allowed s events b → a ≡ b }
+{}
+
+/// The same under a profile, which is a part of the state.
+pub fn one_end_by()
+    ensures { (s : judges.State) (events : List Event) (a b : judges.State) →
+        Explained Permitted s events a → Explained Permitted s events b → a ≡ b }
+{}
+
+/// Under the strict profile bytes account for what they account for strictly, and for no more.
+pub fn strict_accounts()
+    ensures no_more { (tree transcript : List ℕ) (start : Tree) (events : List Event) (end : Tree) →
+        AccountsBy strict tree transcript start events end → Accounts tree transcript start events end }
+    ensures no_less { (tree transcript : List ℕ) (start : Tree) (events : List Event) (end : Tree) →
+        Accounts tree transcript start events end → AccountsBy strict tree transcript start events end }
+{}
+
+/// What bytes account for strictly, they account for under each profile, with the same end.
+pub fn strict_accounts_stay()
+    ensures { (profile : Profile) (tree transcript : List ℕ) (start : Tree) (events : List Event) (end : Tree) →
+        Accounts tree transcript start events end → AccountsBy profile tree transcript start events end }
 {}
 
 /// Bytes account for one run at most: two that account for the same bytes have the same start, the same events and the
@@ -30,6 +55,19 @@ pub fn one_account()
         Accounts tree transcript s events a → Accounts tree transcript u others b → events ≡ others }
     ensures end { (tree transcript : List ℕ) (s u : Tree) (events others : List Event) (a b : Tree) →
         Accounts tree transcript s events a → Accounts tree transcript u others b → a ≡ b }
+{}
+
+/// The same under a profile.
+pub fn one_account_by()
+    ensures start { (profile : Profile) (tree transcript : List ℕ) (s u : Tree) (events others : List Event)
+        (a b : Tree) → AccountsBy profile tree transcript s events a → AccountsBy profile tree transcript u others b →
+        s ≡ u }
+    ensures events { (profile : Profile) (tree transcript : List ℕ) (s u : Tree) (events others : List Event)
+        (a b : Tree) → AccountsBy profile tree transcript s events a → AccountsBy profile tree transcript u others b →
+        events ≡ others }
+    ensures end { (profile : Profile) (tree transcript : List ℕ) (s u : Tree) (events others : List Event)
+        (a b : Tree) → AccountsBy profile tree transcript s events a → AccountsBy profile tree transcript u others b →
+        a ≡ b }
 {}
 
 /// The two readings of "the next reply of its id" are one: what the auditor keeps of a session is, without the numbers
@@ -51,7 +89,7 @@ pub fn explained_when_none_waits()
 
 /// After given events, an event is refused for one reason at most, unless memory runs out.
 pub fn one_refusal()
-    ensures { (start : State) (events : List Event) (event : Event) (a b : Refusal) →
+    ensures { (start : judges.State) (events : List Event) (event : Event) (a b : Refusal) →
         Refuses start events event a → Refuses start events event b → a ≢ NoMemory → b ≢ NoMemory → a ≡ b }
 {}
 
@@ -60,5 +98,12 @@ pub fn one_refusal()
 pub fn one_first_fault()
     ensures { (tree transcript : List ℕ) (a b : AuditError) →
         IsFirstFault tree transcript a → IsFirstFault tree transcript b → IsPlain a → IsPlain b →
+        a ≢ audit_errors.NoMemory → b ≢ audit_errors.NoMemory → (IsTreeError a × IsTreeError b) ⊎ (a ≡ b) }
+{}
+
+/// The same under a profile.
+pub fn one_first_fault_by()
+    ensures { (profile : Profile) (tree transcript : List ℕ) (a b : AuditError) →
+        IsFirstFaultBy profile tree transcript a → IsFirstFaultBy profile tree transcript b → IsPlain a → IsPlain b →
         a ≢ audit_errors.NoMemory → b ≢ audit_errors.NoMemory → (IsTreeError a × IsTreeError b) ⊎ (a ≡ b) }
 {}

@@ -4,8 +4,8 @@ use Rattle.std.proofs.Common.{Option, Some, None, if◌then◌else◌, refl, sym
 use Rattle.std.proofs.lemmas.Bool.{and_parts, and_from, ltb-true, lt-ltb, eq-eqb}
 use Rattle.sftp_wire.specs.declared.packets.Request.{Request}
 use Rattle.sftp_wire.specs.declared.packets.Reply.{Reply}
-use Rattle.sftp_handles.specs.State.{State}
-use Rattle.sftp_handles.specs.Allowed.{Allowed}
+use Rattle.sftp_profile.specs.State.{State}
+use Rattle.sftp_profile.specs.Permitted.{Permitted}
 use Rattle.sftp_transcript.specs.declared.events.Event.{Event}
 use Rattle.sftp_transcript.specs.declared.events.Event.TheVariants.{Asked, Replied}
 use Rattle.sftp_transcript.specs.Explained.{Turn, closed, waiting, broken, after_event, turn_after}
@@ -20,7 +20,8 @@ use Rattle.sftp_audit.specs.declared.errors.Refusal.TheVariants as refusals
 use Rattle.sftp_audit.specs.declared.exchanges.Exchange.{Exchange}
 use Rattle.sftp_audit.specs.Exchanges.{recorded_exchanges, is_answered, is_open, ledger_of}
 use Rattle.sftp_audit.specs.Auditor.{Refuses, LacksReply, IsFirstWrong}
-use Rattle.sftp_audit.proofs.steps.RunEnds.{run_end, run_end-of_run}
+use Rattle.sftp_profile.proofs.Permissions.{permitted-one_end}
+use Rattle.sftp_audit.proofs.steps.StepLaws.{run-one_end}
 use Rattle.sftp_audit.proofs.auditing.Lists.{ledger_of-recorded, is_open-unsettled, leading_pairs-settled}
 use Rattle.sftp_audit.proofs.auditing.Lists.{first_unsettled}
 use Rattle.sftp_audit.proofs.auditing.Turns.{waits_if_open, window-full, run-split, turn_after-append, in_turn-front}
@@ -129,12 +130,12 @@ leading_pairs-more xs ys =
 
 -- a run over more events begins with one over the events
 run_before : (start : State) (xs ys : List Event) (last : State)
-    → Run Allowed start (leading_pairs (exchanges_of (xs ++ ys))) last
-    → (mid : State) × Run Allowed start (leading_pairs (exchanges_of xs)) mid
+    → Run Permitted start (leading_pairs (exchanges_of (xs ++ ys))) last
+    → (mid : State) × Run Permitted start (leading_pairs (exchanges_of xs)) mid
 run_before start xs ys last run =
     let found = leading_pairs-more xs ys in
-    let parts = run-split Allowed start (leading_pairs (exchanges_of xs)) found.others last
-    (subst (λ (l : List (Request × Reply)). Run Allowed start l last) found.are run) in
+    let parts = run-split Permitted start (leading_pairs (exchanges_of xs)) found.others last
+    (subst (λ (l : List (Request × Reply)). Run Permitted start l last) found.are run) in
     (parts.0, parts.1)
 
 -- ---- what explained events begin with is sound
@@ -167,7 +168,7 @@ window_before (Replied reply ∷ xs) ys inside = window_before xs ys inside
 
 -- the events of an explained session are sound up to each of them
 pub sound_prefix : (start : State) (events more : List Event) (last : State)
-    → Explained Allowed start (events ++ more) last → (mid : State) × Sound Allowed start events mid
+    → Explained Permitted start (events ++ more) last → (mid : State) × Sound Permitted start events mid
 sound_prefix start events more last explained =
     let found = run_before start events more last explained.run in (
       found.0,
@@ -180,17 +181,14 @@ sound_prefix start events more last explained =
 
 -- ---- a reply that is not allowed
 
-same_end : (pairs : List (Request × Reply)) (start a b : State) → Run Allowed start pairs a → Run Allowed start pairs b
+same_end : (pairs : List (Request × Reply)) (start a b : State) → Run Permitted start pairs a → Run Permitted start pairs b
     → a ≡ b
 same_end pairs start a b to_a to_b =
-    by (run_end start pairs) (run_end-of_run start pairs a to_a) (run_end-of_run start pairs b to_b)
-  where
-    by : (o : Option State) → o ≡ Some a → o ≡ Some b → a ≡ b
-    by o is_a is_b = cc
+    run-one_end Permitted permitted-one_end pairs start a b to_a to_b
 
 -- no run goes over the first reply that is not allowed
 run_stops : (start : State) (exchanges : List Exchange) (number : ℕ) (end : State)
-    → IsFirstWrong start exchanges number → Run Allowed start (leading_pairs (ledger_of exchanges)) end → ⊥
+    → IsFirstWrong start exchanges number → Run Permitted start (leading_pairs (ledger_of exchanges)) end → ⊥
 unfolding leading_pairs
 run_stops start exchanges number end first run =
     let one : Exchange = record {
@@ -202,28 +200,28 @@ run_stops start exchanges number end first run =
     ++ (first.request, first.reply) ∷ leading_pairs (ledger_of first.behind) =
     ap (λ (xs : List Exchange). leading_pairs (ledger_of xs)) first.exchanges_are
     ∙ leading_pairs-settled first.before (one ∷ first.behind) first.answered in
-    let parts = run-split Allowed start (leading_pairs (ledger_of first.before))
+    let parts = run-split Permitted start (leading_pairs (ledger_of first.before))
     ((first.request, first.reply) ∷ leading_pairs (ledger_of first.behind)) end
-    (subst (λ (l : List (Request × Reply)). Run Allowed start l end) pairs run) in
+    (subst (λ (l : List (Request × Reply)). Run Permitted start l end) pairs run) in
     let mid : parts.0 ≡ first.mid =
     same_end (leading_pairs (ledger_of first.before)) start parts.0 first.mid parts.1 first.run in
-    first.wrong parts.2.0 (subst (λ (s : State). Allowed s first.request first.reply parts.2.0) mid parts.2.1)
+    first.wrong parts.2.0 (subst (λ (s : State). Permitted s first.request first.reply parts.2.0) mid parts.2.1)
 
 wrong_reply : (start : State) (events : List Event) (number : ℕ) (more : List Event) (last : State)
     → IsFirstWrong start (recorded_exchanges events) number
-    → Run Allowed start (leading_pairs (exchanges_of (events ++ more))) last → ⊥
+    → Run Permitted start (leading_pairs (exchanges_of (events ++ more))) last → ⊥
 wrong_reply start events number more last first run =
     let found = run_before start events more last run in
     run_stops start (recorded_exchanges events) number found.0 first
-    (subst (λ (l : List ledgers.Exchange). Run Allowed start (leading_pairs l) found.0)
+    (subst (λ (l : List ledgers.Exchange). Run Permitted start (leading_pairs l) found.0)
     (sym (ledger_of-recorded events)) found.1)
 
 -- ---- what is refused is lost
 
 -- No sound session begins with an event that is refused.
 pub refuses_unsound : (start : State) (events : List Event) (event : Event) (refusal : Refusal) (end : State)
-    → Sound Allowed start events end → Refuses start events event refusal → refusal ≢ refusals.NoMemory
-    → (more : List Event) (last : State) → Sound Allowed start (events ++ event ∷ more) last → ⊥
+    → Sound Permitted start events end → Refuses start events event refusal → refusal ≢ refusals.NoMemory
+    → (more : List Event) (last : State) → Sound Permitted start (events ++ event ∷ more) last → ⊥
 refuses_unsound start events (Asked request) (refusals.UnknownReply number) end sound refuses memory more last whole =
     absurd refuses
 refuses_unsound start events (Asked request) (refusals.IdInUse number) end sound refuses memory more last whole =
@@ -243,7 +241,7 @@ refuses_unsound start events (Replied reply) (refusals.Window number) end sound 
     absurd refuses
 refuses_unsound start events (Replied reply) (refusals.NotAllowed number) end sound refuses memory more last whole =
     wrong_reply start (events ++ Replied reply ∷ []) number more last refuses.1
-    (subst (λ (all : List Event). Run Allowed start (leading_pairs (exchanges_of all)) last)
+    (subst (λ (all : List Event). Run Permitted start (leading_pairs (exchanges_of all)) last)
     (sym (one_more_event events (Replied reply) more)) whole.run)
 refuses_unsound start events (Replied reply) (refusals.Unanswered number) end sound refuses memory more last whole =
     absurd refuses
@@ -251,11 +249,11 @@ refuses_unsound start events (Replied reply) refusals.NoMemory end sound refuses
 
 -- No session that begins with an event that is refused is explained.
 pub refuses_lost : (start : State) (events : List Event) (event : Event) (refusal : Refusal) (end : State)
-    → Sound Allowed start events end → Refuses start events event refusal → refusal ≢ refusals.NoMemory
-    → (more : List Event) (last : State) → Explained Allowed start (events ++ event ∷ more) last → ⊥
+    → Sound Permitted start events end → Refuses start events event refusal → refusal ≢ refusals.NoMemory
+    → (more : List Event) (last : State) → Explained Permitted start (events ++ event ∷ more) last → ⊥
 refuses_lost start events event refusal end sound refuses memory more last explained =
     refuses_unsound start events event refusal end sound refuses memory more last
-    (sound_by Allowed start (events ++ event ∷ more) last explained)
+    (sound_by Permitted start (events ++ event ∷ more) last explained)
 
 first_is_open : (x : Exchange) (others : List Exchange) → is_answered x ≡ false
     → is_open x.request.id (x ∷ others) ≡ true
@@ -266,8 +264,8 @@ first_is_open x others waits =
 
 -- A session is not explained where a request has no reply.
 pub lacks_lost : (start : State) (events : List Event) (refusal : Refusal) (end : State)
-    → Sound Allowed start events end → LacksReply events refusal → (last : State)
-    → Explained Allowed start events last → ⊥
+    → Sound Permitted start events end → LacksReply events refusal → (last : State)
+    → Explained Permitted start events last → ⊥
 lacks_lost start events (refusals.Unanswered number) end sound lacks last explained =
     let x = lacks.0 in
     let opened : is_open x.request.id (recorded_exchanges events) ≡ true =

@@ -5,8 +5,8 @@ use Rattle.std.proofs.Common.{sym, ap, subst, ◌∙◌, inl, inr}
 use Rattle.std.specs.Option.{option_map}
 use Rattle.sftp_wire.specs.declared.packets.Request.{Request}
 use Rattle.sftp_wire.specs.declared.packets.Reply.{Reply}
-use Rattle.sftp_handles.specs.State.{State}
-use Rattle.sftp_handles.specs.Allowed.{Allowed}
+use Rattle.sftp_profile.specs.State.{State}
+use Rattle.sftp_profile.specs.Permitted.{Permitted}
 use Rattle.sftp_transcript.specs.declared.events.Event.{Event}
 use Rattle.sftp_transcript.specs.declared.events.Event.TheVariants.{Asked, Replied}
 use Rattle.sftp_transcript.specs.Begun.{number_after_events}
@@ -18,7 +18,7 @@ use Rattle.sftp_audit.specs.declared.exchanges.RecordedReply.{RecordedReply}
 use Rattle.sftp_audit.specs.declared.exchanges.Exchange.{Exchange}
 use Rattle.sftp_audit.specs.Exchanges.{recorded_exchanges, is_answered, AreAnswered, reply_of, ledger_of}
 use Rattle.sftp_audit.specs.Auditor.{IsFirstWrong, Refuses}
-use Rattle.sftp_audit.proofs.steps.RunEnds.{step_end, step_end-of_allowed}
+use Rattle.sftp_profile.proofs.Permissions.{permitted-one_end}
 
 -- ---- the first step of a run
 
@@ -26,12 +26,12 @@ record FirstStep (start : State) (x : Exchange) (others : List Exchange) (end : 
   reply : RecordedReply
   reply_is : x.reply ≡ Some reply
   mid : State
-  allowed : Allowed start x.request reply.reply mid
-  run : Run Allowed mid (leading_pairs (ledger_of others)) end
+  allowed : Permitted start x.request reply.reply mid
+  run : Run Permitted mid (leading_pairs (ledger_of others)) end
 
 first_step_by : (start : State) (x : Exchange) (others : List Exchange) (end : State) (reply : Option RecordedReply)
     → x.reply ≡ reply → is_some reply ≡ true
-    → Run Allowed start (leading_pairs ((x.request, option_map reply_of reply) ∷ ledger_of others)) end
+    → Run Permitted start (leading_pairs ((x.request, option_map reply_of reply) ∷ ledger_of others)) end
     → FirstStep start x others end
 unfolding leading_pairs
 first_step_by start x others end None is answered run = absurd cc
@@ -39,30 +39,25 @@ first_step_by start x others end (Some reply) is answered run =
     record { reply = reply; reply_is = is; mid = run.0; allowed = run.1; run = run.2 }
 
 first_step : (start : State) (x : Exchange) (others : List Exchange) (end : State) → IsTrue (is_answered x)
-    → Run Allowed start (leading_pairs (ledger_of (x ∷ others))) end → FirstStep start x others end
+    → Run Permitted start (leading_pairs (ledger_of (x ∷ others))) end → FirstStep start x others end
 first_step start x others end answered run = first_step_by start x others end x.reply refl answered run
-
-same_state : (o : Option State) (a b : State) → o ≡ Some a → o ≡ Some b → a ≡ b
-same_state o a b is_a is_b = cc
 
 same_reply : (o : Option RecordedReply) (a b : RecordedReply) → o ≡ Some a → o ≡ Some b → a ≡ b
 same_reply o a b is_a is_b = cc
 
 -- a reply leads to one state
 same_mid : (start : State) (request : Request) (a b : RecordedReply) (to_a to_b : State) → a ≡ b
-    → Allowed start request a.reply to_a → Allowed start request b.reply to_b → to_a ≡ to_b
+    → Permitted start request a.reply to_a → Permitted start request b.reply to_b → to_a ≡ to_b
 same_mid start request a b to_a to_b same by_a by_b =
-    let with_a : Allowed start request a.reply to_b =
-    subst (λ (r : RecordedReply). Allowed start request r.reply to_b) (sym same) by_b in
-    same_state (step_end start request a.reply) to_a to_b (step_end-of_allowed start request a.reply to_a by_a)
-    (step_end-of_allowed start request a.reply to_b with_a)
+    permitted-one_end start request a.reply to_a to_b by_a
+    (subst (λ (r : RecordedReply). Permitted start request r.reply to_b) (sym same) by_b)
 
 -- ---- the first reply that is not allowed
 
 record IsWrong (mid : State) (x : Exchange) : Type 0 where
   reply : RecordedReply
   reply_is : x.reply ≡ Some reply
-  wrong : (end : State) → Allowed mid x.request reply.reply end → ⊥
+  wrong : (end : State) → Permitted mid x.request reply.reply end → ⊥
 
 -- what is wrong is not the first step of a run
 not_wrong : (start mid : State) (x y : Exchange) (others : List Exchange) (end : State) → mid ≡ start → x ≡ y
@@ -72,7 +67,7 @@ not_wrong start mid x y others end here same wrong step =
     let reply : step.reply ≡ wrong_y.reply =
     same_reply y.reply step.reply wrong_y.reply step.reply_is wrong_y.reply_is in
     wrong_y.wrong step.mid
-    (subst (λ (r : RecordedReply). Allowed start y.request r.reply step.mid) reply step.allowed)
+    (subst (λ (r : RecordedReply). Permitted start y.request r.reply step.mid) reply step.allowed)
 
 same_head : (x y : Exchange) (xs ys : List Exchange) → x ∷ xs ≡ y ∷ ys → x ≡ y
 same_head x y xs ys same = cc
@@ -82,7 +77,7 @@ same_tail x y xs ys same = cc
 
 one_wrong : (start : State) (b c : List Exchange) (x y : Exchange) (behind_b behind_c : List Exchange)
     (mid_b mid_c : State) → b ++ x ∷ behind_b ≡ c ++ y ∷ behind_c → AreAnswered b → AreAnswered c
-    → Run Allowed start (leading_pairs (ledger_of b)) mid_b → Run Allowed start (leading_pairs (ledger_of c)) mid_c
+    → Run Permitted start (leading_pairs (ledger_of b)) mid_b → Run Permitted start (leading_pairs (ledger_of c)) mid_c
     → IsWrong mid_b x → IsWrong mid_c y → x ≡ y
 unfolding leading_pairs
 one_wrong start [] [] x y behind_b behind_c mid_b mid_c same all_b all_c run_b run_c wrong_b wrong_c =
@@ -104,7 +99,7 @@ one_wrong start (z ∷ b) (w ∷ c) x y behind_b behind_c mid_b mid_c same all_b
     same_mid start z.request step_b.reply step_c.reply step_b.mid step_c.mid reply step_b.allowed step_c.allowed in
     one_wrong step_b.mid b c x y behind_b behind_c mid_b mid_c
     (same_tail z w (b ++ x ∷ behind_b) (c ++ y ∷ behind_c) same) all_b.1 all_c.1 step_b.run
-    (subst (λ (m : State). Run Allowed m (leading_pairs (ledger_of c)) mid_c) (sym mid) step_c.run) wrong_b wrong_c
+    (subst (λ (m : State). Run Permitted m (leading_pairs (ledger_of c)) mid_c) (sym mid) step_c.run) wrong_b wrong_c
 
 number_of : (x y : Exchange) (r q : RecordedReply) → x.reply ≡ Some r → y.reply ≡ Some q → x ≡ y → r.number ≡ q.number
 number_of x y r q is_r is_q same = cc

@@ -3,8 +3,8 @@ use Rattle.std.proofs.Common.{◌≡◌, true, List, [], ◌∷◌, ◌++◌, Op
 use Rattle.std.proofs.Common.{refl, sym, ap, ◌∙◌, append_assoc}
 use Rattle.std.proofs.lemmas.List.{append-nil}
 use Rattle.std.proofs.lemmas.Option.{none-some, same_Some}
-use Rattle.sftp_handles.specs.State.{State}
-use Rattle.sftp_handles.specs.Allowed.{Allowed}
+use Rattle.sftp_profile.specs.State.{State}
+use Rattle.sftp_profile.specs.Permitted.{Permitted}
 use Rattle.sftp_transcript.specs.Explained.{Run, leading_pairs}
 use Rattle.sftp_audit.specs.declared.exchanges.RecordedReply.{RecordedReply}
 use Rattle.sftp_audit.specs.declared.exchanges.Exchange.{Exchange}
@@ -25,7 +25,7 @@ pub record IsDoneTo (start : State) (old now : List Exchange) (mid : State) : Ty
   pub before : List Exchange
   pub answered : AreAnswered before
   pub exchanges_are : old ≡ before ++ now
-  pub run : Run Allowed start (leading_pairs (ledger_of before)) mid
+  pub run : Run Permitted start (leading_pairs (ledger_of before)) mid
 
 pub done-start : (s : State) (xs : List Exchange) → IsDoneTo s xs xs s
 unfolding leading_pairs
@@ -34,13 +34,13 @@ done-start s xs = record { before = []; answered = tt; exchanges_are = refl; run
 -- the next exchange of what is left, whose reply is allowed, is done
 pub done-more : (start mid end : State) (old now : List Exchange) (x : Exchange) (r : RecordedReply)
     → IsDoneTo start old now mid → Some x ≡ slice_get now 0 → x.reply ≡ Some r
-    → Allowed mid x.request r.reply end → IsDoneTo start old (drop 1 now) end
+    → Permitted mid x.request r.reply end → IsDoneTo start old (drop 1 now) end
 unfolding leading_pairs
 done-more start mid end old [] x r done at is allowed = absurd (none-some x (sym at))
 done-more start mid end old (y ∷ rest) x r done at is allowed =
     let same : y ≡ x = same_Some y x (sym at) in
     let answered : is_answered x ≡ true = ap is_some is in
-    let run : Run Allowed mid (leading_pairs (ledger_of (x ∷ []))) end = rw is (end, allowed, refl) in
+    let run : Run Permitted mid (leading_pairs (ledger_of (x ∷ []))) end = rw is (end, allowed, refl) in
     record {
       before = done.before ++ x ∷ [];
       answered = answered-append done.before (x ∷ []) done.answered (answered, tt);
@@ -48,14 +48,14 @@ done-more start mid end old (y ∷ rest) x r done at is allowed =
           ∙ ap (λ (z : Exchange). done.before ++ z ∷ rest) same
           ∙ sym (append_assoc done.before (x ∷ []) rest);
       run = rw (leading_pairs-settled done.before (x ∷ []) done.answered)
-          (run-append Allowed start (leading_pairs (ledger_of done.before)) mid (leading_pairs (ledger_of (x ∷ [])))
+          (run-append Permitted start (leading_pairs (ledger_of done.before)) mid (leading_pairs (ledger_of (x ∷ [])))
           end done.run run);
     }
 
 -- its reply is the first of all that is not allowed
 pub done-wrong : (start mid : State) (old now : List Exchange) (x : Exchange) (r : RecordedReply)
     → IsDoneTo start old now mid → Some x ≡ slice_get now 0 → x.reply ≡ Some r
-    → ((end : State) → Allowed mid x.request r.reply end → ⊥) → IsFirstWrong start old r.number
+    → ((end : State) → Permitted mid x.request r.reply end → ⊥) → IsFirstWrong start old r.number
 done-wrong start mid old [] x r done at is wrong = absurd (none-some x (sym at))
 done-wrong start mid old (y ∷ rest) x r done at is wrong = record {
   before = done.before;
@@ -75,7 +75,7 @@ done-wrong start mid old (y ∷ rest) x r done at is wrong = record {
 -- and it is not allowed in the state after those before it
 pub done-wrong_in : (start mid end : State) (old now : List Exchange) (x : Exchange) (r : RecordedReply)
     → IsDoneTo start old now mid → Some x ≡ slice_get now 0 → x.reply ≡ Some r
-    → ((end : State) → Allowed mid x.request r.reply end → ⊥) → end ≡ mid
+    → ((end : State) → Permitted mid x.request r.reply end → ⊥) → end ≡ mid
     → (wrong : IsFirstWrong start old r.number) × (wrong.mid ≡ end)
 unfolding done-wrong
 done-wrong_in start mid end old [] x r done at is wrong same = absurd (none-some x (sym at))
@@ -101,7 +101,7 @@ done-kept start mid old now done is =
     sym is ∙ sym (unsettled-answered done.before now done.answered) ∙ ap unsettled (sym done.exchanges_are)
 
 pub done-ran : (start mid : State) (old now : List Exchange) → IsDoneTo start old now mid → unsettled now ≡ now
-    → Run Allowed start (leading_pairs (ledger_of old)) mid
+    → Run Permitted start (leading_pairs (ledger_of old)) mid
 done-ran start mid old now done is =
     let none : leading_pairs (ledger_of now) ≡ [] =
     ap (λ (xs : List Exchange). leading_pairs (ledger_of xs)) (sym is) ∙ leading_pairs-unsettled now in

@@ -5,8 +5,8 @@ use Rattle.std.proofs.Common.{Result, OnOk, IfErr, refl, sym, ap, ◌∙◌, sub
 use Rattle.std.proofs.lemmas.List.{append-nil}
 use Rattle.sftp_wire.specs.declared.packets.Request.{Request}
 use Rattle.sftp_wire.specs.declared.packets.Reply.{Reply}
-use Rattle.sftp_handles.specs.State.{State}
-use Rattle.sftp_handles.specs.Allowed.{Allowed}
+use Rattle.sftp_profile.specs.State.{State}
+use Rattle.sftp_profile.specs.Permitted.{Permitted}
 use Rattle.sftp_transcript.specs.declared.events.Event.{Event}
 use Rattle.sftp_transcript.specs.declared.events.Event.TheVariants.{Asked, Replied}
 use Rattle.sftp_transcript.specs.Begun.{first_number, number_after_events}
@@ -88,7 +88,7 @@ noted-asked start events request old new stands none room kept same =
     let turn = closed_of start events old request.id stands none in
     let few : length (unsettled (recorded_exchanges events)) < window =
     subst (λ (xs : List Exchange). length xs < window) stands.kept room in
-    let run : Run Allowed start (leading_pairs (exchanges_of (events ++ Asked request ∷ []))) new.state =
+    let run : Run Permitted start (leading_pairs (exchanges_of (events ++ Asked request ∷ []))) new.state =
     rw (asked_pairs events request, same) stands.sound.run in
     let one : ℕ → Exchange = λ n. record { request = request; number = n; reply = None } in
     let are : new.kept ≡ unsettled (recorded_exchanges (events ++ Asked request ∷ [])) =
@@ -127,7 +127,7 @@ refused-asked start events request old refusals.NoMemory stands r = r
 record Answered (start : State) (events : List Event) (reply : Reply) (old : Audited) : Type 0 where
   before : List Exchange
   answered : AreAnswered before
-  run : Run Allowed start (leading_pairs (ledger_of before)) old.state
+  run : Run Permitted start (leading_pairs (ledger_of before)) old.state
   recorded : recorded_exchanges (events ++ Replied reply ∷ [])
       ≡ before ++ with_reply (record { reply = reply; number = old.number }) old.kept
 
@@ -148,7 +148,7 @@ answered_of start events reply old stands =
     record {
       before = parts.0;
       answered = parts.1;
-      run = subst (λ (xs : List (Request × Reply)). Run Allowed start xs old.state) pairs stands.sound.run;
+      run = subst (λ (xs : List (Request × Reply)). Run Permitted start xs old.state) pairs stands.sound.run;
       recorded = recorded-replied events reply
           ∙ ap (λ (n : ℕ). with_reply (given n) (recorded_exchanges events)) (sym stands.number)
           ∙ ap (with_reply (given old.number)) all
@@ -160,7 +160,7 @@ answered_of start events reply old stands =
 pub noted-replied : (start : State) (events : List Event) (reply : Reply) (old : Audited) (kept : List Exchange)
     (new : Audited) → StandsFor start events old → is_open reply.id old.kept ≡ true
     → kept ≡ with_reply (record { reply = reply; number = old.number }) old.kept → new.kept ≡ unsettled kept
-    → Run Allowed old.state (leading_pairs (ledger_of kept)) new.state
+    → Run Permitted old.state (leading_pairs (ledger_of kept)) new.state
     → IsNoted start (events ++ Replied reply ∷ []) new
 noted-replied start events reply old kept new stands waits replied settled run =
     let turn = waiting_of start events old reply.id stands waits in
@@ -178,8 +178,8 @@ noted-replied start events reply old kept new stands waits replied settled run =
       sound = record {
         in_turn = in_turn-replied events reply stands.sound.in_turn turn;
         within_window = window-replied events reply stands.sound.within_window stands.sound.in_turn turn;
-        run = subst (λ (xs : List (Request × Reply)). Run Allowed start xs new.state) pairs
-            (run-append Allowed start settled_pairs old.state more_pairs new.state a.run run);
+        run = subst (λ (xs : List (Request × Reply)). Run Permitted start xs new.state) pairs
+            (run-append Permitted start settled_pairs old.state more_pairs new.state a.run run);
       };
       kept = settled ∙ sym (unsettled-answered a.before kept a.answered) ∙ ap unsettled (sym all);
     }
@@ -229,9 +229,9 @@ refused-settling start events reply old kept (refusals.NotAllowed number) stands
             ∙ sym (append_assoc a.before r.before (one ∷ r.behind));
         answered = both_answered a.before r.before a.answered r.answered;
         mid = r.mid;
-        run = subst (λ (xs : List (Request × Reply)). Run Allowed start xs r.mid)
+        run = subst (λ (xs : List (Request × Reply)). Run Permitted start xs r.mid)
             (sym (leading_pairs-settled a.before r.before a.answered))
-            (run-append Allowed start settled_pairs old.state more_pairs r.mid a.run r.run);
+            (run-append Permitted start settled_pairs old.state more_pairs r.mid a.run r.run);
         wrong = r.wrong;
       },
     )
@@ -313,7 +313,7 @@ pub result-settled : {T : Type 0} (result : Result T Refusal) (event : Event) (r
     (seen old : Audited) (kept : List Exchange) (new : Audited) → event ≡ Replied reply → old ≡ seen
     → is_open reply.id old.kept ≡ true → kept ≡ with_reply (record { reply = reply; number = old.number }) old.kept
     → OnOk result (new.kept ≡ unsettled kept)
-    → OnOk result (Run Allowed old.state (leading_pairs (ledger_of kept)) new.state)
+    → OnOk result (Run Permitted old.state (leading_pairs (ledger_of kept)) new.state)
     → OnOk result ((start : State) (events : List Event) → StandsFor start events seen
     → IsNoted start (events ++ event ∷ []) new)
 result-settled (Ok x) event reply seen old kept new is view waits replied settled run = λ start events stands.
@@ -386,7 +386,7 @@ others_of (y ∷ xs) x is = (xs, let same : y ≡ x = cc in ap (λ (z : Exchange
 
 -- where nothing is kept, the events are explained
 pub explained-settled : (start : State) (events : List Event) (old : Audited) → StandsFor start events old
-    → slice_get old.kept 0 ≡ None → Explained Allowed start events old.state
+    → slice_get old.kept 0 ≡ None → Explained Permitted start events old.state
 unfolding is_open
 explained-settled start events old stands none = record {
   matching = λ id. closed_of start events old id stands (ap (is_open id) (nothing_first old.kept none));

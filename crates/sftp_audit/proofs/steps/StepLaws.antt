@@ -1,18 +1,36 @@
--- Laws of runs: a start and the events fix the end.
-use Rattle.std.proofs.Common.{◌≡◌, List, Option, Some}
+-- Laws of runs: a start and the events fix the end, whatever the machine, if each step fixes the state after it.
+use Rattle.std.proofs.Common.{◌≡◌, List, [], ◌∷◌, Option, Some, sym, subst, ◌∙◌}
 use Rattle.sftp_wire.specs.declared.packets.Request.{Request}
 use Rattle.sftp_wire.specs.declared.packets.Reply.{Reply}
-use Rattle.sftp_transcript.specs.declared.events.Event.{Event}
 use Rattle.sftp_handles.specs.State.{State}
-use Rattle.sftp_handles.specs.Allowed.{Allowed}
-use Rattle.sftp_transcript.specs.Explained.{exchanges_of, leading_pairs, Explained}
-use Rattle.sftp_audit.proofs.steps.RunEnds.{run_end, run_end-of_run}
+use Rattle.sftp_handles.specs.Allowed.{Allowed, step}
+use Rattle.sftp_handles.proofs.Steps.{allowed-step}
+use Rattle.sftp_transcript.specs.declared.events.Event.{Event}
+use Rattle.sftp_transcript.specs.Explained.{exchanges_of, leading_pairs, StepOf, Run, Explained}
+
+-- a state, a request and its reply fix the state after them
+abbrev pub HasOneEnd : {S : Type 0} → StepOf S → Type 0
+HasOneEnd {S} step =
+    (s : S) (request : Request) (reply : Reply) (a b : S) → step s request reply a → step s request reply b → a ≡ b
+
+pub run-one_end : {S : Type 0} (step : StepOf S) → HasOneEnd step → (pairs : List (Request × Reply)) (start a b : S)
+    → Run step start pairs a → Run step start pairs b → a ≡ b
+run-one_end step one [] start a b to_a to_b = to_a ∙ sym to_b
+run-one_end {S} step one (pair ∷ pairs) start a b to_a to_b =
+    let mid : to_b.0 ≡ to_a.0 = one start pair.0 pair.1 to_b.0 to_a.0 to_b.1 to_a.1 in
+    run-one_end step one pairs to_a.0 a b to_a.2 (subst (λ (m : S). Run step m pairs b) mid to_b.2)
+
+pub explained-one_end : {S : Type 0} (step : StepOf S) → HasOneEnd step → (s : S) (events : List Event) (a b : S)
+    → Explained step s events a → Explained step s events b → a ≡ b
+explained-one_end step one s events a b to_a to_b =
+    run-one_end step one (leading_pairs (exchanges_of events)) s a b to_a.run to_b.run
+
+-- ---- strictly
 
 same_end : (o : Option State) (a b : State) → o ≡ Some a → o ≡ Some b → a ≡ b
 same_end o a b is_a is_b = cc
 
-pub explained-one_end : (s : State) (events : List Event) (a b : State) → Explained Allowed s events a
-    → Explained Allowed s events b → a ≡ b
-explained-one_end s events a b to_a to_b =
-    let pairs : List (Request × Reply) = leading_pairs (exchanges_of events) in
-    same_end (run_end s pairs) a b (run_end-of_run s pairs a to_a.run) (run_end-of_run s pairs b to_b.run)
+pub allowed-one_end : HasOneEnd Allowed
+allowed-one_end s request reply a b to_a to_b =
+    same_end (step s request.ask reply.answer) a b (allowed-step s request reply a to_a)
+    (allowed-step s request reply b to_b)

@@ -6,8 +6,9 @@ use Rattle.sftp_wire.proofs.StreamLaws.Front.{spellings-apart}
 use Rattle.sftp_tree.specs.Tree.{Tree}
 use Rattle.sftp_tree.specs.Picture.{IsStart}
 use Rattle.sftp_tree.proofs.TreeFiles.Files.{one_start}
-use Rattle.sftp_handles.specs.State.{State}
-use Rattle.sftp_handles.specs.Allowed.{Allowed}
+use Rattle.sftp_profile.specs.declared.profiles.Profile.{Profile}
+use Rattle.sftp_profile.specs.State.{State, begun}
+use Rattle.sftp_profile.specs.Permitted.{Permitted}
 use Rattle.sftp_transcript.specs.declared.errors.TranscriptError.{TranscriptError}
 use Rattle.sftp_transcript.specs.declared.errors.TranscriptError.TheVariants as transcript_errors
 use Rattle.sftp_transcript.specs.declared.events.Event.{Event}
@@ -21,7 +22,7 @@ use Rattle.sftp_audit.specs.declared.errors.Refusal.{Refusal}
 use Rattle.sftp_audit.specs.declared.errors.Refusal.TheVariants as refusals
 use Rattle.sftp_audit.specs.declared.exchanges.Exchange.{Exchange}
 use Rattle.sftp_audit.specs.Auditor.{Refuses, LacksReply, IsOldestOpen}
-use Rattle.sftp_audit.specs.Audit.{started, RefusedAt, RefusedAtEnd, FaultAt, IsFirstFault, IsTreeError, IsPlain}
+use Rattle.sftp_audit.specs.Audit.{RefusedAt, RefusedAtEnd, FaultAt, IsFirstFaultBy, IsTreeError, IsPlain}
 use Rattle.sftp_audit.proofs.auditing.Lost.{refuses_unsound}
 use Rattle.sftp_audit.proofs.auditing.Refusals.{one_refusal}
 
@@ -61,11 +62,11 @@ last_or_before (w ∷ ws) (z ∷ zs) more x y same =
 
 -- a session that is sound goes past no event that is refused
 not_before : (start : State) (transcript : List ℕ) (refusal : Refusal) (events : List Event) (end : State)
-    → refusal ≢ refusals.NoMemory → (at : RefusedAt start transcript refusal) → Sound Allowed start events end
+    → refusal ≢ refusals.NoMemory → (at : RefusedAt start transcript refusal) → Sound Permitted start events end
     → Before at.events at.event events → ⊥
 not_before start transcript refusal events end apart at sound before =
     refuses_unsound start at.events at.event refusal at.end at.sound at.refuses apart before.between end
-    (subst (λ (l : List Event). Sound Allowed start l end) before.are sound)
+    (subst (λ (l : List Event). Sound Permitted start l end) before.are sound)
 
 at_one : (start : State) (transcript : List ℕ) (a b : Refusal) → a ≢ refusals.NoMemory → b ≢ refusals.NoMemory
     → (one : RefusedAt start transcript a) (other : RefusedAt start transcript b)
@@ -172,35 +173,35 @@ unlike_refusal other plain same = absurd cc
 same_start : (tree : List ℕ) (t u : Tree) → IsStart t tree → IsStart u tree → u ≡ t
 same_start tree t u of_t of_u = one_start u t tree of_u of_t
 
-pub one_first_fault : (tree transcript : List ℕ) (a b : AuditError) → IsFirstFault tree transcript a
-    → IsFirstFault tree transcript b → IsPlain a → IsPlain b → a ≢ audit_errors.NoMemory → b ≢ audit_errors.NoMemory
+pub one_first_fault : (profile : Profile) (tree transcript : List ℕ) (a b : AuditError)
+    → IsFirstFaultBy profile tree transcript a → IsFirstFaultBy profile tree transcript b → IsPlain a → IsPlain b → a ≢ audit_errors.NoMemory → b ≢ audit_errors.NoMemory
     → (IsTreeError a × IsTreeError b) ⊎ (a ≡ b)
-one_first_fault tree transcript audit_errors.NoMemory b for_a for_b plain_a plain_b not_a not_b = absurd (not_a refl)
-one_first_fault tree transcript a audit_errors.NoMemory for_a for_b plain_a plain_b not_a not_b = absurd (not_b refl)
-one_first_fault tree transcript (audit_errors.Tree e) (audit_errors.Tree f) for_a for_b plain_a plain_b not_a not_b =
+one_first_fault profile tree transcript audit_errors.NoMemory b for_a for_b plain_a plain_b not_a not_b = absurd (not_a refl)
+one_first_fault profile tree transcript a audit_errors.NoMemory for_a for_b plain_a plain_b not_a not_b = absurd (not_b refl)
+one_first_fault profile tree transcript (audit_errors.Tree e) (audit_errors.Tree f) for_a for_b plain_a plain_b not_a not_b =
     inl (tt, tt)
-one_first_fault tree transcript (audit_errors.Tree e) (audit_errors.Transcript f) for_a for_b plain_a plain_b not_a not_b =
+one_first_fault profile tree transcript (audit_errors.Tree e) (audit_errors.Transcript f) for_a for_b plain_a plain_b not_a not_b =
     absurd (for_a (for_b.0, for_b.1))
-one_first_fault tree transcript (audit_errors.Tree e) (audit_errors.Refused f) for_a for_b plain_a plain_b not_a not_b =
+one_first_fault profile tree transcript (audit_errors.Tree e) (audit_errors.Refused f) for_a for_b plain_a plain_b not_a not_b =
     absurd (for_a (for_b.0, for_b.1))
-one_first_fault tree transcript (audit_errors.Transcript e) (audit_errors.Tree f) for_a for_b plain_a plain_b not_a not_b =
+one_first_fault profile tree transcript (audit_errors.Transcript e) (audit_errors.Tree f) for_a for_b plain_a plain_b not_a not_b =
     absurd (for_b (for_a.0, for_a.1))
-one_first_fault tree transcript (audit_errors.Transcript e) (audit_errors.Transcript f) for_a for_b plain_a plain_b not_a not_b =
+one_first_fault profile tree transcript (audit_errors.Transcript e) (audit_errors.Transcript f) for_a for_b plain_a plain_b not_a not_b =
     let same = one_fault transcript for_a.2.events for_b.2.events e f for_a.2.fault for_b.2.fault (unlike_fault e plain_a)
     (unlike_fault f plain_b) in
     inr (ap (λ (x : TranscriptError). audit_errors.Transcript x) same.1)
-one_first_fault tree transcript (audit_errors.Transcript e) (audit_errors.Refused f) for_a for_b plain_a plain_b not_a not_b =
+one_first_fault profile tree transcript (audit_errors.Transcript e) (audit_errors.Refused f) for_a for_b plain_a plain_b not_a not_b =
     let start : for_b.0 ≡ for_a.0 = same_start tree for_a.0 for_b.0 for_a.1 for_b.1 in
-    absurd (fault_alone (started for_a.0) transcript e f (unlike_fault e plain_a) (unlike_refusal f plain_b) for_a.2
-    (subst (λ (t : Tree). IsRefused (started t) transcript f) start for_b.2))
-one_first_fault tree transcript (audit_errors.Refused e) (audit_errors.Tree f) for_a for_b plain_a plain_b not_a not_b =
+    absurd (fault_alone (begun profile for_a.0) transcript e f (unlike_fault e plain_a) (unlike_refusal f plain_b) for_a.2
+    (subst (λ (t : Tree). IsRefused (begun profile t) transcript f) start for_b.2))
+one_first_fault profile tree transcript (audit_errors.Refused e) (audit_errors.Tree f) for_a for_b plain_a plain_b not_a not_b =
     absurd (for_b (for_a.0, for_a.1))
-one_first_fault tree transcript (audit_errors.Refused e) (audit_errors.Transcript f) for_a for_b plain_a plain_b not_a not_b =
+one_first_fault profile tree transcript (audit_errors.Refused e) (audit_errors.Transcript f) for_a for_b plain_a plain_b not_a not_b =
     let start : for_a.0 ≡ for_b.0 = same_start tree for_b.0 for_a.0 for_b.1 for_a.1 in
-    absurd (fault_alone (started for_b.0) transcript f e (unlike_fault f plain_b) (unlike_refusal e plain_a) for_b.2
-    (subst (λ (t : Tree). IsRefused (started t) transcript e) start for_a.2))
-one_first_fault tree transcript (audit_errors.Refused e) (audit_errors.Refused f) for_a for_b plain_a plain_b not_a not_b =
+    absurd (fault_alone (begun profile for_b.0) transcript f e (unlike_fault f plain_b) (unlike_refusal e plain_a) for_b.2
+    (subst (λ (t : Tree). IsRefused (begun profile t) transcript e) start for_a.2))
+one_first_fault profile tree transcript (audit_errors.Refused e) (audit_errors.Refused f) for_a for_b plain_a plain_b not_a not_b =
     let start : for_b.0 ≡ for_a.0 = same_start tree for_a.0 for_b.0 for_a.1 for_b.1 in
     inr (ap (λ (x : Refusal). audit_errors.Refused x)
-    (one_refused (started for_a.0) transcript e f (unlike_refusal e plain_a) (unlike_refusal f plain_b) for_a.2
-    (subst (λ (t : Tree). IsRefused (started t) transcript f) start for_b.2)))
+    (one_refused (begun profile for_a.0) transcript e f (unlike_refusal e plain_a) (unlike_refusal f plain_b) for_a.2
+    (subst (λ (t : Tree). IsRefused (begun profile t) transcript f) start for_b.2)))

@@ -12,7 +12,7 @@ use Rattle.sftp_transcript.specs.Explained.{exchanges_of}
 use Rattle.sftp_transcript.specs.Recorded.{Reading}
 use Rattle.sftp_transcript.specs.Transcript.{IsRecord}
 use Rattle.sftp_transcript.proofs.transcripts.Beginnings.{record_from_beginning}
-use Rattle.sftp_handles.specs.State.{State}
+use Rattle.sftp_profile.specs.State.{State}
 use Rattle.sftp_audit.specs.declared.errors.Refusal.{Refusal}
 use Rattle.sftp_audit.specs.declared.errors.Refusal.TheVariants as refusals
 use Rattle.sftp_audit.specs.Auditor.{Audited, StandsFor, Refuses}

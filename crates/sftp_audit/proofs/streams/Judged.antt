@@ -5,8 +5,9 @@ use Rattle.std.specs.Result.{IfErr}
 use Rattle.sftp_wire.proofs.StreamLaws.Front.{spellings-apart}
 use Rattle.sftp_tree.specs.Tree.{Tree, trim}
 use Rattle.sftp_tree.specs.Picture.{IsStart}
-use Rattle.sftp_handles.specs.State.{State}
-use Rattle.sftp_handles.specs.Allowed.{Allowed}
+use Rattle.sftp_profile.specs.declared.profiles.Profile.{Profile}
+use Rattle.sftp_profile.specs.State.{State, begun}
+use Rattle.sftp_profile.specs.Permitted.{Permitted}
 use Rattle.sftp_transcript.specs.declared.errors.TranscriptError.{TranscriptError}
 use Rattle.sftp_transcript.specs.declared.errors.TranscriptError.TheVariants as transcript_errors
 use Rattle.sftp_transcript.specs.declared.events.Event.{Event}
@@ -20,15 +21,15 @@ use Rattle.sftp_audit.specs.declared.errors.AuditError.TheVariants as audit_erro
 use Rattle.sftp_audit.specs.declared.errors.Refusal.{Refusal}
 use Rattle.sftp_audit.specs.declared.errors.Refusal.TheVariants as refusals
 use Rattle.sftp_audit.specs.Auditor.{Audited, LacksReply}
-use Rattle.sftp_audit.specs.Audit.{started, Accounts, FaultAt, RefusedAt, IsFirstFault, IsNoJudgement}
+use Rattle.sftp_audit.specs.Audit.{AccountsBy, FaultAt, RefusedAt, IsFirstFaultBy, IsNoJudgement}
 use Rattle.sftp_audit.specs.Audit.{IsTreeError, JudgesTree}
 use Rattle.sftp_audit.specs.Audit.{IsExcusedBy, IsNew, IsPlain, WasFed, StopsFeed, error_of_session}
 use Rattle.sftp_audit.proofs.auditing.Lost.{refuses_lost, lacks_lost}
 
 -- no run is accounted for
-abbrev pub HasNoRun : List ℕ → List ℕ → Type 0
-HasNoRun tree transcript =
-    (start : Tree) (events : List Event) (end : Tree) → Accounts tree transcript start events end → ⊥
+abbrev pub HasNoRun : Profile → List ℕ → List ℕ → Type 0
+HasNoRun profile tree transcript =
+    (start : Tree) (events : List Event) (end : Tree) → AccountsBy profile tree transcript start events end → ⊥
 
 -- the bytes are the tree file of this tree, and of no other
 abbrev pub IsOnlyStart : Tree → List ℕ → Type 0
@@ -37,50 +38,50 @@ IsOnlyStart start tree = IsStart start tree × ((other : Tree) → IsStart other
 -- ---- records and their events
 
 -- the events of a session that is accounted for lead from the start that was read
-explained_from : (start : Tree) (tree transcript : List ℕ) (other : Tree) (events : List Event) (end : Tree)
-    → start ≡ other → (told : Accounts tree transcript other events end)
-    → Explained Allowed (started start) events told.last
-explained_from start tree transcript other events end same told =
-    subst (λ (t : Tree). Explained Allowed (started t) events told.last) (sym same) told.explained
+explained_from : (profile : Profile) (start : Tree) (tree transcript : List ℕ) (other : Tree) (events : List Event) (end : Tree)
+    → start ≡ other → (told : AccountsBy profile tree transcript other events end)
+    → Explained Permitted (begun profile start) events told.last
+explained_from profile start tree transcript other events end same told =
+    subst (λ (t : Tree). Explained Permitted (begun profile t) events told.last) (sym same) told.explained
 
-fault-lost : (start : State) (tree transcript : List ℕ) (error : TranscriptError) → error ≢ transcript_errors.NoMemory
-    → FaultAt start transcript error → HasNoRun tree transcript
-fault-lost start tree transcript error apart at = λ other events end told.
+fault-lost : (profile : Profile) (start : State) (tree transcript : List ℕ) (error : TranscriptError) → error ≢ transcript_errors.NoMemory
+    → FaultAt start transcript error → HasNoRun profile tree transcript
+fault-lost profile start tree transcript error apart at = λ other events end told.
     faulty_records_none transcript at.events events error apart at.fault told.events_are
 
-refused-lost : (start : Tree) (tree transcript : List ℕ) (refusal : Refusal) → refusal ≢ refusals.NoMemory
-    → IsOnlyStart start tree → RefusedAt (started start) transcript refusal → HasNoRun tree transcript
-refused-lost start tree transcript refusal apart only at = λ other events end told.
+refused-lost : (profile : Profile) (start : Tree) (tree transcript : List ℕ) (refusal : Refusal) → refusal ≢ refusals.NoMemory
+    → IsOnlyStart start tree → RefusedAt (begun profile start) transcript refusal → HasNoRun profile tree transcript
+refused-lost profile start tree transcript refusal apart only at = λ other events end told.
     let on = begins_each (at.events ++ at.event ∷ []) events transcript at.rest at.begins told.events_are in
     let are : events ≡ at.events ++ at.event ∷ on.more =
     on.others_are ∙ append_assoc at.events (at.event ∷ []) on.more in
-    let explained = explained_from start tree transcript other events end (only.1 other told.start_is) told in
-    refuses_lost (started start) at.events at.event refusal at.end at.sound at.refuses apart on.more told.last
-    (subst (λ (l : List Event). Explained Allowed (started start) l told.last) are explained)
+    let explained = explained_from profile start tree transcript other events end (only.1 other told.start_is) told in
+    refuses_lost (begun profile start) at.events at.event refusal at.end at.sound at.refuses apart on.more told.last
+    (subst (λ (l : List Event). Explained Permitted (begun profile start) l told.last) are explained)
 
-pub feed-lost : (start : Tree) (tree transcript : List ℕ) (error : AuditError) → IsOnlyStart start tree → IsPlain error
-    → (IsNoJudgement error → ⊥) → StopsFeed (started start) transcript error → HasNoRun tree transcript
-feed-lost start tree transcript (audit_errors.Tree error) only plain judged stops = absurd stops
-feed-lost start tree transcript audit_errors.NoMemory only plain judged stops = absurd (judged tt)
-feed-lost start tree transcript (audit_errors.Transcript error) only plain judged stops =
-    fault-lost (started start) tree transcript error (unlike error plain) stops
+pub feed-lost : (profile : Profile) (start : Tree) (tree transcript : List ℕ) (error : AuditError) → IsOnlyStart start tree → IsPlain error
+    → (IsNoJudgement error → ⊥) → StopsFeed (begun profile start) transcript error → HasNoRun profile tree transcript
+feed-lost profile start tree transcript (audit_errors.Tree error) only plain judged stops = absurd stops
+feed-lost profile start tree transcript audit_errors.NoMemory only plain judged stops = absurd (judged tt)
+feed-lost profile start tree transcript (audit_errors.Transcript error) only plain judged stops =
+    fault-lost profile (begun profile start) tree transcript error (unlike error plain) stops
   where
     unlike : (error : TranscriptError) → IsPlain (audit_errors.Transcript error) → error ≢ transcript_errors.NoMemory
     unlike transcript_errors.NoMemory plain same = plain
     unlike other plain same = absurd cc
-feed-lost start tree transcript (audit_errors.Refused refusal) only plain judged stops =
-    refused-lost start tree transcript refusal (unlike refusal plain) only stops
+feed-lost profile start tree transcript (audit_errors.Refused refusal) only plain judged stops =
+    refused-lost profile start tree transcript refusal (unlike refusal plain) only stops
   where
     unlike : (refusal : Refusal) → IsPlain (audit_errors.Refused refusal) → refusal ≢ refusals.NoMemory
     unlike refusals.NoMemory plain same = plain
     unlike other plain same = absurd cc
 
-pub feed-first : (start : Tree) (tree transcript : List ℕ) (error : AuditError) → IsStart start tree
-    → StopsFeed (started start) transcript error → IsFirstFault tree transcript error
-feed-first start tree transcript (audit_errors.Tree error) is stops = absurd stops
-feed-first start tree transcript audit_errors.NoMemory is stops = tt
-feed-first start tree transcript (audit_errors.Transcript error) is stops = (start, is, stops)
-feed-first start tree transcript (audit_errors.Refused refusal) is stops = (start, is, inl stops)
+pub feed-first : (profile : Profile) (start : Tree) (tree transcript : List ℕ) (error : AuditError) → IsStart start tree
+    → StopsFeed (begun profile start) transcript error → IsFirstFaultBy profile tree transcript error
+feed-first profile start tree transcript (audit_errors.Tree error) is stops = absurd stops
+feed-first profile start tree transcript audit_errors.NoMemory is stops = tt
+feed-first profile start tree transcript (audit_errors.Transcript error) is stops = (start, is, stops)
+feed-first profile start tree transcript (audit_errors.Refused refusal) is stops = (start, is, inl stops)
 
 -- ---- the tree
 
@@ -98,21 +99,21 @@ judged-end start tree other is = (start, is)
 
 -- ---- the end
 
-pub end-lost : (start : Tree) (tree transcript : List ℕ) (requests : ℕ) (auditor : Audited) (refusal : Refusal)
-    → IsOnlyStart start tree → (was : WasFed (started start) transcript requests auditor)
-    → LacksReply was.events refusal → HasNoRun tree transcript
-end-lost start tree transcript requests auditor refusal only was lacks = λ other events end told.
+pub end-lost : (profile : Profile) (start : Tree) (tree transcript : List ℕ) (requests : ℕ) (auditor : Audited) (refusal : Refusal)
+    → IsOnlyStart start tree → (was : WasFed (begun profile start) transcript requests auditor)
+    → LacksReply was.events refusal → HasNoRun profile tree transcript
+end-lost profile start tree transcript requests auditor refusal only was lacks = λ other events end told.
     let same : events ≡ was.events =
     records_are_one_lem spellings-apart events was.events transcript told.events_are was.recorded in
-    let explained = explained_from start tree transcript other events end (only.1 other told.start_is) told in
-    lacks_lost (started start) was.events refusal auditor.state was.stands.sound lacks told.last
-    (subst (λ (l : List Event). Explained Allowed (started start) l told.last) same explained)
+    let explained = explained_from profile start tree transcript other events end (only.1 other told.start_is) told in
+    lacks_lost (begun profile start) was.events refusal auditor.state was.stands.sound lacks told.last
+    (subst (λ (l : List Event). Explained Permitted (begun profile start) l told.last) same explained)
 
-pub end-first : (start : Tree) (tree transcript : List ℕ) (requests : ℕ) (auditor : Audited) (refusal : Refusal)
-    → IsStart start tree → (was : WasFed (started start) transcript requests auditor) → LacksReply was.events refusal
-    → IsFirstFault tree transcript (error_of_session refusal)
-end-first start tree transcript requests auditor refusals.NoMemory is was lacks = tt
-end-first start tree transcript requests auditor other is was lacks = (
+pub end-first : (profile : Profile) (start : Tree) (tree transcript : List ℕ) (requests : ℕ) (auditor : Audited) (refusal : Refusal)
+    → IsStart start tree → (was : WasFed (begun profile start) transcript requests auditor) → LacksReply was.events refusal
+    → IsFirstFaultBy profile tree transcript (error_of_session refusal)
+end-first profile start tree transcript requests auditor refusals.NoMemory is was lacks = tt
+end-first profile start tree transcript requests auditor other is was lacks = (
   start,
   is,
   inr (record {
@@ -125,11 +126,11 @@ end-first start tree transcript requests auditor other is was lacks = (
 )
 
 -- the end is the tree where the run ends
-pub accounts-fed : (start : Tree) (tree transcript : List ℕ) (requests : ℕ) (auditor : Audited) (end : Tree)
-    → IsStart start tree → (was : WasFed (started start) transcript requests auditor)
-    → (last : State) × Explained Allowed (started start) was.events last × (end ≡ trim (record last.tree { pins = [] }))
-    → Accounts tree transcript start was.events end
-accounts-fed start tree transcript requests auditor end is was ended = record {
+pub accounts-fed : (profile : Profile) (start : Tree) (tree transcript : List ℕ) (requests : ℕ) (auditor : Audited) (end : Tree)
+    → IsStart start tree → (was : WasFed (begun profile start) transcript requests auditor)
+    → (last : State) × Explained Permitted (begun profile start) was.events last × (end ≡ trim (record last.session.tree { pins = [] }))
+    → AccountsBy profile tree transcript start was.events end
+accounts-fed profile start tree transcript requests auditor end is was ended = record {
   start_is = is;
   events_are = was.recorded;
   last = ended.0;
@@ -156,14 +157,14 @@ is_new : (bytes : List ℕ) (failures reads : ℕ) → IsNew bytes (fresh bytes 
 is_new bytes failures reads =
     (record { ahead_are = refl; read = (refl, refl); number = refl; faultless = refl }, refl)
 
-pub refused-memory : {T : Type 0} (tree bytes left : List ℕ) (failures reads : ℕ) (records : Reading)
+pub refused-memory : {T : Type 0} (profile : Profile) (tree bytes left : List ℕ) (failures reads : ℕ) (records : Reading)
     (result : Result T AuditError) → left ≡ bytes → records ≡ fresh left failures reads
     → IfErr result (λ e. (IsNoJudgement e → ⊥) → (transcript : List ℕ) → IsNew transcript records
-    → HasNoRun tree transcript)
+    → HasNoRun profile tree transcript)
     → (records.fault ≡ None → IfErr result (IsExcusedBy false))
-    → IfErr result (λ e. e ≢ audit_errors.NoMemory → HasNoRun tree bytes)
-refused-memory tree bytes left failures reads records (Ok value) same is refused excused = tt
-refused-memory tree bytes left failures reads records (Err error) same is refused excused = λ apart.
+    → IfErr result (λ e. e ≢ audit_errors.NoMemory → HasNoRun profile tree bytes)
+refused-memory profile tree bytes left failures reads records (Ok value) same is refused excused = tt
+refused-memory profile tree bytes left failures reads records (Err error) same is refused excused = λ apart.
     let new : IsNew bytes records =
     subst (λ (r : Reading). IsNew bytes r) (ap (λ (l : List ℕ). fresh l failures reads) (sym same) ∙ sym is)
     (is_new bytes failures reads) in

@@ -1,9 +1,18 @@
--- The reader of bytes in memory is new, and never fails.
-use Rattle.sftp_audit.proofs.streams.Judged.{refused-memory}
+-- The strict profile accounts for what is accounted for strictly.
+use Rattle.std.proofs.Common.{◌≡◌, ◌≢◌}
+use Rattle.sftp_tree.specs.Picture.{picture}
+use Rattle.sftp_audit.specs.declared.errors.AuditError.TheVariants.{NoMemory}
+use Rattle.sftp_audit.specs.Audit.{request_count}
+use Rattle.sftp_audit.proofs.streams.StrictAccounts.{accepted-strict, refused-strict}
 use Rattle.sftp_audit.proofs.audits.audit.Goals as goal
+
+pub returns-clause-accepted : goal.returns-clause-accepted
+returns-clause-accepted c =
+    accepted-strict c.strict.result c.args.tree.now c.strict.ensures c.args.transcript.now
+    (λ accepted end. accepted.tree.items ≡ picture end) (λ accepted events. accepted.requests ≡ request_count events)
+    c.audit_by.result c.audit_by.ensures.accepted
 
 pub returns-clause-refused : goal.returns-clause-refused
 returns-clause-refused c =
-    refused-memory c.args.tree.now c.args.transcript.now c.new.result.rest.now _ _ c.in_ok-records.records
-    c.audit_stream-audited.result c.new.ensures c.in_ok-records.ensures.ok c.audit_stream-audited.ensures.refused
-    c.audit_stream-audited.ensures.may_fail
+    refused-strict c.strict.result c.args.tree.now c.strict.ensures c.args.transcript.now (λ e. e ≢ NoMemory)
+    c.audit_by.result c.audit_by.ensures.refused

@@ -1,66 +1,17 @@
--- The events are fed to an auditor from the tree that was read, and the end is the tree where their run ends.
-use Rattle.std.proofs.lemmas.Result.{err_from_is_err_and}
-use Rattle.sftp_audit.specs.Audit.{started}
-use Rattle.sftp_audit.proofs.streams.Judged.{feed-lost, feed-first, judged-feed, judged-end}
-use Rattle.sftp_audit.proofs.streams.Judged.{end-lost, end-first, accounts-fed}
+-- The strict profile accounts for what is accounted for strictly.
+use Rattle.std.proofs.Common.{◌≡◌}
+use Rattle.sftp_tree.specs.Picture.{picture}
+use Rattle.sftp_audit.specs.Audit.{request_count, IsNoJudgement}
+use Rattle.sftp_audit.proofs.streams.StrictAccounts.{accepted-strict_stream, refused-strict_stream}
 use Rattle.sftp_audit.proofs.audits.audit_stream.Goals as goal
 
-pub returns-in-Err-clause-refused : goal.returns-in-Err-clause-refused
-returns-in-Err-clause-refused g c = λ judged transcript new.
-    let start = c.in_ok-read.field-0 in
-    feed-lost start c.args.tree.now transcript c.in-Err.error
-    (c.in_ok-read.ensures.found, c.in_ok-read.ensures.only) c.in-Err.ensures.plain judged
-    (c.in-Err.ensures.stopped judged (started start) transcript new c.in_ok-auditor.ensures.stands)
-
-pub returns-in-Err-clause-first : goal.returns-in-Err-clause-first
-returns-in-Err-clause-first g c = λ judged transcript new.
-    let start = c.in_ok-read.field-0 in
-    feed-first start c.args.tree.now transcript c.in-Err.error c.in_ok-read.ensures.found
-    (c.in-Err.ensures.stopped judged (started start) transcript new c.in_ok-auditor.ensures.stands)
-
-pub returns-in_err-end-clause-refused : goal.returns-in_err-end-clause-refused
-returns-in_err-end-clause-refused g c =
-    let p = err_from_is_err_and c.from_residual-in_err-end.result c.from_residual-in_err-end.ensures.1 in
-    let start = c.in_ok-read.field-0 in
-    rw (p.1, p.2) (λ judged transcript new.
-    let was = c.in-Ok.ensures.fed (started start) transcript new c.in_ok-auditor.ensures.stands in
-    end-lost start c.args.tree.now transcript c.in-Ok.requests c.feed_all.new.auditor c.in_err-end.field-0.0
-    (c.in_ok-read.ensures.found, c.in_ok-read.ensures.only) was
-    (c.in_err-end.ensures.unanswered (started start) was.events was.stands))
-
-pub returns-in_err-end-clause-first : goal.returns-in_err-end-clause-first
-returns-in_err-end-clause-first g c =
-    let p = err_from_is_err_and c.from_residual-in_err-end.result c.from_residual-in_err-end.ensures.1 in
-    let start = c.in_ok-read.field-0 in
-    rw (p.1, p.2) (λ judged transcript new.
-    let was = c.in-Ok.ensures.fed (started start) transcript new c.in_ok-auditor.ensures.stands in
-    end-first start c.args.tree.now transcript c.in-Ok.requests c.feed_all.new.auditor c.in_err-end.field-0.0
-    c.in_ok-read.ensures.found was (c.in_err-end.ensures.unanswered (started start) was.events was.stands))
-
 pub returns-clause-accepted : goal.returns-clause-accepted
-returns-clause-accepted g c = λ transcript new.
-    let start = c.in_ok-read.field-0 in
-    let was = c.in-Ok.ensures.fed (started start) transcript new c.in_ok-auditor.ensures.stands in
-    let ended = c.in_ok-end.ensures.ended (started start) was.events was.stands in (
-      start,
-      was.events,
-      c.in_ok-end.end,
-      accounts-fed start c.args.tree.now transcript c.in-Ok.requests c.feed_all.new.auditor c.in_ok-end.end
-          c.in_ok-read.ensures.found was ended,
-      c.in_ok-tree.ensures,
-      was.counted,
-    )
+returns-clause-accepted g c =
+    accepted-strict_stream c.strict.result c.args.tree.now c.strict.ensures c.args.records.now
+    (λ accepted end. accepted.tree.items ≡ picture end) (λ accepted events. accepted.requests ≡ request_count events)
+    c.audit_stream_by.result c.audit_stream_by.ensures.accepted
 
-pub returns-in-Err-clause-judged : goal.returns-in-Err-clause-judged
-returns-in-Err-clause-judged g c =
-    judged-feed c.in_ok-read.field-0 c.args.tree.now c.in-Err.error c.in_ok-read.ensures.found
-    c.in-Err.ensures.treeless
-
-pub returns-in_err-end-clause-judged : goal.returns-in_err-end-clause-judged
-returns-in_err-end-clause-judged g c =
-    let p = err_from_is_err_and c.from_residual-in_err-end.result c.from_residual-in_err-end.ensures.1 in
-    rw (p.1, p.2)
-    (judged-end c.in_ok-read.field-0 c.args.tree.now c.in_err-end.field-0.0 c.in_ok-read.ensures.found)
-
-pub returns-clause-judged : goal.returns-clause-judged
-returns-clause-judged g c = (c.in_ok-read.field-0, c.in_ok-read.ensures.found)
+pub returns-clause-refused : goal.returns-clause-refused
+returns-clause-refused g c =
+    refused-strict_stream c.strict.result c.args.tree.now c.strict.ensures c.args.records.now
+    (λ e. IsNoJudgement e → ⊥) c.audit_stream_by.result c.audit_stream_by.ensures.refused

@@ -1,5 +1,6 @@
-use Rattle.sftp_audit.proofs.steps.StepLaws.{explained-one_end}
+use Rattle.sftp_handles.specs.Allowed.{Allowed}
+use Rattle.sftp_audit.proofs.steps.StepLaws.{explained-one_end, allowed-one_end}
 use Rattle.sftp_audit.proofs.laws.one_end.Goals as goal
 
 pub returns : goal.returns
-returns c = explained-one_end
+returns c = explained-one_end Allowed allowed-one_end

@@ -1,5 +1,6 @@
+use Rattle.sftp_profile.specs.Profiles.{strict}
 use Rattle.sftp_audit.proofs.streams.FirstFaults.{one_first_fault}
 use Rattle.sftp_audit.proofs.laws.one_first_fault.Goals as goal
 
 pub returns : goal.returns
-returns c = one_first_fault
+returns c = one_first_fault strict

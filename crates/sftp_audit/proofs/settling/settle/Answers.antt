@@ -6,13 +6,13 @@ use Rattle.sftp_audit.proofs.auditing.Settled.{unsettled-waits, unsettled-none}
 use Rattle.sftp_audit.proofs.settling.settle.Goals as goal
 
 pub settle-init : goal.settle-init
-settle-init c = record { done = done-start c.args.session.now c.args.ledger.now; never_grows = omega arith }
+settle-init c = record { done = done-start c.args.judge.now c.args.ledger.now; never_grows = omega arith }
 
 pub settle-preserved : goal.settle-preserved
 settle-preserved c = record {
   done =
       rw c.forget_first.ensures
-      (done-more c.args.session.now c.settle.session c.accept.new.self c.args.ledger.now c.settle.ledger
+      (done-more c.args.judge.now c.settle.judge c.accept.new.self c.args.ledger.now c.settle.ledger
       c.in-Some.exchange.now c.in-Some-reply.recorded c.settle.invariant.done c.in-Some.ensures c.in-Some-reply.is
       (c.in_ok-accept.ensures.allowed c.if-not-branch.false));
   never_grows =
@@ -21,32 +21,32 @@ settle-preserved c = record {
 
 pub returns-then-not-branch-clause-refused : goal.returns-then-not-branch-clause-refused
 returns-then-not-branch-clause-refused c =
-    done-wrong c.args.session.now c.settle.session c.args.ledger.now c.settle.ledger c.in-Some.exchange.now
+    done-wrong c.args.judge.now c.settle.judge c.args.ledger.now c.settle.ledger c.in-Some.exchange.now
     c.in-Some-reply.recorded c.settle.invariant.done c.in-Some.ensures c.in-Some-reply.is
     (c.in_ok-accept.ensures.refused c.if-not-branch.true)
 
 pub returns-then-not-branch-clause-wrong : goal.returns-then-not-branch-clause-wrong
 returns-then-not-branch-clause-wrong c =
-    done-wrong_in c.args.session.now c.settle.session c.accept.new.self c.args.ledger.now c.settle.ledger
+    done-wrong_in c.args.judge.now c.settle.judge c.accept.new.self c.args.ledger.now c.settle.ledger
     c.in-Some.exchange.now c.in-Some-reply.recorded c.settle.invariant.done c.in-Some.ensures c.in-Some-reply.is
     (c.in_ok-accept.ensures.refused c.if-not-branch.true) (c.in_ok-accept.ensures.kept c.if-not-branch.true)
 
 pub returns-in_default-reply-clause-kept : goal.returns-in_default-reply-clause-kept
 returns-in_default-reply-clause-kept c =
-    done-kept c.args.session.now c.settle.session c.args.ledger.now c.settle.ledger c.settle.invariant.done
+    done-kept c.args.judge.now c.settle.judge c.args.ledger.now c.settle.ledger c.settle.invariant.done
     (unsettled-waits c.settle.ledger c.in-Some.exchange.now c.in-Some.ensures c.in_default-reply.is)
 
 pub returns-in_default-reply-clause-ran : goal.returns-in_default-reply-clause-ran
 returns-in_default-reply-clause-ran c =
-    done-ran c.args.session.now c.settle.session c.args.ledger.now c.settle.ledger c.settle.invariant.done
+    done-ran c.args.judge.now c.settle.judge c.args.ledger.now c.settle.ledger c.settle.invariant.done
     (unsettled-waits c.settle.ledger c.in-Some.exchange.now c.in-Some.ensures c.in_default-reply.is)
 
 pub returns-clause-kept : goal.returns-clause-kept
 returns-clause-kept c =
-    done-kept c.args.session.now c.settle.session c.args.ledger.now c.settle.ledger c.settle.invariant.done
+    done-kept c.args.judge.now c.settle.judge c.args.ledger.now c.settle.ledger c.settle.invariant.done
     (unsettled-none c.settle.ledger c.in_default.ensures)
 
 pub returns-clause-ran : goal.returns-clause-ran
 returns-clause-ran c =
-    done-ran c.args.session.now c.settle.session c.args.ledger.now c.settle.ledger c.settle.invariant.done
+    done-ran c.args.judge.now c.settle.judge c.args.ledger.now c.settle.ledger c.settle.invariant.done
     (unsettled-none c.settle.ledger c.in_default.ensures)

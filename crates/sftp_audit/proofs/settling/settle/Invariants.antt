@@ -4,7 +4,7 @@ use Rattle.sftp_audit.proofs.settling.settle.Given as goal
 
 abbrev pub invariant-settle : goal.invariant-settle
 invariant-settle l = record {
-  done : IsDoneTo l.initial.session l.initial.ledger l.ledger l.session;
+  done : IsDoneTo l.initial.judge l.initial.ledger l.ledger l.judge;
   never_grows : length l.ledger ≤ length l.initial.ledger;
 }
 

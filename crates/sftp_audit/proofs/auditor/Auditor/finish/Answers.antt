@@ -11,4 +11,4 @@ returns-in-Some-first-clause-unanswered c = λ start events stands.
 pub returns-in-None-clause-ended : goal.returns-in-None-clause-ended
 returns-in-None-clause-ended c = λ start events stands.
     let at = at_view start events c.args.self _ c.self.view_is stands in
-    (c.self.inside.session, explained-settled start events _ at (sym c.in-None.ensures), c.into_tree.ensures)
+    (c.self.inside.judge, explained-settled start events _ at (sym c.in-None.ensures), c.into_tree.ensures)

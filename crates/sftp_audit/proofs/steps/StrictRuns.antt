@@ -1,0 +1,65 @@
+-- Runs that are allowed strictly, and runs under a profile.
+use Rattle.std.proofs.Common.{◌≡◌, List, [], ◌∷◌, ap, subst}
+use Rattle.sftp_wire.specs.declared.packets.Request.{Request}
+use Rattle.sftp_wire.specs.declared.packets.Reply.{Reply}
+use Rattle.sftp_handles.specs.State as sessions
+use Rattle.sftp_handles.specs.Allowed.{Allowed}
+use Rattle.sftp_profile.specs.declared.profiles.Profile.{Profile}
+use Rattle.sftp_profile.specs.Profiles.{strict}
+use Rattle.sftp_profile.specs.State.{State}
+use Rattle.sftp_profile.specs.Permitted.{Permitted}
+use Rattle.sftp_profile.proofs.Permissions.{strictly-permitted, strict-both}
+use Rattle.sftp_transcript.specs.declared.events.Event.{Event}
+use Rattle.sftp_transcript.specs.Explained.{exchanges_of, leading_pairs, Run, Explained}
+use Rattle.sftp_transcript.specs.Sound.{Sound}
+
+-- the session under a profile
+abbrev pub under : Profile → sessions.State → State
+under profile s = record { profile = profile; session = s }
+
+-- ---- each profile permits what is allowed strictly
+
+pub run-permitted : (profile : Profile) (s : sessions.State) (pairs : List (Request × Reply)) (end : sessions.State)
+    → Run Allowed s pairs end → Run Permitted (under profile s) pairs (under profile end)
+run-permitted profile s [] end run = ap (under profile) run
+run-permitted profile s (pair ∷ pairs) end run = (
+  under profile run.0,
+  strictly-permitted profile s pair.0 pair.1 run.0 run.1,
+  run-permitted profile run.0 pairs end run.2,
+)
+
+pub sound-permitted : (profile : Profile) (s : sessions.State) (events : List Event) (end : sessions.State)
+    → Sound Allowed s events end → Sound Permitted (under profile s) events (under profile end)
+sound-permitted profile s events end sound = record {
+  in_turn = sound.in_turn;
+  within_window = sound.within_window;
+  run = run-permitted profile s (leading_pairs (exchanges_of events)) end sound.run;
+}
+
+pub explained-permitted : (profile : Profile) (s : sessions.State) (events : List Event) (end : sessions.State)
+    → Explained Allowed s events end → Explained Permitted (under profile s) events (under profile end)
+explained-permitted profile s events end explained = record {
+  matching = explained.matching;
+  within_window = explained.within_window;
+  run = run-permitted profile s (leading_pairs (exchanges_of events)) end explained.run;
+}
+
+-- ---- the strict profile permits no more
+
+-- a run under the strict profile stays under it, and is allowed strictly
+pub run-strict : (s : sessions.State) (pairs : List (Request × Reply)) (end : State)
+    → Run Permitted (under strict s) pairs end → (end.profile ≡ strict) × Run Allowed s pairs end.session
+run-strict s [] end run = (ap (λ (e : State). e.profile) run, ap (λ (e : State). e.session) run)
+run-strict s (pair ∷ pairs) end run =
+    let first = (strict-both s pair.0 pair.1 run.0).0 run.1 in
+    let rest = run-strict run.0.session pairs end
+    (subst (λ (profile : Profile). Run Permitted (under profile run.0.session) pairs end) first.0 run.2) in
+    (rest.0, (run.0.session, first.1, rest.1))
+
+pub explained-strict : (s : sessions.State) (events : List Event) (end : State)
+    → Explained Permitted (under strict s) events end → Explained Allowed s events end.session
+explained-strict s events end explained = record {
+  matching = explained.matching;
+  within_window = explained.within_window;
+  run = (run-strict s (leading_pairs (exchanges_of events)) end explained.run).1;
+}

@@ -1,0 +1,93 @@
+-- What is accounted for strictly, and under a profile.
+use Rattle.std.proofs.Common.{◌≡◌, List, ℕ, Result, Ok, Err, subst}
+use Rattle.std.specs.Result.{IfOk, IfErr}
+use Rattle.sftp_tree.specs.Tree.{Tree}
+use Rattle.sftp_profile.specs.declared.profiles.Profile.{Profile}
+use Rattle.sftp_profile.specs.Profiles.{strict}
+use Rattle.sftp_transcript.specs.declared.events.Event.{Event}
+use Rattle.sftp_transcript.specs.Recorded.{Reading}
+use Rattle.sftp_audit.specs.declared.errors.AuditError.{AuditError}
+use Rattle.sftp_audit.specs.Audit.{Accounts, AccountsBy, IsNew, started}
+use Rattle.sftp_audit.proofs.steps.StrictRuns.{under, explained-permitted, explained-strict}
+
+pub accounts-permitted : (profile : Profile) (tree transcript : List ℕ) (start : Tree) (events : List Event) (end : Tree)
+    → Accounts tree transcript start events end → AccountsBy profile tree transcript start events end
+accounts-permitted profile tree transcript start events end told = record {
+  start_is = told.start_is;
+  events_are = told.events_are;
+  last = under profile told.last;
+  explained = explained-permitted profile (started start) events told.last told.explained;
+  end_is = told.end_is;
+}
+
+pub accounts-strict : (tree transcript : List ℕ) (start : Tree) (events : List Event) (end : Tree)
+    → AccountsBy strict tree transcript start events end → Accounts tree transcript start events end
+accounts-strict tree transcript start events end told = record {
+  start_is = told.start_is;
+  events_are = told.events_are;
+  last = told.last.session;
+  explained = explained-strict (started start) events told.last told.explained;
+  end_is = told.end_is;
+}
+
+-- ---- what an audit under the strict profile says
+
+-- some run is accounted for, of which more is said
+abbrev pub HasRun : List ℕ → List ℕ → (Tree → Type 0) → (List Event → Type 0) → Type 0
+HasRun tree transcript OfEnd OfEvents =
+    (start : Tree) × (events : List Event) × (end : Tree) × Accounts tree transcript start events end
+    × OfEnd end × OfEvents events
+
+abbrev pub HasRunBy : Profile → List ℕ → List ℕ → (Tree → Type 0) → (List Event → Type 0) → Type 0
+HasRunBy profile tree transcript OfEnd OfEvents =
+    (start : Tree) × (events : List Event) × (end : Tree) × AccountsBy profile tree transcript start events end
+    × OfEnd end × OfEvents events
+
+module _ (profile : Profile) (tree : List ℕ) (same : profile ≡ strict) where
+  run-strict : (transcript : List ℕ) (OfEnd : Tree → Type 0) (OfEvents : List Event → Type 0) → HasRunBy profile tree transcript OfEnd OfEvents
+      → HasRun tree transcript OfEnd OfEvents
+  run-strict transcript OfEnd OfEvents told = (
+    told.0,
+    told.1,
+    told.2,
+    accounts-strict tree transcript told.0 told.1 told.2
+        (subst (λ (p : Profile). AccountsBy p tree transcript told.0 told.1 told.2) same told.3),
+    told.4,
+    told.5,
+  )
+
+  pub accepted-strict : {T : Type 0} (transcript : List ℕ) (OfEnd : T → Tree → Type 0) (OfEvents : T → List Event → Type 0) (result : Result T AuditError)
+      → IfOk result (λ value. HasRunBy profile tree transcript (OfEnd value) (OfEvents value)) → IfOk result (λ value. HasRun tree transcript (OfEnd value) (OfEvents value))
+  accepted-strict transcript OfEnd OfEvents (Ok value) told = run-strict transcript (OfEnd value) (OfEvents value) told
+  accepted-strict transcript OfEnd OfEvents (Err error) told = tt
+
+  pub accepted-strict_stream : {T : Type 0} (records : Reading) (OfEnd : T → Tree → Type 0) (OfEvents : T → List Event → Type 0) (result : Result T AuditError)
+      → IfOk result (λ value. (transcript : List ℕ) → IsNew transcript records → HasRunBy profile tree transcript (OfEnd value) (OfEvents value))
+      → IfOk result (λ value. (transcript : List ℕ) → IsNew transcript records → HasRun tree transcript (OfEnd value) (OfEvents value))
+  accepted-strict_stream records OfEnd OfEvents (Ok value) told =
+      λ transcript new. run-strict transcript (OfEnd value) (OfEvents value) (told transcript new)
+  accepted-strict_stream records OfEnd OfEvents (Err error) told = tt
+
+  -- no run is accounted for
+  lost-strict : (transcript : List ℕ)
+      → ((start : Tree) (events : List Event) (end : Tree) → AccountsBy profile tree transcript start events end → ⊥)
+      → (start : Tree) (events : List Event) (end : Tree) → Accounts tree transcript start events end → ⊥
+  lost-strict transcript none start events end told =
+      none start events end (accounts-permitted profile tree transcript start events end told)
+
+  pub refused-strict : {T : Type 0} (transcript : List ℕ) (When : AuditError → Type 0) (result : Result T AuditError)
+      → IfErr result (λ e. When e → (start : Tree) (events : List Event) (end : Tree)
+      → AccountsBy profile tree transcript start events end → ⊥)
+      → IfErr result (λ e. When e → (start : Tree) (events : List Event) (end : Tree)
+      → Accounts tree transcript start events end → ⊥)
+  refused-strict transcript When (Ok value) refused = tt
+  refused-strict transcript When (Err error) refused = λ when. lost-strict transcript (refused when)
+
+  pub refused-strict_stream : {T : Type 0} (records : Reading) (When : AuditError → Type 0) (result : Result T AuditError)
+      → IfErr result (λ e. When e → (transcript : List ℕ) → IsNew transcript records
+      → (start : Tree) (events : List Event) (end : Tree) → AccountsBy profile tree transcript start events end → ⊥)
+      → IfErr result (λ e. When e → (transcript : List ℕ) → IsNew transcript records
+      → (start : Tree) (events : List Event) (end : Tree) → Accounts tree transcript start events end → ⊥)
+  refused-strict_stream records When (Ok value) refused = tt
+  refused-strict_stream records When (Err error) refused =
+      λ when transcript new. lost-strict transcript (refused when transcript new)

@@ -1,0 +1,11 @@
+-- What the code finds out about an answer that is not allowed strictly. Words of private contracts.
+use Rattle.std.specs.Prelude.{◌≡◌, Bool, false, if◌then◌else◌, Some, None}
+use Rattle.sftp_wire.specs.declared.packets.Ask.{Ask}
+use Rattle.sftp_wire.specs.declared.packets.Answer.{Answer}
+use Rattle.sftp_profile.specs.State.{State}
+use Rattle.sftp_profile.specs.Permitted.{forgiven, under}
+
+-- `ok` says whether the profile forgives the answer, and `end` is the state then
+pub record IsForgiven (s : State) (ask : Ask) (answer : Answer) (ok : Bool) (end : State) : Type 0 where
+  pub step_is : under s.profile (forgiven s.profile s.session ask answer) ≡ (if ok then Some end else None)
+  pub kept : ok ≡ false → end ≡ s

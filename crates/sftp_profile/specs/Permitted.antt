@@ -1,0 +1,40 @@
+-- Which replies a profile permits, and the state after each.
+use Rattle.std.specs.Prelude.{◌≡◌, Bool, true, false, Option, Some, None}
+use Rattle.sftp_wire.specs.declared.packets.Ask.{Ask}
+use Rattle.sftp_wire.specs.declared.packets.Answer.{Answer}
+use Rattle.sftp_wire.specs.declared.packets.Request.{Request}
+use Rattle.sftp_wire.specs.declared.packets.Reply.{Reply}
+use Rattle.sftp_handles.specs.State as sessions
+use Rattle.sftp_handles.specs.Allowed as strictly
+use Rattle.sftp_profile.specs.declared.profiles.Profile.{Profile}
+use Rattle.sftp_profile.specs.State.{State}
+use Rattle.sftp_profile.specs.Departures.{is_forgiven}
+
+abbrev pub forgiven_by : sessions.State → Bool → Option sessions.State
+forgiven_by s true = Some s
+forgiven_by s false = None
+
+-- the session after an answer that the profile forgives
+unfoldable pub forgiven : Profile → sessions.State → Ask → Answer → Option sessions.State
+forgiven profile s ask answer = forgiven_by s (is_forgiven profile s ask answer)
+
+abbrev pub first_of : Option sessions.State → Option sessions.State → Option sessions.State
+first_of (Some end) other = Some end
+first_of None other = other
+
+-- the session after an answer that is allowed strictly, or else forgiven
+unfoldable pub permitted : Profile → sessions.State → Ask → Answer → Option sessions.State
+permitted profile s ask answer = first_of (strictly.step s ask answer) (forgiven profile s ask answer)
+
+abbrev pub under : Profile → Option sessions.State → Option State
+under profile (Some s) = Some (record { profile = profile; session = s })
+under profile None = None
+
+-- the state after an answer, if it is permitted; the profile stays
+unfoldable pub step : State → Ask → Answer → Option State
+step s ask answer = under s.profile (permitted s.profile s.session ask answer)
+
+-- the reply has the id of the request, and its answer is permitted
+pub record Permitted (s : State) (request : Request) (reply : Reply) (end : State) : Type 0 where
+  pub same_id : reply.id ≡ request.id
+  pub step : step s request.ask reply.answer ≡ Some end

@@ -1,0 +1,7 @@
+-- Profiles: which departures from the strict reading are accepted.
+use Rattle.std.specs.Prelude.{false}
+use Rattle.sftp_profile.specs.declared.profiles.Profile.{Profile}
+
+-- no departure
+abbrev pub strict : Profile
+strict = record { codes = false }

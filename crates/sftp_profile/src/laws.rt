@@ -1,0 +1,39 @@
+//! Laws of profiles, as theorems on the definitions that the contracts name. The functions do nothing; each promise is
+//! in the contract.
+ghost use Rattle.std.specs.Prelude.{◌≡◌, ◌↔◌};
+ghost use Rattle.sftp_wire.specs.declared.packets.Request.{Request};
+ghost use Rattle.sftp_wire.specs.declared.packets.Reply.{Reply};
+ghost use Rattle.sftp_handles.specs.State as sessions;
+ghost use Rattle.sftp_handles.specs.Allowed.{Allowed};
+ghost use Rattle.sftp_profile.specs.declared.profiles.Profile.{Profile};
+ghost use Rattle.sftp_profile.specs.Profiles.{strict};
+ghost use Rattle.sftp_profile.specs.State.{State};
+ghost use Rattle.sftp_profile.specs.Permitted.{Permitted};
+
+/// Under the strict profile exactly those replies are permitted that the session allows, with the same state after
+/// them.
+pub fn strict_is_allowed()
+    ensures { (s : sessions.State) (request : Request) (reply : Reply) (end : State) →
+        Permitted (record { profile = strict; session = s }) request reply end
+        ↔ ((end.profile ≡ strict) × Allowed s request reply end.session) }
+{}
+
+/// A state, a request and its reply fix the state after them.
+pub fn one_state_after()
+    ensures { (s : State) (request : Request) (reply : Reply) (a b : State) →
+        Permitted s request reply a → Permitted s request reply b → a ≡ b }
+{}
+
+/// The profile stays.
+pub fn profile_stays()
+    ensures { (s : State) (request : Request) (reply : Reply) (end : State) →
+        Permitted s request reply end → end.profile ≡ s.profile }
+{}
+
+/// What is allowed strictly, each profile permits, with the same state after it.
+pub fn strictly_allowed_is_permitted()
+    ensures { (profile : Profile) (s : sessions.State) (request : Request) (reply : Reply) (end : sessions.State) →
+        Allowed s request reply end →
+        Permitted (record { profile = profile; session = s }) request reply
+        (record { profile = profile; session = end }) }
+{}

@@ -1,0 +1,11 @@
+//! Profiles: what an auditor accepts beyond the strict reading of the draft, since servers with real file systems do
+//! it. A judge is a session under a profile.
+#![tactic(auto)]
+
+mod judges;
+pub mod laws;
+mod profiles;
+mod refusals;
+
+pub use judges::Judge;
+pub use profiles::Profile;

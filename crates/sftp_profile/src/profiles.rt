@@ -1,0 +1,20 @@
+//! Profiles as sets of departures from the strict reading.
+ghost use Rattle.std.specs.Prelude.{◌≡◌};
+ghost use Rattle.sftp_profile.specs.Profiles as spec;
+
+/// Which departures from the strict reading are accepted, each a field. What is accepted strictly, each profile
+/// accepts.
+#[derive(Clone, Copy, Debug, PartialEq, Eq)]
+pub struct Profile {
+    /// A request that some cause refuses may be refused with any of the codes 2, 3, 4, 5 and 8.
+    pub codes: bool,
+}
+
+impl Profile {
+    /// The strict reading: no departure.
+    pub fn strict() -> Profile
+        ensures { result ≡ spec.strict }
+    {
+        Profile { codes: false }
+    }
+}
