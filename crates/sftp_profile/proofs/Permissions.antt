@@ -1,7 +1,9 @@
 -- Replies that a profile permits, by the strict step and by what the profile forgives.
 use Rattle.std.proofs.Common.{◌≡◌, Bool, true, false, Option, Some, None, refl, sym, ap, subst, ◌∙◌}
-use Rattle.std.proofs.Common.{◌↔◌, IsTrue}
+use Rattle.std.proofs.Common.{◌↔◌, IsTrue, IfOk, Result, Ok, Err}
+use Rattle.sftp_path.specs.declared.errors.NoMemory.{NoMemory}
 use Rattle.sftp_wire.specs.declared.packets.Ask.{Ask}
+use Rattle.sftp_wire.specs.declared.packets.Ask.TheVariants as asks
 use Rattle.sftp_wire.specs.declared.packets.Answer.{Answer}
 use Rattle.sftp_wire.specs.declared.packets.Request.{Request}
 use Rattle.sftp_wire.specs.declared.packets.Reply.{Reply}
@@ -12,8 +14,12 @@ use Rattle.sftp_profile.specs.declared.profiles.Profile.{Profile}
 use Rattle.sftp_profile.specs.Profiles.{strict}
 use Rattle.sftp_profile.specs.State.{State}
 use Rattle.sftp_profile.specs.Departures.{is_forgiven}
-use Rattle.sftp_profile.specs.Judged.{IsForgiven}
-use Rattle.sftp_profile.specs.Permitted.{Permitted, first_of, forgiven, forgiven_by, permitted, under, step}
+use Rattle.sftp_profile.specs.Readings.{asked}
+use Rattle.sftp_profile.specs.Judged.{IsForgiven, IsTaken}
+use Rattle.sftp_profile.specs.Permitted.{Permitted, taken, first_of, forgiven, forgiven_by, permitted, under, step}
+
+abbrev pub under_same : Profile → sessions.State → State
+under_same profile session = record { profile = profile; session = session }
 
 -- ---- from a state and its answer
 
@@ -55,10 +61,16 @@ first-none : (o : Option sessions.State) → first_of o None ≡ o
 first-none (Some s) = refl
 first-none None = refl
 
+strict-asked : (ask : Ask) → asked strict ask ≡ None
+strict-asked (asks.Lstat path) = refl
+strict-asked other = refl
+
 strict-permitted : (s : sessions.State) (ask : Ask) (answer : Answer) → permitted strict s ask answer
     ≡ strictly.step s ask answer
 unfolding permitted forgiven is_forgiven
-strict-permitted s ask answer = first-none (strictly.step s ask answer)
+strict-permitted s ask answer =
+    ap (λ o. first_of (strictly.step s ask answer) (taken s o answer)) (strict-asked ask)
+    ∙ first-none (strictly.step s ask answer)
 
 under-session : (profile : Profile) (o : Option sessions.State) (end : State) → under profile o ≡ Some end
     → o ≡ Some end.session
@@ -136,16 +148,61 @@ forgiven-refused s now end request reply same never false judged is other p =
     let some = p.step in
     cc
 
--- ---- answers after which the session is as before
+-- ---- what is forgiven
 
-pub still-forgiven : (s : State) (ask : Ask) (answer : Answer) (ok : Bool)
-    → ok ≡ is_forgiven s.profile s.session ask answer → IsForgiven s ask answer ok s
+pub passes-forgiven : (s : State) (ask : Ask) (answer : Answer)
+    → is_forgiven s.profile s.session ask answer ≡ true → IsForgiven s ask answer true s
 unfolding forgiven
-still-forgiven s ask answer true is = record {
-  step_is = ap (λ b. under s.profile (forgiven_by s.session b)) (sym is);
-  kept = λ e. absurd cc;
-}
-still-forgiven s ask answer false is = record {
-  step_is = ap (λ b. under s.profile (forgiven_by s.session b)) (sym is);
+passes-forgiven s ask answer is = record {
+  step_is =
+      ap (λ b. under s.profile (first_of (forgiven_by s.session b) (taken s.session (asked s.profile ask) answer))) is;
   kept = λ e. refl;
 }
+
+-- no answer passes as it stands, but maybe as one to another request
+pub taken-forgiven : (s end : State) (ask : Ask) (answer : Answer) (ok : Bool)
+    → is_forgiven s.profile s.session ask answer ≡ false → IsTaken s ask answer ok end → IsForgiven s ask answer ok end
+unfolding forgiven
+taken-forgiven s end ask answer ok not is = record {
+  step_is =
+      ap (λ b. under s.profile (first_of (forgiven_by s.session b) (taken s.session (asked s.profile ask) answer))) not
+      ∙ is.step_is;
+  kept = is.kept;
+}
+
+-- the request is not taken for another
+pub taken-none : (s : State) (ask : Ask) (answer : Answer) → asked s.profile ask ≡ None → IsTaken s ask answer false s
+taken-none s ask answer none = record {
+  step_is = ap (λ o. under s.profile (taken s.session o answer)) none;
+  kept = λ e. refl;
+}
+
+-- it is taken for another one, to which the reply is allowed, or is not
+pub taken-strictly : (s : State) (ask : Ask) (request : Request) (reply : Reply) (end : sessions.State)
+    → reply.id ≡ request.id → asked s.profile ask ≡ Some request.ask
+    → (ok : Bool) → (IsTrue ok → strictly.Allowed s.session request reply end)
+    → (ok ≡ false → (other : sessions.State) → strictly.Allowed s.session request reply other → ⊥)
+    → (ok ≡ false → end ≡ s.session)
+    → IsTaken s ask reply.answer ok (record { profile = s.profile; session = end })
+taken-strictly s ask request reply end same is true allowed never kept = record {
+  step_is =
+      ap (λ o. under s.profile (taken s.session o reply.answer)) is
+      ∙ ap (under s.profile) (allowed-step s.session request reply end (allowed refl));
+  kept = λ e. absurd cc;
+}
+taken-strictly s ask request reply end same is false allowed never kept = record {
+  step_is =
+      ap (λ o. under s.profile (taken s.session o reply.answer)) is
+      ∙ ap (under s.profile) (strictly-none s.session request reply same (never refl));
+  kept = λ e. ap (λ (session : sessions.State). record { profile = s.profile; session = session }) (kept refl);
+}
+
+pub taken-result : (s : State) (ask : Ask) (request : Request) (reply : Reply) (end : sessions.State)
+    → reply.id ≡ request.id → asked s.profile ask ≡ Some request.ask → (result : Result Bool NoMemory)
+    → IfOk result (λ ok. IsTrue ok → strictly.Allowed s.session request reply end)
+    → IfOk result (λ ok. ok ≡ false → (other : sessions.State) → strictly.Allowed s.session request reply other → ⊥)
+    → IfOk result (λ ok. ok ≡ false → end ≡ s.session)
+    → IfOk result (λ ok. IsTaken s ask reply.answer ok (under_same s.profile end))
+taken-result s ask request reply end same is (Ok ok) allowed never kept =
+    taken-strictly s ask request reply end same is ok allowed never kept
+taken-result s ask request reply end same is (Err e) allowed never kept = tt

@@ -9,18 +9,25 @@ use Rattle.sftp_handles.specs.Allowed as strictly
 use Rattle.sftp_profile.specs.declared.profiles.Profile.{Profile}
 use Rattle.sftp_profile.specs.State.{State}
 use Rattle.sftp_profile.specs.Departures.{is_forgiven}
+use Rattle.sftp_profile.specs.Readings.{asked}
 
 abbrev pub forgiven_by : sessions.State → Bool → Option sessions.State
 forgiven_by s true = Some s
 forgiven_by s false = None
 
--- the session after an answer that the profile forgives
-unfoldable pub forgiven : Profile → sessions.State → Ask → Answer → Option sessions.State
-forgiven profile s ask answer = forgiven_by s (is_forgiven profile s ask answer)
-
 abbrev pub first_of : Option sessions.State → Option sessions.State → Option sessions.State
 first_of (Some end) other = Some end
 first_of None other = other
+
+-- the session after the answer to the request that this one is taken for, if it is taken for one
+abbrev pub taken : sessions.State → Option Ask → Answer → Option sessions.State
+taken s (Some ask) answer = strictly.step s ask answer
+taken s None answer = None
+
+-- the session after an answer that the profile forgives
+unfoldable pub forgiven : Profile → sessions.State → Ask → Answer → Option sessions.State
+forgiven profile s ask answer =
+    first_of (forgiven_by s (is_forgiven profile s ask answer)) (taken s (asked profile ask) answer)
 
 -- the session after an answer that is allowed strictly, or else forgiven
 unfoldable pub permitted : Profile → sessions.State → Ask → Answer → Option sessions.State

@@ -4,8 +4,9 @@ ghost use Rattle.sftp_tree.specs.Tree.{trim};
 ghost use Rattle.sftp_profile.specs.State.{State, begun};
 ghost use Rattle.sftp_profile.specs.Departures.{is_forgiven, passes_codes};
 ghost use Rattle.sftp_profile.specs.Permitted.{Permitted};
-ghost use Rattle.sftp_profile.specs.Judged.{IsForgiven};
+ghost use Rattle.sftp_profile.specs.Judged.{IsForgiven, IsTaken};
 
+use crate::departures::{asked, passes_alone};
 use crate::profiles::Profile;
 use crate::refusals::is_refusal;
 use sftp_handles::{GivenTable, Session};
@@ -81,7 +82,7 @@ impl Judge {
         if self.session.accept(request, reply)? {
             return Ok(true);
         }
-        self.forgive(&request.ask, &reply.answer)
+        self.forgive(&request.ask, reply)
     }
 
     /// Whether the profile forgives an answer that is not allowed strictly. If so, the session is then as the two leave
@@ -90,14 +91,36 @@ impl Judge {
     /// # Errors
     ///
     /// `NoMemory` if memory runs out; the session is then as before.
-    fn forgive(&mut self, ask: &Ask, answer: &Answer) -> Result<bool, NoMemory>
-        ensures ok { IfOk result (λ ok. IsForgiven self.old ask.now answer.now ok self.new) }
+    fn forgive(&mut self, ask: &Ask, reply: &Reply) -> Result<bool, NoMemory>
+        ensures ok { IfOk result (λ ok. IsForgiven self.old ask.now reply.now.answer ok self.new) }
         ensures err { OnErr result (self.new ≡ self.old) }
     {
-        self.forgives(ask, answer)
+        if self.forgives(ask, &reply.answer)? {
+            return Ok(true);
+        }
+        self.take_otherwise(ask, reply)
     }
 
-    /// Whether the profile forgives an answer after which the session is as before.
+    /// Whether the reply is allowed for the request that the profile takes this one for. If so, the session is then as
+    /// the two leave it; if not, it is as before.
+    ///
+    /// # Errors
+    ///
+    /// `NoMemory` if memory runs out; the session is then as before.
+    fn take_otherwise(&mut self, ask: &Ask, reply: &Reply) -> Result<bool, NoMemory>
+        ensures ok { IfOk result (λ ok. IsTaken self.old ask.now reply.now.answer ok self.new) }
+        ensures err { OnErr result (self.new ≡ self.old) }
+    {
+        let Some(ask) = asked(self.profile, ask)? else {
+            return Ok(false);
+        };
+        let request = Request { id: reply.id, ask };
+        let accepted = self.session.accept(&request, reply);
+        drop(request);
+        accepted
+    }
+
+    /// Whether the profile lets an answer pass after which the session is as before.
     ///
     /// # Errors
     ///
@@ -107,6 +130,9 @@ impl Judge {
         ensures { IfOk result
             (λ ok. ok ≡ is_forgiven self.now.profile self.now.session ask.now answer.now) }
     {
+        if passes_alone(self.profile, ask, answer) {
+            return Ok(true);
+        }
         if !self.profile.codes {
             return Ok(false);
         }

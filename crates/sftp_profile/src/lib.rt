@@ -2,8 +2,10 @@
 //! it. A judge is a session under a profile.
 #![tactic(auto)]
 
+mod departures;
 mod judges;
 pub mod laws;
+mod paths;
 mod profiles;
 mod refusals;
 

@@ -1,5 +1,6 @@
 //! Statuses that say that a request was refused (draft, section 7).
 ghost use Rattle.std.specs.Prelude.{◌≡◌};
+ghost use Rattle.sftp_handles.specs.Replies.{has_code};
 ghost use Rattle.sftp_profile.specs.Departures as spec;
 
 use sftp_wire::Answer;
@@ -10,6 +11,16 @@ pub(crate) fn is_refusal(answer: &Answer) -> bool
 {
     match answer {
         Answer::Status { code, .. } => is_refusal_code(*code),
+        _ => false,
+    }
+}
+
+/// Whether the answer is a status with this code.
+pub(crate) fn has_code(answer: &Answer, wanted: u32) -> bool
+    ensures { result ≡ has_code wanted answer.now }
+{
+    match answer {
+        Answer::Status { code, .. } => *code == wanted,
         _ => false,
     }
 }

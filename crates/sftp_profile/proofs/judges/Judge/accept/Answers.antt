@@ -1,15 +1,10 @@
 use Rattle.std.proofs.Common.{◌≡◌, sym, ap, ◌∙◌, false, IsTrue}
 use Rattle.std.proofs.lemmas.Result.{IfOk-weaker}
-use Rattle.sftp_handles.specs.State as sessions
-use Rattle.sftp_profile.specs.declared.profiles.Profile.{Profile}
 use Rattle.sftp_profile.specs.State.{State}
 use Rattle.sftp_profile.specs.Permitted.{Permitted}
 use Rattle.sftp_profile.specs.Judged.{IsForgiven}
-use Rattle.sftp_profile.proofs.Permissions.{strictly-permitted, forgiven-permitted, forgiven-refused}
+use Rattle.sftp_profile.proofs.Permissions.{under_same, strictly-permitted, forgiven-permitted, forgiven-refused}
 use Rattle.sftp_profile.proofs.judges.Judge.accept.Goals as goal
-
-abbrev under_same : Profile → sessions.State → State
-under_same profile session = record { profile = profile; session = session }
 
 pub returns-then-branch-clause-allowed : goal.returns-then-branch-clause-allowed
 returns-then-branch-clause-allowed c =
