@@ -1,5 +1,6 @@
 -- Answers that a profile lets pass and that change nothing (draft-ietf-secsh-filexfer-02, sections 6 and 7).
-use Rattle.std.specs.Prelude.{◌==◌, ◌&&◌, ◌||◌, not, ℕ, Bool, false}
+use Rattle.std.specs.Prelude.{length, nat_lt, ◌==◌, ◌&&◌, ◌||◌, not, ℕ, Bool, false}
+use Rattle.std.specs.List.{list_all}
 use Rattle.sftp_wire.specs.declared.attributes.Attrs.{Attrs}
 use Rattle.sftp_wire.specs.declared.packets.Ask.{Ask}
 use Rattle.sftp_wire.specs.declared.packets.Ask.TheVariants as asks
@@ -12,6 +13,7 @@ use Rattle.sftp_handles.specs.Requests.{causes}
 use Rattle.sftp_handles.specs.Replies.{has_code}
 use Rattle.sftp_profile.specs.declared.profiles.Profile.{Profile}
 use Rattle.sftp_profile.specs.Paths.{walks_loosely}
+use Rattle.sftp_profile.specs.Tellings.{is_dots, is_readdir}
 
 -- ---- by the state
 
@@ -26,6 +28,14 @@ is_refusal other = false
 -- some cause refuses the request, and so does the answer, with whichever code
 abbrev pub passes_codes : State → Ask → Answer → Bool
 passes_codes s ask answer = is_refusal answer && not (is_none (causes s ask))
+
+abbrev pub are_dots : Answer → Bool
+are_dots (replies.Name items) = nat_lt 0 (length items) && list_all (λ item. is_dots item.filename) items
+are_dots other = false
+
+-- READDIR is not refused, and gives `.` and `..` alone
+abbrev pub passes_dots : State → Ask → Answer → Bool
+passes_dots s ask answer = is_readdir ask && (are_dots answer && is_none (causes s ask))
 
 -- ---- by the request and its answer alone
 
@@ -50,10 +60,14 @@ passes_empty_setstat ask answer = is_empty_setstat ask && has_code 0 answer
 
 -- ---- all of them
 
+abbrev pub passes_in : Profile → State → Ask → Answer → Bool
+passes_in profile s ask answer =
+    profile.codes && passes_codes s ask answer || profile.dots && passes_dots s ask answer
+
 abbrev pub passes_alone : Profile → Ask → Answer → Bool
 passes_alone profile ask answer =
     profile.slash && passes_slash ask answer || profile.empty_setstat && passes_empty_setstat ask answer
 
 -- the profile lets the answer pass; the session stays as it is
 unfoldable pub is_forgiven : Profile → State → Ask → Answer → Bool
-is_forgiven profile s ask answer = passes_alone profile ask answer || profile.codes && passes_codes s ask answer
+is_forgiven profile s ask answer = passes_alone profile ask answer || passes_in profile s ask answer

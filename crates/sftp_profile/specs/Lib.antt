@@ -3,5 +3,7 @@ pub mod State
 pub mod Paths
 pub mod Departures
 pub mod Readings
+pub mod Tellings
 pub mod Permitted
 pub mod Judged
+pub mod Examples

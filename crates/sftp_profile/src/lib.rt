@@ -3,11 +3,13 @@
 #![tactic(auto)]
 
 mod departures;
+pub mod examples;
 mod judges;
 pub mod laws;
 mod paths;
 mod profiles;
 mod refusals;
+mod tellings;
 
 pub use judges::Judge;
 pub use profiles::Profile;

@@ -13,6 +13,10 @@ pub struct Profile {
     pub slash: bool,
     /// A SETSTAT that sets nothing may be done, wherever its path leads.
     pub empty_setstat: bool,
+    /// READDIR may give `.` and `..`, any number of times and with any attributes.
+    pub dots: bool,
+    /// The size of a directory is free.
+    pub dir_size: bool,
 }
 
 impl Profile {
@@ -24,6 +28,8 @@ impl Profile {
             codes: false,
             slash: false,
             empty_setstat: false,
+            dots: false,
+            dir_size: false,
         }
     }
 }
