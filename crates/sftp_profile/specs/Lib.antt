@@ -1,5 +1,9 @@
 pub mod Profiles
 pub mod State
+pub mod Paths
 pub mod Departures
+pub mod Readings
+pub mod Tellings
 pub mod Permitted
 pub mod Judged
+pub mod Examples

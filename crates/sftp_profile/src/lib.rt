@@ -2,10 +2,14 @@
 //! it. A judge is a session under a profile.
 #![tactic(auto)]
 
+mod departures;
+pub mod examples;
 mod judges;
 pub mod laws;
+mod paths;
 mod profiles;
 mod refusals;
+mod tellings;
 
 pub use judges::Judge;
 pub use profiles::Profile;
