@@ -6,10 +6,12 @@ mod departures;
 pub mod examples;
 mod judges;
 pub mod laws;
+mod names;
 mod paths;
 mod profiles;
 mod refusals;
 mod tellings;
 
 pub use judges::Judge;
+pub use names::NAMES;
 pub use profiles::Profile;
