@@ -1,8 +1,13 @@
 -- Replies that a profile permits, by the strict step and by what the profile forgives.
 use Rattle.std.proofs.Common.{◌≡◌, Bool, true, false, Option, Some, None, refl, sym, ap, subst, ◌∙◌}
-use Rattle.std.proofs.Common.{◌↔◌, IsTrue}
+use Rattle.std.proofs.Common.{◌↔◌, IsTrue, IfOk, Result, Ok, Err}
+use Rattle.sftp_path.specs.declared.errors.NoMemory.{NoMemory}
 use Rattle.sftp_wire.specs.declared.packets.Ask.{Ask}
+use Rattle.sftp_wire.specs.declared.packets.Ask.TheVariants as asks
 use Rattle.sftp_wire.specs.declared.packets.Answer.{Answer}
+use Rattle.sftp_wire.specs.declared.packets.Answer.TheVariants as replies
+use Rattle.sftp_wire.specs.declared.names.NameItem.{NameItem}
+use Rattle.std.specs.Prelude.{List, if◌then◌else◌, ◌&&◌}
 use Rattle.sftp_wire.specs.declared.packets.Request.{Request}
 use Rattle.sftp_wire.specs.declared.packets.Reply.{Reply}
 use Rattle.sftp_handles.specs.State as sessions
@@ -12,8 +17,13 @@ use Rattle.sftp_profile.specs.declared.profiles.Profile.{Profile}
 use Rattle.sftp_profile.specs.Profiles.{strict}
 use Rattle.sftp_profile.specs.State.{State}
 use Rattle.sftp_profile.specs.Departures.{is_forgiven}
-use Rattle.sftp_profile.specs.Judged.{IsForgiven}
-use Rattle.sftp_profile.specs.Permitted.{Permitted, first_of, forgiven, forgiven_by, permitted, under, step}
+use Rattle.sftp_profile.specs.Readings.{asked}
+use Rattle.sftp_profile.specs.Tellings.{told, mended_items, is_readdir}
+use Rattle.sftp_profile.specs.Judged.{Outcome, IsStrict, IsForgiven, IsPermitted}
+use Rattle.sftp_profile.specs.Permitted.{Permitted, taken, retold, first_of, forgiven, forgiven_by, permitted, under, step}
+
+abbrev pub under_same : Profile → sessions.State → State
+under_same profile session = record { profile = profile; session = session }
 
 -- ---- from a state and its answer
 
@@ -55,10 +65,29 @@ first-none : (o : Option sessions.State) → first_of o None ≡ o
 first-none (Some s) = refl
 first-none None = refl
 
+strict-asked : (ask : Ask) → asked strict ask ≡ None
+strict-asked (asks.Lstat path) = refl
+strict-asked (asks.Open path pflags attrs) = refl
+strict-asked other = refl
+
+strict-names : (readdir : Bool) (items : List NameItem)
+    → (if readdir && false then Some (replies.Name (mended_items strict items)) else None) ≡ None
+strict-names true items = refl
+strict-names false items = refl
+
+strict-told : (ask : Ask) (answer : Answer) → told strict ask answer ≡ None
+strict-told ask (replies.Attrs attrs) = refl
+strict-told ask (replies.Name items) = strict-names (is_readdir ask) items
+strict-told ask other = refl
+
 strict-permitted : (s : sessions.State) (ask : Ask) (answer : Answer) → permitted strict s ask answer
     ≡ strictly.step s ask answer
 unfolding permitted forgiven is_forgiven
-strict-permitted s ask answer = first-none (strictly.step s ask answer)
+strict-permitted s ask answer =
+    ap (λ o. first_of (strictly.step s ask answer) (first_of (taken s o answer) (retold strict s ask (told strict ask answer))))
+    (strict-asked ask)
+    ∙ (ap (λ o. first_of (strictly.step s ask answer) (retold strict s ask o)) (strict-told ask answer)
+    ∙ first-none (strictly.step s ask answer))
 
 under-session : (profile : Profile) (o : Option sessions.State) (end : State) → under profile o ≡ Some end
     → o ≡ Some end.session
@@ -88,7 +117,7 @@ strict-both s request reply end = (
       (sym both.0) (strictly-permitted strict s request reply end.session both.1),
 )
 
--- ---- what is not allowed strictly
+-- ---- outcomes
 
 none-by : (s : sessions.State) (request : Request) (reply : Reply) (o : Option sessions.State)
     → strictly.step s request.ask reply.answer ≡ o → reply.id ≡ request.id
@@ -96,56 +125,107 @@ none-by : (s : sessions.State) (request : Request) (reply : Reply) (o : Option s
 none-by s request reply None is same never = refl
 none-by s request reply (Some end) is same never = absurd (never end (step-is_allowed s request reply end same is))
 
-strictly-none : (s : sessions.State) (request : Request) (reply : Reply) → reply.id ≡ request.id
-    → ((end : sessions.State) → strictly.Allowed s request reply end → ⊥)
-    → strictly.step s request.ask reply.answer ≡ None
-strictly-none s request reply same never = none-by s request reply _ refl same never
-
--- then the answer is permitted exactly if the profile forgives it
-pub otherwise : (s : State) (request : Request) (reply : Reply) → reply.id ≡ request.id
-    → ((end : sessions.State) → strictly.Allowed s.session request reply end → ⊥)
-    → step s request.ask reply.answer ≡ under s.profile (forgiven s.profile s.session request.ask reply.answer)
-unfolding step permitted
-otherwise s request reply same never =
-    ap (λ o. under s.profile (first_of o (forgiven s.profile s.session request.ask reply.answer)))
-    (strictly-none s.session request reply same never)
-
--- an answer that is forgiven, in a state that is the same as before the strict step
-pub forgiven-permitted : (s now end : State) (request : Request) (reply : Reply) → now ≡ s → reply.id ≡ request.id
-    → ((end : sessions.State) → strictly.Allowed s.session request reply end → ⊥)
-    → (ok : Bool) → IsForgiven now request.ask reply.answer ok end → IsTrue ok → Permitted s request reply end
-forgiven-permitted s now end request reply same same_id never true judged is = record {
-  same_id = same_id;
-  step =
-      otherwise s request reply same_id never
-      ∙ (ap (λ (s : State). under s.profile (forgiven s.profile s.session request.ask reply.answer)) (sym same)
-      ∙ judged.step_is);
-}
-forgiven-permitted s now end request reply same same_id never false judged is = absurd cc
-
-pub forgiven-refused : (s now end : State) (request : Request) (reply : Reply) → now ≡ s
-    → ((end : sessions.State) → strictly.Allowed s.session request reply end → ⊥)
-    → (ok : Bool) → IsForgiven now request.ask reply.answer ok end → ok ≡ false
-    → (other : State) → Permitted s request reply other → ⊥
-forgiven-refused s now end request reply same never true judged is other p = absurd cc
-forgiven-refused s now end request reply same never false judged is other p =
-    let none : under now.profile (forgiven now.profile now.session request.ask reply.answer) ≡ None = judged.step_is in
-    let one = otherwise s request reply p.same_id never in
-    let moved =
-    ap (λ (s : State). under s.profile (forgiven s.profile s.session request.ask reply.answer)) (sym same) in
-    let some = p.step in
-    cc
-
--- ---- answers after which the session is as before
-
-pub still-forgiven : (s : State) (ask : Ask) (answer : Answer) (ok : Bool)
-    → ok ≡ is_forgiven s.profile s.session ask answer → IsForgiven s ask answer ok s
-unfolding forgiven
-still-forgiven s ask answer true is = record {
-  step_is = ap (λ b. under s.profile (forgiven_by s.session b)) (sym is);
+strict-outcome : (s : State) (request : Request) (reply : Reply) (end : sessions.State) → reply.id ≡ request.id
+    → (ok : Bool) → (IsTrue ok → strictly.Allowed s.session request reply end)
+    → (ok ≡ false → (other : sessions.State) → strictly.Allowed s.session request reply other → ⊥)
+    → (ok ≡ false → end ≡ s.session) → IsStrict s request.ask reply.answer ok (under_same s.profile end)
+strict-outcome s request reply end same true allowed never kept = record {
+  is = ap (under s.profile) (allowed-step s.session request reply end (allowed refl));
   kept = λ e. absurd cc;
 }
-still-forgiven s ask answer false is = record {
-  step_is = ap (λ b. under s.profile (forgiven_by s.session b)) (sym is);
+strict-outcome s request reply end same false allowed never kept = record {
+  is = ap (under s.profile) (none-by s.session request reply _ refl same (never refl));
+  kept = λ e. ap (under_same s.profile) (kept refl);
+}
+
+-- what the session says of a reply
+pub strict-result : (s : State) (request : Request) (reply : Reply) (end : sessions.State) → reply.id ≡ request.id
+    → (result : Result Bool NoMemory) → IfOk result (λ ok. IsTrue ok → strictly.Allowed s.session request reply end)
+    → IfOk result (λ ok. ok ≡ false → (other : sessions.State) → strictly.Allowed s.session request reply other → ⊥)
+    → IfOk result (λ ok. ok ≡ false → end ≡ s.session)
+    → IfOk result (λ ok. IsStrict s request.ask reply.answer ok (under_same s.profile end))
+strict-result s request reply end same (Ok ok) allowed never kept =
+    strict-outcome s request reply end same ok allowed never kept
+strict-result s request reply end same (Err e) allowed never kept = tt
+
+pub none-outcome : (found : Option State) (s : State) → found ≡ None → Outcome found s false s
+none-outcome found s is = record { is = is; kept = λ e. refl }
+
+-- the first of two is found
+pub first-outcome : (profile : Profile) (a b : Option sessions.State) (s end : State) (ok : Bool) → ok ≡ true
+    → Outcome (under profile a) s ok end → Outcome (under profile (first_of a b)) s true end
+first-outcome profile (Some here) b s end true is_true found = found
+first-outcome profile None b s end true is_true found = absurd (let is = found.is in cc)
+first-outcome profile a b s end false is_true found = absurd cc
+
+-- the first of two is not found; then the state is as before
+pub second-outcome : (profile : Profile) (a b : Option sessions.State) (s now end : State) (ok : Bool)
+    → Outcome (under profile a) s false now → Outcome (under profile b) now ok end
+    → Outcome (under profile (first_of a b)) s ok end
+second-outcome profile (Some here) b s now end ok found next = absurd (let is = found.is in cc)
+second-outcome profile None b s now end ok found next = record {
+  is = next.is;
+  kept = λ e. next.kept e ∙ found.kept refl;
+}
+
+-- the same of what the second says of the state as it is now
+pub second-result : (first second : State → Option sessions.State) (s now end : State) (result : Result Bool NoMemory)
+    → (here : Bool) → here ≡ false → Outcome (under s.profile (first s)) s here now
+    → IfOk result (λ ok. Outcome (under now.profile (second now)) now ok end)
+    → IfOk result (λ ok. Outcome (under s.profile (first_of (first s) (second s))) s ok end)
+second-result first second s now end (Ok ok) false is_false found next =
+    second-outcome s.profile (first s) (second s) s now end ok found
+    (subst (λ (before : State). Outcome (under before.profile (second before)) now ok end) (found.kept refl) next)
+second-result first second s now end (Err e) false is_false found next = tt
+second-result first second s now end result true is_false found next = absurd cc
+
+-- ---- what passes as it stands
+
+pub passes-outcome : (s : State) (ask : Ask) (answer : Answer)
+    → is_forgiven s.profile s.session ask answer ≡ true → IsForgiven s ask answer true s
+unfolding forgiven
+passes-outcome s ask answer is = record {
+  is =
+      ap
+      (λ b.
+      under s.profile
+      (first_of (forgiven_by s.session b)
+      (first_of (taken s.session (asked s.profile ask) answer)
+      (retold s.profile s.session ask (told s.profile ask answer))))) is;
   kept = λ e. refl;
 }
+
+pub unpassed-outcome : (s end : State) (ask : Ask) (answer : Answer) (ok : Bool)
+    → is_forgiven s.profile s.session ask answer ≡ false
+    → Outcome (under s.profile (first_of (taken s.session (asked s.profile ask) answer)
+    (retold s.profile s.session ask (told s.profile ask answer)))) s ok end → IsForgiven s ask answer ok end
+unfolding forgiven
+unpassed-outcome s end ask answer ok not found = record {
+  is =
+      ap
+      (λ b.
+      under s.profile
+      (first_of (forgiven_by s.session b)
+      (first_of (taken s.session (asked s.profile ask) answer)
+      (retold s.profile s.session ask (told s.profile ask answer))))) not
+      ∙ found.is;
+  kept = found.kept;
+}
+
+-- ---- replies
+
+pub permitted-reply : (s end : State) (request : Request) (reply : Reply) → reply.id ≡ request.id → (ok : Bool)
+    → IsPermitted s request.ask reply.answer ok end → IsTrue ok → Permitted s request reply end
+unfolding step
+permitted-reply s end request reply same true found is = record { same_id = same; step = found.is }
+permitted-reply s end request reply same false found is = absurd cc
+
+pub refused-reply : (s end : State) (request : Request) (reply : Reply) (ok : Bool)
+    → IsPermitted s request.ask reply.answer ok end → ok ≡ false → (other : State)
+    → Permitted s request reply other → ⊥
+unfolding step
+refused-reply s end request reply true found is other p = absurd cc
+refused-reply s end request reply false found is other p =
+    let none : under s.profile (permitted s.profile s.session request.ask reply.answer) ≡ None = found.is in
+    let some : under s.profile (permitted s.profile s.session request.ask reply.answer) ≡ Some other = p.step in
+    cc

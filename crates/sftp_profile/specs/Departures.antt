@@ -1,12 +1,23 @@
--- What a profile lets pass that is not allowed strictly (draft-ietf-secsh-filexfer-02, sections 6 and 7).
-use Rattle.std.specs.Prelude.{◌==◌, ◌&&◌, ◌||◌, not, ℕ, Bool, false}
+-- Answers that a profile lets pass and that change nothing (draft-ietf-secsh-filexfer-02, sections 6 and 7).
+use Rattle.std.specs.Prelude.{length, nat_lt, ◌==◌, ◌&&◌, ◌||◌, not, ℕ, Bool, false}
+use Rattle.std.specs.List.{list_all}
+use Rattle.sftp_wire.specs.declared.attributes.Attrs.{Attrs}
 use Rattle.sftp_wire.specs.declared.packets.Ask.{Ask}
+use Rattle.sftp_wire.specs.declared.packets.Ask.TheVariants as asks
 use Rattle.sftp_wire.specs.declared.packets.Answer.{Answer}
 use Rattle.sftp_wire.specs.declared.packets.Answer.TheVariants as replies
+use Rattle.std.specs.Prelude.{is_some}
 use Rattle.sftp_tree.specs.Causes.{is_none}
 use Rattle.sftp_handles.specs.State.{State}
 use Rattle.sftp_handles.specs.Requests.{causes}
+use Rattle.sftp_handles.specs.Replies.{has_code}
 use Rattle.sftp_profile.specs.declared.profiles.Profile.{Profile}
+use Rattle.sftp_profile.specs.Paths.{walks_loosely}
+use Rattle.sftp_profile.specs.Limits.{is_beyond}
+use Rattle.sftp_profile.specs.Extensions.{is_unknown, is_looked_at, only_looks}
+use Rattle.sftp_profile.specs.Tellings.{is_dots, is_readdir}
+
+-- ---- by the state
 
 -- a code that says that a request was refused (draft, section 7)
 abbrev pub is_refusal_code : ℕ → Bool
@@ -20,6 +31,65 @@ is_refusal other = false
 abbrev pub passes_codes : State → Ask → Answer → Bool
 passes_codes s ask answer = is_refusal answer && not (is_none (causes s ask))
 
--- the profile forgives the answer; the session stays as it is
+abbrev pub are_dots : Answer → Bool
+are_dots (replies.Name items) = nat_lt 0 (length items) && list_all (λ item. is_dots item.filename) items
+are_dots other = false
+
+-- READDIR is not refused, and gives `.` and `..` alone
+abbrev pub passes_dots : State → Ask → Answer → Bool
+passes_dots s ask answer = is_readdir ask && (are_dots answer && is_none (causes s ask))
+
+-- ---- by the request and its answer alone
+
+-- a path ends loosely, and the answer refuses it
+abbrev pub passes_slash : Ask → Answer → Bool
+passes_slash ask answer = walks_loosely ask && (has_code 2 answer || has_code 4 answer)
+
+-- attributes that set nothing
+abbrev pub sets_nothing : Attrs → Bool
+sets_nothing a =
+    not (is_some a.size)
+    && (not (is_some a.owner)
+    && (not (is_some a.permissions) && (not (is_some a.times) && not (is_some a.extended))))
+
+abbrev pub is_empty_setstat : Ask → Bool
+is_empty_setstat (asks.Setstat path attrs) = sets_nothing attrs
+is_empty_setstat other = false
+
+-- nothing is to be set, and the answer says OK
+abbrev pub passes_empty_setstat : Ask → Answer → Bool
+passes_empty_setstat ask answer = is_empty_setstat ask && has_code 0 answer
+
+-- the request meets a limit of the server's own, and the answer refuses it
+abbrev pub passes_limits : Ask → Answer → Bool
+passes_limits ask answer = is_beyond ask && has_code 4 answer
+
+-- an extension that is not known is refused, or only looks
+abbrev pub passes_extensions : Ask → Answer → Bool
+passes_extensions ask answer = is_unknown ask && is_refusal answer || is_looked_at ask answer
+
+-- ---- all of them
+
+abbrev pub passes_in : Profile → State → Ask → Answer → Bool
+passes_in profile s ask answer =
+    profile.codes && passes_codes s ask answer || profile.dots && passes_dots s ask answer
+
+abbrev pub passes_alone : Profile → Ask → Answer → Bool
+passes_alone profile ask answer =
+    profile.slash && passes_slash ask answer
+    || (profile.empty_setstat && passes_empty_setstat ask answer
+    || (profile.limits && passes_limits ask answer || profile.extensions && passes_extensions ask answer))
+
+-- the profile lets the answer pass; the session stays as it is
 unfoldable pub is_forgiven : Profile → State → Ask → Answer → Bool
-is_forgiven profile s ask answer = profile.codes && passes_codes s ask answer
+is_forgiven profile s ask answer = passes_alone profile ask answer || passes_in profile s ask answer
+
+-- ---- what is not followed
+
+-- an extension that the profile does not know is neither refused nor at an end, so it may have changed anything
+abbrev pub is_unmodelled : Ask → Answer → Bool
+is_unmodelled ask answer = is_unknown ask && not (only_looks ask || (is_refusal answer || has_code 1 answer))
+
+-- whether the profile follows a request with this answer
+abbrev pub is_modelled : Profile → Ask → Answer → Bool
+is_modelled profile ask answer = not (profile.extensions && is_unmodelled ask answer)

@@ -1,11 +1,38 @@
--- What the code finds out about an answer that is not allowed strictly. Words of private contracts.
-use Rattle.std.specs.Prelude.{◌≡◌, Bool, false, if◌then◌else◌, Some, None}
+-- What the code finds out about an answer. Words of private contracts.
+use Rattle.std.specs.Prelude.{◌≡◌, Bool, false, if◌then◌else◌, Option, Some, None}
 use Rattle.sftp_wire.specs.declared.packets.Ask.{Ask}
 use Rattle.sftp_wire.specs.declared.packets.Answer.{Answer}
+use Rattle.sftp_handles.specs.Allowed as strictly
 use Rattle.sftp_profile.specs.State.{State}
-use Rattle.sftp_profile.specs.Permitted.{forgiven, under}
+use Rattle.sftp_profile.specs.Readings.{asked}
+use Rattle.sftp_profile.specs.Tellings.{told}
+use Rattle.sftp_profile.specs.Permitted.{forgiven, taken, read_as, retold, under, permitted}
 
--- `ok` says whether the profile forgives the answer, and `end` is the state then
-pub record IsForgiven (s : State) (ask : Ask) (answer : Answer) (ok : Bool) (end : State) : Type 0 where
-  pub step_is : under s.profile (forgiven s.profile s.session ask answer) ≡ (if ok then Some end else None)
+-- `ok` says whether a state was found, and `end` is this state; without one it is as before
+pub record Outcome (found : Option State) (s : State) (ok : Bool) (end : State) : Type 0 where
+  pub is : found ≡ (if ok then Some end else None)
   pub kept : ok ≡ false → end ≡ s
+
+-- whether the answer is allowed strictly, and the state then
+abbrev pub IsStrict : State → Ask → Answer → Bool → State → Type 0
+IsStrict s ask answer = Outcome (under s.profile (strictly.step s.session ask answer)) s
+
+-- the same of the request that the profile takes this one for
+abbrev pub IsTaken : State → Ask → Answer → Bool → State → Type 0
+IsTaken s ask answer = Outcome (under s.profile (taken s.session (asked s.profile ask) answer)) s
+
+-- of one or the other
+abbrev pub IsRead : State → Ask → Answer → Bool → State → Type 0
+IsRead s ask answer = Outcome (under s.profile (read_as s.profile s.session ask answer)) s
+
+-- of the answer as it would be strictly
+abbrev pub IsRetold : State → Ask → Answer → Bool → State → Type 0
+IsRetold s ask answer = Outcome (under s.profile (retold s.profile s.session ask (told s.profile ask answer))) s
+
+-- of an answer that is forgiven
+abbrev pub IsForgiven : State → Ask → Answer → Bool → State → Type 0
+IsForgiven s ask answer = Outcome (under s.profile (forgiven s.profile s.session ask answer)) s
+
+-- of an answer that is permitted
+abbrev pub IsPermitted : State → Ask → Answer → Bool → State → Type 0
+IsPermitted s ask answer = Outcome (under s.profile (permitted s.profile s.session ask answer)) s

@@ -1,5 +1,12 @@
 pub mod Profiles
 pub mod State
+pub mod Paths
+pub mod Limits
+pub mod Extensions
+pub mod Flags
 pub mod Departures
+pub mod Readings
+pub mod Tellings
 pub mod Permitted
 pub mod Judged
+pub mod Examples

@@ -2,15 +2,18 @@
 ghost use Rattle.std.specs.Prelude.{◌≡◌, [], false, IsTrue, IfOk, OnErr};
 ghost use Rattle.sftp_tree.specs.Tree.{trim};
 ghost use Rattle.sftp_profile.specs.State.{State, begun};
-ghost use Rattle.sftp_profile.specs.Departures.{is_forgiven, passes_codes};
+ghost use Rattle.sftp_profile.specs.Departures.{is_forgiven, is_modelled, passes_in, passes_codes, passes_dots};
 ghost use Rattle.sftp_profile.specs.Permitted.{Permitted};
-ghost use Rattle.sftp_profile.specs.Judged.{IsForgiven};
+ghost use Rattle.sftp_profile.specs.Judged.{IsStrict, IsTaken, IsRead, IsRetold, IsForgiven, IsPermitted};
 
+use crate::departures::{asked, is_modelled, passes_alone};
 use crate::profiles::Profile;
-use crate::refusals::is_refusal;
+use crate::refusals::{are_dots, is_refusal};
+use crate::tellings::{is_readdir, told};
 use sftp_handles::{GivenTable, Session};
 use sftp_tree::{NoMemory, Tree};
 use sftp_wire::{Answer, Ask, Reply, Request};
+use std::alloc::Global;
 use std::marker::Model;
 
 /// A session, and the profile under which its replies are judged.
@@ -18,6 +21,7 @@ use std::marker::Model;
 pub struct Judge {
     profile: Profile,
     session: Session<GivenTable>,
+    alloc: Global,
 }
 
 impl Model for Judge {
@@ -37,8 +41,13 @@ impl Judge {
     pub fn new(profile: Profile, tree: Tree) -> Result<Judge, NoMemory>
         ensures { IfOk result (λ judge. judge ≡ begun profile tree) }
     {
+        let alloc = tree.allocator();
         let session = Session::new(tree)?;
-        Ok(Judge { profile, session })
+        Ok(Judge {
+            profile,
+            session,
+            alloc,
+        })
     }
 
     /// The profile.
@@ -78,26 +87,123 @@ impl Judge {
         if reply.id != request.id {
             return Ok(false);
         }
-        if self.session.accept(request, reply)? {
-            return Ok(true);
-        }
-        self.forgive(&request.ask, &reply.answer)
+        self.permit(request, reply)
     }
 
-    /// Whether the profile forgives an answer that is not allowed strictly. If so, the session is then as the two leave
-    /// it; if not, it is as before.
+    /// Whether the profile follows a request with this reply. It does not follow an extension that it does not know and
+    /// that was neither refused nor at an end, which may have changed anything.
+    pub fn is_modelled(&self, request: &Request, reply: &Reply) -> bool
+        ensures { result ≡ is_modelled self.now.profile request.now.ask reply.now.answer }
+    {
+        is_modelled(self.profile, &request.ask, &reply.answer)
+    }
+
+    /// Whether the profile permits the answer of a reply with the id of the request. If so, the session is then as the
+    /// two leave it; if not, it is as before. The other calls below say the same of parts of what is permitted.
     ///
     /// # Errors
     ///
     /// `NoMemory` if memory runs out; the session is then as before.
-    fn forgive(&mut self, ask: &Ask, answer: &Answer) -> Result<bool, NoMemory>
-        ensures ok { IfOk result (λ ok. IsForgiven self.old ask.now answer.now ok self.new) }
+    fn permit(&mut self, request: &Request, reply: &Reply) -> Result<bool, NoMemory>
+        requires { reply.now.id ≡ request.now.id }
+        ensures ok { IfOk result (λ ok. IsPermitted self.old request.now.ask reply.now.answer ok self.new) }
         ensures err { OnErr result (self.new ≡ self.old) }
     {
-        self.forgives(ask, answer)
+        if self.judge_strictly(request, reply)? {
+            return Ok(true);
+        }
+        self.forgive(request, reply)
     }
 
-    /// Whether the profile forgives an answer after which the session is as before.
+    /// Whether the answer is allowed strictly.
+    ///
+    /// # Errors
+    ///
+    /// `NoMemory` if memory runs out; the session is then as before.
+    fn judge_strictly(&mut self, request: &Request, reply: &Reply) -> Result<bool, NoMemory>
+        requires { reply.now.id ≡ request.now.id }
+        ensures ok { IfOk result (λ ok. IsStrict self.old request.now.ask reply.now.answer ok self.new) }
+        ensures err { OnErr result (self.new ≡ self.old) }
+    {
+        self.session.accept(request, reply)
+    }
+
+    /// Whether the profile forgives an answer.
+    ///
+    /// # Errors
+    ///
+    /// `NoMemory` if memory runs out; the session is then as before.
+    fn forgive(&mut self, request: &Request, reply: &Reply) -> Result<bool, NoMemory>
+        requires { reply.now.id ≡ request.now.id }
+        ensures ok { IfOk result (λ ok. IsForgiven self.old request.now.ask reply.now.answer ok self.new) }
+        ensures err { OnErr result (self.new ≡ self.old) }
+    {
+        if self.forgives(&request.ask, &reply.answer)? {
+            return Ok(true);
+        }
+        if self.take_otherwise(&request.ask, reply)? {
+            return Ok(true);
+        }
+        self.retell(request, reply)
+    }
+
+    /// Whether the reply is allowed for the request that the profile takes this one for.
+    ///
+    /// # Errors
+    ///
+    /// `NoMemory` if memory runs out; the session is then as before.
+    fn take_otherwise(&mut self, ask: &Ask, reply: &Reply) -> Result<bool, NoMemory>
+        ensures ok { IfOk result (λ ok. IsTaken self.old ask.now reply.now.answer ok self.new) }
+        ensures err { OnErr result (self.new ≡ self.old) }
+    {
+        let Some(ask) = asked(self.profile, ask)? else {
+            return Ok(false);
+        };
+        let request = Request { id: reply.id, ask };
+        let accepted = self.judge_strictly(&request, reply);
+        drop(request);
+        accepted
+    }
+
+    /// Whether the answer, as it would be strictly, is allowed for the request or the one that the profile takes it
+    /// for.
+    ///
+    /// # Errors
+    ///
+    /// `NoMemory` if memory runs out; the session is then as before.
+    fn retell(&mut self, request: &Request, reply: &Reply) -> Result<bool, NoMemory>
+        ensures ok { IfOk result (λ ok. IsRetold self.old request.now.ask reply.now.answer ok self.new) }
+        ensures err { OnErr result (self.new ≡ self.old) }
+    {
+        let Some(answer) = told(self.alloc, self.profile, &request.ask, &reply.answer)? else {
+            return Ok(false);
+        };
+        let mended = Reply {
+            id: request.id,
+            answer,
+        };
+        let accepted = self.read(request, &mended);
+        drop(mended);
+        accepted
+    }
+
+    /// Whether the answer is allowed for the request or the one that the profile takes it for.
+    ///
+    /// # Errors
+    ///
+    /// `NoMemory` if memory runs out; the session is then as before.
+    fn read(&mut self, request: &Request, reply: &Reply) -> Result<bool, NoMemory>
+        requires { reply.now.id ≡ request.now.id }
+        ensures ok { IfOk result (λ ok. IsRead self.old request.now.ask reply.now.answer ok self.new) }
+        ensures err { OnErr result (self.new ≡ self.old) }
+    {
+        if self.judge_strictly(request, reply)? {
+            return Ok(true);
+        }
+        self.take_otherwise(&request.ask, reply)
+    }
+
+    /// Whether the profile lets an answer pass after which the session is as before.
     ///
     /// # Errors
     ///
@@ -107,10 +213,42 @@ impl Judge {
         ensures { IfOk result
             (λ ok. ok ≡ is_forgiven self.now.profile self.now.session ask.now answer.now) }
     {
-        if !self.profile.codes {
+        if passes_alone(self.profile, ask, answer) {
+            return Ok(true);
+        }
+        self.passes_in(ask, answer)
+    }
+
+    /// Whether the profile lets an answer pass in this session, where it does not anyway.
+    ///
+    /// # Errors
+    ///
+    /// `NoMemory` if memory runs out.
+    fn passes_in(&self, ask: &Ask, answer: &Answer) -> Result<bool, NoMemory>
+        ensures { IfOk result (λ ok. ok ≡ passes_in self.now.profile self.now.session ask.now answer.now) }
+    {
+        if self.profile.codes && self.passes_codes(ask, answer)? {
+            return Ok(true);
+        }
+        if !self.profile.dots {
             return Ok(false);
         }
-        self.passes_codes(ask, answer)
+        self.passes_dots(ask, answer)
+    }
+
+    /// Whether READDIR is not refused, and gives `.` and `..` alone.
+    ///
+    /// # Errors
+    ///
+    /// `NoMemory` if memory runs out.
+    fn passes_dots(&self, ask: &Ask, answer: &Answer) -> Result<bool, NoMemory>
+        ensures { IfOk result (λ ok. ok ≡ passes_dots self.now.session ask.now answer.now) }
+    {
+        if !is_readdir(ask) || !are_dots(answer) {
+            return Ok(false);
+        }
+        let causes = self.session.causes(ask)?;
+        Ok(!causes.has_any())
     }
 
     /// Whether some cause refuses the request, and so does the answer, with whichever code.

@@ -2,10 +2,17 @@
 //! it. A judge is a session under a profile.
 #![tactic(auto)]
 
+mod departures;
+pub mod examples;
+mod extensions;
+mod flags;
 mod judges;
 pub mod laws;
+mod limits;
+mod paths;
 mod profiles;
 mod refusals;
+mod tellings;
 
 pub use judges::Judge;
 pub use profiles::Profile;

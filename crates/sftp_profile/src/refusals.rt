@@ -1,8 +1,12 @@
 //! Statuses that say that a request was refused (draft, section 7).
-ghost use Rattle.std.specs.Prelude.{◌≡◌};
+ghost use Rattle.std.specs.Prelude.{◌≡◌, ◌&&◌, nat_lt, length};
+ghost use Rattle.std.specs.List.{list_all};
+ghost use Rattle.sftp_profile.specs.Tellings.{is_dots};
+ghost use Rattle.sftp_handles.specs.Replies.{has_code};
 ghost use Rattle.sftp_profile.specs.Departures as spec;
 
-use sftp_wire::Answer;
+use crate::tellings::is_dots;
+use sftp_wire::{Answer, NameItem};
 
 /// Whether the answer is a status with a code that refuses: 2, 3, 4, 5 or 8.
 pub(crate) fn is_refusal(answer: &Answer) -> bool
@@ -10,6 +14,40 @@ pub(crate) fn is_refusal(answer: &Answer) -> bool
 {
     match answer {
         Answer::Status { code, .. } => is_refusal_code(*code),
+        _ => false,
+    }
+}
+
+/// Whether the answer gives one or more names, all of them `.` and `..`.
+pub(crate) fn are_dots(answer: &Answer) -> bool
+    ensures { result ≡ spec.are_dots answer.now }
+{
+    match answer {
+        Answer::Name(names) => are_all_dots(names.as_slice()),
+        _ => false,
+    }
+}
+
+/// Whether there is one item or more, each of the name `.` or `..`.
+fn are_all_dots(items: &[NameItem]) -> bool
+    ensures { result ≡ (nat_lt 0 (length items.now) && list_all (λ item. is_dots item.filename) items.now) }
+{
+    !items.is_empty() && all_dots(items)
+}
+
+/// Whether each item has the name `.` or `..`.
+fn all_dots(items: &[NameItem]) -> bool
+    ensures { result ≡ list_all (λ item. is_dots item.filename) items.now }
+{
+    items.iter().all(|item| is_dots(item.filename.as_slice()))
+}
+
+/// Whether the answer is a status with this code.
+pub(crate) fn has_code(answer: &Answer, wanted: u32) -> bool
+    ensures { result ≡ has_code wanted answer.now }
+{
+    match answer {
+        Answer::Status { code, .. } => *code == wanted,
         _ => false,
     }
 }

@@ -1,0 +1,43 @@
+-- What the worked examples name: profiles of one departure, and a listing with `.` and `..`.
+use Rattle.std.specs.Prelude.{ℕ, true, List, [], ◌∷◌, map, codes}
+use Rattle.sftp_wire.specs.declared.attributes.Attrs.{Attrs}
+use Rattle.sftp_wire.specs.declared.packets.Answer.{Answer}
+use Rattle.sftp_wire.specs.declared.packets.Answer.TheVariants.{Name}
+use Rattle.sftp_tree.specs.Attributes.{said}
+use Rattle.sftp_handles.specs.State.{State}
+use Rattle.sftp_handles.specs.Examples.{item, with_three}
+use Rattle.sftp_handles.specs.declared.opens.Open.TheVariants.{Listing}
+use Rattle.sftp_tree.specs.Listings.{listing}
+use Rattle.sftp_profile.specs.declared.profiles.Profile.{Profile}
+use Rattle.sftp_profile.specs.Profiles.{strict}
+
+-- ---- profiles
+
+abbrev pub any_code : Profile
+any_code = record strict { codes = true }
+
+abbrev pub loose_paths : Profile
+loose_paths = record strict { slash = true }
+
+abbrev pub empty_setstats : Profile
+empty_setstats = record strict { empty_setstat = true }
+
+abbrev pub free_sizes : Profile
+free_sizes = record strict { dir_size = true; dots = true }
+
+-- ---- attributes and names
+
+-- a directory of 4,096 bytes, as servers with a real file system show it
+abbrev pub large_directory : Attrs
+large_directory = said 4096 0 0 0o040755
+
+-- these directories, each of 4,096 bytes
+abbrev pub large_directories : List (List ℕ) → Answer
+large_directories names = Name (map (item large_directory) names)
+
+-- the directory `/d` with the directories `/d/a`, `/d/b` and `/d/c`, open under the handle `h`
+abbrev pub listed_three : State
+listed_three = record {
+  tree = with_three;
+  handles = (codes "h", Listing (listing with_three (codes "d" ∷ []))) ∷ [];
+}

@@ -1,0 +1,77 @@
+//! The paths that a request walks, and which of them end loosely (draft, section 6.2).
+ghost use Rattle.std.specs.Prelude.{◌≡◌, option_copied};
+ghost use Rattle.sftp_tree.specs.Requests as requests;
+ghost use Rattle.sftp_profile.specs.Paths as spec;
+
+use sftp_path::{Parts, is_dot, is_dot_dot};
+use sftp_wire::Ask;
+
+/// Whether a path that the request walks ends loosely.
+pub(crate) fn walks_loosely(ask: &Ask) -> bool
+    ensures { result ≡ spec.walks_loosely ask.now }
+{
+    path_of(ask).is_some_and(is_loose) || new_path_of(ask).is_some_and(is_loose)
+}
+
+/// Whether a path is empty, ends in `/` after a name, or ends in `.` or `..`.
+pub(crate) fn is_loose(path: &[u8]) -> bool
+    ensures { result ≡ spec.is_loose path.now }
+{
+    path.is_empty() || ends_in_slash(path) || ends_in_dots(path)
+}
+
+/// Whether a path ends in `/` after a component.
+fn ends_in_slash(path: &[u8]) -> bool
+    ensures { result ≡ spec.ends_in_slash path.now }
+{
+    path.ends_with(b"/") && !Parts::new(path).is_empty()
+}
+
+/// Whether the last component of a path that ends in no `/` is `.` or `..`.
+fn ends_in_dots(path: &[u8]) -> bool
+    ensures { result ≡ spec.ends_in_dots path.now }
+{
+    is_dot(path) || is_dot_dot(path) || path.ends_with(b"/.") || path.ends_with(b"/..")
+}
+
+/// The path that a request walks, or the first of two.
+pub(crate) fn path_of(ask: &Ask) -> Option<&[u8]>
+    ensures { option_copied result ≡ requests.path_of ask.now }
+{
+    match ask {
+        Ask::Open { path, .. }
+        | Ask::Lstat { path }
+        | Ask::Setstat { path, .. }
+        | Ask::Opendir { path }
+        | Ask::Remove { path }
+        | Ask::Mkdir { path, .. }
+        | Ask::Rmdir { path }
+        | Ask::Realpath { path }
+        | Ask::Stat { path }
+        | Ask::Readlink { path }
+        | Ask::Symlink { linkpath: path, .. }
+        | Ask::Rename { oldpath: path, .. }
+        | Ask::PosixRename { oldpath: path, .. }
+        | Ask::Hardlink { oldpath: path, .. } => Some(path.as_slice()),
+        Ask::Close { .. }
+        | Ask::Read { .. }
+        | Ask::Write { .. }
+        | Ask::Fstat { .. }
+        | Ask::Fsetstat { .. }
+        | Ask::Readdir { .. }
+        | Ask::Fsync { .. }
+        | Ask::Unknown { .. } => None,
+    }
+}
+
+/// The second path of a request, a new name.
+pub(crate) fn new_path_of(ask: &Ask) -> Option<&[u8]>
+    ensures { option_copied result ≡ requests.new_path_of ask.now }
+{
+    match ask {
+        Ask::Rename { newpath, .. }
+        | Ask::PosixRename { newpath, .. }
+        | Ask::Hardlink { newpath, .. } => Some(newpath.as_slice()),
+        _ => None,
+    }
+}
