@@ -3,3 +3,4 @@ pub mod Judged
 pub mod FirstFaults
 pub mod OneAccount
 pub mod StrictAccounts
+pub mod StrictFaults

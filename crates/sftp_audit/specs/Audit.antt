@@ -16,11 +16,10 @@ use Rattle.sftp_tree.specs.Picture.{IsStart}
 use Rattle.sftp_handles.specs.State.{State, settled}
 use Rattle.sftp_handles.specs.Allowed.{Allowed}
 use Rattle.sftp_profile.specs.declared.profiles.Profile.{Profile}
-use Rattle.sftp_profile.specs.Profiles.{strict}
 use Rattle.sftp_profile.specs.State as judges
 use Rattle.sftp_profile.specs.Permitted.{Permitted}
 use Rattle.sftp_transcript.specs.Transcript.{IsRecord}
-use Rattle.sftp_transcript.specs.Explained.{Explained, exchanges_of}
+use Rattle.sftp_transcript.specs.Explained.{StepOf, Explained, exchanges_of}
 use Rattle.sftp_transcript.specs.Sound.{Sound}
 use Rattle.sftp_transcript.specs.Streams.{one_more}
 use Rattle.sftp_transcript.specs.Begun.{BeginsRecord, FaultAfter, HasGiven}
@@ -28,7 +27,7 @@ use Rattle.sftp_transcript.specs.Recorded.{Reading}
 use Rattle.sftp_transcript.specs.declared.stage.Stage.TheVariants as stages
 use Rattle.sftp_audit.specs.Auditor.{Audited, StandsFor, Refuses, LacksReply}
 
--- the state in which a session begins on a tree: nothing is open
+-- the state in which a session begins on a tree, without a profile: nothing is open
 abbrev pub started : Tree → State
 started t = settled t []
 
@@ -41,9 +40,9 @@ pub record Accounts (tree transcript : List ℕ) (start : Tree) (events : List E
   pub explained : Explained Allowed (started start) events last
   pub end_is : end ≡ trim (record last.tree { pins = [] })
 
--- The same under a profile. The start under it is `judges.begun`.
-pub record AccountsBy (profile : Profile) (tree transcript : List ℕ) (start : Tree) (events : List Event) (end : Tree)
-    : Type 0 where
+-- the same under a profile
+pub record AccountsBy (profile : Profile) (tree transcript : List ℕ) (start : Tree) (events : List Event)
+    (end : Tree) : Type 0 where
   pub start_is : IsStart start tree
   pub events_are : IsRecord events transcript
   pub last : judges.State
@@ -76,45 +75,51 @@ abbrev pub HasStart : List ℕ → Type 0
 HasStart tree = (start : Tree) × IsStart start tree
 
 -- an event is refused after events that are sound: the file records them, then this one, and then anything
-pub record RefusedAt (start : judges.State) (transcript : List ℕ) (refusal : Refusal) : Type 0 where
+pub record RefusedAt {S : Type 0} (step : StepOf S) (start : S) (transcript : List ℕ) (refusal : Refusal) : Type 0 where
   pub events : List Event
   pub event : Event
   pub rest : List ℕ
   pub begins : BeginsRecord (events ++ event ∷ []) transcript rest
-  pub end : judges.State
-  pub sound : Sound Permitted start events end
-  pub refuses : Refuses start events event refusal
+  pub end : S
+  pub sound : Sound step start events end
+  pub refuses : Refuses step start events event refusal
 
 -- the events of the whole file are sound, but one request has no reply
-pub record RefusedAtEnd (start : judges.State) (transcript : List ℕ) (refusal : Refusal) : Type 0 where
+pub record RefusedAtEnd {S : Type 0} (step : StepOf S) (start : S) (transcript : List ℕ)
+    (refusal : Refusal) : Type 0 where
   pub events : List Event
   pub recorded : IsRecord events transcript
-  pub end : judges.State
-  pub sound : Sound Permitted start events end
+  pub end : S
+  pub sound : Sound step start events end
   pub lacks : LacksReply events refusal
 
 -- the file has a fault after events that are sound
-pub record FaultAt (start : judges.State) (transcript : List ℕ) (error : TranscriptError) : Type 0 where
+pub record FaultAt {S : Type 0} (step : StepOf S) (start : S) (transcript : List ℕ)
+    (error : TranscriptError) : Type 0 where
   pub events : List Event
-  pub end : judges.State
-  pub sound : Sound Permitted start events end
+  pub end : S
+  pub sound : Sound step start events end
   pub fault : FaultAfter transcript events error
 
--- What an audit under a profile meets first: the bytes are no tree; or, record by record, the fault of a record or the refusal of its
--- event; or, at the end, a request without a reply.
-abbrev pub IsFirstFaultBy : Profile → List ℕ → List ℕ → AuditError → Type 0
-IsFirstFaultBy profile tree transcript (audit_errors.Tree error) = HasStart tree → ⊥
-IsFirstFaultBy profile tree transcript (audit_errors.Transcript error) =
-    (start : Tree) × IsStart start tree × FaultAt (judges.begun profile start) transcript error
-IsFirstFaultBy profile tree transcript (audit_errors.Refused refusal) =
+-- What an audit meets first, where a step judges replies and a session begins in a state of its tree: the bytes are no
+-- tree; or, record by record, the fault of a record or the refusal of its event; or, at the end, a request without a
+-- reply.
+abbrev pub IsFirstFaultOf : {S : Type 0} → StepOf S → (Tree → S) → List ℕ → List ℕ → AuditError → Type 0
+IsFirstFaultOf step begin tree transcript (audit_errors.Tree error) = HasStart tree → ⊥
+IsFirstFaultOf step begin tree transcript (audit_errors.Transcript error) =
+    (start : Tree) × IsStart start tree × FaultAt step (begin start) transcript error
+IsFirstFaultOf step begin tree transcript (audit_errors.Refused refusal) =
     (start : Tree) × IsStart start tree
-    × (RefusedAt (judges.begun profile start) transcript refusal
-    ⊎ RefusedAtEnd (judges.begun profile start) transcript refusal)
-IsFirstFaultBy profile tree transcript audit_errors.NoMemory = ⊤
+    × (RefusedAt step (begin start) transcript refusal ⊎ RefusedAtEnd step (begin start) transcript refusal)
+IsFirstFaultOf step begin tree transcript audit_errors.NoMemory = ⊤
 
--- the same under the strict profile
+-- where the replies are judged strictly
 abbrev pub IsFirstFault : List ℕ → List ℕ → AuditError → Type 0
-IsFirstFault = IsFirstFaultBy strict
+IsFirstFault = IsFirstFaultOf Allowed started
+
+-- where they are judged under a profile
+abbrev pub IsFirstFaultBy : Profile → List ℕ → List ℕ → AuditError → Type 0
+IsFirstFaultBy profile = IsFirstFaultOf Permitted (judges.begun profile)
 
 -- the error says that the bytes are no tree
 abbrev pub IsTreeError : AuditError → Type 0
@@ -156,8 +161,8 @@ pub record WasFed (start : judges.State) (transcript : List ℕ) (requests : ℕ
 
 -- why no further event is fed: the next record has a fault, or its event is refused
 abbrev pub StopsFeed : judges.State → List ℕ → AuditError → Type 0
-StopsFeed start transcript (audit_errors.Transcript error) = FaultAt start transcript error
-StopsFeed start transcript (audit_errors.Refused refusal) = RefusedAt start transcript refusal
+StopsFeed start transcript (audit_errors.Transcript error) = FaultAt Permitted start transcript error
+StopsFeed start transcript (audit_errors.Refused refusal) = RefusedAt Permitted start transcript refusal
 StopsFeed start transcript audit_errors.NoMemory = ⊤
 StopsFeed start transcript (audit_errors.Tree error) = ⊥
 

@@ -8,7 +8,7 @@ use Rattle.sftp_profile.specs.Permitted.{Permitted}
 use Rattle.sftp_transcript.specs.declared.events.Event.{Event}
 use Rattle.sftp_transcript.specs.declared.events.Event.TheVariants.{Asked, Replied}
 use Rattle.sftp_transcript.specs.Begun.{number_after_events}
-use Rattle.sftp_transcript.specs.Explained.{Run, leading_pairs, window, turn_after, closed}
+use Rattle.sftp_transcript.specs.Explained.{StepOf, Run, leading_pairs, window, turn_after, closed}
 use Rattle.sftp_transcript.specs.Sound.{Sound, IsWaiting}
 use Rattle.sftp_audit.specs.declared.errors.Refusal.{Refusal}
 use Rattle.sftp_audit.specs.declared.errors.Refusal.TheVariants as refusals
@@ -32,7 +32,8 @@ pub record StandsFor (start : State) (events : List Event) (a : Audited) : Type 
 
 -- The reply in the record of this number is the first in the order asked that is not allowed: all requests before its
 -- own have their replies, and these are allowed.
-pub record IsFirstWrong (start : State) (exchanges : List Exchange) (number : ℕ) : Type 0 where
+pub record IsFirstWrong {S : Type 0} (step : StepOf S) (start : S) (exchanges : List Exchange)
+    (number : ℕ) : Type 0 where
   pub before : List Exchange
   pub request : Request
   pub asked_in : ℕ
@@ -42,14 +43,14 @@ pub record IsFirstWrong (start : State) (exchanges : List Exchange) (number : �
       ++ record { request = request; number = asked_in; reply = Some (record { reply = reply; number = number }) }
       ∷ behind
   pub answered : AreAnswered before
-  pub mid : State
-  pub run : Run Permitted start (leading_pairs (ledger_of before)) mid
-  pub wrong : (end : State) → Permitted mid request reply end → ⊥
+  pub mid : S
+  pub run : Run step start (leading_pairs (ledger_of before)) mid
+  pub wrong : (end : S) → step mid request reply end → ⊥
 
 -- where the refusal is `NotAllowed`, this is the state in which the reply is not allowed
 abbrev pub IsWrongIn : State → List Exchange → State → Refusal → Type 0
 IsWrongIn start exchanges state (refusals.NotAllowed number) =
-    (wrong : IsFirstWrong start exchanges number) × (wrong.mid ≡ state)
+    (wrong : IsFirstWrong Permitted start exchanges number) × (wrong.mid ≡ state)
 IsWrongIn start exchanges state other = ⊤
 
 -- from the oldest unanswered request on, as many were asked as the window allows
@@ -57,17 +58,17 @@ abbrev pub IsWindowFull : List Event → Type 0
 IsWindowFull events = window ≤ length (unsettled (recorded_exchanges events))
 
 -- why an event is refused after others that are sound from the start
-abbrev pub Refuses : State → List Event → Event → Refusal → Type 0
-Refuses start events (Replied reply) (refusals.UnknownReply number) =
+abbrev pub Refuses : {S : Type 0} → StepOf S → S → List Event → Event → Refusal → Type 0
+Refuses step start events (Replied reply) (refusals.UnknownReply number) =
     (number ≡ number_after_events events) × (turn_after reply.id closed events ≡ closed)
-Refuses start events (Asked request) (refusals.IdInUse number) =
+Refuses step start events (Asked request) (refusals.IdInUse number) =
     (number ≡ number_after_events events) × IsWaiting events request.id
-Refuses start events (Asked request) (refusals.Window number) =
+Refuses step start events (Asked request) (refusals.Window number) =
     (number ≡ number_after_events events) × (turn_after request.id closed events ≡ closed) × IsWindowFull events
-Refuses start events (Replied reply) (refusals.NotAllowed number) =
-    IsWaiting events reply.id × IsFirstWrong start (recorded_exchanges (events ++ Replied reply ∷ [])) number
-Refuses start events event refusals.NoMemory = ⊤
-Refuses start events event other = ⊥
+Refuses step start events (Replied reply) (refusals.NotAllowed number) =
+    IsWaiting events reply.id × IsFirstWrong step start (recorded_exchanges (events ++ Replied reply ∷ [])) number
+Refuses step start events event refusals.NoMemory = ⊤
+Refuses step start events event other = ⊥
 
 -- the first request without a reply is in the record of this number
 abbrev pub IsOldestOpen : List Event → ℕ → Type 0
@@ -82,7 +83,7 @@ LacksReply events other = ⊥
 
 -- why settling stops before a request without a reply
 abbrev pub RefusesToSettle : State → List Exchange → Refusal → Type 0
-RefusesToSettle start exchanges (refusals.NotAllowed number) = IsFirstWrong start exchanges number
+RefusesToSettle start exchanges (refusals.NotAllowed number) = IsFirstWrong Permitted start exchanges number
 RefusesToSettle start exchanges refusals.NoMemory = ⊤
 RefusesToSettle start exchanges other = ⊥
 

@@ -150,7 +150,8 @@ removal_done_bytes =
 
 -- ---- what an auditor keeps
 
--- under the strict profile it has settled requests that lead to this tree, keeps these exchanges, and the next record has this number
+-- under the strict profile it has settled requests that lead to this tree, keeps these exchanges, and the next record
+-- has this number
 abbrev pub auditor_with : Tree → List Exchange → ℕ → Audited
 auditor_with tree kept number = record { state = begun strict tree; kept = kept; number = number; refusal = None }
 

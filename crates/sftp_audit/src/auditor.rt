@@ -24,9 +24,9 @@ use std::marker::Model;
 /// The number of the first event's record: INIT and VERSION have the numbers 1 and 2.
 const FIRST_NUMBER: u64 = 3;
 
-/// An auditor of one session, under a profile. It keeps the tree with what is open on it, and the requests from the oldest unanswered
-/// one on, at most 1,024, with the replies that came; nothing else of the past. A request is done as soon as it and all
-/// before it have their replies.
+/// An auditor of one session, under a profile. It keeps the tree with what is open on it, and the requests from the
+/// oldest unanswered one on, at most 1,024, with the replies that came; nothing else of the past. A request is done as
+/// soon as it and all before it have their replies.
 #[derive(Drop)]
 pub struct Auditor {
     judge: Judge,
@@ -50,8 +50,8 @@ impl Model for Auditor {
 }
 
 impl Auditor {
-    /// An auditor of a session that begins on this tree, with nothing open, under the strict profile. The pins that the tree came with are taken
-    /// away. The first event is that of record 3.
+    /// An auditor of a session that begins on this tree, with nothing open, under the strict profile. The pins that the
+    /// tree came with are taken away. The first event is that of record 3.
     ///
     /// # Errors
     ///
@@ -65,7 +65,7 @@ impl Auditor {
         Auditor::by(Profile::strict(), tree)
     }
 
-    /// The same under a profile.
+    /// An auditor as that of `new`, under this profile.
     ///
     /// # Errors
     ///
@@ -95,8 +95,8 @@ impl Auditor {
     /// - `UnknownReply` at the event's record if no unanswered request has the reply's id.
     /// - `IdInUse` at the event's record if an unanswered request has the same id.
     /// - `Window` at the event's record if 1,024 requests were asked from the oldest unanswered one on.
-    /// - `NotAllowed` at the record of the first reply, in the order asked, that is not allowed. It is returned once
-    ///   all requests before its own have their replies.
+    /// - `NotAllowed` at the record of the first reply, in the order asked, that the profile does not permit. It is
+    ///   returned once all requests before its own have their replies.
     /// - `NoMemory` if memory runs out.
     pub fn feed(&mut self, event: Event) -> Result<(), Refusal>
         // It then stands for the events so far and this one.
@@ -104,8 +104,8 @@ impl Auditor {
             StandsFor start events self.old → StandsFor start (events ++ event ∷ []) self.new) }
         // A refusal has its reason.
         ensures refused { IfErr result (λ refusal. (start : State) (events : List Event) →
-            StandsFor start events self.old → Refuses start events event refusal) }
-        // After `NotAllowed` the session is the one in which the reply is not allowed.
+            StandsFor start events self.old → Refuses Permitted start events event refusal) }
+        // After `NotAllowed` the session is the one in which the reply is not permitted.
         ensures wrong { IfErr result (λ refusal. (start : State) (events : List Event) →
             StandsFor start events self.old
             → IsWrongIn start (recorded_exchanges (events ++ event ∷ [])) self.new.state refusal) }
@@ -141,7 +141,7 @@ impl Auditor {
         ensures stands { OnOk result ((start : State) (events : List Event) →
             StandsFor start events self.old → IsNoted start (events ++ event ∷ []) self.new) }
         ensures refused { IfErr result (λ refusal. (start : State) (events : List Event) →
-            StandsFor start events self.old → Refuses start events event refusal) }
+            StandsFor start events self.old → Refuses Permitted start events event refusal) }
         ensures wrong { IfErr result (λ refusal. (start : State) (events : List Event) →
             StandsFor start events self.old
             → IsWrongIn start (recorded_exchanges (events ++ event ∷ [])) self.new.state refusal) }
@@ -159,7 +159,7 @@ impl Auditor {
     }
 
     /// The session after the requests that are done. After `NotAllowed` it is the one in which the reply is not
-    /// allowed.
+    /// permitted.
     pub fn session(&self) -> &Session<GivenTable>
         ensures { result.now ≡ self.now.state.session }
     {

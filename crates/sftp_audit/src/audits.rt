@@ -67,12 +67,12 @@ pub fn audit(alloc: Global, tree: &[u8], transcript: &[u8]) -> Result<Accepted, 
     audit_by(alloc, Profile::strict(), tree, transcript)
 }
 
-/// Says the same under a profile: whether it permits every reply of a recorded session. The strict profile permits what
-/// `audit` accepts, and no more.
+/// Audits a session as `audit` does, under a profile: it accepts exactly if the profile permits each reply when the
+/// requests are carried out singly and in sequence. `audit` is this call under the strict profile.
 ///
 /// # Errors
 ///
-/// Those of `audit`, where a reply is allowed if the profile permits it.
+/// Those of `audit`; a reply counts as allowed if the profile permits it.
 pub fn audit_by(
     alloc: Global,
     profile: Profile,
@@ -133,7 +133,8 @@ pub fn audit_stream<R: Source>(
     audit_stream_by(alloc, Profile::strict(), tree, records)
 }
 
-/// Audits a session whose transcript is read from a stream, as `audit_by` does. It keeps what `audit_stream` keeps.
+/// Audits a session whose transcript is read from a stream, under a profile. It keeps as much of the transcript as
+/// `audit_stream` does.
 ///
 /// # Errors
 ///

@@ -19,7 +19,8 @@ pub enum Refusal {
     /// A request that comes 1,024 requests or more after one that is unanswered. This limit is this profile's own.
     #[error("record {record}: Window")]
     Window { record: u64 },
-    /// A reply that is not allowed when the requests are done one at a time in the order asked.
+    /// A reply that is not allowed, or not permitted under the profile, when the requests are done one at a time in the
+    /// order asked.
     #[error("record {record}: NotAllowed")]
     NotAllowed { record: u64 },
     /// A request that has no reply: the oldest one.

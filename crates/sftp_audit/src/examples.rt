@@ -108,17 +108,17 @@ pub fn wrong_byte()
 pub fn refused_in_order_asked()
     ensures nothing_settled { StandsFor (begun strict blank) (two_backward_replies 0)
         (auditor_with blank (recorded_exchanges (two_backward_replies 0)) 8) }
-    ensures refused { Refuses (begun strict blank) (two_backward_replies 0) (status 1 0) (NotAllowed 6) }
-    ensures not_the_last { ¬ Refuses (begun strict blank) (two_backward_replies 0) (status 1 0) (NotAllowed 8) }
-    ensures in_bytes { RefusedAt (begun strict blank) removal_done_bytes (NotAllowed 6) }
+    ensures refused { Refuses Allowed (started blank) (two_backward_replies 0) (status 1 0) (NotAllowed 6) }
+    ensures not_the_last { ¬ Refuses Allowed (started blank) (two_backward_replies 0) (status 1 0) (NotAllowed 8) }
+    ensures in_bytes { RefusedAt Allowed (started blank) removal_done_bytes (NotAllowed 6) }
 {}
 
 /// A second reply to one request is refused, and so is a second request with the id of an unanswered one. Once a
 /// request has its reply, its id may come again.
 pub fn ids_in_use()
-    ensures answered_twice { Refuses (begun strict blank) last_answered (status 3 4) (UnknownReply 7) }
-    ensures asked_twice { Refuses (begun strict blank) three_requests (mkdir 1 (codes "/c")) (IdInUse 6) }
-    ensures not_late { ¬ Refuses (begun strict blank) three_requests (mkdir 1 (codes "/c")) (Window 6) }
+    ensures answered_twice { Refuses Allowed (started blank) last_answered (status 3 4) (UnknownReply 7) }
+    ensures asked_twice { Refuses Allowed (started blank) three_requests (mkdir 1 (codes "/c")) (IdInUse 6) }
+    ensures not_late { ¬ Refuses Allowed (started blank) three_requests (mkdir 1 (codes "/c")) (Window 6) }
     ensures used_again { StandsFor (begun strict blank) id_used_again
         (auditor_with blank (recorded_exchanges id_used_again) 8) }
 {}

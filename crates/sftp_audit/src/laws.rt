@@ -1,6 +1,6 @@
 //! Laws of sessions, as theorems on the definitions that the auditor's contract names. The functions do nothing; each
 //! promise is in the contract.
-ghost use Rattle.std.specs.Prelude.{◌≡◌, ◌≢◌, ◌⊎◌, ℕ, List};
+ghost use Rattle.std.specs.Prelude.{◌≡◌, ◌≢◌, ◌⊎◌, ◌↔◌, ℕ, List};
 ghost use Rattle.sftp_transcript.specs.declared.events.Event.{Event};
 ghost use Rattle.sftp_tree.specs.Tree.{Tree};
 ghost use Rattle.sftp_handles.specs.State.{State};
@@ -26,7 +26,7 @@ pub fn one_end()
         Explained Allowed s events a → Explained Allowed s events b → a ≡ b }
 {}
 
-/// The same under a profile, which is a part of the state.
+/// The same of a session under a profile, which is part of the state.
 pub fn one_end_by()
     ensures { (s : judges.State) (events : List Event) (a b : judges.State) →
         Explained Permitted s events a → Explained Permitted s events b → a ≡ b }
@@ -34,10 +34,14 @@ pub fn one_end_by()
 
 /// Under the strict profile bytes account for what they account for strictly, and for no more.
 pub fn strict_accounts()
-    ensures no_more { (tree transcript : List ℕ) (start : Tree) (events : List Event) (end : Tree) →
-        AccountsBy strict tree transcript start events end → Accounts tree transcript start events end }
-    ensures no_less { (tree transcript : List ℕ) (start : Tree) (events : List Event) (end : Tree) →
-        Accounts tree transcript start events end → AccountsBy strict tree transcript start events end }
+    ensures { (tree transcript : List ℕ) (start : Tree) (events : List Event) (end : Tree) →
+        AccountsBy strict tree transcript start events end ↔ Accounts tree transcript start events end }
+{}
+
+/// Under the strict profile an audit meets first what it meets first strictly.
+pub fn strict_first_faults()
+    ensures { (tree transcript : List ℕ) (error : AuditError) →
+        IsFirstFaultBy strict tree transcript error ↔ IsFirstFault tree transcript error }
 {}
 
 /// What bytes account for strictly, they account for under each profile, with the same end.
@@ -87,10 +91,11 @@ pub fn explained_when_none_waits()
         Explained Allowed start events end }
 {}
 
-/// After given events, an event is refused for one reason at most, unless memory runs out.
+/// Under a profile, an event is refused for one reason at most after given events, unless memory runs out.
 pub fn one_refusal()
     ensures { (start : judges.State) (events : List Event) (event : Event) (a b : Refusal) →
-        Refuses start events event a → Refuses start events event b → a ≢ NoMemory → b ≢ NoMemory → a ≡ b }
+        Refuses Permitted start events event a → Refuses Permitted start events event b →
+        a ≢ NoMemory → b ≢ NoMemory → a ≡ b }
 {}
 
 /// An audit of given bytes has one first fault at most, unless memory runs out. Where the bytes are no tree file, it is

@@ -67,6 +67,7 @@ first-none None = refl
 
 strict-asked : (ask : Ask) → asked strict ask ≡ None
 strict-asked (asks.Lstat path) = refl
+strict-asked (asks.Open path pflags attrs) = refl
 strict-asked other = refl
 
 strict-names : (readdir : Bool) (items : List NameItem)

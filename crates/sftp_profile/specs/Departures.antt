@@ -13,6 +13,8 @@ use Rattle.sftp_handles.specs.Requests.{causes}
 use Rattle.sftp_handles.specs.Replies.{has_code}
 use Rattle.sftp_profile.specs.declared.profiles.Profile.{Profile}
 use Rattle.sftp_profile.specs.Paths.{walks_loosely}
+use Rattle.sftp_profile.specs.Limits.{is_beyond}
+use Rattle.sftp_profile.specs.Extensions.{is_unknown, is_looked_at, only_looks}
 use Rattle.sftp_profile.specs.Tellings.{is_dots, is_readdir}
 
 -- ---- by the state
@@ -58,6 +60,14 @@ is_empty_setstat other = false
 abbrev pub passes_empty_setstat : Ask → Answer → Bool
 passes_empty_setstat ask answer = is_empty_setstat ask && has_code 0 answer
 
+-- the request meets a limit of the server's own, and the answer refuses it
+abbrev pub passes_limits : Ask → Answer → Bool
+passes_limits ask answer = is_beyond ask && has_code 4 answer
+
+-- an extension that is not known is refused, or only looks
+abbrev pub passes_extensions : Ask → Answer → Bool
+passes_extensions ask answer = is_unknown ask && is_refusal answer || is_looked_at ask answer
+
 -- ---- all of them
 
 abbrev pub passes_in : Profile → State → Ask → Answer → Bool
@@ -66,8 +76,20 @@ passes_in profile s ask answer =
 
 abbrev pub passes_alone : Profile → Ask → Answer → Bool
 passes_alone profile ask answer =
-    profile.slash && passes_slash ask answer || profile.empty_setstat && passes_empty_setstat ask answer
+    profile.slash && passes_slash ask answer
+    || (profile.empty_setstat && passes_empty_setstat ask answer
+    || (profile.limits && passes_limits ask answer || profile.extensions && passes_extensions ask answer))
 
 -- the profile lets the answer pass; the session stays as it is
 unfoldable pub is_forgiven : Profile → State → Ask → Answer → Bool
 is_forgiven profile s ask answer = passes_alone profile ask answer || passes_in profile s ask answer
+
+-- ---- what is not followed
+
+-- an extension that the profile does not know is neither refused nor at an end, so it may have changed anything
+abbrev pub is_unmodelled : Ask → Answer → Bool
+is_unmodelled ask answer = is_unknown ask && not (only_looks ask || (is_refusal answer || has_code 1 answer))
+
+-- whether the profile follows a request with this answer
+abbrev pub is_modelled : Profile → Ask → Answer → Bool
+is_modelled profile ask answer = not (profile.extensions && is_unmodelled ask answer)

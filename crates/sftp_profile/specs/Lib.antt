@@ -1,6 +1,9 @@
 pub mod Profiles
 pub mod State
 pub mod Paths
+pub mod Limits
+pub mod Extensions
+pub mod Flags
 pub mod Departures
 pub mod Readings
 pub mod Tellings

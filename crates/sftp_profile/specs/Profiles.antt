@@ -1,7 +1,24 @@
 -- Profiles: which departures from the strict reading are accepted.
-use Rattle.std.specs.Prelude.{false}
+use Rattle.std.specs.Prelude.{◌&&◌, not, Bool, false}
 use Rattle.sftp_profile.specs.declared.profiles.Profile.{Profile}
 
 -- no departure
 abbrev pub strict : Profile
-strict = record { codes = false; slash = false; empty_setstat = false; dots = false; dir_size = false }
+strict = record {
+  codes = false;
+  slash = false;
+  empty_setstat = false;
+  dots = false;
+  dir_size = false;
+  limits = false;
+  extensions = false;
+  flags = false;
+  made = false;
+  owner_given = false;
+  umask = 0;
+  symlink_draft = false;
+}
+
+-- each request is judged as it stands first
+abbrev pub keeps_requests : Profile → Bool
+keeps_requests profile = not profile.made && not profile.symlink_draft

@@ -2,11 +2,11 @@
 ghost use Rattle.std.specs.Prelude.{◌≡◌, [], false, IsTrue, IfOk, OnErr};
 ghost use Rattle.sftp_tree.specs.Tree.{trim};
 ghost use Rattle.sftp_profile.specs.State.{State, begun};
-ghost use Rattle.sftp_profile.specs.Departures.{is_forgiven, passes_in, passes_codes, passes_dots};
+ghost use Rattle.sftp_profile.specs.Departures.{is_forgiven, is_modelled, passes_in, passes_codes, passes_dots};
 ghost use Rattle.sftp_profile.specs.Permitted.{Permitted};
 ghost use Rattle.sftp_profile.specs.Judged.{IsStrict, IsTaken, IsRead, IsRetold, IsForgiven, IsPermitted};
 
-use crate::departures::{asked, passes_alone};
+use crate::departures::{asked, is_modelled, passes_alone};
 use crate::profiles::Profile;
 use crate::refusals::{are_dots, is_refusal};
 use crate::tellings::{is_readdir, told};
@@ -88,6 +88,14 @@ impl Judge {
             return Ok(false);
         }
         self.permit(request, reply)
+    }
+
+    /// Whether the profile follows a request with this reply. It does not follow an extension that it does not know and
+    /// that was neither refused nor at an end, which may have changed anything.
+    pub fn is_modelled(&self, request: &Request, reply: &Reply) -> bool
+        ensures { result ≡ is_modelled self.now.profile request.now.ask reply.now.answer }
+    {
+        is_modelled(self.profile, &request.ask, &reply.answer)
     }
 
     /// Whether the profile permits the answer of a reply with the id of the request. If so, the session is then as the

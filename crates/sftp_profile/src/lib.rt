@@ -4,8 +4,11 @@
 
 mod departures;
 pub mod examples;
+mod extensions;
+mod flags;
 mod judges;
 pub mod laws;
+mod limits;
 mod names;
 mod paths;
 mod profiles;

@@ -3,7 +3,7 @@ ghost use Rattle.std.specs.Prelude.{◌≡◌};
 ghost use Rattle.sftp_profile.specs.Profiles as spec;
 
 /// Which departures from the strict reading are accepted, each a field. What is accepted strictly, each profile
-/// accepts.
+/// accepts that has neither `made` nor `symlink_draft`.
 #[derive(Clone, Copy, Debug, PartialEq, Eq)]
 pub struct Profile {
     /// A request that some cause refuses may be refused with any of the codes 2, 3, 4, 5 and 8.
@@ -17,6 +17,24 @@ pub struct Profile {
     pub dots: bool,
     /// The size of a directory is free.
     pub dir_size: bool,
+    /// A request may be refused with the code 4 if a path or a link's target of it has 1,024 bytes or more, or if it
+    /// reads or writes up to byte 2^31 or further.
+    pub limits: bool,
+    /// An extension that is not known may be refused with any code, and those that only look and are listed in
+    /// `extensions.rt` may be answered with any content.
+    pub extensions: bool,
+    /// OPEN is judged without unknown flags, without those that say nothing beside the others, and with that to read if
+    /// it asks neither to read nor to write.
+    pub flags: bool,
+    /// What is made has the tree's user and group, or the owner that the request gives if `owner_given`, and the
+    /// permissions that the request gives, else 0666 or 0777, without the bits of `umask`.
+    pub made: bool,
+    /// What is made has the owner that the request gives, if it gives one. It says nothing without `made`.
+    pub owner_given: bool,
+    /// The permissions that nothing new has. It says nothing without `made`.
+    pub umask: u32,
+    /// The paths of SYMLINK stand as the draft has them, that of the link first.
+    pub symlink_draft: bool,
 }
 
 impl Profile {
@@ -30,6 +48,13 @@ impl Profile {
             empty_setstat: false,
             dots: false,
             dir_size: false,
+            limits: false,
+            extensions: false,
+            flags: false,
+            made: false,
+            owner_given: false,
+            umask: 0,
+            symlink_draft: false,
         }
     }
 }

@@ -181,14 +181,15 @@ sound_prefix start events more last explained =
 
 -- ---- a reply that is not allowed
 
-same_end : (pairs : List (Request × Reply)) (start a b : State) → Run Permitted start pairs a → Run Permitted start pairs b
+same_end : (pairs : List (Request × Reply)) (start a b : State) → Run Permitted start pairs a
+    → Run Permitted start pairs b
     → a ≡ b
 same_end pairs start a b to_a to_b =
     run-one_end Permitted permitted-one_end pairs start a b to_a to_b
 
 -- no run goes over the first reply that is not allowed
 run_stops : (start : State) (exchanges : List Exchange) (number : ℕ) (end : State)
-    → IsFirstWrong start exchanges number → Run Permitted start (leading_pairs (ledger_of exchanges)) end → ⊥
+    → IsFirstWrong Permitted start exchanges number → Run Permitted start (leading_pairs (ledger_of exchanges)) end → ⊥
 unfolding leading_pairs
 run_stops start exchanges number end first run =
     let one : Exchange = record {
@@ -208,7 +209,7 @@ run_stops start exchanges number end first run =
     first.wrong parts.2.0 (subst (λ (s : State). Permitted s first.request first.reply parts.2.0) mid parts.2.1)
 
 wrong_reply : (start : State) (events : List Event) (number : ℕ) (more : List Event) (last : State)
-    → IsFirstWrong start (recorded_exchanges events) number
+    → IsFirstWrong Permitted start (recorded_exchanges events) number
     → Run Permitted start (leading_pairs (exchanges_of (events ++ more))) last → ⊥
 wrong_reply start events number more last first run =
     let found = run_before start events more last run in
@@ -220,7 +221,7 @@ wrong_reply start events number more last first run =
 
 -- No sound session begins with an event that is refused.
 pub refuses_unsound : (start : State) (events : List Event) (event : Event) (refusal : Refusal) (end : State)
-    → Sound Permitted start events end → Refuses start events event refusal → refusal ≢ refusals.NoMemory
+    → Sound Permitted start events end → Refuses Permitted start events event refusal → refusal ≢ refusals.NoMemory
     → (more : List Event) (last : State) → Sound Permitted start (events ++ event ∷ more) last → ⊥
 refuses_unsound start events (Asked request) (refusals.UnknownReply number) end sound refuses memory more last whole =
     absurd refuses
@@ -249,7 +250,7 @@ refuses_unsound start events (Replied reply) refusals.NoMemory end sound refuses
 
 -- No session that begins with an event that is refused is explained.
 pub refuses_lost : (start : State) (events : List Event) (event : Event) (refusal : Refusal) (end : State)
-    → Sound Permitted start events end → Refuses start events event refusal → refusal ≢ refusals.NoMemory
+    → Sound Permitted start events end → Refuses Permitted start events event refusal → refusal ≢ refusals.NoMemory
     → (more : List Event) (last : State) → Explained Permitted start (events ++ event ∷ more) last → ⊥
 refuses_lost start events event refusal end sound refuses memory more last explained =
     refuses_unsound start events event refusal end sound refuses memory more last

@@ -104,8 +104,8 @@ one_wrong start (z ∷ b) (w ∷ c) x y behind_b behind_c mid_b mid_c same all_b
 number_of : (x y : Exchange) (r q : RecordedReply) → x.reply ≡ Some r → y.reply ≡ Some q → x ≡ y → r.number ≡ q.number
 number_of x y r q is_r is_q same = cc
 
-pub one_first_wrong : (start : State) (xs : List Exchange) (m n : ℕ) → IsFirstWrong start xs m
-    → IsFirstWrong start xs n → m ≡ n
+pub one_first_wrong : (start : State) (xs : List Exchange) (m n : ℕ) → IsFirstWrong Permitted start xs m
+    → IsFirstWrong Permitted start xs n → m ≡ n
 one_first_wrong start xs m n a b =
     let reply_a : RecordedReply = record { reply = a.reply; number = m } in
     let reply_b : RecordedReply = record { reply = b.reply; number = n } in
@@ -127,7 +127,8 @@ WhyAsked events request refusal =
     ⊎ ((refusal ≡ refusals.Window (number_after_events events)) × (turn_after request.id closed events ≡ closed))
 
 why_asked : (start : State) (events : List Event) (request : Request) (refusal : Refusal)
-    → Refuses start events (Asked request) refusal → refusal ≢ refusals.NoMemory → WhyAsked events request refusal
+    → Refuses Permitted start events (Asked request) refusal → refusal ≢ refusals.NoMemory
+    → WhyAsked events request refusal
 why_asked start events request (refusals.IdInUse number) why other = inl (ap refusals.IdInUse why.0, why.1)
 why_asked start events request (refusals.Window number) why other = inr (ap refusals.Window why.0, why.1)
 why_asked start events request refusals.NoMemory why other = absurd (other refl)
@@ -150,10 +151,10 @@ abbrev WhyReplied : State → List Event → Reply → Refusal → Type 0
 WhyReplied start events reply refusal =
     ((refusal ≡ refusals.UnknownReply (number_after_events events)) × (turn_after reply.id closed events ≡ closed))
     ⊎ ((number : ℕ) × (refusal ≡ refusals.NotAllowed number) × IsWaiting events reply.id
-    × IsFirstWrong start (recorded_exchanges (events ++ Replied reply ∷ [])) number)
+    × IsFirstWrong Permitted start (recorded_exchanges (events ++ Replied reply ∷ [])) number)
 
 why_replied : (start : State) (events : List Event) (reply : Reply) (refusal : Refusal)
-    → Refuses start events (Replied reply) refusal → refusal ≢ refusals.NoMemory
+    → Refuses Permitted start events (Replied reply) refusal → refusal ≢ refusals.NoMemory
     → WhyReplied start events reply refusal
 why_replied start events reply (refusals.UnknownReply number) why other = inl (ap refusals.UnknownReply why.0, why.1)
 why_replied start events reply (refusals.NotAllowed number) why other = inr (number, refl, why.0, why.1)
@@ -175,7 +176,8 @@ one_of_replies start events reply a b (inr first) (inr second) =
     first.1 ∙ ap refusals.NotAllowed same ∙ sym second.1
 
 pub one_refusal : (start : State) (events : List Event) (event : Event) (a b : Refusal)
-    → Refuses start events event a → Refuses start events event b → a ≢ refusals.NoMemory → b ≢ refusals.NoMemory
+    → Refuses Permitted start events event a → Refuses Permitted start events event b → a ≢ refusals.NoMemory
+    → b ≢ refusals.NoMemory
     → a ≡ b
 one_refusal start events (Asked request) a b for_a for_b not_a not_b =
     one_of_two (turn_after request.id closed events) a b (refusals.IdInUse (number_after_events events))

@@ -55,7 +55,7 @@ done-more start mid end old (y ∷ rest) x r done at is allowed =
 -- its reply is the first of all that is not allowed
 pub done-wrong : (start mid : State) (old now : List Exchange) (x : Exchange) (r : RecordedReply)
     → IsDoneTo start old now mid → Some x ≡ slice_get now 0 → x.reply ≡ Some r
-    → ((end : State) → Permitted mid x.request r.reply end → ⊥) → IsFirstWrong start old r.number
+    → ((end : State) → Permitted mid x.request r.reply end → ⊥) → IsFirstWrong Permitted start old r.number
 done-wrong start mid old [] x r done at is wrong = absurd (none-some x (sym at))
 done-wrong start mid old (y ∷ rest) x r done at is wrong = record {
   before = done.before;
@@ -76,7 +76,7 @@ done-wrong start mid old (y ∷ rest) x r done at is wrong = record {
 pub done-wrong_in : (start mid end : State) (old now : List Exchange) (x : Exchange) (r : RecordedReply)
     → IsDoneTo start old now mid → Some x ≡ slice_get now 0 → x.reply ≡ Some r
     → ((end : State) → Permitted mid x.request r.reply end → ⊥) → end ≡ mid
-    → (wrong : IsFirstWrong start old r.number) × (wrong.mid ≡ end)
+    → (wrong : IsFirstWrong Permitted start old r.number) × (wrong.mid ≡ end)
 unfolding done-wrong
 done-wrong_in start mid end old [] x r done at is wrong same = absurd (none-some x (sym at))
 done-wrong_in start mid end old (y ∷ rest) x r done at is wrong same =

@@ -108,7 +108,7 @@ noted-asked start events request old new stands none room kept same =
 -- a request that is not taken is refused
 pub refused-asked : (start : State) (events : List Event) (request : Request) (old : Audited) (refusal : Refusal)
     → StandsFor start events old → RefusesRequest old.kept request old.number refusal
-    → Refuses start events (Asked request) refusal
+    → Refuses Permitted start events (Asked request) refusal
 refused-asked start events request old (refusals.UnknownReply number) stands r = absurd r
 refused-asked start events request old (refusals.IdInUse number) stands r =
     (r.0 ∙ stands.number, waiting_of start events old request.id stands r.1)
@@ -187,7 +187,7 @@ noted-replied start events reply old kept new stands waits replied settled run =
 -- a reply that is not taken is refused
 pub refused-replied : (start : State) (events : List Event) (reply : Reply) (old : Audited) (refusal : Refusal)
     → StandsFor start events old → RefusesReply old.kept (record { reply = reply; number = old.number }) refusal
-    → Refuses start events (Replied reply) refusal
+    → Refuses Permitted start events (Replied reply) refusal
 refused-replied start events reply old (refusals.UnknownReply number) stands r =
     (r.0 ∙ stands.number, closed_of start events old reply.id stands r.1)
 refused-replied start events reply old (refusals.IdInUse number) stands r = absurd r
@@ -205,7 +205,7 @@ both_answered (x ∷ xs) ys before behind = (before.0, both_answered xs ys befor
 pub refused-settling : (start : State) (events : List Event) (reply : Reply) (old : Audited) (kept : List Exchange)
     (refusal : Refusal) → StandsFor start events old → is_open reply.id old.kept ≡ true
     → kept ≡ with_reply (record { reply = reply; number = old.number }) old.kept
-    → RefusesToSettle old.state kept refusal → Refuses start events (Replied reply) refusal
+    → RefusesToSettle old.state kept refusal → Refuses Permitted start events (Replied reply) refusal
 refused-settling start events reply old kept (refusals.UnknownReply number) stands waits replied r = absurd r
 refused-settling start events reply old kept (refusals.IdInUse number) stands waits replied r = absurd r
 refused-settling start events reply old kept (refusals.Window number) stands waits replied r = absurd r
@@ -295,18 +295,18 @@ result-asked (Err e) event request seen old new is view same none room kept = tt
 pub refusal-asked : {T : Type 0} (result : Result T Refusal) (event : Event) (request : Request) (seen old : Audited)
     → event ≡ Asked request → old ≡ seen → IfErr result (RefusesRequest old.kept request old.number)
     → IfErr result (λ refusal. (start : State) (events : List Event) → StandsFor start events seen
-    → Refuses start events event refusal)
+    → Refuses Permitted start events event refusal)
 refusal-asked (Ok x) event request seen old is view refused = tt
 refusal-asked (Err refusal) event request seen old is view refused = λ start events stands.
-    subst (λ (e : Event). Refuses start events e refusal) (sym is)
+    subst (λ (e : Event). Refuses Permitted start events e refusal) (sym is)
     (refused-asked start events request old refusal (at_view start events seen old view stands) refused)
 
 pub refusal-replied : (event : Event) (reply : Reply) (seen old : Audited) (refusal : Refusal)
     → event ≡ Replied reply → old ≡ seen
     → RefusesReply old.kept (record { reply = reply; number = old.number }) refusal
-    → (start : State) (events : List Event) → StandsFor start events seen → Refuses start events event refusal
+    → (start : State) (events : List Event) → StandsFor start events seen → Refuses Permitted start events event refusal
 refusal-replied event reply seen old refusal is view refused start events stands =
-    subst (λ (e : Event). Refuses start events e refusal) (sym is)
+    subst (λ (e : Event). Refuses Permitted start events e refusal) (sym is)
     (refused-replied start events reply old refusal (at_view start events seen old view stands) refused)
 
 pub result-settled : {T : Type 0} (result : Result T Refusal) (event : Event) (reply : Reply)
@@ -327,10 +327,10 @@ pub refusal-settled : {T : Type 0} (result : Result T Refusal) (event : Event) (
     → is_open reply.id old.kept ≡ true → kept ≡ with_reply (record { reply = reply; number = old.number }) old.kept
     → IfErr result (RefusesToSettle old.state kept)
     → IfErr result (λ refusal. (start : State) (events : List Event) → StandsFor start events seen
-    → Refuses start events event refusal)
+    → Refuses Permitted start events event refusal)
 refusal-settled (Ok x) event reply seen old kept is view waits replied refused = tt
 refusal-settled (Err refusal) event reply seen old kept is view waits replied refused = λ start events stands.
-    subst (λ (e : Event). Refuses start events e refusal) (sym is)
+    subst (λ (e : Event). Refuses Permitted start events e refusal) (sym is)
     (let at = at_view start events seen old view stands in
     refused-settling start events reply old kept refusal at waits replied refused)
 

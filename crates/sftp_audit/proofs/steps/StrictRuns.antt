@@ -56,6 +56,14 @@ run-strict s (pair ∷ pairs) end run =
     (subst (λ (profile : Profile). Run Permitted (under profile run.0.session) pairs end) first.0 run.2) in
     (rest.0, (run.0.session, first.1, rest.1))
 
+pub sound-strict : (s : sessions.State) (events : List Event) (end : State)
+    → Sound Permitted (under strict s) events end → Sound Allowed s events end.session
+sound-strict s events end sound = record {
+  in_turn = sound.in_turn;
+  within_window = sound.within_window;
+  run = (run-strict s (leading_pairs (exchanges_of events)) end sound.run).1;
+}
+
 pub explained-strict : (s : sessions.State) (events : List Event) (end : State)
     → Explained Permitted (under strict s) events end → Explained Allowed s events end.session
 explained-strict s events end explained = record {

@@ -62,31 +62,34 @@ last_or_before (w ∷ ws) (z ∷ zs) more x y same =
 
 -- a session that is sound goes past no event that is refused
 not_before : (start : State) (transcript : List ℕ) (refusal : Refusal) (events : List Event) (end : State)
-    → refusal ≢ refusals.NoMemory → (at : RefusedAt start transcript refusal) → Sound Permitted start events end
+    → refusal ≢ refusals.NoMemory → (at : RefusedAt Permitted start transcript refusal)
+    → Sound Permitted start events end
     → Before at.events at.event events → ⊥
 not_before start transcript refusal events end apart at sound before =
     refuses_unsound start at.events at.event refusal at.end at.sound at.refuses apart before.between end
     (subst (λ (l : List Event). Sound Permitted start l end) before.are sound)
 
 at_one : (start : State) (transcript : List ℕ) (a b : Refusal) → a ≢ refusals.NoMemory → b ≢ refusals.NoMemory
-    → (one : RefusedAt start transcript a) (other : RefusedAt start transcript b)
+    → (one : RefusedAt Permitted start transcript a) (other : RefusedAt Permitted start transcript b)
     → Extends (one.events ++ one.event ∷ []) one.rest (other.events ++ other.event ∷ []) other.rest → a ≡ b
 at_one start transcript a b not_a not_b one other on =
     elim (last_or_before one.events other.events on.more one.event other.event on.others_are) [
       | inl both ↦
-          let here : Refuses start other.events one.event a =
-          subst (λ (l : List Event). Refuses start l one.event a) both.0 one.refuses in
-          one_refusal start other.events other.event a b (subst (λ (e : Event). Refuses start other.events e a) both.1 here)
+          let here : Refuses Permitted start other.events one.event a =
+          subst (λ (l : List Event). Refuses Permitted start l one.event a) both.0 one.refuses in
+          one_refusal start other.events other.event a b
+          (subst (λ (e : Event). Refuses Permitted start other.events e a) both.1 here)
           other.refuses not_a not_b
       | inr before ↦
           absurd (not_before start transcript a other.events other.end not_a one other.sound before)
     ]
 
 two_refused : (start : State) (transcript : List ℕ) (a b : Refusal) → a ≢ refusals.NoMemory → b ≢ refusals.NoMemory
-    → RefusedAt start transcript a → RefusedAt start transcript b → a ≡ b
+    → RefusedAt Permitted start transcript a → RefusedAt Permitted start transcript b → a ≡ b
 two_refused start transcript a b not_a not_b one other =
-    elim (beginnings_compared transcript (one.events ++ one.event ∷ []) (other.events ++ other.event ∷ []) one.rest other.rest
-    one.begins other.begins) [
+    elim
+    (beginnings_compared transcript (one.events ++ one.event ∷ []) (other.events ++ other.event ∷ []) one.rest
+    other.rest one.begins other.begins) [
       | inl on ↦ at_one start transcript a b not_a not_b one other on
       | inr on ↦ sym (at_one start transcript b a not_b not_a other one on)
     ]
@@ -117,15 +120,15 @@ one_lack events a b for_a for_b =
     let other = why_lacks events b for_b in
     one.1 ∙ ap (λ (n : ℕ). refusals.Unanswered n) (one_lack_by events one.0 other.0 one.2 other.2) ∙ sym other.1
 
-two_ends : (start : State) (transcript : List ℕ) (a b : Refusal) → RefusedAtEnd start transcript a
-    → RefusedAtEnd start transcript b → a ≡ b
+two_ends : (start : State) (transcript : List ℕ) (a b : Refusal) → RefusedAtEnd Permitted start transcript a
+    → RefusedAtEnd Permitted start transcript b → a ≡ b
 two_ends start transcript a b one other =
     let same : other.events ≡ one.events =
     records_are_one_lem spellings-apart other.events one.events transcript other.recorded one.recorded in
     one_lack one.events a b one.lacks (subst (λ (l : List Event). LacksReply l b) same other.lacks)
 
 refused_before_end : (start : State) (transcript : List ℕ) (a b : Refusal) → a ≢ refusals.NoMemory
-    → RefusedAt start transcript a → RefusedAtEnd start transcript b → ⊥
+    → RefusedAt Permitted start transcript a → RefusedAtEnd Permitted start transcript b → ⊥
 refused_before_end start transcript a b not_a at atend =
     let on = begins_each (at.events ++ at.event ∷ []) atend.events transcript at.rest at.begins atend.recorded in
     not_before start transcript a atend.events atend.end not_a at atend.sound (record {
@@ -134,11 +137,13 @@ refused_before_end start transcript a b not_a at atend =
     })
 
 abbrev IsRefused : State → List ℕ → Refusal → Type 0
-IsRefused start transcript refusal = RefusedAt start transcript refusal ⊎ RefusedAtEnd start transcript refusal
+IsRefused start transcript refusal =
+    RefusedAt Permitted start transcript refusal ⊎ RefusedAtEnd Permitted start transcript refusal
 
 one_refused : (start : State) (transcript : List ℕ) (a b : Refusal) → a ≢ refusals.NoMemory → b ≢ refusals.NoMemory
     → IsRefused start transcript a → IsRefused start transcript b → a ≡ b
-one_refused start transcript a b not_a not_b (inl one) (inl other) = two_refused start transcript a b not_a not_b one other
+one_refused start transcript a b not_a not_b (inl one) (inl other) =
+    two_refused start transcript a b not_a not_b one other
 one_refused start transcript a b not_a not_b (inl one) (inr other) =
     absurd (refused_before_end start transcript a b not_a one other)
 one_refused start transcript a b not_a not_b (inr one) (inl other) =
@@ -148,7 +153,7 @@ one_refused start transcript a b not_a not_b (inr one) (inr other) = two_ends st
 -- ---- a record has a fault, or an event is refused
 
 fault_alone : (start : State) (transcript : List ℕ) (error : TranscriptError) (refusal : Refusal)
-    → error ≢ transcript_errors.NoMemory → refusal ≢ refusals.NoMemory → FaultAt start transcript error
+    → error ≢ transcript_errors.NoMemory → refusal ≢ refusals.NoMemory → FaultAt Permitted start transcript error
     → IsRefused start transcript refusal → ⊥
 fault_alone start transcript error refusal apart not_memory at (inl refused) =
     let first = first_before_fault transcript at.events (refused.events ++ refused.event ∷ []) refused.rest error apart
@@ -173,35 +178,38 @@ unlike_refusal other plain same = absurd cc
 same_start : (tree : List ℕ) (t u : Tree) → IsStart t tree → IsStart u tree → u ≡ t
 same_start tree t u of_t of_u = one_start u t tree of_u of_t
 
-pub one_first_fault : (profile : Profile) (tree transcript : List ℕ) (a b : AuditError)
-    → IsFirstFaultBy profile tree transcript a → IsFirstFaultBy profile tree transcript b → IsPlain a → IsPlain b → a ≢ audit_errors.NoMemory → b ≢ audit_errors.NoMemory
-    → (IsTreeError a × IsTreeError b) ⊎ (a ≡ b)
-one_first_fault profile tree transcript audit_errors.NoMemory b for_a for_b plain_a plain_b not_a not_b = absurd (not_a refl)
-one_first_fault profile tree transcript a audit_errors.NoMemory for_a for_b plain_a plain_b not_a not_b = absurd (not_b refl)
-one_first_fault profile tree transcript (audit_errors.Tree e) (audit_errors.Tree f) for_a for_b plain_a plain_b not_a not_b =
-    inl (tt, tt)
-one_first_fault profile tree transcript (audit_errors.Tree e) (audit_errors.Transcript f) for_a for_b plain_a plain_b not_a not_b =
-    absurd (for_a (for_b.0, for_b.1))
-one_first_fault profile tree transcript (audit_errors.Tree e) (audit_errors.Refused f) for_a for_b plain_a plain_b not_a not_b =
-    absurd (for_a (for_b.0, for_b.1))
-one_first_fault profile tree transcript (audit_errors.Transcript e) (audit_errors.Tree f) for_a for_b plain_a plain_b not_a not_b =
-    absurd (for_b (for_a.0, for_a.1))
-one_first_fault profile tree transcript (audit_errors.Transcript e) (audit_errors.Transcript f) for_a for_b plain_a plain_b not_a not_b =
-    let same = one_fault transcript for_a.2.events for_b.2.events e f for_a.2.fault for_b.2.fault (unlike_fault e plain_a)
-    (unlike_fault f plain_b) in
-    inr (ap (λ (x : TranscriptError). audit_errors.Transcript x) same.1)
-one_first_fault profile tree transcript (audit_errors.Transcript e) (audit_errors.Refused f) for_a for_b plain_a plain_b not_a not_b =
-    let start : for_b.0 ≡ for_a.0 = same_start tree for_a.0 for_b.0 for_a.1 for_b.1 in
-    absurd (fault_alone (begun profile for_a.0) transcript e f (unlike_fault e plain_a) (unlike_refusal f plain_b) for_a.2
-    (subst (λ (t : Tree). IsRefused (begun profile t) transcript f) start for_b.2))
-one_first_fault profile tree transcript (audit_errors.Refused e) (audit_errors.Tree f) for_a for_b plain_a plain_b not_a not_b =
-    absurd (for_b (for_a.0, for_a.1))
-one_first_fault profile tree transcript (audit_errors.Refused e) (audit_errors.Transcript f) for_a for_b plain_a plain_b not_a not_b =
-    let start : for_a.0 ≡ for_b.0 = same_start tree for_b.0 for_a.0 for_b.1 for_a.1 in
-    absurd (fault_alone (begun profile for_b.0) transcript f e (unlike_fault f plain_b) (unlike_refusal e plain_a) for_b.2
-    (subst (λ (t : Tree). IsRefused (begun profile t) transcript e) start for_a.2))
-one_first_fault profile tree transcript (audit_errors.Refused e) (audit_errors.Refused f) for_a for_b plain_a plain_b not_a not_b =
-    let start : for_b.0 ≡ for_a.0 = same_start tree for_a.0 for_b.0 for_a.1 for_b.1 in
-    inr (ap (λ (x : Refusal). audit_errors.Refused x)
-    (one_refused (begun profile for_a.0) transcript e f (unlike_refusal e plain_a) (unlike_refusal f plain_b) for_a.2
-    (subst (λ (t : Tree). IsRefused (begun profile t) transcript f) start for_b.2)))
+module _ (profile : Profile) (tree transcript : List ℕ) where
+  pub one_first_fault : (a b : AuditError) → IsFirstFaultBy profile tree transcript a
+      → IsFirstFaultBy profile tree transcript b → IsPlain a → IsPlain b → a ≢ audit_errors.NoMemory
+      → b ≢ audit_errors.NoMemory → (IsTreeError a × IsTreeError b) ⊎ (a ≡ b)
+  one_first_fault audit_errors.NoMemory b for_a for_b plain_a plain_b not_a not_b = absurd (not_a refl)
+  one_first_fault a audit_errors.NoMemory for_a for_b plain_a plain_b not_a not_b = absurd (not_b refl)
+  one_first_fault (audit_errors.Tree e) (audit_errors.Tree f) for_a for_b plain_a plain_b not_a not_b =
+      inl (tt, tt)
+  one_first_fault (audit_errors.Tree e) (audit_errors.Transcript f) for_a for_b plain_a plain_b not_a not_b =
+      absurd (for_a (for_b.0, for_b.1))
+  one_first_fault (audit_errors.Tree e) (audit_errors.Refused f) for_a for_b plain_a plain_b not_a not_b =
+      absurd (for_a (for_b.0, for_b.1))
+  one_first_fault (audit_errors.Transcript e) (audit_errors.Tree f) for_a for_b plain_a plain_b not_a not_b =
+      absurd (for_b (for_a.0, for_a.1))
+  one_first_fault (audit_errors.Transcript e) (audit_errors.Transcript f) for_a for_b plain_a plain_b not_a not_b =
+      let same = one_fault transcript for_a.2.events for_b.2.events e f for_a.2.fault for_b.2.fault
+      (unlike_fault e plain_a) (unlike_fault f plain_b) in
+      inr (ap (λ (x : TranscriptError). audit_errors.Transcript x) same.1)
+  one_first_fault (audit_errors.Transcript e) (audit_errors.Refused f) for_a for_b plain_a plain_b not_a not_b =
+      let start : for_b.0 ≡ for_a.0 = same_start tree for_a.0 for_b.0 for_a.1 for_b.1 in
+      absurd
+      (fault_alone (begun profile for_a.0) transcript e f (unlike_fault e plain_a) (unlike_refusal f plain_b) for_a.2
+      (subst (λ (t : Tree). IsRefused (begun profile t) transcript f) start for_b.2))
+  one_first_fault (audit_errors.Refused e) (audit_errors.Tree f) for_a for_b plain_a plain_b not_a not_b =
+      absurd (for_b (for_a.0, for_a.1))
+  one_first_fault (audit_errors.Refused e) (audit_errors.Transcript f) for_a for_b plain_a plain_b not_a not_b =
+      let start : for_a.0 ≡ for_b.0 = same_start tree for_b.0 for_a.0 for_b.1 for_a.1 in
+      absurd
+      (fault_alone (begun profile for_b.0) transcript f e (unlike_fault f plain_b) (unlike_refusal e plain_a) for_b.2
+      (subst (λ (t : Tree). IsRefused (begun profile t) transcript e) start for_a.2))
+  one_first_fault (audit_errors.Refused e) (audit_errors.Refused f) for_a for_b plain_a plain_b not_a not_b =
+      let start : for_b.0 ≡ for_a.0 = same_start tree for_a.0 for_b.0 for_a.1 for_b.1 in
+      inr (ap (λ (x : Refusal). audit_errors.Refused x)
+      (one_refused (begun profile for_a.0) transcript e f (unlike_refusal e plain_a) (unlike_refusal f plain_b) for_a.2
+      (subst (λ (t : Tree). IsRefused (begun profile t) transcript f) start for_b.2)))

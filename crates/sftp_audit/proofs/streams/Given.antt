@@ -13,6 +13,7 @@ use Rattle.sftp_transcript.specs.Recorded.{Reading}
 use Rattle.sftp_transcript.specs.Transcript.{IsRecord}
 use Rattle.sftp_transcript.proofs.transcripts.Beginnings.{record_from_beginning}
 use Rattle.sftp_profile.specs.State.{State}
+use Rattle.sftp_profile.specs.Permitted.{Permitted}
 use Rattle.sftp_audit.specs.declared.errors.Refusal.{Refusal}
 use Rattle.sftp_audit.specs.declared.errors.Refusal.TheVariants as refusals
 use Rattle.sftp_audit.specs.Auditor.{Audited, StandsFor, Refuses}
@@ -129,7 +130,7 @@ begun_by stages.Events bytes seen event ahead read = read
 pub stops-refused : (start : State) (transcript : List ℕ) (requests : ℕ) (auditor : Audited)
     (records records_now : Reading) (event : Event) (refusal : Refusal)
     → (feeding : IsFeeding start transcript requests auditor records)
-    → GaveFrom transcript feeding.seen (Some event) records_now → Refuses start feeding.seen event refusal
+    → GaveFrom transcript feeding.seen (Some event) records_now → Refuses Permitted start feeding.seen event refusal
     → StopsFeed start transcript (error_of_session refusal)
 stops-refused start transcript requests auditor records records_now event refusals.NoMemory feeding gave why = tt
 stops-refused start transcript requests auditor records records_now event other feeding gave why = record {

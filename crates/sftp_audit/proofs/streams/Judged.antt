@@ -38,19 +38,23 @@ IsOnlyStart start tree = IsStart start tree × ((other : Tree) → IsStart other
 -- ---- records and their events
 
 -- the events of a session that is accounted for lead from the start that was read
-explained_from : (profile : Profile) (start : Tree) (tree transcript : List ℕ) (other : Tree) (events : List Event) (end : Tree)
+explained_from : (profile : Profile) (start : Tree) (tree transcript : List ℕ) (other : Tree) (events : List Event)
+    (end : Tree)
     → start ≡ other → (told : AccountsBy profile tree transcript other events end)
     → Explained Permitted (begun profile start) events told.last
 explained_from profile start tree transcript other events end same told =
     subst (λ (t : Tree). Explained Permitted (begun profile t) events told.last) (sym same) told.explained
 
-fault-lost : (profile : Profile) (start : State) (tree transcript : List ℕ) (error : TranscriptError) → error ≢ transcript_errors.NoMemory
-    → FaultAt start transcript error → HasNoRun profile tree transcript
+fault-lost : (profile : Profile) (start : State) (tree transcript : List ℕ) (error : TranscriptError)
+    → error ≢ transcript_errors.NoMemory
+    → FaultAt Permitted start transcript error → HasNoRun profile tree transcript
 fault-lost profile start tree transcript error apart at = λ other events end told.
     faulty_records_none transcript at.events events error apart at.fault told.events_are
 
-refused-lost : (profile : Profile) (start : Tree) (tree transcript : List ℕ) (refusal : Refusal) → refusal ≢ refusals.NoMemory
-    → IsOnlyStart start tree → RefusedAt (begun profile start) transcript refusal → HasNoRun profile tree transcript
+refused-lost : (profile : Profile) (start : Tree) (tree transcript : List ℕ) (refusal : Refusal)
+    → refusal ≢ refusals.NoMemory
+    → IsOnlyStart start tree → RefusedAt Permitted (begun profile start) transcript refusal
+    → HasNoRun profile tree transcript
 refused-lost profile start tree transcript refusal apart only at = λ other events end told.
     let on = begins_each (at.events ++ at.event ∷ []) events transcript at.rest at.begins told.events_are in
     let are : events ≡ at.events ++ at.event ∷ on.more =
@@ -59,7 +63,8 @@ refused-lost profile start tree transcript refusal apart only at = λ other even
     refuses_lost (begun profile start) at.events at.event refusal at.end at.sound at.refuses apart on.more told.last
     (subst (λ (l : List Event). Explained Permitted (begun profile start) l told.last) are explained)
 
-pub feed-lost : (profile : Profile) (start : Tree) (tree transcript : List ℕ) (error : AuditError) → IsOnlyStart start tree → IsPlain error
+pub feed-lost : (profile : Profile) (start : Tree) (tree transcript : List ℕ) (error : AuditError)
+    → IsOnlyStart start tree → IsPlain error
     → (IsNoJudgement error → ⊥) → StopsFeed (begun profile start) transcript error → HasNoRun profile tree transcript
 feed-lost profile start tree transcript (audit_errors.Tree error) only plain judged stops = absurd stops
 feed-lost profile start tree transcript audit_errors.NoMemory only plain judged stops = absurd (judged tt)
@@ -99,7 +104,8 @@ judged-end start tree other is = (start, is)
 
 -- ---- the end
 
-pub end-lost : (profile : Profile) (start : Tree) (tree transcript : List ℕ) (requests : ℕ) (auditor : Audited) (refusal : Refusal)
+pub end-lost : (profile : Profile) (start : Tree) (tree transcript : List ℕ) (requests : ℕ) (auditor : Audited)
+    (refusal : Refusal)
     → IsOnlyStart start tree → (was : WasFed (begun profile start) transcript requests auditor)
     → LacksReply was.events refusal → HasNoRun profile tree transcript
 end-lost profile start tree transcript requests auditor refusal only was lacks = λ other events end told.
@@ -109,8 +115,10 @@ end-lost profile start tree transcript requests auditor refusal only was lacks =
     lacks_lost (begun profile start) was.events refusal auditor.state was.stands.sound lacks told.last
     (subst (λ (l : List Event). Explained Permitted (begun profile start) l told.last) same explained)
 
-pub end-first : (profile : Profile) (start : Tree) (tree transcript : List ℕ) (requests : ℕ) (auditor : Audited) (refusal : Refusal)
-    → IsStart start tree → (was : WasFed (begun profile start) transcript requests auditor) → LacksReply was.events refusal
+pub end-first : (profile : Profile) (start : Tree) (tree transcript : List ℕ) (requests : ℕ) (auditor : Audited)
+    (refusal : Refusal)
+    → IsStart start tree → (was : WasFed (begun profile start) transcript requests auditor)
+    → LacksReply was.events refusal
     → IsFirstFaultBy profile tree transcript (error_of_session refusal)
 end-first profile start tree transcript requests auditor refusals.NoMemory is was lacks = tt
 end-first profile start tree transcript requests auditor other is was lacks = (
@@ -126,9 +134,11 @@ end-first profile start tree transcript requests auditor other is was lacks = (
 )
 
 -- the end is the tree where the run ends
-pub accounts-fed : (profile : Profile) (start : Tree) (tree transcript : List ℕ) (requests : ℕ) (auditor : Audited) (end : Tree)
+pub accounts-fed : (profile : Profile) (start : Tree) (tree transcript : List ℕ) (requests : ℕ) (auditor : Audited)
+    (end : Tree)
     → IsStart start tree → (was : WasFed (begun profile start) transcript requests auditor)
-    → (last : State) × Explained Permitted (begun profile start) was.events last × (end ≡ trim (record last.session.tree { pins = [] }))
+    → (last : State) × Explained Permitted (begun profile start) was.events last
+    × (end ≡ trim (record last.session.tree { pins = [] }))
     → AccountsBy profile tree transcript start was.events end
 accounts-fed profile start tree transcript requests auditor end is was ended = record {
   start_is = is;
@@ -157,7 +167,8 @@ is_new : (bytes : List ℕ) (failures reads : ℕ) → IsNew bytes (fresh bytes 
 is_new bytes failures reads =
     (record { ahead_are = refl; read = (refl, refl); number = refl; faultless = refl }, refl)
 
-pub refused-memory : {T : Type 0} (profile : Profile) (tree bytes left : List ℕ) (failures reads : ℕ) (records : Reading)
+pub refused-memory : {T : Type 0} (profile : Profile) (tree bytes left : List ℕ) (failures reads : ℕ)
+    (records : Reading)
     (result : Result T AuditError) → left ≡ bytes → records ≡ fresh left failures reads
     → IfErr result (λ e. (IsNoJudgement e → ⊥) → (transcript : List ℕ) → IsNew transcript records
     → HasNoRun profile tree transcript)

@@ -16,7 +16,8 @@ use Rattle.sftp_audit.proofs.steps.StepLaws.{explained-one_end}
 use Rattle.sftp_audit.proofs.streams.StrictAccounts.{accounts-permitted}
 
 module _ (profile : Profile) (tree transcript : List ℕ) (s u : Tree) (events others : List Event) (a b : Tree) where
-  pub same_start_by : AccountsBy profile tree transcript s events a → AccountsBy profile tree transcript u others b → s ≡ u
+  pub same_start_by : AccountsBy profile tree transcript s events a → AccountsBy profile tree transcript u others b
+      → s ≡ u
   same_start_by one other = one_start s u tree one.start_is other.start_is
 
   pub same_events_by : AccountsBy profile tree transcript s events a → AccountsBy profile tree transcript u others b
@@ -32,7 +33,8 @@ module _ (profile : Profile) (tree transcript : List ℕ) (s u : Tree) (events o
       (subst (λ (l : List Event). Explained Permitted (begun profile u) l other.last) (sym (same_events_by one other))
       other.explained)
 
-  pub same_end_by : AccountsBy profile tree transcript s events a → AccountsBy profile tree transcript u others b → a ≡ b
+  pub same_end_by : AccountsBy profile tree transcript s events a → AccountsBy profile tree transcript u others b
+      → a ≡ b
   same_end_by one other =
       let last : one.last ≡ other.last =
       explained-one_end Permitted permitted-one_end (begun profile s) events one.last other.last one.explained

@@ -10,7 +10,8 @@ use Rattle.sftp_audit.specs.declared.errors.AuditError.{AuditError}
 use Rattle.sftp_audit.specs.Audit.{Accounts, AccountsBy, IsNew, started}
 use Rattle.sftp_audit.proofs.steps.StrictRuns.{under, explained-permitted, explained-strict}
 
-pub accounts-permitted : (profile : Profile) (tree transcript : List ℕ) (start : Tree) (events : List Event) (end : Tree)
+pub accounts-permitted : (profile : Profile) (tree transcript : List ℕ) (start : Tree) (events : List Event)
+    (end : Tree)
     → Accounts tree transcript start events end → AccountsBy profile tree transcript start events end
 accounts-permitted profile tree transcript start events end told = record {
   start_is = told.start_is;
@@ -44,7 +45,8 @@ HasRunBy profile tree transcript OfEnd OfEvents =
     × OfEnd end × OfEvents events
 
 module _ (profile : Profile) (tree : List ℕ) (same : profile ≡ strict) where
-  run-strict : (transcript : List ℕ) (OfEnd : Tree → Type 0) (OfEvents : List Event → Type 0) → HasRunBy profile tree transcript OfEnd OfEvents
+  run-strict : (transcript : List ℕ) (OfEnd : Tree → Type 0) (OfEvents : List Event → Type 0)
+      → HasRunBy profile tree transcript OfEnd OfEvents
       → HasRun tree transcript OfEnd OfEvents
   run-strict transcript OfEnd OfEvents told = (
     told.0,
@@ -56,14 +58,21 @@ module _ (profile : Profile) (tree : List ℕ) (same : profile ≡ strict) where
     told.5,
   )
 
-  pub accepted-strict : {T : Type 0} (transcript : List ℕ) (OfEnd : T → Tree → Type 0) (OfEvents : T → List Event → Type 0) (result : Result T AuditError)
-      → IfOk result (λ value. HasRunBy profile tree transcript (OfEnd value) (OfEvents value)) → IfOk result (λ value. HasRun tree transcript (OfEnd value) (OfEvents value))
+  pub accepted-strict : {T : Type 0} (transcript : List ℕ) (OfEnd : T → Tree → Type 0)
+      (OfEvents : T → List Event → Type 0) (result : Result T AuditError)
+      → IfOk result (λ value. HasRunBy profile tree transcript (OfEnd value) (OfEvents value))
+      → IfOk result (λ value. HasRun tree transcript (OfEnd value) (OfEvents value))
   accepted-strict transcript OfEnd OfEvents (Ok value) told = run-strict transcript (OfEnd value) (OfEvents value) told
   accepted-strict transcript OfEnd OfEvents (Err error) told = tt
 
-  pub accepted-strict_stream : {T : Type 0} (records : Reading) (OfEnd : T → Tree → Type 0) (OfEvents : T → List Event → Type 0) (result : Result T AuditError)
-      → IfOk result (λ value. (transcript : List ℕ) → IsNew transcript records → HasRunBy profile tree transcript (OfEnd value) (OfEvents value))
-      → IfOk result (λ value. (transcript : List ℕ) → IsNew transcript records → HasRun tree transcript (OfEnd value) (OfEvents value))
+  pub accepted-strict_stream : {T : Type 0} (records : Reading) (OfEnd : T → Tree → Type 0)
+      (OfEvents : T → List Event → Type 0) (result : Result T AuditError)
+      → IfOk result
+      (λ value. (transcript : List ℕ) → IsNew transcript records → HasRunBy profile tree transcript (OfEnd value)
+      (OfEvents value))
+      → IfOk result
+      (λ value. (transcript : List ℕ) → IsNew transcript records → HasRun tree transcript (OfEnd value)
+      (OfEvents value))
   accepted-strict_stream records OfEnd OfEvents (Ok value) told =
       λ transcript new. run-strict transcript (OfEnd value) (OfEvents value) (told transcript new)
   accepted-strict_stream records OfEnd OfEvents (Err error) told = tt
@@ -83,7 +92,8 @@ module _ (profile : Profile) (tree : List ℕ) (same : profile ≡ strict) where
   refused-strict transcript When (Ok value) refused = tt
   refused-strict transcript When (Err error) refused = λ when. lost-strict transcript (refused when)
 
-  pub refused-strict_stream : {T : Type 0} (records : Reading) (When : AuditError → Type 0) (result : Result T AuditError)
+  pub refused-strict_stream : {T : Type 0} (records : Reading) (When : AuditError → Type 0)
+      (result : Result T AuditError)
       → IfErr result (λ e. When e → (transcript : List ℕ) → IsNew transcript records
       → (start : Tree) (events : List Event) (end : Tree) → AccountsBy profile tree transcript start events end → ⊥)
       → IfErr result (λ e. When e → (transcript : List ℕ) → IsNew transcript records

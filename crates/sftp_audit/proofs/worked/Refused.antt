@@ -12,13 +12,12 @@ use Rattle.sftp_tree.specs.Walk.{meets, walk, walk_parts, reached}
 use Rattle.sftp_tree.specs.Causes.{no_causes, when, joined}
 use Rattle.sftp_tree.specs.Requests.{led, plain_causes, causes as path_causes, outcome}
 use Rattle.sftp_tree.specs.Picture.{blank}
+use Rattle.sftp_handles.specs.State.{State}
 use Rattle.sftp_handles.specs.Handles.{pins_of}
 use Rattle.sftp_handles.specs.Requests.{causes, told_to, answers, after}
-use Rattle.sftp_handles.specs.Allowed.{step}
+use Rattle.sftp_handles.specs.Allowed.{Allowed, step}
 use Rattle.sftp_profile.specs.Profiles.{strict}
-use Rattle.sftp_profile.specs.State.{State, begun}
-use Rattle.sftp_profile.specs.Permitted.{Permitted}
-use Rattle.sftp_profile.proofs.Permissions.{strict-both}
+use Rattle.sftp_profile.specs.State.{begun}
 use Rattle.sftp_transcript.specs.Explained.{closed, waiting, turn_after, next_reply, exchanges_of, leading_pairs}
 use Rattle.sftp_transcript.specs.Explained.{requests_before_reply, in_window, Run}
 use Rattle.sftp_transcript.specs.Sound.{Sound}
@@ -33,23 +32,28 @@ use Rattle.sftp_audit.specs.Examples.{removal_done_bytes, last_answered, id_used
 use Rattle.sftp_audit.specs.Examples.{auditor_with}
 use Rattle.sftp_audit.proofs.auditing.Refusals.{one_refusal}
 use Rattle.sftp_audit.proofs.steps.RunEnds.{run-of_run_end, no_run-of_run_end}
-use Rattle.sftp_audit.proofs.steps.StrictRuns.{run-permitted, sound-permitted}
+use Rattle.sftp_audit.proofs.steps.StrictRuns.{sound-permitted}
+use Rattle.sftp_audit.proofs.streams.StrictFaults.{refuses-permitted}
 use Rattle.sftp_audit.proofs.worked.Records.{removal_done_begins}
 use Rattle.sftp_audit.proofs.worked.Runs.{sound_by}
 
 -- ---- the replies come backwards
 
-two_replies_sound : Sound Permitted (begun strict blank) (two_backward_replies 0) (begun strict blank)
+two_replies_sound : Sound Allowed (started blank) (two_backward_replies 0) (started blank)
 unfolding turn_after in_window requests_before_reply leading_pairs exchanges_of next_reply
 two_replies_sound =
-    sound-permitted strict (started blank) (two_backward_replies 0) (started blank)
-    (sound_by blank (two_backward_replies 0) blank
-    (inr refl, (inl refl, (inl refl, (inl refl, (inl refl, tt))))) refl refl)
+    sound_by blank (two_backward_replies 0) blank
+    (inr refl, (inl refl, (inl refl, (inl refl, (inl refl, tt))))) refl refl
 
 pub nothing_settled : StandsFor (begun strict blank) (two_backward_replies 0)
     (auditor_with blank (recorded_exchanges (two_backward_replies 0)) 8)
 unfolding exchanges_from next_recorded unsettled
-nothing_settled = record { sound = two_replies_sound; kept = refl; number = refl; unrefused = refl }
+nothing_settled = record {
+  sound = sound-permitted strict (started blank) (two_backward_replies 0) (started blank) two_replies_sound;
+  kept = refl;
+  number = refl;
+  unrefused = refl;
+}
 
 -- the removal, and the reply that says that it is done
 abbrev removal : Request
@@ -72,25 +76,21 @@ first_two_done =
     made 1 (codes "/a") 3 8 ∷ made 2 (codes "/a/b") 4 7 ∷ []
 
 -- after the first two requests the directory is not empty
-first_two_run : Run Permitted (begun strict blank) (leading_pairs (ledger_of first_two_done)) (begun strict with_a_and_b)
+first_two_run : Run Allowed (started blank) (leading_pairs (ledger_of first_two_done)) (started with_a_and_b)
 unfolding
     leading_pairs step causes answers after told_to pins_of path_causes plain_causes no_causes when joined led outcome
     reached walk
     walk_parts meets is_good_path components parts get put without has_entries fits retain
-first_two_run =
-    run-permitted strict (started blank) (leading_pairs (ledger_of first_two_done)) (started with_a_and_b)
-    (run-of_run_end (started blank) (leading_pairs (ledger_of first_two_done)) (started with_a_and_b) refl)
+first_two_run = run-of_run_end (started blank) (leading_pairs (ledger_of first_two_done)) (started with_a_and_b) refl
 
-not_removed : (end : State) → Permitted (begun strict with_a_and_b) removal removal_done end → ⊥
+not_removed : (end : State) → Allowed (started with_a_and_b) removal removal_done end → ⊥
 unfolding
     step causes answers after told_to pins_of path_causes plain_causes no_causes when joined led outcome reached walk
     walk_parts meets is_good_path components parts get put without has_entries fits retain
-not_removed end permitted =
-    let both = (strict-both (started with_a_and_b) removal removal_done end).0 permitted in
-    no_run-of_run_end (started with_a_and_b) ((removal, removal_done) ∷ []) refl end.session
-    (end.session, both.1, refl)
+not_removed end allowed =
+    no_run-of_run_end (started with_a_and_b) ((removal, removal_done) ∷ []) refl end (end, allowed, refl)
 
-removal_is_wrong : IsFirstWrong (begun strict blank) (recorded_exchanges (backward_replies 0)) 6
+removal_is_wrong : IsFirstWrong Allowed (started blank) (recorded_exchanges (backward_replies 0)) 6
 unfolding exchanges_from next_recorded
 removal_is_wrong = record {
   before = first_two_done;
@@ -100,12 +100,12 @@ removal_is_wrong = record {
   behind = [];
   exchanges_are = refl;
   answered = (refl, (refl, tt));
-  mid = begun strict with_a_and_b;
+  mid = started with_a_and_b;
   run = first_two_run;
   wrong = not_removed;
 }
 
-pub refused : Refuses (begun strict blank) (two_backward_replies 0) (status 1 0) (refusals.NotAllowed 6)
+pub refused : Refuses Allowed (started blank) (two_backward_replies 0) (status 1 0) (refusals.NotAllowed 6)
 unfolding turn_after
 refused = (refl, removal_is_wrong)
 
@@ -118,29 +118,31 @@ other_record e = absurd (omega (arith, same_number 6 8 e))
 not_memory : (number : ℕ) → refusals.NotAllowed number ≡ refusals.NoMemory → ⊥
 not_memory number e = cc
 
-pub not_the_last : ¬ Refuses (begun strict blank) (two_backward_replies 0) (status 1 0) (refusals.NotAllowed 8)
+pub not_the_last : ¬ Refuses Allowed (started blank) (two_backward_replies 0) (status 1 0) (refusals.NotAllowed 8)
 not_the_last other =
     let one = one_refusal (begun strict blank) (two_backward_replies 0) (status 1 0) in
-    other_record (one (refusals.NotAllowed 6) (refusals.NotAllowed 8) refused other (not_memory 6) (not_memory 8))
+    let under_strict = refuses-permitted (started blank) (two_backward_replies 0) (status 1 0) in
+    other_record (one (refusals.NotAllowed 6) (refusals.NotAllowed 8) (under_strict (refusals.NotAllowed 6) refused)
+    (under_strict (refusals.NotAllowed 8) other) (not_memory 6) (not_memory 8))
 
-pub in_bytes : RefusedAt (begun strict blank) removal_done_bytes (refusals.NotAllowed 6)
+pub in_bytes : RefusedAt Allowed (started blank) removal_done_bytes (refusals.NotAllowed 6)
 in_bytes = record {
   events = two_backward_replies 0;
   event = status 1 0;
   rest = [];
   begins = removal_done_begins;
-  end = begun strict blank;
+  end = started blank;
   sound = two_replies_sound;
   refuses = refused;
 }
 
 -- ---- ids
 
-pub answered_twice : Refuses (begun strict blank) last_answered (status 3 4) (refusals.UnknownReply 7)
+pub answered_twice : Refuses Allowed (started blank) last_answered (status 3 4) (refusals.UnknownReply 7)
 unfolding turn_after
 answered_twice = (refl, refl)
 
-pub asked_twice : Refuses (begun strict blank) three_requests (mkdir 1 (codes "/c")) (refusals.IdInUse 6)
+pub asked_twice : Refuses Allowed (started blank) three_requests (mkdir 1 (codes "/c")) (refusals.IdInUse 6)
 unfolding turn_after
 asked_twice = (refl, refl)
 
@@ -148,33 +150,40 @@ first_waits : turn_after 1 closed three_requests ≡ waiting
 unfolding turn_after
 first_waits = refl
 
-pub not_late : ¬ Refuses (begun strict blank) three_requests (mkdir 1 (codes "/c")) (refusals.Window 6)
+pub not_late : ¬ Refuses Allowed (started blank) three_requests (mkdir 1 (codes "/c")) (refusals.Window 6)
 not_late late = let e : waiting ≡ closed = sym first_waits ∙ late.1 in cc
 
-id_used_again_sound : Sound Permitted (begun strict blank) id_used_again (begun strict blank)
+id_used_again_sound : Sound Allowed (started blank) id_used_again (started blank)
 unfolding turn_after in_window requests_before_reply leading_pairs exchanges_of next_reply
 id_used_again_sound =
-    sound-permitted strict (started blank) id_used_again (started blank)
-    (sound_by blank id_used_again blank (inr refl, (inr refl, (inr refl, (inr refl, (inr refl, tt))))) refl refl)
+    sound_by blank id_used_again blank (inr refl, (inr refl, (inr refl, (inr refl, (inr refl, tt))))) refl refl
 
 pub used_again : StandsFor (begun strict blank) id_used_again (auditor_with blank (recorded_exchanges id_used_again) 8)
 unfolding exchanges_from next_recorded unsettled
-used_again = record { sound = id_used_again_sound; kept = refl; number = refl; unrefused = refl }
+used_again = record {
+  sound = sound-permitted strict (started blank) id_used_again (started blank) id_used_again_sound;
+  kept = refl;
+  number = refl;
+  unrefused = refl;
+}
 
 -- ---- the oldest request that waits
 
-first_answered_sound : Sound Permitted (begun strict blank) first_answered (begun strict with_a)
+first_answered_sound : Sound Allowed (started blank) first_answered (started with_a)
 unfolding
     turn_after in_window requests_before_reply leading_pairs exchanges_of next_reply step causes answers after told_to
     pins_of path_causes plain_causes no_causes when joined led outcome reached walk
     walk_parts meets is_good_path components parts get put without has_entries fits retain
-first_answered_sound =
-    sound-permitted strict (started blank) first_answered (started with_a)
-    (sound_by blank first_answered with_a (inl refl, (inr refl, (inl refl, tt))) refl refl)
+first_answered_sound = sound_by blank first_answered with_a (inl refl, (inr refl, (inl refl, tt))) refl refl
 
 pub settled : StandsFor (begun strict blank) first_answered (auditor_with with_a second_waits 6)
 unfolding exchanges_from next_recorded unsettled
-settled = record { sound = first_answered_sound; kept = refl; number = refl; unrefused = refl }
+settled = record {
+  sound = sound-permitted strict (started blank) first_answered (started with_a) first_answered_sound;
+  kept = refl;
+  number = refl;
+  unrefused = refl;
+}
 
 second_left : unsettled (recorded_exchanges first_answered) ≡ second_waits
 unfolding exchanges_from next_recorded unsettled

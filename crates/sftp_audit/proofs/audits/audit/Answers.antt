@@ -4,6 +4,7 @@ use Rattle.sftp_tree.specs.Picture.{picture}
 use Rattle.sftp_audit.specs.declared.errors.AuditError.TheVariants.{NoMemory}
 use Rattle.sftp_audit.specs.Audit.{request_count}
 use Rattle.sftp_audit.proofs.streams.StrictAccounts.{accepted-strict, refused-strict}
+use Rattle.sftp_audit.proofs.streams.StrictFaults.{first-strict}
 use Rattle.sftp_audit.proofs.audits.audit.Goals as goal
 
 pub returns-clause-accepted : goal.returns-clause-accepted
@@ -16,3 +17,8 @@ pub returns-clause-refused : goal.returns-clause-refused
 returns-clause-refused c =
     refused-strict c.strict.result c.args.tree.now c.strict.ensures c.args.transcript.now (λ e. e ≢ NoMemory)
     c.audit_by.result c.audit_by.ensures.refused
+
+pub returns-clause-first : goal.returns-clause-first
+returns-clause-first c =
+    first-strict c.strict.result c.args.tree.now c.strict.ensures c.args.transcript.now c.audit_by.result
+    c.audit_by.ensures.first

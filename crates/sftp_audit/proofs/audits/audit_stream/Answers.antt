@@ -3,6 +3,7 @@ use Rattle.std.proofs.Common.{◌≡◌}
 use Rattle.sftp_tree.specs.Picture.{picture}
 use Rattle.sftp_audit.specs.Audit.{request_count, IsNoJudgement}
 use Rattle.sftp_audit.proofs.streams.StrictAccounts.{accepted-strict_stream, refused-strict_stream}
+use Rattle.sftp_audit.proofs.streams.StrictFaults.{first-strict_stream}
 use Rattle.sftp_audit.proofs.audits.audit_stream.Goals as goal
 
 pub returns-clause-accepted : goal.returns-clause-accepted
@@ -15,3 +16,8 @@ pub returns-clause-refused : goal.returns-clause-refused
 returns-clause-refused g c =
     refused-strict_stream c.strict.result c.args.tree.now c.strict.ensures c.args.records.now
     (λ e. IsNoJudgement e → ⊥) c.audit_stream_by.result c.audit_stream_by.ensures.refused
+
+pub returns-clause-first : goal.returns-clause-first
+returns-clause-first g c =
+    first-strict_stream c.strict.result c.args.tree.now c.strict.ensures c.args.records.now
+    (λ e. IsNoJudgement e → ⊥) c.audit_stream_by.result c.audit_stream_by.ensures.first

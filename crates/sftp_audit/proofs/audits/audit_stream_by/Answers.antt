@@ -24,7 +24,8 @@ returns-in_err-end-clause-refused g c =
     let start = c.in_ok-read.field-0 in
     rw (p.1, p.2) (λ judged transcript new.
     let was = c.in-Ok.ensures.fed (begun c.args.profile start) transcript new c.in_ok-auditor.ensures.stands in
-    end-lost c.args.profile start c.args.tree.now transcript c.in-Ok.requests c.feed_all.new.auditor c.in_err-end.field-0.0
+    end-lost c.args.profile start c.args.tree.now transcript c.in-Ok.requests c.feed_all.new.auditor
+    c.in_err-end.field-0.0
     (c.in_ok-read.ensures.found, c.in_ok-read.ensures.only) was
     (c.in_err-end.ensures.unanswered (begun c.args.profile start) was.events was.stands))
 
@@ -34,7 +35,8 @@ returns-in_err-end-clause-first g c =
     let start = c.in_ok-read.field-0 in
     rw (p.1, p.2) (λ judged transcript new.
     let was = c.in-Ok.ensures.fed (begun c.args.profile start) transcript new c.in_ok-auditor.ensures.stands in
-    end-first c.args.profile start c.args.tree.now transcript c.in-Ok.requests c.feed_all.new.auditor c.in_err-end.field-0.0
+    end-first c.args.profile start c.args.tree.now transcript c.in-Ok.requests c.feed_all.new.auditor
+    c.in_err-end.field-0.0
     c.in_ok-read.ensures.found was (c.in_err-end.ensures.unanswered (begun c.args.profile start) was.events was.stands))
 
 pub returns-clause-accepted : goal.returns-clause-accepted
@@ -45,7 +47,8 @@ returns-clause-accepted g c = λ transcript new.
       start,
       was.events,
       c.in_ok-end.end,
-      accounts-fed c.args.profile start c.args.tree.now transcript c.in-Ok.requests c.feed_all.new.auditor c.in_ok-end.end
+      accounts-fed c.args.profile start c.args.tree.now transcript c.in-Ok.requests c.feed_all.new.auditor
+          c.in_ok-end.end
           c.in_ok-read.ensures.found was ended,
       c.in_ok-tree.ensures,
       was.counted,

@@ -3,4 +3,7 @@ use Rattle.sftp_audit.proofs.streams.StrictAccounts.{accounts-permitted, account
 use Rattle.sftp_audit.proofs.laws.strict_accounts.Goals as goal
 
 pub returns : goal.returns
-returns c = record { no_more = accounts-strict; no_less = accounts-permitted strict }
+returns c tree transcript start events end = (
+  accounts-strict tree transcript start events end,
+  accounts-permitted strict tree transcript start events end,
+)
