@@ -2,18 +2,25 @@
 use crate::profiles::Profile;
 
 /// The names of all departures.
-pub const NAMES: &[&str] = &["codes", "slash", "empty-setstat", "dots", "dir-size"];
+pub const NAMES: &[&str] = &[
+    "codes",
+    "slash",
+    "limits",
+    "flags",
+    "empty-setstat",
+    "dots",
+    "dir-size",
+    "extensions",
+];
 
 impl Profile {
     /// What servers with real file systems do differently: all departures.
     pub fn posix() -> Profile {
-        Profile {
-            codes: true,
-            slash: true,
-            empty_setstat: true,
-            dots: true,
-            dir_size: true,
+        let mut profile = Profile::strict();
+        for name in NAMES {
+            profile = profile.with(name, true).unwrap_or(profile);
         }
+        profile
     }
 
     /// The profile with the departure of this name accepted, or not; `None` if no departure has this name.
@@ -22,9 +29,12 @@ impl Profile {
         match name {
             "codes" => profile.codes = is_on,
             "slash" => profile.slash = is_on,
+            "limits" => profile.limits = is_on,
+            "flags" => profile.flags = is_on,
             "empty-setstat" => profile.empty_setstat = is_on,
             "dots" => profile.dots = is_on,
             "dir-size" => profile.dir_size = is_on,
+            "extensions" => profile.extensions = is_on,
             _ => return None,
         }
         Some(profile)
