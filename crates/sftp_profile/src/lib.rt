@@ -12,6 +12,7 @@ mod limits;
 mod paths;
 mod profiles;
 mod refusals;
+mod replaced;
 mod tellings;
 
 pub use judges::Judge;
