@@ -7,19 +7,20 @@ use Rattle.sftp_wire.specs.declared.packets.Ask.TheVariants as asks
 use Rattle.sftp_wire.specs.declared.packets.Answer.{Answer}
 use Rattle.sftp_wire.specs.declared.packets.Answer.TheVariants as replies
 use Rattle.sftp_wire.specs.declared.names.NameItem.{NameItem}
-use Rattle.std.specs.Prelude.{List, if◌then◌else◌, ◌&&◌}
+use Rattle.std.specs.Prelude.{List, if◌then◌else◌, ◌&&◌, not, unwrap_or}
 use Rattle.sftp_wire.specs.declared.packets.Request.{Request}
 use Rattle.sftp_wire.specs.declared.packets.Reply.{Reply}
 use Rattle.sftp_handles.specs.State as sessions
 use Rattle.sftp_handles.specs.Allowed as strictly
 use Rattle.sftp_handles.proofs.Steps.{step-is_allowed, allowed-step}
 use Rattle.sftp_profile.specs.declared.profiles.Profile.{Profile}
-use Rattle.sftp_profile.specs.Profiles.{strict}
+use Rattle.sftp_profile.specs.Profiles.{strict, keeps_requests}
+use Rattle.sftp_profile.specs.Replaced.{put, replaced, made_attributes}
 use Rattle.sftp_profile.specs.State.{State}
 use Rattle.sftp_profile.specs.Departures.{is_forgiven}
 use Rattle.sftp_profile.specs.Readings.{asked}
 use Rattle.sftp_profile.specs.Tellings.{told, mended_items, is_readdir}
-use Rattle.sftp_profile.specs.Judged.{Outcome, IsStrict, IsForgiven, IsPermitted}
+use Rattle.sftp_profile.specs.Judged.{Outcome, IsStrict, IsForgiven, IsPermitted, IsStep}
 use Rattle.sftp_profile.specs.Permitted.{Permitted, taken, retold, first_of, forgiven, forgiven_by, permitted, under, step}
 
 abbrev pub under_same : Profile → sessions.State → State
@@ -43,19 +44,42 @@ pub permitted-profile : (s : State) (request : Request) (reply : Reply) (end : S
     → end.profile ≡ s.profile
 unfolding step
 permitted-profile s request reply end p =
-    under-profile s.profile (permitted s.profile s.session request.ask reply.answer) end p.step
+    under-profile s.profile (permitted s.profile s.session (put s.profile request.ask) reply.answer) end p.step
+
+-- ---- requests that stand as they are
+
+both-not : (a b : Bool) → (not a && not b) ≡ true → (a ≡ false) × (b ≡ false)
+both-not true b is = absurd cc
+both-not false true is = absurd cc
+both-not false false is = (refl, refl)
+
+not-replaced : (profile : Profile) (ask : Ask) → profile.made ≡ false → profile.symlink_draft ≡ false
+    → replaced profile ask ≡ None
+not-replaced profile (asks.Mkdir path attrs) made draft =
+    ap (λ b. if b then Some (asks.Mkdir path (made_attributes profile 0o777 attrs)) else None) made
+not-replaced profile (asks.Open path pflags attrs) made draft =
+    ap (λ b. if b then Some (asks.Open path pflags (made_attributes profile 0o666 attrs)) else None) made
+not-replaced profile (asks.Symlink targetpath linkpath) made draft =
+    ap (λ b. if b then Some (asks.Symlink linkpath targetpath) else None) draft
+not-replaced profile other made draft = refl
+
+put-same : (profile : Profile) (ask : Ask) → IsTrue (keeps_requests profile) → put profile ask ≡ ask
+put-same profile ask keeps =
+    let parts = both-not profile.made profile.symlink_draft keeps in
+    ap (λ o. unwrap_or o ask) (not-replaced profile ask parts.0 parts.1)
 
 -- ---- what is allowed strictly
 
 pub strictly-permitted : (profile : Profile) (s : sessions.State) (request : Request) (reply : Reply)
-    (end : sessions.State) → strictly.Allowed s request reply end
+    (end : sessions.State) → IsTrue (keeps_requests profile) → strictly.Allowed s request reply end
     → Permitted (record { profile = profile; session = s }) request reply
     (record { profile = profile; session = end })
 unfolding step permitted
-strictly-permitted profile s request reply end a = record {
+strictly-permitted profile s request reply end keeps a = record {
   same_id = a.same_id;
   step =
-      ap (λ o. under profile (first_of o (forgiven profile s request.ask reply.answer)))
+      ap (λ ask. under profile (permitted profile s ask reply.answer)) (put-same profile request.ask keeps)
+      ∙ ap (λ o. under profile (first_of o (forgiven profile s request.ask reply.answer)))
       (allowed-step s request reply end a);
 }
 
@@ -102,7 +126,9 @@ unfolding step
 strict-allowed s request reply end p = (
   permitted-profile (record { profile = strict; session = s }) request reply end p,
   step-is_allowed s request reply end.session p.same_id
-      (sym (strict-permitted s request.ask reply.answer) ∙ under-session strict _ end p.step),
+      (sym (strict-permitted s request.ask reply.answer)
+      ∙ under-session strict _ end
+      (ap (λ ask. under strict (permitted strict s ask reply.answer)) (sym (put-same strict request.ask refl)) ∙ p.step)),
 )
 
 pub strict-both : (s : sessions.State) (request : Request) (reply : Reply) (end : State)
@@ -114,7 +140,7 @@ strict-both s request reply end = (
       subst
       (λ (profile : Profile). Permitted (record { profile = strict; session = s }) request reply
       (record { profile = profile; session = end.session }))
-      (sym both.0) (strictly-permitted strict s request reply end.session both.1),
+      (sym both.0) (strictly-permitted strict s request reply end.session refl both.1),
 )
 
 -- ---- outcomes
@@ -215,17 +241,24 @@ unpassed-outcome s end ask answer ok not found = record {
 -- ---- replies
 
 pub permitted-reply : (s end : State) (request : Request) (reply : Reply) → reply.id ≡ request.id → (ok : Bool)
-    → IsPermitted s request.ask reply.answer ok end → IsTrue ok → Permitted s request reply end
-unfolding step
+    → IsStep s request.ask reply.answer ok end → IsTrue ok → Permitted s request reply end
 permitted-reply s end request reply same true found is = record { same_id = same; step = found.is }
 permitted-reply s end request reply same false found is = absurd cc
 
 pub refused-reply : (s end : State) (request : Request) (reply : Reply) (ok : Bool)
-    → IsPermitted s request.ask reply.answer ok end → ok ≡ false → (other : State)
+    → IsStep s request.ask reply.answer ok end → ok ≡ false → (other : State)
     → Permitted s request reply other → ⊥
-unfolding step
 refused-reply s end request reply true found is other p = absurd cc
 refused-reply s end request reply false found is other p =
-    let none : under s.profile (permitted s.profile s.session request.ask reply.answer) ≡ None = found.is in
-    let some : under s.profile (permitted s.profile s.session request.ask reply.answer) ≡ Some other = p.step in
+    let none : step s request.ask reply.answer ≡ None = found.is in
+    let some : step s request.ask reply.answer ≡ Some other = p.step in
     cc
+
+-- the answer to the request that stands for this one
+pub replaced-outcome : (s end : State) (ask other : Ask) (answer : Answer) (ok : Bool) → put s.profile ask ≡ other
+    → IsPermitted s other answer ok end → IsStep s ask answer ok end
+unfolding step
+replaced-outcome s end ask other answer ok is found = record {
+  is = ap (λ ask. under s.profile (permitted s.profile s.session ask answer)) is ∙ found.is;
+  kept = found.kept;
+}

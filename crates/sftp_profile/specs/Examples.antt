@@ -1,8 +1,9 @@
 -- What the worked examples name: profiles of one departure, and a listing with `.` and `..`.
-use Rattle.std.specs.Prelude.{ℕ, true, List, [], ◌∷◌, map, codes}
+use Rattle.std.specs.Prelude.{ℕ, true, List, [], ◌∷◌, map, codes, Some}
 use Rattle.sftp_wire.specs.declared.attributes.Attrs.{Attrs}
 use Rattle.sftp_wire.specs.declared.packets.Answer.{Answer}
 use Rattle.sftp_wire.specs.declared.packets.Answer.TheVariants.{Name}
+use Rattle.sftp_wire.specs.Examples.{no_attributes}
 use Rattle.sftp_tree.specs.Attributes.{said}
 use Rattle.sftp_handles.specs.State.{State}
 use Rattle.sftp_handles.specs.Examples.{item, with_three}
@@ -25,7 +26,26 @@ empty_setstats = record strict { empty_setstat = true }
 abbrev pub free_sizes : Profile
 free_sizes = record strict { dir_size = true; dots = true }
 
+abbrev pub beyond : Profile
+beyond = record strict { limits = true; extensions = true }
+
+abbrev pub any_flags : Profile
+any_flags = record strict { flags = true }
+
+abbrev pub owned_by_user : Profile
+owned_by_user = record strict { made = true; umask = 0o022 }
+
 -- ---- attributes and names
+
+-- those of a directory made without any, and of a file made for user 7 and group 8 with 0o777, without 0o022
+abbrev pub permitted_directory : Attrs
+permitted_directory = record no_attributes { permissions = Some 0o755 }
+
+abbrev pub given_file : Attrs
+given_file = record no_attributes { owner = Some (7, 8); permissions = Some 0o777 }
+
+abbrev pub permitted_file : Attrs
+permitted_file = record no_attributes { permissions = Some 0o755 }
 
 -- a directory of 4,096 bytes, as servers with a real file system show it
 abbrev pub large_directory : Attrs

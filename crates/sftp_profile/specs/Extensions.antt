@@ -1,6 +1,5 @@
 -- Extensions that only look (OpenSSH's PROTOCOL, section 4; the draft filexfer-extensions-00). What they answer is free.
-use Rattle.std.specs.Prelude.{◌==◌, ◌&&◌, ◌||◌, not, ℕ, Bool, true, false, List, [], ◌∷◌, length, codes}
-use Rattle.std.specs.List.{list_any}
+use Rattle.std.specs.Prelude.{◌==◌, ◌&&◌, ◌||◌, ℕ, Bool, true, false, List, length, codes}
 use Rattle.sftp_wire.specs.declared.packets.Ask.{Ask}
 use Rattle.sftp_wire.specs.declared.packets.Ask.TheVariants as asks
 use Rattle.sftp_wire.specs.declared.packets.Answer.{Answer}

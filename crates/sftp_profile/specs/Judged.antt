@@ -6,7 +6,7 @@ use Rattle.sftp_handles.specs.Allowed as strictly
 use Rattle.sftp_profile.specs.State.{State}
 use Rattle.sftp_profile.specs.Readings.{asked}
 use Rattle.sftp_profile.specs.Tellings.{told}
-use Rattle.sftp_profile.specs.Permitted.{forgiven, taken, read_as, retold, under, permitted}
+use Rattle.sftp_profile.specs.Permitted.{forgiven, taken, read_as, retold, under, permitted, step}
 
 -- `ok` says whether a state was found, and `end` is this state; without one it is as before
 pub record Outcome (found : Option State) (s : State) (ok : Bool) (end : State) : Type 0 where
@@ -36,3 +36,7 @@ IsForgiven s ask answer = Outcome (under s.profile (forgiven s.profile s.session
 -- of an answer that is permitted
 abbrev pub IsPermitted : State → Ask → Answer → Bool → State → Type 0
 IsPermitted s ask answer = Outcome (under s.profile (permitted s.profile s.session ask answer)) s
+
+-- of the answer to the request that stands for this one
+abbrev pub IsStep : State → Ask → Answer → Bool → State → Type 0
+IsStep s ask answer = Outcome (step s ask answer) s

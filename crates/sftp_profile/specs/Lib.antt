@@ -7,6 +7,7 @@ pub mod Flags
 pub mod Departures
 pub mod Readings
 pub mod Tellings
+pub mod Replaced
 pub mod Permitted
 pub mod Judged
 pub mod Examples

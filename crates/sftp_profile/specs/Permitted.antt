@@ -9,6 +9,7 @@ use Rattle.sftp_handles.specs.Allowed as strictly
 use Rattle.sftp_profile.specs.declared.profiles.Profile.{Profile}
 use Rattle.sftp_profile.specs.State.{State}
 use Rattle.sftp_profile.specs.Departures.{is_forgiven}
+use Rattle.sftp_profile.specs.Replaced.{put}
 use Rattle.sftp_profile.specs.Readings.{asked}
 use Rattle.sftp_profile.specs.Tellings.{told}
 
@@ -49,9 +50,9 @@ abbrev pub under : Profile → Option sessions.State → Option State
 under profile (Some s) = Some (record { profile = profile; session = s })
 under profile None = None
 
--- the state after an answer, if it is permitted; the profile stays
+-- the state after an answer to the request that stands for this one, if it is permitted; the profile stays
 unfoldable pub step : State → Ask → Answer → Option State
-step s ask answer = under s.profile (permitted s.profile s.session ask answer)
+step s ask answer = under s.profile (permitted s.profile s.session (put s.profile ask) answer)
 
 -- the reply has the id of the request, and its answer is permitted
 pub record Permitted (s : State) (request : Request) (reply : Reply) (end : State) : Type 0 where

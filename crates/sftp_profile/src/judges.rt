@@ -4,11 +4,12 @@ ghost use Rattle.sftp_tree.specs.Tree.{trim};
 ghost use Rattle.sftp_profile.specs.State.{State, begun};
 ghost use Rattle.sftp_profile.specs.Departures.{is_forgiven, is_modelled, passes_in, passes_codes, passes_dots};
 ghost use Rattle.sftp_profile.specs.Permitted.{Permitted};
-ghost use Rattle.sftp_profile.specs.Judged.{IsStrict, IsTaken, IsRead, IsRetold, IsForgiven, IsPermitted};
+ghost use Rattle.sftp_profile.specs.Judged.{IsStrict, IsTaken, IsRead, IsRetold, IsForgiven, IsPermitted, IsStep};
 
 use crate::departures::{asked, is_modelled, passes_alone};
 use crate::profiles::Profile;
 use crate::refusals::{are_dots, is_refusal};
+use crate::replaced::replaced;
 use crate::tellings::{is_readdir, told};
 use sftp_handles::{GivenTable, Session};
 use sftp_tree::{NoMemory, Tree};
@@ -87,7 +88,31 @@ impl Judge {
         if reply.id != request.id {
             return Ok(false);
         }
-        self.permit(request, reply)
+        self.step(request, reply)
+    }
+
+    /// Whether the profile permits the answer of a reply with the id of the request, for the request that stands for
+    /// it. If so, the session is then as the two leave it; if not, it is as before. The calls below say the same of
+    /// parts of what is permitted.
+    ///
+    /// # Errors
+    ///
+    /// `NoMemory` if memory runs out; the session is then as before.
+    fn step(&mut self, request: &Request, reply: &Reply) -> Result<bool, NoMemory>
+        requires { reply.now.id ≡ request.now.id }
+        ensures ok { IfOk result (λ ok. IsStep self.old request.now.ask reply.now.answer ok self.new) }
+        ensures err { OnErr result (self.new ≡ self.old) }
+    {
+        let Some(ask) = replaced(self.profile, &request.ask)? else {
+            return self.permit(request, reply);
+        };
+        let put = Request {
+            id: request.id,
+            ask,
+        };
+        let permitted = self.permit(&put, reply);
+        drop(put);
+        permitted
     }
 
     /// Whether the profile follows a request with this reply. It does not follow an extension that it does not know and
@@ -98,8 +123,7 @@ impl Judge {
         is_modelled(self.profile, &request.ask, &reply.answer)
     }
 
-    /// Whether the profile permits the answer of a reply with the id of the request. If so, the session is then as the
-    /// two leave it; if not, it is as before. The other calls below say the same of parts of what is permitted.
+    /// Whether the profile permits the answer for the request as it stands.
     ///
     /// # Errors
     ///

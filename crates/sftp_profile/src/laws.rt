@@ -1,12 +1,12 @@
 //! Laws of profiles, as theorems on the definitions that the contracts name. The functions do nothing; each promise is
 //! in the contract.
-ghost use Rattle.std.specs.Prelude.{◌≡◌, ◌↔◌};
+ghost use Rattle.std.specs.Prelude.{◌≡◌, ◌↔◌, IsTrue};
 ghost use Rattle.sftp_wire.specs.declared.packets.Request.{Request};
 ghost use Rattle.sftp_wire.specs.declared.packets.Reply.{Reply};
 ghost use Rattle.sftp_handles.specs.State as sessions;
 ghost use Rattle.sftp_handles.specs.Allowed.{Allowed};
 ghost use Rattle.sftp_profile.specs.declared.profiles.Profile.{Profile};
-ghost use Rattle.sftp_profile.specs.Profiles.{strict};
+ghost use Rattle.sftp_profile.specs.Profiles.{strict, keeps_requests};
 ghost use Rattle.sftp_profile.specs.State.{State};
 ghost use Rattle.sftp_profile.specs.Permitted.{Permitted};
 
@@ -30,10 +30,10 @@ pub fn profile_stays()
         Permitted s request reply end → end.profile ≡ s.profile }
 {}
 
-/// What is allowed strictly, each profile permits, with the same state after it.
+/// What is allowed strictly, each profile that replaces no request permits, with the same state after it.
 pub fn strictly_allowed_is_permitted()
     ensures { (profile : Profile) (s : sessions.State) (request : Request) (reply : Reply) (end : sessions.State) →
-        Allowed s request reply end →
+        IsTrue (keeps_requests profile) → Allowed s request reply end →
         Permitted (record { profile = profile; session = s }) request reply
         (record { profile = profile; session = end }) }
 {}

@@ -13,6 +13,7 @@ mod names;
 mod paths;
 mod profiles;
 mod refusals;
+mod replaced;
 mod tellings;
 
 pub use judges::Judge;

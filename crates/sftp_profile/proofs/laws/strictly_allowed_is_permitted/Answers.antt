@@ -2,4 +2,4 @@ use Rattle.sftp_profile.proofs.Permissions.{strictly-permitted}
 use Rattle.sftp_profile.proofs.laws.strictly_allowed_is_permitted.Goals as goal
 
 pub returns : goal.returns
-returns c profile s request reply end = strictly-permitted profile s request reply end
+returns c profile s request reply end keeps = strictly-permitted profile s request reply end keeps
