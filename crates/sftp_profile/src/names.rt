@@ -10,13 +10,15 @@ pub const NAMES: &[&str] = &[
     "empty-setstat",
     "dots",
     "dir-size",
+    "made",
     "extensions",
 ];
 
 impl Profile {
-    /// What servers with real file systems do differently: all departures.
+    /// What servers with real file systems do differently: all departures, with the umask 022.
     pub fn posix() -> Profile {
         let mut profile = Profile::strict();
+        profile.umask = 0o022;
         for name in NAMES {
             profile = profile.with(name, true).unwrap_or(profile);
         }
@@ -34,6 +36,7 @@ impl Profile {
             "empty-setstat" => profile.empty_setstat = is_on,
             "dots" => profile.dots = is_on,
             "dir-size" => profile.dir_size = is_on,
+            "made" => profile.made = is_on,
             "extensions" => profile.extensions = is_on,
             _ => return None,
         }

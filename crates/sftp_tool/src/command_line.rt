@@ -213,6 +213,8 @@ pub(crate) struct AuditOptions<'a> {
     pub(crate) explains: bool,
     /// Which departures from the strict reading are accepted.
     pub(crate) profile: Profile,
+    /// The permissions that nothing new has, as octal digits.
+    pub(crate) umask: Option<&'a str>,
 }
 
 /// Parses the command line, whose first word is the program's name, of the program of this version. Asking for help or
@@ -310,6 +312,7 @@ fn audit_options<'a>(given: &ArgMatches<'a>) -> Option<AuditOptions<'a>> {
         out: given.get_str("out"),
         explains: given.get_flag("explain"),
         profile: profile_of(given),
+        umask: given.get_str("umask"),
     })
 }
 

@@ -1,4 +1,5 @@
 //! The options of `audit` that say which departures from the strict reading are accepted.
+use crate::messages::Failure;
 use clap::{Arg, ArgAction, ArgMatches, Command};
 use sftp_profile::{NAMES, Profile};
 use std::alloc::{AllocError, Global};
@@ -6,44 +7,73 @@ use std::alloc::{AllocError, Global};
 /// The names of profiles.
 const PROFILES: &[&str] = &["posix"];
 
+/// Who may own what is made.
+const NEW_OWNERS: &[&str] = &["user", "given"];
+
+/// Who may say in which order the paths of SYMLINK are, if not OpenSSH.
+const ORDERS: &[&str] = &["draft"];
+
+/// The permissions that nothing new has, if no option says so.
+const UMASK: u32 = 0o022;
+
 /// The command with the options of a profile.
 pub(crate) fn with_options<'a>(
     alloc: Global,
     command: Command<'a>,
 ) -> Result<Command<'a>, AllocError> {
     command
-        .arg(profile_option(alloc))?
-        .arg(names_option(alloc, "allow").help("Departures to accept besides"))?
-        .arg(names_option(alloc, "except").help("Departures not to accept"))
+        .arg(choice(alloc, "profile", "NAME", PROFILES).help(
+            "Accept what servers with real file systems do differently",
+        ))?
+        .arg(names(alloc, "allow").help("Departures to accept besides"))?
+        .arg(names(alloc, "except").help("Departures not to accept"))?
+        .arg(umask(alloc))?
+        .arg(choice(alloc, "new-owner", "RULE", NEW_OWNERS).help(
+            "With the departure 'made': who owns what is made",
+        ))?
+        .arg(choice(alloc, "symlink", "ORDER", ORDERS).help(
+            "Take the paths of SYMLINK in the order of the draft, the link first",
+        ))
 }
 
-fn profile_option<'a>(alloc: Global) -> Arg<'a> {
-    Arg::new(alloc, "profile")
-        .long("profile")
-        .value_name("NAME")
-        .value_parser(PROFILES)
+/// An option `--NAME VALUE` that has one of these values.
+fn choice<'a>(alloc: Global, name: &'a str, label: &'a str, values: &'a [&'a str]) -> Arg<'a> {
+    Arg::new(alloc, name)
+        .long(name)
+        .value_name(label)
+        .value_parser(values)
         .action(ArgAction::Set)
-        .help("Accept what servers with real file systems do differently")
 }
 
 /// An option `--NAME NAME,...` of departures.
-fn names_option<'a>(alloc: Global, name: &'a str) -> Arg<'a> {
+fn names<'a>(alloc: Global, name: &'a str) -> Arg<'a> {
     Arg::new(alloc, name)
         .long(name)
-        .value_name("NAME")
+        .value_name("NAME,...")
         .value_delimiter(',')
         .value_parser(NAMES)
         .action(ArgAction::Append)
 }
 
-/// The profile that the options name: the strict one without any.
+fn umask<'a>(alloc: Global) -> Arg<'a> {
+    Arg::new(alloc, "umask")
+        .long("umask")
+        .value_name("OCTAL")
+        .action(ArgAction::Set)
+        .help("With the departure 'made': the permissions that nothing new has, 022 by default")
+}
+
+/// The profile that the options name, but for the umask: the strict one without any.
 pub(crate) fn profile_of(given: &ArgMatches<'_>) -> Profile {
     let profile = match given.get_str("profile") {
         Some(_) => Profile::posix(),
         None => Profile::strict(),
     };
     let profile = switched(profile, given.get_strs("allow"), true);
-    switched(profile, given.get_strs("except"), false)
+    let mut profile = switched(profile, given.get_strs("except"), false);
+    profile.owner_given = given.get_str("new-owner") == Some("given");
+    profile.symlink_draft = given.get_str("symlink").is_some();
+    profile
 }
 
 /// The profile with these departures accepted, or not.
@@ -53,4 +83,49 @@ fn switched(profile: Profile, names: Option<&[&str]>, is_on: bool) -> Profile {
         profile = profile.with(name, is_on).unwrap_or(profile);
     }
     profile
+}
+
+/// The profile with the umask of this text.
+///
+/// # Errors
+///
+/// `Usage` if the text is no octal number up to 0777, and `OutOfMemory`.
+pub(crate) fn with_umask<'a>(
+    alloc: Global,
+    profile: Profile,
+    text: Option<&str>,
+) -> Result<Profile, Failure<'a>> {
+    let mut profile = profile;
+    profile.umask = match text {
+        None => UMASK,
+        Some(text) => match octal(text) {
+            Some(umask) => umask,
+            None => return Err(bad_umask(alloc, text)?),
+        },
+    };
+    Ok(profile)
+}
+
+fn bad_umask<'a>(alloc: Global, text: &str) -> Result<Failure<'a>, AllocError> {
+    Ok(Failure::Usage(format!(in alloc;
+        "error: invalid value '{text}' for '--umask <OCTAL>': not an octal number up to 0777\n\nFor more information, try '--help'.\n"
+    )?))
+}
+
+/// The number of this text, if it has one to four octal digits and is at most 0777.
+fn octal(text: &str) -> Option<u32> {
+    let digits = text.as_bytes();
+    if digits.is_empty() || digits.len() > 4 {
+        return None;
+    }
+    let mut number: u32 = 0;
+    for digit in digits {
+        if !(b'0'..=b'7').contains(digit) {
+            return None;
+        }
+        number = number
+            .saturating_mul(8)
+            .saturating_add(u32::from(*digit - b'0'));
+    }
+    if number > 0o777 { None } else { Some(number) }
 }

@@ -6,6 +6,7 @@ ghost use Rattle.sftp_tool.specs.Failures.{IsOutcome, IsUnread, IsUnwritten};
 use crate::command_line::AuditOptions;
 use crate::explaining::explain;
 use crate::messages::{Ending, Failure, print};
+use crate::profiles::with_umask;
 use crate::saving::write;
 use sftp_audit::{Accepted, AuditError, Refusal};
 use sftp_profile::Profile;
@@ -23,8 +24,10 @@ pub(crate) fn audit<'a, R: Files + AllocGlobal, O: Write, E: Write>(
     output: &mut O,
     errors: &mut E,
 ) -> Result<Ending, Failure<'a>> {
+    let mut options = *files;
+    options.profile = with_umask(rt.alloc(), files.profile, files.umask)?;
     let tree = read(rt, files.tree)?;
-    let ending = audit_from(rt, files, tree.as_slice(), output, errors);
+    let ending = audit_from(rt, &options, tree.as_slice(), output, errors);
     drop(tree);
     ending
 }
