@@ -49,7 +49,9 @@ pub nothing_settled : StandsFor (begun strict blank) (two_backward_replies 0)
     (auditor_with blank (recorded_exchanges (two_backward_replies 0)) 8)
 unfolding exchanges_from next_recorded unsettled
 nothing_settled = record {
-  sound = sound-permitted strict strict-permits (started blank) (two_backward_replies 0) (started blank) two_replies_sound;
+  sound =
+      sound-permitted strict strict-permits (started blank) (two_backward_replies 0) (started blank)
+      two_replies_sound;
   kept = refl;
   number = refl;
   unrefused = refl;
