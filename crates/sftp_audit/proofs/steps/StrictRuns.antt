@@ -1,5 +1,5 @@
 -- Runs that are allowed strictly, and runs under a profile.
-use Rattle.std.proofs.Common.{◌≡◌, List, [], ◌∷◌, ap, subst}
+use Rattle.std.proofs.Common.{◌≡◌, List, [], ◌∷◌, refl, ap, subst}
 use Rattle.sftp_wire.specs.declared.packets.Request.{Request}
 use Rattle.sftp_wire.specs.declared.packets.Reply.{Reply}
 use Rattle.sftp_handles.specs.State as sessions
@@ -8,7 +8,7 @@ use Rattle.sftp_profile.specs.declared.profiles.Profile.{Profile}
 use Rattle.sftp_profile.specs.Profiles.{strict}
 use Rattle.sftp_profile.specs.State.{State}
 use Rattle.sftp_profile.specs.Permitted.{Permitted}
-use Rattle.sftp_profile.proofs.Permissions.{strictly-permitted, strict-both}
+use Rattle.sftp_profile.proofs.Permissions.{strict-both}
 use Rattle.sftp_transcript.specs.declared.events.Event.{Event}
 use Rattle.sftp_transcript.specs.Explained.{exchanges_of, leading_pairs, Run, Explained}
 use Rattle.sftp_transcript.specs.Sound.{Sound}
@@ -17,31 +17,44 @@ use Rattle.sftp_transcript.specs.Sound.{Sound}
 abbrev pub under : Profile → sessions.State → State
 under profile s = record { profile = profile; session = s }
 
--- ---- each profile permits what is allowed strictly
+-- ---- a profile that permits what is allowed strictly
 
-pub run-permitted : (profile : Profile) (s : sessions.State) (pairs : List (Request × Reply)) (end : sessions.State)
+-- it does so, with the same state after it
+abbrev pub PermitsAllowed : Profile → Type 0
+PermitsAllowed profile =
+    (s : sessions.State) (request : Request) (reply : Reply) (end : sessions.State) → Allowed s request reply end
+    → Permitted (under profile s) request reply (under profile end)
+
+-- the strict one
+pub strict-permits : PermitsAllowed strict
+strict-permits s request reply end allowed = (strict-both s request reply (under strict end)).1 (refl, allowed)
+
+pub run-permitted : (profile : Profile) → PermitsAllowed profile → (s : sessions.State)
+    (pairs : List (Request × Reply)) (end : sessions.State)
     → Run Allowed s pairs end → Run Permitted (under profile s) pairs (under profile end)
-run-permitted profile s [] end run = ap (under profile) run
-run-permitted profile s (pair ∷ pairs) end run = (
+run-permitted profile permits s [] end run = ap (under profile) run
+run-permitted profile permits s (pair ∷ pairs) end run = (
   under profile run.0,
-  strictly-permitted profile s pair.0 pair.1 run.0 run.1,
-  run-permitted profile run.0 pairs end run.2,
+  permits s pair.0 pair.1 run.0 run.1,
+  run-permitted profile permits run.0 pairs end run.2,
 )
 
-pub sound-permitted : (profile : Profile) (s : sessions.State) (events : List Event) (end : sessions.State)
+pub sound-permitted : (profile : Profile) → PermitsAllowed profile → (s : sessions.State)
+    (events : List Event) (end : sessions.State)
     → Sound Allowed s events end → Sound Permitted (under profile s) events (under profile end)
-sound-permitted profile s events end sound = record {
+sound-permitted profile permits s events end sound = record {
   in_turn = sound.in_turn;
   within_window = sound.within_window;
-  run = run-permitted profile s (leading_pairs (exchanges_of events)) end sound.run;
+  run = run-permitted profile permits s (leading_pairs (exchanges_of events)) end sound.run;
 }
 
-pub explained-permitted : (profile : Profile) (s : sessions.State) (events : List Event) (end : sessions.State)
+pub explained-permitted : (profile : Profile) → PermitsAllowed profile → (s : sessions.State)
+    (events : List Event) (end : sessions.State)
     → Explained Allowed s events end → Explained Permitted (under profile s) events (under profile end)
-explained-permitted profile s events end explained = record {
+explained-permitted profile permits s events end explained = record {
   matching = explained.matching;
   within_window = explained.within_window;
-  run = run-permitted profile s (leading_pairs (exchanges_of events)) end explained.run;
+  run = run-permitted profile permits s (leading_pairs (exchanges_of events)) end explained.run;
 }
 
 -- ---- the strict profile permits no more

@@ -13,6 +13,7 @@ use Rattle.sftp_transcript.specs.Explained.{Explained}
 use Rattle.sftp_transcript.proofs.transcripts.OneRecord.{records_are_one_lem}
 use Rattle.sftp_audit.specs.Audit.{Accounts, AccountsBy}
 use Rattle.sftp_audit.proofs.steps.StepLaws.{explained-one_end}
+use Rattle.sftp_audit.proofs.steps.StrictRuns.{strict-permits}
 use Rattle.sftp_audit.proofs.streams.StrictAccounts.{accounts-permitted}
 
 module _ (profile : Profile) (tree transcript : List ℕ) (s u : Tree) (events others : List Event) (a b : Tree) where
@@ -45,10 +46,10 @@ module _ (profile : Profile) (tree transcript : List ℕ) (s u : Tree) (events o
 
 module _ (tree transcript : List ℕ) (s u : Tree) (events others : List Event) (a b : Tree) where
   first_by : Accounts tree transcript s events a → AccountsBy strict tree transcript s events a
-  first_by = accounts-permitted strict tree transcript s events a
+  first_by = accounts-permitted strict strict-permits tree transcript s events a
 
   second_by : Accounts tree transcript u others b → AccountsBy strict tree transcript u others b
-  second_by = accounts-permitted strict tree transcript u others b
+  second_by = accounts-permitted strict strict-permits tree transcript u others b
 
   pub same_start : Accounts tree transcript s events a → Accounts tree transcript u others b → s ≡ u
   same_start one other =

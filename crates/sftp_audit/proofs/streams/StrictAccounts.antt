@@ -1,5 +1,5 @@
 -- What is accounted for strictly, and under a profile.
-use Rattle.std.proofs.Common.{◌≡◌, List, ℕ, Result, Ok, Err, subst}
+use Rattle.std.proofs.Common.{◌≡◌, List, ℕ, Result, Ok, Err, sym, subst}
 use Rattle.std.specs.Result.{IfOk, IfErr}
 use Rattle.sftp_tree.specs.Tree.{Tree}
 use Rattle.sftp_profile.specs.declared.profiles.Profile.{Profile}
@@ -8,16 +8,17 @@ use Rattle.sftp_transcript.specs.declared.events.Event.{Event}
 use Rattle.sftp_transcript.specs.Recorded.{Reading}
 use Rattle.sftp_audit.specs.declared.errors.AuditError.{AuditError}
 use Rattle.sftp_audit.specs.Audit.{Accounts, AccountsBy, IsNew, started}
-use Rattle.sftp_audit.proofs.steps.StrictRuns.{under, explained-permitted, explained-strict}
+use Rattle.sftp_audit.proofs.steps.StrictRuns.{under, PermitsAllowed, strict-permits}
+use Rattle.sftp_audit.proofs.steps.StrictRuns.{explained-permitted, explained-strict}
 
-pub accounts-permitted : (profile : Profile) (tree transcript : List ℕ) (start : Tree) (events : List Event)
-    (end : Tree)
-    → Accounts tree transcript start events end → AccountsBy profile tree transcript start events end
-accounts-permitted profile tree transcript start events end told = record {
+pub accounts-permitted : (profile : Profile) → PermitsAllowed profile → (tree transcript : List ℕ) (start : Tree)
+    (events : List Event) (end : Tree) → Accounts tree transcript start events end
+    → AccountsBy profile tree transcript start events end
+accounts-permitted profile permits tree transcript start events end told = record {
   start_is = told.start_is;
   events_are = told.events_are;
   last = under profile told.last;
-  explained = explained-permitted profile (started start) events told.last told.explained;
+  explained = explained-permitted profile permits (started start) events told.last told.explained;
   end_is = told.end_is;
 }
 
@@ -82,7 +83,9 @@ module _ (profile : Profile) (tree : List ℕ) (same : profile ≡ strict) where
       → ((start : Tree) (events : List Event) (end : Tree) → AccountsBy profile tree transcript start events end → ⊥)
       → (start : Tree) (events : List Event) (end : Tree) → Accounts tree transcript start events end → ⊥
   lost-strict transcript none start events end told =
-      none start events end (accounts-permitted profile tree transcript start events end told)
+      none start events end
+      (subst (λ (p : Profile). AccountsBy p tree transcript start events end) (sym same)
+      (accounts-permitted strict strict-permits tree transcript start events end told))
 
   pub refused-strict : {T : Type 0} (transcript : List ℕ) (When : AuditError → Type 0) (result : Result T AuditError)
       → IfErr result (λ e. When e → (start : Tree) (events : List Event) (end : Tree)

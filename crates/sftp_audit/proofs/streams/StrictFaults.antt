@@ -8,7 +8,7 @@ use Rattle.sftp_profile.specs.declared.profiles.Profile.{Profile}
 use Rattle.sftp_profile.specs.Profiles.{strict}
 use Rattle.sftp_profile.specs.State.{begun}
 use Rattle.sftp_profile.specs.Permitted.{Permitted}
-use Rattle.sftp_profile.proofs.Permissions.{strictly-permitted, strict-both}
+use Rattle.sftp_profile.proofs.Permissions.{strict-both}
 use Rattle.sftp_transcript.specs.declared.events.Event.{Event}
 use Rattle.sftp_transcript.specs.declared.events.Event.TheVariants.{Asked, Replied}
 use Rattle.sftp_transcript.specs.Explained.{StepOf, leading_pairs}
@@ -24,6 +24,7 @@ use Rattle.sftp_audit.specs.Auditor.{IsFirstWrong, Refuses}
 use Rattle.sftp_audit.specs.Audit.{started, RefusedAt, RefusedAtEnd, IsFirstFaultOf, IsFirstFault, IsFirstFaultBy}
 use Rattle.sftp_audit.specs.Audit.{IsNew}
 use Rattle.sftp_audit.proofs.steps.StrictRuns.{under, run-permitted, run-strict, sound-permitted, sound-strict}
+use Rattle.sftp_audit.proofs.steps.StrictRuns.{strict-permits}
 
 -- what is sound for one machine is so for another, and what it finds wrong first the other does too
 record Carries {S T : Type 0} (step : StepOf S) (other : StepOf T) (start : S) (begin : T) : Type 0 where
@@ -96,14 +97,14 @@ wrong-permitted s exchanges number first = record {
   exchanges_are = first.exchanges_are;
   answered = first.answered;
   mid = under strict first.mid;
-  run = run-permitted strict s (leading_pairs (ledger_of first.before)) first.mid first.run;
+  run = run-permitted strict strict-permits s (leading_pairs (ledger_of first.before)) first.mid first.run;
   wrong = λ end permitted.
       first.wrong end.session ((strict-both first.mid first.request first.reply end).0 permitted).1;
 }
 
 carries-permitted : (s : sessions.State) → Carries Allowed Permitted s (under strict s)
 carries-permitted s = record {
-  sound = λ events end sound. (under strict end, sound-permitted strict s events end sound);
+  sound = λ events end sound. (under strict end, sound-permitted strict strict-permits s events end sound);
   wrong = wrong-permitted s;
 }
 
@@ -137,7 +138,7 @@ wrong-strict s exchanges number first =
           (subst
           (λ (profile : Profile). Permitted (under profile first.mid.session) first.request first.reply
           (under strict end))
-          (sym run.0) (strictly-permitted strict first.mid.session first.request first.reply end allowed));
+          (sym run.0) (strict-permits first.mid.session first.request first.reply end allowed));
     }
 
 carries-strict : (s : sessions.State) → Carries Permitted Allowed (under strict s) s

@@ -32,7 +32,7 @@ use Rattle.sftp_audit.specs.Examples.{removal_done_bytes, last_answered, id_used
 use Rattle.sftp_audit.specs.Examples.{auditor_with}
 use Rattle.sftp_audit.proofs.auditing.Refusals.{one_refusal}
 use Rattle.sftp_audit.proofs.steps.RunEnds.{run-of_run_end, no_run-of_run_end}
-use Rattle.sftp_audit.proofs.steps.StrictRuns.{sound-permitted}
+use Rattle.sftp_audit.proofs.steps.StrictRuns.{sound-permitted, strict-permits}
 use Rattle.sftp_audit.proofs.streams.StrictFaults.{refuses-permitted}
 use Rattle.sftp_audit.proofs.worked.Records.{removal_done_begins}
 use Rattle.sftp_audit.proofs.worked.Runs.{sound_by}
@@ -49,7 +49,9 @@ pub nothing_settled : StandsFor (begun strict blank) (two_backward_replies 0)
     (auditor_with blank (recorded_exchanges (two_backward_replies 0)) 8)
 unfolding exchanges_from next_recorded unsettled
 nothing_settled = record {
-  sound = sound-permitted strict (started blank) (two_backward_replies 0) (started blank) two_replies_sound;
+  sound =
+      sound-permitted strict strict-permits (started blank) (two_backward_replies 0) (started blank)
+      two_replies_sound;
   kept = refl;
   number = refl;
   unrefused = refl;
@@ -161,7 +163,7 @@ id_used_again_sound =
 pub used_again : StandsFor (begun strict blank) id_used_again (auditor_with blank (recorded_exchanges id_used_again) 8)
 unfolding exchanges_from next_recorded unsettled
 used_again = record {
-  sound = sound-permitted strict (started blank) id_used_again (started blank) id_used_again_sound;
+  sound = sound-permitted strict strict-permits (started blank) id_used_again (started blank) id_used_again_sound;
   kept = refl;
   number = refl;
   unrefused = refl;
@@ -179,7 +181,7 @@ first_answered_sound = sound_by blank first_answered with_a (inl refl, (inr refl
 pub settled : StandsFor (begun strict blank) first_answered (auditor_with with_a second_waits 6)
 unfolding exchanges_from next_recorded unsettled
 settled = record {
-  sound = sound-permitted strict (started blank) first_answered (started with_a) first_answered_sound;
+  sound = sound-permitted strict strict-permits (started blank) first_answered (started with_a) first_answered_sound;
   kept = refl;
   number = refl;
   unrefused = refl;
