@@ -15,10 +15,10 @@ pub const NAMES: &[&str] = &[
 ];
 
 impl Profile {
-    /// What servers with real file systems do differently: all departures, with the umask 022.
+    /// What servers with real file systems do differently: all departures. What is made has the tree's owner, and all
+    /// permissions that are asked for.
     pub fn posix() -> Profile {
         let mut profile = Profile::strict();
-        profile.umask = 0o022;
         for name in NAMES {
             profile = profile.with(name, true).unwrap_or(profile);
         }

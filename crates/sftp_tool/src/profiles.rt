@@ -14,7 +14,7 @@ const NEW_OWNERS: &[&str] = &["user", "given"];
 const ORDERS: &[&str] = &["draft"];
 
 /// The permissions that nothing new has, if no option says so.
-const UMASK: u32 = 0o022;
+const UMASK: &str = "022";
 
 /// The command with the options of a profile.
 pub(crate) fn with_options<'a>(
@@ -71,7 +71,7 @@ pub(crate) fn profile_of(given: &ArgMatches<'_>) -> Profile {
     };
     let profile = switched(profile, given.get_strs("allow"), true);
     let mut profile = switched(profile, given.get_strs("except"), false);
-    profile.owner_given = given.get_str("new-owner") == Some("given");
+    profile.owner_given = profile.made && given.get_str("new-owner") == Some("given");
     profile.symlink_draft = given.get_str("symlink").is_some();
     profile
 }
@@ -85,7 +85,7 @@ fn switched(profile: Profile, names: Option<&[&str]>, is_on: bool) -> Profile {
     profile
 }
 
-/// The profile with the umask of this text.
+/// The profile with the umask of this text, if it says what is made.
 ///
 /// # Errors
 ///
@@ -95,14 +95,14 @@ pub(crate) fn with_umask<'a>(
     profile: Profile,
     text: Option<&str>,
 ) -> Result<Profile, Failure<'a>> {
-    let mut profile = profile;
-    profile.umask = match text {
-        None => UMASK,
-        Some(text) => match octal(text) {
-            Some(umask) => umask,
-            None => return Err(bad_umask(alloc, text)?),
-        },
+    let text = text.unwrap_or(UMASK);
+    let Some(umask) = octal(text) else {
+        return Err(bad_umask(alloc, text)?);
     };
+    let mut profile = profile;
+    if profile.made {
+        profile.umask = umask;
+    }
     Ok(profile)
 }
 
