@@ -1,12 +1,12 @@
 //! Laws of sessions, as theorems on the definitions that the auditor's contract names. The functions do nothing; each
 //! promise is in the contract.
-ghost use Rattle.std.specs.Prelude.{◌≡◌, ◌≢◌, ◌⊎◌, ◌↔◌, ℕ, List};
+ghost use Rattle.std.specs.Prelude.{◌≡◌, ◌≢◌, ◌⊎◌, ◌↔◌, ℕ, List, IsTrue};
 ghost use Rattle.sftp_transcript.specs.declared.events.Event.{Event};
 ghost use Rattle.sftp_tree.specs.Tree.{Tree};
 ghost use Rattle.sftp_handles.specs.State.{State};
 ghost use Rattle.sftp_handles.specs.Allowed.{Allowed};
 ghost use Rattle.sftp_profile.specs.declared.profiles.Profile.{Profile};
-ghost use Rattle.sftp_profile.specs.Profiles.{strict};
+ghost use Rattle.sftp_profile.specs.Profiles.{strict, keeps_requests};
 ghost use Rattle.sftp_profile.specs.State as judges;
 ghost use Rattle.sftp_profile.specs.Permitted.{Permitted};
 ghost use Rattle.sftp_transcript.specs.Explained.{Explained, exchanges_of};
@@ -44,10 +44,11 @@ pub fn strict_first_faults()
         IsFirstFaultBy strict tree transcript error ↔ IsFirstFault tree transcript error }
 {}
 
-/// What bytes account for strictly, they account for under each profile, with the same end.
+/// What bytes account for strictly, they account for under each profile that replaces no request, with the same end.
 pub fn strict_accounts_stay()
     ensures { (profile : Profile) (tree transcript : List ℕ) (start : Tree) (events : List Event) (end : Tree) →
-        Accounts tree transcript start events end → AccountsBy profile tree transcript start events end }
+        IsTrue (keeps_requests profile) → Accounts tree transcript start events end →
+        AccountsBy profile tree transcript start events end }
 {}
 
 /// Bytes account for one run at most: two that account for the same bytes have the same start, the same events and the
