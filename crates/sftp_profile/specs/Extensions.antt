@@ -1,4 +1,5 @@
--- Extensions that only look (OpenSSH's PROTOCOL, section 4; the draft filexfer-extensions-00). What they answer is free.
+-- Extensions that only look (OpenSSH's PROTOCOL, section 4; the draft filexfer-extensions-00). What they answer is
+-- free.
 use Rattle.std.specs.Prelude.{◌==◌, ◌&&◌, ◌||◌, ℕ, Bool, true, false, List, length, codes}
 use Rattle.sftp_wire.specs.declared.packets.Ask.{Ask}
 use Rattle.sftp_wire.specs.declared.packets.Ask.TheVariants as asks
@@ -43,5 +44,6 @@ is_unknown other = false
 
 -- whether the name is one of these
 abbrev pub only_looks : Ask → Bool
-only_looks (asks.Unknown name rest) = is_limits name || (is_statvfs name || (is_users_groups name || is_path_query name))
+only_looks (asks.Unknown name rest) =
+    is_limits name || (is_statvfs name || (is_users_groups name || is_path_query name))
 only_looks other = false

@@ -1,5 +1,5 @@
--- Requests that a profile replaces before they are judged (POSIX, open and mkdir; the draft, section 6.10, for the order
--- of SYMLINK's paths).
+-- Requests that a profile replaces before they are judged (POSIX, open and mkdir; the draft, section 6.10, for the
+-- order of SYMLINK's paths).
 use Rattle.std.specs.Prelude.{◌-◌, ℕ, if◌then◌else◌, Option, Some, None, unwrap_or}
 use Rattle.std.specs.Int.RustNames.{bit_and}
 use Rattle.sftp_wire.specs.declared.attributes.Attrs.{Attrs}

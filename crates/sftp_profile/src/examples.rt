@@ -79,7 +79,8 @@ pub fn loose_flags()
     ensures unknown { permitted any_flags (closed (with_text [])) (Open (codes "/f") 0x42 no_attributes)
         (Handle (codes "h")) ≡ permitted strict (closed (with_text [])) (Open (codes "/f") 2 no_attributes)
         (Handle (codes "h")) }
-    ensures bad { permitted any_flags (closed blank) (Open (codes "/f") 0x12 no_attributes) (Handle (codes "h")) ≡ None }
+    ensures bad { permitted any_flags (closed blank) (Open (codes "/f") 0x12 no_attributes)
+        (Handle (codes "h")) ≡ None }
 {}
 
 /// What is made has the tree's owner and the permissions that the mask leaves, and SYMLINK's paths change places.

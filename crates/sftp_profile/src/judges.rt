@@ -72,8 +72,8 @@ impl Judge {
         self.session.into_tree()
     }
 
-    /// Whether the profile permits the reply to a request. If so, the session is then as the two leave it; if not, it is
-    /// as before.
+    /// Whether the profile permits the reply to a request. If so, the session is then as the two leave it; if not, it
+    /// is as before.
     ///
     /// # Errors
     ///

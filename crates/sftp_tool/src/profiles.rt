@@ -16,6 +16,9 @@ const ORDERS: &[&str] = &["draft"];
 /// The permissions that nothing new has, if no option says so.
 const UMASK: &str = "022";
 
+/// What the parser writes behind a mistake.
+const MORE: &str = "\nFor more information, try '--help'.\n";
+
 /// The command with the options of a profile.
 pub(crate) fn with_options<'a>(
     alloc: Global,
@@ -108,7 +111,7 @@ pub(crate) fn with_umask<'a>(
 
 fn bad_umask<'a>(alloc: Global, text: &str) -> Result<Failure<'a>, AllocError> {
     Ok(Failure::Usage(format!(in alloc;
-        "error: invalid value '{text}' for '--umask <OCTAL>': not an octal number up to 0777\n\nFor more information, try '--help'.\n"
+        "error: invalid value '{text}' for '--umask <OCTAL>': not an octal number up to 0777\n{MORE}"
     )?))
 }
 
