@@ -457,8 +457,8 @@ fn goes_on_with<'a, R: Files + AllocGlobal>(
     Ok(fed? != Some(refusal))
 }
 
-/// Feeds the session to an auditor that has seen nothing of it, and returns the refusal, if it is refused before its
-/// end.
+/// Feeds the session to an auditor that has seen nothing of it, and returns the refusal, if it is refused before it
+/// ends or is malformed.
 ///
 /// # Errors
 ///
@@ -472,10 +472,12 @@ fn fed<'a, R: Files + AllocGlobal>(
     let fed = feed_all(auditor, &mut records);
     drop(records);
     match fed {
-        Ok(_) => Ok(None),
         Err(AuditError::Refused(refusal)) => Ok(Some(refusal)),
         Err(AuditError::NoMemory) => Err(Unexplained::OutOfMemory),
-        Err(_) => Err(Unexplained::OtherTranscript),
+        Err(AuditError::Transcript(TranscriptError::Io { .. })) => Err(
+            Unexplained::OtherTranscript,
+        ),
+        _ => Ok(None),
     }
 }
 
