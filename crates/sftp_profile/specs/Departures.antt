@@ -16,6 +16,8 @@ use Rattle.sftp_profile.specs.Paths.{walks_loosely}
 use Rattle.sftp_profile.specs.Limits.{is_beyond}
 use Rattle.sftp_profile.specs.Extensions.{is_unknown, is_looked_at, only_looks}
 use Rattle.sftp_profile.specs.Tellings.{is_dots, is_readdir}
+use Rattle.sftp_profile.specs.Reads.{passes_read}
+use Rattle.sftp_profile.specs.Realpaths.{passes_realpath}
 
 -- ---- by the state
 
@@ -68,11 +70,19 @@ passes_limits ask answer = is_beyond ask && has_code 4 answer
 abbrev pub passes_extensions : Ask → Answer → Bool
 passes_extensions ask answer = is_unknown ask && is_refusal answer || is_looked_at ask answer
 
+-- ---- by what the session has
+
+-- a READ or a REALPATH may be answered so
+abbrev pub passes_looking : Profile → State → Ask → Answer → Bool
+passes_looking profile s ask answer =
+    profile.read && passes_read s ask answer || profile.realpath && passes_realpath s.tree ask answer
+
 -- ---- all of them
 
 abbrev pub passes_in : Profile → State → Ask → Answer → Bool
 passes_in profile s ask answer =
-    profile.codes && passes_codes s ask answer || profile.dots && passes_dots s ask answer
+    profile.codes && passes_codes s ask answer
+    || (profile.dots && passes_dots s ask answer || passes_looking profile s ask answer)
 
 abbrev pub passes_alone : Profile → Ask → Answer → Bool
 passes_alone profile ask answer =

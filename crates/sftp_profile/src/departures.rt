@@ -1,17 +1,13 @@
 //! What a profile lets pass by the request and its answer alone.
-ghost use Rattle.std.specs.Prelude.{◌≡◌, IfOk};
-ghost use Rattle.sftp_wire.specs.declared.packets.Ask.TheVariants as asks;
+ghost use Rattle.std.specs.Prelude.{◌≡◌};
 ghost use Rattle.sftp_profile.specs.Departures as spec;
-ghost use Rattle.sftp_profile.specs.Readings.{asked};
 
 use crate::extensions::{is_looked_at, is_unknown, only_looks};
-use crate::flags::mended_flags;
 use crate::limits::is_beyond;
-use crate::paths::{is_loose, walks_loosely};
+use crate::paths::walks_loosely;
 use crate::profiles::Profile;
 use crate::refusals::{has_code, is_refusal};
-use sftp_tree::NoMemory;
-use sftp_wire::{Answer, Ask, Attrs, ByteString};
+use sftp_wire::{Answer, Ask, Attrs};
 
 /// Whether the profile lets the answer pass, whatever the session.
 pub(crate) fn passes_alone(profile: Profile, ask: &Ask, answer: &Answer) -> bool
@@ -85,64 +81,4 @@ fn sets_nothing(attrs: &Attrs) -> bool
         && attrs.permissions.is_none()
         && attrs.times.is_none()
         && attrs.extended.is_none()
-}
-
-/// The request that the profile takes this one for, where it is not allowed as it stands; `None` if it takes it for no
-/// other.
-///
-/// # Errors
-///
-/// `NoMemory` if memory runs out.
-pub(crate) fn asked(profile: Profile, ask: &Ask) -> Result<Option<Ask>, NoMemory>
-    ensures { IfOk result (λ other. other ≡ asked profile ask.now) }
-{
-    match ask {
-        Ask::Lstat { path } => asked_lstat(profile, path),
-        Ask::Open {
-            path,
-            pflags,
-            attrs,
-        } => asked_open(profile, path, *pflags, attrs),
-        _ => Ok(None),
-    }
-}
-
-/// An LSTAT of a path that ends loosely is a STAT.
-///
-/// # Errors
-///
-/// `NoMemory` if memory runs out.
-fn asked_lstat(profile: Profile, path: &ByteString) -> Result<Option<Ask>, NoMemory>
-    ensures { IfOk result (λ other. other ≡ asked profile (asks.Lstat path.now)) }
-{
-    if !profile.slash || !is_loose(path.as_slice()) {
-        return Ok(None);
-    }
-    let path = path.clone()?;
-    Ok(Some(Ask::Stat { path }))
-}
-
-/// OPEN with the flags that a file system goes by.
-///
-/// # Errors
-///
-/// `NoMemory` if memory runs out.
-fn asked_open(
-    profile: Profile,
-    path: &ByteString,
-    pflags: u32,
-    attrs: &Attrs,
-) -> Result<Option<Ask>, NoMemory>
-    ensures { IfOk result (λ other. other ≡ asked profile (asks.Open path.now pflags attrs.now)) }
-{
-    if !profile.flags {
-        return Ok(None);
-    }
-    let path = path.clone()?;
-    let attrs = attrs.clone()?;
-    Ok(Some(Ask::Open {
-        path,
-        pflags: mended_flags(pflags),
-        attrs,
-    }))
 }

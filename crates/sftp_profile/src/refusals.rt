@@ -4,9 +4,11 @@ ghost use Rattle.std.specs.List.{list_all};
 ghost use Rattle.sftp_profile.specs.Tellings.{is_dots};
 ghost use Rattle.sftp_handles.specs.Replies.{has_code};
 ghost use Rattle.sftp_profile.specs.Departures as spec;
+ghost use Rattle.sftp_profile.specs.Permitted.{is_handle, done_status};
 
 use crate::tellings::is_dots;
-use sftp_wire::{Answer, NameItem};
+use sftp_wire::{Answer, ByteString, NameItem};
+use std::alloc::Global;
 
 /// Whether the answer is a status with a code that refuses: 2, 3, 4, 5 or 8.
 pub(crate) fn is_refusal(answer: &Answer) -> bool
@@ -49,6 +51,27 @@ pub(crate) fn has_code(answer: &Answer, wanted: u32) -> bool
     match answer {
         Answer::Status { code, .. } => *code == wanted,
         _ => false,
+    }
+}
+
+/// Whether the answer gives a handle.
+pub(crate) fn is_handle(answer: &Answer) -> bool
+    ensures { result ≡ is_handle answer.now }
+{
+    match answer {
+        Answer::Handle(_) => true,
+        _ => false,
+    }
+}
+
+/// OK, without texts.
+pub(crate) fn done(alloc: Global) -> Answer
+    ensures { result ≡ done_status }
+{
+    Answer::Status {
+        code: 0,
+        message: ByteString::new(Vec::new(alloc)),
+        language: ByteString::new(Vec::new(alloc)),
     }
 }
 
