@@ -12,6 +12,7 @@ use Rattle.sftp_tree.specs.Tree.{Tree}
 use Rattle.sftp_tree.specs.Causes.{is_none}
 use Rattle.sftp_tree.specs.Requests.{causes, text_to}
 use Rattle.sftp_handles.specs.Replies.{has_code, is_named}
+use Rattle.sftp_profile.specs.Refusals.{is_refusal}
 
 -- ---- the text of a path without a look at the tree
 
@@ -46,19 +47,20 @@ abbrev pub has_one_name : Answer → Bool
 has_one_name (replies.Name items) = length items == 1
 has_one_name other = false
 
--- the answer says that there is nothing, and so it is
-abbrev pub says_absent : Tree → List ℕ → Answer → Bool
-says_absent t path answer = has_code 2 answer && not (is_none (causes t (asks.Stat path)))
+-- the answer says that there is nothing, with any code if codes are free, and so it is
+abbrev pub says_absent : Tree → Bool → List ℕ → Answer → Bool
+says_absent t frees path answer =
+    (has_code 2 answer || frees && is_refusal answer) && not (is_none (causes t (asks.Stat path)))
 
 -- what a REALPATH may be answered, by whether a cause refuses it
-abbrev pub is_resolved : Tree → List ℕ → Answer → Bool → Bool
-is_resolved t path answer true = has_one_name answer
-is_resolved t path answer false = is_named (lexical t path) answer || says_absent t path answer
+abbrev pub is_resolved : Tree → Bool → List ℕ → Answer → Bool → Bool
+is_resolved t frees path answer true = has_one_name answer
+is_resolved t frees path answer false = is_named (lexical t path) answer || says_absent t frees path answer
 
-abbrev pub passes_realpath : Tree → Ask → Answer → Bool
-passes_realpath t (asks.Realpath path) answer =
-    is_resolved t path answer (not (is_none (causes t (asks.Realpath path))))
-passes_realpath t other answer = false
+abbrev pub passes_realpath : Tree → Bool → Ask → Answer → Bool
+passes_realpath t frees (asks.Realpath path) answer =
+    is_resolved t frees path answer (not (is_none (causes t (asks.Realpath path))))
+passes_realpath t frees other answer = false
 
 -- ---- words of private contracts
 

@@ -6,31 +6,31 @@ use crate::extensions::{is_looked_at, is_unknown, only_looks};
 use crate::limits::is_beyond;
 use crate::paths::walks_loosely;
 use crate::profiles::Profile;
-use crate::refusals::{has_code, is_refusal};
+use crate::refusals::{has_code, has_code_or, is_refusal};
 use sftp_wire::{Answer, Ask, Attrs};
 
 /// Whether the profile lets the answer pass, whatever the session.
 pub(crate) fn passes_alone(profile: Profile, ask: &Ask, answer: &Answer) -> bool
     ensures { result ≡ spec.passes_alone profile ask.now answer.now }
 {
-    (profile.slash && passes_slash(ask, answer))
+    (profile.slash && passes_slash(profile, ask, answer))
         || (profile.empty_setstat && passes_empty_setstat(ask, answer))
-        || (profile.limits && passes_limits(ask, answer))
+        || (profile.limits && passes_limits(profile, ask, answer))
         || (profile.extensions && passes_extensions(ask, answer))
 }
 
 /// Whether a path ends loosely, and the answer refuses it.
-fn passes_slash(ask: &Ask, answer: &Answer) -> bool
-    ensures { result ≡ spec.passes_slash ask.now answer.now }
+fn passes_slash(profile: Profile, ask: &Ask, answer: &Answer) -> bool
+    ensures { result ≡ spec.passes_slash profile ask.now answer.now }
 {
-    walks_loosely(ask) && (has_code(answer, 2) || has_code(answer, 4))
+    walks_loosely(ask) && (has_code(answer, 2) || has_code_or(answer, 4, profile.codes))
 }
 
 /// Whether the request meets a limit of the server's own, and the answer refuses it.
-fn passes_limits(ask: &Ask, answer: &Answer) -> bool
-    ensures { result ≡ spec.passes_limits ask.now answer.now }
+fn passes_limits(profile: Profile, ask: &Ask, answer: &Answer) -> bool
+    ensures { result ≡ spec.passes_limits profile ask.now answer.now }
 {
-    is_beyond(ask) && has_code(answer, 4)
+    is_beyond(ask) && has_code_or(answer, 4, profile.codes)
 }
 
 /// Whether an extension that is not known is refused, or only looks.

@@ -28,5 +28,5 @@ pub(crate) fn passes_looking(
     if !profile.realpath {
         return Ok(false);
     }
-    passes_realpath(session.tree(), ask, answer)
+    passes_realpath(session.tree(), profile.codes, ask, answer)
 }

@@ -9,26 +9,32 @@ ghost use Rattle.sftp_tree.specs.Requests.{causes};
 ghost use Rattle.sftp_handles.specs.Replies.{is_named, is_one_name};
 ghost use Rattle.sftp_profile.specs.Realpaths as spec;
 
-use crate::refusals::has_code;
+use crate::refusals::has_code_or;
 use sftp_path::{Parts, Place, absolute, is_dot, is_dot_dot, is_name};
 use sftp_tree::{NoMemory, Refused, Tree};
 use sftp_wire::{Answer, Ask, NameItem};
 use std::alloc::Global;
 
-/// Whether a REALPATH may be answered so by a server that does not look at the tree, or not at all of it.
+/// Whether a REALPATH may be answered so by a server that does not look at the tree, or not at all of it. `frees` says
+/// that codes are free.
 ///
 /// # Errors
 ///
 /// `NoMemory` if memory runs out.
-pub(crate) fn passes_realpath(tree: &Tree, ask: &Ask, answer: &Answer) -> Result<bool, NoMemory>
-    ensures { IfOk result (λ ok. ok ≡ spec.passes_realpath tree.now ask.now answer.now) }
+pub(crate) fn passes_realpath(
+    tree: &Tree,
+    frees: bool,
+    ask: &Ask,
+    answer: &Answer,
+) -> Result<bool, NoMemory>
+    ensures { IfOk result (λ ok. ok ≡ spec.passes_realpath tree.now frees ask.now answer.now) }
 {
     match ask {
         Ask::Realpath { path } => {
             if tree.causes(ask)?.has_any() {
                 return Ok(has_one_name(answer));
             }
-            is_resolved(tree, path.as_slice(), answer)
+            is_resolved(tree, frees, path.as_slice(), answer)
         }
         _ => Ok(false),
     }
@@ -39,13 +45,13 @@ pub(crate) fn passes_realpath(tree: &Tree, ask: &Ask, answer: &Answer) -> Result
 /// # Errors
 ///
 /// `NoMemory` if memory runs out.
-fn is_resolved(tree: &Tree, path: &[u8], answer: &Answer) -> Result<bool, NoMemory>
-    ensures { IfOk result (λ ok. ok ≡ spec.is_resolved tree.now path.now answer.now false) }
+fn is_resolved(tree: &Tree, frees: bool, path: &[u8], answer: &Answer) -> Result<bool, NoMemory>
+    ensures { IfOk result (λ ok. ok ≡ spec.is_resolved tree.now frees path.now answer.now false) }
 {
     if is_lexical(tree, path, answer)? {
         return Ok(true);
     }
-    says_absent(tree, path, answer)
+    says_absent(tree, frees, path, answer)
 }
 
 /// Whether the answer is the path's text made absolute.
@@ -92,10 +98,10 @@ fn has_one_name(answer: &Answer) -> bool
 /// # Errors
 ///
 /// `NoMemory` if memory runs out.
-fn says_absent(tree: &Tree, path: &[u8], answer: &Answer) -> Result<bool, NoMemory>
-    ensures { IfOk result (λ ok. ok ≡ spec.says_absent tree.now path.now answer.now) }
+fn says_absent(tree: &Tree, frees: bool, path: &[u8], answer: &Answer) -> Result<bool, NoMemory>
+    ensures { IfOk result (λ ok. ok ≡ spec.says_absent tree.now frees path.now answer.now) }
 {
-    if !has_code(answer, 2) {
+    if !has_code_or(answer, 2, frees) {
         return Ok(false);
     }
     match tree.stat(path, true) {
