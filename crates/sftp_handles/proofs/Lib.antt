@@ -29,6 +29,7 @@ pub mod HandleRoom
 pub mod NewHandles
 pub mod TotalSteps
 pub mod AnswersSpelled
+pub mod LimitsAnswers
 pub mod QueryReplies
 pub mod AnswersSteps
 pub mod NameReplies

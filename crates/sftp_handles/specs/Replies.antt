@@ -106,6 +106,13 @@ abbrev pub is_new_handle : Handles → Answer → Bool
 is_new_handle handles (replies.Handle name) = nat_le (length name) handle_limit && not (is_open handles name)
 is_new_handle handles other = false
 
+-- ---- extensions
+
+-- these bytes
+abbrev pub is_extended : List ℕ → Answer → Bool
+is_extended bytes (replies.Extended given) = same_bytes bytes given
+is_extended bytes other = false
+
 -- ---- what a reply says
 
 -- what the reply to a request that was done says
@@ -124,6 +131,8 @@ pub data Said : Type 0 where
   lists : Left → Said
   -- a handle that is not one of these
   opens : Handles → Said
+  -- these bytes in the reply of an extension
+  extends : List ℕ → Said
 
 -- whether an answer says it; OK has the code 0, and the end the code 1
 abbrev pub says : Said → Answer → Bool
@@ -134,3 +143,4 @@ says (gives bytes) answer = is_data bytes answer
 says ended answer = has_code 1 answer
 says (lists left) answer = gives_some left answer
 says (opens handles) answer = is_new_handle handles answer
+says (extends bytes) answer = is_extended bytes answer

@@ -73,6 +73,7 @@ impl<T: HandleTable> Session<T> {
             | Ask::Symlink { .. }
             | Ask::PosixRename { .. }
             | Ask::Hardlink { .. }
+            | Ask::Limits
             | Ask::Unknown { .. } => Touch::Everything,
         }
     }
@@ -136,6 +137,7 @@ pub fn is_barrier(ask: &Ask) -> bool
         | Ask::Symlink { .. }
         | Ask::PosixRename { .. }
         | Ask::Hardlink { .. }
+        | Ask::Limits
         | Ask::Unknown { .. } => true,
     }
 }
@@ -173,6 +175,7 @@ fn handle_in(ask: &Ask) -> &[u8]
         | Ask::Symlink { .. }
         | Ask::PosixRename { .. }
         | Ask::Hardlink { .. }
+        | Ask::Limits
         | Ask::Unknown { .. } => &[],
     }
 }

@@ -1,12 +1,13 @@
 //! Worked examples: what sessions allow through handles, computed by the checker on the definitions that the contracts
 //! name. The functions do nothing; each promise is in the contract.
-#![tactic(auto, unfolding(crate::specs::Allowed::step, crate::specs::Allowed::steps, crate::specs::Requests::causes, crate::specs::Requests::answers, crate::specs::Requests::after, crate::specs::Requests::told_to, crate::specs::Seen::seen, crate::specs::Handles::pins_of, sftp_tree::specs::Requests::led, sftp_tree::specs::Causes::no_causes, sftp_tree::specs::Causes::when, sftp_tree::specs::Causes::joined, sftp_tree::specs::Requests::plain_causes, sftp_tree::specs::Requests::causes, sftp_tree::specs::Requests::outcome, sftp_tree::specs::Listings::children, sftp_tree::specs::Listings::listing, sftp_tree::specs::Walk::meets, sftp_tree::specs::Walk::walk_parts, sftp_tree::specs::Walk::walk, sftp_tree::specs::Walk::reached, sftp_tree::specs::Tree::has_entries, sftp_tree::specs::Tree::fits, sftp_path::specs::Place::components, sftp_path::specs::Place::parts, sftp_path::specs::Place::is_good_path, sftp_path::specs::Table::get, sftp_path::specs::Table::put, sftp_path::specs::Table::without, sftp_path::specs::Table::retain, sftp_path::specs::Table::from_entries))]
+#![tactic(auto, unfolding(crate::specs::Allowed::step, crate::specs::Allowed::steps, crate::specs::Requests::causes, crate::specs::Requests::answers, crate::specs::Requests::after, crate::specs::Requests::told_to, crate::specs::Requests::limits_data, sftp_wire::specs::Examples::hex, crate::specs::Seen::seen, crate::specs::Handles::pins_of, sftp_tree::specs::Requests::led, sftp_tree::specs::Causes::no_causes, sftp_tree::specs::Causes::when, sftp_tree::specs::Causes::joined, sftp_tree::specs::Requests::plain_causes, sftp_tree::specs::Requests::causes, sftp_tree::specs::Requests::outcome, sftp_tree::specs::Listings::children, sftp_tree::specs::Listings::listing, sftp_tree::specs::Walk::meets, sftp_tree::specs::Walk::walk_parts, sftp_tree::specs::Walk::walk, sftp_tree::specs::Walk::reached, sftp_tree::specs::Tree::has_entries, sftp_tree::specs::Tree::fits, sftp_path::specs::Place::components, sftp_path::specs::Place::parts, sftp_path::specs::Place::is_good_path, sftp_path::specs::Table::get, sftp_path::specs::Table::put, sftp_path::specs::Table::without, sftp_path::specs::Table::retain, sftp_path::specs::Table::from_entries))]
 
 ghost use Rattle.std.specs.Prelude.{◌≡◌, ◌∷◌, [], Some, None, codes};
 ghost use Rattle.sftp_wire.specs.declared.packets.Ask.TheVariants.{Open, Close, Read, Write, Fstat, Fsetstat};
-ghost use Rattle.sftp_wire.specs.declared.packets.Ask.TheVariants.{Readdir, Remove, Fsync, Unknown};
-ghost use Rattle.sftp_wire.specs.declared.packets.Answer.TheVariants.{Data, Handle, Name, Attrs};
-ghost use Rattle.sftp_wire.specs.Examples.{no_attributes};
+ghost use Rattle.sftp_wire.specs.declared.packets.Ask.TheVariants.{Readdir, Remove, Fsync, Limits, Unknown};
+ghost use Rattle.sftp_wire.specs.declared.packets.Answer.TheVariants.{Data, Handle, Name, Attrs, Extended};
+ghost use Rattle.sftp_wire.specs.Examples.{no_attributes, hex};
+ghost use Rattle.sftp_tree.specs.Tree.{raised};
 ghost use Rattle.sftp_tree.specs.Picture.{blank};
 ghost use Rattle.sftp_tree.specs.WalkExamples.{letters};
 ghost use Rattle.sftp_handles.specs.Allowed.{steps};
@@ -178,6 +179,20 @@ pub fn set_through_handles()
         ∷ done (Close (codes "h")) ∷ []) ≡ Some (closed (with_text (codes "abc"))) }
     ensures not_done { steps (closed (with_text (codes "abc"))) (opened (codes "/f") 0x1 (codes "h")
         ∷ done (Fsetstat (codes "h") (sized 1)) ∷ []) ≡ None }
+{}
+
+/// The reply to a request for the limits has those of the tree. Nothing changes, and it has no other reply.
+pub fn limits_of_the_tree()
+    ensures usual { steps (closed blank) ((Limits, Extended
+        (hex (codes "0000000000040000 0000000000008000 0000000000008000 0000000000000100"))) ∷ [])
+        ≡ Some (closed blank) }
+    ensures highest { steps (closed (raised blank)) ((Limits, Extended
+        (hex (codes "0000000000040000 0000000000010000 0000000000010000 0000000000000400"))) ∷ [])
+        ≡ Some (closed (raised blank)) }
+    ensures of_another_tree { steps (closed (raised blank)) ((Limits, Extended
+        (hex (codes "0000000000040000 0000000000008000 0000000000008000 0000000000000100"))) ∷ []) ≡ None }
+    ensures not_done { steps (closed blank) (done Limits ∷ []) ≡ None }
+    ensures not_refused { steps (closed blank) ((Limits, code 8) ∷ []) ≡ None }
 {}
 
 /// An extension that is not known has the code 8 alone.

@@ -79,6 +79,7 @@ impl<T: HandleTable> Session<T> {
             | Ask::Symlink { .. }
             | Ask::PosixRename { .. }
             | Ask::Hardlink { .. }
+            | Ask::Limits
             | Ask::Unknown { .. } => None,
         }
     }

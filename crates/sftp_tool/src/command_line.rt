@@ -130,6 +130,12 @@ are 0. The archive has all of the tree but where relative paths start, and who o
 
 const ABOUT_BLANK: &str = "Writes the tree file of a tree that holds only the root directory";
 
+const ABOUT_RAISE: &str = "Writes a tree file with the highest limits that a tree may set";
+
+const AFTER_RAISE: &str =
+    "The tree stays the same. Its limits are then 1,048,576 entries below the root, 67,108,864 bytes
+of a file, 65,536 bytes to one READ, and 1,024 open handles.";
+
 const AFTER_AUDIT: &str =
     "Prints 'accepted N requests', or 'refused record N: KIND'. Records are numbered from 1.
 
@@ -155,6 +161,11 @@ pub(crate) enum Request<'a> {
     Audit(AuditOptions<'a>),
     /// Write the blank tree to a file.
     Blank {
+        file: &'a str,
+    },
+    /// Write the tree of a tree file with the highest limits to another.
+    Raise {
+        tree: &'a str,
         file: &'a str,
     },
     /// Show what a transcript or a tree file holds: all of it, or a line for each record or entry that sums it up. If
@@ -270,6 +281,7 @@ fn requested<'a>(matches: &ArgMatches<'a>) -> Option<Request<'a>> {
         "serve" => serve_options(given).map(Request::Serve),
         "audit" => audit_options(given).map(Request::Audit),
         "show" => show_request(given),
+        "raise" => raise_request(given),
         "make" => given.get_str("file").map(|file| Request::Make { file }),
         "diff" => diff_request(given),
         "import" => given.get_str("file").map(|file| Request::Import { file }),
@@ -293,6 +305,12 @@ fn diff_request<'a>(given: &ArgMatches<'a>) -> Option<Request<'a>> {
     let old = given.get_str("old")?;
     let new = given.get_str("new")?;
     Some(Request::Diff { old, new })
+}
+
+fn raise_request<'a>(given: &ArgMatches<'a>) -> Option<Request<'a>> {
+    let tree = given.get_str("tree")?;
+    let file = given.get_str("file")?;
+    Some(Request::Raise { tree, file })
 }
 
 fn serve_options<'a>(given: &ArgMatches<'a>) -> Option<ServeOptions<'a>> {
@@ -329,6 +347,7 @@ fn command<'a>(alloc: Global, version: &'a str) -> Result<Command<'a>, AllocErro
     let command = with_subcommand(command, diff_command(alloc))?;
     let command = with_subcommand(command, import_command(alloc))?;
     let command = with_subcommand(command, export_command(alloc))?;
+    let command = with_subcommand(command, raise_command(alloc))?;
     with_subcommand(command, blank_command(alloc))
 }
 
@@ -471,6 +490,19 @@ fn export_command<'a>(alloc: Global) -> Result<Command<'a>, AllocError> {
 fn blank_command<'a>(alloc: Global) -> Result<Command<'a>, AllocError> {
     let file = file_argument(alloc).help("The file to write");
     Command::new(alloc, "blank").about(ABOUT_BLANK).arg(file)
+}
+
+fn raise_command<'a>(alloc: Global) -> Result<Command<'a>, AllocError> {
+    let tree = Arg::new(alloc, "tree")
+        .value_name("TREE")
+        .action(ArgAction::Set)
+        .required(true)
+        .help("The tree file to read");
+    Command::new(alloc, "raise")
+        .about(ABOUT_RAISE)
+        .after_help(AFTER_RAISE)
+        .arg(tree)?
+        .arg(file_argument(alloc).help("The file to write"))
 }
 
 /// The argument `FILE`.

@@ -1,6 +1,7 @@
 //! The tree.
 ghost use Rattle.std.specs.Prelude.{◌≡◌, [], ◌<◌, ◌^◌, false, None, option_copied, OnOk, OnErr, IsTrue, ◌+◌, nat_lt};
 ghost use Rattle.sftp_path.specs.Place.{are_names, parent};
+ghost use Rattle.sftp_treefile.specs.Limits.{numbers};
 ghost use Rattle.sftp_treefile.specs.TreeFile.{IsOwner, is_root, same_place};
 
 use crate::entries::Entries;
@@ -9,7 +10,7 @@ use crate::file_numbers::FileNo;
 use crate::files::Files;
 use crate::nodes::{Node, file_named};
 use sftp_path::{NoMemory, Place};
-use sftp_treefile::{Owner, TreeLimits};
+use sftp_treefile::{Owner, TreeLimits, highest_limits};
 use sftp_wire::Attrs;
 use std::alloc::Global;
 use std::fmt;
@@ -130,7 +131,30 @@ impl Tree {
         self.gid
     }
 
-    /// The limits of the tree.
+    /// The four limits of the tree in the order of a tree file: the most entries below the root, bytes of a file, bytes
+    /// that one READ gives, and open handles. It takes no memory.
+    pub fn limits(&self) -> [u32; 4]
+        ensures { result ≡ numbers (tree.limits self.now) }
+    {
+        let limits = self.limits;
+        [
+            limits.entries,
+            limits.file_bytes,
+            limits.read_bytes,
+            limits.open_handles,
+        ]
+    }
+
+    /// The same tree with the highest limits that a tree may set. It takes no memory.
+    pub fn raise(self) -> Tree
+        ensures raised { result ≡ tree.raised self }
+    {
+        let owner = (self.uid, self.gid);
+        let limits = highest_limits();
+        Tree::from_parts(self.names, self.files, self.made, limits, self.home, owner)
+    }
+
+    /// The limits of the tree, by their names.
     pub fn tree_limits(&self) -> TreeLimits
         ensures limits { result ≡ tree.limits self.now }
         ensures kept { tree.IsKept self.now }

@@ -9,7 +9,7 @@ ghost use Rattle.sftp_wire.specs.Writing.{Extends, IsTooLong, IsNotCanonical};
 
 use crate::attributes::{AttrFlags, Attrs};
 use crate::errors::WireError;
-use crate::extensions::{FSYNC, HARDLINK, POSIX_RENAME, hides_extension};
+use crate::extensions::{FSYNC, HARDLINK, LIMITS, POSIX_RENAME, hides_extension};
 use crate::handles::has_long_handle;
 use crate::measuring::contents_length;
 use crate::names::{NameItem, Names};
@@ -392,8 +392,11 @@ fn asked_type(ask: &Ask) -> u8
         Ask::Rename { .. } => RENAME,
         Ask::Readlink { .. } => READLINK,
         Ask::Symlink { .. } => SYMLINK,
-        Ask::PosixRename { .. } | Ask::Hardlink { .. } | Ask::Fsync { .. } | Ask::Unknown { .. } =>
-            EXTENDED,
+        Ask::PosixRename { .. }
+        | Ask::Hardlink { .. }
+        | Ask::Fsync { .. }
+        | Ask::Limits
+        | Ask::Unknown { .. } => EXTENDED,
     }
 }
 
@@ -447,6 +450,7 @@ fn put_ask_fields(out: &mut Vec<u8>, ask: &Ask) -> Result<(), AllocError>
             put_two_paths_extension(out, HARDLINK, oldpath, newpath)
         }
         Ask::Fsync { handle } => put_handle_extension(out, FSYNC, handle),
+        Ask::Limits => put_bytes(out, LIMITS),
         Ask::Unknown { name, rest } => put_unknown(out, name, rest),
     }
 }

@@ -6,9 +6,10 @@ use Rattle.sftp_path.specs.Place.{components, parts, is_good_path}
 use Rattle.sftp_path.specs.Table.{get}
 use Rattle.sftp_treefile.specs.declared.files.Kind.TheVariants as kinds
 use Rattle.sftp_treefile.specs.declared.files.TreeFile.{TreeFile}
-use Rattle.sftp_treefile.specs.Limits.{usual_limits}
+use Rattle.sftp_treefile.specs.Limits.{usual_limits, are_own}
 use Rattle.sftp_treefile.specs.Examples.{blank_bytes}
 use Rattle.sftp_treefile.specs.TreeFile.{has_dir, spelled, IsPlaceText, IsTreeFile, IsSpelled}
+use Rattle.sftp_treefile.proofs.Texts.Limits.{usual_are}
 use Rattle.sftp_tree.specs.Tree.{IsKept}
 use Rattle.sftp_tree.specs.Picture.{IsStart, picture, blank}
 use Rattle.sftp_tree.specs.PictureExamples.{user_owner, linked, two_names, two_names_bytes}
@@ -17,7 +18,7 @@ use Rattle.sftp_tree.proofs.TreeFiles.Files.{blank_kept, kept_of_file, start_of_
 -- ---- the root alone
 
 pub blank_picture : picture blank ≡ blank_bytes
-unfolding picture spelled get hex
+unfolding picture spelled are_own get hex
 blank_picture = refl
 
 pub blank_start : IsStart blank blank_bytes
@@ -53,7 +54,7 @@ text_l = record { names = refl; depth = omega arith; one = refl }
 may_be : IsTreeFile linked_file
 unfolding linked_file components parts has_dir is_good_path
 may_be = record {
-  limits = refl;
+  limits = usual_are;
   home = text_d;
   uid = omega arith;
   gid = omega arith;
@@ -96,7 +97,7 @@ text_g = record { names = refl; depth = omega arith; one = refl }
 two_names_may_be : IsTreeFile two_names_file
 unfolding two_names_file components parts has_dir
 two_names_may_be = record {
-  limits = refl;
+  limits = usual_are;
   home = text_root;
   uid = omega arith;
   gid = omega arith;
@@ -109,7 +110,7 @@ two_names_may_be = record {
 }
 
 two_names_spelled : IsSpelled two_names_file two_names_bytes
-unfolding two_names_file spelled hex
+unfolding two_names_file spelled are_own hex
 two_names_spelled = record { may_be = two_names_may_be; bytes_are = refl }
 
 pub two_names_start : IsStart two_names two_names_bytes

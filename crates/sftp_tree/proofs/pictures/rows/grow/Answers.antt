@@ -2,7 +2,7 @@
 use Rattle.std.proofs.Common.{◌≡◌, [], ◌∷◌, ◌<◌, ◌++◌, length, take, ap, sym, subst, ◌∙◌, append_assoc, append-nil, arith, refl}
 use Rattle.std.specs.Vec.Iter.{into_iter_items}
 use Rattle.std.proofs.lemmas.List.{nil_from_length, length-append}
-use Rattle.sftp_treefile.specs.Limits.{usual_limits}
+use Rattle.sftp_treefile.specs.Limits.{highest_limits}
 use Rattle.sftp_treefile.specs.TreeFile.{place_of, IsPlaceText, AreRows}
 use Rattle.sftp_tree.specs.Growth.{names_in, place_in}
 use Rattle.sftp_tree.specs.PictureParts.{IsKnown, IsGrown}
@@ -19,7 +19,7 @@ loop-row-init c =
       count = rw (gives.0, gives.1) c.args.rows.ok.0;
       few = rw gives.0 c.requires.count;
       before = tt;
-      rows = subst (AreRows usual_limits []) (sym gives.0) c.requires.rows;
+      rows = subst (AreRows highest_limits []) (sym gives.0) c.requires.rows;
       grown = grown_root c.args.root (names_in c.new-growth.result) c.new-files.result c.new-growth.ensures.names
           c.new-files.ensures;
       above = open_root (place_in c.new-growth.result) c.new-growth.ensures.place;
@@ -28,12 +28,12 @@ loop-row-init c =
 
 pub last_name-depth-requires-clause-text : goal.last_name-depth-requires-clause-text
 last_name-depth-requires-clause-text c =
-    let left = subst (AreRows usual_limits c.loop-row.yielded) c.in-Some.ensures.steps.0 c.loop-row.invariant.rows in
+    let left = subst (AreRows highest_limits c.loop-row.yielded) c.in-Some.ensures.steps.0 c.loop-row.invariant.rows in
     subst IsPlaceText (sym c.as_slice.ensures) left.0.path
 
 pub last_name-depth-requires-clause-below_root : goal.last_name-depth-requires-clause-below_root
 last_name-depth-requires-clause-below_root c =
-    let left = subst (AreRows usual_limits c.loop-row.yielded) c.in-Some.ensures.steps.0 c.loop-row.invariant.rows in
+    let left = subst (AreRows highest_limits c.loop-row.yielded) c.in-Some.ensures.steps.0 c.loop-row.invariant.rows in
     subst (λ text. 0 < length (place_of text)) (sym c.as_slice.ensures) left.0.below_root
 
 pub overflow_cast-made : goal.overflow_cast-made
@@ -48,7 +48,7 @@ overflow_cast-made c =
 
 pub node_of-requires-clause-known : goal.node_of-requires-clause-known
 node_of-requires-clause-known c =
-    let left = subst (AreRows usual_limits c.loop-row.yielded) c.in-Some.ensures.steps.0 c.loop-row.invariant.rows in
+    let left = subst (AreRows highest_limits c.loop-row.yielded) c.in-Some.ensures.steps.0 c.loop-row.invariant.rows in
     subst (λ ns. IsKnown ns c.in-Some.row.kind) (sym (c.deref.ensures.value ∙ c.loop-row.invariant.numbers))
     (kind_known c.loop-row.yielded c.in-Some.row.kind left.0.kind)
 
@@ -67,7 +67,7 @@ put-requires-clause-ordered c =
 pub put-requires-clause-depth : goal.put-requires-clause-depth
 put-requires-clause-depth c =
     let at = c.loop-row in
-    let left = subst (AreRows usual_limits at.yielded) c.in-Some.ensures.steps.0 at.invariant.rows in
+    let left = subst (AreRows highest_limits at.yielded) c.in-Some.ensures.steps.0 at.invariant.rows in
     (room_for c.args.root at.yielded c.in-Some.row (place_in at.growth) c.last_name-depth.result.0
     c.last_name-depth.result.1.now
     c.as_slice.result.now at.invariant.above left.0 c.as_slice.ensures c.last_name-depth.ensures.whole
@@ -76,7 +76,7 @@ put-requires-clause-depth c =
 pub put-requires-clause-last : goal.put-requires-clause-last
 put-requires-clause-last c =
     let at = c.loop-row in
-    let left = subst (AreRows usual_limits at.yielded) c.in-Some.ensures.steps.0 at.invariant.rows in
+    let left = subst (AreRows highest_limits at.yielded) c.in-Some.ensures.steps.0 at.invariant.rows in
     let room = room_for c.args.root at.yielded c.in-Some.row (place_in at.growth) c.last_name-depth.result.0
     c.last_name-depth.result.1.now c.as_slice.result.now at.invariant.above left.0 c.as_slice.ensures
     c.last_name-depth.ensures.whole c.last_name-depth.ensures.depth in
@@ -99,8 +99,8 @@ loop-row-preserved c =
     let at = c.loop-row in
     let row = c.in-Some.row in
     let steps : into_iter_items at.row-iterator ≡ row ∷ into_iter_items c.next.new.self = c.in-Some.ensures.steps.0 in
-    let left : AreRows usual_limits at.yielded (row ∷ into_iter_items c.next.new.self) =
-    subst (AreRows usual_limits at.yielded) steps at.invariant.rows in
+    let left : AreRows highest_limits at.yielded (row ∷ into_iter_items c.next.new.self) =
+    subst (AreRows highest_limits at.yielded) steps at.invariant.rows in
     let numbers = c.deref.ensures.value ∙ at.invariant.numbers in
     let next = c.new-next.ensures ∙ c.len-made.ensures
     ∙ many_files c.args.root at.yielded (names_in at.growth) at.files at.invariant.grown in
