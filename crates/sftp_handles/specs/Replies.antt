@@ -75,14 +75,14 @@ abbrev pub has_attributes : Option Attrs → Attrs → Bool
 has_attributes None attrs = false
 has_attributes (Some left) attrs = same_attributes left attrs
 
--- a name that the listing still has to give, with its attributes
+-- a remaining entry of the listing, with its attributes
 abbrev pub is_left : Left → NameItem → Bool
 is_left left item = has_attributes (get name_cmp left item.filename) item.attrs
 
 abbrev pub names_in : List NameItem → List Name
 names_in items = map (λ item. item.filename) items
 
--- one or more of the names that the listing still has to give, each once, in any order
+-- one or more of the remaining entries of the listing, each once, in any order
 abbrev pub are_some_left : Left → List NameItem → Bool
 are_some_left left items = nat_lt 0 (length items) && (list_all (is_left left) items && are_distinct (names_in items))
 
@@ -127,7 +127,7 @@ pub data Said : Type 0 where
   gives : List ℕ → Said
   -- that the end was reached
   ended : Said
-  -- some of the names that a listing still has to give
+  -- some of the remaining entries of a listing
   lists : Left → Said
   -- a handle that is not one of these
   opens : Handles → Said

@@ -1,4 +1,4 @@
-//! Worked examples: which requests clash, computed by the checker on the definitions. The functions do nothing; each
+//! Worked examples: which requests conflict, computed by the checker on the definitions. The functions do nothing; each
 //! promise is in the contract.
 #![tactic(auto, unfolding(crate::specs::Clash::touched, crate::specs::Clash::clash, sftp_path::specs::Table::get))]
 
@@ -7,7 +7,7 @@ ghost use Rattle.sftp_wire.specs.declared.packets.Ask.TheVariants.{Close, Write,
 ghost use Rattle.sftp_wire.specs.declared.packets.Ask.TheVariants.{Opendir, Unknown};
 ghost use Rattle.sftp_handles.specs.ClashExamples.{read, write, set, make, clash_there};
 
-/// A request that may change a file clashes with every other request on it, through whichever handle.
+/// A request that may change a file conflicts with every other request on it, through whichever handle.
 pub fn one_file()
     ensures read_and_write { clash_there (read (codes "a")) (write (codes "b")) ≡ true }
     ensures write_and_read { clash_there (write (codes "b")) (read (codes "a")) ≡ true }
@@ -18,7 +18,7 @@ pub fn one_file()
     ensures nothing_written { clash_there (Write (codes "b") 0 (codes "")) (read (codes "a")) ≡ true }
 {}
 
-/// Two requests that only read a file do not clash, nor do requests on two files.
+/// Two requests that only read a file do not conflict, nor do requests on two files.
 pub fn files_that_are_not_shared()
     ensures twice_read { clash_there (read (codes "a")) (read (codes "a")) ≡ false }
     ensures by_two_handles { clash_there (Fstat (codes "a")) (read (codes "b")) ≡ false }
@@ -27,7 +27,7 @@ pub fn files_that_are_not_shared()
     ensures both_written { clash_there (write (codes "b")) (write (codes "c")) ≡ false }
 {}
 
-/// Two READDIRs of one listing clash; those of two listings do not, and neither do READDIR and a request on a file.
+/// Two READDIRs of one listing conflict; those of two listings do not, and neither do READDIR and a request on a file.
 pub fn listings()
     ensures one { clash_there (Readdir (codes "l")) (Readdir (codes "l")) ≡ true }
     ensures two { clash_there (Readdir (codes "l")) (Readdir (codes "m")) ≡ false }
@@ -42,7 +42,7 @@ pub fn nothing_to_touch()
     ensures of_a_file { clash_there (Readdir (codes "b")) (write (codes "b")) ≡ false }
 {}
 
-/// Every other request clashes with all requests: CLOSE, also of a handle that is not open, requests on paths, and
+/// Every other request conflicts with all requests: CLOSE, also of a handle that is not open, requests on paths, and
 /// unknown extensions.
 pub fn everything_is_touched()
     ensures closed { clash_there (read (codes "a")) (Close (codes "a")) ≡ true }

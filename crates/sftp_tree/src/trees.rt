@@ -56,7 +56,7 @@ impl Tree {
     ghost use Rattle.sftp_tree.specs.FileChanges as file_changes;
     ghost use Rattle.sftp_tree.specs.Plans.{CanMake};
 
-    /// A tree of these parts. It takes no memory.
+    /// A tree of these parts. Does not allocate.
     pub(crate) fn from_parts(
         names: Entries,
         files: Files,
@@ -132,7 +132,7 @@ impl Tree {
     }
 
     /// The four limits of the tree in the order of a tree file: the most entries below the root, bytes of a file, bytes
-    /// that one READ gives, and open handles. It takes no memory.
+    /// that one READ gives, and open handles. Does not allocate.
     pub fn limits(&self) -> [u32; 4]
         ensures { result ≡ numbers (tree.limits self.now) }
     {
@@ -145,7 +145,7 @@ impl Tree {
         ]
     }
 
-    /// The same tree with the highest limits that a tree may set. It takes no memory.
+    /// The same tree with the highest limits that a tree may set. Does not allocate.
     pub fn raise(self) -> Tree
         ensures raised { result ≡ tree.raised self }
     {
@@ -180,7 +180,7 @@ impl Tree {
     ///
     /// # Errors
     ///
-    /// `NoMemory` if memory runs out; the tree is then as before.
+    /// `NoMemory` if memory runs out; the tree is unchanged.
     pub(crate) fn put(&mut self, place: Place, node: Node) -> Result<(), NoMemory>
         requires absent { tree.node_at self.old.names place ≡ None }
         requires named { IsTrue (are_names place) }
@@ -202,7 +202,7 @@ impl Tree {
     ///
     /// # Errors
     ///
-    /// `NoMemory` if memory runs out; the tree is then as before.
+    /// `NoMemory` if memory runs out; the tree is unchanged.
     pub(crate) fn make_file(&mut self, place: Place, content: Content) -> Result<(), NoMemory>
         requires { CanMake self.old place content }
         ensures ok { OnOk result (self.new ≡ tree.trim (changes.with_new_file self.old place content)) }
@@ -238,7 +238,7 @@ impl Tree {
     ///
     /// # Errors
     ///
-    /// `NoMemory` if memory runs out; the tree is then as before.
+    /// `NoMemory` if memory runs out; the tree is unchanged.
     pub(crate) fn move_to(&mut self, old: &Place, new: Place) -> Result<(), NoMemory>
         requires taken { IsTrue (tree.is_taken (tree.node_at self.old.names old.now)) }
         requires old_below_root { is_root old.now ≡ false }
@@ -274,7 +274,7 @@ impl Tree {
     ///
     /// # Errors
     ///
-    /// `NoMemory` if memory runs out; the tree is then as before.
+    /// `NoMemory` if memory runs out; the tree is unchanged.
     pub(crate) fn change_file(&mut self, number: FileNo, attrs: &Attrs) -> Result<(), NoMemory>
         requires { IsTrue (tree.fits
             (changes.with_changed_file self.old attrs.now number (tree.content_at self.old.files number))) }
@@ -293,7 +293,7 @@ impl Tree {
     ///
     /// # Errors
     ///
-    /// `NoMemory` if memory runs out; the tree is then as before.
+    /// `NoMemory` if memory runs out; the tree is unchanged.
     pub(crate) fn write_file(
         &mut self,
         number: FileNo,
@@ -336,7 +336,7 @@ impl Tree {
         self.files.unpin(number);
     }
 
-    /// Takes all pins away. A file is removed that has no name. It takes no memory.
+    /// Takes all pins away. A file is removed that has no name. Does not allocate.
     pub fn unpin_all(&mut self)
         ensures unpinned { self.new ≡ tree.trim (record self.old { pins = [] }) }
         ensures kept { tree.IsKept self.new }

@@ -1,5 +1,5 @@
 -- How packets are read, from left to right and up to the first fault (draft-ietf-secsh-filexfer-02, sections 3 to 8).
--- This is a second definition of the format beside the spelling; that the two agree is proved.
+-- This is a second definition of the format beside the encoding; that the two agree is proved.
 use Rattle.std.specs.Prelude.{◌≡◌, ◌==◌, ◌||◌, nat_lt, ℕ, zero, suc, ◌+◌, Bool, if◌then◌else◌}
 use Rattle.std.specs.Prelude.{List, [], ◌∷◌, ◌++◌, length, take, drop, bytes_eq, Option, Some, None, Result, Ok, Err}
 use Rattle.std.specs.Int.{w32, w64, Width, byte_len, from_be_bytes}
@@ -283,7 +283,7 @@ IsReading (Err wires.NoMemory) read = Unit {0}
 IsReading (Err wires.TooLong) read = ⊥
 IsReading (Err wires.NotCanonical) read = ⊥
 
--- the bytes begin with the spelling of a packet of that side, which takes `taken` of them
+-- the bytes begin with the encoding of a packet of that side, which takes `taken` of them
 pub record StandsInFront (side : Side) (bytes : List ℕ) (packet : Packet) (taken : ℕ) : Type 0 where
   pub has_spelling : HasSpelling packet
   pub is_sent : side_of packet ≡ side

@@ -168,7 +168,7 @@ side_of (Version version extensions) = Server
 side_of (Request request) = Client
 side_of (Reply reply) = Server
 
--- ---- which packets have a spelling
+-- ---- which packets have an encoding
 
 -- each number is a byte
 abbrev pub AreBytes : List ℕ → Type 0
@@ -287,7 +287,7 @@ hides_extension (Version version extensions) = false
 hides_extension (Request request) = asks_known request.ask
 hides_extension (Reply reply) = false
 
--- A packet has a spelling where each field is in range, the whole and a handle are within their limits, and an
+-- A packet has an encoding where each field is in range, the whole and a handle are within their limits, and an
 -- extension that has a request of its own is written as that. (A whole packet never has fewer than five bytes: its
 -- length and its type.)
 pub record HasSpelling (packet : Packet) : Type 0 where

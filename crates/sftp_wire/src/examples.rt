@@ -1,4 +1,4 @@
-//! Worked examples: some bytes with the packets that they are read as, and some packets with their spellings, as
+//! Worked examples: some bytes with the packets that they are read as, and some packets with their encodings, as
 //! theorems about the definitions that the contracts of `encode` and `front` name.
 #![tactic(auto, unfolding(crate::specs::Spelling::spelling, crate::specs::Examples::hex, crate::specs::Reading::front_of, crate::specs::Reading::packet_of, crate::specs::Reading::client_packet_at, crate::specs::Reading::server_packet_at, crate::specs::Reading::extension_at, crate::specs::Reading::extension_data_at, crate::specs::Reading::names_at, crate::specs::Reading::name_item_at, crate::specs::Reading::attributes_at, crate::specs::Reading::attribute_fields_at, crate::specs::Reading::counted_pairs_at, crate::specs::Reading::pairs_at, crate::specs::Reading::pair_at, crate::specs::Reading::handle_at, crate::specs::Reading::string_at, crate::specs::Reading::two_uint32_at, crate::specs::Reading::uint64_at, crate::specs::Reading::uint32_at))]
 
@@ -93,7 +93,7 @@ pub fn extensions()
     ensures limits_and_more { front_of Side.Client
         (hex (codes "0000001c c8 00000005 00000012 6c696d697473407366747076332e74657374 00")) ≡ Err Fault.Trailing }
     ensures unknown { IsAsked (codes "0000000c c8 00000002 00000001 78 6162") 2 (Ask.Unknown (codes "x") (codes "ab")) }
-    // As unknown extensions fsync and limits have no spelling.
+    // As unknown extensions fsync and limits have no encoding.
     ensures hidden { hides_extension
         (Packet.Request (record { id = 2; ask = Ask.Unknown (codes "fsync@openssh.com") [] })) ≡ true }
     ensures limits_hidden { hides_extension

@@ -538,14 +538,14 @@ fn put_packet(out: &mut Vec<u8>, size: u32, packet: &Packet) -> Result<(), Alloc
     Ok(())
 }
 
-/// Appends the packet's one spelling (draft, sections 3 to 8). After an error the bytes are as before.
+/// Appends the packet's one encoding (draft, sections 3 to 8). On error `out` is unchanged.
 ///
 /// # Errors
 ///
 /// In this order: `TooLong` exactly where the whole packet would have more than `PACKET_LIMIT` bytes or its handle has
 /// more than `HANDLE_LIMIT`; `NotCanonical` exactly where an `Unknown` has the name of an extension that has a request
-/// of its own; `NoMemory` if memory runs out. The first two are checked before any memory is taken, so `NoMemory`
-/// comes only for a packet that has a spelling.
+/// of its own; `NoMemory` if memory runs out. The first two are checked before memory is allocated, so `NoMemory`
+/// comes only for a packet that has an encoding.
 #[tactic(auto, unfolding(crate::specs::Spelling::spelling))]
 pub fn encode(packet: &Packet, out: &mut Vec<u8>) -> Result<(), WireError>
     ensures ok { OnOk result (out.new.items ≡ out.old.items ++ spelling packet.now) }
