@@ -20,7 +20,7 @@ EXTENSIONS = {b"posix-rename@openssh.com": "ss", b"hardlink@openssh.com": "ss", 
               b"limits@sftpv3.test": ""}
 INIT, VERSION, OPEN, CLOSE, READ, WRITE, LSTAT, FSTAT, SETSTAT, FSETSTAT, OPENDIR, READDIR = range(1, 13)
 REMOVE, MKDIR, RMDIR, REALPATH, STAT, RENAME, READLINK, SYMLINK = range(13, 21)
-STATUS, HANDLE, DATA, NAME, ATTRS, EXTENDED = 101, 102, 103, 104, 105, 200
+STATUS, HANDLE, DATA, NAME, ATTRS, EXTENDED, EXTENDED_REPLY = 101, 102, 103, 104, 105, 200, 201
 
 
 def number(value):
@@ -113,11 +113,12 @@ class Fields:
         fields = EXTENSIONS.get(self.string(), "r")
         self.of(fields)
 
-    def entries(self):
-        """The number of entries in the head of a tree file, behind the opening."""
+    def head(self, has_limits):
+        """The limits of a tree file and the number of its entries, behind the opening."""
         self.string()
         self.take(8)
-        return self.number()
+        limits = tuple(self.number() for _ in LOWEST_LIMITS) if has_limits else LOWEST_LIMITS
+        return limits, self.number()
 
     def of(self, fields):
         one = {"n": self.number, "q": lambda: self.take(8), "s": self.string, "h": self.handle, "a": self.attrs,
@@ -218,6 +219,17 @@ def place_of(text):
     names = text.split(b"/")[1:]
     good = all(0 < len(it) <= 255 and 0 not in it and it not in (b".", b"..") for it in names)
     return names if text[:1] == b"/" and good and len(names) <= 64 else None
+
+
+def head_of(data):
+    """The limits of a tree file and the number of its entries."""
+    return Fields(data[len(TREE_OPENING):]).head(data.startswith(LIMITED_OPENING))
+
+
+def limits_told(data):
+    """What a session on a tree file tells of its limits: packets, READ, WRITE, and open handles."""
+    _, _, read_bytes, handles = head_of(data)[0]
+    return wide(PACKET_LIMIT) + wide(read_bytes) * 2 + wide(handles)
 
 
 def tree_fault(data):

@@ -1,22 +1,22 @@
 -- The lines of a tree file are read as the bytes that they show.
-use Rattle.std.proofs.Common.{◌≡◌, ℕ, Bool, true, false, ◌&&◌, List, [], ◌∷◌, ◌++◌, append_assoc}
-use Rattle.std.proofs.Common.{Option, Some, None, refl, sym, ap, subst, ◌∙◌, inl, inr}
+use Rattle.std.proofs.Common.{◌≡◌, ℕ, Bool, true, false, ◌&&◌, List, [], ◌∷◌, ◌++◌}
+use Rattle.std.proofs.Common.{Option, Some, refl, sym, ap, subst, ◌∙◌, inl, inr}
 use Rattle.std.specs.Prelude.{IsTrue, is_some, option_and_then, ◌==◌, codes}
 use Rattle.std.specs.List.{list_all}
 use Rattle.std.proofs.lemmas.Bool.{cond-true, cond-false, cases_Bool, eqb-true}
 use Rattle.std.proofs.lemmas.List.{append-nil}
 use Rattle.std.proofs.lemmas.Option.{option_and_then_some}
 use Rattle.sftp_wire.specs.Spelling.{AreBytes}
-use Rattle.sftp_text.specs.Formats.{Format, after, ◌then◌, word, mark, strip, ReadsBack}
+use Rattle.sftp_text.specs.Formats.{Format, ◌then◌, word, mark, ReadsBack}
 use Rattle.sftp_text.specs.Digits.{number, octal}
 use Rattle.sftp_text.specs.Quoted.{string_text}
 use Rattle.sftp_text.specs.Trees.{owner_text, opening, front_text, behind_front, head_of, has_limits, names_limits, head_text, root_text, kind_text, entry_of, first_of, kind_behind, show_kind, read_kind, entry_text}
 use Rattle.sftp_text.specs.Lines.{is_printable, is_blank}
-use Rattle.sftp_text.proofs.Exact.{some-inj, none-some, strip-some, AreBytes-behind, printable-append, Shown, IsExact, IsExact-weaken, then-exact, mark-exact, Behind}
+use Rattle.sftp_text.proofs.Exact.{some-inj, none-some, IsExact, IsExact-weaken, then-exact, mark-exact, Behind}
 use Rattle.sftp_text.proofs.Numerals.{number-exact, octal-exact}
 use Rattle.sftp_text.proofs.Strings.{StartsQuoted, string_text-exact}
 use Rattle.sftp_text.proofs.Repeats.{IsEnd}
-use Rattle.sftp_text.proofs.Parts.{behind_word}
+use Rattle.sftp_text.proofs.Parts.{Anything, behind_word}
 use Rattle.sftp_text.proofs.Tails.{SpaceFront, space-behind, space-ends}
 
 -- what is known of the line that a format shows of what is in front of bytes
@@ -100,15 +100,15 @@ abbrev first_word : Bool → List ℕ
 first_word false = codes " entries "
 first_word true = codes " limits "
 
-abbrev AnyList : List ℕ → Type 0
-AnyList l = Unit {0}
+abbrev FirstWord : Bool → List ℕ → Type 0
+FirstWord own = Behind (first_word own) Anything
 
-any-behind : (w : List ℕ) (A : List ℕ → Type 0) (l : List ℕ) → Behind w A l → Behind w AnyList l
-any-behind w A l b = record { rest = b.rest; parts = b.parts; follows = tt }
+any_behind : (w : List ℕ) (A : List ℕ → Type 0) (l : List ℕ) → Behind w A l → Behind w Anything l
+any_behind w A l b = record { rest = b.rest; parts = b.parts; follows = tt }
 
-behind_front-exact : (own : Bool) → IsExact (behind_front own) (Behind (first_word own) AnyList) IsEnd
+behind_front-exact : (own : Bool) → IsExact (behind_front own) (FirstWord own) IsEnd
 behind_front-exact false =
-    IsExact-weaken _ _ (Behind (codes " entries ") AnyList) IsEnd IsEnd (any-behind (codes " entries ") _) (λ l e. e)
+    IsExact-weaken _ _ (FirstWord false) IsEnd IsEnd (any_behind (codes " entries ") _) (λ l e. e)
     (behind_word (codes " entries ") number _ IsEnd refl (number-exact IsEnd (λ l e. space-ends l (end-space l e))))
 behind_front-exact true =
     let entries = spaced_number (codes "entries ") IsEnd end-space refl in
@@ -116,97 +116,73 @@ behind_front-exact true =
     let reads = spaced_then [] _ IsEnd refl handles in
     let files = spaced_then [] _ IsEnd refl reads in
     let limits = then-exact number _ _ SpaceFront IsEnd (number-exact SpaceFront space-ends) files in
-    IsExact-weaken _ _ (Behind (codes " limits ") AnyList) IsEnd IsEnd (any-behind (codes " limits ") _) (λ l e. e)
+    IsExact-weaken _ _ (FirstWord true) IsEnd IsEnd (any_behind (codes " limits ") _) (λ l e. e)
     (behind_word (codes " limits ") _ _ IsEnd refl limits)
 
-first_space : (own : Bool) (l : List ℕ) → Behind (first_word own) AnyList l → SpaceFront l
+first_space : (own : Bool) (l : List ℕ) → FirstWord own l → SpaceFront l
 first_space false l b = subst SpaceFront (sym b.parts) refl
 first_space true l b = subst SpaceFront (sym b.parts) refl
 
--- the other head cannot be read where the front is followed by the number of entries
-entries_only : (done l : List ℕ) → Behind (first_word false) AnyList l → (behind_front true).read done l ≡ None
-entries_only done l b = ap ((behind_front true).read done) b.parts
+-- a list that a format reads up to what may follow it
+record ReadsUpTo (f : Format) (B : List ℕ → Type 0) (list : List ℕ) : Type 0 where
+  done : List ℕ
+  rest : List ℕ
+  read : f.read [] list ≡ Some (done, rest)
+  follows : B rest
 
--- a head that was shown is read back: its line says whether limits are in it
-module _ (own : Bool) (text bytes more left opened middle so_far : List ℕ) (found : bytes ≡ opening own ++ opened)
-    (one : Shown front_text IsSaid SpaceFront text opened so_far middle)
-    (two : Shown (behind_front own) (Behind (first_word own) AnyList) IsEnd so_far middle more left) where
-  line : List ℕ
-  line = one.shown ++ two.shown
+reads-exact : (f : Format) (A B : List ℕ → Type 0) → IsExact f A B → IsExact f (λ l. A l × ReadsUpTo f B l) B
+reads-exact f A B p = record {
+  exact = λ text bytes more left are e.
+      let s = p.exact text bytes more left are e in
+      record {
+        shown = s.shown;
+        taken = s.taken;
+        text_is = s.text_is;
+        bytes_are = s.bytes_are;
+        printable = s.printable;
+        back = s.back;
+        front = λ rest ok.
+            (s.front rest ok, record { done = [] ++ s.taken; rest = rest; read = s.back [] rest ok; follows = ok });
+      };
+}
 
-  head_taken : List ℕ
-  head_taken = opening own ++ (one.taken ++ two.taken)
+-- limits follow the front where they should
+limits_follow : (own : Bool) (done l : List ℕ) → FirstWord own l
+    → is_some ((word (codes " limits ")).read done l) ≡ own
+limits_follow false done l b = ap (λ x. is_some ((word (codes " limits ")).read done x)) b.parts
+limits_follow true done l b = ap (λ x. is_some ((word (codes " limits ")).read done x)) b.parts
 
-  read_by : (other : Bool) (rest : List ℕ) → IsEnd rest → (done : List ℕ)
-      → (head_of other).read done ((one.shown ++ two.shown) ++ rest)
-      ≡ (behind_front other).read ((done ++ opening other) ++ one.taken) (two.shown ++ rest)
-  read_by other rest ok done =
-      ap ((head_of other).read done) (append_assoc one.shown two.shown rest)
-      ∙ ap (option_and_then (λ (m : List ℕ × List ℕ). (behind_front other).read m.0 m.1))
-      (one.back (done ++ opening other) (two.shown ++ rest) (first_space own (two.shown ++ rest) (two.front rest ok)))
+limits_named : (own : Bool) (l : List ℕ) → ReadsUpTo front_text (FirstWord own) l → names_limits l ≡ own
+unfolding names_limits
+limits_named own l r =
+    ap (λ o. is_some (option_and_then (λ m. (word (codes " limits ")).read m.0 m.1) o)) r.read
+    ∙ limits_follow own r.done r.rest r.follows
 
-  own_read : (rest : List ℕ) → IsEnd rest → (done : List ℕ)
-      → (head_of own).read done ((one.shown ++ two.shown) ++ rest)
-      ≡ Some (done ++ (opening own ++ (one.taken ++ two.taken)), rest)
-  own_read rest ok done =
-      read_by own rest ok done ∙ two.back ((done ++ opening own) ++ one.taken) rest ok
-      ∙ ap (λ (l : List ℕ). Some (l, rest))
-      (append_assoc (done ++ opening own) one.taken two.taken ∙ append_assoc done (opening own) (one.taken ++ two.taken))
-
-  other_unread : own ≡ false → (rest : List ℕ) → IsEnd rest
-      → (head_of true).read [] ((one.shown ++ two.shown) ++ rest) ≡ None
-  other_unread is rest ok =
-      read_by true rest ok []
-      ∙ entries_only (([] ++ opening true) ++ one.taken) (two.shown ++ rest)
-      (subst (λ (b : Bool). Behind (first_word b) AnyList (two.shown ++ rest)) is (two.front rest ok))
-
-  names : (b : Bool) → own ≡ b → (rest : List ℕ) → IsEnd rest
-      → names_limits ((one.shown ++ two.shown) ++ rest) ≡ own
-  unfolding names_limits
-  names true is rest ok =
-      ap is_some
-      (subst (λ (b : Bool). (head_of b).read [] ((one.shown ++ two.shown) ++ rest) ≡ Some ([] ++ (opening own ++ (one.taken ++ two.taken)), rest)) is (own_read rest ok []))
-      ∙ sym is
-  names false is rest ok = ap is_some (other_unread is rest ok) ∙ sym is
-
-  head_shown : Shown head_text IsSaid IsEnd text bytes more left
-  unfolding head_text line head_taken
-  head_shown = record {
-    shown = line;
-    taken = head_taken;
-    text_is = two.text_is ∙ ap (λ l. l ++ two.shown) one.text_is ∙ append_assoc text one.shown two.shown;
-    bytes_are =
-        found
-        ∙ ap (λ l. opening own ++ l)
-        (one.bytes_are ∙ ap (λ l. one.taken ++ l) two.bytes_are ∙ sym (append_assoc one.taken two.taken left))
-        ∙ sym (append_assoc (opening own) (one.taken ++ two.taken) left);
-    printable = printable-append one.shown two.shown one.printable two.printable;
-    back = λ done rest ok.
-        ap (λ (b : Bool). (head_of b).read done ((one.shown ++ two.shown) ++ rest)) (names own refl rest ok)
-        ∙ own_read rest ok done;
-    front = λ rest ok.
-        subst IsSaid (sym (append_assoc one.shown two.shown rest))
-        (one.front (two.shown ++ rest) (first_space own (two.shown ++ rest) (two.front rest ok)));
-  }
+head_of-exact : (own : Bool) → IsExact (head_of own) (λ l. IsSaid l × (names_limits l ≡ own)) IsEnd
+head_of-exact own =
+    let front = IsExact-weaken front_text IsSaid IsSaid SpaceFront (FirstWord own) (λ l s. s) (first_space own) front_text-exact in
+    let read = reads-exact front_text IsSaid (FirstWord own) front in
+    let both = then-exact front_text (behind_front own) _ (FirstWord own) IsEnd read (behind_front-exact own) in
+    let marked =
+    then-exact (mark (opening own)) (front_text then behind_front own) _ _ IsEnd (mark-exact (opening own) _) both
+    in
+    IsExact-weaken (head_of own) _ _ IsEnd IsEnd (λ l f. (f.0, limits_named own l f.1)) (λ l e. e) marked
 
 head_text-exact : IsExact head_text IsSaid IsEnd
 unfolding head_text
 head_text-exact = record {
   exact = λ text bytes more left are e.
-      let own = has_limits bytes in
-      option_and_then_some (λ moved. after front_text.show (behind_front own).show moved.0 moved.1)
-      ((mark (opening own)).show text bytes) (more, left) e (λ start marked behind.
-      option_and_then_some (λ rest. Some (text, rest)) (strip (opening own) bytes) start marked (λ opened found same.
-      let then_front = subst (λ (m : List ℕ × List ℕ). after front_text.show (behind_front own).show m.0 m.1 ≡ Some (more, left))
-      (sym (some-inj (text, opened) start same)) behind in
-      option_and_then_some (λ moved. (behind_front own).show moved.0 moved.1) (front_text.show text opened) (more, left)
-      then_front (λ mid one_is two_is.
-      let parts = strip-some (opening own) bytes opened found in
-      let fit = AreBytes-behind (opening own) opened (subst AreBytes parts are) in
-      let one = front_text-exact.exact text opened mid.0 mid.1 fit one_is in
-      let rest_fit = AreBytes-behind one.taken mid.1 (subst AreBytes one.bytes_are fit) in
-      let two = (behind_front-exact own).exact mid.0 mid.1 more left rest_fit two_is in
-      head_shown own text bytes more left opened mid.1 mid.0 parts one two)));
+      let s = (head_of-exact (has_limits bytes)).exact text bytes more left are e in
+      record {
+        shown = s.shown;
+        taken = s.taken;
+        text_is = s.text_is;
+        bytes_are = s.bytes_are;
+        printable = s.printable;
+        back = λ done rest ok.
+            ap (λ own. (head_of own).read done (s.shown ++ rest)) (s.front rest ok).1 ∙ s.back done rest ok;
+        front = λ rest ok. (s.front rest ok).0;
+      };
 }
 
 root_text-exact : IsExact root_text IsSaid IsEnd

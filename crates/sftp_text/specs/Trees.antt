@@ -31,12 +31,13 @@ behind_front true =
 abbrev pub head_of : Bool → Format
 head_of own = mark (opening own) then front_text then behind_front own
 
--- whether bytes begin with the opening of a tree file with limits, and whether a line is that of its head
+-- whether bytes begin with the opening of a tree file with limits
 abbrev pub has_limits : List ℕ → Bool
 has_limits bytes = is_some (strip (opening true) bytes)
 
+-- whether limits follow the home, the user and the group in a line
 unfoldable pub names_limits : List ℕ → Bool
-names_limits line = is_some ((head_of true).read [] line)
+names_limits line = is_some ((front_text then word (codes " limits ")).read [] line)
 
 -- the head: the opening, the home, the user, the group, the limits if there are some, and the number of entries
 unfoldable pub head_text : Format

@@ -1,14 +1,13 @@
 //! Tree files as text: a line for the head, one for the root, and one an entry.
-ghost use Rattle.std.specs.Prelude.{◌≡◌, [], codes, IfOk, IfErr};
+ghost use Rattle.std.specs.Prelude.{◌≡◌, [], codes};
 ghost use Rattle.sftp_text.specs.Formats.{◌then◌, word};
 ghost use Rattle.sftp_text.specs.Digits.{number};
 ghost use Rattle.sftp_text.specs.Quoted.{string_text};
-ghost use Rattle.sftp_text.specs.declared.errors.Stop.TheVariants as stops;
 ghost use Rattle.sftp_text.specs.Trees as trees;
 ghost use Rattle.sftp_text.specs.Trees.{owner_text, entry_of, show_kind, read_kind};
 ghost use Rattle.sftp_text.specs.Trees.{entry_line, first_lines};
 ghost use Rattle.sftp_text.specs.Formats.{repeat_to_end};
-ghost use Rattle.sftp_text.specs.Moves.{Moves, FindsKind};
+ghost use Rattle.sftp_text.specs.Moves.{Moves, FindsKind, TellsWhether};
 ghost use Rattle.sftp_text.specs.Reads.{ShowsAs, ShowsWhole, ReadsAs, EndsAt};
 ghost use Rattle.sftp_text.specs.Lines.{whole};
 ghost use Rattle.sftp_text.specs.Texts.{GivesLine, GivesText, onto, form_of, due_after, lines_from};
@@ -161,20 +160,19 @@ fn read_head_of(own: bool, line: &mut &[u8], bytes: &mut Vec<u8>) -> Result<(), 
     read_behind_front(own, line, bytes)
 }
 
-/// Whether a line is that of a head with limits.
+/// Whether limits follow the home, the user and the group in a line.
 ///
 /// # Errors
 ///
 /// `NoMemory` if memory runs out.
 #[tactic(auto, unfolding(crate::specs::Trees::names_limits))]
 fn names_limits(alloc: Global, line: &[u8]) -> Result<bool, Stop>
-    ensures found { IfOk result (λ own. own ≡ trees.names_limits line.now) }
-    ensures none { IfErr result (λ stop. stop ≡ stops.NoMemory) }
+    ensures { TellsWhether result (trees.names_limits line.now) }
 {
     let mut rest = line;
     let mut bytes = Vec::new(alloc);
-    match read_head_of(true, &mut rest, &mut bytes) {
-        Ok(()) => Ok(true),
+    match read_front(&mut rest, &mut bytes) {
+        Ok(()) => Ok(after_word(b" limits ", rest).is_some()),
         Err(Stop::Unfit(_)) => Ok(false),
         Err(Stop::NoMemory) => Err(Stop::NoMemory),
     }

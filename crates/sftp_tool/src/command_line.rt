@@ -70,10 +70,11 @@ const AFTER_SHOW: &str =
 version of an INIT or a VERSION), and the packet's length in bytes; then the code of a STATUS, or the paths of a
 request.
 
-The first line of a tree file has the home, the owner of new entries, and the number of entries. The line of an
-entry has its number, its kind (D directory, F file, H further name of a file, L link) and its path; then the uid, gid
-and permissions of a directory or a file, the length of a file in bytes, the number of the entry that a further name
-belongs to, or the target of a link.
+The first line of a tree file has the home, the owner of new entries, the limits if the tree sets its own (entries,
+bytes of a file, bytes that one READ gives, open handles), and the number of entries. The line of an entry has its
+number, its kind (D directory, F file, H further name of a file, L link) and its path; then the uid, gid and permissions
+of a directory or a file, the length of a file in bytes, the number of the entry that a further name belongs to, or the
+target of a link.
 
 Bytes other than printable ASCII, and \" and \\, are shown as \\x and two hexadecimal digits.
 
@@ -96,8 +97,9 @@ const AFTER_DIFF: &str = "A line has the path, and then one or more of
   content from byte N               the first byte that differs, from 0
   target \"a\" -> \"b\"               of a link
 
-If the home differs or the owner of new entries, the first line begins with head and has home and owner. The bytes of a
-file are compared at its first name. The exit status is 0 if the trees are the same, and 1 if they differ.";
+If the home differs, the owner of new entries, or the limits, the first line begins with head and has home, owner and
+limits. The bytes of a file are compared at its first name. The exit status is 0 if the trees are the same, and 1 if
+they differ.";
 
 const ABOUT_IMPORT: &str =
     "Writes the tree file of the archive on standard input, which is in a format of tar";
@@ -126,15 +128,21 @@ const AFTER_EXPORT: &str = "A folder DIR with the files of a tree:
   sftpv3 export FILE | tar -C DIR -x -p
 
 The archive is ustar, with the extended headers of POSIX's pax where a name, a user or a group needs more room. Times
-are 0. The archive has all of the tree but where relative paths start, and who owns what is made with no owner given.";
+are 0. The archive has all of the tree but where relative paths start, who owns what is made with no owner given, and
+the limits.";
 
 const ABOUT_BLANK: &str = "Writes the tree file of a tree that holds only the root directory";
 
 const ABOUT_RAISE: &str = "Writes a tree file with the highest limits that a tree may set";
 
-const AFTER_RAISE: &str =
-    "The tree stays the same. Its limits are then 1,048,576 entries below the root, 67,108,864 bytes
-of a file, 65,536 bytes to one READ, and 1,024 open handles.";
+const AFTER_RAISE: &str = "All else of the tree is the same. The limits in FILE are
+
+  1,048,576   entries below the root
+  67,108,864  bytes of a file
+  65,536      bytes that one READ gives
+  1,024       open handles
+
+FILE is replaced whole, and may be TREE.";
 
 const AFTER_AUDIT: &str =
     "Prints 'accepted N requests', or 'refused record N: KIND'. Records are numbered from 1.
