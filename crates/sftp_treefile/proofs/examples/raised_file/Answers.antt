@@ -1,4 +1,4 @@
-use Rattle.std.proofs.Common.{◌≡◌, [], ◌∷◌, drop, refl, true, false, arith}
+use Rattle.std.proofs.Common.{[], ◌∷◌, drop, refl, true, arith}
 use Rattle.sftp_wire.specs.Examples.{hex}
 use Rattle.sftp_path.specs.Place.{components, parts}
 use Rattle.sftp_treefile.specs.declared.heads.Front.{Front}
