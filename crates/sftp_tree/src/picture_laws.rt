@@ -28,11 +28,15 @@ pub fn starts_have_tree_files()
     ensures file { (t : Tree) (bytes : List ℕ) → IsStart t bytes → IsSpelled (file_of t) bytes }
 {}
 
-/// A tree of the program may have the highest limits too. The tree file of the blank tree has 53 bytes then.
+/// A tree of the program may have the highest limits too, and the tree that is read from its file is raised again. The
+/// tree file of the blank tree has 53 bytes then.
 pub fn raised_trees()
     ensures kept { (t : Tree) → IsKept t → IsKept (raised t) }
     ensures limits { (t : Tree) → limits (raised t) ≡ highest_limits }
+    ensures start { (t : Tree) (bytes : List ℕ) → IsStart t bytes → IsStart (raised t) (picture (raised t)) }
+    ensures length { length raised_bytes ≡ 53 }
     ensures bytes { picture (raised blank) ≡ raised_bytes }
+    ensures blank { IsStart (raised blank) raised_bytes }
 {}
 
 /// The blank tree is one that the program may have, and these 37 bytes are its tree file.

@@ -1,5 +1,5 @@
 -- A tree with higher limits.
-use Rattle.std.proofs.Common.{◌≡◌, ℕ, ◌-◌, ◌≤◌, true, [], ◌∷◌, length, arith}
+use Rattle.std.proofs.Common.{◌≡◌, ℕ, ◌-◌, ◌≤◌, true, List, [], ◌∷◌, length, refl, arith}
 use Rattle.std.specs.Prelude.{IsTrue}
 use Rattle.std.specs.List.{list_all}
 use Rattle.std.proofs.lemmas.Bool.{and_parts, and_from, leb-true, le-leb}
@@ -8,6 +8,7 @@ use Rattle.sftp_treefile.specs.Limits.{highest_limits}
 use Rattle.sftp_treefile.proofs.Texts.Limits.{highest_are}
 use Rattle.sftp_tree.specs.declared.file_contents.Content.{Content}
 use Rattle.sftp_tree.specs.Tree.{Tree, Files, IsKept, content_fits, raised}
+use Rattle.sftp_tree.specs.Picture.{IsStart, picture}
 use Rattle.sftp_tree.proofs.Limits.Tests.{fits-parts, fits-from}
 
 all-wider : (low high : TreeLimits) → low.file_bytes ≤ high.file_bytes → (files : Files)
@@ -51,4 +52,16 @@ raised-kept t kept =
         numbers = parts.numbers;
       });
       trimmed = kept.trimmed;
+    }
+
+pub raised-start : (t : Tree) (bytes : List ℕ) → IsStart t bytes → IsStart (raised t) (picture (raised t))
+raised-start t bytes start =
+    let kept = raised-kept t (record { well_formed = start.well_formed; within_limits = start.within_limits; trimmed = start.trimmed }) in
+    record {
+      well_formed = kept.well_formed;
+      within_limits = kept.within_limits;
+      trimmed = kept.trimmed;
+      unpinned = start.unpinned;
+      numbered = start.numbered;
+      picture_is = refl;
     }

@@ -1,16 +1,19 @@
 -- A tree with higher limits, and an example.
-use Rattle.std.proofs.Common.{refl}
-use Rattle.sftp_wire.specs.Examples.{hex}
-use Rattle.sftp_path.specs.Table.{get}
-use Rattle.sftp_treefile.specs.Limits.{are_own}
-use Rattle.sftp_treefile.specs.TreeFile.{spelled}
-use Rattle.sftp_tree.specs.Picture.{picture}
-use Rattle.sftp_tree.proofs.KeptTrees.Raised.{raised-kept}
+use Rattle.sftp_tree.proofs.KeptTrees.Raised.{raised-kept, raised-start}
+use Rattle.sftp_tree.proofs.TreeFiles.Examples.{raised_length, raised_picture, raised_blank}
 use Rattle.sftp_tree.proofs.picture_laws.raised_trees.Goals as goal
 
 pub returns-clause-kept : goal.returns-clause-kept
 returns-clause-kept c = raised-kept
 
+pub returns-clause-start : goal.returns-clause-start
+returns-clause-start c = raised-start
+
+pub returns-clause-length : goal.returns-clause-length
+returns-clause-length c = raised_length
+
 pub returns-clause-bytes : goal.returns-clause-bytes
-unfolding picture spelled are_own get hex
-returns-clause-bytes c = refl
+returns-clause-bytes c = raised_picture
+
+pub returns-clause-blank : goal.returns-clause-blank
+returns-clause-blank c = raised_blank
