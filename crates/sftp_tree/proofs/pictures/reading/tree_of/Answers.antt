@@ -16,13 +16,13 @@ use Rattle.sftp_tree.proofs.TreeFiles.Stores.{many_files, tree_grown}
 use Rattle.sftp_tree.proofs.pictures.reading.tree_of.Goals as goal
 use Rattle.sftp_tree.proofs.pictures.reading.tree_of.Goals.{After-len-made}
 
-pub grow-root-requires-clause-rows : goal.grow-root-requires-clause-rows
-grow-root-requires-clause-rows c =
+pub grow-requires-clause-rows : goal.grow-requires-clause-rows
+grow-requires-clause-rows c =
     subst (AreRows highest_limits []) (sym c.into_vec-rows.ensures)
     (rows_wider c.args.file.limits highest_limits c.requires.limits.file_bytes.1 [] c.args.file.rows c.requires.rows)
 
-pub grow-root-requires-clause-count : goal.grow-root-requires-clause-count
-grow-root-requires-clause-count c =
+pub grow-requires-clause-count : goal.grow-requires-clause-count
+grow-requires-clause-count c =
     omega (arith, ap length c.into_vec-rows.ensures, c.requires.count, c.requires.limits.entries.1)
 
 pub overflow_cast-made : goal.overflow_cast-made

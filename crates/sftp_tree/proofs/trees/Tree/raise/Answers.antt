@@ -1,5 +1,5 @@
 -- The highest limits allow what the tree has.
-use Rattle.std.proofs.Common.{◌∙◌, ap}
+use Rattle.std.proofs.Common.{◌≡◌, ◌∙◌, ap}
 use Rattle.sftp_treefile.specs.declared.limits.TreeLimits.{TreeLimits}
 use Rattle.sftp_tree.specs.Tree.{Tree, raised}
 use Rattle.sftp_tree.specs.StoredFiles.{seen}
@@ -17,6 +17,7 @@ from_parts-requires-clause-counted c = c.self.invariant.1
 pub returns : goal.returns
 returns c =
     let t = c.self.inside in
-    c.from_parts.ensures
+    let parts : c.from_parts.result ≡ raised c.args.self = c.from_parts.ensures
     ∙ ap (λ (bounds : TreeLimits). seen t.names t.files t.made bounds t.home t.uid t.gid) c.highest_limits-limits.ensures
-    ∙ ap raised c.self.view_is
+    ∙ ap raised c.self.view_is in
+    record { raised = parts }
