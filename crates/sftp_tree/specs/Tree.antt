@@ -1,6 +1,6 @@
 -- The tree: the node at each place, the files that have names there or are pinned, where relative paths start, who owns
 -- what is made with no owner given, and how much the tree may hold. The limits are this profile's own.
-use Rattle.std.specs.Prelude.{◌≡◌, ◌&&◌, ◌||◌, ◌==◌, nat_lt, nat_le, if◌then◌else◌, ℕ, ◌+◌, ◌-◌, ◌<◌, ◌^◌}
+use Rattle.std.specs.Prelude.{◌&&◌, ◌||◌, ◌==◌, nat_lt, nat_le, if◌then◌else◌, ℕ, ◌+◌, ◌-◌, ◌<◌, ◌^◌}
 use Rattle.std.specs.Prelude.{Bool, true, false, [], length, Option, Some, None, is_some, unwrap_or, IsTrue}
 use Rattle.std.specs.Ordering.{nat_cmp}
 use Rattle.std.specs.List.{list_any, list_all, AllByRecursion}

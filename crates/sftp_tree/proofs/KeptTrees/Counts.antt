@@ -13,7 +13,7 @@ use Rattle.sftp_path.proofs.Table.Values.{get-with_values}
 use Rattle.sftp_tree.specs.declared.file_contents.Content.{Content}
 use Rattle.sftp_tree.specs.declared.file_contents.Stored.{Stored}
 use Rattle.sftp_tree.specs.declared.nodes.Node.{Node}
-use Rattle.sftp_tree.specs.Tree.{Names, Tree, IsKept, IsContent, is_directory, content_at, fits, node_at, with_node, names_file, times_named, trim, with_content}
+use Rattle.sftp_tree.specs.Tree.{Names, Tree, IsKept, IsContent, is_directory, content_at, node_at, with_node, names_file, times_named, trim, with_content}
 use Rattle.sftp_tree.specs.declared.nodes.Node.TheVariants.{Dir, File}
 use Rattle.sftp_wire.specs.declared.attributes.Attrs.{Attrs}
 use Rattle.sftp_treefile.specs.declared.files.Owner.{Owner}

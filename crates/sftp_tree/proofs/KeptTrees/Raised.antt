@@ -1,6 +1,5 @@
 -- A tree with higher limits.
 use Rattle.std.proofs.Common.{◌≡◌, ℕ, ◌-◌, ◌≤◌, true, List, [], ◌∷◌, length, refl, arith}
-use Rattle.std.specs.Prelude.{IsTrue}
 use Rattle.std.specs.List.{list_all}
 use Rattle.std.proofs.lemmas.Bool.{and_parts, and_from, leb-true, le-leb}
 use Rattle.sftp_treefile.specs.declared.limits.TreeLimits.{TreeLimits}
