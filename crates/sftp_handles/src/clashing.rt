@@ -59,6 +59,7 @@ impl<T: HandleTable> Session<T> {
             Ask::Fsync { handle } => self.file_touch(ask, handle.as_slice(), false),
             Ask::Readdir { handle } => self.listing_touch(ask, handle.as_slice()),
             Ask::Close { .. } => Touch::Everything,
+            Ask::Limits => Touch::Everything,
             Ask::Open { .. }
             | Ask::Lstat { .. }
             | Ask::Setstat { .. }
@@ -73,7 +74,6 @@ impl<T: HandleTable> Session<T> {
             | Ask::Symlink { .. }
             | Ask::PosixRename { .. }
             | Ask::Hardlink { .. }
-            | Ask::Limits
             | Ask::Unknown { .. } => Touch::Everything,
         }
     }

@@ -191,6 +191,8 @@ pub fn limits_of_the_tree()
         ≡ Some (closed (raised blank)) }
     ensures of_another_tree { steps (closed (raised blank)) ((Limits, Extended
         (hex (codes "0000000000040000 0000000000008000 0000000000008000 0000000000000100"))) ∷ []) ≡ None }
+    ensures of_a_raised_tree { steps (closed blank) ((Limits, Extended
+        (hex (codes "0000000000040000 0000000000010000 0000000000010000 0000000000000400"))) ∷ []) ≡ None }
     ensures not_done { steps (closed blank) (done Limits ∷ []) ≡ None }
     ensures not_refused { steps (closed blank) ((Limits, code 8) ∷ []) ≡ None }
 {}

@@ -4,7 +4,7 @@
 
 ghost use Rattle.std.specs.Prelude.{◌≡◌, true, false, codes};
 ghost use Rattle.sftp_wire.specs.declared.packets.Ask.TheVariants.{Close, Write, Fstat, Readdir, Stat, Fsync};
-ghost use Rattle.sftp_wire.specs.declared.packets.Ask.TheVariants.{Opendir, Unknown};
+ghost use Rattle.sftp_wire.specs.declared.packets.Ask.TheVariants.{Opendir, Limits, Unknown};
 ghost use Rattle.sftp_handles.specs.ClashExamples.{read, write, set, make, clash_there};
 
 /// A request that may change a file conflicts with every other request on it, through whichever handle.
@@ -42,8 +42,8 @@ pub fn nothing_to_touch()
     ensures of_a_file { clash_there (Readdir (codes "b")) (write (codes "b")) ≡ false }
 {}
 
-/// Every other request conflicts with all requests: CLOSE, also of a handle that is not open, requests on paths, and
-/// unknown extensions.
+/// Every other request conflicts with all requests: CLOSE, also of a handle that is not open, requests on paths, the
+/// request for the limits, and unknown extensions.
 pub fn everything_is_touched()
     ensures closed { clash_there (read (codes "a")) (Close (codes "a")) ≡ true }
     ensures closed_first { clash_there (Close (codes "a")) (read (codes "a")) ≡ true }
@@ -52,5 +52,7 @@ pub fn everything_is_touched()
     ensures paths { clash_there (Stat (codes "/f")) (Stat (codes "/g")) ≡ true }
     ensures made { clash_there (Readdir (codes "l")) (make (codes "/x")) ≡ true }
     ensures opened { clash_there (Opendir (codes "/")) (write (codes "x")) ≡ true }
+    ensures limits { clash_there Limits (read (codes "a")) ≡ true }
+    ensures twice_limits { clash_there Limits Limits ≡ true }
     ensures extension { clash_there (Unknown (codes "x") (codes "")) (write (codes "x")) ≡ true }
 {}
