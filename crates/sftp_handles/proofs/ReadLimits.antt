@@ -8,7 +8,7 @@ use Rattle.sftp_wire.specs.declared.packets.Ask.{Ask}
 use Rattle.sftp_wire.specs.declared.packets.Ask.TheVariants.{Read}
 use Rattle.sftp_wire.specs.declared.packets.Answer.TheVariants.{Data}
 use Rattle.sftp_path.specs.Place.{same_bytes}
-use Rattle.sftp_path.specs.Table.{get, retain}
+use Rattle.sftp_path.specs.Table.{get, put, retain}
 use Rattle.sftp_treefile.specs.declared.limits.TreeLimits.{TreeLimits}
 use Rattle.sftp_tree.specs.FileChanges.{bytes_at}
 use Rattle.sftp_tree.specs.Causes.{no_causes, when}
@@ -22,14 +22,14 @@ use Rattle.sftp_handles.specs.Examples.{with_text, reading}
 use Rattle.sftp_handles.proofs.Judgements.{not-answered}
 use Rattle.sftp_handles.proofs.Steps.{done-step}
 
-ask : Ask
+abbrev ask : Ask
 ask = Read (codes "h") 0 70000
 
 module _ (bounds : TreeLimits) (bytes : List ℕ) (long : length bytes ≡ 70000) where
-  s : State
+  abbrev s : State
   s = reading (record (with_text bytes) { limits = bounds })
 
-  given : List ℕ
+  abbrev given : List ℕ
   given = take (min 70000 bounds.read_bytes) bytes
 
   answers-data : (data_given : List ℕ) → answers s ask (Data data_given) ≡ same_bytes given data_given
@@ -39,7 +39,7 @@ module _ (bounds : TreeLimits) (bytes : List ℕ) (long : length bytes ≡ 70000
       (lt-ltb 0 (length bytes) (omega (arith, long)))
 
   pub read-given : step s ask (Data given) ≡ Some s
-  unfolding causes no_causes when after seen get retain pins_of
+  unfolding causes no_causes when after seen get put retain pins_of
   read-given =
       done-step s ask (Data given) s
       (record { free = refl; answered = answers-data given ∙ nat_list_eq_equiv.refl given; changed = refl })

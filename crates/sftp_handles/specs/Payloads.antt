@@ -15,7 +15,7 @@ abbrev pub said_in : Payload → Said
 said_in (Attrs shown) = shows (Some shown)
 said_in (Name text) = names (Some text)
 said_in (Data bytes) = gives bytes.now
-said_in (Extended data) = extends data
+said_in (Extended told) = extends told
 said_in End = ended
 
 -- no cause refuses the request, its reply says this, which can be encoded, and the state is good

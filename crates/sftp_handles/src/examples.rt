@@ -183,16 +183,28 @@ pub fn set_through_handles()
 
 /// The reply to a request for the limits has those of the tree. Nothing changes, and it has no other reply.
 pub fn limits_of_the_tree()
-    ensures usual { steps (closed blank) ((Limits, Extended
-        (hex (codes "0000000000040000 0000000000008000 0000000000008000 0000000000000100"))) ∷ [])
+    ensures usual { steps (closed blank) ((
+      Limits,
+      Extended
+          (hex (codes "0000000000040000 0000000000008000 0000000000008000 0000000000000100")),
+    ) ∷ [])
         ≡ Some (closed blank) }
-    ensures highest { steps (closed (raised blank)) ((Limits, Extended
-        (hex (codes "0000000000040000 0000000000010000 0000000000010000 0000000000000400"))) ∷ [])
+    ensures highest { steps (closed (raised blank)) ((
+      Limits,
+      Extended
+          (hex (codes "0000000000040000 0000000000010000 0000000000010000 0000000000000400")),
+    ) ∷ [])
         ≡ Some (closed (raised blank)) }
-    ensures of_another_tree { steps (closed (raised blank)) ((Limits, Extended
-        (hex (codes "0000000000040000 0000000000008000 0000000000008000 0000000000000100"))) ∷ []) ≡ None }
-    ensures of_a_raised_tree { steps (closed blank) ((Limits, Extended
-        (hex (codes "0000000000040000 0000000000010000 0000000000010000 0000000000000400"))) ∷ []) ≡ None }
+    ensures of_another_tree { steps (closed (raised blank)) ((
+      Limits,
+      Extended
+          (hex (codes "0000000000040000 0000000000008000 0000000000008000 0000000000000100")),
+    ) ∷ []) ≡ None }
+    ensures of_a_raised_tree { steps (closed blank) ((
+      Limits,
+      Extended
+          (hex (codes "0000000000040000 0000000000010000 0000000000010000 0000000000000400")),
+    ) ∷ []) ≡ None }
     ensures not_done { steps (closed blank) (done Limits ∷ []) ≡ None }
     ensures not_refused { steps (closed blank) ((Limits, code 8) ∷ []) ≡ None }
 {}

@@ -45,8 +45,8 @@ impl<'a> Payload<'a> {
                 Answer::Data(given) => *bytes == given.as_slice(),
                 _ => false,
             },
-            Payload::Extended(data) => match answer {
-                Answer::Extended(given) => data.as_slice() == given.as_slice(),
+            Payload::Extended(told) => match answer {
+                Answer::Extended(given) => told.as_slice() == given.as_slice(),
                 _ => false,
             },
             Payload::End => has_code(answer, 1),
@@ -69,7 +69,7 @@ impl<'a> Payload<'a> {
                 let copy = ByteString::from_slice(alloc, bytes)?;
                 Ok(Answer::Data(copy))
             }
-            Payload::Extended(data) => Ok(Answer::Extended(data)),
+            Payload::Extended(told) => Ok(Answer::Extended(told)),
             Payload::End => Ok(status(alloc, 1)),
         }
     }

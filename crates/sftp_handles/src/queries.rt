@@ -166,7 +166,7 @@ impl<T: HandleTable> Session<T> {
         ensures carried { IfOk result (λ payload. Carries self.now Limits (said_in payload)) }
         ensures refused { IfErr result (IsRefusal self.now Limits) }
     {
-        let data = limits_data(self.tree.allocator(), self.tree.tree_limits())?;
-        Ok(Payload::Extended(data))
+        let told = limits_data(self.tree.allocator(), self.tree.tree_limits())?;
+        Ok(Payload::Extended(told))
     }
 }

@@ -268,8 +268,11 @@ extended-sayable id bytes small fits = record {
 limits-bytes : (bounds : TreeLimits) → AreBytes (limits_data bounds)
 unfolding limits_data
 limits-bytes bounds =
-    bytes-joined (uint64 packet_limit) _ (number-bytes 8 packet_limit)
-    (bytes-joined (uint64 bounds.read_bytes) _ (number-bytes 8 bounds.read_bytes)
+    bytes-joined (uint64 packet_limit)
+    (uint64 bounds.read_bytes ++ (uint64 bounds.read_bytes ++ uint64 bounds.open_handles))
+    (number-bytes 8 packet_limit)
+    (bytes-joined (uint64 bounds.read_bytes) (uint64 bounds.read_bytes ++ uint64 bounds.open_handles)
+    (number-bytes 8 bounds.read_bytes)
     (bytes-joined (uint64 bounds.read_bytes) (uint64 bounds.open_handles) (number-bytes 8 bounds.read_bytes)
     (number-bytes 8 bounds.open_handles)))
 

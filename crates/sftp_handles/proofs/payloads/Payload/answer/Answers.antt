@@ -35,9 +35,9 @@ returns-in_ok-copy-in-Data c =
 
 pub returns-in-Extended : goal.returns-in-Extended
 returns-in-Extended c =
-    let data = c.in-Extended.data in
-    subst (λ (p : Payload). IsReplyOf (said_in p) (replies.Extended data)) (sym c.in-Extended.is)
-    (reply-extended data (subst (λ (p : Payload). FitsSaid (said_in p)) c.in-Extended.is c.requires))
+    let told = c.in-Extended.told in
+    subst (λ (p : Payload). IsReplyOf (said_in p) (replies.Extended told)) (sym c.in-Extended.is)
+    (reply-extended told (subst (λ (p : Payload). FitsSaid (said_in p)) c.in-Extended.is c.requires))
 
 pub returns-in-End : goal.returns-in-End
 returns-in-End c =

@@ -8,10 +8,10 @@ use Rattle.sftp_handles.specs.Payloads.{Carries}
 use Rattle.sftp_handles.proofs.LimitsAnswers.{carries-limits}
 use Rattle.sftp_handles.proofs.sessions.Session.limits_payload.Goals as goal
 
-pub returns-in_ok-data-clause-carried : goal.returns-in_ok-data-clause-carried
-returns-in_ok-data-clause-carried g c =
+pub returns-clause-carried : goal.returns-clause-carried
+returns-clause-carried g c =
     let s = c.args.self.now in
     let bounds = c.tree_limits.ensures.limits ∙ ap (λ (x : State). limits x.tree) c.self.view_is in
-    let data = c.in_ok-data.ensures ∙ ap limits_data bounds in
-    subst (λ (x : List ℕ). Carries s Limits (extends x)) (sym data)
+    let told = c.in_ok-told.ensures ∙ ap limits_data bounds in
+    subst (λ (x : List ℕ). Carries s Limits (extends x)) (sym told)
     (carries-limits s (subst Good c.self.view_is c.self.invariant))
