@@ -1,6 +1,9 @@
 //! The subcommands.
-ghost use Rattle.std.specs.Prelude.{◌≡◌, IfOk, IfErr};
+ghost use Rattle.std.specs.Prelude.{◌≡◌, IfOk, IfErr, MatchResult};
+ghost use Rattle.sftp_tree.specs.Tree.{Tree as tree, raised};
+ghost use Rattle.sftp_tree.specs.Picture.{IsStart, picture};
 ghost use Rattle.sftp_tool.specs.declared.messages.Ending.TheVariants as endings;
+ghost use Rattle.sftp_tool.specs.declared.messages.Failure.TheVariants as failures;
 ghost use Rattle.sftp_tool.specs.Failures.{IsOutcome, IsUnread, IsUnwritten};
 
 use crate::command_line::AuditOptions;
@@ -110,15 +113,15 @@ pub(crate) fn raise<'a, R: Files + AllocGlobal>(
 }
 
 /// The tree file of the tree of this one, with the highest limits.
-fn raised_file<'a>(alloc: Global, bytes: &[u8]) -> Result<Vec<u8>, Failure<'a>> {
+fn raised_file<'a>(alloc: Global, bytes: &[u8]) -> Result<Vec<u8>, Failure<'a>>
+    ensures { (t : tree) → IsStart t bytes.now →
+        MatchResult result (λ made. made.items ≡ picture (raised t)) (λ failure. failure ≡ failures.OutOfMemory) }
+{
     let tree = Tree::read(alloc, bytes)?;
     let tree = tree.raise();
-    let written = tree.write();
+    let made = tree.write();
     drop(tree);
-    match written {
-        Ok(bytes) => Ok(bytes),
-        Err(_no_memory) => Err(Failure::OutOfMemory),
-    }
+    Ok(made?)
 }
 
 /// Prints help or the version.
