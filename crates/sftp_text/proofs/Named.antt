@@ -241,7 +241,7 @@ ask-shown id (asks.Hardlink oldpath newpath) lt f known small =
 ask-shown id (asks.Fsync handle) lt f known small =
     shown_by_name Client packets.Fsync _ small refl (with_id-shown (row packets.Fsync) id _ refl lt (only_field Text (wire.string handle) (text handle f)))
 ask-shown id asks.Limits lt f known small =
-    shown_by_name Client packets.Limits _ small refl (with_id-shown (row packets.Limits) id _ refl lt (no_field Nothing [] refl))
+    shown_by_name Client packets.Limits _ small refl (with_id-shown (row packets.Limits) id _ refl lt (no_field Nothing [] nothing_all))
 ask-shown id (asks.Unknown name rest) lt f known small =
     let first = or_parts (bytes_eq name wire.posix_rename_name) _ known in
     let second = or_parts (bytes_eq name wire.hardlink_name) _ first.1 in
