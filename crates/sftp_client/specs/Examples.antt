@@ -12,7 +12,7 @@ use Rattle.sftp_client.specs.Client.{Client, OpenRequests, session_with}
 
 -- no extension with a request of its own
 abbrev pub nothing : Announced
-nothing = record { posix_rename = false; hardlink = false; fsync = false }
+nothing = record { posix_rename = false; hardlink = false; fsync = false; limits = false }
 
 -- a VERSION 3 without extensions
 abbrev pub plain_version : Packet

@@ -11,6 +11,7 @@ use crate::saving::write;
 use sftp_audit::{Accepted, AuditError, Refusal};
 use sftp_profile::Profile;
 use sftp_transcript::{Reader, Tally};
+use sftp_tree::Tree;
 use std::alloc::Global;
 use std::fs;
 use std::fs::Files;
@@ -86,6 +87,36 @@ pub(crate) fn blank<'a, R: Files + AllocGlobal>(
             written?;
             Ok(Ending::Done)
         }
+        Err(_no_memory) => Err(Failure::OutOfMemory),
+    }
+}
+
+/// Writes the tree of the tree file `tree` with the highest limits to the file `name`.
+pub(crate) fn raise<'a, R: Files + AllocGlobal>(
+    rt: &R,
+    tree: &'a str,
+    name: &'a str,
+) -> Result<Ending, Failure<'a>>
+    ensures ok { IfOk result (λ ending. ending ≡ endings.Done) }
+{
+    let bytes = read(rt, tree)?;
+    let raised = raised_file(rt.alloc(), bytes.as_slice());
+    drop(bytes);
+    let raised = raised?;
+    let written = write(rt, name, raised.as_slice());
+    drop(raised);
+    written?;
+    Ok(Ending::Done)
+}
+
+/// The tree file of the tree of this one, with the highest limits.
+fn raised_file<'a>(alloc: Global, bytes: &[u8]) -> Result<Vec<u8>, Failure<'a>> {
+    let tree = Tree::read(alloc, bytes)?;
+    let tree = tree.raise();
+    let written = tree.write();
+    drop(tree);
+    match written {
+        Ok(bytes) => Ok(bytes),
         Err(_no_memory) => Err(Failure::OutOfMemory),
     }
 }

@@ -5,8 +5,8 @@ use Rattle.std.specs.List.{list_all, flat_map, AllByRecursion}
 use Rattle.std.proofs.lemmas.Bool.{and_parts}
 use Rattle.std.proofs.lemmas.List.{append-nil}
 use Rattle.sftp_wire.specs.declared.packets.Packet.TheVariants.{Init, Version}
-use Rattle.sftp_wire.specs.Spelling.{spelling, packet_limit, AreBytes, FitsString, FitsPair, FitsAttrs, HasSpelling}
-use Rattle.sftp_wire.specs.Examples.{hex, no_attributes, server_extensions}
+use Rattle.sftp_wire.specs.Spelling.{spelling, packet_limit, server_extensions, AreBytes, FitsString, FitsPair, FitsAttrs, HasSpelling}
+use Rattle.sftp_wire.specs.Examples.{hex, no_attributes}
 use Rattle.sftp_transcript.specs.declared.events.Event.{Event}
 use Rattle.sftp_transcript.specs.Transcript.{IsEvent, IsRecord, event_record, transcript_opening, packet_of}
 use Rattle.sftp_transcript.specs.Begun.{BeginsRecord}
@@ -51,7 +51,10 @@ extensions_fit = (
   (string_by (codes "posix-rename@openssh.com") refl (lit< tt), one),
   (
     (string_by (codes "hardlink@openssh.com") refl (lit< tt), one),
-    ((string_by (codes "fsync@openssh.com") refl (lit< tt), one), tt),
+    (
+      (string_by (codes "fsync@openssh.com") refl (lit< tt), one),
+      ((string_by (codes "limits@sftpv3.test") refl (lit< tt), one), tt),
+    ),
   ),
 )
 
