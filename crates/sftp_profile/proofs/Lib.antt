@@ -1,1 +1,3 @@
 pub mod Permissions
+pub mod Guards
+pub mod Pieces

@@ -10,6 +10,8 @@ use Rattle.sftp_wire.specs.declared.names.NameItem.{NameItem}
 use Rattle.std.specs.Prelude.{List, if◌then◌else◌, ◌&&◌, not, unwrap_or}
 use Rattle.sftp_wire.specs.declared.packets.Request.{Request}
 use Rattle.sftp_wire.specs.declared.packets.Reply.{Reply}
+use Rattle.sftp_tree.specs.Tree.{Tree}
+use Rattle.sftp_handles.specs.Handles.{Left}
 use Rattle.sftp_handles.specs.State as sessions
 use Rattle.sftp_handles.specs.Allowed as strictly
 use Rattle.sftp_handles.proofs.Steps.{step-is_allowed, allowed-step}
@@ -18,10 +20,13 @@ use Rattle.sftp_profile.specs.Profiles.{strict, keeps_requests}
 use Rattle.sftp_profile.specs.Replaced.{put, replaced, made_attributes}
 use Rattle.sftp_profile.specs.State.{State}
 use Rattle.sftp_profile.specs.Departures.{is_forgiven}
-use Rattle.sftp_profile.specs.Readings.{asked}
+use Rattle.sftp_profile.specs.Readings.{asked, followed}
+use Rattle.sftp_profile.specs.Shown.{left_of}
 use Rattle.sftp_profile.specs.Tellings.{told, mended_items, is_readdir}
-use Rattle.sftp_profile.specs.Judged.{Outcome, IsStrict, IsForgiven, IsPermitted, IsStep}
-use Rattle.sftp_profile.specs.Permitted.{Permitted, taken, retold, first_of, forgiven, forgiven_by, permitted, under, step}
+use Rattle.sftp_profile.specs.Judged.{Outcome, IsStrict, IsTaken, IsFollowed, IsTakenFor}
+use Rattle.sftp_profile.specs.Judged.{IsForgiven, IsPermitted, IsStep}
+use Rattle.sftp_profile.specs.Permitted.{Permitted, taken, taken_for, retold, with_followed, first_of, forgiven}
+use Rattle.sftp_profile.specs.Permitted.{forgiven_by, permitted, under, step}
 
 abbrev pub under_same : Profile → sessions.State → State
 under_same profile session = record { profile = profile; session = session }
@@ -89,28 +94,33 @@ first-none : (o : Option sessions.State) → first_of o None ≡ o
 first-none (Some s) = refl
 first-none None = refl
 
-strict-asked : (ask : Ask) → asked strict ask ≡ None
-strict-asked (asks.Lstat path) = refl
-strict-asked (asks.Open path pflags attrs) = refl
-strict-asked other = refl
+strict-asked : (t : Tree) (ask : Ask) → asked strict t ask ≡ None
+strict-asked t (asks.Lstat path) = refl
+strict-asked t (asks.Open path pflags attrs) = refl
+strict-asked t (asks.Hardlink oldpath newpath) = refl
+strict-asked t other = refl
 
-strict-names : (readdir : Bool) (items : List NameItem)
-    → (if readdir && false then Some (replies.Name (mended_items strict items)) else None) ≡ None
-strict-names true items = refl
-strict-names false items = refl
+strict-names : (readdir : Bool) (left : Option Left) (items : List NameItem)
+    → (if readdir && false then Some (replies.Name (mended_items strict left items)) else None) ≡ None
+strict-names true left items = refl
+strict-names false left items = refl
 
-strict-told : (ask : Ask) (answer : Answer) → told strict ask answer ≡ None
-strict-told ask (replies.Attrs attrs) = refl
-strict-told ask (replies.Name items) = strict-names (is_readdir ask) items
-strict-told ask other = refl
+strict-told : (s : sessions.State) (ask : Ask) (answer : Answer) → told strict s ask answer ≡ None
+strict-told s ask (replies.Attrs attrs) = refl
+strict-told s ask (replies.Name items) = strict-names (is_readdir ask) (left_of s ask) items
+strict-told s ask other = refl
 
 strict-permitted : (s : sessions.State) (ask : Ask) (answer : Answer) → permitted strict s ask answer
     ≡ strictly.step s ask answer
 unfolding permitted forgiven is_forgiven
 strict-permitted s ask answer =
-    ap (λ o. first_of (strictly.step s ask answer) (first_of (taken s o answer) (retold strict s ask (told strict ask answer))))
-    (strict-asked ask)
-    ∙ (ap (λ o. first_of (strictly.step s ask answer) (retold strict s ask o)) (strict-told ask answer)
+    ap
+    (λ o.
+    first_of (strictly.step s ask answer)
+    (first_of (retold s ask (told strict s ask answer))
+    (strictly.and_then (taken strict s o answer) (with_followed (followed strict ask) answer))))
+    (strict-asked s.tree ask)
+    ∙ (ap (λ o. first_of (strictly.step s ask answer) (first_of (retold s ask o) None)) (strict-told s ask answer)
     ∙ first-none (strictly.step s ask answer))
 
 under-session : (profile : Profile) (o : Option sessions.State) (end : State) → under profile o ≡ Some end
@@ -205,6 +215,65 @@ second-result first second s now end (Ok ok) false is_false found next =
 second-result first second s now end (Err e) false is_false found next = tt
 second-result first second s now end result true is_false found next = absurd cc
 
+-- ---- one request after another
+
+-- a SETSTAT that may be refused
+pub set-outcome : (a : Option sessions.State) (s end : State) (ok : Bool) → Outcome (under s.profile a) s ok end
+    → under s.profile (first_of a (Some s.session)) ≡ Some end
+set-outcome (Some here) s end true found = found.is
+set-outcome None s end true found = absurd (let is = found.is in cc)
+set-outcome (Some here) s end false found = absurd (let is = found.is in cc)
+set-outcome None s end false found = ap Some (sym (found.kept refl))
+
+-- what comes first is found, and what is next leads to a state
+pub then-outcome : (profile : Profile) (a : Option sessions.State) (next : sessions.State → Option sessions.State)
+    (s mid end : State) (ok : Bool) → ok ≡ true → Outcome (under profile a) s ok mid
+    → under mid.profile (next mid.session) ≡ Some end
+    → Outcome (under profile (strictly.and_then a next)) s true end
+then-outcome profile (Some here) next s mid end true is_true found leads = record {
+  is =
+      subst (λ (m : State). under m.profile (next m.session) ≡ Some end)
+      (sym (same_end _ (under_same profile here) mid refl found.is)) leads;
+  kept = λ e. absurd cc;
+}
+then-outcome profile None next s mid end true is_true found leads = absurd (let is = found.is in cc)
+then-outcome profile a next s mid end false is_true found leads = absurd cc
+
+-- what comes first is not found
+pub never-outcome : (profile : Profile) (a : Option sessions.State) (next : sessions.State → Option sessions.State)
+    (s mid : State) (ok : Bool) → ok ≡ false → Outcome (under profile a) s ok mid
+    → Outcome (under profile (strictly.and_then a next)) s false mid
+never-outcome profile (Some here) next s mid false is_false found = absurd (let is = found.is in cc)
+never-outcome profile None next s mid false is_false found = record { is = refl; kept = found.kept }
+never-outcome profile a next s mid true is_false found = absurd cc
+
+-- the other request with what comes with it
+pub follow-outcome : (s mid end : State) (ask : Ask) (answer : Answer) (ok : Bool) → ok ≡ true
+    → IsTaken s ask answer ok mid → IsFollowed mid ask answer end → IsTakenFor s ask answer true end
+follow-outcome s mid end ask answer true is_true found follows =
+    let same : mid.profile ≡ s.profile =
+    under-profile s.profile (taken s.profile s.session (asked s.profile s.session.tree ask) answer) mid found.is in
+    then-outcome s.profile (taken s.profile s.session (asked s.profile s.session.tree ask) answer)
+    (with_followed (followed s.profile ask) answer) s mid end true refl found
+    (subst
+    (λ (p : Profile). under mid.profile (with_followed (followed p ask) answer mid.session) ≡ Some end) same follows)
+follow-outcome s mid end ask answer false is_true found follows = absurd cc
+
+pub unfollowed-outcome : (s mid : State) (ask : Ask) (answer : Answer) (ok : Bool) → ok ≡ false
+    → IsTaken s ask answer ok mid → IsTakenFor s ask answer false mid
+unfollowed-outcome s mid ask answer ok is_false found =
+    never-outcome s.profile (taken s.profile s.session (asked s.profile s.session.tree ask) answer)
+    (with_followed (followed s.profile ask) answer) s mid ok is_false found
+
+-- nothing comes with it where the flags of OPEN are judged as they stand
+pub follow-never : (s mid : State) (ask : Ask) (answer : Answer) (ok : Bool) → ok ≡ true
+    → IsTaken s ask answer ok mid → IsTrue mid.profile.flags → s.profile.flags ≡ false → mid ≡ s
+follow-never s mid ask answer true is_true found on off =
+    let same : mid.profile ≡ s.profile =
+    under-profile s.profile (taken s.profile s.session (asked s.profile s.session.tree ask) answer) mid found.is in
+    absurd (let flags = ap (λ (p : Profile). p.flags) same in cc)
+follow-never s mid ask answer false is_true found on off = absurd cc
+
 -- ---- what passes as it stands
 
 pub passes-outcome : (s : State) (ask : Ask) (answer : Answer)
@@ -216,15 +285,15 @@ passes-outcome s ask answer is = record {
       (λ b.
       under s.profile
       (first_of (forgiven_by s.session b)
-      (first_of (taken s.session (asked s.profile ask) answer)
-      (retold s.profile s.session ask (told s.profile ask answer))))) is;
+      (first_of (retold s.session ask (told s.profile s.session ask answer))
+      (taken_for s.profile s.session ask answer)))) is;
   kept = λ e. refl;
 }
 
 pub unpassed-outcome : (s end : State) (ask : Ask) (answer : Answer) (ok : Bool)
     → is_forgiven s.profile s.session ask answer ≡ false
-    → Outcome (under s.profile (first_of (taken s.session (asked s.profile ask) answer)
-    (retold s.profile s.session ask (told s.profile ask answer)))) s ok end → IsForgiven s ask answer ok end
+    → Outcome (under s.profile (first_of (retold s.session ask (told s.profile s.session ask answer))
+    (taken_for s.profile s.session ask answer))) s ok end → IsForgiven s ask answer ok end
 unfolding forgiven
 unpassed-outcome s end ask answer ok not found = record {
   is =
@@ -232,8 +301,8 @@ unpassed-outcome s end ask answer ok not found = record {
       (λ b.
       under s.profile
       (first_of (forgiven_by s.session b)
-      (first_of (taken s.session (asked s.profile ask) answer)
-      (retold s.profile s.session ask (told s.profile ask answer))))) not
+      (first_of (retold s.session ask (told s.profile s.session ask answer))
+      (taken_for s.profile s.session ask answer)))) not
       ∙ found.is;
   kept = found.kept;
 }

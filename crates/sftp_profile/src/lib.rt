@@ -10,10 +10,15 @@ mod judges;
 pub mod laws;
 mod limits;
 mod names;
+mod passing;
 mod paths;
 mod profiles;
+mod readings;
+mod reads;
+mod realpaths;
 mod refusals;
 mod replaced;
+mod shown;
 mod tellings;
 
 pub use judges::Judge;
