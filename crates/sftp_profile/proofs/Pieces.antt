@@ -336,6 +336,4 @@ refused-size s handle c is = no-size (limits s.tree) handle (seen s a_file handl
 
 -- it is one byte or more
 pub cap-some : (t : Tree) → IsKept t → 0 < (limits t).read_bytes
-cap-some t kept =
-    let usual : (limits t).read_bytes ≡ 32768 = ap (λ (b : TreeLimits). b.read_bytes) kept.well_formed.limits in
-    omega (arith, usual)
+cap-some t kept = omega (arith, kept.well_formed.limits.read_bytes.0)

@@ -76,11 +76,11 @@ impl Judge {
     }
 
     /// Whether the profile permits the reply to a request. If so, the session is then as the two leave it; if not, it
-    /// is as before.
+    /// is unchanged.
     ///
     /// # Errors
     ///
-    /// `NoMemory` if memory runs out; the session is then as before, unless the profile has `flags`.
+    /// `NoMemory` if memory runs out; the session is unchanged, unless the profile has `flags`.
     pub fn accept(&mut self, request: &Request, reply: &Reply) -> Result<bool, NoMemory>
         ensures allowed { IfOk result (λ ok. IsTrue ok → Permitted self.old request.now reply.now self.new) }
         ensures refused { IfOk result
@@ -95,12 +95,12 @@ impl Judge {
     }
 
     /// Whether the profile permits the answer of a reply with the id of the request, for the request that stands for
-    /// it. If so, the session is then as the two leave it; if not, it is as before. The calls below say the same of
+    /// it. If so, the session is then as the two leave it; if not, it is unchanged. The calls below say the same of
     /// parts of what is permitted.
     ///
     /// # Errors
     ///
-    /// `NoMemory` if memory runs out; the session is then as before, unless the profile has `flags`.
+    /// `NoMemory` if memory runs out; the session is unchanged, unless the profile has `flags`.
     fn step(&mut self, request: &Request, reply: &Reply) -> Result<bool, NoMemory>
         requires { reply.now.id ≡ request.now.id }
         ensures ok { IfOk result (λ ok. IsStep self.old request.now.ask reply.now.answer ok self.new) }
@@ -130,7 +130,7 @@ impl Judge {
     ///
     /// # Errors
     ///
-    /// `NoMemory` if memory runs out; the session is then as before, unless the profile has `flags`.
+    /// `NoMemory` if memory runs out; the session is unchanged, unless the profile has `flags`.
     fn permit(&mut self, request: &Request, reply: &Reply) -> Result<bool, NoMemory>
         requires { reply.now.id ≡ request.now.id }
         ensures ok { IfOk result (λ ok. IsPermitted self.old request.now.ask reply.now.answer ok self.new) }
@@ -146,7 +146,7 @@ impl Judge {
     ///
     /// # Errors
     ///
-    /// `NoMemory` if memory runs out; the session is then as before.
+    /// `NoMemory` if memory runs out; the session is unchanged.
     fn judge_strictly(&mut self, request: &Request, reply: &Reply) -> Result<bool, NoMemory>
         requires { reply.now.id ≡ request.now.id }
         ensures ok { IfOk result (λ ok. IsStrict self.old request.now.ask reply.now.answer ok self.new) }
@@ -159,7 +159,7 @@ impl Judge {
     ///
     /// # Errors
     ///
-    /// `NoMemory` if memory runs out; the session is then as before, unless the profile has `flags`.
+    /// `NoMemory` if memory runs out; the session is unchanged, unless the profile has `flags`.
     fn forgive(&mut self, request: &Request, reply: &Reply) -> Result<bool, NoMemory>
         requires { reply.now.id ≡ request.now.id }
         ensures ok { IfOk result (λ ok. IsForgiven self.old request.now.ask reply.now.answer ok self.new) }
@@ -179,7 +179,7 @@ impl Judge {
     ///
     /// # Errors
     ///
-    /// `NoMemory` if memory runs out; the session is then as before, unless the profile has `flags`.
+    /// `NoMemory` if memory runs out; the session is unchanged, unless the profile has `flags`.
     fn take_for(&mut self, ask: &Ask, reply: &Reply) -> Result<bool, NoMemory>
         ensures ok { IfOk result (λ ok. IsTakenFor self.old ask.now reply.now.answer ok self.new) }
         ensures err { OnErr result (self.old.profile.flags ≡ false → self.new ≡ self.old) }
@@ -233,7 +233,7 @@ impl Judge {
     ///
     /// # Errors
     ///
-    /// `NoMemory` if memory runs out; the session is then as before.
+    /// `NoMemory` if memory runs out; the session is unchanged.
     fn take_otherwise(&mut self, ask: &Ask, reply: &Reply) -> Result<bool, NoMemory>
         ensures ok { IfOk result (λ ok. IsTaken self.old ask.now reply.now.answer ok self.new) }
         ensures err { OnErr result (self.new ≡ self.old) }
@@ -251,7 +251,7 @@ impl Judge {
     ///
     /// # Errors
     ///
-    /// `NoMemory` if memory runs out; the session is then as before.
+    /// `NoMemory` if memory runs out; the session is unchanged.
     fn read(&mut self, request: &Request, reply: &Reply) -> Result<bool, NoMemory>
         requires { reply.now.id ≡ request.now.id }
         ensures ok { IfOk result (λ ok. IsRead self.old request.now.ask reply.now.answer ok self.new) }
@@ -267,7 +267,7 @@ impl Judge {
     ///
     /// # Errors
     ///
-    /// `NoMemory` if memory runs out; the session is then as before.
+    /// `NoMemory` if memory runs out; the session is unchanged.
     fn retell(&mut self, request: &Request, reply: &Reply) -> Result<bool, NoMemory>
         ensures ok { IfOk result (λ ok. IsRetold self.old request.now.ask reply.now.answer ok self.new) }
         ensures err { OnErr result (self.new ≡ self.old) }
@@ -284,7 +284,7 @@ impl Judge {
         accepted
     }
 
-    /// Whether the profile lets an answer pass after which the session is as before.
+    /// Whether the profile lets an answer pass after which the session is unchanged.
     ///
     /// # Errors
     ///
