@@ -1,1 +1,4 @@
+pub mod DirectoryLists
+pub mod Meetings
+pub mod NotesByAsk
 pub mod Permissions

@@ -1,5 +1,5 @@
 -- Profiles: which departures from the strict reading are accepted.
-use Rattle.std.specs.Prelude.{◌&&◌, not, Bool, false}
+use Rattle.std.specs.Prelude.{◌&&◌, ◌||◌, not, Bool, false}
 use Rattle.sftp_profile.specs.declared.profiles.Profile.{Profile}
 
 -- no departure
@@ -12,6 +12,8 @@ strict = record {
   dir_size = false;
   limits = false;
   extensions = false;
+  open_dir = false;
+  listing = false;
   flags = false;
   made = false;
   owner_given = false;
@@ -22,3 +24,7 @@ strict = record {
 -- each request is judged as it stands first
 abbrev pub keeps_requests : Profile → Bool
 keeps_requests profile = not profile.made && not profile.symlink_draft
+
+-- it has no use for the directories that are open, so the session is all of the state
+abbrev pub is_stateless : Profile → Bool
+is_stateless profile = not (profile.open_dir || profile.listing)

@@ -22,7 +22,7 @@ pub(crate) fn mended_flags(flags: u32) -> u32
 }
 
 /// Whether a flag is set.
-fn has(flags: u32, flag: u32) -> bool
+pub(crate) fn has(flags: u32, flag: u32) -> bool
     ensures { result ≡ has_flag flags flag }
 {
     flags & flag == flag

@@ -3,18 +3,23 @@
 #![tactic(auto)]
 
 mod departures;
+mod directories;
 pub mod examples;
 mod extensions;
 mod flags;
 mod judges;
 pub mod laws;
 mod limits;
+mod listed;
+mod meeting;
 mod names;
+mod notes;
 mod paths;
 mod profiles;
 mod refusals;
 mod replaced;
 mod tellings;
+mod through;
 
 pub use judges::Judge;
 pub use names::NAMES;

@@ -10,6 +10,8 @@ pub const NAMES: &[&str] = &[
     "empty-setstat",
     "dots",
     "dir-size",
+    "open-dir",
+    "listing",
     "made",
     "extensions",
 ];
@@ -36,6 +38,8 @@ impl Profile {
             "empty-setstat" => profile.empty_setstat = is_on,
             "dots" => profile.dots = is_on,
             "dir-size" => profile.dir_size = is_on,
+            "open-dir" => profile.open_dir = is_on,
+            "listing" => profile.listing = is_on,
             "made" => profile.made = is_on,
             "extensions" => profile.extensions = is_on,
             _ => return None,

@@ -114,7 +114,7 @@ fn put_mended(
 /// # Errors
 ///
 /// `NoMemory` if memory runs out.
-fn mended(profile: Profile, attrs: &Attrs) -> Result<Attrs, NoMemory>
+pub(crate) fn mended(profile: Profile, attrs: &Attrs) -> Result<Attrs, NoMemory>
     ensures { IfOk result (λ attributes. attributes ≡ spec.mended profile attrs.now) }
 {
     let mut copy = attrs.clone()?;
@@ -125,7 +125,7 @@ fn mended(profile: Profile, attrs: &Attrs) -> Result<Attrs, NoMemory>
 }
 
 /// Whether permissions have the type of a directory.
-fn is_directory(permissions: Option<u32>) -> bool
+pub(crate) fn is_directory(permissions: Option<u32>) -> bool
     ensures { result ≡ spec.is_directory permissions }
 {
     match permissions {

@@ -18,7 +18,7 @@ returns-then-branch-2-clause-ok c =
     let ask = c.args.request.now.ask in
     let answer = c.args.reply.now.answer in
     unpassed-outcome s c.take_otherwise.new.self ask answer true (sym c.in_ok-forgives.ensures ∙ c.if-branch.false)
-    (first-outcome s.profile (taken s.session (asked s.profile ask) answer)
+    (first-outcome s (taken s.session (asked s.profile ask) answer)
     (retold s.profile s.session ask (told s.profile ask answer)) s c.take_otherwise.new.self
     c.in_ok-take_otherwise.field-0 c.if-branch-2.true c.in_ok-take_otherwise.ensures.ok)
 
@@ -30,7 +30,7 @@ returns-clause-ok c =
     IfOk-weaker c.retell.result
     (λ ok.
     Outcome
-    (under s.profile
+    (under s
     (first_of (taken s.session (asked s.profile ask) answer)
     (retold s.profile s.session ask (told s.profile ask answer)))) s ok c.retell.new.self)
     (λ ok. IsForgiven s ask answer ok c.retell.new.self)
