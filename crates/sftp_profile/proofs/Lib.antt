@@ -2,3 +2,5 @@ pub mod DirectoryLists
 pub mod Meetings
 pub mod NotesByAsk
 pub mod Permissions
+pub mod Guards
+pub mod Pieces

@@ -10,6 +10,8 @@ use Rattle.sftp_wire.specs.declared.names.NameItem.{NameItem}
 use Rattle.std.specs.Prelude.{List, if◌then◌else◌, ◌&&◌, not, unwrap_or}
 use Rattle.sftp_wire.specs.declared.packets.Request.{Request}
 use Rattle.sftp_wire.specs.declared.packets.Reply.{Reply}
+use Rattle.sftp_tree.specs.Tree.{Tree}
+use Rattle.sftp_handles.specs.Handles.{Left}
 use Rattle.sftp_handles.specs.State as sessions
 use Rattle.sftp_handles.specs.Allowed as strictly
 use Rattle.sftp_handles.proofs.Steps.{step-is_allowed, allowed-step}
@@ -21,10 +23,13 @@ use Rattle.sftp_profile.specs.declared.notes.Note.{Note}
 use Rattle.sftp_profile.specs.Notes.{note_of}
 use Rattle.sftp_profile.specs.Through.{directory_of}
 use Rattle.sftp_profile.specs.Departures.{is_forgiven}
-use Rattle.sftp_profile.specs.Readings.{asked}
+use Rattle.sftp_profile.specs.Readings.{asked, followed}
+use Rattle.sftp_profile.specs.Shown.{left_of}
 use Rattle.sftp_profile.specs.Tellings.{told, mended_items, is_readdir}
-use Rattle.sftp_profile.specs.Judged.{Outcome, IsStrict, IsForgiven, IsJudged, IsStep}
-use Rattle.sftp_profile.specs.Permitted.{Permitted, taken, retold, first_of, forgiven, forgiven_by, permitted, under, met, with_note, judged, step}
+use Rattle.sftp_profile.specs.Judged.{Outcome, IsStrict, IsTaken, IsFollowed, IsTakenFor}
+use Rattle.sftp_profile.specs.Judged.{IsForgiven, IsJudged, IsStep}
+use Rattle.sftp_profile.specs.Permitted.{Permitted, taken, taken_for, retold, with_followed, first_of, forgiven}
+use Rattle.sftp_profile.specs.Permitted.{forgiven_by, permitted, under, met, with_note, judged, step}
 
 abbrev pub under_same : State → sessions.State → State
 under_same s session = record s { session = session }
@@ -123,28 +128,33 @@ first-none : (o : Option sessions.State) → first_of o None ≡ o
 first-none (Some s) = refl
 first-none None = refl
 
-strict-asked : (ask : Ask) → asked strict ask ≡ None
-strict-asked (asks.Lstat path) = refl
-strict-asked (asks.Open path pflags attrs) = refl
-strict-asked other = refl
+strict-asked : (t : Tree) (ask : Ask) → asked strict t ask ≡ None
+strict-asked t (asks.Lstat path) = refl
+strict-asked t (asks.Open path pflags attrs) = refl
+strict-asked t (asks.Hardlink oldpath newpath) = refl
+strict-asked t other = refl
 
-strict-names : (readdir : Bool) (items : List NameItem)
-    → (if readdir && false then Some (replies.Name (mended_items strict items)) else None) ≡ None
-strict-names true items = refl
-strict-names false items = refl
+strict-names : (readdir : Bool) (left : Option Left) (items : List NameItem)
+    → (if readdir && false then Some (replies.Name (mended_items strict left items)) else None) ≡ None
+strict-names true left items = refl
+strict-names false left items = refl
 
-strict-told : (ask : Ask) (answer : Answer) → told strict ask answer ≡ None
-strict-told ask (replies.Attrs attrs) = refl
-strict-told ask (replies.Name items) = strict-names (is_readdir ask) items
-strict-told ask other = refl
+strict-told : (s : sessions.State) (ask : Ask) (answer : Answer) → told strict s ask answer ≡ None
+strict-told s ask (replies.Attrs attrs) = refl
+strict-told s ask (replies.Name items) = strict-names (is_readdir ask) (left_of s ask) items
+strict-told s ask other = refl
 
 strict-permitted : (s : sessions.State) (ask : Ask) (answer : Answer) → permitted strict s ask answer
     ≡ strictly.step s ask answer
 unfolding permitted forgiven is_forgiven
 strict-permitted s ask answer =
-    ap (λ o. first_of (strictly.step s ask answer) (first_of (taken s o answer) (retold strict s ask (told strict ask answer))))
-    (strict-asked ask)
-    ∙ (ap (λ o. first_of (strictly.step s ask answer) (retold strict s ask o)) (strict-told ask answer)
+    ap
+    (λ o.
+    first_of (strictly.step s ask answer)
+    (first_of (retold s ask (told strict s ask answer))
+    (strictly.and_then (taken strict s o answer) (with_followed (followed strict ask) answer))))
+    (strict-asked s.tree ask)
+    ∙ (ap (λ o. first_of (strictly.step s ask answer) (first_of (retold s ask o) None)) (strict-told s ask answer)
     ∙ first-none (strictly.step s ask answer))
 
 under-session : (s : State) (o : Option sessions.State) (end : State) → under s o ≡ Some end
@@ -240,6 +250,71 @@ second-result first second s now end (Ok ok) false is_false found next =
 second-result first second s now end (Err e) false is_false found next = tt
 second-result first second s now end result true is_false found next = absurd cc
 
+-- ---- one request after another
+
+-- a SETSTAT that may be refused
+pub set-outcome : (a : Option sessions.State) (s end : State) (ok : Bool) → Outcome (under s a) s ok end
+    → under s (first_of a (Some s.session)) ≡ Some end
+set-outcome (Some here) s end true found = found.is
+set-outcome None s end true found = absurd (let is = found.is in cc)
+set-outcome (Some here) s end false found = absurd (let is = found.is in cc)
+set-outcome None s end false found = ap Some (sym (found.kept refl))
+
+-- the last session counts
+under-again : (s : State) (here : sessions.State) (o : Option sessions.State) → under (under_same s here) o ≡ under s o
+under-again s here (Some session) = refl
+under-again s here None = refl
+
+-- what comes first is found, and what is next leads to a state
+pub then-outcome : (at : State) (a : Option sessions.State) (next : sessions.State → Option sessions.State)
+    (s mid end : State) (ok : Bool) → ok ≡ true → Outcome (under at a) s ok mid
+    → under mid (next mid.session) ≡ Some end
+    → Outcome (under at (strictly.and_then a next)) s true end
+then-outcome at (Some here) next s mid end true is_true found leads = record {
+  is =
+      sym (under-again at here (next here))
+      ∙ subst (λ (m : State). under m (next m.session) ≡ Some end)
+      (sym (same_end _ (under_same at here) mid refl found.is)) leads;
+  kept = λ e. absurd cc;
+}
+then-outcome at None next s mid end true is_true found leads = absurd (let is = found.is in cc)
+then-outcome at a next s mid end false is_true found leads = absurd cc
+
+-- what comes first is not found
+pub never-outcome : (at : State) (a : Option sessions.State) (next : sessions.State → Option sessions.State)
+    (s mid : State) (ok : Bool) → ok ≡ false → Outcome (under at a) s ok mid
+    → Outcome (under at (strictly.and_then a next)) s false mid
+never-outcome at (Some here) next s mid false is_false found = absurd (let is = found.is in cc)
+never-outcome at None next s mid false is_false found = record { is = refl; kept = found.kept }
+never-outcome at a next s mid true is_false found = absurd cc
+
+-- the other request with what comes with it
+pub follow-outcome : (s mid end : State) (ask : Ask) (answer : Answer) (ok : Bool) → ok ≡ true
+    → IsTaken s ask answer ok mid → IsFollowed mid ask answer end → IsTakenFor s ask answer true end
+follow-outcome s mid end ask answer true is_true found follows =
+    let same : mid.profile ≡ s.profile =
+    under-profile s (taken s.profile s.session (asked s.profile s.session.tree ask) answer) mid found.is in
+    then-outcome s (taken s.profile s.session (asked s.profile s.session.tree ask) answer)
+    (with_followed (followed s.profile ask) answer) s mid end true refl found
+    (subst
+    (λ (p : Profile). under mid (with_followed (followed p ask) answer mid.session) ≡ Some end) same follows)
+follow-outcome s mid end ask answer false is_true found follows = absurd cc
+
+pub unfollowed-outcome : (s mid : State) (ask : Ask) (answer : Answer) (ok : Bool) → ok ≡ false
+    → IsTaken s ask answer ok mid → IsTakenFor s ask answer false mid
+unfollowed-outcome s mid ask answer ok is_false found =
+    never-outcome s (taken s.profile s.session (asked s.profile s.session.tree ask) answer)
+    (with_followed (followed s.profile ask) answer) s mid ok is_false found
+
+-- nothing comes with it where the flags of OPEN are judged as they stand
+pub follow-never : (s mid : State) (ask : Ask) (answer : Answer) (ok : Bool) → ok ≡ true
+    → IsTaken s ask answer ok mid → IsTrue mid.profile.flags → s.profile.flags ≡ false → mid ≡ s
+follow-never s mid ask answer true is_true found on off =
+    let same : mid.profile ≡ s.profile =
+    under-profile s (taken s.profile s.session (asked s.profile s.session.tree ask) answer) mid found.is in
+    absurd (let flags = ap (λ (p : Profile). p.flags) same in cc)
+follow-never s mid ask answer false is_true found on off = absurd cc
+
 -- ---- what passes as it stands
 
 pub passes-outcome : (s : State) (ask : Ask) (answer : Answer)
@@ -251,15 +326,15 @@ passes-outcome s ask answer is = record {
       (λ b.
       under s
       (first_of (forgiven_by s.session b)
-      (first_of (taken s.session (asked s.profile ask) answer)
-      (retold s.profile s.session ask (told s.profile ask answer))))) is;
+      (first_of (retold s.session ask (told s.profile s.session ask answer))
+      (taken_for s.profile s.session ask answer)))) is;
   kept = λ e. refl;
 }
 
 pub unpassed-outcome : (s end : State) (ask : Ask) (answer : Answer) (ok : Bool)
     → is_forgiven s.profile s.session ask answer ≡ false
-    → Outcome (under s (first_of (taken s.session (asked s.profile ask) answer)
-    (retold s.profile s.session ask (told s.profile ask answer)))) s ok end → IsForgiven s ask answer ok end
+    → Outcome (under s (first_of (retold s.session ask (told s.profile s.session ask answer))
+    (taken_for s.profile s.session ask answer))) s ok end → IsForgiven s ask answer ok end
 unfolding forgiven
 unpassed-outcome s end ask answer ok not found = record {
   is =
@@ -267,8 +342,8 @@ unpassed-outcome s end ask answer ok not found = record {
       (λ b.
       under s
       (first_of (forgiven_by s.session b)
-      (first_of (taken s.session (asked s.profile ask) answer)
-      (retold s.profile s.session ask (told s.profile ask answer))))) not
+      (first_of (retold s.session ask (told s.profile s.session ask answer))
+      (taken_for s.profile s.session ask answer)))) not
       ∙ found.is;
   kept = found.kept;
 }

@@ -1,5 +1,5 @@
 -- Answers that a profile lets pass and that change nothing (draft-ietf-secsh-filexfer-02, sections 6 and 7).
-use Rattle.std.specs.Prelude.{length, nat_lt, ◌==◌, ◌&&◌, ◌||◌, not, ℕ, Bool, false}
+use Rattle.std.specs.Prelude.{length, nat_lt, ◌&&◌, ◌||◌, not, Bool, false}
 use Rattle.std.specs.List.{list_all}
 use Rattle.sftp_wire.specs.declared.attributes.Attrs.{Attrs}
 use Rattle.sftp_wire.specs.declared.packets.Ask.{Ask}
@@ -16,16 +16,11 @@ use Rattle.sftp_profile.specs.Paths.{walks_loosely}
 use Rattle.sftp_profile.specs.Limits.{is_beyond}
 use Rattle.sftp_profile.specs.Extensions.{is_unknown, is_looked_at, only_looks}
 use Rattle.sftp_profile.specs.Tellings.{is_dots, is_readdir}
+use Rattle.sftp_profile.specs.Refusals.{is_refusal}
+use Rattle.sftp_profile.specs.Reads.{passes_read}
+use Rattle.sftp_profile.specs.Realpaths.{passes_realpath}
 
 -- ---- by the state
-
--- a code that says that a request was refused (draft, section 7)
-abbrev pub is_refusal_code : ℕ → Bool
-is_refusal_code code = code == 2 || (code == 3 || (code == 4 || (code == 5 || code == 8)))
-
-abbrev pub is_refusal : Answer → Bool
-is_refusal (replies.Status code message language) = is_refusal_code code
-is_refusal other = false
 
 -- some cause refuses the request, and so does the answer, with whichever code
 abbrev pub passes_codes : State → Ask → Answer → Bool
@@ -42,8 +37,9 @@ passes_dots s ask answer = is_readdir ask && (are_dots answer && is_none (causes
 -- ---- by the request and its answer alone
 
 -- a path ends loosely, and the answer refuses it
-abbrev pub passes_slash : Ask → Answer → Bool
-passes_slash ask answer = walks_loosely ask && (has_code 2 answer || has_code 4 answer)
+abbrev pub passes_slash : Profile → Ask → Answer → Bool
+passes_slash profile ask answer =
+    walks_loosely ask && (has_code 2 answer || (has_code 4 answer || profile.codes && is_refusal answer))
 
 -- attributes that set nothing
 abbrev pub sets_nothing : Attrs → Bool
@@ -61,24 +57,32 @@ abbrev pub passes_empty_setstat : Ask → Answer → Bool
 passes_empty_setstat ask answer = is_empty_setstat ask && has_code 0 answer
 
 -- the request meets a limit of the server's own, and the answer refuses it
-abbrev pub passes_limits : Ask → Answer → Bool
-passes_limits ask answer = is_beyond ask && has_code 4 answer
+abbrev pub passes_limits : Profile → Ask → Answer → Bool
+passes_limits profile ask answer = is_beyond ask && (has_code 4 answer || profile.codes && is_refusal answer)
 
 -- an extension that is not known is refused, or only looks
 abbrev pub passes_extensions : Ask → Answer → Bool
 passes_extensions ask answer = is_unknown ask && is_refusal answer || is_looked_at ask answer
 
+-- ---- by what the session has
+
+-- a READ or a REALPATH may be answered so
+abbrev pub passes_looking : Profile → State → Ask → Answer → Bool
+passes_looking profile s ask answer =
+    profile.read && passes_read s ask answer || profile.realpath && passes_realpath s.tree profile.codes ask answer
+
 -- ---- all of them
 
 abbrev pub passes_in : Profile → State → Ask → Answer → Bool
 passes_in profile s ask answer =
-    profile.codes && passes_codes s ask answer || profile.dots && passes_dots s ask answer
+    profile.codes && passes_codes s ask answer
+    || (profile.dots && passes_dots s ask answer || passes_looking profile s ask answer)
 
 abbrev pub passes_alone : Profile → Ask → Answer → Bool
 passes_alone profile ask answer =
-    profile.slash && passes_slash ask answer
+    profile.slash && passes_slash profile ask answer
     || (profile.empty_setstat && passes_empty_setstat ask answer
-    || (profile.limits && passes_limits ask answer || profile.extensions && passes_extensions ask answer))
+    || (profile.limits && passes_limits profile ask answer || profile.extensions && passes_extensions ask answer))
 
 -- the profile lets the answer pass; the session stays as it is
 unfoldable pub is_forgiven : Profile → State → Ask → Answer → Bool

@@ -6,8 +6,9 @@ use Rattle.sftp_wire.specs.declared.packets.Answer.TheVariants.{Name}
 use Rattle.sftp_wire.specs.Examples.{no_attributes}
 use Rattle.sftp_tree.specs.Attributes.{said}
 use Rattle.sftp_handles.specs.State.{State}
-use Rattle.sftp_handles.specs.Examples.{item, with_three}
-use Rattle.sftp_handles.specs.declared.opens.Open.TheVariants.{Listing}
+use Rattle.sftp_handles.specs.Examples.{item, with_three, with_text}
+use Rattle.sftp_handles.specs.Handles.{kept_flags}
+use Rattle.sftp_handles.specs.declared.opens.Open.TheVariants.{File, Listing}
 use Rattle.sftp_tree.specs.Listings.{listing}
 use Rattle.sftp_profile.specs.declared.profiles.Profile.{Profile}
 use Rattle.sftp_profile.specs.Profiles.{strict}
@@ -31,6 +32,21 @@ beyond = record strict { limits = true; extensions = true }
 
 abbrev pub any_flags : Profile
 any_flags = record strict { flags = true }
+
+abbrev pub linked_links : Profile
+linked_links = record strict { hardlink_link = true }
+
+abbrev pub wide_reads : Profile
+wide_reads = record strict { read = true }
+
+abbrev pub free_bits : Profile
+free_bits = record strict { set_id = true }
+
+abbrev pub free_links : Profile
+free_links = record strict { link_attrs = true }
+
+abbrev pub texts_of_paths : Profile
+texts_of_paths = record strict { realpath = true }
 
 abbrev pub owned_by_user : Profile
 owned_by_user = record strict { made = true; umask = 0o022 }
@@ -61,3 +77,22 @@ listed_three = record {
   tree = with_three;
   handles = (codes "h", Listing (listing with_three (codes "d" ∷ []))) ∷ [];
 }
+
+-- the file `/f`, open under the handle `h` to be read
+abbrev pub open_to_read : List ℕ → State
+open_to_read bytes = record {
+  tree = record (with_text bytes) { pins = (0, 1) ∷ [] };
+  handles = (codes "h", File 0 (kept_flags 1)) ∷ [];
+}
+
+-- a link to `d/e` of user 7 and group 8, with permissions of its own
+abbrev pub owned_link : Attrs
+owned_link = said 3 7 8 0o120700
+
+-- a directory whose files get its group
+abbrev pub set_group : Attrs
+set_group = said 0 0 0 0o042755
+
+-- a text as the only name
+abbrev pub one_text : List ℕ → Answer
+one_text text = Name (item no_attributes text ∷ [])

@@ -5,9 +5,10 @@ use Rattle.sftp_wire.specs.declared.packets.Ask.{Ask}
 use Rattle.sftp_wire.specs.declared.packets.Answer.{Answer}
 use Rattle.sftp_handles.specs.Allowed as strictly
 use Rattle.sftp_profile.specs.State.{State}
-use Rattle.sftp_profile.specs.Readings.{asked}
+use Rattle.sftp_profile.specs.Readings.{asked, followed}
 use Rattle.sftp_profile.specs.Tellings.{told}
-use Rattle.sftp_profile.specs.Permitted.{forgiven, taken, read_as, retold, under, permitted, step}
+use Rattle.sftp_profile.specs.Permitted.{forgiven, taken, taken_for, read_as, retold, is_handle, set_after, with_followed}
+use Rattle.sftp_profile.specs.Permitted.{under, permitted, step}
 use Rattle.sftp_profile.specs.Permitted.{met, by_directory, judged, taken_as, listed_as, with_given, with_note}
 use Rattle.sftp_profile.specs.Through.{directory_of, stands_for}
 use Rattle.sftp_profile.specs.declared.notes.Note.{Note}
@@ -21,17 +22,29 @@ pub record Outcome (found : Option State) (s : State) (ok : Bool) (end : State) 
 abbrev pub IsStrict : State → Ask → Answer → Bool → State → Type 0
 IsStrict s ask answer = Outcome (under s (strictly.step s.session ask answer)) s
 
--- the same of the request that the profile takes this one for
-abbrev pub IsTaken : State → Ask → Answer → Bool → State → Type 0
-IsTaken s ask answer = Outcome (under s (taken s.session (asked s.profile ask) answer)) s
+-- the same of the answer as it would be strictly
+abbrev pub IsRetold : State → Ask → Answer → Bool → State → Type 0
+IsRetold s ask answer = Outcome (under s (retold s.session ask (told s.profile s.session ask answer))) s
 
 -- of one or the other
 abbrev pub IsRead : State → Ask → Answer → Bool → State → Type 0
 IsRead s ask answer = Outcome (under s (read_as s.profile s.session ask answer)) s
 
--- of the answer as it would be strictly
-abbrev pub IsRetold : State → Ask → Answer → Bool → State → Type 0
-IsRetold s ask answer = Outcome (under s (retold s.profile s.session ask (told s.profile ask answer))) s
+-- of the request that the profile takes this one for
+abbrev pub IsTaken : State → Ask → Answer → Bool → State → Type 0
+IsTaken s ask answer = Outcome (under s (taken s.profile s.session (asked s.profile s.session.tree ask) answer)) s
+
+-- the state after a SETSTAT that comes with an OPEN of this answer
+abbrev pub IsSet : State → Ask → Answer → State → Type 0
+IsSet s ask answer end = under s (set_after s.session ask (is_handle answer)) ≡ Some end
+
+-- the state after what comes with a request
+abbrev pub IsFollowed : State → Ask → Answer → State → Type 0
+IsFollowed s ask answer end = under s (with_followed (followed s.profile ask) answer s.session) ≡ Some end
+
+-- of the request that the profile takes this one for with the SETSTAT that comes with it
+abbrev pub IsTakenFor : State → Ask → Answer → Bool → State → Type 0
+IsTakenFor s ask answer = Outcome (under s (taken_for s.profile s.session ask answer)) s
 
 -- of an answer that is forgiven
 abbrev pub IsForgiven : State → Ask → Answer → Bool → State → Type 0

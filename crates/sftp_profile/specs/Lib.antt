@@ -5,6 +5,10 @@ pub mod Paths
 pub mod Limits
 pub mod Extensions
 pub mod Flags
+pub mod Refusals
+pub mod Reads
+pub mod Realpaths
+pub mod Shown
 pub mod Departures
 pub mod Readings
 pub mod Tellings

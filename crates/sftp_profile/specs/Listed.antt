@@ -11,29 +11,23 @@ use Rattle.sftp_wire.specs.declared.packets.Answer.TheVariants as replies
 use Rattle.sftp_path.specs.Place.{Name, Place, name_cmp, is_name, absolute}
 use Rattle.sftp_path.specs.Table.{get}
 use Rattle.sftp_tree.specs.Tree.{Tree}
-use Rattle.sftp_tree.specs.Causes.{is_none}
-use Rattle.sftp_tree.specs.Requests as paths
 use Rattle.sftp_handles.specs.State.{State}
 use Rattle.sftp_handles.specs.Handles.{Left, open_at}
 use Rattle.sftp_handles.specs.Giving.{listing_in}
 use Rattle.sftp_handles.specs.Replies.{same_attributes, has_attributes, are_distinct, names_in}
 use Rattle.sftp_profile.specs.declared.profiles.Profile.{Profile}
 use Rattle.sftp_profile.specs.declared.directories.Directory.{Directory}
+use Rattle.sftp_profile.specs.Shown.{shown_at}
 use Rattle.sftp_profile.specs.Tellings.{mended}
-
--- the attributes that LSTAT shows of a path, if it is not refused
-abbrev pub shown_at : Tree → List ℕ → Option Attrs
-shown_at t path =
-    if is_none (paths.causes t (asks.Lstat path)) then paths.shown_to t (asks.Lstat path) else None
 
 -- the attributes that LSTAT shows now of a name in the directory
 abbrev pub shown_now : Tree → Option Place → Name → Option Attrs
-shown_now t (Some place) name = shown_at t (absolute (place ++ name ∷ []))
+shown_now t (Some place) name = shown_at t (asks.Lstat (absolute (place ++ name ∷ [])))
 shown_now t None name = None
 
 -- attributes are those, but for what the profile leaves free
 abbrev pub are_shown : Profile → Option Attrs → Attrs → Bool
-are_shown profile (Some shown) attrs = same_attributes shown (mended profile attrs)
+are_shown profile (Some shown) attrs = same_attributes shown (mended profile (Some shown) attrs)
 are_shown profile None attrs = false
 
 -- a name was not given since it was last there anew

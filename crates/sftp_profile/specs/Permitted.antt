@@ -1,10 +1,10 @@
 -- Which replies a profile permits, and the state after each.
-use Rattle.std.specs.Prelude.{◌≡◌, ◌==◌, Bool, true, false, if◌then◌else◌, List, length, Option, Some, None}
+use Rattle.std.specs.Prelude.{◌≡◌, ◌==◌, Bool, true, false, if◌then◌else◌, List, [], length, Option, Some, None}
 use Rattle.std.specs.Prelude.{unwrap_or}
 use Rattle.sftp_wire.specs.declared.names.NameItem.{NameItem}
-use Rattle.sftp_wire.specs.declared.packets.Answer.TheVariants as replies
 use Rattle.sftp_wire.specs.declared.packets.Ask.{Ask}
 use Rattle.sftp_wire.specs.declared.packets.Answer.{Answer}
+use Rattle.sftp_wire.specs.declared.packets.Answer.TheVariants as replies
 use Rattle.sftp_wire.specs.declared.packets.Request.{Request}
 use Rattle.sftp_wire.specs.declared.packets.Reply.{Reply}
 use Rattle.sftp_handles.specs.State as sessions
@@ -13,7 +13,7 @@ use Rattle.sftp_profile.specs.declared.profiles.Profile.{Profile}
 use Rattle.sftp_profile.specs.State.{State}
 use Rattle.sftp_profile.specs.Departures.{is_forgiven, is_modelled}
 use Rattle.sftp_profile.specs.Replaced.{put}
-use Rattle.sftp_profile.specs.Readings.{asked}
+use Rattle.sftp_profile.specs.Readings.{asked, followed}
 use Rattle.sftp_profile.specs.Tellings.{told}
 use Rattle.sftp_profile.specs.declared.directories.Directory.{Directory}
 use Rattle.sftp_profile.specs.declared.notes.Note.{Note}
@@ -30,26 +30,49 @@ abbrev pub first_of : Option sessions.State → Option sessions.State → Option
 first_of (Some end) other = Some end
 first_of None other = other
 
--- the session after the answer to the request that this one is taken for, if it is taken for one
-abbrev pub taken : sessions.State → Option Ask → Answer → Option sessions.State
-taken s (Some ask) answer = strictly.step s ask answer
-taken s None answer = None
-
--- the session after this answer to this request, or else to the one that it is taken for
-abbrev pub read_as : Profile → sessions.State → Ask → Answer → Option sessions.State
-read_as profile s ask answer = first_of (strictly.step s ask answer) (taken s (asked profile ask) answer)
+-- OK
+abbrev pub done_status : Answer
+done_status = replies.Status 0 [] []
 
 -- the session after the answer as it would be strictly, if the profile leaves a part of it free
-abbrev pub retold : Profile → sessions.State → Ask → Option Answer → Option sessions.State
-retold profile s ask (Some answer) = read_as profile s ask answer
-retold profile s ask None = None
+abbrev pub retold : sessions.State → Ask → Option Answer → Option sessions.State
+retold s ask (Some answer) = strictly.step s ask answer
+retold s ask None = None
 
--- the session after an answer that the profile forgives: it passes, or it is allowed for the request that this one is
--- taken for, or it is allowed but for what is free
+-- the session after this answer to this request, or else after the answer as it would be strictly
+abbrev pub read_as : Profile → sessions.State → Ask → Answer → Option sessions.State
+read_as profile s ask answer = first_of (strictly.step s ask answer) (retold s ask (told profile s ask answer))
+
+abbrev pub is_handle : Answer → Bool
+is_handle (replies.Handle handle) = true
+is_handle other = false
+
+-- the session after a SETSTAT that comes with an OPEN, if the OPEN gave a handle and nothing refuses it
+abbrev pub set_after : sessions.State → Ask → Bool → Option sessions.State
+set_after s ask true = first_of (strictly.step s ask done_status) (Some s)
+set_after s ask false = Some s
+
+-- the same, if one comes with it
+abbrev pub with_followed : Option Ask → Answer → sessions.State → Option sessions.State
+with_followed (Some ask) answer s = set_after s ask (is_handle answer)
+with_followed None answer s = Some s
+
+-- the session after the answer to the request that this one is taken for, if it is taken for one
+abbrev pub taken : Profile → sessions.State → Option Ask → Answer → Option sessions.State
+taken profile s (Some ask) answer = read_as profile s ask answer
+taken profile s None answer = None
+
+-- the same with the SETSTAT
+abbrev pub taken_for : Profile → sessions.State → Ask → Answer → Option sessions.State
+taken_for profile s ask answer =
+    strictly.and_then (taken profile s (asked profile s.tree ask) answer) (with_followed (followed profile ask) answer)
+
+-- the session after an answer that the profile forgives: it passes, or it is allowed but for what is free, or it is so
+-- for the request that this one is taken for
 unfoldable pub forgiven : Profile → sessions.State → Ask → Answer → Option sessions.State
 forgiven profile s ask answer =
     first_of (forgiven_by s (is_forgiven profile s ask answer))
-    (first_of (taken s (asked profile ask) answer) (retold profile s ask (told profile ask answer)))
+    (first_of (retold s ask (told profile s ask answer)) (taken_for profile s ask answer))
 
 -- the session after an answer that is allowed strictly, or else forgiven
 unfoldable pub permitted : Profile → sessions.State → Ask → Answer → Option sessions.State
@@ -70,7 +93,7 @@ with_given s ask None = None
 -- what the profile leaves free of the answer to a READDIR is as it would be strictly
 abbrev pub listed_as : Profile → sessions.State → Option Directory → Ask → Answer → Option sessions.State
 listed_as profile s found ask answer =
-    with_given s ask (due_items profile s found ask (unwrap_or (told profile ask answer) answer))
+    with_given s ask (due_items profile s found ask (unwrap_or (told profile s ask answer) answer))
 
 -- the session after an answer that the profile forgives since it is that of a directory
 unfoldable pub by_directory : Profile → sessions.State → Option Directory → Ask → Answer → Option sessions.State

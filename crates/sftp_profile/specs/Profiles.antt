@@ -1,5 +1,5 @@
 -- Profiles: which departures from the strict reading are accepted.
-use Rattle.std.specs.Prelude.{◌&&◌, ◌||◌, not, Bool, false}
+use Rattle.std.specs.Prelude.{◌&&◌, ◌||◌, not, Bool, true, false}
 use Rattle.sftp_profile.specs.declared.profiles.Profile.{Profile}
 
 -- no departure
@@ -15,7 +15,34 @@ strict = record {
   open_dir = false;
   listing = false;
   flags = false;
+  hardlink_link = false;
+  read = false;
+  set_id = false;
+  link_attrs = false;
+  realpath = false;
   made = false;
+  owner_given = false;
+  umask = 0;
+  symlink_draft = false;
+}
+
+-- all departures
+abbrev pub posix : Profile
+posix = record {
+  codes = true;
+  slash = true;
+  empty_setstat = true;
+  dots = true;
+  dir_size = true;
+  limits = true;
+  extensions = true;
+  flags = true;
+  hardlink_link = true;
+  read = true;
+  set_id = true;
+  link_attrs = true;
+  realpath = true;
+  made = true;
   owner_given = false;
   umask = 0;
   symlink_draft = false;

@@ -1,15 +1,37 @@
 -- What a profile takes a request for, where it is not allowed as it stands.
-use Rattle.std.specs.Prelude.{◌&&◌, if◌then◌else◌, Option, Some, None}
+use Rattle.std.specs.Prelude.{◌&&◌, ℕ, if◌then◌else◌, List, Option, Some, None}
+use Rattle.std.specs.Option.{option_map}
+use Rattle.sftp_wire.specs.declared.attributes.Attrs.{Attrs}
 use Rattle.sftp_wire.specs.declared.packets.Ask.{Ask}
 use Rattle.sftp_wire.specs.declared.packets.Ask.TheVariants as asks
+use Rattle.sftp_tree.specs.Tree.{Tree}
+use Rattle.sftp_tree.specs.Causes.{is_none}
+use Rattle.sftp_tree.specs.Requests.{causes, target_to}
 use Rattle.sftp_profile.specs.declared.profiles.Profile.{Profile}
 use Rattle.sftp_profile.specs.Paths.{is_loose}
-use Rattle.sftp_profile.specs.Flags.{mended_flags}
+use Rattle.sftp_profile.specs.Flags.{mended_flags, empties}
+
+-- the target of the link at a path; `None` if READLINK of the path is refused
+abbrev pub link_at : Tree → List ℕ → Option (List ℕ)
+link_at t path = if is_none (causes t (asks.Readlink path)) then target_to t (asks.Readlink path) else None
 
 -- an LSTAT of a path that ends loosely is a STAT,
--- and an OPEN has the flags that a file system goes by
-abbrev pub asked : Profile → Ask → Option Ask
-asked profile (asks.Lstat path) = if profile.slash && is_loose path then Some (asks.Stat path) else None
-asked profile (asks.Open path pflags attrs) =
+-- an OPEN has the flags that a file system goes by,
+-- and a hardlink of a link is a SYMLINK with its target
+abbrev pub asked : Profile → Tree → Ask → Option Ask
+asked profile t (asks.Lstat path) = if profile.slash && is_loose path then Some (asks.Stat path) else None
+asked profile t (asks.Open path pflags attrs) =
     if profile.flags then Some (asks.Open path (mended_flags pflags) attrs) else None
-asked profile other = None
+asked profile t (asks.Hardlink oldpath newpath) =
+    if profile.hardlink_link then option_map (λ target. asks.Symlink target newpath) (link_at t oldpath) else None
+asked profile t other = None
+
+-- attributes of a file without bytes
+abbrev pub emptied : Attrs
+emptied = record { size = Some 0; owner = None; permissions = None; times = None; extended = None }
+
+-- the SETSTAT that comes with an OPEN which empties a file, and does neither make it nor write it
+abbrev pub followed : Profile → Ask → Option Ask
+followed profile (asks.Open path pflags attrs) =
+    if profile.flags && empties pflags then Some (asks.Setstat path emptied) else None
+followed profile other = None

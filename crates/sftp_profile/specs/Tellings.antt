@@ -1,6 +1,7 @@
 -- Answers as they would be strictly, where the profile leaves a part of them free.
 use Rattle.std.specs.Prelude.{◌==◌, ◌&&◌, ◌||◌, ◌/◌, ◌^◌, ℕ, Bool, true, false, if◌then◌else◌, List, [], ◌∷◌}
 use Rattle.std.specs.Prelude.{Option, Some, None}
+use Rattle.std.specs.Int.RustNames.{bit_and, bit_or}
 use Rattle.std.specs.List.{flat_map}
 use Rattle.sftp_wire.specs.declared.attributes.Attrs.{Attrs}
 use Rattle.sftp_wire.specs.declared.names.NameItem.{NameItem}
@@ -9,19 +10,49 @@ use Rattle.sftp_wire.specs.declared.packets.Ask.TheVariants as asks
 use Rattle.sftp_wire.specs.declared.packets.Answer.{Answer}
 use Rattle.sftp_wire.specs.declared.packets.Answer.TheVariants as replies
 use Rattle.sftp_path.specs.Place.{is_dot, is_dot_dot}
+use Rattle.sftp_handles.specs.Handles.{Left}
+use Rattle.sftp_handles.specs.State.{State}
 use Rattle.sftp_profile.specs.declared.profiles.Profile.{Profile}
+use Rattle.sftp_profile.specs.Shown.{shown_in, left_of, shown_left}
 
 -- ---- attributes
 
--- permissions with the type of a directory
-abbrev pub is_directory : Option ℕ → Bool
-is_directory (Some permissions) = permissions / 2 ^ 12 == 4
-is_directory None = false
+-- permissions with this type
+abbrev pub is_type : ℕ → Option ℕ → Bool
+is_type type (Some permissions) = permissions / 2 ^ 12 == type
+is_type type None = false
 
--- the attributes, of a directory with the size 0 if the profile leaves it free
-abbrev pub mended : Profile → Attrs → Attrs
-mended profile attrs =
+abbrev pub is_directory : Option ℕ → Bool
+is_directory permissions = is_type 4 permissions
+
+abbrev pub is_link : Option ℕ → Bool
+is_link permissions = is_type 10 permissions
+
+-- the size 0 of a directory, if the profile leaves it free
+abbrev pub with_size : Profile → Attrs → Attrs
+with_size profile attrs =
     if profile.dir_size && is_directory attrs.permissions then record attrs { size = Some 0 } else attrs
+
+-- permissions with the bits 0o6000 of those shown
+abbrev pub with_bits : Option ℕ → Option ℕ → Option ℕ
+with_bits (Some shown) (Some given) = Some (bit_or (bit_and given 0xfffff3ff) (bit_and shown 0o6000))
+with_bits shown given = given
+
+-- the bits 0o6000 that are shown, if the profile leaves them free
+abbrev pub with_id : Profile → Attrs → Attrs → Attrs
+with_id profile shown attrs =
+    if profile.set_id then record attrs { permissions = with_bits shown.permissions attrs.permissions } else attrs
+
+-- the owner and the permissions that are shown of a link, if the profile leaves them free
+abbrev pub with_link : Profile → Attrs → Attrs → Attrs
+with_link profile shown attrs =
+    if profile.link_attrs && (is_link shown.permissions && is_link attrs.permissions)
+    then record attrs { owner = shown.owner; permissions = shown.permissions } else attrs
+
+-- the attributes, with what is shown where the profile leaves a field free
+abbrev pub mended : Profile → Option Attrs → Attrs → Attrs
+mended profile (Some shown) attrs = with_link profile shown (with_id profile shown (with_size profile attrs))
+mended profile None attrs = with_size profile attrs
 
 -- ---- names
 
@@ -30,13 +61,17 @@ abbrev pub is_dots : List ℕ → Bool
 is_dots name = is_dot name || is_dot_dot name
 
 -- the name without its long name, with mended attributes; nothing, if the profile passes over it
-abbrev pub mended_item : Profile → NameItem → List NameItem
-mended_item profile item =
+abbrev pub mended_item : Profile → Option Left → NameItem → List NameItem
+mended_item profile left item =
     if profile.dots && is_dots item.filename then []
-    else record { filename = item.filename; longname = []; attrs = mended profile item.attrs } ∷ []
+    else record {
+      filename = item.filename;
+      longname = [];
+      attrs = mended profile (shown_left left item.filename) item.attrs;
+    } ∷ []
 
-abbrev pub mended_items : Profile → List NameItem → List NameItem
-mended_items profile items = flat_map (mended_item profile) items
+abbrev pub mended_items : Profile → Option Left → List NameItem → List NameItem
+mended_items profile left items = flat_map (mended_item profile left) items
 
 -- ---- answers
 
@@ -44,13 +79,18 @@ abbrev pub is_readdir : Ask → Bool
 is_readdir (asks.Readdir handle) = true
 is_readdir other = false
 
-abbrev pub told_attributes : Profile → Attrs → Option Answer
-told_attributes profile attrs = if profile.dir_size then Some (replies.Attrs (mended profile attrs)) else None
+-- a field of attributes is free
+abbrev pub frees_attributes : Profile → Bool
+frees_attributes profile = profile.dir_size || (profile.set_id || profile.link_attrs)
+
+abbrev pub told_attributes : Profile → Option Attrs → Attrs → Option Answer
+told_attributes profile shown attrs =
+    if frees_attributes profile then Some (replies.Attrs (mended profile shown attrs)) else None
 
 -- the answer as it would be strictly; `None` if the profile leaves nothing of it free
-abbrev pub told : Profile → Ask → Answer → Option Answer
-told profile ask (replies.Attrs attrs) = told_attributes profile attrs
-told profile ask (replies.Name items) =
-    if is_readdir ask && (profile.dots || profile.dir_size) then Some (replies.Name (mended_items profile items))
-    else None
-told profile ask other = None
+abbrev pub told : Profile → State → Ask → Answer → Option Answer
+told profile s ask (replies.Attrs attrs) = told_attributes profile (shown_in s ask) attrs
+told profile s ask (replies.Name items) =
+    if is_readdir ask && (profile.dots || frees_attributes profile)
+    then Some (replies.Name (mended_items profile (left_of s ask) items)) else None
+told profile s ask other = None

@@ -1,11 +1,12 @@
 //! Worked examples: what profiles permit, computed by the checker on the definitions that the contracts name. The
 //! functions do nothing; each promise is in the contract.
-#![tactic(auto, unfolding(crate::specs::Permitted::permitted, crate::specs::Permitted::forgiven, crate::specs::Departures::is_forgiven, sftp_handles::specs::Allowed::step, sftp_handles::specs::Requests::causes, sftp_handles::specs::Requests::answers, sftp_handles::specs::Requests::after, sftp_handles::specs::Requests::told_to, sftp_handles::specs::Seen::seen, sftp_handles::specs::Handles::pins_of, sftp_tree::specs::Requests::led, sftp_tree::specs::Causes::no_causes, sftp_tree::specs::Causes::when, sftp_tree::specs::Causes::joined, sftp_tree::specs::Requests::plain_causes, sftp_tree::specs::Requests::causes, sftp_tree::specs::Requests::outcome, sftp_tree::specs::Listings::children, sftp_tree::specs::Listings::listing, sftp_tree::specs::Walk::meets, sftp_tree::specs::Walk::walk_parts, sftp_tree::specs::Walk::walk, sftp_tree::specs::Walk::reached, sftp_tree::specs::Tree::has_entries, sftp_tree::specs::Tree::fits, sftp_path::specs::Place::components, sftp_path::specs::Place::parts, sftp_path::specs::Place::is_good_path, sftp_path::specs::Table::get, sftp_path::specs::Table::put, sftp_path::specs::Table::without, sftp_path::specs::Table::retain, sftp_path::specs::Table::from_entries))]
+#![tactic(auto, unfolding(crate::specs::Permitted::permitted, crate::specs::Permitted::forgiven, crate::specs::Departures::is_forgiven, sftp_handles::specs::Allowed::step, sftp_handles::specs::Requests::causes, sftp_handles::specs::Requests::answers, sftp_handles::specs::Requests::after, sftp_handles::specs::Requests::told_to, sftp_handles::specs::Seen::seen, sftp_handles::specs::Handles::pins_of, sftp_tree::specs::Requests::led, sftp_tree::specs::Causes::no_causes, sftp_tree::specs::Causes::when, sftp_tree::specs::Causes::joined, sftp_tree::specs::Requests::plain_causes, sftp_tree::specs::Requests::causes, sftp_tree::specs::Requests::outcome, sftp_tree::specs::Requests::target_to, sftp_tree::specs::Requests::text_to, sftp_tree::specs::Requests::shown_to, sftp_tree::specs::Listings::children, sftp_tree::specs::Listings::listing, sftp_tree::specs::Walk::meets, sftp_tree::specs::Walk::walk_parts, sftp_tree::specs::Walk::walk, sftp_tree::specs::Walk::reached, sftp_tree::specs::Tree::has_entries, sftp_tree::specs::Tree::fits, sftp_path::specs::Place::components, sftp_path::specs::Place::parts, sftp_path::specs::Place::is_good_path, sftp_path::specs::Table::get, sftp_path::specs::Table::put, sftp_path::specs::Table::without, sftp_path::specs::Table::retain, sftp_path::specs::Table::from_entries))]
 
 ghost use Rattle.std.specs.Prelude.{◌≡◌, ◌∷◌, [], Some, None, true, false, codes};
 ghost use Rattle.sftp_wire.specs.declared.packets.Ask.TheVariants.{Readdir, Remove, Lstat, Stat, Setstat};
 ghost use Rattle.sftp_wire.specs.declared.packets.Ask.TheVariants.{Open, Mkdir, Symlink, Unknown};
-ghost use Rattle.sftp_wire.specs.declared.packets.Answer.TheVariants.{Attrs, Handle, Name};
+ghost use Rattle.sftp_wire.specs.declared.packets.Ask.TheVariants.{Hardlink, Read, Realpath};
+ghost use Rattle.sftp_wire.specs.declared.packets.Answer.TheVariants.{Attrs, Data, Handle, Name};
 ghost use Rattle.sftp_wire.specs.Examples.{no_attributes};
 ghost use Rattle.sftp_tree.specs.Picture.{blank};
 ghost use Rattle.sftp_tree.specs.WalkExamples.{with_link, letters};
@@ -18,6 +19,11 @@ ghost use Rattle.sftp_profile.specs.Examples.{any_code, loose_paths, empty_setst
 ghost use Rattle.sftp_profile.specs.Examples.{beyond, any_flags, owned_by_user, permitted_directory, given_file};
 ghost use Rattle.sftp_profile.specs.Examples.{permitted_file};
 ghost use Rattle.sftp_profile.specs.Examples.{large_directory, large_directories, listed_three};
+ghost use Rattle.sftp_profile.specs.Examples.{linked_links, wide_reads, free_bits, free_links, texts_of_paths};
+ghost use Rattle.sftp_profile.specs.Examples.{open_to_read, owned_link, set_group, one_text};
+ghost use Rattle.sftp_profile.specs.Flags.{empties};
+ghost use Rattle.sftp_profile.specs.Reads.{is_count};
+ghost use Rattle.sftp_treefile.specs.Limits.{usual_limits};
 
 /// A file that is not there has the code 2 alone, strictly; with any code it may have 4 too, but never 0.
 pub fn other_codes()
@@ -55,7 +61,7 @@ pub fn sizes_of_directories()
         (large_directories (codes "." ∷ codes "x" ∷ [])) ≡ None }
 {}
 
-/// A path of 1,024 bytes may be refused with the code 4, and one of 1,023 may not.
+/// A path of 1,024 bytes may be refused with the code 4, and one of a byte may not.
 pub fn long_paths()
     ensures long { permitted beyond (closed blank) (Mkdir (letters 1024) no_attributes) (code 4) ≡ Some (closed blank) }
     ensures short { permitted beyond (closed blank) (Lstat (codes "/")) (code 4) ≡ None }
@@ -81,6 +87,63 @@ pub fn loose_flags()
         (Handle (codes "h")) }
     ensures bad { permitted any_flags (closed blank) (Open (codes "/f") 0x12 no_attributes)
         (Handle (codes "h")) ≡ None }
+{}
+
+/// TRUNC empties a file that is not made, whether it is opened to be written or to be read.
+pub fn emptied_files()
+    ensures written { permitted any_flags (closed (with_text (codes "abc"))) (Open (codes "/f") 0x12 no_attributes)
+        (Handle (codes "h")) ≡ permitted strict (closed (with_text [])) (Open (codes "/f") 2 no_attributes)
+        (Handle (codes "h")) }
+    ensures read { permitted any_flags (closed (with_text (codes "abc"))) (Open (codes "/f") 0x11 no_attributes)
+        (Handle (codes "h")) ≡ Some (open_to_read []) }
+    ensures made { empties 0x1a ≡ false }
+{}
+
+/// A hardlink of the link `/l` is a link with the same target, and one of the directory `/d` is not made.
+pub fn hardlinks_of_links()
+    ensures link { permitted linked_links (closed with_link) (Hardlink (codes "/l") (codes "/m")) (code 0)
+        ≡ permitted strict (closed with_link) (Symlink (codes "d/e") (codes "/m")) (code 0) }
+    ensures directory { permitted linked_links (closed with_link) (Hardlink (codes "/d") (codes "/m")) (code 0) ≡ None }
+    ensures strict { permitted strict (closed with_link) (Hardlink (codes "/l") (codes "/m")) (code 0) ≡ None }
+{}
+
+/// With a limit of two bytes, a READ of four bytes from the second of five on may give two, three or four.
+pub fn counts_of_bytes()
+    ensures one { is_count (record usual_limits { read_bytes = 2 }) 5 1 4 1 ≡ false }
+    ensures two { is_count (record usual_limits { read_bytes = 2 }) 5 1 4 2 ≡ true }
+    ensures four { is_count (record usual_limits { read_bytes = 2 }) 5 1 4 4 ≡ true }
+    ensures five { is_count (record usual_limits { read_bytes = 2 }) 5 1 5 5 ≡ false }
+{}
+
+/// A READ of no bytes may give none, or say that the end was reached, and one of a byte may not say so before the end.
+pub fn reads_of_nothing()
+    ensures none { permitted wide_reads (open_to_read (codes "abc")) (Read (codes "h") 3 0) (Data [])
+        ≡ Some (open_to_read (codes "abc")) }
+    ensures end { permitted wide_reads (open_to_read (codes "abc")) (Read (codes "h") 0 0) (code 1)
+        ≡ Some (open_to_read (codes "abc")) }
+    ensures byte { permitted wide_reads (open_to_read (codes "abc")) (Read (codes "h") 0 1) (code 1) ≡ None }
+{}
+
+/// The bits 0o6000 of a directory may be others, and so may the owner and the permissions of a link; its size may not.
+pub fn free_attributes()
+    ensures bits { permitted free_bits (closed with_link) (Stat (codes "/d")) (Attrs set_group)
+        ≡ Some (closed with_link) }
+    ensures link { permitted free_links (closed with_link) (Lstat (codes "/l")) (Attrs owned_link)
+        ≡ Some (closed with_link) }
+    ensures sized { permitted free_links (closed with_link) (Lstat (codes "/l"))
+        (Attrs (record owned_link { size = Some 4 })) ≡ None }
+    ensures directory { permitted free_links (closed with_link) (Lstat (codes "/d")) (Attrs owned_link) ≡ None }
+{}
+
+/// REALPATH of the link `/l` to `/d/e` may give its own text, and not that of another place.
+pub fn texts_made_absolute()
+    ensures link { permitted texts_of_paths (closed with_link) (Realpath (codes "x/../l/.")) (one_text (codes "/l"))
+        ≡ Some (closed with_link) }
+    ensures other { permitted texts_of_paths (closed with_link) (Realpath (codes "/l")) (one_text (codes "/d")) ≡ None }
+    ensures lost { permitted texts_of_paths (closed with_link) (Realpath (codes "/x/y")) (one_text (codes "/x/y"))
+        ≡ Some (closed with_link) }
+    ensures absent { permitted texts_of_paths (closed with_link) (Realpath (codes "/x")) (code 2)
+        ≡ Some (closed with_link) }
 {}
 
 /// What is made has the tree's owner and the permissions that the mask leaves, and SYMLINK's paths change places.

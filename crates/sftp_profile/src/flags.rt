@@ -17,8 +17,15 @@ pub(crate) fn mended_flags(flags: u32) -> u32
         + flag_if(writes, 2)
         + flag_if(writes && appends, 4)
         + flag_if(creates, 8)
-        + flag_if(truncates, 16)
+        + flag_if(truncates && (creates && writes), 16)
         + flag_if(creates && excludes, 32)
+}
+
+/// Whether a file is emptied that is not both made and written.
+pub(crate) fn empties(flags: u32) -> bool
+    ensures { result ≡ spec.empties flags }
+{
+    has(flags, 16) && !(has(flags, 8) && has(flags, 2))
 }
 
 /// Whether a flag is set.

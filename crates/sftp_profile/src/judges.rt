@@ -1,15 +1,18 @@
 //! A session under a profile: which replies of another server are accepted.
-ghost use Rattle.std.specs.Prelude.{◌≡◌, [], false, IsTrue, IfOk, OnErr};
+ghost use Rattle.std.specs.Prelude.{◌≡◌, [], false, IsTrue, IfOk, OnOk, OnErr};
 ghost use Rattle.sftp_tree.specs.Tree.{trim};
 ghost use Rattle.sftp_profile.specs.State.{State, begun};
 ghost use Rattle.sftp_profile.specs.Departures.{is_forgiven, passes_in, passes_codes, passes_dots};
 ghost use Rattle.sftp_profile.specs.Permitted.{Permitted, follows_in};
-ghost use Rattle.sftp_profile.specs.Judged.{IsStrict, IsTaken, IsRead, IsRetold, IsForgiven, IsPermitted, IsStep};
+ghost use Rattle.sftp_profile.specs.Judged.{IsStrict, IsRetold, IsRead, IsTaken, IsSet, IsFollowed, IsTakenFor};
+ghost use Rattle.sftp_profile.specs.Judged.{IsForgiven, IsPermitted, IsStep};
 
-use crate::departures::{asked, is_modelled, passes_alone};
+use crate::departures::{is_modelled, passes_alone};
 use crate::directories::Directory;
+use crate::passing::passes_looking;
 use crate::profiles::Profile;
-use crate::refusals::{are_dots, is_refusal};
+use crate::readings::{asked, followed};
+use crate::refusals::{are_dots, done, is_handle, is_refusal};
 use crate::replaced::replaced;
 use crate::tellings::{is_readdir, told};
 use sftp_handles::{GivenTable, Session};
@@ -80,8 +83,8 @@ impl Judge {
     ///
     /// # Errors
     ///
-    /// `NoMemory` if memory runs out. If the profile has a use for the directories that are open, the session may then
-    /// have changed.
+    /// `NoMemory` if memory runs out. If the profile has `flags`, or a use for the directories that are open, the session
+    /// may then have changed.
     pub fn accept(&mut self, request: &Request, reply: &Reply) -> Result<bool, NoMemory>
         ensures allowed { IfOk result (λ ok. IsTrue ok → Permitted self.old request.now reply.now self.new) }
         ensures refused { IfOk result
@@ -129,11 +132,11 @@ impl Judge {
     ///
     /// # Errors
     ///
-    /// `NoMemory` if memory runs out; the session is then as before.
+    /// `NoMemory` if memory runs out; the session is then as before, unless the profile has `flags`.
     pub(crate) fn permit(&mut self, request: &Request, reply: &Reply) -> Result<bool, NoMemory>
         requires { reply.now.id ≡ request.now.id }
         ensures ok { IfOk result (λ ok. IsPermitted self.old request.now.ask reply.now.answer ok self.new) }
-        ensures err { OnErr result (self.new ≡ self.old) }
+        ensures err { OnErr result (self.old.profile.flags ≡ false → self.new ≡ self.old) }
     {
         if self.judge_strictly(request, reply)? {
             return Ok(true);
@@ -162,22 +165,77 @@ impl Judge {
     ///
     /// # Errors
     ///
-    /// `NoMemory` if memory runs out; the session is then as before.
+    /// `NoMemory` if memory runs out; the session is then as before, unless the profile has `flags`.
     fn forgive(&mut self, request: &Request, reply: &Reply) -> Result<bool, NoMemory>
         requires { reply.now.id ≡ request.now.id }
         ensures ok { IfOk result (λ ok. IsForgiven self.old request.now.ask reply.now.answer ok self.new) }
-        ensures err { OnErr result (self.new ≡ self.old) }
+        ensures err { OnErr result (self.old.profile.flags ≡ false → self.new ≡ self.old) }
     {
         if self.forgives(&request.ask, &reply.answer)? {
             return Ok(true);
         }
-        if self.take_otherwise(&request.ask, reply)? {
+        if self.retell(request, reply)? {
             return Ok(true);
         }
-        self.retell(request, reply)
+        self.take_for(&request.ask, reply)
     }
 
-    /// Whether the reply is allowed for the request that the profile takes this one for.
+    /// Whether the reply is allowed for the request that the profile takes this one for. If so, and the request is an
+    /// OPEN that empties a file, the file is emptied.
+    ///
+    /// # Errors
+    ///
+    /// `NoMemory` if memory runs out; the session is then as before, unless the profile has `flags`.
+    fn take_for(&mut self, ask: &Ask, reply: &Reply) -> Result<bool, NoMemory>
+        ensures ok { IfOk result (λ ok. IsTakenFor self.old ask.now reply.now.answer ok self.new) }
+        ensures err { OnErr result (self.old.profile.flags ≡ false → self.new ≡ self.old) }
+    {
+        if self.take_otherwise(ask, reply)? {
+            self.follow(ask, &reply.answer)?;
+            return Ok(true);
+        }
+        Ok(false)
+    }
+
+    /// Does the SETSTAT that comes with an OPEN, if one does, the OPEN gave a handle, and nothing refuses it.
+    ///
+    /// # Errors
+    ///
+    /// `NoMemory` if memory runs out, which takes a profile with `flags`.
+    fn follow(&mut self, ask: &Ask, answer: &Answer) -> Result<(), NoMemory>
+        ensures ok { OnOk result (IsFollowed self.old ask.now answer.now self.new) }
+        ensures flags { OnErr result (IsTrue self.old.profile.flags) }
+    {
+        let Some(set) = followed(self.profile, ask)? else {
+            return Ok(());
+        };
+        self.set(set, answer)
+    }
+
+    /// Does a SETSTAT, if the answer gives a handle and nothing refuses it.
+    ///
+    /// # Errors
+    ///
+    /// `NoMemory` if memory runs out.
+    fn set(&mut self, ask: Ask, answer: &Answer) -> Result<(), NoMemory>
+        ensures { OnOk result (IsSet self.old ask answer.now self.new) }
+    {
+        if !is_handle(answer) {
+            return Ok(());
+        }
+        let request = Request { id: 0, ask };
+        let reply = Reply {
+            id: 0,
+            answer: done(self.alloc),
+        };
+        let accepted = self.judge_strictly(&request, &reply);
+        drop(request);
+        drop(reply);
+        accepted?;
+        Ok(())
+    }
+
+    /// Whether the reply is allowed for the request that the profile takes this one for, but for what is free.
     ///
     /// # Errors
     ///
@@ -186,38 +244,16 @@ impl Judge {
         ensures ok { IfOk result (λ ok. IsTaken self.old ask.now reply.now.answer ok self.new) }
         ensures err { OnErr result (self.new ≡ self.old) }
     {
-        let Some(ask) = asked(self.profile, ask)? else {
+        let Some(ask) = asked(self.profile, self.session.tree(), ask)? else {
             return Ok(false);
         };
         let request = Request { id: reply.id, ask };
-        let accepted = self.judge_strictly(&request, reply);
+        let accepted = self.read(&request, reply);
         drop(request);
         accepted
     }
 
-    /// Whether the answer, as it would be strictly, is allowed for the request or the one that the profile takes it
-    /// for.
-    ///
-    /// # Errors
-    ///
-    /// `NoMemory` if memory runs out; the session is then as before.
-    fn retell(&mut self, request: &Request, reply: &Reply) -> Result<bool, NoMemory>
-        ensures ok { IfOk result (λ ok. IsRetold self.old request.now.ask reply.now.answer ok self.new) }
-        ensures err { OnErr result (self.new ≡ self.old) }
-    {
-        let Some(answer) = told(self.alloc, self.profile, &request.ask, &reply.answer)? else {
-            return Ok(false);
-        };
-        let mended = Reply {
-            id: request.id,
-            answer,
-        };
-        let accepted = self.read(request, &mended);
-        drop(mended);
-        accepted
-    }
-
-    /// Whether the answer is allowed for the request or the one that the profile takes it for.
+    /// Whether the answer is allowed for the request, or is but for what is free.
     ///
     /// # Errors
     ///
@@ -230,7 +266,28 @@ impl Judge {
         if self.judge_strictly(request, reply)? {
             return Ok(true);
         }
-        self.take_otherwise(&request.ask, reply)
+        self.retell(request, reply)
+    }
+
+    /// Whether the answer, as it would be strictly, is allowed for the request.
+    ///
+    /// # Errors
+    ///
+    /// `NoMemory` if memory runs out; the session is then as before.
+    fn retell(&mut self, request: &Request, reply: &Reply) -> Result<bool, NoMemory>
+        ensures ok { IfOk result (λ ok. IsRetold self.old request.now.ask reply.now.answer ok self.new) }
+        ensures err { OnErr result (self.new ≡ self.old) }
+    {
+        let Some(answer) = told(&self.session, self.profile, &request.ask, &reply.answer)? else {
+            return Ok(false);
+        };
+        let mended = Reply {
+            id: request.id,
+            answer,
+        };
+        let accepted = self.judge_strictly(request, &mended);
+        drop(mended);
+        accepted
     }
 
     /// Whether the profile lets an answer pass after which the session is as before.
@@ -260,10 +317,10 @@ impl Judge {
         if self.profile.codes && self.passes_codes(ask, answer)? {
             return Ok(true);
         }
-        if !self.profile.dots {
-            return Ok(false);
+        if self.profile.dots && self.passes_dots(ask, answer)? {
+            return Ok(true);
         }
-        self.passes_dots(ask, answer)
+        passes_looking(&self.session, self.profile, ask, answer)
     }
 
     /// Whether READDIR is not refused, and gives `.` and `..` alone.

@@ -14,10 +14,15 @@ mod listed;
 mod meeting;
 mod names;
 mod notes;
+mod passing;
 mod paths;
 mod profiles;
+mod readings;
+mod reads;
+mod realpaths;
 mod refusals;
 mod replaced;
+mod shown;
 mod tellings;
 mod through;
 

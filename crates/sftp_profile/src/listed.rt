@@ -4,6 +4,8 @@ ghost use Rattle.std.specs.List.{list_all};
 ghost use Rattle.std.specs.Option.{option_map};
 ghost use Rattle.sftp_path.specs.Place.{absolute as text_of, same_bytes};
 ghost use Rattle.sftp_handles.specs.Replies.{are_distinct, has_attributes, is_among, names_in};
+ghost use Rattle.sftp_wire.specs.declared.packets.Ask.TheVariants.{Lstat};
+ghost use Rattle.sftp_profile.specs.Shown.{shown_at};
 ghost use Rattle.sftp_profile.specs.Listed as spec;
 
 use crate::directories::Directory;
@@ -235,11 +237,11 @@ fn text_below(alloc: Global, place: &Place, name: &Name) -> Result<Vec<u8>, NoMe
 ///
 /// `NoMemory` if memory runs out.
 fn is_shown_at(profile: Profile, tree: &Tree, path: &[u8], attrs: &Attrs) -> Result<bool, NoMemory>
-    ensures { IfOk result (λ is. is ≡ spec.are_shown profile (spec.shown_at tree.now path.now) attrs.now) }
+    ensures { IfOk result (λ is. is ≡ spec.are_shown profile (shown_at tree.now (Lstat path.now)) attrs.now) }
 {
     match tree.stat(path, false) {
         Ok(shown) => {
-            let told = mended(profile, attrs)?;
+            let told = mended(profile, Some(&shown), attrs)?;
             Ok(same_attributes(&shown, &told))
         }
         Err(Refused::Cause(_)) => Ok(false),

@@ -249,9 +249,9 @@ impl Judge {
     fn due(&self, ask: &Ask, answer: &Answer) -> Result<Option<Vec<NameItem>>, NoMemory>
         ensures { IfOk result (λ due. option_map (λ v. v.items) due ≡ due_items self.now.profile self.now.session
             (through.directory_of self.now.directories ask.now) ask.now
-            (unwrap_or (told self.now.profile ask.now answer.now) answer.now)) }
+            (unwrap_or (told self.now.profile self.now.session ask.now answer.now) answer.now)) }
     {
-        match told(self.alloc, self.profile, ask, answer)? {
+        match told(&self.session, self.profile, ask, answer)? {
             Some(answer) => {
                 let due = self.due_as(ask, &answer);
                 drop(answer);

@@ -24,8 +24,20 @@ pub struct Profile {
     /// `extensions.rt` may be answered with any content.
     pub extensions: bool,
     /// OPEN is judged without unknown flags, without those that say nothing beside the others, and with that to read if
-    /// it asks neither to read nor to write.
+    /// it asks neither to read nor to write. TRUNC empties a file also without CREAT or WRITE.
     pub flags: bool,
+    /// A hardlink of a link may be made: a link with the same target.
+    pub hardlink_link: bool,
+    /// READ may give more bytes than the limit of the tree, up to as many as are asked for. A READ of no bytes may give
+    /// none, or say that the end was reached.
+    pub read: bool,
+    /// The bits 0o6000 of permissions are free.
+    pub set_id: bool,
+    /// The owner of a link and its permissions are free.
+    pub link_attrs: bool,
+    /// REALPATH may give the path's text made absolute without a look at the tree; any text where a cause refuses it;
+    /// and it may be refused with the code 2 where nothing is at the place.
+    pub realpath: bool,
     /// OPEN to read may open a directory. FSTAT, FSETSTAT and fsync go through the handle of any directory.
     pub open_dir: bool,
     /// Names that come or go while a directory is listed may be given or not. The listing of a directory that was
@@ -56,6 +68,11 @@ impl Profile {
             limits: false,
             extensions: false,
             flags: false,
+            hardlink_link: false,
+            read: false,
+            set_id: false,
+            link_attrs: false,
+            realpath: false,
             open_dir: false,
             listing: false,
             made: false,

@@ -1,16 +1,19 @@
 //! Statuses that say that a request was refused (draft, section 7).
-ghost use Rattle.std.specs.Prelude.{◌≡◌, ◌&&◌, nat_lt, length};
+ghost use Rattle.std.specs.Prelude.{◌≡◌, ◌&&◌, ◌||◌, nat_lt, length};
 ghost use Rattle.std.specs.List.{list_all};
 ghost use Rattle.sftp_profile.specs.Tellings.{is_dots};
 ghost use Rattle.sftp_handles.specs.Replies.{has_code};
 ghost use Rattle.sftp_profile.specs.Departures as spec;
+ghost use Rattle.sftp_profile.specs.Refusals as words;
+ghost use Rattle.sftp_profile.specs.Permitted.{is_handle, done_status};
 
 use crate::tellings::is_dots;
-use sftp_wire::{Answer, NameItem};
+use sftp_wire::{Answer, ByteString, NameItem};
+use std::alloc::Global;
 
 /// Whether the answer is a status with a code that refuses: 2, 3, 4, 5 or 8.
 pub(crate) fn is_refusal(answer: &Answer) -> bool
-    ensures { result ≡ spec.is_refusal answer.now }
+    ensures { result ≡ words.is_refusal answer.now }
 {
     match answer {
         Answer::Status { code, .. } => is_refusal_code(*code),
@@ -52,9 +55,37 @@ pub(crate) fn has_code(answer: &Answer, wanted: u32) -> bool
     }
 }
 
+/// Whether the answer is a status with this code, or refuses with any if codes are free.
+pub(crate) fn has_code_or(answer: &Answer, wanted: u32, frees: bool) -> bool
+    ensures { result ≡ (has_code wanted answer.now || frees && words.is_refusal answer.now) }
+{
+    has_code(answer, wanted) || (frees && is_refusal(answer))
+}
+
+/// Whether the answer gives a handle.
+pub(crate) fn is_handle(answer: &Answer) -> bool
+    ensures { result ≡ is_handle answer.now }
+{
+    match answer {
+        Answer::Handle(_) => true,
+        _ => false,
+    }
+}
+
+/// OK, without texts.
+pub(crate) fn done(alloc: Global) -> Answer
+    ensures { result ≡ done_status }
+{
+    Answer::Status {
+        code: 0,
+        message: ByteString::new(Vec::new(alloc)),
+        language: ByteString::new(Vec::new(alloc)),
+    }
+}
+
 /// Whether the code refuses.
 fn is_refusal_code(code: u32) -> bool
-    ensures { result ≡ spec.is_refusal_code code }
+    ensures { result ≡ words.is_refusal_code code }
 {
     code == 2 || code == 3 || code == 4 || code == 5 || code == 8
 }

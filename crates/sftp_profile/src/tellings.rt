@@ -1,13 +1,21 @@
 //! Answers as they would be strictly, where a profile leaves a part of them free (draft, sections 5 and 7).
-ghost use Rattle.std.specs.Prelude.{◌≡◌, ◌++◌, IfOk, OnOk};
+ghost use Rattle.std.specs.Prelude.{◌≡◌, ◌++◌, IfOk, OnOk, option_copied};
 ghost use Rattle.sftp_wire.specs.declared.packets.Answer.TheVariants as replies;
 ghost use Rattle.sftp_profile.specs.Tellings as spec;
 
 use crate::profiles::Profile;
+use crate::shown::{left_of, shown_in, shown_left};
+use sftp_handles::{GivenTable, Listing, Session};
 use sftp_path::{is_dot, is_dot_dot};
 use sftp_tree::NoMemory;
 use sftp_wire::{Answer, Ask, Attrs, ByteString, NameItem, Names};
 use std::alloc::Global;
+
+/// The bits that give a program its file's user or group.
+const ID_BITS: u32 = 0o6000;
+
+/// The other bits.
+const OTHER_BITS: u32 = 0xffff_f3ff;
 
 /// The answer as it would be strictly; `None` if the profile leaves nothing of it free.
 ///
@@ -15,16 +23,16 @@ use std::alloc::Global;
 ///
 /// `NoMemory` if memory runs out.
 pub(crate) fn told(
-    alloc: Global,
+    session: &Session<GivenTable>,
     profile: Profile,
     ask: &Ask,
     answer: &Answer,
 ) -> Result<Option<Answer>, NoMemory>
-    ensures { IfOk result (λ other. other ≡ spec.told profile ask.now answer.now) }
+    ensures { IfOk result (λ other. other ≡ spec.told profile session.now ask.now answer.now) }
 {
     match answer {
-        Answer::Attrs(attrs) => told_attributes(profile, attrs),
-        Answer::Name(names) => told_names(alloc, profile, ask, names),
+        Answer::Attrs(attrs) => told_attributes(session, profile, ask, attrs),
+        Answer::Name(names) => told_names(session, profile, ask, names),
         _ => Ok(None),
     }
 }
@@ -34,13 +42,22 @@ pub(crate) fn told(
 /// # Errors
 ///
 /// `NoMemory` if memory runs out.
-fn told_attributes(profile: Profile, attrs: &Attrs) -> Result<Option<Answer>, NoMemory>
-    ensures { IfOk result (λ other. other ≡ spec.told_attributes profile attrs.now) }
+fn told_attributes(
+    session: &Session<GivenTable>,
+    profile: Profile,
+    ask: &Ask,
+    attrs: &Attrs,
+) -> Result<Option<Answer>, NoMemory>
+    ensures { IfOk result
+        (λ other. other ≡ spec.told profile session.now ask.now (replies.Attrs attrs.now)) }
 {
-    if !profile.dir_size {
+    if !frees_attributes(profile) {
         return Ok(None);
     }
-    Ok(Some(Answer::Attrs(mended(profile, attrs)?)))
+    let shown = shown_in(session, ask)?;
+    let mended = mended(profile, shown.as_ref(), attrs);
+    drop(shown);
+    Ok(Some(Answer::Attrs(mended?)))
 }
 
 /// Names as they would be strictly.
@@ -49,17 +66,19 @@ fn told_attributes(profile: Profile, attrs: &Attrs) -> Result<Option<Answer>, No
 ///
 /// `NoMemory` if memory runs out.
 fn told_names(
-    alloc: Global,
+    session: &Session<GivenTable>,
     profile: Profile,
     ask: &Ask,
     names: &Names,
 ) -> Result<Option<Answer>, NoMemory>
-    ensures { IfOk result (λ other. other ≡ spec.told profile ask.now (replies.Name names.now)) }
+    ensures { IfOk result (λ other. other ≡ spec.told profile session.now ask.now (replies.Name names.now)) }
 {
-    if !is_readdir(ask) || !(profile.dots || profile.dir_size) {
+    if !is_readdir(ask) || !(profile.dots || frees_attributes(profile)) {
         return Ok(None);
     }
-    let items = mended_items(alloc, profile, names.as_slice())?;
+    let alloc = session.tree().allocator();
+    let left = left_of(session, ask);
+    let items = mended_items(alloc, profile, left, names.as_slice())?;
     Ok(Some(Answer::Name(Names::new(items))))
 }
 
@@ -71,13 +90,14 @@ fn told_names(
 fn mended_items(
     alloc: Global,
     profile: Profile,
+    left: Option<&Listing>,
     items: &[NameItem],
 ) -> Result<Vec<NameItem>, NoMemory>
-    ensures { IfOk result (λ mended. mended.items ≡ spec.mended_items profile items.now) }
+    ensures { IfOk result (λ mended. mended.items ≡ spec.mended_items profile (option_copied left.entry) items.now) }
 {
     let mut mended = Vec::new(alloc);
     for item in items {
-        put_mended(&mut mended, alloc, profile, item)?;
+        put_mended(&mut mended, alloc, profile, left, item)?;
     }
     Ok(mended)
 }
@@ -91,15 +111,18 @@ fn put_mended(
     items: &mut Vec<NameItem>,
     alloc: Global,
     profile: Profile,
+    left: Option<&Listing>,
     item: &NameItem,
 ) -> Result<(), NoMemory>
-    ensures { OnOk result (items.new.items ≡ items.old.items ++ spec.mended_item profile item.now) }
+    ensures { OnOk result
+        (items.new.items ≡ items.old.items ++ spec.mended_item profile (option_copied left.entry) item.now) }
 {
     if profile.dots && is_dots(item.filename.as_slice()) {
         return Ok(());
     }
     let filename = item.filename.clone()?;
-    let attrs = mended(profile, &item.attrs)?;
+    let shown = shown_left(alloc, left, item.filename.as_slice())?;
+    let attrs = mended(profile, shown, &item.attrs)?;
     let longname = ByteString::new(Vec::new(alloc));
     items.push(NameItem {
         filename,
@@ -109,29 +132,70 @@ fn put_mended(
     Ok(())
 }
 
-/// The attributes, of a directory with the size 0 if the profile leaves it free.
+/// The attributes, with what is shown where the profile leaves a field free.
 ///
 /// # Errors
 ///
 /// `NoMemory` if memory runs out.
-pub(crate) fn mended(profile: Profile, attrs: &Attrs) -> Result<Attrs, NoMemory>
-    ensures { IfOk result (λ attributes. attributes ≡ spec.mended profile attrs.now) }
+pub(crate) fn mended(profile: Profile, shown: Option<&Attrs>, attrs: &Attrs) -> Result<Attrs, NoMemory>
+    ensures { IfOk result (λ attributes. attributes ≡ spec.mended profile (option_copied shown.entry) attrs.now) }
 {
     let mut copy = attrs.clone()?;
-    if profile.dir_size && is_directory(copy.permissions) {
+    if profile.dir_size && is_type(4, copy.permissions) {
         copy.size = Some(0);
     }
+    let Some(shown) = shown else {
+        return Ok(copy);
+    };
+    take_id(profile, shown, &mut copy);
+    take_link(profile, shown, &mut copy);
     Ok(copy)
 }
 
-/// Whether permissions have the type of a directory.
-pub(crate) fn is_directory(permissions: Option<u32>) -> bool
-    ensures { result ≡ spec.is_directory permissions }
+/// Takes the bits 0o6000 of what is shown, if the profile leaves them free.
+fn take_id(profile: Profile, shown: &Attrs, attrs: &mut Attrs)
+    ensures { attrs.new ≡ spec.with_id profile shown.now attrs.old }
+{
+    if profile.set_id {
+        attrs.permissions = with_bits(shown.permissions, attrs.permissions);
+    }
+}
+
+/// Takes the owner and the permissions that are shown of a link, if the profile leaves them free.
+fn take_link(profile: Profile, shown: &Attrs, attrs: &mut Attrs)
+    ensures { attrs.new ≡ spec.with_link profile shown.now attrs.old }
+{
+    if profile.link_attrs && is_type(10, shown.permissions) && is_type(10, attrs.permissions) {
+        attrs.owner = shown.owner;
+        attrs.permissions = shown.permissions;
+    }
+}
+
+/// Permissions with the bits 0o6000 of those shown.
+fn with_bits(shown: Option<u32>, given: Option<u32>) -> Option<u32>
+    ensures { result ≡ spec.with_bits shown given }
+{
+    match (shown, given) {
+        (Some(shown), Some(given)) => Some((given & OTHER_BITS) | (shown & ID_BITS)),
+        _ => given,
+    }
+}
+
+/// Whether permissions have this type.
+pub(crate) fn is_type(wanted: u32, permissions: Option<u32>) -> bool
+    ensures { result ≡ spec.is_type wanted permissions }
 {
     match permissions {
-        Some(permissions) => permissions / 4096 == 4,
+        Some(permissions) => permissions / 4096 == wanted,
         None => false,
     }
+}
+
+/// Whether the profile leaves a field of attributes free.
+fn frees_attributes(profile: Profile) -> bool
+    ensures { result ≡ spec.frees_attributes profile }
+{
+    profile.dir_size || profile.set_id || profile.link_attrs
 }
 
 /// Whether the name is `.` or `..`.

@@ -11,7 +11,7 @@ use crate::directories::{Directory, directory_at};
 use crate::flags::{has, mended_flags};
 use crate::profiles::Profile;
 use crate::refusals::{has_code, is_refusal};
-use crate::tellings::is_directory;
+use crate::tellings::is_type;
 use sftp_path::absolute;
 use sftp_tree::NoMemory;
 use sftp_wire::{Answer, Ask, Attrs, ByteString};
@@ -19,6 +19,9 @@ use std::alloc::Global;
 
 /// READ, in the flags of OPEN.
 const READ: u32 = 1;
+
+/// The type of a directory, in permissions.
+const DIRECTORY: u32 = 4;
 
 /// TRUNC, in the flags of OPEN.
 const TRUNC: u32 = 16;
@@ -123,7 +126,7 @@ fn are_directory(answer: &Answer) -> bool
     ensures { result ≡ spec.are_directory answer.now }
 {
     match answer {
-        Answer::Attrs(attrs) => is_directory(attrs.permissions),
+        Answer::Attrs(attrs) => is_type(DIRECTORY, attrs.permissions),
         _ => false,
     }
 }

@@ -20,7 +20,7 @@ returns-in_default c =
     let answer = c.args.reply.now.answer in
     on-outcome s s s.profile.listing _ _ (sym c.lists_changes.ensures ∙ c.if-not-lists_changes.false)
     (no-given s ask
-    (due_items s.profile s.session (directory_of s.directories ask) ask (unwrap_or (told s.profile ask answer) answer))
+    (due_items s.profile s.session (directory_of s.directories ask) ask (unwrap_or (told s.profile s.session ask answer) answer))
     (sym c.in_ok-items.ensures ∙ ap (option_map (λ v. v.items)) c.in_default.is))
 
 pub returns : goal.returns
@@ -34,7 +34,7 @@ returns c =
     (λ ok found.
     on-outcome s end s.profile.listing _ ok (sym c.lists_changes.ensures ∙ c.if-not-lists_changes.false)
     (given-outcome s end ask
-    (due_items s.profile s.session (directory_of s.directories ask) ask (unwrap_or (told s.profile ask answer) answer))
+    (due_items s.profile s.session (directory_of s.directories ask) ask (unwrap_or (told s.profile s.session ask answer) answer))
     c.in-Some.items.items ok
     (sym c.in_ok-items.ensures ∙ ap (option_map (λ v. v.items)) c.in-Some.is) found))
     c.give.ensures

@@ -1,0 +1,12 @@
+-- Answers that say that a request was refused.
+use Rattle.std.specs.Prelude.{◌==◌, ◌||◌, ℕ, Bool, false}
+use Rattle.sftp_wire.specs.declared.packets.Answer.{Answer}
+use Rattle.sftp_wire.specs.declared.packets.Answer.TheVariants as replies
+
+-- a code that says that a request was refused (draft, section 7)
+abbrev pub is_refusal_code : ℕ → Bool
+is_refusal_code code = code == 2 || (code == 3 || (code == 4 || (code == 5 || code == 8)))
+
+abbrev pub is_refusal : Answer → Bool
+is_refusal (replies.Status code message language) = is_refusal_code code
+is_refusal other = false
