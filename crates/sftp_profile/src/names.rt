@@ -44,6 +44,8 @@ impl Profile {
             set_id: true,
             link_attrs: true,
             realpath: true,
+            open_dir: true,
+            listing: true,
             made: true,
             owner_given: false,
             umask: 0,

@@ -137,7 +137,11 @@ fn put_mended(
 /// # Errors
 ///
 /// `NoMemory` if memory runs out.
-pub(crate) fn mended(profile: Profile, shown: Option<&Attrs>, attrs: &Attrs) -> Result<Attrs, NoMemory>
+pub(crate) fn mended(
+    profile: Profile,
+    shown: Option<&Attrs>,
+    attrs: &Attrs,
+) -> Result<Attrs, NoMemory>
     ensures { IfOk result (λ attributes. attributes ≡ spec.mended profile (option_copied shown.entry) attrs.now) }
 {
     let mut copy = attrs.clone()?;
