@@ -25,7 +25,8 @@ use Rattle.sftp_transcript.specs.Streams.{one_more}
 use Rattle.sftp_transcript.specs.Begun.{BeginsRecord, FaultAfter, HasGiven}
 use Rattle.sftp_transcript.specs.Recorded.{Reading}
 use Rattle.sftp_transcript.specs.declared.stage.Stage.TheVariants as stages
-use Rattle.sftp_audit.specs.Auditor.{Audited, StandsFor, Refuses, LacksReply}
+use Rattle.sftp_audit.specs.Exchanges.{recorded_exchanges}
+use Rattle.sftp_audit.specs.Auditor.{Audited, StandsFor, Refuses, LacksReply, IsTold}
 
 -- the state in which a session begins on a tree, without a profile: nothing is open
 abbrev pub started : Tree → State
@@ -177,3 +178,26 @@ IsPlain (audit_errors.Tree tree_errors.NoMemory) = ⊥
 IsPlain (audit_errors.Transcript transcript_errors.NoMemory) = ⊥
 IsPlain (audit_errors.Refused refusals.NoMemory) = ⊥
 IsPlain _ = Unit {0}
+
+-- ---- what is not followed
+
+-- the file records events, and the last of them is refused; this says whether the profile follows the request
+pub record ToldAt (start : judges.State) (transcript : List ℕ) (before after : Bool) (refusal : Refusal) : Type 0 where
+  pub events : List Event
+  pub event : Event
+  pub rest : List ℕ
+  pub begins : BeginsRecord (events ++ event ∷ []) transcript rest
+  pub told : IsTold start (recorded_exchanges (events ++ event ∷ [])) before after refusal
+
+-- where an event is refused, whether the profile follows the request; otherwise nothing is told
+abbrev pub IsToldOf : judges.State → List ℕ → Bool → Bool → AuditError → Type 0
+IsToldOf start transcript before after (audit_errors.Refused refusal) = ToldAt start transcript before after refusal
+IsToldOf start transcript before after other = after ≡ before
+
+-- the same of the audit of a tree file: a session that is refused since a reply is not permitted is told to be followed
+-- or not, and every other one is taken to be
+abbrev pub IsToldBy : Profile → List ℕ → List ℕ → Bool → AuditError → Type 0
+IsToldBy profile tree transcript told (audit_errors.Refused (refusals.NotAllowed number)) =
+    (start : Tree) × IsStart start tree
+    × ToldAt (judges.begun profile start) transcript true told (refusals.NotAllowed number)
+IsToldBy profile tree transcript told other = told ≡ true

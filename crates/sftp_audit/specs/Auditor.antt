@@ -1,10 +1,10 @@
 -- What an auditor keeps of the events that it was fed, and which refusal an event gets
 -- (draft-ietf-secsh-filexfer-02, section 6.1). The window and the numbers of records are this profile's own.
-use Rattle.std.specs.Prelude.{◌≡◌, ℕ, ◌≤◌, ⊤, List, [], ◌∷◌, ◌++◌, length, Option, Some, None}
+use Rattle.std.specs.Prelude.{◌≡◌, ℕ, ◌≤◌, ⊤, List, [], ◌∷◌, ◌++◌, length, Bool, Option, Some, None}
 use Rattle.sftp_wire.specs.declared.packets.Request.{Request}
 use Rattle.sftp_wire.specs.declared.packets.Reply.{Reply}
 use Rattle.sftp_profile.specs.State.{State}
-use Rattle.sftp_profile.specs.Permitted.{Permitted}
+use Rattle.sftp_profile.specs.Permitted.{Permitted, follows_in}
 use Rattle.sftp_transcript.specs.declared.events.Event.{Event}
 use Rattle.sftp_transcript.specs.declared.events.Event.TheVariants.{Asked, Replied}
 use Rattle.sftp_transcript.specs.Begun.{number_after_events}
@@ -52,6 +52,14 @@ abbrev pub IsWrongIn : State → List Exchange → State → Refusal → Type 0
 IsWrongIn start exchanges state (refusals.NotAllowed number) =
     (wrong : IsFirstWrong Permitted start exchanges number) × (wrong.mid ≡ state)
 IsWrongIn start exchanges state other = ⊤
+
+-- Where the refusal is `NotAllowed`, this says whether the profile follows the request with this reply; otherwise it is
+-- what it was before.
+abbrev pub IsTold : State → List Exchange → Bool → Bool → Refusal → Type 0
+IsTold start exchanges before after (refusals.NotAllowed number) =
+    (wrong : IsFirstWrong Permitted start exchanges number)
+    × (after ≡ follows_in wrong.mid wrong.request.ask wrong.reply.answer)
+IsTold start exchanges before after other = after ≡ before
 
 -- from the oldest unanswered request on, as many were asked as the window allows
 abbrev pub IsWindowFull : List Event → Type 0

@@ -9,7 +9,7 @@ ghost use Rattle.sftp_transcript.specs.Begun.{first_number};
 ghost use Rattle.sftp_transcript.specs.Explained.{Explained, window};
 ghost use Rattle.sftp_audit.specs.declared.errors.Refusal.{Refusal};
 ghost use Rattle.sftp_audit.specs.Exchanges.{recorded_exchanges};
-ghost use Rattle.sftp_audit.specs.Auditor.{StandsFor, Refuses, LacksReply, IsWrongIn, IsNoted};
+ghost use Rattle.sftp_audit.specs.Auditor.{StandsFor, Refuses, LacksReply, IsWrongIn, IsTold, IsNoted};
 
 use crate::errors::Refusal;
 use crate::exchanges::RecordedReply;
@@ -113,12 +113,43 @@ impl Auditor {
         ensures for_good { IfErr result (λ refusal. (self.new.refusal ≡ Some refusal) × (self.new.kept ≡ [])) }
         ensures again { (refusal : Refusal) → self.old.refusal ≡ Some refusal → result ≡ Err refusal }
     {
+        let mut is_modelled = true;
+        self.feed_by(event, &mut is_modelled)
+    }
+
+    /// Judges the next event of the session, as `feed` does. After `NotAllowed`, `is_modelled` says whether the profile
+    /// follows the request with this reply: if not, it was an extension that the profile does not know and that may have
+    /// changed anything. Otherwise `is_modelled` stays.
+    ///
+    /// # Errors
+    ///
+    /// Those of `feed`.
+    pub fn feed_by(&mut self, event: Event, is_modelled: &mut bool) -> Result<(), Refusal>
+        // It then stands for the events so far and this one.
+        ensures stands { OnOk result ((start : State) (events : List Event) →
+            StandsFor start events self.old → StandsFor start (events ++ event ∷ []) self.new) }
+        // A refusal has its reason.
+        ensures refused { IfErr result (λ refusal. (start : State) (events : List Event) →
+            StandsFor start events self.old → Refuses Permitted start events event refusal) }
+        // After `NotAllowed` the session is the one in which the reply is not permitted.
+        ensures wrong { IfErr result (λ refusal. (start : State) (events : List Event) →
+            StandsFor start events self.old
+            → IsWrongIn start (recorded_exchanges (events ++ event ∷ [])) self.new.state refusal) }
+        // And it is told whether the profile follows the request.
+        ensures told { IfErr result (λ refusal. (start : State) (events : List Event) →
+            StandsFor start events self.old → IsTold start (recorded_exchanges (events ++ event ∷ []))
+            is_modelled.old is_modelled.new refusal) }
+        ensures untold { OnOk result (is_modelled.new ≡ is_modelled.old) }
+        // It is for good, and no request is kept.
+        ensures for_good { IfErr result (λ refusal. (self.new.refusal ≡ Some refusal) × (self.new.kept ≡ [])) }
+        ensures again { (refusal : Refusal) → self.old.refusal ≡ Some refusal → result ≡ Err refusal }
+    {
         if let Some(refusal) = self.refusal {
             self.ledger.clear();
             drop(event);
             return Err(refusal);
         }
-        match self.note(event) {
+        match self.note(event, is_modelled) {
             Ok(()) => {
                 self.number = self.number.saturating_add(1);
                 Ok(())
@@ -136,7 +167,7 @@ impl Auditor {
     /// # Errors
     ///
     /// Those of `feed`.
-    fn note(&mut self, event: Event) -> Result<(), Refusal>
+    fn note(&mut self, event: Event, is_modelled: &mut bool) -> Result<(), Refusal>
         ensures same { (self.new.number ≡ self.old.number) × (self.new.refusal ≡ self.old.refusal) }
         ensures stands { OnOk result ((start : State) (events : List Event) →
             StandsFor start events self.old → IsNoted start (events ++ event ∷ []) self.new) }
@@ -145,6 +176,10 @@ impl Auditor {
         ensures wrong { IfErr result (λ refusal. (start : State) (events : List Event) →
             StandsFor start events self.old
             → IsWrongIn start (recorded_exchanges (events ++ event ∷ [])) self.new.state refusal) }
+        ensures told { IfErr result (λ refusal. (start : State) (events : List Event) →
+            StandsFor start events self.old → IsTold start (recorded_exchanges (events ++ event ∷ []))
+            is_modelled.old is_modelled.new refusal) }
+        ensures untold { OnOk result (is_modelled.new ≡ is_modelled.old) }
     {
         match event {
             Event::Asked(request) => self.ledger.ask(request, self.number),
@@ -153,7 +188,7 @@ impl Auditor {
                     reply,
                     number: self.number,
                 })?;
-                settle(&mut self.ledger, &mut self.judge)
+                settle(&mut self.ledger, &mut self.judge, is_modelled)
             }
         }
     }

@@ -1,5 +1,5 @@
 //! Audits of bytes in memory, and of streams.
-ghost use Rattle.std.specs.Prelude.{◌≡◌, ◌≢◌, ℕ, [], List, None, false, IfOk, IfErr, MatchResult};
+ghost use Rattle.std.specs.Prelude.{◌≡◌, ◌≢◌, ℕ, [], List, None, false, IfOk, IfErr, OnOk, MatchResult};
 ghost use Rattle.sftp_audit.specs.declared.errors.AuditError.TheVariants.{NoMemory};
 ghost use Rattle.sftp_tree.specs.Tree as values;
 ghost use Rattle.sftp_tree.specs.Picture.{picture};
@@ -8,7 +8,7 @@ ghost use Rattle.sftp_audit.specs.Auditor.{StandsFor};
 ghost use Rattle.sftp_audit.specs.Audit.{Accounts, AccountsBy, IsFirstFault, IsFirstFaultBy, IsNoJudgement};
 ghost use Rattle.sftp_audit.specs.Audit.{CountsFailure, IsExcusedBy, IsNew};
 ghost use Rattle.sftp_audit.specs.Audit.{HasStart, HasRefused, IsTreeError, JudgesTree};
-ghost use Rattle.sftp_audit.specs.Audit.{IsPlain, WasFed, StopsFeed, request_count, is_request};
+ghost use Rattle.sftp_audit.specs.Audit.{IsPlain, WasFed, StopsFeed, IsToldOf, IsToldBy, request_count, is_request};
 
 use crate::auditor::Auditor;
 use crate::errors::AuditError;
@@ -94,7 +94,8 @@ pub fn audit_by(
     ensures plain { IfErr result IsPlain }
 {
     let mut records = Reader::new(alloc, Memory::new(transcript))?;
-    let audited = audit_stream_by(alloc, profile, tree, &mut records);
+    let mut is_modelled = true;
+    let audited = audit_stream_by(alloc, profile, tree, &mut records, &mut is_modelled);
     drop(records);
     audited
 }
@@ -130,11 +131,13 @@ pub fn audit_stream<R: Source>(
     ensures may_fail { records.old.fault ≡ None → IfErr result (IsExcusedBy R.may_fail) }
     ensures plain { IfErr result IsPlain }
 {
-    audit_stream_by(alloc, Profile::strict(), tree, records)
+    let mut is_modelled = true;
+    audit_stream_by(alloc, Profile::strict(), tree, records, &mut is_modelled)
 }
 
 /// Audits a session whose transcript is read from a stream, under a profile. It keeps as much of the transcript as
-/// `audit_stream` does.
+/// `audit_stream` does. `is_modelled` is set to whether the profile follows the session up to where it is refused: if
+/// not, a request was an extension that the profile does not know and that may have changed anything.
 ///
 /// # Errors
 ///
@@ -144,6 +147,7 @@ pub fn audit_stream_by<R: Source>(
     profile: Profile,
     tree: &[u8],
     records: &mut Reader<R>,
+    is_modelled: &mut bool,
 ) -> Result<Accepted, AuditError>
     // Of a reader that has read nothing yet, whatever bytes its source has.
     ensures accepted { IfOk result (λ accepted. (transcript : List ℕ) → IsNew transcript records.old →
@@ -156,6 +160,8 @@ pub fn audit_stream_by<R: Source>(
         → AccountsBy profile tree.now transcript start events end → ⊥) }
     ensures first { IfErr result (λ e. (IsNoJudgement e → ⊥) → (transcript : List ℕ) → IsNew transcript records.old →
         IsFirstFaultBy profile tree.now transcript e) }
+    ensures told { IfErr result (λ e. (IsNoJudgement e → ⊥) → (transcript : List ℕ) → IsNew transcript records.old →
+        IsToldBy profile tree.now transcript is_modelled.new e) }
     // The tree file is judged first, whatever the reader did before.
     ensures judged { MatchResult result (λ _. HasStart tree.now) (JudgesTree tree.now) }
     // The source failed once where the error is `Io`, and otherwise never.
@@ -166,8 +172,9 @@ pub fn audit_stream_by<R: Source>(
     ensures plain { IfErr result IsPlain }
 {
     // Dear to prove: it has six ways out, each with all that is promised of an audit.
+    *is_modelled = true;
     let mut auditor = Auditor::by(profile, Tree::read(alloc, tree)?)?;
-    let requests = match feed_all(&mut auditor, records) {
+    let requests = match feed_all(&mut auditor, records, is_modelled) {
         Ok(requests) => requests,
         Err(error) => {
             drop(auditor);
@@ -181,7 +188,8 @@ pub fn audit_stream_by<R: Source>(
     Ok(Accepted { tree, requests })
 }
 
-/// Feeds an auditor the events that are still to come, and returns how many of them are requests, up to 2^64 - 1.
+/// Feeds an auditor the events that are still to come, and returns how many of them are requests, up to 2^64 - 1. After
+/// `NotAllowed`, `is_modelled` says whether the profile follows the request with this reply; otherwise it stays.
 ///
 /// # Errors
 ///
@@ -190,12 +198,17 @@ pub fn audit_stream_by<R: Source>(
 pub fn feed_all<R: Source>(
     auditor: &mut Auditor,
     records: &mut Reader<R>,
+    is_modelled: &mut bool,
 ) -> Result<u64, AuditError>
     // Of a reader that has read nothing yet, and an auditor that stands for no events, from any start.
     ensures fed { IfOk result (λ requests. (start : State) (transcript : List ℕ) → IsNew transcript records.old
         → StandsFor start [] auditor.old → WasFed start transcript requests auditor.new) }
     ensures stopped { IfErr result (λ e. (IsNoJudgement e → ⊥) → (start : State) (transcript : List ℕ)
         → IsNew transcript records.old → StandsFor start [] auditor.old → StopsFeed start transcript e) }
+    ensures told { IfErr result (λ e. (IsNoJudgement e → ⊥) → (start : State) (transcript : List ℕ)
+        → IsNew transcript records.old → StandsFor start [] auditor.old
+        → IsToldOf start transcript is_modelled.old is_modelled.new e) }
+    ensures untold { OnOk result (is_modelled.new ≡ is_modelled.old) }
     // After a refusal the auditor returns it from then on, and no request is kept.
     ensures for_good { IfErr result (λ e. HasRefused e auditor.new) }
     ensures treeless { IfErr result (λ e. IsTreeError e → ⊥) }
@@ -208,7 +221,7 @@ pub fn feed_all<R: Source>(
     let mut requests: u64 = 0;
     'events: while let Some(event) = records.next()? {
         requests = requests.saturating_add(u64::from(is_request(&event)));
-        auditor.feed(event)?;
+        auditor.feed_by(event, is_modelled)?;
     }
     Ok(requests)
 }

@@ -6,7 +6,7 @@ ghost use Rattle.sftp_tree.specs.Tree.{Tree};
 ghost use Rattle.sftp_handles.specs.State.{State};
 ghost use Rattle.sftp_handles.specs.Allowed.{Allowed};
 ghost use Rattle.sftp_profile.specs.declared.profiles.Profile.{Profile};
-ghost use Rattle.sftp_profile.specs.Profiles.{strict, keeps_requests};
+ghost use Rattle.sftp_profile.specs.Profiles.{strict, keeps_requests, is_stateless};
 ghost use Rattle.sftp_profile.specs.State as judges;
 ghost use Rattle.sftp_profile.specs.Permitted.{Permitted};
 ghost use Rattle.sftp_transcript.specs.Explained.{Explained, exchanges_of};
@@ -44,10 +44,12 @@ pub fn strict_first_faults()
         IsFirstFaultBy strict tree transcript error ↔ IsFirstFault tree transcript error }
 {}
 
-/// What bytes account for strictly, they account for under each profile that replaces no request, with the same end.
+/// What bytes account for strictly, they account for under each profile that replaces no request and has no use for the
+/// directories that are open, with the same end.
 pub fn strict_accounts_stay()
     ensures { (profile : Profile) (tree transcript : List ℕ) (start : Tree) (events : List Event) (end : Tree) →
-        IsTrue (keeps_requests profile) → Accounts tree transcript start events end →
+        IsTrue (keeps_requests profile) → IsTrue (is_stateless profile) →
+        Accounts tree transcript start events end →
         AccountsBy profile tree transcript start events end }
 {}
 

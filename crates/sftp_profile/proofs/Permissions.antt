@@ -16,20 +16,23 @@ use Rattle.sftp_handles.specs.State as sessions
 use Rattle.sftp_handles.specs.Allowed as strictly
 use Rattle.sftp_handles.proofs.Steps.{step-is_allowed, allowed-step}
 use Rattle.sftp_profile.specs.declared.profiles.Profile.{Profile}
-use Rattle.sftp_profile.specs.Profiles.{strict, keeps_requests}
+use Rattle.sftp_profile.specs.Profiles.{strict, keeps_requests, is_stateless}
 use Rattle.sftp_profile.specs.Replaced.{put, replaced, made_attributes}
-use Rattle.sftp_profile.specs.State.{State}
+use Rattle.sftp_profile.specs.State.{State, bare}
+use Rattle.sftp_profile.specs.declared.notes.Note.{Note}
+use Rattle.sftp_profile.specs.Notes.{note_of}
+use Rattle.sftp_profile.specs.Through.{directory_of}
 use Rattle.sftp_profile.specs.Departures.{is_forgiven}
 use Rattle.sftp_profile.specs.Readings.{asked, followed}
 use Rattle.sftp_profile.specs.Shown.{left_of}
 use Rattle.sftp_profile.specs.Tellings.{told, mended_items, is_readdir}
 use Rattle.sftp_profile.specs.Judged.{Outcome, IsStrict, IsTaken, IsFollowed, IsTakenFor}
-use Rattle.sftp_profile.specs.Judged.{IsForgiven, IsPermitted, IsStep}
+use Rattle.sftp_profile.specs.Judged.{IsForgiven, IsJudged, IsStep}
 use Rattle.sftp_profile.specs.Permitted.{Permitted, taken, taken_for, retold, with_followed, first_of, forgiven}
-use Rattle.sftp_profile.specs.Permitted.{forgiven_by, permitted, under, step}
+use Rattle.sftp_profile.specs.Permitted.{forgiven_by, permitted, under, met, with_note, judged, step}
 
-abbrev pub under_same : Profile → sessions.State → State
-under_same profile session = record { profile = profile; session = session }
+abbrev pub under_same : State → sessions.State → State
+under_same s session = record s { session = session }
 
 -- ---- from a state and its answer
 
@@ -40,16 +43,36 @@ pub permitted-one_end : (s : State) (request : Request) (reply : Reply) (a b : S
     → Permitted s request reply b → a ≡ b
 permitted-one_end s request reply a b to_a to_b = same_end (step s request.ask reply.answer) a b to_a.step to_b.step
 
-under-profile : (profile : Profile) (o : Option sessions.State) (end : State) → under profile o ≡ Some end
-    → end.profile ≡ profile
-under-profile profile (Some s) end is = ap (λ (s : State). s.profile) (same_end _ end _ is refl)
-under-profile profile None end is = absurd cc
+under-profile : (s : State) (o : Option sessions.State) (end : State) → under s o ≡ Some end
+    → end.profile ≡ s.profile
+under-profile s (Some session) end is = ap (λ (s : State). s.profile) (same_end _ end _ is refl)
+under-profile s None end is = absurd cc
+
+noted-profile : (s : State) (note : Note) (answer : Answer) (o : Option sessions.State) (end : State)
+    → with_note s note answer o ≡ Some end → end.profile ≡ s.profile
+noted-profile s note answer (Some session) end is = ap (λ (s : State). s.profile) (same_end _ end _ is refl)
+noted-profile s note answer None end is = absurd cc
+
+either-profile : (profile : Profile) (b : Bool) (x y : Option State) (end : State)
+    → (x ≡ Some end → end.profile ≡ profile) → (y ≡ Some end → end.profile ≡ profile)
+    → (if b then x else y) ≡ Some end → end.profile ≡ profile
+either-profile profile true x y end of_x of_y is = of_x is
+either-profile profile false x y end of_x of_y is = of_y is
+
+judged-profile : (s : State) (ask : Ask) (answer : Answer) (end : State) → judged s ask answer ≡ Some end
+    → end.profile ≡ s.profile
+unfolding judged
+judged-profile s ask answer end is =
+    either-profile s.profile (is_stateless s.profile) _ _ end
+    (under-profile s (permitted s.profile s.session ask answer) end)
+    (noted-profile s (note_of s.session.tree ask answer) answer
+    (met s.profile s.session (directory_of s.directories ask) ask answer) end) is
 
 pub permitted-profile : (s : State) (request : Request) (reply : Reply) (end : State) → Permitted s request reply end
     → end.profile ≡ s.profile
 unfolding step
 permitted-profile s request reply end p =
-    under-profile s.profile (permitted s.profile s.session (put s.profile request.ask) reply.answer) end p.step
+    judged-profile s (put s.profile request.ask) reply.answer end p.step
 
 -- ---- requests that stand as they are
 
@@ -75,17 +98,28 @@ put-same profile ask keeps =
 
 -- ---- what is allowed strictly
 
+-- a profile without a use for directories judges by the session alone
+pub stateless-judged : (s : State) (ask : Ask) (answer : Answer) → is_stateless s.profile ≡ true
+    → judged s ask answer ≡ under s (permitted s.profile s.session ask answer)
+unfolding judged
+stateless-judged s ask answer is =
+    ap
+    (λ b.
+    if b then under s (permitted s.profile s.session ask answer)
+    else with_note s (note_of s.session.tree ask answer) answer
+    (met s.profile s.session (directory_of s.directories ask) ask answer)) is
+
 pub strictly-permitted : (profile : Profile) (s : sessions.State) (request : Request) (reply : Reply)
-    (end : sessions.State) → IsTrue (keeps_requests profile) → strictly.Allowed s request reply end
-    → Permitted (record { profile = profile; session = s }) request reply
-    (record { profile = profile; session = end })
+    (end : sessions.State) → IsTrue (keeps_requests profile) → IsTrue (is_stateless profile)
+    → strictly.Allowed s request reply end → Permitted (bare profile s) request reply (bare profile end)
 unfolding step permitted
-strictly-permitted profile s request reply end keeps a = record {
+strictly-permitted profile s request reply end keeps stateless a = record {
   same_id = a.same_id;
   step =
-      ap (λ ask. under profile (permitted profile s ask reply.answer)) (put-same profile request.ask keeps)
-      ∙ ap (λ o. under profile (first_of o (forgiven profile s request.ask reply.answer)))
-      (allowed-step s request reply end a);
+      ap (λ ask. judged (bare profile s) ask reply.answer) (put-same profile request.ask keeps)
+      ∙ (stateless-judged (bare profile s) request.ask reply.answer stateless
+      ∙ ap (λ o. under (bare profile s) (first_of o (forgiven profile s request.ask reply.answer)))
+      (allowed-step s request reply end a));
 }
 
 -- ---- the strict profile
@@ -123,34 +157,35 @@ strict-permitted s ask answer =
     ∙ (ap (λ o. first_of (strictly.step s ask answer) (first_of (retold s ask o) None)) (strict-told s ask answer)
     ∙ first-none (strictly.step s ask answer))
 
-under-session : (profile : Profile) (o : Option sessions.State) (end : State) → under profile o ≡ Some end
-    → o ≡ Some end.session
-under-session profile (Some s) end is =
-    ap (λ (s : State). Some s.session) (same_end _ _ _ refl is)
-under-session profile None end is = absurd cc
+under-session : (s : State) (o : Option sessions.State) (end : State) → under s o ≡ Some end
+    → (o ≡ Some end.session) × (end ≡ record s { session = end.session })
+under-session s (Some session) end is =
+    let same : end ≡ record s { session = session } = same_end _ end _ is refl in
+    (ap (λ (s : State). Some s.session) (sym same), same ∙ ap (λ x. record s { session = x.session }) (sym same))
+under-session s None end is = absurd cc
 
 strict-allowed : (s : sessions.State) (request : Request) (reply : Reply) (end : State)
-    → Permitted (record { profile = strict; session = s }) request reply end
-    → (end.profile ≡ strict) × strictly.Allowed s request reply end.session
+    → Permitted (bare strict s) request reply end
+    → (end ≡ bare strict end.session) × strictly.Allowed s request reply end.session
 unfolding step
-strict-allowed s request reply end p = (
-  permitted-profile (record { profile = strict; session = s }) request reply end p,
-  step-is_allowed s request reply end.session p.same_id
-      (sym (strict-permitted s request.ask reply.answer)
-      ∙ under-session strict _ end
-      (ap (λ ask. under strict (permitted strict s ask reply.answer)) (sym (put-same strict request.ask refl)) ∙ p.step)),
-)
+strict-allowed s request reply end p =
+    let found =
+    under-session (bare strict s) (permitted strict s request.ask reply.answer) end
+    (sym (stateless-judged (bare strict s) request.ask reply.answer refl)
+    ∙ (ap (λ ask. judged (bare strict s) ask reply.answer) (sym (put-same strict request.ask refl)) ∙ p.step)) in (
+      found.1,
+      step-is_allowed s request reply end.session p.same_id
+          (sym (strict-permitted s request.ask reply.answer) ∙ found.0),
+    )
 
 pub strict-both : (s : sessions.State) (request : Request) (reply : Reply) (end : State)
-    → Permitted (record { profile = strict; session = s }) request reply end
-    ↔ ((end.profile ≡ strict) × strictly.Allowed s request reply end.session)
+    → Permitted (bare strict s) request reply end
+    ↔ ((end ≡ bare strict end.session) × strictly.Allowed s request reply end.session)
 strict-both s request reply end = (
   strict-allowed s request reply end,
   λ both.
-      subst
-      (λ (profile : Profile). Permitted (record { profile = strict; session = s }) request reply
-      (record { profile = profile; session = end.session }))
-      (sym both.0) (strictly-permitted strict s request reply end.session refl both.1),
+      subst (Permitted (bare strict s) request reply) (sym both.0)
+      (strictly-permitted strict s request reply end.session refl refl both.1),
 )
 
 -- ---- outcomes
@@ -164,14 +199,14 @@ none-by s request reply (Some end) is same never = absurd (never end (step-is_al
 strict-outcome : (s : State) (request : Request) (reply : Reply) (end : sessions.State) → reply.id ≡ request.id
     → (ok : Bool) → (IsTrue ok → strictly.Allowed s.session request reply end)
     → (ok ≡ false → (other : sessions.State) → strictly.Allowed s.session request reply other → ⊥)
-    → (ok ≡ false → end ≡ s.session) → IsStrict s request.ask reply.answer ok (under_same s.profile end)
+    → (ok ≡ false → end ≡ s.session) → IsStrict s request.ask reply.answer ok (under_same s end)
 strict-outcome s request reply end same true allowed never kept = record {
-  is = ap (under s.profile) (allowed-step s.session request reply end (allowed refl));
+  is = ap (under s) (allowed-step s.session request reply end (allowed refl));
   kept = λ e. absurd cc;
 }
 strict-outcome s request reply end same false allowed never kept = record {
-  is = ap (under s.profile) (none-by s.session request reply _ refl same (never refl));
-  kept = λ e. ap (under_same s.profile) (kept refl);
+  is = ap (under s) (none-by s.session request reply _ refl same (never refl));
+  kept = λ e. ap (under_same s) (kept refl);
 }
 
 -- what the session says of a reply
@@ -179,7 +214,7 @@ pub strict-result : (s : State) (request : Request) (reply : Reply) (end : sessi
     → (result : Result Bool NoMemory) → IfOk result (λ ok. IsTrue ok → strictly.Allowed s.session request reply end)
     → IfOk result (λ ok. ok ≡ false → (other : sessions.State) → strictly.Allowed s.session request reply other → ⊥)
     → IfOk result (λ ok. ok ≡ false → end ≡ s.session)
-    → IfOk result (λ ok. IsStrict s request.ask reply.answer ok (under_same s.profile end))
+    → IfOk result (λ ok. IsStrict s request.ask reply.answer ok (under_same s end))
 strict-result s request reply end same (Ok ok) allowed never kept =
     strict-outcome s request reply end same ok allowed never kept
 strict-result s request reply end same (Err e) allowed never kept = tt
@@ -188,81 +223,87 @@ pub none-outcome : (found : Option State) (s : State) → found ≡ None → Out
 none-outcome found s is = record { is = is; kept = λ e. refl }
 
 -- the first of two is found
-pub first-outcome : (profile : Profile) (a b : Option sessions.State) (s end : State) (ok : Bool) → ok ≡ true
-    → Outcome (under profile a) s ok end → Outcome (under profile (first_of a b)) s true end
-first-outcome profile (Some here) b s end true is_true found = found
-first-outcome profile None b s end true is_true found = absurd (let is = found.is in cc)
-first-outcome profile a b s end false is_true found = absurd cc
+pub first-outcome : (at : State) (a b : Option sessions.State) (s end : State) (ok : Bool) → ok ≡ true
+    → Outcome (under at a) s ok end → Outcome (under at (first_of a b)) s true end
+first-outcome at (Some here) b s end true is_true found = found
+first-outcome at None b s end true is_true found = absurd (let is = found.is in cc)
+first-outcome at a b s end false is_true found = absurd cc
 
 -- the first of two is not found; then the state is as before
-pub second-outcome : (profile : Profile) (a b : Option sessions.State) (s now end : State) (ok : Bool)
-    → Outcome (under profile a) s false now → Outcome (under profile b) now ok end
-    → Outcome (under profile (first_of a b)) s ok end
-second-outcome profile (Some here) b s now end ok found next = absurd (let is = found.is in cc)
-second-outcome profile None b s now end ok found next = record {
+pub second-outcome : (at : State) (a b : Option sessions.State) (s now end : State) (ok : Bool)
+    → Outcome (under at a) s false now → Outcome (under at b) now ok end
+    → Outcome (under at (first_of a b)) s ok end
+second-outcome at (Some here) b s now end ok found next = absurd (let is = found.is in cc)
+second-outcome at None b s now end ok found next = record {
   is = next.is;
   kept = λ e. next.kept e ∙ found.kept refl;
 }
 
 -- the same of what the second says of the state as it is now
 pub second-result : (first second : State → Option sessions.State) (s now end : State) (result : Result Bool NoMemory)
-    → (here : Bool) → here ≡ false → Outcome (under s.profile (first s)) s here now
-    → IfOk result (λ ok. Outcome (under now.profile (second now)) now ok end)
-    → IfOk result (λ ok. Outcome (under s.profile (first_of (first s) (second s))) s ok end)
+    → (here : Bool) → here ≡ false → Outcome (under s (first s)) s here now
+    → IfOk result (λ ok. Outcome (under now (second now)) now ok end)
+    → IfOk result (λ ok. Outcome (under s (first_of (first s) (second s))) s ok end)
 second-result first second s now end (Ok ok) false is_false found next =
-    second-outcome s.profile (first s) (second s) s now end ok found
-    (subst (λ (before : State). Outcome (under before.profile (second before)) now ok end) (found.kept refl) next)
+    second-outcome s (first s) (second s) s now end ok found
+    (subst (λ (before : State). Outcome (under before (second before)) now ok end) (found.kept refl) next)
 second-result first second s now end (Err e) false is_false found next = tt
 second-result first second s now end result true is_false found next = absurd cc
 
 -- ---- one request after another
 
 -- a SETSTAT that may be refused
-pub set-outcome : (a : Option sessions.State) (s end : State) (ok : Bool) → Outcome (under s.profile a) s ok end
-    → under s.profile (first_of a (Some s.session)) ≡ Some end
+pub set-outcome : (a : Option sessions.State) (s end : State) (ok : Bool) → Outcome (under s a) s ok end
+    → under s (first_of a (Some s.session)) ≡ Some end
 set-outcome (Some here) s end true found = found.is
 set-outcome None s end true found = absurd (let is = found.is in cc)
 set-outcome (Some here) s end false found = absurd (let is = found.is in cc)
 set-outcome None s end false found = ap Some (sym (found.kept refl))
 
+-- the last session counts
+under-again : (s : State) (here : sessions.State) (o : Option sessions.State) → under (under_same s here) o ≡ under s o
+under-again s here (Some session) = refl
+under-again s here None = refl
+
 -- what comes first is found, and what is next leads to a state
-pub then-outcome : (profile : Profile) (a : Option sessions.State) (next : sessions.State → Option sessions.State)
-    (s mid end : State) (ok : Bool) → ok ≡ true → Outcome (under profile a) s ok mid
-    → under mid.profile (next mid.session) ≡ Some end
-    → Outcome (under profile (strictly.and_then a next)) s true end
-then-outcome profile (Some here) next s mid end true is_true found leads = record {
+pub then-outcome : (at : State) (a : Option sessions.State) (next : sessions.State → Option sessions.State)
+    (s mid end : State) (ok : Bool) → ok ≡ true → Outcome (under at a) s ok mid
+    → under mid (next mid.session) ≡ Some end
+    → Outcome (under at (strictly.and_then a next)) s true end
+then-outcome at (Some here) next s mid end true is_true found leads = record {
   is =
-      subst (λ (m : State). under m.profile (next m.session) ≡ Some end)
-      (sym (same_end _ (under_same profile here) mid refl found.is)) leads;
+      sym (under-again at here (next here))
+      ∙ subst (λ (m : State). under m (next m.session) ≡ Some end)
+      (sym (same_end _ (under_same at here) mid refl found.is)) leads;
   kept = λ e. absurd cc;
 }
-then-outcome profile None next s mid end true is_true found leads = absurd (let is = found.is in cc)
-then-outcome profile a next s mid end false is_true found leads = absurd cc
+then-outcome at None next s mid end true is_true found leads = absurd (let is = found.is in cc)
+then-outcome at a next s mid end false is_true found leads = absurd cc
 
 -- what comes first is not found
-pub never-outcome : (profile : Profile) (a : Option sessions.State) (next : sessions.State → Option sessions.State)
-    (s mid : State) (ok : Bool) → ok ≡ false → Outcome (under profile a) s ok mid
-    → Outcome (under profile (strictly.and_then a next)) s false mid
-never-outcome profile (Some here) next s mid false is_false found = absurd (let is = found.is in cc)
-never-outcome profile None next s mid false is_false found = record { is = refl; kept = found.kept }
-never-outcome profile a next s mid true is_false found = absurd cc
+pub never-outcome : (at : State) (a : Option sessions.State) (next : sessions.State → Option sessions.State)
+    (s mid : State) (ok : Bool) → ok ≡ false → Outcome (under at a) s ok mid
+    → Outcome (under at (strictly.and_then a next)) s false mid
+never-outcome at (Some here) next s mid false is_false found = absurd (let is = found.is in cc)
+never-outcome at None next s mid false is_false found = record { is = refl; kept = found.kept }
+never-outcome at a next s mid true is_false found = absurd cc
 
 -- the other request with what comes with it
 pub follow-outcome : (s mid end : State) (ask : Ask) (answer : Answer) (ok : Bool) → ok ≡ true
     → IsTaken s ask answer ok mid → IsFollowed mid ask answer end → IsTakenFor s ask answer true end
 follow-outcome s mid end ask answer true is_true found follows =
     let same : mid.profile ≡ s.profile =
-    under-profile s.profile (taken s.profile s.session (asked s.profile s.session.tree ask) answer) mid found.is in
-    then-outcome s.profile (taken s.profile s.session (asked s.profile s.session.tree ask) answer)
+    under-profile s (taken s.profile s.session (asked s.profile s.session.tree ask) answer) mid found.is in
+    then-outcome s (taken s.profile s.session (asked s.profile s.session.tree ask) answer)
     (with_followed (followed s.profile ask) answer) s mid end true refl found
     (subst
-    (λ (p : Profile). under mid.profile (with_followed (followed p ask) answer mid.session) ≡ Some end) same follows)
+    (λ (p : Profile). under mid (with_followed (followed p ask) answer mid.session) ≡ Some end) same follows)
 follow-outcome s mid end ask answer false is_true found follows = absurd cc
 
 pub unfollowed-outcome : (s mid : State) (ask : Ask) (answer : Answer) (ok : Bool) → ok ≡ false
     → IsTaken s ask answer ok mid → IsTakenFor s ask answer false mid
 unfollowed-outcome s mid ask answer ok is_false found =
-    never-outcome s.profile (taken s.profile s.session (asked s.profile s.session.tree ask) answer)
+    never-outcome s (taken s.profile s.session (asked s.profile s.session.tree ask) answer)
     (with_followed (followed s.profile ask) answer) s mid ok is_false found
 
 -- nothing comes with it where the flags of OPEN are judged as they stand
@@ -270,7 +311,7 @@ pub follow-never : (s mid : State) (ask : Ask) (answer : Answer) (ok : Bool) →
     → IsTaken s ask answer ok mid → IsTrue mid.profile.flags → s.profile.flags ≡ false → mid ≡ s
 follow-never s mid ask answer true is_true found on off =
     let same : mid.profile ≡ s.profile =
-    under-profile s.profile (taken s.profile s.session (asked s.profile s.session.tree ask) answer) mid found.is in
+    under-profile s (taken s.profile s.session (asked s.profile s.session.tree ask) answer) mid found.is in
     absurd (let flags = ap (λ (p : Profile). p.flags) same in cc)
 follow-never s mid ask answer false is_true found on off = absurd cc
 
@@ -283,7 +324,7 @@ passes-outcome s ask answer is = record {
   is =
       ap
       (λ b.
-      under s.profile
+      under s
       (first_of (forgiven_by s.session b)
       (first_of (retold s.session ask (told s.profile s.session ask answer))
       (taken_for s.profile s.session ask answer)))) is;
@@ -292,14 +333,14 @@ passes-outcome s ask answer is = record {
 
 pub unpassed-outcome : (s end : State) (ask : Ask) (answer : Answer) (ok : Bool)
     → is_forgiven s.profile s.session ask answer ≡ false
-    → Outcome (under s.profile (first_of (retold s.session ask (told s.profile s.session ask answer))
+    → Outcome (under s (first_of (retold s.session ask (told s.profile s.session ask answer))
     (taken_for s.profile s.session ask answer))) s ok end → IsForgiven s ask answer ok end
 unfolding forgiven
 unpassed-outcome s end ask answer ok not found = record {
   is =
       ap
       (λ b.
-      under s.profile
+      under s
       (first_of (forgiven_by s.session b)
       (first_of (retold s.session ask (told s.profile s.session ask answer))
       (taken_for s.profile s.session ask answer)))) not
@@ -325,9 +366,9 @@ refused-reply s end request reply false found is other p =
 
 -- the answer to the request that stands for this one
 pub replaced-outcome : (s end : State) (ask other : Ask) (answer : Answer) (ok : Bool) → put s.profile ask ≡ other
-    → IsPermitted s other answer ok end → IsStep s ask answer ok end
+    → IsJudged s other answer ok end → IsStep s ask answer ok end
 unfolding step
 replaced-outcome s end ask other answer ok is found = record {
-  is = ap (λ ask. under s.profile (permitted s.profile s.session ask answer)) is ∙ found.is;
+  is = ap (λ ask. judged s ask answer) is ∙ found.is;
   kept = found.kept;
 }

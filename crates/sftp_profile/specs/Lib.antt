@@ -1,4 +1,5 @@
 pub mod Profiles
+pub mod Directories
 pub mod State
 pub mod Paths
 pub mod Limits
@@ -12,6 +13,9 @@ pub mod Departures
 pub mod Readings
 pub mod Tellings
 pub mod Replaced
+pub mod Notes
+pub mod Through
+pub mod Listed
 pub mod Permitted
 pub mod Judged
 pub mod Examples

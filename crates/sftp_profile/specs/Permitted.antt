@@ -1,5 +1,7 @@
 -- Which replies a profile permits, and the state after each.
-use Rattle.std.specs.Prelude.{◌≡◌, Bool, true, false, [], Option, Some, None}
+use Rattle.std.specs.Prelude.{◌≡◌, ◌==◌, Bool, true, false, if◌then◌else◌, List, [], length, Option, Some, None}
+use Rattle.std.specs.Prelude.{unwrap_or}
+use Rattle.sftp_wire.specs.declared.names.NameItem.{NameItem}
 use Rattle.sftp_wire.specs.declared.packets.Ask.{Ask}
 use Rattle.sftp_wire.specs.declared.packets.Answer.{Answer}
 use Rattle.sftp_wire.specs.declared.packets.Answer.TheVariants as replies
@@ -9,10 +11,16 @@ use Rattle.sftp_handles.specs.State as sessions
 use Rattle.sftp_handles.specs.Allowed as strictly
 use Rattle.sftp_profile.specs.declared.profiles.Profile.{Profile}
 use Rattle.sftp_profile.specs.State.{State}
-use Rattle.sftp_profile.specs.Departures.{is_forgiven}
+use Rattle.sftp_profile.specs.Departures.{is_forgiven, is_modelled}
 use Rattle.sftp_profile.specs.Replaced.{put}
 use Rattle.sftp_profile.specs.Readings.{asked, followed}
 use Rattle.sftp_profile.specs.Tellings.{told}
+use Rattle.sftp_profile.specs.declared.directories.Directory.{Directory}
+use Rattle.sftp_profile.specs.declared.notes.Note.{Note}
+use Rattle.sftp_profile.specs.Profiles.{is_stateless}
+use Rattle.sftp_profile.specs.Notes.{note_of, noted}
+use Rattle.sftp_profile.specs.Through.{directory_of, is_barred, refuses_kind, stands_for, passes_directory}
+use Rattle.sftp_profile.specs.Listed.{due_items}
 
 abbrev pub forgiven_by : sessions.State → Bool → Option sessions.State
 forgiven_by s true = Some s
@@ -70,15 +78,65 @@ forgiven profile s ask answer =
 unfoldable pub permitted : Profile → sessions.State → Ask → Answer → Option sessions.State
 permitted profile s ask answer = first_of (strictly.step s ask answer) (forgiven profile s ask answer)
 
-abbrev pub under : Profile → Option sessions.State → Option State
-under profile (Some s) = Some (record { profile = profile; session = s })
-under profile None = None
+-- ---- with the directories that are open
 
--- the state after an answer to the request that stands for this one, if it is permitted; the profile stays
+-- the session after the answer to the request that stands for one on a directory, if one does
+abbrev pub taken_as : Profile → sessions.State → Option Ask → Answer → Option sessions.State
+taken_as profile s (Some ask) answer = permitted profile s ask answer
+taken_as profile s None answer = None
+
+-- the session after a READDIR that gives names, by those of them that were left
+abbrev pub with_given : sessions.State → Ask → Option (List NameItem) → Option sessions.State
+with_given s ask (Some items) = if length items == 0 then Some s else strictly.step s ask (replies.Name items)
+with_given s ask None = None
+
+-- what the profile leaves free of the answer to a READDIR is as it would be strictly
+abbrev pub listed_as : Profile → sessions.State → Option Directory → Ask → Answer → Option sessions.State
+listed_as profile s found ask answer =
+    with_given s ask (due_items profile s found ask (unwrap_or (told profile s ask answer) answer))
+
+-- the session after an answer that the profile forgives since it is that of a directory
+unfoldable pub by_directory : Profile → sessions.State → Option Directory → Ask → Answer → Option sessions.State
+by_directory profile s found ask answer =
+    first_of (forgiven_by s (passes_directory profile found ask answer))
+    (first_of (if profile.open_dir then taken_as profile s (stands_for profile found ask answer) answer else None)
+    (if profile.listing then listed_as profile s found ask answer else None))
+
+-- the session after an answer to a request on a directory that is open, or on anything else
+unfoldable pub met : Profile → sessions.State → Option Directory → Ask → Answer → Option sessions.State
+met profile s found ask answer =
+    if is_barred found ask then forgiven_by s (refuses_kind profile answer)
+    else first_of (permitted profile s ask answer) (by_directory profile s found ask answer)
+
+-- ---- the state
+
+abbrev pub under : State → Option sessions.State → Option State
+under s (Some session) = Some (record s { session = session })
+under s None = None
+
+abbrev pub with_note : State → Note → Answer → Option sessions.State → Option State
+with_note s note answer (Some session) =
+    Some (record s { session = session; directories = noted s.directories note answer })
+with_note s note answer None = None
+
+-- the state after an answer to a request as it stands, if it is permitted; the profile stays
+unfoldable pub judged : State → Ask → Answer → Option State
+judged s ask answer =
+    if is_stateless s.profile then under s (permitted s.profile s.session ask answer)
+    else with_note s (note_of s.session.tree ask answer) answer
+    (met s.profile s.session (directory_of s.directories ask) ask answer)
+
+-- the state after an answer to the request that stands for this one, if it is permitted
 unfoldable pub step : State → Ask → Answer → Option State
-step s ask answer = under s.profile (permitted s.profile s.session (put s.profile ask) answer)
+step s ask answer = judged s (put s.profile ask) answer
 
 -- the reply has the id of the request, and its answer is permitted
 pub record Permitted (s : State) (request : Request) (reply : Reply) (end : State) : Type 0 where
   pub same_id : reply.id ≡ request.id
   pub step : step s request.ask reply.answer ≡ Some end
+
+-- ---- what is not followed
+
+-- whether the judge follows a request with this answer; if not, it may have changed anything
+abbrev pub follows_in : State → Ask → Answer → Bool
+follows_in s ask answer = is_modelled s.profile ask answer

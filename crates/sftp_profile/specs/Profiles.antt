@@ -1,5 +1,5 @@
 -- Profiles: which departures from the strict reading are accepted.
-use Rattle.std.specs.Prelude.{◌&&◌, not, Bool, true, false}
+use Rattle.std.specs.Prelude.{◌&&◌, ◌||◌, not, Bool, true, false}
 use Rattle.sftp_profile.specs.declared.profiles.Profile.{Profile}
 
 -- no departure
@@ -12,6 +12,8 @@ strict = record {
   dir_size = false;
   limits = false;
   extensions = false;
+  open_dir = false;
+  listing = false;
   flags = false;
   hardlink_link = false;
   read = false;
@@ -40,6 +42,8 @@ posix = record {
   set_id = true;
   link_attrs = true;
   realpath = true;
+  open_dir = true;
+  listing = true;
   made = true;
   owner_given = false;
   umask = 0;
@@ -49,3 +53,7 @@ posix = record {
 -- each request is judged as it stands first
 abbrev pub keeps_requests : Profile → Bool
 keeps_requests profile = not profile.made && not profile.symlink_draft
+
+-- it has no use for the directories that are open, so the session is all of the state
+abbrev pub is_stateless : Profile → Bool
+is_stateless profile = not (profile.open_dir || profile.listing)

@@ -29,7 +29,7 @@ pub(crate) fn empties(flags: u32) -> bool
 }
 
 /// Whether a flag is set.
-fn has(flags: u32, flag: u32) -> bool
+pub(crate) fn has(flags: u32, flag: u32) -> bool
     ensures { result ≡ has_flag flags flag }
 {
     flags & flag == flag

@@ -2,12 +2,13 @@
 ghost use Rattle.std.specs.Prelude.{◌≡◌, [], false, IsTrue, IfOk, OnOk, OnErr};
 ghost use Rattle.sftp_tree.specs.Tree.{trim};
 ghost use Rattle.sftp_profile.specs.State.{State, begun};
-ghost use Rattle.sftp_profile.specs.Departures.{is_forgiven, is_modelled, passes_in, passes_codes, passes_dots};
-ghost use Rattle.sftp_profile.specs.Permitted.{Permitted};
+ghost use Rattle.sftp_profile.specs.Departures.{is_forgiven, passes_in, passes_codes, passes_dots};
+ghost use Rattle.sftp_profile.specs.Permitted.{Permitted, follows_in};
 ghost use Rattle.sftp_profile.specs.Judged.{IsStrict, IsRetold, IsRead, IsTaken, IsSet, IsFollowed, IsTakenFor};
 ghost use Rattle.sftp_profile.specs.Judged.{IsForgiven, IsPermitted, IsStep};
 
 use crate::departures::{is_modelled, passes_alone};
+use crate::directories::Directory;
 use crate::passing::passes_looking;
 use crate::profiles::Profile;
 use crate::readings::{asked, followed};
@@ -20,12 +21,13 @@ use sftp_wire::{Answer, Ask, Reply, Request};
 use std::alloc::Global;
 use std::marker::Model;
 
-/// A session, and the profile under which its replies are judged.
+/// A session, the profile under which its replies are judged, and the directories that are open in it.
 #[derive(Drop)]
 pub struct Judge {
-    profile: Profile,
-    session: Session<GivenTable>,
-    alloc: Global,
+    pub(crate) profile: Profile,
+    pub(crate) session: Session<GivenTable>,
+    pub(crate) directories: Vec<Directory>,
+    pub(crate) alloc: Global,
 }
 
 impl Model for Judge {
@@ -33,7 +35,7 @@ impl Model for Judge {
 
     ghost Value = { State };
 
-    ghost view = { λ j. record { profile = j.profile; session = j.session } };
+    ghost view = { λ j. record { profile = j.profile; session = j.session; directories = j.directories.items } };
 }
 
 impl Judge {
@@ -50,6 +52,7 @@ impl Judge {
         Ok(Judge {
             profile,
             session,
+            directories: Vec::new(alloc),
             alloc,
         })
     }
@@ -80,13 +83,13 @@ impl Judge {
     ///
     /// # Errors
     ///
-    /// `NoMemory` if memory runs out; the session is unchanged, unless the profile has `flags`.
+    /// `NoMemory` if memory runs out. If the profile has `flags`, or a use for the directories that are open, the session
+    /// may then have changed.
     pub fn accept(&mut self, request: &Request, reply: &Reply) -> Result<bool, NoMemory>
         ensures allowed { IfOk result (λ ok. IsTrue ok → Permitted self.old request.now reply.now self.new) }
         ensures refused { IfOk result
             (λ ok. ok ≡ false → (end : State) → Permitted self.old request.now reply.now end → ⊥) }
         ensures kept { IfOk result (λ ok. ok ≡ false → self.new ≡ self.old) }
-        ensures err { OnErr result (self.old.profile.flags ≡ false → self.new ≡ self.old) }
     {
         if reply.id != request.id {
             return Ok(false);
@@ -100,20 +103,19 @@ impl Judge {
     ///
     /// # Errors
     ///
-    /// `NoMemory` if memory runs out; the session is unchanged, unless the profile has `flags`.
+    /// `NoMemory` if memory runs out.
     fn step(&mut self, request: &Request, reply: &Reply) -> Result<bool, NoMemory>
         requires { reply.now.id ≡ request.now.id }
-        ensures ok { IfOk result (λ ok. IsStep self.old request.now.ask reply.now.answer ok self.new) }
-        ensures err { OnErr result (self.old.profile.flags ≡ false → self.new ≡ self.old) }
+        ensures { IfOk result (λ ok. IsStep self.old request.now.ask reply.now.answer ok self.new) }
     {
         let Some(ask) = replaced(self.profile, &request.ask)? else {
-            return self.permit(request, reply);
+            return self.judge(request, reply);
         };
         let put = Request {
             id: request.id,
             ask,
         };
-        let permitted = self.permit(&put, reply);
+        let permitted = self.judge(&put, reply);
         drop(put);
         permitted
     }
@@ -121,7 +123,7 @@ impl Judge {
     /// Whether the profile follows a request with this reply. It does not follow an extension that it does not know and
     /// that was neither refused nor at an end, which may have changed anything.
     pub fn is_modelled(&self, request: &Request, reply: &Reply) -> bool
-        ensures { result ≡ is_modelled self.now.profile request.now.ask reply.now.answer }
+        ensures { result ≡ follows_in self.now request.now.ask reply.now.answer }
     {
         is_modelled(self.profile, &request.ask, &reply.answer)
     }
@@ -131,7 +133,7 @@ impl Judge {
     /// # Errors
     ///
     /// `NoMemory` if memory runs out; the session is unchanged, unless the profile has `flags`.
-    fn permit(&mut self, request: &Request, reply: &Reply) -> Result<bool, NoMemory>
+    pub(crate) fn permit(&mut self, request: &Request, reply: &Reply) -> Result<bool, NoMemory>
         requires { reply.now.id ≡ request.now.id }
         ensures ok { IfOk result (λ ok. IsPermitted self.old request.now.ask reply.now.answer ok self.new) }
         ensures err { OnErr result (self.old.profile.flags ≡ false → self.new ≡ self.old) }
@@ -147,7 +149,11 @@ impl Judge {
     /// # Errors
     ///
     /// `NoMemory` if memory runs out; the session is unchanged.
-    fn judge_strictly(&mut self, request: &Request, reply: &Reply) -> Result<bool, NoMemory>
+    pub(crate) fn judge_strictly(
+        &mut self,
+        request: &Request,
+        reply: &Reply,
+    ) -> Result<bool, NoMemory>
         requires { reply.now.id ≡ request.now.id }
         ensures ok { IfOk result (λ ok. IsStrict self.old request.now.ask reply.now.answer ok self.new) }
         ensures err { OnErr result (self.new ≡ self.old) }

@@ -6,16 +6,16 @@ ghost use Rattle.sftp_wire.specs.declared.packets.Reply.{Reply};
 ghost use Rattle.sftp_handles.specs.State as sessions;
 ghost use Rattle.sftp_handles.specs.Allowed.{Allowed};
 ghost use Rattle.sftp_profile.specs.declared.profiles.Profile.{Profile};
-ghost use Rattle.sftp_profile.specs.Profiles.{strict, keeps_requests};
-ghost use Rattle.sftp_profile.specs.State.{State};
+ghost use Rattle.sftp_profile.specs.Profiles.{strict, keeps_requests, is_stateless};
+ghost use Rattle.sftp_profile.specs.State.{State, bare};
 ghost use Rattle.sftp_profile.specs.Permitted.{Permitted};
 
 /// Under the strict profile exactly those replies are permitted that the session allows, with the same state after
 /// them.
 pub fn strict_is_allowed()
     ensures { (s : sessions.State) (request : Request) (reply : Reply) (end : State) →
-        Permitted (record { profile = strict; session = s }) request reply end
-        ↔ ((end.profile ≡ strict) × Allowed s request reply end.session) }
+        Permitted (bare strict s) request reply end
+        ↔ ((end ≡ bare strict end.session) × Allowed s request reply end.session) }
 {}
 
 /// A state, a request and its reply fix the state after them.
@@ -30,10 +30,10 @@ pub fn profile_stays()
         Permitted s request reply end → end.profile ≡ s.profile }
 {}
 
-/// What is allowed strictly, each profile that replaces no request permits, with the same state after it.
+/// What is allowed strictly, each profile permits that replaces no request and has no use for the directories that are
+/// open, with the same state after it.
 pub fn strictly_allowed_is_permitted()
     ensures { (profile : Profile) (s : sessions.State) (request : Request) (reply : Reply) (end : sessions.State) →
-        IsTrue (keeps_requests profile) → Allowed s request reply end →
-        Permitted (record { profile = profile; session = s }) request reply
-        (record { profile = profile; session = end }) }
+        IsTrue (keeps_requests profile) → IsTrue (is_stateless profile) → Allowed s request reply end →
+        Permitted (bare profile s) request reply (bare profile end) }
 {}

@@ -3,13 +3,17 @@
 #![tactic(auto)]
 
 mod departures;
+mod directories;
 pub mod examples;
 mod extensions;
 mod flags;
 mod judges;
 pub mod laws;
 mod limits;
+mod listed;
+mod meeting;
 mod names;
+mod notes;
 mod passing;
 mod paths;
 mod profiles;
@@ -20,6 +24,7 @@ mod refusals;
 mod replaced;
 mod shown;
 mod tellings;
+mod through;
 
 pub use judges::Judge;
 pub use names::NAMES;

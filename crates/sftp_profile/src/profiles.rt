@@ -38,6 +38,11 @@ pub struct Profile {
     /// REALPATH may give the path's text made absolute without a look at the tree; any text where a cause refuses it;
     /// and it may be refused with the code 2 where nothing is at the place.
     pub realpath: bool,
+    /// OPEN to read may open a directory. FSTAT, FSETSTAT and fsync go through the handle of any directory.
+    pub open_dir: bool,
+    /// Names that come or go while a directory is listed may be given or not. The listing of a directory that was
+    /// removed may be refused with the codes 2 and 4.
+    pub listing: bool,
     /// What is made has the tree's user and group, or the owner that the request gives if `owner_given`, and the
     /// permissions that the request gives, else 0666 or 0777, without the bits of `umask`.
     pub made: bool,
@@ -68,10 +73,19 @@ impl Profile {
             set_id: false,
             link_attrs: false,
             realpath: false,
+            open_dir: false,
+            listing: false,
             made: false,
             owner_given: false,
             umask: 0,
             symlink_draft: false,
         }
+    }
+
+    /// Whether the profile has no use for the directories that are open.
+    pub(crate) fn is_stateless(self) -> bool
+        ensures { result ≡ spec.is_stateless self }
+    {
+        !(self.open_dir || self.listing)
     }
 }

@@ -137,7 +137,11 @@ fn put_mended(
 /// # Errors
 ///
 /// `NoMemory` if memory runs out.
-fn mended(profile: Profile, shown: Option<&Attrs>, attrs: &Attrs) -> Result<Attrs, NoMemory>
+pub(crate) fn mended(
+    profile: Profile,
+    shown: Option<&Attrs>,
+    attrs: &Attrs,
+) -> Result<Attrs, NoMemory>
     ensures { IfOk result (λ attributes. attributes ≡ spec.mended profile (option_copied shown.entry) attrs.now) }
 {
     let mut copy = attrs.clone()?;
@@ -182,7 +186,7 @@ fn with_bits(shown: Option<u32>, given: Option<u32>) -> Option<u32>
 }
 
 /// Whether permissions have this type.
-fn is_type(wanted: u32, permissions: Option<u32>) -> bool
+pub(crate) fn is_type(wanted: u32, permissions: Option<u32>) -> bool
     ensures { result ≡ spec.is_type wanted permissions }
 {
     match permissions {

@@ -5,7 +5,7 @@ use crate::subcommands::open;
 use sftp_audit::{AuditError, Auditor, NoMemory, Refusal, TreeError, feed_all};
 use sftp_profile::{NAMES, Profile};
 use sftp_show::{
-    ExplainError, Found, Record, explain_reply, find_record, last_of_id, number_of_request,
+    ExplainError, Found, Quoted, Record, explain_reply, find_record, last_of_id, number_of_request,
     put_record,
 };
 use sftp_transcript::{Reader, Tally, TranscriptError};
@@ -411,9 +411,20 @@ fn put_causes_by<'a, R: Files + AllocGlobal, E: Write>(
     answer: &Answer,
     errors: &mut E,
 ) -> Result<(), Unexplained> {
-    refuse_again(rt, files, auditor)?;
+    let is_modelled = refuse_again(rt, files, auditor)?;
     explain_reply(rt.alloc(), auditor.session(), ask, answer, errors)?;
-    Ok(())
+    match ask {
+        Ask::Unknown { name, .. } if !is_modelled => put_unmodelled(name.as_slice(), errors),
+        _ => Ok(()),
+    }
+}
+
+/// Writes the name of an extension that the profile does not know.
+fn put_unmodelled<E: Write>(name: &[u8], errors: &mut E) -> Result<(), Unexplained> {
+    match writeln!(errors, "not modelled: extension {}", Quoted(name)) {
+        Ok(()) => Ok(()),
+        Err(_) => Err(Unexplained::Output),
+    }
 }
 
 /// Writes the names of the departures each of which, accepted besides, makes the session go on behind its refusal.
@@ -452,13 +463,14 @@ fn goes_on_with<'a, R: Files + AllocGlobal>(
         return Ok(false);
     }
     let mut auditor = new_auditor(rt.alloc(), profile, tree)?;
-    let fed = fed(rt, files, &mut auditor);
+    let mut is_modelled = true;
+    let fed = fed(rt, files, &mut auditor, &mut is_modelled);
     drop(auditor);
     Ok(fed? != Some(refusal))
 }
 
 /// Feeds the session to an auditor that has seen nothing of it, and returns the refusal, if it is refused before it
-/// ends or is malformed.
+/// ends or is malformed. `is_modelled` then says whether the profile follows the request.
 ///
 /// # Errors
 ///
@@ -467,9 +479,10 @@ fn fed<'a, R: Files + AllocGlobal>(
     rt: &R,
     files: &AuditOptions<'a>,
     auditor: &mut Auditor,
+    is_modelled: &mut bool,
 ) -> Result<Option<Refusal>, Unexplained> {
     let mut records = records(rt, files)?;
-    let fed = feed_all(auditor, &mut records);
+    let fed = feed_all(auditor, &mut records, is_modelled);
     drop(records);
     match fed {
         Err(AuditError::Refused(refusal)) => Ok(Some(refusal)),
@@ -487,8 +500,8 @@ fn new_auditor(alloc: Global, profile: Profile, tree: &[u8]) -> Result<Auditor, 
     Ok(Auditor::by(profile, tree)?)
 }
 
-/// Feeds the session to an auditor that has seen nothing of it. Its session is then the one in which the wrong reply
-/// came.
+/// Feeds the session to an auditor that has seen nothing of it, and returns whether the profile follows the request that
+/// is refused. The auditor's session is then the one in which the wrong reply came.
 ///
 /// # Errors
 ///
@@ -497,9 +510,10 @@ fn refuse_again<'a, R: Files + AllocGlobal>(
     rt: &R,
     files: &AuditOptions<'a>,
     auditor: &mut Auditor,
-) -> Result<(), Unexplained> {
-    match fed(rt, files, auditor)? {
-        Some(_) => Ok(()),
+) -> Result<bool, Unexplained> {
+    let mut is_modelled = true;
+    match fed(rt, files, auditor, &mut is_modelled)? {
+        Some(_) => Ok(is_modelled),
         None => Err(Unexplained::OtherTranscript),
     }
 }

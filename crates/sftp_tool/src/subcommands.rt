@@ -45,7 +45,14 @@ fn audit_from<'a, R: Files + AllocGlobal, O: Write, E: Write>(
     errors: &mut E,
 ) -> Result<Ending, Failure<'a>> {
     let transcript = open(rt, files.transcript)?;
-    match judge(rt.alloc(), files.profile, tree, transcript) {
+    let mut is_modelled = true;
+    match judge(
+        rt.alloc(),
+        files.profile,
+        tree,
+        transcript,
+        &mut is_modelled,
+    ) {
         Ok(accepted) => {
             let ending = accept(rt, &accepted, files.out, output);
             drop(accepted);
@@ -53,7 +60,7 @@ fn audit_from<'a, R: Files + AllocGlobal, O: Write, E: Write>(
         }
         Err(error) => {
             let refusal = refusal_or_failure(error, files.transcript)?;
-            let ending = refuse(refusal, output)?;
+            let ending = refuse(refusal, is_modelled, output)?;
             if files.explains {
                 explain(rt, files, tree, refusal, errors);
             }
@@ -62,15 +69,17 @@ fn audit_from<'a, R: Files + AllocGlobal, O: Write, E: Write>(
     }
 }
 
-/// Audits the session of a transcript that is read as a stream.
+/// Audits the session of a transcript that is read as a stream, and sets `is_modelled` to whether the profile follows it
+/// up to where it is refused.
 fn judge<F: Read + Drop>(
     alloc: Global,
     profile: Profile,
     tree: &[u8],
     transcript: F,
+    is_modelled: &mut bool,
 ) -> Result<Accepted, AuditError> {
     let mut records = Reader::new(alloc, Tally::new(transcript))?;
-    let accepted = sftp_audit::audit_stream_by(alloc, profile, tree, &mut records);
+    let accepted = sftp_audit::audit_stream_by(alloc, profile, tree, &mut records, is_modelled);
     drop(records);
     accepted
 }
@@ -151,12 +160,24 @@ fn accept<'a, R: Files + AllocGlobal, O: Write>(
     Ok(Ending::Done)
 }
 
-/// Says why the session is refused.
-fn refuse<'a, O: Write>(refusal: Refusal, output: &mut O) -> Result<Ending, Failure<'a>>
+/// Says why the session is refused: `NotModelled` where the profile does not follow a request.
+fn refuse<'a, O: Write>(
+    refusal: Refusal,
+    is_modelled: bool,
+    output: &mut O,
+) -> Result<Ending, Failure<'a>>
     ensures ok { IfOk result (λ ending. ending ≡ endings.Refused) }
     ensures err { IfErr result IsUnwritten }
 {
-    print(output, format_args!("refused {refusal}\n"))?;
+    match refusal {
+        Refusal::NotAllowed { record } if !is_modelled => {
+            print(
+                output,
+                format_args!("refused record {record}: NotModelled\n"),
+            )?;
+        }
+        _ => print(output, format_args!("refused {refusal}\n"))?,
+    }
     Ok(Ending::Refused)
 }
 

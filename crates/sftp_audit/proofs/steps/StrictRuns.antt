@@ -1,21 +1,17 @@
 -- Runs that are allowed strictly, and runs under a profile.
-use Rattle.std.proofs.Common.{◌≡◌, List, [], ◌∷◌, refl, ap, subst}
+use Rattle.std.proofs.Common.{◌≡◌, List, [], ◌∷◌, refl, sym, ap, subst, ◌∙◌}
 use Rattle.sftp_wire.specs.declared.packets.Request.{Request}
 use Rattle.sftp_wire.specs.declared.packets.Reply.{Reply}
 use Rattle.sftp_handles.specs.State as sessions
 use Rattle.sftp_handles.specs.Allowed.{Allowed}
 use Rattle.sftp_profile.specs.declared.profiles.Profile.{Profile}
 use Rattle.sftp_profile.specs.Profiles.{strict}
-use Rattle.sftp_profile.specs.State.{State}
+use Rattle.sftp_profile.specs.State.{State, bare}
 use Rattle.sftp_profile.specs.Permitted.{Permitted}
 use Rattle.sftp_profile.proofs.Permissions.{strict-both}
 use Rattle.sftp_transcript.specs.declared.events.Event.{Event}
 use Rattle.sftp_transcript.specs.Explained.{exchanges_of, leading_pairs, Run, Explained}
 use Rattle.sftp_transcript.specs.Sound.{Sound}
-
--- the session under a profile
-abbrev pub under : Profile → sessions.State → State
-under profile s = record { profile = profile; session = s }
 
 -- ---- a profile that permits what is allowed strictly
 
@@ -23,25 +19,25 @@ under profile s = record { profile = profile; session = s }
 abbrev pub PermitsAllowed : Profile → Type 0
 PermitsAllowed profile =
     (s : sessions.State) (request : Request) (reply : Reply) (end : sessions.State) → Allowed s request reply end
-    → Permitted (under profile s) request reply (under profile end)
+    → Permitted (bare profile s) request reply (bare profile end)
 
 -- the strict one
 pub strict-permits : PermitsAllowed strict
-strict-permits s request reply end allowed = (strict-both s request reply (under strict end)).1 (refl, allowed)
+strict-permits s request reply end allowed = (strict-both s request reply (bare strict end)).1 (refl, allowed)
 
 pub run-permitted : (profile : Profile) → PermitsAllowed profile → (s : sessions.State)
     (pairs : List (Request × Reply)) (end : sessions.State)
-    → Run Allowed s pairs end → Run Permitted (under profile s) pairs (under profile end)
-run-permitted profile permits s [] end run = ap (under profile) run
+    → Run Allowed s pairs end → Run Permitted (bare profile s) pairs (bare profile end)
+run-permitted profile permits s [] end run = ap (bare profile) run
 run-permitted profile permits s (pair ∷ pairs) end run = (
-  under profile run.0,
+  bare profile run.0,
   permits s pair.0 pair.1 run.0 run.1,
   run-permitted profile permits run.0 pairs end run.2,
 )
 
 pub sound-permitted : (profile : Profile) → PermitsAllowed profile → (s : sessions.State)
     (events : List Event) (end : sessions.State)
-    → Sound Allowed s events end → Sound Permitted (under profile s) events (under profile end)
+    → Sound Allowed s events end → Sound Permitted (bare profile s) events (bare profile end)
 sound-permitted profile permits s events end sound = record {
   in_turn = sound.in_turn;
   within_window = sound.within_window;
@@ -50,7 +46,7 @@ sound-permitted profile permits s events end sound = record {
 
 pub explained-permitted : (profile : Profile) → PermitsAllowed profile → (s : sessions.State)
     (events : List Event) (end : sessions.State)
-    → Explained Allowed s events end → Explained Permitted (under profile s) events (under profile end)
+    → Explained Allowed s events end → Explained Permitted (bare profile s) events (bare profile end)
 explained-permitted profile permits s events end explained = record {
   matching = explained.matching;
   within_window = explained.within_window;
@@ -61,16 +57,17 @@ explained-permitted profile permits s events end explained = record {
 
 -- a run under the strict profile stays under it, and is allowed strictly
 pub run-strict : (s : sessions.State) (pairs : List (Request × Reply)) (end : State)
-    → Run Permitted (under strict s) pairs end → (end.profile ≡ strict) × Run Allowed s pairs end.session
-run-strict s [] end run = (ap (λ (e : State). e.profile) run, ap (λ (e : State). e.session) run)
+    → Run Permitted (bare strict s) pairs end → (end ≡ bare strict end.session) × Run Allowed s pairs end.session
+run-strict s [] end run =
+    (run ∙ ap (λ (e : State). bare strict e.session) (sym run), ap (λ (e : State). e.session) run)
 run-strict s (pair ∷ pairs) end run =
     let first = (strict-both s pair.0 pair.1 run.0).0 run.1 in
     let rest = run-strict run.0.session pairs end
-    (subst (λ (profile : Profile). Run Permitted (under profile run.0.session) pairs end) first.0 run.2) in
+    (subst (λ (mid : State). Run Permitted mid pairs end) first.0 run.2) in
     (rest.0, (run.0.session, first.1, rest.1))
 
 pub sound-strict : (s : sessions.State) (events : List Event) (end : State)
-    → Sound Permitted (under strict s) events end → Sound Allowed s events end.session
+    → Sound Permitted (bare strict s) events end → Sound Allowed s events end.session
 sound-strict s events end sound = record {
   in_turn = sound.in_turn;
   within_window = sound.within_window;
@@ -78,7 +75,7 @@ sound-strict s events end sound = record {
 }
 
 pub explained-strict : (s : sessions.State) (events : List Event) (end : State)
-    → Explained Permitted (under strict s) events end → Explained Allowed s events end.session
+    → Explained Permitted (bare strict s) events end → Explained Allowed s events end.session
 explained-strict s events end explained = record {
   matching = explained.matching;
   within_window = explained.within_window;

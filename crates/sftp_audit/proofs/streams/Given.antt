@@ -16,8 +16,9 @@ use Rattle.sftp_profile.specs.State.{State}
 use Rattle.sftp_profile.specs.Permitted.{Permitted}
 use Rattle.sftp_audit.specs.declared.errors.Refusal.{Refusal}
 use Rattle.sftp_audit.specs.declared.errors.Refusal.TheVariants as refusals
-use Rattle.sftp_audit.specs.Auditor.{Audited, StandsFor, Refuses}
-use Rattle.sftp_audit.specs.Audit.{IsNew, IsNoJudgement, WasFed, StopsFeed, request_count, is_request}
+use Rattle.sftp_audit.specs.Exchanges.{recorded_exchanges}
+use Rattle.sftp_audit.specs.Auditor.{Audited, StandsFor, Refuses, IsTold}
+use Rattle.sftp_audit.specs.Audit.{IsNew, IsNoJudgement, WasFed, StopsFeed, IsToldOf, request_count, is_request}
 use Rattle.sftp_audit.specs.Audit.{HasRefused, error_of_transcript, error_of_session}
 
 -- the events so far were given and fed, and so many of them are requests
@@ -154,3 +155,27 @@ pub refused-for_good : (auditor : Audited) (refusal : Refusal)
     → (auditor.refusal ≡ Some refusal) × (auditor.kept ≡ []) → HasRefused (error_of_session refusal) auditor
 refused-for_good auditor refusals.NoMemory why = tt
 refused-for_good auditor other why = why
+
+-- ---- what is told of a stop
+
+-- a fault that is not one of memory or of the source tells nothing
+pub told-fault : (start : State) (transcript : List ℕ) (before after : Bool) (error : TranscriptError) → after ≡ before
+    → IsToldOf start transcript before after (error_of_transcript error)
+told-fault start transcript before after transcript_errors.NoMemory same = same
+told-fault start transcript before after other same = same
+
+pub told-refused : (start : State) (transcript : List ℕ) (requests : ℕ) (auditor : Audited)
+    (records records_now : Reading) (event : Event) (before after : Bool) (refusal : Refusal)
+    → (feeding : IsFeeding start transcript requests auditor records)
+    → GaveFrom transcript feeding.seen (Some event) records_now
+    → IsTold start (recorded_exchanges (feeding.seen ++ event ∷ [])) before after refusal
+    → IsToldOf start transcript before after (error_of_session refusal)
+told-refused start transcript requests auditor records records_now event before after refusals.NoMemory feeding gave told =
+    told
+told-refused start transcript requests auditor records records_now event before after other feeding gave told = record {
+  events = feeding.seen;
+  event = event;
+  rest = gave.0;
+  begins = begun_by records_now.stage transcript feeding.seen event gave.0 gave.1.read;
+  told = told;
+}

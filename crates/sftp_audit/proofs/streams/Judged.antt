@@ -1,6 +1,6 @@
 -- What the parts of an audit say of the whole.
 use Rattle.std.proofs.Common.{◌≡◌, ◌≢◌, inl, inr, ℕ, List, [], ◌∷◌, ◌++◌, refl, sym, ap, ◌∙◌, subst, append_assoc}
-use Rattle.std.proofs.Common.{false, Some, None, Result, Ok, Err}
+use Rattle.std.proofs.Common.{Bool, true, false, Some, None, Result, Ok, Err}
 use Rattle.std.specs.Result.{IfErr}
 use Rattle.sftp_wire.proofs.StreamLaws.Front.{spellings-apart}
 use Rattle.sftp_tree.specs.Tree.{Tree, trim}
@@ -22,7 +22,9 @@ use Rattle.sftp_audit.specs.declared.errors.Refusal.{Refusal}
 use Rattle.sftp_audit.specs.declared.errors.Refusal.TheVariants as refusals
 use Rattle.sftp_audit.specs.Auditor.{Audited, LacksReply}
 use Rattle.sftp_audit.specs.Audit.{AccountsBy, FaultAt, RefusedAt, IsFirstFaultBy, IsNoJudgement}
-use Rattle.sftp_audit.specs.Audit.{IsTreeError, JudgesTree}
+use Rattle.sftp_treefile.specs.declared.errors.TreeError.{TreeError}
+use Rattle.sftp_treefile.specs.declared.errors.TreeError.TheVariants as tree_errors
+use Rattle.sftp_audit.specs.Audit.{IsTreeError, JudgesTree, IsToldOf, IsToldBy, ToldAt, error_of_tree}
 use Rattle.sftp_audit.specs.Audit.{IsExcusedBy, IsNew, IsPlain, WasFed, StopsFeed, error_of_session}
 use Rattle.sftp_audit.proofs.auditing.Lost.{refuses_lost, lacks_lost}
 
@@ -180,3 +182,41 @@ refused-memory profile tree bytes left failures reads records (Err error) same i
     subst (λ (r : Reading). IsNew bytes r) (ap (λ (l : List ℕ). fresh l failures reads) (sym same) ∙ sym is)
     (is_new bytes failures reads) in
     refused (judges error apart (excused new.0.faultless)) bytes new
+
+-- ---- what is told
+
+-- of a tree file nothing is told
+pub told-tree : (profile : Profile) (tree transcript : List ℕ) (told : Bool) (error : TreeError) → told ≡ true
+    → IsToldBy profile tree transcript told (error_of_tree error)
+told-tree profile tree transcript told tree_errors.NoMemory same = same
+told-tree profile tree transcript told other same = same
+
+told-kind : (profile : Profile) (start : Tree) (tree transcript : List ℕ) (told : Bool) (refusal : Refusal)
+    → IsStart start tree → ToldAt (begun profile start) transcript true told refusal
+    → IsToldBy profile tree transcript told (audit_errors.Refused refusal)
+told-kind profile start tree transcript told (refusals.UnknownReply number) found at = at.told
+told-kind profile start tree transcript told (refusals.IdInUse number) found at = at.told
+told-kind profile start tree transcript told (refusals.Window number) found at = at.told
+told-kind profile start tree transcript told (refusals.NotAllowed number) found at = (start, found, at)
+told-kind profile start tree transcript told (refusals.Unanswered number) found at = at.told
+told-kind profile start tree transcript told refusals.NoMemory found at = at.told
+
+pub told-feed : (profile : Profile) (start : Tree) (tree transcript : List ℕ) (before told : Bool) (error : AuditError)
+    → before ≡ true → IsStart start tree → IsToldOf (begun profile start) transcript before told error
+    → IsToldBy profile tree transcript told error
+told-feed profile start tree transcript false told error is found at = absurd cc
+told-feed profile start tree transcript true told (audit_errors.Refused refusal) is found at =
+    told-kind profile start tree transcript told refusal found at
+told-feed profile start tree transcript true told (audit_errors.Tree error) is found at = at
+told-feed profile start tree transcript true told (audit_errors.Transcript error) is found at = at
+told-feed profile start tree transcript true told audit_errors.NoMemory is found at = at
+
+-- at the end a request without a reply is all that can be wrong
+pub told-end : (profile : Profile) (tree transcript : List ℕ) (events : List Event) (told : Bool) (refusal : Refusal)
+    → told ≡ true → LacksReply events refusal → IsToldBy profile tree transcript told (error_of_session refusal)
+told-end profile tree transcript events told (refusals.UnknownReply number) same lacks = same
+told-end profile tree transcript events told (refusals.IdInUse number) same lacks = same
+told-end profile tree transcript events told (refusals.Window number) same lacks = same
+told-end profile tree transcript events told (refusals.NotAllowed number) same lacks = absurd lacks
+told-end profile tree transcript events told (refusals.Unanswered number) same lacks = same
+told-end profile tree transcript events told refusals.NoMemory same lacks = same

@@ -4,11 +4,12 @@ use Rattle.std.specs.Result.{IfOk, IfErr}
 use Rattle.sftp_tree.specs.Tree.{Tree}
 use Rattle.sftp_profile.specs.declared.profiles.Profile.{Profile}
 use Rattle.sftp_profile.specs.Profiles.{strict}
+use Rattle.sftp_profile.specs.State.{bare}
 use Rattle.sftp_transcript.specs.declared.events.Event.{Event}
 use Rattle.sftp_transcript.specs.Recorded.{Reading}
 use Rattle.sftp_audit.specs.declared.errors.AuditError.{AuditError}
 use Rattle.sftp_audit.specs.Audit.{Accounts, AccountsBy, IsNew, started}
-use Rattle.sftp_audit.proofs.steps.StrictRuns.{under, PermitsAllowed, strict-permits}
+use Rattle.sftp_audit.proofs.steps.StrictRuns.{PermitsAllowed, strict-permits}
 use Rattle.sftp_audit.proofs.steps.StrictRuns.{explained-permitted, explained-strict}
 
 pub accounts-permitted : (profile : Profile) → PermitsAllowed profile → (tree transcript : List ℕ) (start : Tree)
@@ -17,7 +18,7 @@ pub accounts-permitted : (profile : Profile) → PermitsAllowed profile → (tre
 accounts-permitted profile permits tree transcript start events end told = record {
   start_is = told.start_is;
   events_are = told.events_are;
-  last = under profile told.last;
+  last = bare profile told.last;
   explained = explained-permitted profile permits (started start) events told.last told.explained;
   end_is = told.end_is;
 }

@@ -6,7 +6,7 @@ use Rattle.sftp_handles.specs.State as sessions
 use Rattle.sftp_handles.specs.Allowed.{Allowed}
 use Rattle.sftp_profile.specs.declared.profiles.Profile.{Profile}
 use Rattle.sftp_profile.specs.Profiles.{strict}
-use Rattle.sftp_profile.specs.State.{begun}
+use Rattle.sftp_profile.specs.State.{State, begun, bare}
 use Rattle.sftp_profile.specs.Permitted.{Permitted}
 use Rattle.sftp_profile.proofs.Permissions.{strict-both}
 use Rattle.sftp_transcript.specs.declared.events.Event.{Event}
@@ -23,7 +23,7 @@ use Rattle.sftp_audit.specs.Exchanges.{ledger_of}
 use Rattle.sftp_audit.specs.Auditor.{IsFirstWrong, Refuses}
 use Rattle.sftp_audit.specs.Audit.{started, RefusedAt, RefusedAtEnd, IsFirstFaultOf, IsFirstFault, IsFirstFaultBy}
 use Rattle.sftp_audit.specs.Audit.{IsNew}
-use Rattle.sftp_audit.proofs.steps.StrictRuns.{under, run-permitted, run-strict, sound-permitted, sound-strict}
+use Rattle.sftp_audit.proofs.steps.StrictRuns.{run-permitted, run-strict, sound-permitted, sound-strict}
 use Rattle.sftp_audit.proofs.steps.StrictRuns.{strict-permits}
 
 -- what is sound for one machine is so for another, and what it finds wrong first the other does too
@@ -87,7 +87,7 @@ fault-carried step other from to carries tree transcript audit_errors.NoMemory f
 -- ---- from what is allowed strictly to what the strict profile permits
 
 wrong-permitted : (s : sessions.State) (exchanges : List Exchange) (number : ℕ)
-    → IsFirstWrong Allowed s exchanges number → IsFirstWrong Permitted (under strict s) exchanges number
+    → IsFirstWrong Allowed s exchanges number → IsFirstWrong Permitted (bare strict s) exchanges number
 wrong-permitted s exchanges number first = record {
   before = first.before;
   request = first.request;
@@ -96,21 +96,21 @@ wrong-permitted s exchanges number first = record {
   behind = first.behind;
   exchanges_are = first.exchanges_are;
   answered = first.answered;
-  mid = under strict first.mid;
+  mid = bare strict first.mid;
   run = run-permitted strict strict-permits s (leading_pairs (ledger_of first.before)) first.mid first.run;
   wrong = λ end permitted.
       first.wrong end.session ((strict-both first.mid first.request first.reply end).0 permitted).1;
 }
 
-carries-permitted : (s : sessions.State) → Carries Allowed Permitted s (under strict s)
+carries-permitted : (s : sessions.State) → Carries Allowed Permitted s (bare strict s)
 carries-permitted s = record {
-  sound = λ events end sound. (under strict end, sound-permitted strict strict-permits s events end sound);
+  sound = λ events end sound. (bare strict end, sound-permitted strict strict-permits s events end sound);
   wrong = wrong-permitted s;
 }
 
 pub refuses-permitted : (s : sessions.State) (events : List Event) (event : Event) (refusal : Refusal)
-    → Refuses Allowed s events event refusal → Refuses Permitted (under strict s) events event refusal
-refuses-permitted s = refuses-carried Allowed Permitted s (under strict s) (carries-permitted s)
+    → Refuses Allowed s events event refusal → Refuses Permitted (bare strict s) events event refusal
+refuses-permitted s = refuses-carried Allowed Permitted s (bare strict s) (carries-permitted s)
 
 pub fault-permitted : (tree transcript : List ℕ) (error : AuditError) → IsFirstFault tree transcript error
     → IsFirstFaultBy strict tree transcript error
@@ -120,7 +120,7 @@ fault-permitted =
 -- ---- and back
 
 wrong-strict : (s : sessions.State) (exchanges : List Exchange) (number : ℕ)
-    → IsFirstWrong Permitted (under strict s) exchanges number → IsFirstWrong Allowed s exchanges number
+    → IsFirstWrong Permitted (bare strict s) exchanges number → IsFirstWrong Allowed s exchanges number
 wrong-strict s exchanges number first =
     let run = run-strict s (leading_pairs (ledger_of first.before)) first.mid first.run in
     record {
@@ -134,14 +134,13 @@ wrong-strict s exchanges number first =
       mid = first.mid.session;
       run = run.1;
       wrong = λ end allowed.
-          first.wrong (under strict end)
+          first.wrong (bare strict end)
           (subst
-          (λ (profile : Profile). Permitted (under profile first.mid.session) first.request first.reply
-          (under strict end))
+          (λ (mid : State). Permitted mid first.request first.reply (bare strict end))
           (sym run.0) (strict-permits first.mid.session first.request first.reply end allowed));
     }
 
-carries-strict : (s : sessions.State) → Carries Permitted Allowed (under strict s) s
+carries-strict : (s : sessions.State) → Carries Permitted Allowed (bare strict s) s
 carries-strict s = record {
   sound = λ events end sound. (end.session, sound-strict s events end sound);
   wrong = wrong-strict s;

@@ -1,8 +1,9 @@
 -- The events are fed to an auditor from the tree that was read, and the end is the tree where their run ends.
+use Rattle.std.proofs.Common.{true, refl}
 use Rattle.std.proofs.lemmas.Result.{err_from_is_err_and}
 use Rattle.sftp_profile.specs.State.{begun}
 use Rattle.sftp_audit.proofs.streams.Judged.{feed-lost, feed-first, judged-feed, judged-end}
-use Rattle.sftp_audit.proofs.streams.Judged.{end-lost, end-first, accounts-fed}
+use Rattle.sftp_audit.proofs.streams.Judged.{end-lost, end-first, accounts-fed, told-feed, told-end}
 use Rattle.sftp_audit.proofs.audits.audit_stream_by.Goals as goal
 
 pub returns-in-Err-clause-refused : goal.returns-in-Err-clause-refused
@@ -67,3 +68,19 @@ returns-in_err-end-clause-judged g c =
 
 pub returns-clause-judged : goal.returns-clause-judged
 returns-clause-judged g c = (c.in_ok-read.field-0, c.in_ok-read.ensures.found)
+
+pub returns-in-Err-clause-told : goal.returns-in-Err-clause-told
+returns-in-Err-clause-told g c = λ judged transcript new.
+    let start = c.in_ok-read.field-0 in
+    told-feed c.args.profile start c.args.tree.now transcript true c.feed_all.new.is_modelled c.in-Err.error refl
+    c.in_ok-read.ensures.found
+    (c.in-Err.ensures.told judged (begun c.args.profile start) transcript new c.in_ok-auditor.ensures.stands)
+
+pub returns-in_err-end-clause-told : goal.returns-in_err-end-clause-told
+returns-in_err-end-clause-told g c =
+    let p = err_from_is_err_and c.from_residual-in_err-end.result c.from_residual-in_err-end.ensures.1 in
+    let start = c.in_ok-read.field-0 in
+    rw (p.1, p.2) (λ judged transcript new.
+    let was = c.in-Ok.ensures.fed (begun c.args.profile start) transcript new c.in_ok-auditor.ensures.stands in
+    told-end c.args.profile c.args.tree.now transcript was.events c.feed_all.new.is_modelled c.in_err-end.field-0.0
+    c.in-Ok.ensures.untold (c.in_err-end.ensures.unanswered (begun c.args.profile start) was.events was.stands))

@@ -1,16 +1,19 @@
 -- Each turn of the loop gives an event and feeds it; the feed ends where no event is left, or at an error.
-use Rattle.std.proofs.Common.{ℕ, Option, Some, refl, subst, ◌∙◌, arith}
+use Rattle.std.proofs.Common.{ℕ, Bool, Option, Some, [], ◌∷◌, ◌++◌, refl, subst, ◌∙◌, arith}
 use Rattle.std.proofs.lemmas.Grind.{common_steps}
 use Rattle.std.proofs.lemmas.Result.{err_from_is_err_and}
 use Rattle.sftp_transcript.specs.declared.events.Event.{Event}
 use Rattle.sftp_transcript.specs.Begun.{GaveFrom}
 use Rattle.sftp_audit.proofs.streams.Given.{IsFeeding, feeding-start, feeding-next, all-fed, stops-fault, stops-refused}
-use Rattle.sftp_audit.proofs.streams.Given.{fault-refuses_nothing, refused-for_good}
+use Rattle.sftp_audit.specs.Exchanges.{recorded_exchanges}
+use Rattle.sftp_audit.specs.Auditor.{IsTold}
+use Rattle.sftp_audit.proofs.streams.Given.{fault-refuses_nothing, refused-for_good, told-fault, told-refused}
 use Rattle.sftp_audit.proofs.audits.feed_all.Goals as goal
 
 pub events-init : goal.events-init
 events-init g c = record {
   feeding = feeding-start c.args.auditor.now c.args.records.now;
+  untold = refl;
   faultless = λ is. is;
   sound = λ is. refl;
 }
@@ -36,28 +39,52 @@ events-preserved g c = record {
       subst (λ (given : Option Event). GaveFrom transcript feeding.seen given c.next.new.self) c.in-Some.is
       (c.in_ok-event.ensures.first transcript feeding.ahead feeding.seen feeding.given) in
       let fed =
-      feeding-next start transcript c.events.requests c.events.auditor c.feed.new.self c.events.records
-      c.next.new.self c.in-Some.event feeding gave (c.in_ok-feed.ensures.stands start feeding.seen feeding.stands) in
-      subst (λ (m : ℕ). IsFeeding start transcript m c.feed.new.self c.next.new.self) (grind (arith, common_steps)) fed;
+      feeding-next start transcript c.events.requests c.events.auditor c.feed_by.new.self c.events.records
+      c.next.new.self c.in-Some.event feeding gave (c.in_ok-feed_by.ensures.stands start feeding.seen feeding.stands) in
+      subst (λ (m : ℕ). IsFeeding start transcript m c.feed_by.new.self c.next.new.self) (grind (arith, common_steps)) fed;
+  untold = c.in_ok-feed_by.ensures.untold ∙ c.events.invariant.untold;
   faultless = λ is. c.in_ok-event.ensures.fault;
   sound = λ is. c.in_ok-event.ensures.counts (c.events.invariant.faultless is) ∙ c.events.invariant.sound is;
 }
 
-pub returns-in_err-feed-clause-stopped : goal.returns-in_err-feed-clause-stopped
-returns-in_err-feed-clause-stopped g c =
-    let p = err_from_is_err_and c.from_residual-in_err-feed.result c.from_residual-in_err-feed.ensures.1 in
+pub returns-in_err-feed_by-clause-stopped : goal.returns-in_err-feed_by-clause-stopped
+returns-in_err-feed_by-clause-stopped g c =
+    let p = err_from_is_err_and c.from_residual-in_err-feed_by.result c.from_residual-in_err-feed_by.ensures.1 in
     rw (p.1, p.2) (λ judged start transcript new stands.
     let feeding = c.events.invariant.feeding start transcript new stands in
     let gave : GaveFrom transcript feeding.seen (Some c.in-Some.event) c.next.new.self =
     subst (λ (given : Option Event). GaveFrom transcript feeding.seen given c.next.new.self) c.in-Some.is
     (c.in_ok-event.ensures.first transcript feeding.ahead feeding.seen feeding.given) in
     stops-refused start transcript c.events.requests c.events.auditor c.events.records c.next.new.self c.in-Some.event
-    c.in_err-feed.field-0.0 feeding gave (c.in_err-feed.ensures.refused start feeding.seen feeding.stands))
+    c.in_err-feed_by.field-0.0 feeding gave (c.in_err-feed_by.ensures.refused start feeding.seen feeding.stands))
 
-pub returns-in_err-feed-clause-for_good : goal.returns-in_err-feed-clause-for_good
-returns-in_err-feed-clause-for_good g c =
-    let p = err_from_is_err_and c.from_residual-in_err-feed.result c.from_residual-in_err-feed.ensures.1 in
-    rw (p.1, p.2) (refused-for_good c.feed.new.self c.in_err-feed.field-0.0 c.in_err-feed.ensures.for_good)
+pub returns-in_err-feed_by-clause-for_good : goal.returns-in_err-feed_by-clause-for_good
+returns-in_err-feed_by-clause-for_good g c =
+    let p = err_from_is_err_and c.from_residual-in_err-feed_by.result c.from_residual-in_err-feed_by.ensures.1 in
+    rw (p.1, p.2) (refused-for_good c.feed_by.new.self c.in_err-feed_by.field-0.0 c.in_err-feed_by.ensures.for_good)
+
+pub returns-in_err-event-clause-told : goal.returns-in_err-event-clause-told
+returns-in_err-event-clause-told g c =
+    let p = err_from_is_err_and c.from_residual.result c.from_residual.ensures.1 in
+    rw (p.1, p.2) (λ judged start transcript new stands.
+    told-fault start transcript c.args.is_modelled.now c.events.is_modelled c.in_err-event.field-0.0
+    c.events.invariant.untold)
+
+pub returns-in_err-feed_by-clause-told : goal.returns-in_err-feed_by-clause-told
+returns-in_err-feed_by-clause-told g c =
+    let p = err_from_is_err_and c.from_residual-in_err-feed_by.result c.from_residual-in_err-feed_by.ensures.1 in
+    rw (p.1, p.2) (λ judged start transcript new stands.
+    let feeding = c.events.invariant.feeding start transcript new stands in
+    let gave : GaveFrom transcript feeding.seen (Some c.in-Some.event) c.next.new.self =
+    subst (λ (given : Option Event). GaveFrom transcript feeding.seen given c.next.new.self) c.in-Some.is
+    (c.in_ok-event.ensures.first transcript feeding.ahead feeding.seen feeding.given) in
+    told-refused start transcript c.events.requests c.events.auditor c.events.records c.next.new.self c.in-Some.event
+    c.args.is_modelled.now c.feed_by.new.is_modelled c.in_err-feed_by.field-0.0 feeding gave
+    (subst
+    (λ (before : Bool).
+    IsTold start (recorded_exchanges (feeding.seen ++ c.in-Some.event ∷ [])) before c.feed_by.new.is_modelled
+    c.in_err-feed_by.field-0.0) c.events.invariant.untold
+    (c.in_err-feed_by.ensures.told start feeding.seen feeding.stands)))
 
 pub returns-clause-fed : goal.returns-clause-fed
 returns-clause-fed g c = λ start transcript new stands.

@@ -3,6 +3,6 @@ use Rattle.sftp_audit.proofs.streams.StrictAccounts.{accounts-permitted}
 use Rattle.sftp_audit.proofs.laws.strict_accounts_stay.Goals as goal
 
 pub returns : goal.returns
-returns c profile tree transcript start events end keeps =
-    accounts-permitted profile (λ s request reply end. strictly-permitted profile s request reply end keeps)
+returns c profile tree transcript start events end keeps stateless =
+    accounts-permitted profile (λ s request reply end. strictly-permitted profile s request reply end keeps stateless)
     tree transcript start events end

@@ -1,12 +1,17 @@
-use Rattle.std.proofs.Common.{arith}
+use Rattle.std.proofs.Common.{refl, arith}
 use Rattle.std.proofs.lemmas.List.{length-drop}
 use Rattle.sftp_audit.proofs.auditing.Settled.{done-start, done-more, done-wrong, done-wrong_in}
 use Rattle.sftp_audit.proofs.auditing.Settled.{done-kept, done-ran}
 use Rattle.sftp_audit.proofs.auditing.Settled.{unsettled-waits, unsettled-none}
+use Rattle.sftp_audit.proofs.auditing.Told.{done-told}
 use Rattle.sftp_audit.proofs.settling.settle.Goals as goal
 
 pub settle-init : goal.settle-init
-settle-init c = record { done = done-start c.args.judge.now c.args.ledger.now; never_grows = omega arith }
+settle-init c = record {
+  done = done-start c.args.judge.now c.args.ledger.now;
+  untold = refl;
+  never_grows = omega arith;
+}
 
 pub settle-preserved : goal.settle-preserved
 settle-preserved c = record {
@@ -15,6 +20,7 @@ settle-preserved c = record {
       (done-more c.args.judge.now c.settle.judge c.accept.new.self c.args.ledger.now c.settle.ledger
       c.in-Some.exchange.now c.in-Some-reply.recorded c.settle.invariant.done c.in-Some.ensures c.in-Some-reply.is
       (c.in_ok-accept.ensures.allowed c.if-not-branch.false));
+  untold = c.settle.invariant.untold;
   never_grows =
       rw c.forget_first.ensures (omega (arith, c.settle.invariant.never_grows, length-drop 1 c.settle.ledger));
 }
@@ -30,6 +36,14 @@ returns-then-not-branch-clause-wrong c =
     done-wrong_in c.args.judge.now c.settle.judge c.accept.new.self c.args.ledger.now c.settle.ledger
     c.in-Some.exchange.now c.in-Some-reply.recorded c.settle.invariant.done c.in-Some.ensures c.in-Some-reply.is
     (c.in_ok-accept.ensures.refused c.if-not-branch.true) (c.in_ok-accept.ensures.kept c.if-not-branch.true)
+
+pub returns-then-not-branch-clause-told : goal.returns-then-not-branch-clause-told
+returns-then-not-branch-clause-told c =
+    done-told c.args.judge.now c.settle.judge c.accept.new.self c.args.ledger.now c.settle.ledger
+    c.in-Some.exchange.now c.in-Some-reply.recorded c.args.is_modelled.now c.is_modelled.result
+    c.settle.invariant.done c.in-Some.ensures c.in-Some-reply.is
+    (c.in_ok-accept.ensures.refused c.if-not-branch.true) (c.in_ok-accept.ensures.kept c.if-not-branch.true)
+    c.is_modelled.ensures
 
 pub returns-in_default-reply-clause-kept : goal.returns-in_default-reply-clause-kept
 returns-in_default-reply-clause-kept c =

@@ -3,6 +3,7 @@ use Rattle.std.proofs.Common.{refl}
 use Rattle.std.proofs.lemmas.Result.{err_from_is_err_and}
 use Rattle.sftp_audit.proofs.auditing.Standing.{result-asked, refusal-asked, refusal-replied, result-settled}
 use Rattle.sftp_audit.proofs.auditing.Standing.{refusal-settled, state-asked, state-settled, state-replied}
+use Rattle.sftp_audit.proofs.auditing.Told.{call-asked, call-replied, call-settled}
 use Rattle.sftp_audit.proofs.auditor.Auditor.note.Goals as goal
 
 pub returns-in-Asked-clause-stands : goal.returns-in-Asked-clause-stands
@@ -53,3 +54,21 @@ returns-in_ok-answer-in-Replied-clause-refused c =
     refusal-settled c.settle.result c.args.event c.in-Replied.reply c.args.self.now _ c.answer.new.self c.in-Replied.is
     c.self.view_is c.in_ok-answer-in-Replied.ensures.waited c.in_ok-answer-in-Replied.ensures.noted
     c.settle.ensures.refused
+
+pub returns-in-Asked-clause-told : goal.returns-in-Asked-clause-told
+returns-in-Asked-clause-told c =
+    call-asked c.ask.result c.args.event c.in-Asked.request c.args.self.now _ _ _ _ refl c.ask.ensures.refused
+
+pub returns-in_err-answer-in-Replied-clause-told : goal.returns-in_err-answer-in-Replied-clause-told
+returns-in_err-answer-in-Replied-clause-told c =
+    let p = err_from_is_err_and c.from_residual.result c.from_residual.ensures.1 in
+    let e = c.in_err-answer-in-Replied in
+    let told = call-replied c.args.event c.in-Replied.reply c.args.self.now _ _ c.args.is_modelled.now
+    c.args.is_modelled.now e.field-0.0 refl e.ensures.refused in
+    rw (p.1, p.2) told
+
+pub returns-in_ok-answer-in-Replied-clause-told : goal.returns-in_ok-answer-in-Replied-clause-told
+returns-in_ok-answer-in-Replied-clause-told c =
+    call-settled c.settle.result c.args.event c.in-Replied.reply c.args.self.now _ c.answer.new.self _ _ c.in-Replied.is
+    c.self.view_is c.in_ok-answer-in-Replied.ensures.waited c.in_ok-answer-in-Replied.ensures.noted
+    c.settle.ensures.told

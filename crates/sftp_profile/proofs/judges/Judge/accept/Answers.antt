@@ -14,7 +14,7 @@ returns-clause-allowed c =
     IfOk-weaker c.step.result (λ ok. IsStep s request.ask reply.answer ok c.step.new.self)
     (λ ok. IsTrue ok → Permitted s request reply c.step.new.self)
     (λ ok found. permitted-reply s c.step.new.self request reply c.if-reply-request.false ok found)
-    c.step.ensures.ok
+    c.step.ensures
 
 pub returns-clause-refused : goal.returns-clause-refused
 returns-clause-refused c =
@@ -23,7 +23,7 @@ returns-clause-refused c =
     let reply = c.args.reply.now in
     IfOk-weaker c.step.result (λ ok. IsStep s request.ask reply.answer ok c.step.new.self)
     (λ ok. ok ≡ false → (end : State) → Permitted s request reply end → ⊥)
-    (λ ok found. refused-reply s c.step.new.self request reply ok found) c.step.ensures.ok
+    (λ ok found. refused-reply s c.step.new.self request reply ok found) c.step.ensures
 
 pub returns-clause-kept : goal.returns-clause-kept
 returns-clause-kept c =
@@ -31,4 +31,4 @@ returns-clause-kept c =
     let request = c.args.request.now in
     let reply = c.args.reply.now in
     IfOk-weaker c.step.result (λ ok. IsStep s request.ask reply.answer ok c.step.new.self)
-    (λ ok. ok ≡ false → c.step.new.self ≡ s) (λ ok found. found.kept) c.step.ensures.ok
+    (λ ok. ok ≡ false → c.step.new.self ≡ s) (λ ok found. found.kept) c.step.ensures

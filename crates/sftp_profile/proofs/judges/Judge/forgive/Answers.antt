@@ -17,7 +17,7 @@ returns-then-branch-2-clause-ok c =
     let ask = c.args.request.now.ask in
     let answer = c.args.reply.now.answer in
     unpassed-outcome s c.retell.new.self ask answer true (sym c.in_ok-forgives.ensures ∙ c.if-branch.false)
-    (first-outcome s.profile (retold s.session ask (told s.profile s.session ask answer))
+    (first-outcome s (retold s.session ask (told s.profile s.session ask answer))
     (taken_for s.profile s.session ask answer) s c.retell.new.self c.in_ok-retell.field-0 c.if-branch-2.true
     c.in_ok-retell.ensures.ok)
 
@@ -29,7 +29,7 @@ returns-clause-ok c =
     IfOk-weaker c.take_for.result
     (λ ok.
     Outcome
-    (under s.profile
+    (under s
     (first_of (retold s.session ask (told s.profile s.session ask answer))
     (taken_for s.profile s.session ask answer))) s ok c.take_for.new.self)
     (λ ok. IsForgiven s ask answer ok c.take_for.new.self)

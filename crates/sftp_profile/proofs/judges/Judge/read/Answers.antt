@@ -9,7 +9,7 @@ returns-then-branch-clause-ok c =
     let s = c.args.self.now in
     let ask = c.args.request.now.ask in
     let answer = c.args.reply.now.answer in
-    first-outcome s.profile (strictly.step s.session ask answer)
+    first-outcome s (strictly.step s.session ask answer)
     (retold s.session ask (told s.profile s.session ask answer)) s c.judge_strictly.new.self
     c.in_ok-judge_strictly.field-0 c.if-branch.true c.in_ok-judge_strictly.ensures.ok
 

@@ -1,0 +1,12 @@
+-- Those so far are changed, and the others stand as they were.
+use Rattle.std.proofs.Common.{◌≡◌, map, take, drop}
+use Rattle.sftp_handles.specs.Replies.{names_in}
+use Rattle.sftp_profile.specs.Directories.{given_by}
+use Rattle.sftp_profile.proofs.notes.give_all.Given as goal
+
+abbrev pub invariant-loop-directory : goal.invariant-loop-directory
+invariant-loop-directory l = record {
+  taken : take l.directory-index l.directory-items
+      ≡ map (given_by l.handle (names_in l.items)) (take l.directory-index l.initial.directory-items);
+  rest : drop l.directory-index l.directory-items ≡ drop l.directory-index l.initial.directory-items;
+}
