@@ -64,7 +64,7 @@ def wrong_recorder(prefix, room):
              TOP / "examples/blank.tree"]
     ran = subprocess.run([str(it) for it in words], input=INIT, stdout=subprocess.PIPE, stderr=subprocess.STDOUT)
     recorded = (room / "opened").read_bytes() if (room / "opened").is_file() else b""
-    if ran.returncode or recorded != b"SFTPTR01C" + INIT + b"S" + ran.stdout or len(ran.stdout) != 97:
+    if ran.returncode or recorded != b"SFTPTR01C" + INIT + b"S" + ran.stdout or len(ran.stdout) != 124:
         yield f"install: sftpv3-record ended with status {ran.returncode} and recorded {recorded.hex()}"
 
 
