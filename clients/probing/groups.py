@@ -6,9 +6,8 @@ CODES = {0: "OK", 1: "EOF", 2: "NO_SUCH_FILE", 3: "PERMISSION_DENIED", 4: "FAILU
 
 KINDS = {"04": "a directory", "10": "a file", "12": "a link"}
 
-# The verdicts on a reply that can be read, and what stands behind what was found. An audit by a profile says
-# NotModelled of what it cannot follow.
-JUDGED = {"NotAllowed": "", "NotModelled": " (NotModelled)"}
+# The verdicts on a reply that can be read. An audit by a profile says NotModelled of what it cannot follow.
+JUDGED = ("NotAllowed", "NotModelled")
 
 FIELDS = [("size", "size"), ("uid", "user"), ("gid", "group"), ("permissions", "permissions")]
 
@@ -64,7 +63,9 @@ def key_of(difference):
     found = found or of_reply(verdict.lines.get("reply", ""))
     causes = tuple(sorted(cause for cause in causes if cause != "none"))
     expected, found = alike(expected, found)
-    return difference.name, causes, expected, found + JUDGED[verdict.kind]
+    if verdict.kind == "NotModelled":
+        found += f" (NotModelled: {verdict.lines.get('not modelled', 'the request')})"
+    return difference.name, causes, expected, found
 
 
 def of_reply(line):
