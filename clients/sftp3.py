@@ -21,6 +21,7 @@ EXTENSIONS = {
     "POSIX-RENAME": b"posix-rename@openssh.com",
     "HARDLINK": b"hardlink@openssh.com",
     "FSYNC": b"fsync@openssh.com",
+    "LIMITS": b"limits@sftpv3.test",
 }
 
 # The type of each request, and the kinds of its fields: string, handle (a string), word (4 bytes), long (8 bytes),
@@ -47,13 +48,14 @@ REQUESTS = {
     "POSIX-RENAME": (200, "string string"),
     "HARDLINK": (200, "string string"),
     "FSYNC": (200, "handle"),
+    "LIMITS": (200, ""),
     "EXTENDED": (200, "string rest"),
 }
 
 NAMES = {kind: name for name, (kind, _) in REQUESTS.items() if kind != 200}
 
 # Requests that change nothing, whatever the server answers.
-LOOKERS = {"LSTAT", "STAT", "FSTAT", "READ", "REALPATH", "READLINK", "FSYNC"}
+LOOKERS = {"LSTAT", "STAT", "FSTAT", "READ", "REALPATH", "READLINK", "FSYNC", "LIMITS"}
 
 
 class Malformed(Exception):

@@ -1,13 +1,13 @@
 """Random requests, trees, and changes of bytes, each by a given source of random numbers."""
-from packets import (CLOSE, EXTENDED, FSETSTAT, FSTAT, LSTAT, MKDIR, OPEN, OPENDIR, READ, READDIR, READLINK, REALPATH,
-                     REMOVE, RENAME, RMDIR, SETSTAT, STAT, SYMLINK, TRANSCRIPT_OPENING, WRITE, attrs, number, packet,
-                     records, string, transcript, tree, wide)
+from packets import (CLOSE, EXTENDED, FSETSTAT, FSTAT, HIGHEST_LIMITS, LOWEST_LIMITS, LSTAT, MKDIR, OPEN, OPENDIR, READ,
+                     READDIR, READLINK, REALPATH, REMOVE, RENAME, RMDIR, SETSTAT, STAT, SYMLINK, TRANSCRIPT_OPENING,
+                     WRITE, attrs, number, packet, records, string, transcript, tree, wide)
 
 NAMES = [b"a", b"b", b"c", b"d", b"l", b"m"]
 STEPS = [*NAMES, b"..", b".", b"", b"\xff\x01"]
-NUMBERS = [0, 1, 2, 4, 5, 9, 64, 0x100, 0x101, 0x1000, 0x84CC, 0x84CD, 0x10000, 0x1000000, 0x1000001, 0x7FFFFFFF,
-           0x80000000, 0xFFFFFFFF]
-OFFSETS = [0, 0, 0, 1, 2, 3, 5, 10, 100, 32_768, 40_000, 16_777_215, 16_777_216, 2**32, 2**63, 2**64 - 1]
+NUMBERS = [0, 1, 2, 4, 5, 9, 64, 0x100, 0x101, 0x400, 0x401, 0x1000, 0x8000, 0x8001, 0x10000, 0x10001, 0x3FFFC, 0x3FFFD,
+           0x100000, 0x100001, 0x1000000, 0x1000001, 0x4000000, 0x4000001, 0x7FFFFFFF, 0x80000000, 0xFFFFFFFF]
+OFFSETS = [0, 0, 0, 1, 2, 3, 5, 10, 100, 32_768, 65_536, 16_777_215, 16_777_216, 67_108_864, 2**32, 2**63, 2**64 - 1]
 WEIGHTS = {OPEN: 12, CLOSE: 4, READ: 10, WRITE: 10, LSTAT: 3, FSTAT: 4, SETSTAT: 4, FSETSTAT: 4, OPENDIR: 6, READDIR: 9,
            REMOVE: 4, MKDIR: 9, RMDIR: 3, REALPATH: 4, STAT: 4, RENAME: 5, READLINK: 3, SYMLINK: 6, EXTENDED: 11}
 
@@ -63,9 +63,11 @@ def handle(rng, handles):
 
 def extension(rng, handles):
     name = rng.choice([b"posix-rename@openssh.com", b"posix-rename@openssh.com", b"hardlink@openssh.com",
-                       b"fsync@openssh.com", b"statvfs@openssh.com", b""])
+                       b"fsync@openssh.com", b"limits@sftpv3.test", b"statvfs@openssh.com", b""])
     if name.startswith((b"posix", b"hard")):
         return string(name) + string(path(rng)) + string(path(rng))
+    if name.startswith(b"limits"):
+        return string(name)
     rest = string(handle(rng, handles.files)) if name.startswith(b"fsync") else rng.randbytes(rng.randint(0, 9))
     return string(name) + rest
 
@@ -86,7 +88,7 @@ def fields(rng, kind, handles):
         at = rng.choice(OFFSETS[:10] if rng.random() < 0.8 else OFFSETS)
         return string(handle(rng, handles.files)) + wide(at) + number(rng.choice(NUMBERS))
     if kind == WRITE:
-        data = rng.randbytes(rng.choice([0, 1, 3, 10, 10, 100, 1_000, 32_768]))
+        data = rng.randbytes(rng.choice([0, 1, 3, 10, 10, 100, 1_000, 32_768, rng.choice([65_536, 200_000])]))
         offset = rng.choice(OFFSETS if rng.random() < 0.1 else OFFSETS[:10])
         return string(handle(rng, handles.files)) + wide(offset) + string(data)
     if kind in (SETSTAT, MKDIR):
@@ -110,10 +112,20 @@ def owner(rng):
     return number(rng.choice(NUMBERS)) + number(rng.choice(NUMBERS)) + number(rng.choice([0, 0o644, 0o755, 0o7777]))
 
 
+def some_limits(rng):
+    """The limits of a tree: the lowest, the highest, or others."""
+    pick = rng.random()
+    if pick < 0.4:
+        return LOWEST_LIMITS
+    if pick < 0.6:
+        return HIGHEST_LIMITS
+    return tuple(rng.choice([*it, rng.randint(*it)]) for it in zip(LOWEST_LIMITS, HIGHEST_LIMITS))
+
+
 def some_tree(rng):
-    """A tree file: the blank tree, or one of up to 40 entries, with files of up to some 100,000 bytes."""
+    """A tree file: without entries, or with up to 40, of which files have up to some 100,000 bytes."""
     if rng.random() < 0.2:
-        return tree([])
+        return tree([], limits=some_limits(rng))
     places, directories = set(), [()]
     for _ in range(rng.randint(1, 40)):
         place = rng.choice(directories) + (rng.choice(NAMES + [b"x" * 255, b"\xff", b"!"]),)
@@ -135,7 +147,7 @@ def some_tree(rng):
             files.append(at)
             entries.append((place, b"F" + owner(rng) + string(data)))
     home = b"/" + b"/".join(rng.choices(NAMES, k=rng.randint(0, 2)))
-    return tree(entries, home, (rng.choice(NUMBERS), rng.choice(NUMBERS)))
+    return tree(entries, home, (rng.choice(NUMBERS), rng.choice(NUMBERS)), limits=some_limits(rng))
 
 
 def change_bytes(rng, data):

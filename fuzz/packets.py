@@ -4,7 +4,10 @@ Nothing here comes from the program: what it says of a file or a stream is compa
 """
 CLIENT, SERVER = b"C", b"S"
 PACKET_LIMIT, HANDLE_LIMIT = 262_144, 256
-TREE_OPENING, TRANSCRIPT_OPENING = b"SFTREE01", b"SFTPTR01"
+TREE_OPENING, LIMITED_OPENING, TRANSCRIPT_OPENING = b"SFTREE01", b"SFTREE02", b"SFTPTR01"
+
+# Of a tree: entries below the root, bytes of a file, bytes that one READ gives, open handles.
+LOWEST_LIMITS, HIGHEST_LIMITS = (65_536, 16_777_216, 32_768, 256), (1_048_576, 67_108_864, 65_536, 1_024)
 
 # The fields behind the type: n and q are numbers of 4 and 8 bytes, s a string, h a handle, a attributes, p pairs of
 # strings to the end, i the items of a NAME, x an extension, r any bytes to the end.
@@ -13,10 +16,11 @@ FIELDS = {
              12: "nh", 13: "ns", 14: "nsa", 15: "ns", 16: "ns", 17: "ns", 18: "nss", 19: "ns", 20: "nss", 200: "nx"},
     SERVER: {2: "np", 101: "nnss", 102: "nh", 103: "ns", 104: "ni", 105: "na", 201: "nr"},
 }
-EXTENSIONS = {b"posix-rename@openssh.com": "ss", b"hardlink@openssh.com": "ss", b"fsync@openssh.com": "h"}
+EXTENSIONS = {b"posix-rename@openssh.com": "ss", b"hardlink@openssh.com": "ss", b"fsync@openssh.com": "h",
+              b"limits@sftpv3.test": ""}
 INIT, VERSION, OPEN, CLOSE, READ, WRITE, LSTAT, FSTAT, SETSTAT, FSETSTAT, OPENDIR, READDIR = range(1, 13)
 REMOVE, MKDIR, RMDIR, REALPATH, STAT, RENAME, READLINK, SYMLINK = range(13, 21)
-STATUS, HANDLE, DATA, NAME, ATTRS, EXTENDED = 101, 102, 103, 104, 105, 200
+STATUS, HANDLE, DATA, NAME, ATTRS, EXTENDED, EXTENDED_REPLY = 101, 102, 103, 104, 105, 200, 201
 
 
 def number(value):
@@ -109,11 +113,12 @@ class Fields:
         fields = EXTENSIONS.get(self.string(), "r")
         self.of(fields)
 
-    def entries(self):
-        """The number of entries in the head of a tree file, behind the opening."""
+    def head(self, has_limits):
+        """The limits of a tree file and the number of its entries, behind the opening."""
         self.string()
         self.take(8)
-        return self.number()
+        limits = tuple(self.number() for _ in LOWEST_LIMITS) if has_limits else LOWEST_LIMITS
+        return limits, self.number()
 
     def of(self, fields):
         one = {"n": self.number, "q": lambda: self.take(8), "s": self.string, "h": self.handle, "a": self.attrs,
@@ -216,11 +221,23 @@ def place_of(text):
     return names if text[:1] == b"/" and good and len(names) <= 64 else None
 
 
+def head_of(data):
+    """The limits of a tree file and the number of its entries."""
+    return Fields(data[len(TREE_OPENING):]).head(data.startswith(LIMITED_OPENING))
+
+
+def limits_told(data):
+    """What a session on a tree file tells of its limits: packets, READ, WRITE, and open handles."""
+    _, _, read_bytes, handles = head_of(data)[0]
+    return wide(PACKET_LIMIT) + wide(read_bytes) * 2 + wide(handles)
+
+
 def tree_fault(data):
     """The first fault of a tree file as text, or None."""
-    if data[:len(TREE_OPENING)] != TREE_OPENING:
+    opening = data[:len(TREE_OPENING)]
+    if opening not in (TREE_OPENING, LIMITED_OPENING):
         return "entry 0: Magic"
-    fields, numbered = Fields(data[len(TREE_OPENING):]), Entries()
+    fields, numbered = Fields(data[len(opening):]), Entries(opening == LIMITED_OPENING)
     try:
         numbered.head(fields)
         while numbered.number < numbered.count:
@@ -237,7 +254,8 @@ def tree_fault(data):
 class Entries:
     """Judges the fields of a tree file behind its opening, one after the other."""
 
-    def __init__(self):
+    def __init__(self, has_limits):
+        self.has_limits, self.limits = has_limits, LOWEST_LIMITS
         self.number, self.count, self.before = 0, 0, []
         self.directories, self.files = {()}, set()
 
@@ -253,10 +271,20 @@ class Entries:
     def head(self, fields):
         self.judge(place_of(fields.string()) is not None)
         fields.take(8)
+        if self.has_limits:
+            self.own_limits(fields)
         count = fields.number()
-        self.judge(count <= 65_536)
+        self.judge(count <= self.limits[0])
         self.owner(fields)
         self.count = count
+
+    def own_limits(self, fields):
+        limits = []
+        for lowest, highest in zip(LOWEST_LIMITS, HIGHEST_LIMITS):
+            limits.append(fields.number())
+            self.judge(lowest <= limits[-1] <= highest)
+        self.limits = tuple(limits)
+        self.judge(self.limits != LOWEST_LIMITS)
 
     def entry(self, fields):
         place = place_of(fields.string())
@@ -271,7 +299,7 @@ class Entries:
         if kind == b"D":
             self.directories.add(tuple(place))
         elif kind == b"F":
-            self.judge(len(fields.string()) <= 16_777_216)
+            self.judge(len(fields.string()) <= self.limits[1])
             self.files.add(self.number)
         elif kind == b"H":
             self.judge(fields.number() in self.files)
@@ -280,8 +308,10 @@ class Entries:
             self.judge(target and is_good_path(target))
 
 
-def tree(entries, home=b"/", owner=(0, 0), root=(0, 0, 0o755)):
+def tree(entries, home=b"/", owner=(0, 0), root=(0, 0, 0o755), limits=LOWEST_LIMITS):
     """The tree file of these entries: pairs of a place and its kind with its fields, in the order of places."""
-    head = string(home) + number(owner[0]) + number(owner[1]) + number(len(entries)) + b"".join(map(number, root))
-    return TREE_OPENING + head + b"".join(
+    own = b"" if limits == LOWEST_LIMITS else b"".join(map(number, limits))
+    front = string(home) + number(owner[0]) + number(owner[1])
+    head = front + own + number(len(entries)) + b"".join(map(number, root))
+    return (LIMITED_OPENING if own else TREE_OPENING) + head + b"".join(
         string(b"".join(b"/" + it for it in place)) + fields for place, fields in entries)

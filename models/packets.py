@@ -32,6 +32,7 @@ LAYOUTS = {
     "POSIX-RENAME": (200, "C", True, b"posix-rename@openssh.com", "ss"),
     "HARDLINK": (200, "C", True, b"hardlink@openssh.com", "ss"),
     "FSYNC": (200, "C", True, b"fsync@openssh.com", "h"),
+    "LIMITS": (200, "C", True, b"limits@sftpv3.test", ""),
     "EXTENDED": (200, "C", True, None, "s*"),
     "STATUS": (101, "S", True, None, "um"),
     "HANDLE": (102, "S", True, None, "h"),

@@ -2,9 +2,9 @@
 import struct
 
 from packets import FLAGS
-from trees import ENTRIES, FILE_BYTES, NAMES, Tree, is_bad, with_given
+from trees import NAMES, Tree, is_bad, with_given
 
-READ_BYTES, HANDLES, NAMES_OF_REPLY = 32_768, 256, 32
+NAMES_OF_REPLY, PACKET_BYTES = 32, 262_144
 
 CODES = {
     "BadFlags": (4, 5), "BadPath": (4, 5), "NoEntry": (2,), "NotDir": (2, 4), "Loop": (2, 4), "Exists": (4,),
@@ -83,7 +83,7 @@ class Ask:
         self.add("NotDir", kind not in (None, "D"))
 
     def overfills_opendir(self):
-        return len(self.session.open) >= HANDLES
+        return len(self.session.open) >= self.tree.handle_limit
 
     def judge_lstat(self, path):
         self.needs(path, follow=False)
@@ -102,7 +102,7 @@ class Ask:
         self.add("NotFile", self.needs(path, follow=True) == "D" and "size" in given)
 
     def overfills_setstat(self):
-        return self.given.get("size", 0) > FILE_BYTES
+        return self.given.get("size", 0) > self.tree.file_limit
 
     def judge_remove(self, path):
         self.add("IsDir", self.needs(path, follow=False) == "D")
@@ -125,7 +125,7 @@ class Ask:
         self.judge_new(path)
 
     def overfills_mkdir(self):
-        return len(self.place) > NAMES or len(self.tree.nodes) - 1 >= ENTRIES
+        return len(self.place) > NAMES or len(self.tree.nodes) > self.tree.entry_limit
 
     overfills_symlink = overfills_hardlink = overfills_mkdir
 
@@ -187,7 +187,7 @@ class Ask:
 
     def overfills_write(self):
         _, offset, bytes = self.values
-        return bool(bytes) and self.start_of_write(offset) + len(bytes) > FILE_BYTES
+        return bool(bytes) and self.start_of_write(offset) + len(bytes) > self.tree.file_limit
 
     def start_of_write(self, offset):
         return len(self.tree.files[self.it.file].bytes) if "APPEND" in self.it.flags else offset
@@ -207,6 +207,9 @@ class Ask:
 
     def judge_fsync(self, handle):
         self.opened(handle, "F")
+
+    def judge_limits(self):
+        pass
 
     def judge_extended(self, name, rest):
         self.further.add("Unknown")
@@ -229,7 +232,11 @@ class Ask:
         if name == "READ":
             _, offset, length = values
             bytes_ = bytes(self.tree.files[self.it.file].bytes)
-            return ("DATA", (bytes_[offset:offset + min(length, READ_BYTES)],)) if offset < len(bytes_) else EOF
+            end = offset + min(length, self.tree.read_limit)
+            return ("DATA", (bytes_[offset:end],)) if offset < len(bytes_) else EOF
+        if name == "LIMITS":
+            read, handles = self.tree.read_limit, self.tree.handle_limit
+            return "EXTENDED_REPLY", (struct.pack(">QQQQ", PACKET_BYTES, read, read, handles),)
         if name == "READDIR":
             return ("LISTING", (self.it.left,)) if self.it.left else EOF
         return OK

@@ -7,7 +7,10 @@ import struct
 
 from packets import Fault, Fields, string, text_of_bytes
 
-ENTRIES, NAMES, FILE_BYTES, LINKS = 65_536, 64, 16_777_216, 40
+NAMES, LINKS = 64, 40
+
+# The limits that a tree may set, from each to each: entries, bytes of a file, bytes of a READ, and open handles.
+LOWEST, HIGHEST = (65_536, 16_777_216, 32_768, 256), (1_048_576, 67_108_864, 65_536, 1_024)
 
 
 class Malformed(Exception):
@@ -49,8 +52,9 @@ def with_given(owner, given):
 
 
 class Tree:
-    def __init__(self, home=(), owner=(0, 0), root=(0, 0, 0o755)):
+    def __init__(self, home=(), owner=(0, 0), root=(0, 0, 0o755), limits=LOWEST):
         self.home, self.owner = home, owner
+        self.entry_limit, self.file_limit, self.read_limit, self.handle_limit = self.limits = limits
         self.nodes, self.files, self.made = {(): ("D", root)}, {}, 0
 
     def make_file(self, owner, bytes=b""):
@@ -148,7 +152,8 @@ class Tree:
     def bytes(self):
         """The tree file."""
         entries = list(self.entries())
-        file = b"SFTREE01" + string(text_of_place(self.home)) + struct.pack(">II", *self.owner)
+        file = string(text_of_place(self.home)) + struct.pack(">II", *self.owner)
+        file = b"SFTREE01" + file if self.limits == LOWEST else b"SFTREE02" + file + struct.pack(">IIII", *self.limits)
         file += struct.pack(">I", len(entries)) + struct.pack(">III", *self.nodes[()][1])
         for place, kind, owner, value in entries:
             file += string(text_of_place(place)) + kind.encode()
@@ -162,8 +167,9 @@ class Tree:
     def lines(self):
         """The lines of a case that stand for the tree file."""
         lines = []
-        if self.home or self.owner != (0, 0):
-            lines.append(f"home {text_of_bytes(text_of_place(self.home))} uid {self.owner[0]} gid {self.owner[1]}")
+        if self.home or self.owner != (0, 0) or self.limits != LOWEST:
+            words = [f"home {text_of_bytes(text_of_place(self.home))} uid {self.owner[0]} gid {self.owner[1]}"]
+            lines.append(" ".join([*words, "limits", *map(str, self.limits)] if self.limits != LOWEST else words))
         if self.nodes[()][1] != (0, 0, 0o755) or lines:
             lines.append(text_of_entry((), "D", self.nodes[()][1], None))
         return lines + [text_of_entry(*entry) for entry in self.entries()]
@@ -205,11 +211,17 @@ class Entries:
             raise self.fault("Value")
         return value
 
-    def number_in(self, most=None):
+    def number_in(self, least=0, most=None):
         value = self.field(self.fields.number)
-        if most is not None and value > most:
+        if value < least or most is not None and value > most:
             raise self.fault("Value")
         return value
+
+    def limits(self):
+        limits = tuple(self.number_in(least, most) for least, most in zip(LOWEST, HIGHEST))
+        if limits == LOWEST:
+            raise self.fault("Value")
+        return limits
 
     def owner(self):
         owner = struct.unpack(">III", self.take(12))
@@ -227,13 +239,14 @@ class Entries:
 def tree_of(file):
     """The tree of a tree file."""
     entries = Entries(file)
-    if file[:8] != b"SFTREE01":
+    if file[:8] not in (b"SFTREE01", b"SFTREE02"):
         raise entries.fault("Magic")
     entries.take(8)
     home = entries.place()
     owner = entries.number_in(), entries.number_in()
-    count = entries.number_in(most=ENTRIES)
-    tree = Tree(home, owner, entries.owner())
+    limits = entries.limits() if file[:8] == b"SFTREE02" else LOWEST
+    count = entries.number_in(most=limits[0])
+    tree = Tree(home, owner, entries.owner(), limits)
     firsts, last = {}, ()
     for entries.number in range(1, count + 1):
         place = entries.place()
@@ -258,7 +271,7 @@ def node_of(entries, tree, firsts):
         return "D", entries.owner()
     if kind == b"F":
         owner = entries.owner()
-        firsts[entries.number] = tree.make_file(owner, entries.string(most=FILE_BYTES))
+        firsts[entries.number] = tree.make_file(owner, entries.string(most=tree.file_limit))
         return "F", firsts[entries.number]
     if kind == b"H":
         number = entries.number_in()

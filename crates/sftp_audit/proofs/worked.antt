@@ -2,5 +2,6 @@ pub mod Runs
 pub mod Sessions
 pub mod Links
 pub mod Reads
+pub mod Told
 pub mod Records
 pub mod Refused

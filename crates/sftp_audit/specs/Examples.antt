@@ -1,9 +1,11 @@
 -- What the worked examples name: trees, and sessions.
 use Rattle.std.specs.Prelude.{ℕ, List, [], ◌∷◌, ◌++◌, codes, None}
-use Rattle.sftp_wire.specs.declared.packets.Ask.TheVariants.{Mkdir}
+use Rattle.sftp_wire.specs.declared.packets.Ask.TheVariants.{Mkdir, Limits}
+use Rattle.sftp_wire.specs.declared.packets.Answer.TheVariants.{Extended}
 use Rattle.sftp_wire.specs.declared.attributes.Attrs.{Attrs}
 use Rattle.sftp_wire.specs.Examples.{hex, no_attributes}
 use Rattle.sftp_transcript.specs.declared.events.Event.{Event}
+use Rattle.sftp_transcript.specs.declared.events.Event.TheVariants.{Asked, Replied}
 use Rattle.sftp_transcript.specs.Examples.{mkdir, rmdir, open_directory, stat, lstat, real_path, read_link, symlink}
 use Rattle.sftp_transcript.specs.Examples.{open_to_read, read, close, status, handle_reply, data_reply, name_reply}
 use Rattle.sftp_transcript.specs.Examples.{attributes_reply, handshake_bytes}
@@ -123,6 +125,25 @@ read_in_parts first =
     open_to_read 1 (codes "/f") ∷ handle_reply 1 (codes "h") ∷ read 2 (codes "h") 0 3 ∷ read 3 (codes "h") 3 3
     ∷ read 4 (codes "h") 6 3 ∷ status 4 1 ∷ data_reply 3 (codes "de") ∷ data_reply 2 first
     ∷ close 5 (codes "h") ∷ status 5 0 ∷ []
+
+-- the limits are asked for, and the reply has this data
+abbrev pub limits_session : List ℕ → List Event
+limits_session told =
+    Asked (record { id = 5; ask = Limits }) ∷ Replied (record { id = 5; answer = Extended told }) ∷ []
+
+-- the usual limits, and the highest, as such data
+abbrev pub usual_limits_told : List ℕ
+usual_limits_told = hex (codes "0000000000040000 0000000000008000 0000000000008000 0000000000000100")
+
+abbrev pub highest_limits_told : List ℕ
+highest_limits_told = hex (codes "0000000000040000 0000000000010000 0000000000010000 0000000000000400")
+
+-- the transcript file of such a session where the usual limits are told
+abbrev pub limits_bytes : List ℕ
+limits_bytes =
+    handshake_bytes ++
+    hex (codes "43 0000001b c8 00000005 00000012 6c696d697473407366747076332e74657374") ++
+    hex (codes "53 00000025 c9 00000005 0000000000040000 0000000000008000 0000000000008000 0000000000000100")
 
 -- the beginning of a transcript file of the three requests
 abbrev pub three_requests_bytes : List ℕ

@@ -1,6 +1,7 @@
 //! Worked examples: sessions that the definitions explain, and sessions that they do not, as theorems on the
 //! definitions that the auditor's contract names. The functions do nothing; each promise is in the contract.
 ghost use Rattle.std.specs.Prelude.{◌≡◌, List, [], ◌∷◌, codes};
+ghost use Rattle.sftp_tree.specs.Tree.{raised};
 ghost use Rattle.sftp_tree.specs.Picture.{picture, blank};
 ghost use Rattle.sftp_transcript.specs.Transcript.{IsRecord};
 ghost use Rattle.sftp_handles.specs.Allowed.{Allowed};
@@ -18,6 +19,7 @@ ghost use Rattle.sftp_audit.specs.Examples.{backward_replies, backward_replies_b
 ghost use Rattle.sftp_audit.specs.Examples.{same_directory_twice, data_for_mkdir, opendir_of_nothing, link_session};
 ghost use Rattle.sftp_audit.specs.Examples.{one_answered_twice};
 ghost use Rattle.sftp_audit.specs.Examples.{above_the_root, with_five_letters, read_in_parts, Unexplained};
+ghost use Rattle.sftp_audit.specs.Examples.{limits_session, usual_limits_told, highest_limits_told, limits_bytes};
 ghost use Rattle.sftp_audit.specs.Examples.{three_requests, two_backward_replies, removal_done_bytes, last_answered};
 ghost use Rattle.sftp_audit.specs.Examples.{id_used_again, first_answered, second_waits, auditor_with};
 
@@ -100,6 +102,17 @@ pub fn file_is_read()
 /// The same session is not explained if one byte of the data is another.
 pub fn wrong_byte()
     ensures { Unexplained with_five_letters (read_in_parts (codes "abd")) }
+{}
+
+/// The limits of the blank tree are asked for, and told. A raised tree tells others, and neither tells those of the
+/// other.
+pub fn limits_are_told()
+    ensures usual { Explained Allowed (started blank) (limits_session usual_limits_told) (started blank) }
+    ensures highest { Explained Allowed (started (raised blank)) (limits_session highest_limits_told)
+        (started (raised blank)) }
+    ensures too_high { Unexplained blank (limits_session highest_limits_told) }
+    ensures too_low { Unexplained (raised blank) (limits_session usual_limits_told) }
+    ensures recorded { IsRecord (limits_session usual_limits_told) limits_bytes }
 {}
 
 /// The auditor judges replies in the order in which their requests were asked. In the session whose replies come

@@ -7,7 +7,8 @@ use std::alloc::{AllocError, Global};
 
 /// The lines of a transcript up to its first request: INIT 3 and the server's VERSION.
 pub const OPENING: &str = "C INIT 3
-S VERSION 3 \"posix-rename@openssh.com\"=\"1\" \"hardlink@openssh.com\"=\"1\" \"fsync@openssh.com\"=\"1\"
+S VERSION 3 \"posix-rename@openssh.com\"=\"1\" \"hardlink@openssh.com\"=\"1\" \"fsync@openssh.com\"=\"1\" \
+\"limits@sftpv3.test\"=\"1\"
 ";
 
 /// The first line of a tree file where its text has none, but for the number of entries.

@@ -3,10 +3,10 @@
 use Rattle.std.specs.Prelude.{ℕ, Bool, true, List, Option, Some, None, if◌then◌else◌, nat_eq, bytes_eq}
 use Rattle.std.specs.List.{list_any}
 use Rattle.sftp_wire.specs.declared.packets.Ask.{Ask}
-use Rattle.sftp_wire.specs.declared.packets.Ask.TheVariants.{PosixRename, Hardlink, Fsync}
+use Rattle.sftp_wire.specs.declared.packets.Ask.TheVariants.{PosixRename, Hardlink, Fsync, Limits}
 use Rattle.sftp_wire.specs.declared.packets.Packet.{Packet}
 use Rattle.sftp_wire.specs.declared.packets.Packet.TheVariants.{Init, Version, Request, Reply}
-use Rattle.sftp_wire.specs.Spelling.{posix_rename_name, hardlink_name, fsync_name}
+use Rattle.sftp_wire.specs.Spelling.{posix_rename_name, hardlink_name, fsync_name, limits_name}
 use Rattle.sftp_client.specs.declared.announced.Announced.{Announced}
 
 -- one of the extensions has this name, with any data
@@ -19,6 +19,7 @@ named_in extensions = record {
   posix_rename = is_named posix_rename_name extensions;
   hardlink = is_named hardlink_name extensions;
   fsync = is_named fsync_name extensions;
+  limits = is_named limits_name extensions;
 }
 
 -- what a packet announces, if it is a VERSION 3
@@ -33,4 +34,5 @@ abbrev pub may_be_sent : Announced → Ask → Bool
 may_be_sent announced (PosixRename oldpath newpath) = announced.posix_rename
 may_be_sent announced (Hardlink oldpath newpath) = announced.hardlink
 may_be_sent announced (Fsync handle) = announced.fsync
+may_be_sent announced Limits = announced.limits
 may_be_sent announced other = true

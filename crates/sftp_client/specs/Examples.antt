@@ -1,18 +1,22 @@
 -- Words of the worked examples.
-use Rattle.std.specs.Prelude.{ℕ, false, [], Some, codes}
+use Rattle.std.specs.Prelude.{ℕ, true, false, [], Some, codes}
 use Rattle.sftp_wire.specs.declared.packets.Ask.{Ask}
 use Rattle.sftp_wire.specs.declared.packets.Ask.TheVariants.{Stat, Read}
 use Rattle.sftp_wire.specs.declared.packets.Packet.{Packet}
 use Rattle.sftp_wire.specs.declared.packets.Packet.TheVariants.{Version}
 use Rattle.sftp_wire.specs.declared.packets.Reply.{Reply}
-use Rattle.sftp_wire.specs.declared.packets.Answer.TheVariants.{Data, Attrs, Status}
+use Rattle.sftp_wire.specs.declared.packets.Answer.TheVariants.{Data, Attrs, Status, Extended}
 use Rattle.sftp_wire.specs.Examples.{no_attributes}
 use Rattle.sftp_client.specs.declared.announced.Announced.{Announced}
 use Rattle.sftp_client.specs.Client.{Client, OpenRequests, session_with}
 
 -- no extension with a request of its own
 abbrev pub nothing : Announced
-nothing = record { posix_rename = false; hardlink = false; fsync = false }
+nothing = record { posix_rename = false; hardlink = false; fsync = false; limits = false }
+
+-- each of them
+abbrev pub everything : Announced
+everything = record { posix_rename = true; hardlink = true; fsync = true; limits = true }
 
 -- a VERSION 3 without extensions
 abbrev pub plain_version : Packet
@@ -30,6 +34,9 @@ read = Read (codes "h") 0 10
 
 abbrev pub data_for : ℕ → Reply
 data_for id = record { id = id; answer = Data (codes "d") }
+
+abbrev pub extended_for : ℕ → Reply
+extended_for id = record { id = id; answer = Extended (codes "d") }
 
 abbrev pub attributes_for : ℕ → Reply
 attributes_for id = record { id = id; answer = Attrs no_attributes }

@@ -27,13 +27,16 @@ gets_attributes (asks.Lstat path) = true
 gets_attributes (asks.Fstat handle) = true
 gets_attributes other = false
 
--- A request may get an answer of this kind. Each may get a status. None gets the reply of an extension: the extensions
--- that have requests of their own get a status (OpenSSH's PROTOCOL, section 4), and that others get no more is this
--- profile's own.
+-- that the other extensions get no more than a status is this profile's own, as is this one
+abbrev pub gets_extended : Ask → Bool
+gets_extended asks.Limits = true
+gets_extended other = false
+
+-- a request may get an answer of this kind; each may get a status
 abbrev pub may_get : Ask → Answer → Bool
 may_get ask (answers.Status code message language) = true
 may_get ask (answers.Handle handle) = gets_handle ask
 may_get ask (answers.Data bytes) = gets_data ask
 may_get ask (answers.Name items) = gets_names ask
 may_get ask (answers.Attrs attrs) = gets_attributes ask
-may_get ask (answers.Extended bytes) = false
+may_get ask (answers.Extended bytes) = gets_extended ask

@@ -2,7 +2,7 @@
 ghost use Rattle.std.specs.Prelude.{◌≡◌};
 ghost use Rattle.sftp_client.specs.Announced.{is_named, named_in, announced_by, may_be_sent};
 
-use sftp_wire::{Ask, ByteString, FSYNC, HARDLINK, POSIX_RENAME, Packet, Pairs};
+use sftp_wire::{Ask, ByteString, FSYNC, HARDLINK, LIMITS, POSIX_RENAME, Packet, Pairs};
 
 /// The version of the protocol (draft, section 4).
 pub(crate) const PROTOCOL_VERSION: u32 = 3;
@@ -13,6 +13,7 @@ pub(crate) struct Announced {
     posix_rename: bool,
     hardlink: bool,
     fsync: bool,
+    limits: bool,
 }
 
 /// Whether one of the extensions has this name.
@@ -33,6 +34,7 @@ fn named_in(extensions: &Pairs) -> Announced
         posix_rename: is_named(POSIX_RENAME, extensions),
         hardlink: is_named(HARDLINK, extensions),
         fsync: is_named(FSYNC, extensions),
+        limits: is_named(LIMITS, extensions),
     }
 }
 
@@ -59,6 +61,7 @@ impl Announced {
             Ask::PosixRename { .. } => self.posix_rename,
             Ask::Hardlink { .. } => self.hardlink,
             Ask::Fsync { .. } => self.fsync,
+            Ask::Limits => self.limits,
             Ask::Open { .. }
             | Ask::Close { .. }
             | Ask::Read { .. }

@@ -1,14 +1,14 @@
 //! Worked examples: what a client's session sends, refuses and pairs, computed by the checker on the definitions that
 //! the contracts name. The functions do nothing; each promise is in the contract.
 ghost use Rattle.std.specs.Prelude.{◌≡◌, ◌∷◌, [], Some, None, codes};
-ghost use Rattle.sftp_wire.specs.declared.packets.Ask.TheVariants.{Fsync, Unknown};
+ghost use Rattle.sftp_wire.specs.declared.packets.Ask.TheVariants.{Fsync, Limits, Unknown};
 ghost use Rattle.sftp_wire.specs.declared.packets.Packet.TheVariants.{Init, Version};
-ghost use Rattle.sftp_wire.specs.Examples.{server_extensions};
+ghost use Rattle.sftp_wire.specs.Spelling.{server_extensions};
 ghost use Rattle.sftp_client.specs.declared.errors.ClientError.TheVariants as errors;
 ghost use Rattle.sftp_client.specs.Announced.{announced_by};
 ghost use Rattle.sftp_client.specs.Client.{new_client, IsSent, IsPaired, version_error, send_error, reply_error};
-ghost use Rattle.sftp_client.specs.Examples.{nothing, plain_version, session, stat, read};
-ghost use Rattle.sftp_client.specs.Examples.{data_for, attributes_for, status_for};
+ghost use Rattle.sftp_client.specs.Examples.{nothing, everything, plain_version, session, stat, read};
+ghost use Rattle.sftp_client.specs.Examples.{data_for, attributes_for, status_for, extended_for};
 
 /// The first two requests get the ids 0 and 1, and a third the next id that is free.
 pub fn ids_count_up()
@@ -29,6 +29,9 @@ pub fn replies_find_their_requests()
     ensures first { IsPaired (session 2 ((0, stat) ∷ [])) (record { id = 0; ask = stat }) (attributes_for 0)
         (session 2 []) }
     ensures again { reply_error (session 2 []) (attributes_for 0) ≡ Some errors.UnknownId }
+    ensures of_limits { IsPaired (session 1 ((0, Limits) ∷ [])) (record { id = 0; ask = Limits }) (extended_for 0)
+        (session 1 []) }
+    ensures of_no_other { reply_error (session 1 ((0, stat) ∷ [])) (extended_for 0) ≡ Some errors.WrongReply }
 {}
 
 /// A session waits for one VERSION 3, and sends an extension with a request of its own only if that was announced.
@@ -38,7 +41,9 @@ pub fn versions()
     ensures other_version { version_error new_client (Version 4 []) ≡ Some errors.BadVersion }
     ensures taken { version_error new_client plain_version ≡ None }
     ensures announced { announced_by plain_version ≡ Some nothing }
+    ensures all_announced { announced_by (Version 3 server_extensions) ≡ Some everything }
     ensures twice { version_error (session 0 []) plain_version ≡ Some errors.BadVersion }
     ensures not_announced { send_error (session 0 []) (Fsync (codes "h")) ≡ Some errors.NotAnnounced }
+    ensures limits_not_announced { send_error (session 0 []) Limits ≡ Some errors.NotAnnounced }
     ensures others { send_error (session 0 []) (Unknown (codes "x") []) ≡ None }
 {}

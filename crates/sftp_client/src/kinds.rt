@@ -1,6 +1,6 @@
 //! Which kinds of replies a request may get (draft, section 7).
 ghost use Rattle.std.specs.Prelude.{◌≡◌};
-ghost use Rattle.sftp_client.specs.Kinds.{gets_handle, gets_names, gets_attributes, gets_data, may_get};
+ghost use Rattle.sftp_client.specs.Kinds.{gets_handle, gets_names, gets_attributes, gets_data, gets_extended, may_get};
 
 use sftp_wire::{Answer, Ask};
 
@@ -34,6 +34,12 @@ fn gets_attributes(ask: &Ask) -> bool
     )
 }
 
+fn gets_extended(ask: &Ask) -> bool
+    ensures { result ≡ gets_extended ask.now }
+{
+    matches!(ask, Ask::Limits)
+}
+
 /// Whether a request may get an answer of this kind. Each may get a status.
 pub(crate) fn may_get(ask: &Ask, answer: &Answer) -> bool
     ensures { result ≡ may_get ask.now answer.now }
@@ -44,6 +50,6 @@ pub(crate) fn may_get(ask: &Ask, answer: &Answer) -> bool
         Answer::Data(_) => gets_data(ask),
         Answer::Name(_) => gets_names(ask),
         Answer::Attrs(_) => gets_attributes(ask),
-        Answer::Extended(_) => false,
+        Answer::Extended(_) => gets_extended(ask),
     }
 }

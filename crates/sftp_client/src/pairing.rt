@@ -56,7 +56,7 @@ impl Pairing {
         })
     }
 
-    /// The client's first packet: INIT of version 3, without extensions (draft, section 4). It takes no memory.
+    /// The client's first packet: INIT of version 3, without extensions (draft, section 4). Does not allocate.
     pub fn start(&self) -> Packet
         ensures { result ≡ Init 3 [] }
     {
@@ -96,7 +96,7 @@ impl Pairing {
     ///
     /// - `NotStarted` if the server's VERSION has not come;
     /// - `Full` if `OPEN_LIMIT` requests are open;
-    /// - `NotAnnounced` if it is a `PosixRename`, `Hardlink` or `Fsync` that VERSION did not name;
+    /// - `NotAnnounced` if it is a `PosixRename`, `Hardlink`, `Fsync` or `Limits` that VERSION did not name;
     /// - `NoMemory` if memory runs out.
     ///
     /// The session is then as it was, and the request is dropped.
@@ -138,7 +138,7 @@ impl Pairing {
         Ok(id)
     }
 
-    /// Pairs a reply with the open request of its id, which is then no longer open. It takes no memory.
+    /// Pairs a reply with the open request of its id, which is then no longer open. Does not allocate.
     ///
     /// # Errors
     ///

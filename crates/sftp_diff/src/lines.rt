@@ -3,11 +3,11 @@
 use crate::differences::{Difference, OwnerDifference, apart, put_owners, put_texts};
 use crate::order::{Step, next_step};
 use sftp_show::Quoted;
-use sftp_treefile::{Row, TreeFile};
+use sftp_treefile::{Row, TreeFile, TreeLimits};
 use std::io::Write;
 use std::{fmt, io};
 
-/// How the heads of two tree files differ: the homes, and who owns what is made.
+/// How the heads of two tree files differ: the homes, who owns what is made, and the limits.
 #[derive(Clone, Copy)]
 struct HeadDifference<'a>(&'a TreeFile, &'a TreeFile);
 
@@ -17,6 +17,7 @@ impl HeadDifference<'_> {
         self.0.home.as_slice() == self.1.home.as_slice()
             && self.0.uid == self.1.uid
             && self.0.gid == self.1.gid
+            && self.0.limits == self.1.limits
     }
 }
 
@@ -24,8 +25,34 @@ impl fmt::Display for HeadDifference<'_> {
     fn fmt<W: fmt::Write>(&self, f: &mut fmt::Formatter<W>) -> fmt::Result {
         let homes = apart(Some(self.0.home.as_slice()), Some(self.1.home.as_slice()));
         put_texts("home", homes, f)?;
-        put_owners((self.0.uid, self.0.gid), (self.1.uid, self.1.gid), f)
+        put_owners((self.0.uid, self.0.gid), (self.1.uid, self.1.gid), f)?;
+        put_limits(self.0.limits, self.1.limits, f)
     }
+}
+
+/// Writes which limits a tree had and has, if they differ.
+fn put_limits<W: fmt::Write>(
+    old: TreeLimits,
+    new: TreeLimits,
+    f: &mut fmt::Formatter<W>,
+) -> fmt::Result {
+    if old == new {
+        return Ok(());
+    }
+    f.write_str(" limits ")?;
+    put_four(old, f)?;
+    f.write_str(" -> ")?;
+    put_four(new, f)
+}
+
+fn put_four<W: fmt::Write>(limits: TreeLimits, f: &mut fmt::Formatter<W>) -> fmt::Result {
+    let TreeLimits {
+        entries,
+        file_bytes,
+        read_bytes,
+        open_handles,
+    } = limits;
+    write!(f, "{entries},{file_bytes},{read_bytes},{open_handles}")
 }
 
 /// Writes how a new tree file differs from an old one, in the order of the places: a line for the head if it differs,

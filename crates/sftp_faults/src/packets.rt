@@ -2,7 +2,7 @@
 
 use crate::fields::Fields;
 use crate::spots::Spot;
-use sftp_wire::{FSYNC, HANDLE_LIMIT, HARDLINK, POSIX_RENAME};
+use sftp_wire::{FSYNC, HANDLE_LIMIT, HARDLINK, LIMITS, POSIX_RENAME};
 
 /// How a field is read.
 #[derive(Clone, Copy)]
@@ -79,6 +79,8 @@ fn fields_of_extension(name: &[u8]) -> &'static [Field] {
         TWO_PATHS
     } else if name == FSYNC {
         HANDLE
+    } else if name == LIMITS {
+        &[]
     } else {
         &[("data", Size::Rest)]
     }

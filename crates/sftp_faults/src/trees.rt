@@ -3,14 +3,17 @@
 use crate::fields::Fields;
 use crate::spots::Spot;
 use sftp_path::{DEPTH_LIMIT, good_path, place_of_text};
-use sftp_treefile::{TreeError, TreeLimits, usual_limits};
+use sftp_treefile::{TreeError, TreeLimits, highest_limits, usual_limits};
 use std::alloc::Global;
 
 /// All the bits of permissions.
 const PERMISSIONS: u32 = 0o7777;
 
-/// The length of `SFTREE01`.
+/// The length of an opening.
 const OPENING: usize = 8;
+
+/// What a tree file begins with that has limits.
+const OPENING_WITH_LIMITS: &[u8] = b"SFTREE02";
 
 /// The field in which a file has this fault, which is its first one. `None` if memory runs out.
 pub fn spot_in_tree(alloc: Global, bytes: &[u8], error: TreeError) -> Option<Spot> {
@@ -34,7 +37,7 @@ pub fn spot_in_tree(alloc: Global, bytes: &[u8], error: TreeError) -> Option<Spo
 /// Where the path of an entry is.
 fn path_spot(fields: &mut Fields<'_>, entry: u32) -> Spot {
     match pass_before(fields, entry) {
-        Ok(()) => fields.spot("path"),
+        Ok(_) => fields.spot("path"),
         Err(spot) => spot,
     }
 }
@@ -42,25 +45,67 @@ fn path_spot(fields: &mut Fields<'_>, entry: u32) -> Spot {
 /// Where the bytes behind the last entry are. The number is one more than that entry's.
 fn end_spot(fields: &mut Fields<'_>, entry: u32) -> Spot {
     match pass_before(fields, entry) {
-        Ok(()) => fields.spot("the end of the entries"),
+        Ok(_) => fields.spot("the end of the entries"),
         Err(spot) => spot,
     }
 }
 
-/// Passes the head and the entries before this one.
-fn pass_before(fields: &mut Fields<'_>, entry: u32) -> Result<(), Spot> {
-    pass_head(fields)?;
+/// Passes the head and the entries before this one, and returns the limits.
+fn pass_before(fields: &mut Fields<'_>, entry: u32) -> Result<TreeLimits, Spot> {
+    let limits = pass_head(fields)?;
     for _ in 1..entry {
         pass_entry(fields)?;
     }
-    Ok(())
+    Ok(limits)
 }
 
-fn pass_head(fields: &mut Fields<'_>) -> Result<(), Spot> {
-    fields.pass(OPENING, "opening")?;
+fn pass_head(fields: &mut Fields<'_>) -> Result<TreeLimits, Spot> {
+    let own = pass_opening(fields)?;
     fields.text("home")?;
-    fields.pass(12, "number of entries")?;
-    pass_owner(fields)
+    fields.number("uid")?;
+    fields.number("gid")?;
+    let limits = judge_limits(fields, own)?;
+    fields.number("number of entries")?;
+    pass_owner(fields)?;
+    Ok(limits)
+}
+
+/// Passes the opening, and returns whether limits follow the owner of what is made.
+fn pass_opening(fields: &mut Fields<'_>) -> Result<bool, Spot> {
+    let own = match fields.rest().get(..OPENING) {
+        Some(opening) => opening == OPENING_WITH_LIMITS,
+        None => false,
+    };
+    fields.pass(OPENING, "opening")?;
+    Ok(own)
+}
+
+/// The limits of the tree: the usual ones, unless it has its own, which are judged.
+fn judge_limits(fields: &mut Fields<'_>, own: bool) -> Result<TreeLimits, Spot> {
+    let (lowest, highest) = (usual_limits(), highest_limits());
+    if !own {
+        return Ok(lowest);
+    }
+    let first = fields.spot("limits");
+    let limits = TreeLimits {
+        entries: judge_limit(fields, lowest.entries, highest.entries)?,
+        file_bytes: judge_limit(fields, lowest.file_bytes, highest.file_bytes)?,
+        read_bytes: judge_limit(fields, lowest.read_bytes, highest.read_bytes)?,
+        open_handles: judge_limit(fields, lowest.open_handles, highest.open_handles)?,
+    };
+    if !limits.are_own() {
+        return Err(first);
+    }
+    Ok(limits)
+}
+
+fn judge_limit(fields: &mut Fields<'_>, lowest: u32, highest: u32) -> Result<u32, Spot> {
+    let spot = fields.spot("limits");
+    let limit = fields.number("limits")?;
+    if limit < lowest || limit > highest {
+        return Err(spot);
+    }
+    Ok(limit)
 }
 
 fn pass_owner(fields: &mut Fields<'_>) -> Result<(), Spot> {
@@ -93,19 +138,19 @@ fn pass_text(fields: &mut Fields<'_>, field: &'static str) -> Result<(), Spot> {
 /// The first field of the entry, or of the head for 0, that is not whole or out of its range. Only the number of a
 /// first name is not judged: where all else is good, it is what is out of its range.
 fn judge(alloc: Global, fields: &mut Fields<'_>, entry: u32) -> Result<(), Spot> {
-    let limits = usual_limits();
     if entry == 0 {
-        return judge_head(alloc, limits, fields);
+        return judge_head(alloc, fields);
     }
-    pass_before(fields, entry)?;
+    let limits = pass_before(fields, entry)?;
     judge_entry(alloc, limits, fields)
 }
 
-fn judge_head(alloc: Global, limits: TreeLimits, fields: &mut Fields<'_>) -> Result<(), Spot> {
-    fields.pass(OPENING, "opening")?;
+fn judge_head(alloc: Global, fields: &mut Fields<'_>) -> Result<(), Spot> {
+    let own = pass_opening(fields)?;
     judge_place(alloc, fields, "home", 0)?;
     fields.number("uid")?;
     fields.number("gid")?;
+    let limits = judge_limits(fields, own)?;
     judge_count(limits, fields)?;
     judge_owner(fields)
 }

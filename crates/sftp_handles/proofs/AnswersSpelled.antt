@@ -8,11 +8,12 @@ use Rattle.sftp_wire.specs.declared.packets.Answer.TheVariants as replies
 use Rattle.sftp_wire.specs.declared.packets.Packet.TheVariants.{Reply as reply_packet}
 use Rattle.sftp_wire.specs.Examples.{no_attributes}
 use Rattle.sftp_wire.specs.Spelling.{spelling, string, attributes, FitsAttrs}
-use Rattle.sftp_handles.specs.Replies.{shows, names, gives, ended}
+use Rattle.sftp_handles.specs.Replies.{shows, names, gives, ended, extends}
 use Rattle.sftp_handles.specs.Fitting.{FitsSaid, FitsTwice, FitsData}
 use Rattle.sftp_handles.specs.Answered.{IsSpelledAnswer, IsReplyOf, status_of, only_name}
 use Rattle.sftp_handles.proofs.TotalSteps.SaidReplies.{reply_of, status-spelled, plain-said, same-said}
 use Rattle.sftp_handles.proofs.TotalSteps.SaidReplies.{attributes-spelled, nothing-fits, data-length}
+use Rattle.sftp_handles.proofs.TotalSteps.SaidReplies.{extended-spelled}
 
 -- ---- a status
 
@@ -73,3 +74,11 @@ spelled-data bytes fits id small = record {
 
 pub reply-data : (bytes : List ℕ) → FitsData bytes → IsReplyOf (gives bytes) (replies.Data bytes)
 reply-data bytes fits = record { says = nat_list_eq_equiv.refl bytes; spelled = spelled-data bytes fits }
+
+-- ---- the data of an extension's reply
+
+pub reply-extended : (bytes : List ℕ) → FitsData bytes → IsReplyOf (extends bytes) (replies.Extended bytes)
+reply-extended bytes fits = record {
+  says = nat_list_eq_equiv.refl bytes;
+  spelled = λ id small. extended-spelled id bytes small fits;
+}

@@ -32,6 +32,7 @@ barrier-touches s (asks.Readlink path) is = refl
 barrier-touches s (asks.Symlink targetpath linkpath) is = refl
 barrier-touches s (asks.PosixRename oldpath newpath) is = refl
 barrier-touches s (asks.Hardlink oldpath newpath) is = refl
+barrier-touches s asks.Limits is = refl
 barrier-touches s (asks.Unknown extension rest) is = refl
 
 of-file : (changes : Bool) (handle : List ℕ) (found : Option Open)

@@ -19,7 +19,6 @@ use Rattle.sftp_path.specs.Table.{InOrder, put}
 use Rattle.sftp_path.proofs.Order.{bytes_cmp-same, place_cmp-same}
 use Rattle.sftp_path.proofs.Table.Laws.{from_entries-is}
 use Rattle.sftp_path.proofs.Table.Entries.{InOrder-front, get-front, from_entries-last}
-use Rattle.sftp_treefile.specs.declared.limits.TreeLimits.{TreeLimits}
 use Rattle.sftp_treefile.specs.TreeFile.{is_target}
 use Rattle.sftp_tree.specs.declared.file_contents.Content.{Content}
 use Rattle.sftp_tree.specs.declared.nodes.Node.{Node}
@@ -63,11 +62,9 @@ content-shown t number content kept there =
     let test = λ (e : ℕ × Content). content_fits (limits t) e.1 in
     let within = each-get nat_cmp nat_cmp-IsAntisymmetric (λ e. IsTrue (test e)) t.files number content
     (each-all test t.files (fits-parts t kept.within_limits).files) there in
-    let few : nat_le (length content.bytes) 16777216 ≡ true =
-    ap (λ (bounds : TreeLimits). nat_le (length content.bytes) bounds.file_bytes) (sym well.limits) ∙ within in
-    let size = leb-true (length content.bytes) 16777216 few in
+    let size = leb-true (length content.bytes) (limits t).file_bytes within in
     said-shown (length content.bytes) content.owner.uid content.owner.gid (0o100000 + content.owner.permissions)
-    (omega (arith, size)) fit.0.0 fit.0.1 (omega (arith, fit.0.2))
+    (omega (arith, size, well.limits.file_bytes.1)) fit.0.0 fit.0.1 (omega (arith, fit.0.2))
 
 number-shown : (t : Tree) (number : ℕ) (found : Option Content) (attrs : Attrs) → IsKept t
     → content_at t.files number ≡ found → option_map shown_content found ≡ Some attrs → IsShown attrs

@@ -50,6 +50,7 @@ use Rattle.sftp_handles.specs.Requests.{with_handle_room, told_to, said_by, flag
 use Rattle.sftp_handles.proofs.Pins.{pin-times, pins-open_file, pins-open_listing}
 use Rattle.sftp_handles.proofs.GoodSteps.{room-of, good-through}
 use Rattle.sftp_handles.proofs.GoodStates.{OpensExist, pinned-exist, good-by}
+use Rattle.sftp_handles.proofs.LimitsAnswers.{limits-still}
 
 not-open : (o : Option Opened) → not (is_some o) ≡ true → o ≡ None
 not-open None is = refl
@@ -262,6 +263,8 @@ good-after paths-lead s (Opendir path) answer lists good fit free answered =
     good-list paths-lead s lists path good fit free answer answered
 good-after paths-lead s (asks.Unknown extension rest) answer lists good fit free answered =
     absurd (let one = none-each (when no_causes Unknown true) free Unknown in unknown one)
+good-after paths-lead s asks.Limits answer lists good fit free answered =
+    subst Good (sym (limits-still s answer good)) good
 good-after paths-lead s (asks.Close handle) answer lists good fit free answered =
     good-through s (asks.Close handle) handle answer good fit free
 good-after paths-lead s (asks.Read handle offset len) answer lists good fit free answered =

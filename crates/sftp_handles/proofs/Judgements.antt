@@ -15,7 +15,8 @@ use Rattle.sftp_tree.specs.declared.causes.Cause.TheVariants.{BadFlags}
 use Rattle.sftp_tree.specs.Causes.{CauseSet, every_cause, allows, allow, is_none}
 use Rattle.sftp_tree.proofs.CauseLaws.Sets.{none-each}
 use Rattle.sftp_handles.specs.State.{State}
-use Rattle.sftp_handles.specs.Replies.{Said, ok, shows, names, gives, ended, lists, opens, says, refuses, has_code}
+use Rattle.sftp_handles.specs.Replies.{Said, ok, shows, names, gives, ended, lists, opens, extends, says}
+use Rattle.sftp_handles.specs.Replies.{refuses, has_code}
 use Rattle.sftp_handles.specs.Requests.{causes, said_to, answers, after}
 use Rattle.sftp_handles.specs.Allowed.{Does, Allowed, stepped, step}
 use Rattle.sftp_handles.specs.Judged.{IsJudged, IsJudgedCode, IsDone, refusal_code}
@@ -137,6 +138,7 @@ says-other (gives bytes) code message language not_ok not_end = refl
 says-other ended code message language not_ok not_end = not_end
 says-other (lists left) code message language not_ok not_end = refl
 says-other (opens handles) code message language not_ok not_end = refl
+says-other (extends told) code message language not_ok not_end = refl
 
 answers-other : (s : State) (ask : Ask) (code : ℕ) (message language : List ℕ) → (code == 0) ≡ false
     → (code == 1) ≡ false → answers s ask (Status code message language) ≡ false

@@ -29,6 +29,8 @@ pub mod HandleRoom
 pub mod NewHandles
 pub mod TotalSteps
 pub mod AnswersSpelled
+pub mod LimitsAnswers
+pub mod ReadLimits
 pub mod QueryReplies
 pub mod AnswersSteps
 pub mod NameReplies

@@ -30,7 +30,7 @@ use Rattle.sftp_handles.specs.State.{State, Good, settled}
 use Rattle.sftp_handles.specs.Seen.{anything, a_file, seen, seen_among, seen_file}
 use Rattle.sftp_handles.specs.Replies.{ok, has_code}
 use Rattle.sftp_handles.specs.HandleRequests.{Row, row_of, said_of}
-use Rattle.sftp_handles.specs.Requests.{causes, path_causes, causes_by, after, after_by, told_to, said_to}
+use Rattle.sftp_handles.specs.Requests.{causes, path_causes, path_said, causes_by, after, after_by, told_to, said_to}
 use Rattle.sftp_handles.specs.Requests.{said_by, with_new, flags_of, opened_by}
 use Rattle.sftp_handles.specs.Judged.{IsJudged, IsDone, IsRefusal, is_done, changes_tree, refusal_code}
 use Rattle.sftp_handles.specs.Kinds.{kind_of}
@@ -57,25 +57,26 @@ record IsChange (s : State) (ask : Ask) : Type 0 where
   pub on_paths : IsTrue (has_step ask)
   pub no_handle : asked_handle ask ≡ None
   pub same_causes : path_causes s ask ≡ paths.causes s.tree ask
+  pub same_said : path_said s ask ≡ said_by s.handles (told_to s.tree ask)
   pub says_done : (place : Place) → told_at s.tree ask place ≡ done
 
 is-change : (s : State) (ask : Ask) → IsTrue (changes_tree ask) → IsChange s ask
 is-change s (asks.Mkdir path attrs) is =
-    record { on_paths = refl; no_handle = refl; same_causes = refl; says_done = λ place. refl }
+    record { on_paths = refl; no_handle = refl; same_causes = refl; same_said = refl; says_done = λ place. refl }
 is-change s (asks.Rmdir path) is =
-    record { on_paths = refl; no_handle = refl; same_causes = refl; says_done = λ place. refl }
+    record { on_paths = refl; no_handle = refl; same_causes = refl; same_said = refl; says_done = λ place. refl }
 is-change s (asks.Remove path) is =
-    record { on_paths = refl; no_handle = refl; same_causes = refl; says_done = λ place. refl }
+    record { on_paths = refl; no_handle = refl; same_causes = refl; same_said = refl; says_done = λ place. refl }
 is-change s (asks.Setstat path attrs) is =
-    record { on_paths = refl; no_handle = refl; same_causes = refl; says_done = λ place. refl }
+    record { on_paths = refl; no_handle = refl; same_causes = refl; same_said = refl; says_done = λ place. refl }
 is-change s (asks.Rename oldpath newpath) is =
-    record { on_paths = refl; no_handle = refl; same_causes = refl; says_done = λ place. refl }
+    record { on_paths = refl; no_handle = refl; same_causes = refl; same_said = refl; says_done = λ place. refl }
 is-change s (asks.PosixRename oldpath newpath) is =
-    record { on_paths = refl; no_handle = refl; same_causes = refl; says_done = λ place. refl }
+    record { on_paths = refl; no_handle = refl; same_causes = refl; same_said = refl; says_done = λ place. refl }
 is-change s (asks.Hardlink oldpath newpath) is =
-    record { on_paths = refl; no_handle = refl; same_causes = refl; says_done = λ place. refl }
+    record { on_paths = refl; no_handle = refl; same_causes = refl; same_said = refl; says_done = λ place. refl }
 is-change s (asks.Symlink targetpath linkpath) is =
-    record { on_paths = refl; no_handle = refl; same_causes = refl; says_done = λ place. refl }
+    record { on_paths = refl; no_handle = refl; same_causes = refl; same_said = refl; says_done = λ place. refl }
 is-change s other is = absurd cc
 
 pub change-on_paths : (s : State) (ask : Ask) → IsTrue (changes_tree ask) → IsTrue (has_step ask)
@@ -103,7 +104,8 @@ told-done s ask is = led_to-done (led s.tree ask) (told_at s.tree ask) (is-chang
 
 path-ok : (s : State) (ask : Ask) → IsTrue (changes_tree ask) → said_to s ask (asked_handle ask) ≡ ok
 path-ok s ask is =
-    ap (said_to s ask) (is-change s ask is).no_handle ∙ ap (said_by s.handles) (told-done s ask is)
+    ap (said_to s ask) (is-change s ask is).no_handle
+    ∙ ((is-change s ask is).same_said ∙ ap (said_by s.handles) (told-done s ask is))
 
 change-after : (s : State) (ask : Ask) (answer : Answer) → IsTrue (changes_tree ask)
     → after s ask answer ≡ settled (outcome s.tree ask) s.handles
@@ -186,6 +188,7 @@ change-said s (asks.Lstat path) is = absurd cc
 change-said s (asks.Fstat handle) is = absurd cc
 change-said s (asks.Realpath path) is = absurd cc
 change-said s (asks.Readlink path) is = absurd cc
+change-said s asks.Limits is = absurd cc
 change-said s (asks.Unknown name rest) is = absurd cc
 change-said s other is = path-ok s other refl
 

@@ -225,11 +225,9 @@ few-pins s n good =
     let times : times_pinned s.tree.pins n ≡ times_open s.handles n =
     ap (λ pins. times_pinned pins n) good.pinned ∙ pins-times s.handles n in
     let often : times_open s.handles n ≤ size s.handles = times-few s.handles n in
-    let most : nat_le (size s.handles) 256 ≡ true =
-    ap (λ (bounds : TreeLimits). nat_le (size s.handles) bounds.open_handles) (sym good.tree.well_formed.limits)
-    ∙ good.few in
-    let few : size s.handles ≤ 256 = leb-true (size s.handles) 256 most in
-    omega (arith, times, often, few)
+    let few : size s.handles ≤ (limits s.tree).open_handles =
+    leb-true (size s.handles) (limits s.tree).open_handles good.few in
+    omega (arith, times, often, few, good.tree.well_formed.limits.open_handles.1)
 
 -- ---- the steps
 

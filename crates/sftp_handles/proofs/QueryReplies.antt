@@ -17,7 +17,7 @@ use Rattle.sftp_tree.specs.Tree.{Tree, Files, node_at, content_at}
 use Rattle.sftp_tree.specs.Causes.{is_none}
 use Rattle.sftp_tree.specs.Requests as paths
 use Rattle.sftp_tree.specs.Requests.{Told, led, led_to, told_at, outcome, shown_to, text_to, target_to, shown_at}
-use Rattle.sftp_tree.specs.Requests.{target_of}
+use Rattle.sftp_tree.specs.Requests.{target_of, has_step}
 use Rattle.sftp_tree.specs.Refusals.{IsFree, stat_ask}
 use Rattle.sftp_tree.specs.Refusals as of_tree
 use Rattle.sftp_tree.proofs.Requests.Trees.{PathsLeadWell}
@@ -30,7 +30,7 @@ use Rattle.sftp_handles.specs.Seen.{a_file, seen, seen_among}
 use Rattle.sftp_handles.specs.Replies.{Said, shows, names, says}
 use Rattle.sftp_handles.specs.HandleRequests.{Row, row_of, change_of, change_file, nothing}
 use Rattle.sftp_handles.specs.Requests.{causes, answers, after, after_by, told_to, said_by, said_to, opened_by}
-use Rattle.sftp_handles.specs.Requests.{flags_of, with_new, changed}
+use Rattle.sftp_handles.specs.Requests.{flags_of, with_new, changed, path_said}
 use Rattle.sftp_handles.specs.Judged.{IsJudged, IsRefusal, refusal_code}
 use Rattle.sftp_handles.specs.Kinds.{kind_of}
 use Rattle.sftp_handles.specs.Fitting.{FitsSaid}
@@ -38,6 +38,7 @@ use Rattle.sftp_handles.specs.Payloads.{Carries}
 use Rattle.sftp_handles.specs.Answered.{IsReplyOf, IsAnswered}
 use Rattle.sftp_handles.proofs.GoodStates.{good-settled}
 use Rattle.sftp_handles.proofs.Judgements.{answers-said, unlike, judged-still}
+use Rattle.sftp_handles.proofs.LimitsAnswers.{limits-still}
 use Rattle.sftp_handles.proofs.TotalSteps.SeenReplies.{seen-fits}
 use Rattle.sftp_handles.proofs.TotalSteps.PathReplies.{path-fits, stat-fits, lstat-fits, target-fits, place-fits}
 
@@ -48,22 +49,31 @@ led_to-same t None = refl
 led_to-same t (Some (Ok place)) = refl
 led_to-same t (Some (Err cause)) = refl
 
-path-left : (t : Tree) (ask : Ask) → kind_of ask ≡ Query → asked_handle ask ≡ None → outcome t ask ≡ t
+path-left : (t : Tree) (ask : Ask) → kind_of ask ≡ Query → asked_handle ask ≡ None → IsTrue (has_step ask)
+    → outcome t ask ≡ t
 unfolding outcome
-path-left t (asks.Stat path) is asked = led_to-same t (led t (asks.Stat path))
-path-left t (asks.Lstat path) is asked = led_to-same t (led t (asks.Lstat path))
-path-left t (asks.Realpath path) is asked = led_to-same t (led t (asks.Realpath path))
-path-left t (asks.Readlink path) is asked = led_to-same t (led t (asks.Readlink path))
-path-left t other is asked = absurd cc
+path-left t (asks.Stat path) is asked on = led_to-same t (led t (asks.Stat path))
+path-left t (asks.Lstat path) is asked on = led_to-same t (led t (asks.Lstat path))
+path-left t (asks.Realpath path) is asked on = led_to-same t (led t (asks.Realpath path))
+path-left t (asks.Readlink path) is asked on = led_to-same t (led t (asks.Readlink path))
+path-left t other is asked on = absurd cc
 
-path-causes : (s : State) (ask : Ask) → kind_of ask ≡ Query → asked_handle ask ≡ None
+path-causes : (s : State) (ask : Ask) → kind_of ask ≡ Query → asked_handle ask ≡ None → IsTrue (has_step ask)
     → causes s ask ≡ paths.causes s.tree ask
 unfolding causes
-path-causes s (asks.Stat path) is asked = refl
-path-causes s (asks.Lstat path) is asked = refl
-path-causes s (asks.Realpath path) is asked = refl
-path-causes s (asks.Readlink path) is asked = refl
-path-causes s other is asked = absurd cc
+path-causes s (asks.Stat path) is asked on = refl
+path-causes s (asks.Lstat path) is asked on = refl
+path-causes s (asks.Realpath path) is asked on = refl
+path-causes s (asks.Readlink path) is asked on = refl
+path-causes s other is asked on = absurd cc
+
+path-said : (s : State) (ask : Ask) → kind_of ask ≡ Query → asked_handle ask ≡ None → IsTrue (has_step ask)
+    → path_said s ask ≡ said_by s.handles (told_to s.tree ask)
+path-said s (asks.Stat path) is asked on = refl
+path-said s (asks.Lstat path) is asked on = refl
+path-said s (asks.Realpath path) is asked on = refl
+path-said s (asks.Readlink path) is asked on = refl
+path-said s other is asked on = absurd cc
 
 -- it opens nothing
 opens-none : (pflags : ℕ) (end : Option (Result Place Cause)) (at : Place → Told)
@@ -72,26 +82,27 @@ opens-none pflags None at none = refl
 opens-none pflags (Some (Ok place)) at none = none place
 opens-none pflags (Some (Err cause)) at none = refl
 
-module _ (s : State) (ask : Ask) (is : kind_of ask ≡ Query) (asked : asked_handle ask ≡ None) where
+module _ (s : State) (ask : Ask) (is : kind_of ask ≡ Query) (asked : asked_handle ask ≡ None)
+    (on : IsTrue (has_step ask)) where
   path-still : ((place : Place) → opened_by (flags_of ask) (told_at s.tree ask place) ≡ None) → (answer : Answer)
       → Good s → after s ask answer ≡ s
   unfolding after told_to
   path-still none answer good =
       ap (after_by s ask answer) asked
-      ∙ ((λ i. settled (path-left s.tree ask is asked i)
+      ∙ ((λ i. settled (path-left s.tree ask is asked on i)
       (with_new s.handles (opens-none (flags_of ask) (led s.tree ask) (told_at s.tree ask) none i) answer))
       ∙ good-settled s good)
 
   -- a refusal of the tree is one of the session
   pub path-refusal : (refused : Refused) → of_tree.IsRefusal s.tree ask refused → IsRefusal s ask refused
-  path-refusal (refusals.Cause cause) holds = ap (λ set. set cause) (path-causes s ask is asked) ∙ holds
+  path-refusal (refusals.Cause cause) holds = ap (λ set. set cause) (path-causes s ask is asked on) ∙ holds
   path-refusal refusals.NoMemory holds = tt
 
   carries-path : (told : Told) → Good s → IsFree s.tree ask → told_to s.tree ask ≡ told
       → FitsSaid (said_by s.handles (told_to s.tree ask)) → Carries s ask (said_by s.handles told)
   carries-path told good free tells fits = record {
-    free = ap is_none (path-causes s ask is asked) ∙ free;
-    is = ap (said_to s ask) asked ∙ ap (said_by s.handles) tells;
+    free = ap is_none (path-causes s ask is asked on) ∙ free;
+    is = ap (said_to s ask) asked ∙ (path-said s ask is asked on ∙ ap (said_by s.handles) tells);
     fits = subst FitsSaid (ap (said_by s.handles) tells) fits;
     good = good;
   }
@@ -124,18 +135,18 @@ pub carries-stat : (s : State) (follow : Bool) (path : List ℕ) (shown : Attrs)
     → IsFree s.tree (stat_ask follow path) → shown_to s.tree (stat_ask follow path) ≡ Some shown
     → Carries s (stat_ask follow path) (shows (Some shown))
 carries-stat s true path shown good free is =
-    carries-path s (asks.Stat path) refl refl (paths.attributes (Some shown)) good free
+    carries-path s (asks.Stat path) refl refl refl (paths.attributes (Some shown)) good free
     (stat-told s.tree true path shown is)
     (path-fits s good (asks.Stat path) (λ place. stat-fits s good path place free))
 carries-stat s false path shown good free is =
-    carries-path s (asks.Lstat path) refl refl (paths.attributes (Some shown)) good free
+    carries-path s (asks.Lstat path) refl refl refl (paths.attributes (Some shown)) good free
     (stat-told s.tree false path shown is)
     (path-fits s good (asks.Lstat path) (λ place. lstat-fits s good path place free))
 
 pub stat-refusal : (s : State) (follow : Bool) (path : List ℕ) (refused : Refused)
     → of_tree.IsRefusal s.tree (stat_ask follow path) refused → IsRefusal s (stat_ask follow path) refused
-stat-refusal s true path refused holds = path-refusal s (asks.Stat path) refl refl refused holds
-stat-refusal s false path refused holds = path-refusal s (asks.Lstat path) refl refl refused holds
+stat-refusal s true path refused holds = path-refusal s (asks.Stat path) refl refl refl refused holds
+stat-refusal s false path refused holds = path-refusal s (asks.Lstat path) refl refl refl refused holds
 
 -- ---- REALPATH and READLINK
 
@@ -154,14 +165,14 @@ pub carries-place : PathsLeadWell → (s : State) (path text : List ℕ) → Goo
     → IsFree s.tree (asks.Realpath path) → text_to s.tree (asks.Realpath path) ≡ Some text
     → Carries s (asks.Realpath path) (names (Some text))
 carries-place paths-lead s path text good bytes free is =
-    carries-path s (asks.Realpath path) refl refl (paths.name (Some text)) good free
+    carries-path s (asks.Realpath path) refl refl refl (paths.name (Some text)) good free
     (realpath-told s.tree path text is)
     (path-fits s good (asks.Realpath path) (λ place. place-fits s good paths-lead path place bytes))
 
 pub carries-target : (s : State) (path text : List ℕ) → Good s → IsFree s.tree (asks.Readlink path)
     → target_to s.tree (asks.Readlink path) ≡ Some text → Carries s (asks.Readlink path) (names (Some text))
 carries-target s path text good free is =
-    carries-path s (asks.Readlink path) refl refl (paths.name (Some text)) good free
+    carries-path s (asks.Readlink path) refl refl refl (paths.name (Some text)) good free
     (readlink-told s.tree path text is)
     (path-fits s good (asks.Readlink path) (λ place. target-fits s good path place free))
 
@@ -204,13 +215,14 @@ module _ (s : State) (ask : Ask) (handle : List ℕ) (asked : asked_handle ask �
 
 query-still : (s : State) (ask : Ask) (answer : Answer) → kind_of ask ≡ Query → Good s → after s ask answer ≡ s
 query-still s (asks.Stat path) answer is good =
-    path-still s (asks.Stat path) refl refl (λ place. refl) answer good
+    path-still s (asks.Stat path) refl refl refl (λ place. refl) answer good
 query-still s (asks.Lstat path) answer is good =
-    path-still s (asks.Lstat path) refl refl (λ place. refl) answer good
+    path-still s (asks.Lstat path) refl refl refl (λ place. refl) answer good
 query-still s (asks.Realpath path) answer is good =
-    path-still s (asks.Realpath path) refl refl (λ place. refl) answer good
+    path-still s (asks.Realpath path) refl refl refl (λ place. refl) answer good
 query-still s (asks.Readlink path) answer is good =
-    path-still s (asks.Readlink path) refl refl (λ place. refl) answer good
+    path-still s (asks.Readlink path) refl refl refl (λ place. refl) answer good
+query-still s asks.Limits answer is good = limits-still s answer good
 query-still s (asks.Fstat handle) answer is good =
     open-still s (asks.Fstat handle) handle refl refl (λ flags before. refl) answer good
 query-still s (asks.Read handle offset len) answer is good =

@@ -2,8 +2,8 @@
 use Rattle.std.proofs.Common.{◌≡◌, ◌≢◌, ◌⊎◌, ◌+◌, ◌<◌, ◌^◌, ◌++◌, ℕ, zero, suc, Bool, true, false, cond, List}
 use Rattle.std.proofs.Common.{[], ◌∷◌, length, map, get_or, Option, None, Some, is_some, refl, sym, ap, subst, ◌∙◌}
 use Rattle.std.proofs.Common.{inl, inr, zero-add, arith}
-use Rattle.std.specs.Prelude.{◌==◌, ◌-◌, ◌/◌, take, drop, if◌then◌else◌, bytes_eq, IsSome}
-use Rattle.std.specs.Int.{w32, w64, from_be_bytes, byte_at, bytes_high_first}
+use Rattle.std.specs.Prelude.{◌==◌, ◌-◌, take, drop, if◌then◌else◌, bytes_eq, IsSome}
+use Rattle.std.specs.Int.{w32, w64, from_be_bytes}
 use Rattle.std.specs.Cmp.Lexicographic.{nat_list_cmp_total, nat_list_eq_equiv}
 use Rattle.std.proofs.Math.Nat.{mod-lt}
 use Rattle.std.proofs.lemmas.Bool.{cases_eq, eq-eqb, eqb-true}
@@ -27,7 +27,7 @@ use Rattle.sftp_handles.specs.declared.slots.Slot.{Slot}
 use Rattle.sftp_handles.specs.Handles.{open_at, with_open, without_open}
 use Rattle.sftp_handles.specs.Slots.{slot_name, named_slot, handles_from, slab_handles, serial_before}
 use Rattle.sftp_handles.specs.Slots.{IsNameAt, IsNewest, IsNumbered}
-use Rattle.sftp_handles.proofs.TotalSteps.PlaceTexts.{bytes-joined}
+use Rattle.sftp_handles.proofs.TotalSteps.PlaceTexts.{bytes-joined, number-bytes}
 
 -- ---- names
 
@@ -380,14 +380,6 @@ freed-at old new name number slot was found named updates =
     ∙ ap (without_open (slab_handles old)) (sym (name-at old name number slot found named))
 
 -- a name is bytes
-byte-small : (i n : ℕ) → byte_at i n < 256
-byte-small zero n = mod-lt n (omega arith)
-byte-small (suc i) n = mod-lt (n / 256 ^ suc i) (omega arith)
-
-number-bytes : (count n : ℕ) → AreBytes (bytes_high_first count n)
-number-bytes zero n = tt
-number-bytes (suc count) n = (byte-small count n, number-bytes count n)
-
 pub slot_name-bytes : (number serial : ℕ) → AreBytes (slot_name number serial)
 unfolding slot_name
 slot_name-bytes number serial =

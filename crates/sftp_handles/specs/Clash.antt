@@ -1,7 +1,7 @@
--- When two requests clash, and so are done in the order asked. The draft asks that requests on one file are processed
--- in the order received, with the results as if each had waited for the reply to the one before; those that do not
--- overlap may run in parallel (draft-ietf-secsh-filexfer-02, section 6.1). Which requests clash is this profile's own,
--- and stricter: ranges are not compared.
+-- When two requests conflict, and so are done in the order asked. The draft asks that requests on one file are
+-- processed in the order received, with the results as if each had waited for the reply to the one before; those that
+-- do not overlap may run in parallel (draft-ietf-secsh-filexfer-02, section 6.1). Which requests conflict is this
+-- profile's own, and stricter: ranges are not compared.
 use Rattle.std.specs.Prelude.{◌==◌, ℕ, Bool, true, false, if◌then◌else◌, List, Option, Some, None}
 use Rattle.sftp_wire.specs.declared.packets.Ask.{Ask}
 use Rattle.sftp_wire.specs.declared.packets.Ask.TheVariants as asks
@@ -54,7 +54,8 @@ touched_by s ask None = everything
 touched_by s ask (Some handle) =
     touched_through (row_of ask).needed (may_change ask) handle (open_at s.handles handle)
 
--- whether a request touches everything in every state: all do but those that need a file or a listing under their handle
+-- whether a request touches everything in every state: all do but those that need a file or a listing under their
+-- handle
 abbrev pub is_barrier : Ask → Bool
 is_barrier (asks.Read handle offset len) = false
 is_barrier (asks.Write handle offset bytes) = false

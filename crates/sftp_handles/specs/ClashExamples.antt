@@ -1,4 +1,4 @@
--- What the worked examples of requests that clash name: a state, and requests through its handles.
+-- What the worked examples of requests that conflict name: a state, and requests through its handles.
 use Rattle.std.specs.Prelude.{ℕ, Bool, List, [], ◌∷◌, codes}
 use Rattle.sftp_wire.specs.declared.packets.Ask.{Ask}
 use Rattle.sftp_wire.specs.declared.packets.Ask.TheVariants as asks
@@ -28,6 +28,6 @@ set handle = asks.Fsetstat handle no_attributes
 abbrev pub make : List ℕ → Ask
 make path = asks.Mkdir path no_attributes
 
--- whether these two clash in that state
+-- whether these two conflict in that state
 abbrev pub clash_there : Ask → Ask → Bool
 clash_there first second = clash with_handles (record { id = 1; ask = first }) (record { id = 2; ask = second })

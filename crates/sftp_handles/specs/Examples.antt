@@ -12,6 +12,8 @@ use Rattle.sftp_tree.specs.Tree.{Tree}
 use Rattle.sftp_tree.specs.Attributes.{said}
 use Rattle.sftp_tree.specs.Picture.{blank}
 use Rattle.sftp_tree.specs.WalkExamples.{directory, tree_of, holding, empty_file}
+use Rattle.sftp_handles.specs.declared.opens.Open.TheVariants.{File as open_file}
+use Rattle.sftp_handles.specs.Handles.{kept_flags}
 use Rattle.sftp_handles.specs.State.{State}
 
 -- ---- states
@@ -49,6 +51,13 @@ abbrev pub with_file_below : List ℕ → Tree
 with_file_below bytes =
     holding ((codes "d" ∷ [], directory) ∷ (codes "d" ∷ codes "f" ∷ [], File 0) ∷ [])
     (record empty_file { bytes = bytes })
+
+-- the file 0 of this tree is open for reading under `h`
+abbrev pub reading : Tree → State
+reading t = record {
+  tree = record t { pins = (0, 1) ∷ [] };
+  handles = (codes "h", open_file 0 (kept_flags 1)) ∷ [];
+}
 
 -- ---- requests and their answers
 

@@ -4,9 +4,10 @@ use Rattle.sftp_wire.specs.declared.attributes.Attrs.{Attrs}
 use Rattle.sftp_wire.specs.Spelling.{FitsString, FitsAttrs}
 use Rattle.sftp_path.specs.Place.{bytes_cmp}
 use Rattle.sftp_path.specs.Table.{InOrder, size}
+use Rattle.sftp_treefile.specs.Limits.{highest_limits}
 use Rattle.sftp_handles.specs.Handles.{Left, Handles}
 use Rattle.sftp_handles.specs.State.{IsItem, is_plain}
-use Rattle.sftp_handles.specs.Replies.{Said, ok, shows, names, gives, ended, lists, opens}
+use Rattle.sftp_handles.specs.Replies.{Said, ok, shows, names, gives, ended, lists, opens, extends}
 
 abbrev pub FitsShown : Option Attrs → Type 0
 FitsShown None = ⊥
@@ -24,7 +25,7 @@ FitsNamed (Some text) = FitsTwice text
 -- bytes that fit a reply
 pub record FitsData (bytes : List ℕ) : Type 0 where
   pub string : FitsString bytes
-  pub short : length bytes ≤ 32768
+  pub short : length bytes ≤ highest_limits.read_bytes
 
 -- a listing has a name left, which fits a reply
 abbrev pub FitsListed : Left → Type 0
@@ -34,7 +35,7 @@ FitsListed (e ∷ es) = IsItem e
 -- there are so few handles that one more has a name
 pub record HasNewName (handles : Handles) : Type 0 where
   pub ordered : InOrder bytes_cmp handles
-  pub few : size handles < 256
+  pub few : size handles < highest_limits.open_handles
 
 -- an answer that can be encoded says it
 abbrev pub FitsSaid : Said → Type 0
@@ -45,3 +46,4 @@ FitsSaid (gives bytes) = FitsData bytes
 FitsSaid ended = Unit {0}
 FitsSaid (lists left) = FitsListed left
 FitsSaid (opens handles) = HasNewName handles
+FitsSaid (extends bytes) = FitsData bytes

@@ -9,13 +9,13 @@ use Rattle.sftp_handles.specs.declared.opens.Open.TheVariants.{File, Listing}
 use Rattle.sftp_handles.specs.Handles.{Handles, with_open}
 use Rattle.sftp_handles.specs.Replies.{are_some_left, struck}
 
--- whether what is open is a listing, and these are some of the names that it still has to give
+-- whether what is open is a listing, and these are some of its remaining entries
 abbrev pub gives_names : Option Open → List NameItem → Bool
 gives_names (Some (Listing left)) items = are_some_left left items
 gives_names (Some (File number flags)) items = false
 gives_names None items = false
 
--- what a listing still has to give, if one is open
+-- the remaining entries of a listing, if one is open
 abbrev pub listing_in : Option Open → Option (List (Name × Attrs))
 listing_in (Some (Listing left)) = Some left
 listing_in (Some (File number flags)) = None

@@ -103,6 +103,7 @@ row_of (asks.Remove path) = plain_row
 row_of (asks.Rename oldpath newpath) = plain_row
 row_of (asks.PosixRename oldpath newpath) = plain_row
 row_of (asks.Hardlink oldpath newpath) = plain_row
+row_of asks.Limits = plain_row
 row_of (asks.Unknown extension rest) = plain_row
 
 -- ---- the causes

@@ -12,7 +12,7 @@ use Rattle.sftp_handles.specs.declared.opens.Open.TheVariants.{File, Listing}
 
 -- ---- handles
 
--- the names that a listing still has to give, with their attributes
+-- the remaining entries of a listing, with their attributes
 abbrev pub Left : Type 0
 Left = Table Name Attrs
 

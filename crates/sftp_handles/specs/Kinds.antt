@@ -14,6 +14,7 @@ kind_of (asks.Lstat path) = Query
 kind_of (asks.Fstat handle) = Query
 kind_of (asks.Realpath path) = Query
 kind_of (asks.Readlink path) = Query
+kind_of asks.Limits = Query
 kind_of (asks.Close handle) = Change
 kind_of (asks.Write handle offset bytes) = Change
 kind_of (asks.Setstat path attrs) = Change

@@ -4,9 +4,9 @@ use Rattle.sftp_wire.specs.declared.packets.Ask.{Ask}
 use Rattle.sftp_wire.specs.Spelling.{asked_handle}
 use Rattle.sftp_tree.specs.Causes.{is_none}
 use Rattle.sftp_handles.specs.declared.payloads.Payload.{Payload}
-use Rattle.sftp_handles.specs.declared.payloads.Payload.TheVariants.{Attrs, Name, Data, End}
+use Rattle.sftp_handles.specs.declared.payloads.Payload.TheVariants.{Attrs, Name, Data, Extended, End}
 use Rattle.sftp_handles.specs.State.{State, Good}
-use Rattle.sftp_handles.specs.Replies.{Said, shows, names, gives, ended}
+use Rattle.sftp_handles.specs.Replies.{Said, shows, names, gives, ended, extends}
 use Rattle.sftp_handles.specs.Requests.{causes, said_to}
 use Rattle.sftp_handles.specs.Fitting.{FitsSaid}
 
@@ -15,6 +15,7 @@ abbrev pub said_in : Payload → Said
 said_in (Attrs shown) = shows (Some shown)
 said_in (Name text) = names (Some text)
 said_in (Data bytes) = gives bytes.now
+said_in (Extended told) = extends told
 said_in End = ended
 
 -- no cause refuses the request, its reply says this, which can be encoded, and the state is good

@@ -30,7 +30,7 @@ read offset len = asks.Read (codes "x") offset len
 abbrev pub write : ℕ → List ℕ → Ask
 write offset bytes = asks.Write (codes "x") offset bytes
 
--- whether these two clash there, ranges compared; the first is asked first
+-- whether these two conflict there, ranges compared; the first is asked first
 abbrev pub clash_in : State → Ask → Ask → Bool
 clash_in s first second = range_clash s (record { id = 1; ask = first }) (record { id = 2; ask = second })
 

@@ -1,4 +1,4 @@
--- When two requests on one file do not clash, since they keep to ranges of it that do not meet
+-- When two requests on one file do not conflict, since they keep to ranges of it that do not meet
 -- (draft-ietf-secsh-filexfer-02, section 6.1: requests on one file that do not overlap may be done in any order). That
 -- both ranges must end within the file is this profile's own.
 use Rattle.std.specs.Prelude.{◌==◌, ◌&&◌, not, nat_lt, nat_le, ℕ, ◌+◌, min, Bool, true, false, List, length, Option}
@@ -61,7 +61,7 @@ abbrev pub may_resize : Touched → Option ByteRange → Bool
 may_resize (writes_file number) None = true
 may_resize _ _ = false
 
--- ---- clashes
+-- ---- conflicts
 
 -- whether both have bytes, and each starts before the other ends; an empty range meets nothing
 abbrev pub meet : ByteRange → ByteRange → Bool

@@ -75,14 +75,14 @@ abbrev pub has_attributes : Option Attrs → Attrs → Bool
 has_attributes None attrs = false
 has_attributes (Some left) attrs = same_attributes left attrs
 
--- a name that the listing still has to give, with its attributes
+-- a remaining entry of the listing, with its attributes
 abbrev pub is_left : Left → NameItem → Bool
 is_left left item = has_attributes (get name_cmp left item.filename) item.attrs
 
 abbrev pub names_in : List NameItem → List Name
 names_in items = map (λ item. item.filename) items
 
--- one or more of the names that the listing still has to give, each once, in any order
+-- one or more of the remaining entries of the listing, each once, in any order
 abbrev pub are_some_left : Left → List NameItem → Bool
 are_some_left left items = nat_lt 0 (length items) && (list_all (is_left left) items && are_distinct (names_in items))
 
@@ -106,6 +106,13 @@ abbrev pub is_new_handle : Handles → Answer → Bool
 is_new_handle handles (replies.Handle name) = nat_le (length name) handle_limit && not (is_open handles name)
 is_new_handle handles other = false
 
+-- ---- extensions
+
+-- these bytes
+abbrev pub is_extended : List ℕ → Answer → Bool
+is_extended bytes (replies.Extended given) = same_bytes bytes given
+is_extended bytes other = false
+
 -- ---- what a reply says
 
 -- what the reply to a request that was done says
@@ -120,10 +127,12 @@ pub data Said : Type 0 where
   gives : List ℕ → Said
   -- that the end was reached
   ended : Said
-  -- some of the names that a listing still has to give
+  -- some of the remaining entries of a listing
   lists : Left → Said
   -- a handle that is not one of these
   opens : Handles → Said
+  -- these bytes in the reply of an extension
+  extends : List ℕ → Said
 
 -- whether an answer says it; OK has the code 0, and the end the code 1
 abbrev pub says : Said → Answer → Bool
@@ -134,3 +143,4 @@ says (gives bytes) answer = is_data bytes answer
 says ended answer = has_code 1 answer
 says (lists left) answer = gives_some left answer
 says (opens handles) answer = is_new_handle handles answer
+says (extends bytes) answer = is_extended bytes answer

@@ -24,7 +24,7 @@ pub data Seen : Type 0 where
   something : Seen
   -- a file: its number, how it was opened, and its content
   file : ℕ → OpenFlags → Content → Seen
-  -- a listing: what it still has to give
+  -- a listing: its remaining entries
   listing : Left → Seen
 
 -- a file that is open exists in each good state

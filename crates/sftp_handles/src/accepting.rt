@@ -21,7 +21,7 @@ impl Session<GivenTable> {
     ///
     /// # Errors
     ///
-    /// `NoMemory` if memory runs out; the session is then as before.
+    /// `NoMemory` if memory runs out; the session is unchanged.
     pub fn accept(&mut self, request: &Request, reply: &Reply) -> Result<bool, NoMemory>
         ensures allowed { IfOk result (λ ok. IsTrue ok → Allowed self.old request.now reply.now self.new) }
         ensures refused { IfOk result
@@ -42,7 +42,7 @@ impl<T: HandleTable> Session<T> {
     ///
     /// # Errors
     ///
-    /// `NoMemory` if memory runs out; the session is then as before.
+    /// `NoMemory` if memory runs out; the session is unchanged.
     fn judge(&mut self, ask: &Ask, answer: &Answer) -> Result<bool, NoMemory>
         requires { IsTrue T.takes_want }
         ensures ok { IfOk result (λ ok. IsJudged self.old ask.now answer.now ok self.new) }
@@ -61,7 +61,7 @@ impl<T: HandleTable> Session<T> {
     ///
     /// # Errors
     ///
-    /// `NoMemory` if memory runs out; the session is then as before.
+    /// `NoMemory` if memory runs out; the session is unchanged.
     fn judge_done(&mut self, ask: &Ask, answer: &Answer) -> Result<bool, NoMemory>
         requires table { IsTrue T.takes_want }
         requires unlike { refusal_code answer.now ≡ None }
@@ -81,7 +81,7 @@ impl<T: HandleTable> Session<T> {
     ///
     /// # Errors
     ///
-    /// `NoMemory` if memory runs out; the session is then as before.
+    /// `NoMemory` if memory runs out; the session is unchanged.
     fn judge_open(&mut self, ask: &Ask, answer: &Answer) -> Result<bool, NoMemory>
         requires table { IsTrue T.takes_want }
         requires kind { kinds.kind_of ask.now ≡ variants.Open }
@@ -99,7 +99,7 @@ impl<T: HandleTable> Session<T> {
     ///
     /// # Errors
     ///
-    /// `NoMemory` if memory runs out; the session is then as before.
+    /// `NoMemory` if memory runs out; the session is unchanged.
     fn judge_list(&mut self, ask: &Ask, answer: &Answer) -> Result<bool, NoMemory>
         requires kind { kinds.kind_of ask.now ≡ variants.List }
         requires unlike { refusal_code answer.now ≡ None }
@@ -112,12 +112,12 @@ impl<T: HandleTable> Session<T> {
         }
     }
 
-    /// Whether an answer to READDIR is allowed: it gives names that the listing still has to give, which are then
+    /// Whether an answer to READDIR is allowed: it gives remaining entries of the listing, which are then
     /// struck out, or says that there are none.
     ///
     /// # Errors
     ///
-    /// `NoMemory` if memory runs out; the session is then as before.
+    /// `NoMemory` if memory runs out; the session is unchanged.
     fn judge_listing(&mut self, handle: &[u8], answer: &Answer) -> Result<bool, NoMemory>
         requires { refusal_code answer.now ≡ None }
         ensures ok { IfOk result (λ ok. IsJudged self.old (Readdir handle.now) answer.now ok self.new) }

@@ -22,7 +22,7 @@ impl Session<SlabTable> {
     ///
     /// # Errors
     ///
-    /// `NoMemory` if memory runs out; the session is then as before.
+    /// `NoMemory` if memory runs out; the session is unchanged.
     pub fn answer(&mut self, request: &Request) -> Result<Reply, NoMemory>
         ensures allowed { IfOk result (λ reply. Allowed self.old request.now reply self.new) }
         ensures spelled { IfOk result (λ reply. HasSpelling (reply_packet reply)) }
@@ -38,7 +38,7 @@ impl<T: HandleTable> Session<T> {
     ///
     /// # Errors
     ///
-    /// `NoMemory` if memory runs out; the session is then as before.
+    /// `NoMemory` if memory runs out; the session is unchanged.
     fn answer_to(&mut self, ask: &Ask) -> Result<Answer, NoMemory>
         requires { T.takes_want ≡ false }
         ensures answered { IfOk result (λ answer. step self.old ask.now answer ≡ Some self.new) }
@@ -57,7 +57,7 @@ impl<T: HandleTable> Session<T> {
     ///
     /// # Errors
     ///
-    /// A cause that refuses the request, or `NoMemory` if memory runs out. The session is then as before.
+    /// A cause that refuses the request, or `NoMemory` if memory runs out. On error the session is unchanged.
     fn do_free(&mut self, ask: &Ask) -> Result<Answer, Refused>
         requires { T.takes_want ≡ false }
         ensures done { IfOk result (λ answer. IsAnswered self.old ask.now answer self.new) }
@@ -77,7 +77,7 @@ impl<T: HandleTable> Session<T> {
     ///
     /// # Errors
     ///
-    /// A cause that refuses the request, or `NoMemory` if memory runs out. The session is then as before.
+    /// A cause that refuses the request, or `NoMemory` if memory runs out. On error the session is unchanged.
     fn answer_change(&mut self, ask: &Ask) -> Result<Answer, Refused>
         requires { kinds.kind_of ask.now ≡ Change }
         ensures done { IfOk result (λ answer. IsAnswered self.old ask.now answer self.new) }

@@ -22,7 +22,7 @@ impl<T: HandleTable> Session<T> {
     ///
     /// # Errors
     ///
-    /// `BadHandle` if the handle is not open; the session is then as before.
+    /// `BadHandle` if the handle is not open; the session is unchanged.
     pub(crate) fn close(&mut self, handle: &[u8]) -> Result<(), Cause>
         ensures done { OnOk result (IsDone self.old (Close handle.now) self.new) }
         ensures refused { IfErr result (λ cause. IsTrue (causes self.old (Close handle.now) cause)) }
@@ -43,7 +43,7 @@ impl<T: HandleTable> Session<T> {
     /// # Errors
     ///
     /// `BadHandle` if the handle is not open, `WrongKind` if it is a directory's, `NotOpenFor` if the file was not
-    /// opened to be written, or `NoRoom`. `NoMemory` if memory runs out. The session is then as before.
+    /// opened to be written, or `NoRoom`. `NoMemory` if memory runs out. On error the session is unchanged.
     pub(crate) fn write_open(
         &mut self,
         handle: &[u8],

@@ -1,4 +1,4 @@
-//! Which requests clash, and so are done in the order asked (draft, section 6.1).
+//! Which requests conflict, and so are done in the order asked (draft, section 6.1).
 ghost use Rattle.std.specs.Prelude.{◌≡◌, false, Some};
 ghost use Rattle.sftp_wire.specs.Spelling.{asked_handle};
 ghost use Rattle.sftp_path.specs.Place.{same_bytes};
@@ -15,8 +15,8 @@ use crate::touch::Touch;
 use sftp_wire::{Ask, Request};
 
 impl Touch {
-    /// Whether two requests, each with what it touches in the same state, clash there: whether one of them touches
-    /// everything, or both touch one file or one listing and not both only read it. It takes no memory.
+    /// Whether two requests, each with what it touches in the same state, conflict there: whether one of them touches
+    /// everything, or both touch one file or one listing and not both only read it. Does not allocate.
     pub fn shares(self, ask: &Ask, other: Touch, other_ask: &Ask) -> bool
         ensures { result ≡ share (touched_as self ask.now) (touched_as other other_ask.now) }
     {
@@ -34,8 +34,8 @@ impl Touch {
 
 impl<T: HandleTable> Session<T> {
     /// Whether two requests have to be done in the order asked: whether one of them touches everything, or both touch
-    /// one file or one listing and not both only read it. Files are compared by their numbers, whatever the handles. It
-    /// takes no memory.
+    /// one file or one listing and not both only read it. Files are compared by their numbers, whatever the handles.
+    /// Does not allocate.
     #[tactic(auto, unfolding(crate::specs::Clash::clash))]
     pub fn clash(&self, earlier: &Request, later: &Request) -> bool
         ensures { result ≡ clashes.clash self.now earlier.now later.now }
@@ -46,7 +46,7 @@ impl<T: HandleTable> Session<T> {
 
     /// What a request touches: READ, FSTAT and fsync read the file of their handle, WRITE and FSETSTAT may change it,
     /// READDIR takes names of its listing; through a handle that is not open, or is of the wrong kind, each of these
-    /// touches nothing. Every other request touches everything. It takes no memory.
+    /// touches nothing. Every other request touches everything. Does not allocate.
     #[tactic(auto, unfolding(crate::specs::Clash::touched))]
     pub fn touch(&self, ask: &Ask) -> Touch
         ensures { touched_as result ask.now ≡ touched self.now ask.now }
@@ -59,6 +59,7 @@ impl<T: HandleTable> Session<T> {
             Ask::Fsync { handle } => self.file_touch(ask, handle.as_slice(), false),
             Ask::Readdir { handle } => self.listing_touch(ask, handle.as_slice()),
             Ask::Close { .. } => Touch::Everything,
+            Ask::Limits => Touch::Everything,
             Ask::Open { .. }
             | Ask::Lstat { .. }
             | Ask::Setstat { .. }
@@ -109,8 +110,8 @@ impl<T: HandleTable> Session<T> {
     }
 }
 
-/// Whether a request touches everything in every state: all do but READ, WRITE, FSTAT, FSETSTAT, fsync and READDIR. It
-/// takes no memory.
+/// Whether a request touches everything in every state: all do but READ, WRITE, FSTAT, FSETSTAT, fsync and READDIR.
+/// Does not allocate.
 pub fn is_barrier(ask: &Ask) -> bool
     ensures { result ≡ clashes.is_barrier ask.now }
 {
@@ -136,6 +137,7 @@ pub fn is_barrier(ask: &Ask) -> bool
         | Ask::Symlink { .. }
         | Ask::PosixRename { .. }
         | Ask::Hardlink { .. }
+        | Ask::Limits
         | Ask::Unknown { .. } => true,
     }
 }
@@ -173,6 +175,7 @@ fn handle_in(ask: &Ask) -> &[u8]
         | Ask::Symlink { .. }
         | Ask::PosixRename { .. }
         | Ask::Hardlink { .. }
+        | Ask::Limits
         | Ask::Unknown { .. } => &[],
     }
 }

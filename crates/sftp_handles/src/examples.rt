@@ -1,18 +1,19 @@
 //! Worked examples: what sessions allow through handles, computed by the checker on the definitions that the contracts
 //! name. The functions do nothing; each promise is in the contract.
-#![tactic(auto, unfolding(crate::specs::Allowed::step, crate::specs::Allowed::steps, crate::specs::Requests::causes, crate::specs::Requests::answers, crate::specs::Requests::after, crate::specs::Requests::told_to, crate::specs::Seen::seen, crate::specs::Handles::pins_of, sftp_tree::specs::Requests::led, sftp_tree::specs::Causes::no_causes, sftp_tree::specs::Causes::when, sftp_tree::specs::Causes::joined, sftp_tree::specs::Requests::plain_causes, sftp_tree::specs::Requests::causes, sftp_tree::specs::Requests::outcome, sftp_tree::specs::Listings::children, sftp_tree::specs::Listings::listing, sftp_tree::specs::Walk::meets, sftp_tree::specs::Walk::walk_parts, sftp_tree::specs::Walk::walk, sftp_tree::specs::Walk::reached, sftp_tree::specs::Tree::has_entries, sftp_tree::specs::Tree::fits, sftp_path::specs::Place::components, sftp_path::specs::Place::parts, sftp_path::specs::Place::is_good_path, sftp_path::specs::Table::get, sftp_path::specs::Table::put, sftp_path::specs::Table::without, sftp_path::specs::Table::retain, sftp_path::specs::Table::from_entries))]
+#![tactic(auto, unfolding(crate::specs::Allowed::step, crate::specs::Allowed::steps, crate::specs::Requests::causes, crate::specs::Requests::answers, crate::specs::Requests::after, crate::specs::Requests::told_to, crate::specs::Requests::limits_data, sftp_wire::specs::Examples::hex, crate::specs::Seen::seen, crate::specs::Handles::pins_of, sftp_tree::specs::Requests::led, sftp_tree::specs::Causes::no_causes, sftp_tree::specs::Causes::when, sftp_tree::specs::Causes::joined, sftp_tree::specs::Requests::plain_causes, sftp_tree::specs::Requests::causes, sftp_tree::specs::Requests::outcome, sftp_tree::specs::Listings::children, sftp_tree::specs::Listings::listing, sftp_tree::specs::Walk::meets, sftp_tree::specs::Walk::walk_parts, sftp_tree::specs::Walk::walk, sftp_tree::specs::Walk::reached, sftp_tree::specs::Tree::has_entries, sftp_tree::specs::Tree::fits, sftp_path::specs::Place::components, sftp_path::specs::Place::parts, sftp_path::specs::Place::is_good_path, sftp_path::specs::Table::get, sftp_path::specs::Table::put, sftp_path::specs::Table::without, sftp_path::specs::Table::retain, sftp_path::specs::Table::from_entries))]
 
-ghost use Rattle.std.specs.Prelude.{◌≡◌, ◌∷◌, [], Some, None, codes};
+ghost use Rattle.std.specs.Prelude.{◌≡◌, ℕ, List, ◌∷◌, [], length, take, Some, None, codes};
 ghost use Rattle.sftp_wire.specs.declared.packets.Ask.TheVariants.{Open, Close, Read, Write, Fstat, Fsetstat};
-ghost use Rattle.sftp_wire.specs.declared.packets.Ask.TheVariants.{Readdir, Remove, Fsync, Unknown};
-ghost use Rattle.sftp_wire.specs.declared.packets.Answer.TheVariants.{Data, Handle, Name, Attrs};
-ghost use Rattle.sftp_wire.specs.Examples.{no_attributes};
+ghost use Rattle.sftp_wire.specs.declared.packets.Ask.TheVariants.{Readdir, Remove, Fsync, Limits, Unknown};
+ghost use Rattle.sftp_wire.specs.declared.packets.Answer.TheVariants.{Data, Handle, Name, Attrs, Extended};
+ghost use Rattle.sftp_wire.specs.Examples.{no_attributes, hex};
+ghost use Rattle.sftp_tree.specs.Tree.{raised};
 ghost use Rattle.sftp_tree.specs.Picture.{blank};
 ghost use Rattle.sftp_tree.specs.WalkExamples.{letters};
-ghost use Rattle.sftp_handles.specs.Allowed.{steps};
+ghost use Rattle.sftp_handles.specs.Allowed.{step, steps};
 ghost use Rattle.sftp_handles.specs.Examples.{closed, emptied, with_text, with_three, with_none, with_file_below};
 ghost use Rattle.sftp_handles.specs.Examples.{opened, opened_directory, code, done, item, of_file, more, no_more};
-ghost use Rattle.sftp_handles.specs.Examples.{with_owned, sized, owned};
+ghost use Rattle.sftp_handles.specs.Examples.{with_owned, sized, owned, reading};
 
 /// A file lives while it is open: it is made, written, removed and still read. It is gone once it is closed.
 pub fn removed_while_open()
@@ -178,6 +179,47 @@ pub fn set_through_handles()
         ∷ done (Close (codes "h")) ∷ []) ≡ Some (closed (with_text (codes "abc"))) }
     ensures not_done { steps (closed (with_text (codes "abc"))) (opened (codes "/f") 0x1 (codes "h")
         ∷ done (Fsetstat (codes "h") (sized 1)) ∷ []) ≡ None }
+{}
+
+/// The reply to a request for the limits has those of the tree. Nothing changes, and it has no other reply.
+pub fn limits_of_the_tree()
+    ensures usual { steps (closed blank) ((
+      Limits,
+      Extended
+          (hex (codes "0000000000040000 0000000000008000 0000000000008000 0000000000000100")),
+    ) ∷ [])
+        ≡ Some (closed blank) }
+    ensures highest { steps (closed (raised blank)) ((
+      Limits,
+      Extended
+          (hex (codes "0000000000040000 0000000000010000 0000000000010000 0000000000000400")),
+    ) ∷ [])
+        ≡ Some (closed (raised blank)) }
+    ensures of_another_tree { steps (closed (raised blank)) ((
+      Limits,
+      Extended
+          (hex (codes "0000000000040000 0000000000008000 0000000000008000 0000000000000100")),
+    ) ∷ []) ≡ None }
+    ensures of_a_raised_tree { steps (closed blank) ((
+      Limits,
+      Extended
+          (hex (codes "0000000000040000 0000000000010000 0000000000010000 0000000000000400")),
+    ) ∷ []) ≡ None }
+    ensures not_done { steps (closed blank) (done Limits ∷ []) ≡ None }
+    ensures not_refused { steps (closed blank) ((Limits, code 8) ∷ []) ≡ None }
+{}
+
+/// One READ gives as many bytes as the tree's limit says, and no other number: of a file of 70,000 bytes 32,768 under
+/// the usual limits, and 65,536 under the highest.
+pub fn reads_to_the_limit()
+    ensures usual { (bytes : List ℕ) → length bytes ≡ 70000 → step (reading (with_text bytes))
+        (Read (codes "h") 0 70000) (Data (take 32768 bytes)) ≡ Some (reading (with_text bytes)) }
+    ensures highest { (bytes : List ℕ) → length bytes ≡ 70000 → step (reading (raised (with_text bytes)))
+        (Read (codes "h") 0 70000) (Data (take 65536 bytes)) ≡ Some (reading (raised (with_text bytes))) }
+    ensures too_many { (bytes : List ℕ) → length bytes ≡ 70000 → step (reading (with_text bytes))
+        (Read (codes "h") 0 70000) (Data (take 65536 bytes)) ≡ None }
+    ensures too_few { (bytes : List ℕ) → length bytes ≡ 70000 → step (reading (raised (with_text bytes)))
+        (Read (codes "h") 0 70000) (Data (take 32768 bytes)) ≡ None }
 {}
 
 /// An extension that is not known has the code 8 alone.

@@ -20,12 +20,12 @@ use sftp_wire::{ByteString, NameItem, Names};
 use std::alloc::Global;
 
 impl<T: HandleTable> Session<T> {
-    /// READDIR: whether names are some of those that the listing still has to give, each once and with its attributes.
+    /// READDIR: whether names are remaining entries of the listing, each once and with its attributes.
     /// If so, they are struck out.
     ///
     /// # Errors
     ///
-    /// `NoMemory` if memory runs out; the session is then as before.
+    /// `NoMemory` if memory runs out; the session is unchanged.
     pub(crate) fn give_names(&mut self, handle: &[u8], names: &Names) -> Result<bool, NoMemory>
         ensures ok { IfOk result
             (λ ok. IsJudged self.old (Readdir handle.now) (replies.Name names.now) ok self.new) }
@@ -41,7 +41,7 @@ impl<T: HandleTable> Session<T> {
         }
     }
 
-    /// The names of a reply, if a listing is open that still has to give them.
+    /// The names of a reply, if a listing is open of which they are remaining entries.
     ///
     /// # Errors
     ///

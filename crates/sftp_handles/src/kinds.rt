@@ -13,7 +13,7 @@ pub(crate) enum Kind {
     Open,
     /// Names of a listing are taken: the reply gives them, or says that there are no more.
     List,
-    /// Nothing changes: the reply gives attributes, a text or bytes, or says that the end was reached.
+    /// Nothing changes: the reply gives attributes, a text, bytes or limits, or says that the end was reached.
     Query,
     /// A cause refuses the request always.
     Unknown,
@@ -31,7 +31,8 @@ pub(crate) fn kind_of(ask: &Ask) -> Kind
         | Ask::Lstat { .. }
         | Ask::Fstat { .. }
         | Ask::Realpath { .. }
-        | Ask::Readlink { .. } => Kind::Query,
+        | Ask::Readlink { .. }
+        | Ask::Limits => Kind::Query,
         Ask::Close { .. }
         | Ask::Write { .. }
         | Ask::Setstat { .. }

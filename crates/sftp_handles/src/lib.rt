@@ -17,6 +17,7 @@ mod handle_causes;
 mod hints;
 mod kinds;
 pub mod laws;
+mod limits;
 mod listings;
 mod marked;
 mod naming;

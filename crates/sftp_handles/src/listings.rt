@@ -1,4 +1,4 @@
-//! What a listing of a directory still has to give.
+//! The remaining entries of a listing of a directory.
 ghost use Rattle.std.specs.Prelude.{◌≡◌, [], ◌++◌, length, IsTrue, ◌↔◌, IfNone, OnOk, OnErr, option_copied};
 ghost use Rattle.std.specs.Option.{option_map, option_to_list};
 ghost use Rattle.sftp_path.specs.Place.{name_cmp};
@@ -17,7 +17,7 @@ use std::marker::Model;
 /// How many items are many, so that hints are worth their memory.
 const MANY: usize = 512;
 
-/// The names that a listing still has to give, in rising order of their bytes, with their attributes. Finding a name
+/// The remaining entries of a listing, in rising order of their bytes, with their attributes. Finding a name
 /// and striking it out cost a logarithm of how many there were, or about the same for any number of them once there are
 /// hints, and dropping the first one a constant. None of these takes memory.
 #[derive(Debug, Drop)]
@@ -76,7 +76,7 @@ impl Listing {
     ///
     /// # Errors
     ///
-    /// `NoMemory` if memory runs out; the listing is then as before.
+    /// `NoMemory` if memory runs out; the listing is unchanged.
     pub fn add(&mut self, name: Name, attrs: Attrs) -> Result<(), NoMemory>
         ensures added { OnOk result (self.new ≡ put name_cmp self.old name attrs) }
         ensures err { OnErr result (self.new ≡ self.old) }

@@ -59,7 +59,7 @@ pub(crate) fn set_mark(marks: &mut VecDeque<bool>, place: usize, struck: bool) -
 ///
 /// # Errors
 ///
-/// `NoMemory` if memory runs out; the items and the marks are then as before.
+/// `NoMemory` if memory runs out; the items and the marks are unchanged.
 pub(crate) fn put_item(
     items: &mut VecDeque<Item>,
     marks: &mut VecDeque<bool>,
@@ -101,7 +101,7 @@ fn set_attrs(items: &mut VecDeque<Item>, place: usize, attrs: Attrs)
 ///
 /// # Errors
 ///
-/// `NoMemory` if memory runs out; the items and the marks are then as before.
+/// `NoMemory` if memory runs out; the items and the marks are unchanged.
 fn insert_item(
     items: &mut VecDeque<Item>,
     marks: &mut VecDeque<bool>,

@@ -26,7 +26,7 @@ impl<T: HandleTable> Session<T> {
     ///
     /// # Errors
     ///
-    /// `Cause` with the first cause that holds. `NoMemory` if memory runs out. The session is then as before.
+    /// `Cause` with the first cause that holds. `NoMemory` if memory runs out. On error the session is unchanged.
     pub(crate) fn answer_open(&mut self, ask: &Ask) -> Result<Answer, Refused>
         requires table { T.takes_want ≡ false }
         requires kind { kinds.kind_of ask.now ≡ variants.Open }
@@ -65,7 +65,7 @@ impl<T: HandleTable> Session<T> {
     ///
     /// # Errors
     ///
-    /// The cause that holds. `NoMemory` if memory runs out. The session is then as before.
+    /// The cause that holds. `NoMemory` if memory runs out. On error the session is unchanged.
     pub(crate) fn answer_list(&mut self, ask: &Ask) -> Result<Answer, Refused>
         requires { kinds.kind_of ask.now ≡ variants.List }
         ensures done { IfOk result (λ answer. IsAnswered self.old ask.now answer self.new) }
@@ -78,12 +78,12 @@ impl<T: HandleTable> Session<T> {
         }
     }
 
-    /// READDIR: the first names that the listing still has to give, `NAMES_IN_REPLY` or fewer, each with the same long
+    /// READDIR: the first remaining entries of the listing, `NAMES_IN_REPLY` or fewer, each with the same long
     /// name and with its attributes; or the code that there are no more.
     ///
     /// # Errors
     ///
-    /// The cause that holds. `NoMemory` if memory runs out. The session is then as before.
+    /// The cause that holds. `NoMemory` if memory runs out. On error the session is unchanged.
     fn answer_readdir(&mut self, handle: &[u8]) -> Result<Answer, Refused>
         ensures done { IfOk result (λ answer. IsAnswered self.old (asks.Readdir handle.now) answer self.new) }
         ensures refused { IfErr result (IsRefusal self.old (asks.Readdir handle.now)) }
@@ -99,7 +99,7 @@ impl<T: HandleTable> Session<T> {
         Ok(Answer::Name(names))
     }
 
-    /// The first names that a listing still has to give: `NAMES_IN_REPLY` or fewer, in rising order of their bytes.
+    /// The first remaining entries of a listing: `NAMES_IN_REPLY` or fewer, in rising order of their bytes.
     ///
     /// # Errors
     ///

@@ -30,7 +30,7 @@ impl<T: HandleTable> Session<T> {
     ///
     /// # Errors
     ///
-    /// `Taken` if the wanted name is open already, and else as the tree's call. The session is then as before.
+    /// `Taken` if the wanted name is open already, and else as the tree's call. On error the session is unchanged.
     pub(crate) fn open_for(&mut self, ask: &Ask, want: Vec<u8>) -> Result<Vec<u8>, NotOpened>
         requires kind { kinds.kind_of ask.now ≡ variants.Open }
         requires short { length want.items ≤ handle_limit }
@@ -58,7 +58,7 @@ impl<T: HandleTable> Session<T> {
     ///
     /// # Errors
     ///
-    /// `Taken` if the wanted name is open already, and else as the tree's call. The session is then as before.
+    /// `Taken` if the wanted name is open already, and else as the tree's call. On error the session is unchanged.
     fn open_file(
         &mut self,
         path: &[u8],
@@ -96,7 +96,7 @@ impl<T: HandleTable> Session<T> {
     ///
     /// # Errors
     ///
-    /// `Taken` if the wanted name is open already, and else as the tree's call. The session is then as before.
+    /// `Taken` if the wanted name is open already, and else as the tree's call. On error the session is unchanged.
     fn open_directory(&mut self, path: &[u8], want: Vec<u8>) -> Result<Vec<u8>, NotOpened>
         requires short { length want.items ≤ handle_limit }
         requires room { IsTrue (has_handle_left self.old) }
@@ -122,7 +122,7 @@ impl<T: HandleTable> Session<T> {
     ///
     /// # Errors
     ///
-    /// `Taken` if the wanted name is open already, else that memory ran out. The session is then as before.
+    /// `Taken` if the wanted name is open already, else that memory ran out. On error the session is unchanged.
     fn open_listing(&mut self, left: Listing, want: Vec<u8>) -> Result<Vec<u8>, NotOpened>
         requires short { length want.items ≤ handle_limit }
         requires room { IsTrue (has_handle_left self.old) }
@@ -151,7 +151,7 @@ impl<T: HandleTable> Session<T> {
     ///
     /// # Errors
     ///
-    /// `NoMemory` if memory runs out; the session is then as before.
+    /// `NoMemory` if memory runs out; the session is unchanged.
     pub(crate) fn judge_handle(&mut self, ask: &Ask, handle: &[u8]) -> Result<bool, NoMemory>
         requires table { IsTrue T.takes_want }
         requires kind { kinds.kind_of ask.now ≡ variants.Open }

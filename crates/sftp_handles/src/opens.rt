@@ -9,6 +9,6 @@ use sftp_wire::OpenFlags;
 pub enum Open {
     /// A file, by its number, and how it was opened: the bits READ, WRITE and APPEND of the flags of OPEN.
     File { file: FileNo, flags: OpenFlags },
-    /// A directory, with the names that its listing still has to give.
+    /// A directory, with the remaining entries of its listing.
     Listing { left: Listing },
 }

@@ -1,13 +1,13 @@
-//! Worked examples: which requests clash, computed by the checker on the definitions. The functions do nothing; each
+//! Worked examples: which requests conflict, computed by the checker on the definitions. The functions do nothing; each
 //! promise is in the contract.
 #![tactic(auto, unfolding(crate::specs::Clash::touched, crate::specs::Clash::clash, sftp_path::specs::Table::get))]
 
 ghost use Rattle.std.specs.Prelude.{◌≡◌, true, false, codes};
 ghost use Rattle.sftp_wire.specs.declared.packets.Ask.TheVariants.{Close, Write, Fstat, Readdir, Stat, Fsync};
-ghost use Rattle.sftp_wire.specs.declared.packets.Ask.TheVariants.{Opendir, Unknown};
+ghost use Rattle.sftp_wire.specs.declared.packets.Ask.TheVariants.{Opendir, Limits, Unknown};
 ghost use Rattle.sftp_handles.specs.ClashExamples.{read, write, set, make, clash_there};
 
-/// A request that may change a file clashes with every other request on it, through whichever handle.
+/// A request that may change a file conflicts with every other request on it, through whichever handle.
 pub fn one_file()
     ensures read_and_write { clash_there (read (codes "a")) (write (codes "b")) ≡ true }
     ensures write_and_read { clash_there (write (codes "b")) (read (codes "a")) ≡ true }
@@ -18,7 +18,7 @@ pub fn one_file()
     ensures nothing_written { clash_there (Write (codes "b") 0 (codes "")) (read (codes "a")) ≡ true }
 {}
 
-/// Two requests that only read a file do not clash, nor do requests on two files.
+/// Two requests that only read a file do not conflict, nor do requests on two files.
 pub fn files_that_are_not_shared()
     ensures twice_read { clash_there (read (codes "a")) (read (codes "a")) ≡ false }
     ensures by_two_handles { clash_there (Fstat (codes "a")) (read (codes "b")) ≡ false }
@@ -27,7 +27,7 @@ pub fn files_that_are_not_shared()
     ensures both_written { clash_there (write (codes "b")) (write (codes "c")) ≡ false }
 {}
 
-/// Two READDIRs of one listing clash; those of two listings do not, and neither do READDIR and a request on a file.
+/// Two READDIRs of one listing conflict; those of two listings do not, and neither do READDIR and a request on a file.
 pub fn listings()
     ensures one { clash_there (Readdir (codes "l")) (Readdir (codes "l")) ≡ true }
     ensures two { clash_there (Readdir (codes "l")) (Readdir (codes "m")) ≡ false }
@@ -42,8 +42,8 @@ pub fn nothing_to_touch()
     ensures of_a_file { clash_there (Readdir (codes "b")) (write (codes "b")) ≡ false }
 {}
 
-/// Every other request clashes with all requests: CLOSE, also of a handle that is not open, requests on paths, and
-/// unknown extensions.
+/// Every other request conflicts with all requests: CLOSE, also of a handle that is not open, requests on paths, the
+/// request for the limits, and unknown extensions.
 pub fn everything_is_touched()
     ensures closed { clash_there (read (codes "a")) (Close (codes "a")) ≡ true }
     ensures closed_first { clash_there (Close (codes "a")) (read (codes "a")) ≡ true }
@@ -52,5 +52,7 @@ pub fn everything_is_touched()
     ensures paths { clash_there (Stat (codes "/f")) (Stat (codes "/g")) ≡ true }
     ensures made { clash_there (Readdir (codes "l")) (make (codes "/x")) ≡ true }
     ensures opened { clash_there (Opendir (codes "/")) (write (codes "x")) ≡ true }
+    ensures limits { clash_there Limits (read (codes "a")) ≡ true }
+    ensures twice_limits { clash_there Limits Limits ≡ true }
     ensures extension { clash_there (Unknown (codes "x") (codes "")) (write (codes "x")) ≡ true }
 {}

@@ -1,5 +1,5 @@
-//! Laws of requests that do not clash, as theorems on the definitions of steps. The functions do nothing; each promise
-//! is in the contract.
+//! Laws of requests that do not conflict, as theorems on the definitions of steps. The functions do nothing; each
+//! promise is in the contract.
 ghost use Rattle.std.specs.Prelude.{◌≡◌, ◌≢◌, true, false, IsTrue};
 ghost use Rattle.sftp_wire.specs.declared.packets.Ask.{Ask};
 ghost use Rattle.sftp_wire.specs.declared.packets.Request.{Request};
@@ -11,8 +11,8 @@ ghost use Rattle.sftp_handles.specs.Clash.{everything, is_barrier, touched, clas
 
 use crate::laws::good_stays_good;
 
-/// In a good state, two requests that do not clash there may change places: the same replies are allowed, and the end
-/// is the same (draft-ietf-secsh-filexfer-02, section 6.1).
+/// In a good state, two requests that do not conflict there may change places: the same replies are allowed, and the
+/// end is the same (draft-ietf-secsh-filexfer-02, section 6.1).
 pub fn requests_change_places()
     ensures { (s mid end : State) (request other : Request) (reply other_reply : Reply) → Good s →
         IsAsk request.ask → IsAsk other.ask → clash s request other ≡ false → Allowed s other other_reply mid →
@@ -21,15 +21,15 @@ pub fn requests_change_places()
     good_stays_good();
 }
 
-/// A request that does not clash with a later one makes no earlier one clash with that later one. So what is ready to
-/// be done stays ready, whatever else that is ready is done first.
+/// A request that does not conflict with a later one makes no earlier one conflict with that later one. So what is
+/// ready to be done stays ready, whatever else that is ready is done first.
 pub fn no_clash_arises()
     ensures { (s end : State) (request earlier later : Request) (reply : Reply) → Good s → IsAsk request.ask →
         clash s request later ≡ false → clash s earlier later ≡ false → Allowed s request reply end →
         clash end earlier later ≡ false }
 {}
 
-/// A barrier touches everything in every state, and so clashes with every request, earlier or later; no other request
+/// A barrier touches everything in every state, and so conflicts with every request, earlier or later; no other request
 /// touches everything in any state.
 pub fn barriers_touch_everything()
     ensures touched { (s : State) (ask : Ask) → IsTrue (is_barrier ask) → touched s ask ≡ everything }
@@ -46,7 +46,7 @@ pub fn touched_stays()
         is_barrier request.ask ≡ false → Allowed s request reply end → touched end ask ≡ touched s ask }
 {}
 
-/// Whether two requests clash does not depend on their order.
+/// Whether two requests conflict does not depend on their order.
 pub fn clash_is_mutual()
     ensures { (s : State) (request other : Request) → clash s request other ≡ clash s other request }
 {}

@@ -20,6 +20,8 @@ pub(crate) enum Payload<'a> {
     Name(ByteString),
     /// Bytes of a file, lent.
     Data(&'a [u8]),
+    /// The data of an extension's reply.
+    Extended(ByteString),
     /// That the end was reached.
     End,
 }
@@ -43,6 +45,10 @@ impl<'a> Payload<'a> {
                 Answer::Data(given) => *bytes == given.as_slice(),
                 _ => false,
             },
+            Payload::Extended(told) => match answer {
+                Answer::Extended(given) => told.as_slice() == given.as_slice(),
+                _ => false,
+            },
             Payload::End => has_code(answer, 1),
         }
     }
@@ -63,6 +69,7 @@ impl<'a> Payload<'a> {
                 let copy = ByteString::from_slice(alloc, bytes)?;
                 Ok(Answer::Data(copy))
             }
+            Payload::Extended(told) => Ok(Answer::Extended(told)),
             Payload::End => Ok(status(alloc, 1)),
         }
     }

@@ -15,7 +15,7 @@ impl<T: HandleTable> Session<T> {
     ///
     /// # Errors
     ///
-    /// `NoMemory` if memory runs out; the session is then as before.
+    /// `NoMemory` if memory runs out; the session is unchanged.
     pub(crate) fn judge_change(&mut self, ask: &Ask, answer: &Answer) -> Result<bool, NoMemory>
         requires kind { kinds.kind_of ask.now ≡ Change }
         requires unlike { refusal_code answer.now ≡ None }
@@ -32,7 +32,7 @@ impl<T: HandleTable> Session<T> {
     ///
     /// # Errors
     ///
-    /// `Cause` with the first cause that holds. `NoMemory` if memory runs out. The session is then as before.
+    /// `Cause` with the first cause that holds. `NoMemory` if memory runs out. On error the session is unchanged.
     pub(crate) fn do_ok(&mut self, ask: &Ask) -> Result<(), Refused>
         requires { kinds.kind_of ask.now ≡ Change }
         ensures done { OnOk result (IsDone self.old ask.now self.new) }
@@ -65,7 +65,7 @@ impl<T: HandleTable> Session<T> {
     ///
     /// # Errors
     ///
-    /// `Cause` with the first cause that holds. `NoMemory` if memory runs out. The session is then as before.
+    /// `Cause` with the first cause that holds. `NoMemory` if memory runs out. On error the session is unchanged.
     fn change_tree(&mut self, ask: &Ask) -> Result<(), Refused>
         requires { IsTrue (changes_tree ask.now) }
         ensures done { OnOk result (IsDone self.old ask.now self.new) }

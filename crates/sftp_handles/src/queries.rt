@@ -1,6 +1,6 @@
 //! Queries: the requests that change nothing (draft, sections 6.4, 6.8, 6.10 and 6.11).
 ghost use Rattle.std.specs.Prelude.{◌≡◌, IfOk, IfErr, IfSome};
-ghost use Rattle.sftp_wire.specs.declared.packets.Ask.TheVariants.{Fstat, Read, Readlink, Realpath};
+ghost use Rattle.sftp_wire.specs.declared.packets.Ask.TheVariants.{Fstat, Limits, Read, Readlink, Realpath};
 ghost use Rattle.sftp_tree.specs.Refusals.{stat_ask};
 ghost use Rattle.sftp_handles.specs.declared.kinds.Kind.TheVariants.{Query};
 ghost use Rattle.sftp_handles.specs.Kinds as kinds;
@@ -9,6 +9,7 @@ ghost use Rattle.sftp_handles.specs.Payloads.{Carries, said_in};
 ghost use Rattle.sftp_handles.specs.Answered.{IsAnswered};
 
 use crate::kinds::{Kind, kind_of};
+use crate::limits::limits_data;
 use crate::payloads::Payload;
 use crate::sessions::Session;
 use crate::tables::HandleTable;
@@ -17,8 +18,8 @@ use sftp_tree::laws::walks_give_places;
 use sftp_wire::{Answer, Ask, ByteString};
 
 impl<T: HandleTable> Session<T> {
-    /// The answer to a request that changes nothing: to STAT, LSTAT, FSTAT, READ, REALPATH and READLINK. It is `None`
-    /// for any other request.
+    /// The answer to a request that changes nothing: to STAT, LSTAT, FSTAT, READ, REALPATH, READLINK and that for the
+    /// limits. It is `None` for any other request.
     ///
     /// # Errors
     ///
@@ -73,6 +74,7 @@ impl<T: HandleTable> Session<T> {
             } => self.read_payload(handle.as_slice(), *offset, *len),
             Ask::Realpath { path } => self.place_payload(path.as_slice()),
             Ask::Readlink { path } => self.link_payload(path.as_slice()),
+            Ask::Limits => self.limits_payload(),
             _ => unreachable!(),
         }
     }
@@ -153,5 +155,18 @@ impl<T: HandleTable> Session<T> {
             Ok(target) => Ok(Payload::Name(ByteString::new(target))),
             Err(refused) => Err(refused),
         }
+    }
+
+    /// The request for the limits: those of the tree.
+    ///
+    /// # Errors
+    ///
+    /// `NoMemory` if memory runs out.
+    fn limits_payload(&self) -> Result<Payload<'_>, Refused>
+        ensures carried { IfOk result (λ payload. Carries self.now Limits (said_in payload)) }
+        ensures refused { IfErr result (IsRefusal self.now Limits) }
+    {
+        let told = limits_data(self.tree.allocator(), self.tree.tree_limits())?;
+        Ok(Payload::Extended(told))
     }
 }

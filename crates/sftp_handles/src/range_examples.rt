@@ -1,4 +1,4 @@
-//! Worked examples: which READs and WRITEs of one file clash with ranges compared, computed by the checker on the
+//! Worked examples: which READs and WRITEs of one file conflict with ranges compared, computed by the checker on the
 //! definitions. The file has ten bytes. The functions do nothing; each promise is in the contract.
 #![tactic(auto, unfolding(crate::specs::Ranges::range, crate::specs::Ranges::range_clash, crate::specs::Clash::touched, crate::specs::Clash::clash, crate::specs::Seen::seen, sftp_path::specs::Table::get))]
 
@@ -26,7 +26,7 @@ pub fn ranges_within_the_file()
     ensures closed { range_there (Close (codes "x")) ≡ None }
 {}
 
-/// Ranges that do not meet do not clash; an empty one meets none.
+/// Ranges that do not meet do not conflict; an empty one meets none.
 pub fn ranges_apart()
     ensures read_behind { clash_there (write 0 (codes "abcd")) (read 4 4) ≡ false }
     ensures read_in_front { clash_there (write 4 (codes "abcd")) (read 0 4) ≡ false }
@@ -36,7 +36,7 @@ pub fn ranges_apart()
     ensures nothing_read { clash_there (write 0 (codes "abcdefghij")) (read 5 0) ≡ false }
 {}
 
-/// Ranges that share a byte clash if one of them is written.
+/// Ranges that share a byte conflict if one of them is written.
 pub fn ranges_that_meet()
     ensures one_byte { clash_there (write 0 (codes "abcd")) (read 3 4) ≡ true }
     ensures inside { clash_there (write 2 (codes "a")) (read 0 10) ≡ true }
@@ -45,7 +45,7 @@ pub fn ranges_that_meet()
     ensures twice_written { clash_there (write 0 (codes "abcde")) (write 4 (codes "f")) ≡ true }
 {}
 
-/// A request that does not keep to a range within the file clashes with every WRITE of it.
+/// A request that does not keep to a range within the file conflicts with every WRITE of it.
 pub fn ranges_past_the_end()
     ensures read { clash_there (write 0 (codes "abcd")) (read 8 4) ≡ true }
     ensures written { clash_there (read 8 2) (write 10 (codes "a")) ≡ true }
@@ -57,7 +57,7 @@ pub fn ranges_past_the_end()
     ensures closed { clash_there (write 0 (codes "a")) (Close (codes "x")) ≡ true }
 {}
 
-/// Requests that only read a file do not clash, whatever their ranges.
+/// Requests that only read a file do not conflict, whatever their ranges.
 pub fn reads_of_one_file()
     ensures overlapping { clash_there (read 0 8) (read 4 4) ≡ false }
     ensures past_the_end { clash_there (read 4 100) (read 0 100) ≡ false }

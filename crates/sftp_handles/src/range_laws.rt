@@ -15,7 +15,7 @@ ghost use Rattle.sftp_handles.specs.Ranges.{range, may_resize, range_clash};
 
 use crate::laws::good_stays_good;
 
-/// In a good state, two requests that do not clash there, ranges compared, may change places: the same replies are
+/// In a good state, two requests that do not conflict there, ranges compared, may change places: the same replies are
 /// allowed, and the end is the same (draft-ietf-secsh-filexfer-02, section 6.1).
 pub fn ranged_requests_change_places()
     ensures { (s mid end : State) (request other : Request) (reply other_reply : Reply) → Good s →
@@ -25,8 +25,9 @@ pub fn ranged_requests_change_places()
     good_stays_good();
 }
 
-/// A request that does not clash with a later one, ranges compared, makes no earlier one clash with that later one. All
-/// clashes do not stay: a WRITE past the end of a file makes other requests on that file keep to ranges within it.
+/// A request that does not conflict with a later one, ranges compared, makes no earlier one conflict with that later
+/// one. All conflicts do not stay: a WRITE past the end of a file makes other requests on that file keep to ranges
+/// within it.
 pub fn no_range_clash_arises()
     ensures { (s end : State) (request earlier later : Request) (reply : Reply) → Good s → IsAsk request.ask →
         range_clash s request later ≡ false → range_clash s earlier later ≡ false → Allowed s request reply end →
@@ -50,12 +51,12 @@ pub fn ranges_are_of_files()
         (touched s ask ≡ reads_file at.number) ⊎ (touched s ask ≡ writes_file at.number) }
 {}
 
-/// Whether two requests clash, ranges compared, does not depend on their order.
+/// Whether two requests conflict, ranges compared, does not depend on their order.
 pub fn range_clash_is_mutual()
     ensures { (s : State) (request other : Request) → range_clash s request other ≡ range_clash s other request }
 {}
 
-/// Requests that do not clash do not clash with ranges compared either.
+/// Requests that do not conflict do not conflict with ranges compared either.
 pub fn ranges_only_free()
     ensures { (s : State) (request other : Request) → clash s request other ≡ false →
         range_clash s request other ≡ false }

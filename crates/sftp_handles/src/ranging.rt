@@ -13,8 +13,8 @@ use sftp_tree::FileNo;
 use sftp_wire::{Ask, Request};
 
 impl ByteRange {
-    /// Whether both are ranges of one file and have no byte in common. An empty range has none in common with any. It
-    /// takes no memory.
+    /// Whether both are ranges of one file and have no byte in common. An empty range has none in common with any. Does
+    /// not allocate.
     pub fn is_apart(self, other: ByteRange) -> bool
         ensures { result ≡ ranges.are_apart (Some self) (Some other) }
     {
@@ -44,7 +44,7 @@ impl<T: HandleTable> Session<T> {
 
     /// The range of its file that a request keeps to: of a READ the bytes that it asks for, up to the tree's limit of
     /// one READ; of a WRITE those that it writes, if its handle was opened without APPEND; in both cases if the range
-    /// ends within the file as it is now. No other request keeps to a range. It takes no memory.
+    /// ends within the file as it is now. No other request keeps to a range. Does not allocate.
     #[tactic(auto, unfolding(crate::specs::Ranges::range))]
     pub fn range(&self, ask: &Ask) -> Option<ByteRange>
         ensures { result ≡ ranges.range self.now ask.now }
@@ -79,6 +79,7 @@ impl<T: HandleTable> Session<T> {
             | Ask::Symlink { .. }
             | Ask::PosixRename { .. }
             | Ask::Hardlink { .. }
+            | Ask::Limits
             | Ask::Unknown { .. } => None,
         }
     }

@@ -34,6 +34,7 @@ impl<T: HandleTable> Session<T> {
             Ask::Fsetstat { handle, attrs } => Ok(self.set_causes(handle.as_slice(), attrs)),
             Ask::Readdir { handle } => Ok(self.readdir_causes(handle.as_slice())),
             Ask::Fsync { handle } => Ok(self.file_causes(handle.as_slice())),
+            Ask::Limits => Ok(Causes::none()),
             Ask::Unknown { .. } => Ok(Causes::none().when(Cause::Unknown, true)),
             Ask::Open { .. } => self.opening_causes(ask),
             Ask::Opendir { .. } => self.opening_causes(ask),

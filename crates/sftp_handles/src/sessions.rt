@@ -46,6 +46,13 @@ impl<T: HandleTable> Session<T> {
         })
     }
 
+    /// The tree of the session.
+    pub fn tree(&self) -> &Tree
+        ensures { result.now ≡ self.now.tree }
+    {
+        &self.tree
+    }
+
     /// The listing that is open under a handle, if it is a directory's.
     pub fn listing(&self, handle: &[u8]) -> Option<&Listing>
         ensures { option_copied result ≡ listing_in (open_at self.now.handles handle.now) }

@@ -1,4 +1,4 @@
-//! The names of a reply that a listing still has to give, and how they are struck out (draft, section 6.7).
+//! The remaining entries of a listing that a reply gives, and how they are struck out (draft, section 6.7).
 ghost use Rattle.std.specs.Prelude.{◌≡◌, is_some, IfOk, IfSome};
 ghost use Rattle.std.specs.List.{list_all};
 ghost use Rattle.sftp_path.specs.Place.{name_cmp};

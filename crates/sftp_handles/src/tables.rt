@@ -47,7 +47,7 @@ pub trait HandleTable: Sized + Drop {
     ///
     /// # Errors
     ///
-    /// Returns its argument if the name is not open; the table is then as before.
+    /// Returns its argument if the name is not open; the table is unchanged.
     fn swap(&mut self, name: &[u8], it: Open) -> Result<Open, Open>
         ensures before { IfOk result (λ before. open_at (handles self.old) name.now ≡ Some before) }
         ensures swapped { OnOk result (handles self.new ≡ with_open (handles self.old) name.now it) }
@@ -61,7 +61,7 @@ pub trait HandleTable: Sized + Drop {
     /// # Errors
     ///
     /// `Taken` if the wanted name is open already and the table would give it, `NoMemory` if memory runs out; what was
-    /// to be opened comes back, and the table is as before.
+    /// to be opened comes back, and the table is unchanged.
     fn put(&mut self, it: Open, want: Vec<u8>) -> Result<Vec<u8>, (Open, PutError)>
         requires { length want.items ≤ handle_limit }
         ensures closed { IfOk result (λ name. open_at (handles self.old) name.items ≡ None) }

@@ -2,7 +2,7 @@
 
 use sftp_tree::FileNo;
 
-/// What a request touches of a session: what it sees or changes. Two requests clash if both touch one thing and not
+/// What a request touches of a session: what it sees or changes. Two requests conflict if both touch one thing and not
 /// both only read it.
 #[derive(Clone, Copy, Debug)]
 pub enum Touch {

@@ -90,7 +90,7 @@ impl Place {
     ///
     /// # Errors
     ///
-    /// `NoMemory` if memory runs out; the place is then as before.
+    /// `NoMemory` if memory runs out; the place is unchanged.
     pub fn enter(&mut self, name: Name) -> Result<(), NoMemory>
         ensures ok { OnOk result (self.new ≡ self.old ++ name ∷ []) }
         ensures err { OnErr result (self.new ≡ self.old) }
@@ -105,7 +105,7 @@ impl Place {
     ///
     /// # Errors
     ///
-    /// `NoMemory` if memory runs out; the place is then as before.
+    /// `NoMemory` if memory runs out; the place is unchanged.
     pub fn enter_component(&mut self, component: &[u8]) -> Result<(), NoMemory>
         requires { IsTrue (spec.is_name component.now) }
         ensures ok { OnOk result (self.new ≡ self.old ++ component.now ∷ []) }

@@ -60,6 +60,7 @@ pub(crate) fn path_of(ask: &Ask) -> Option<&[u8]>
         | Ask::Fsetstat { .. }
         | Ask::Readdir { .. }
         | Ask::Fsync { .. }
+        | Ask::Limits
         | Ask::Unknown { .. } => None,
     }
 }

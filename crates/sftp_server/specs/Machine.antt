@@ -1,6 +1,6 @@
 -- The core of a server: a state, and a queue of requests in the order asked, the first of which is unanswered. A
--- request may be done once no earlier pending request clashes with it. Replies are sent in any order
--- (draft-ietf-secsh-filexfer-02, section 6.1). The states, which replies they allow, and which requests clash are
+-- request may be done once no earlier pending request conflicts with it. Replies are sent in any order
+-- (draft-ietf-secsh-filexfer-02, section 6.1). The states, which replies they allow, and which requests conflict are
 -- parameters. That the queue is bounded is this profile's own.
 use Rattle.std.specs.Prelude.{◌≡◌, ◌==◌, ◌&&◌, ◌||◌, not, nat_lt, ℕ, Bool, true, false, List, [], ◌∷◌, ◌++◌}
 use Rattle.std.specs.Prelude.{length, take, slice_get, Option, Some, None, if◌then◌else◌}
@@ -47,7 +47,7 @@ unfoldable pub is_unsent : ℕ → List Entry → Bool
 is_unsent id [] = false
 is_unsent id (entry ∷ queue) = (not (is_sent entry.progress) && entry.request.id == id) || is_unsent id queue
 
--- no request in the queue is pending and clashes with this one, which was asked later
+-- no request in the queue is pending and conflicts with this one, which was asked later
 unfoldable pub is_free_of : {S : Type 0} → ClashOf S → S → List Entry → Request → Bool
 is_free_of clash s [] request = true
 is_free_of clash s (entry ∷ queue) request =
@@ -57,7 +57,7 @@ abbrev pub ready_in : {S : Type 0} → ClashOf S → S → List Entry → Option
 ready_in clash s earlier None = false
 ready_in clash s earlier (Some entry) = is_pending entry.progress && is_free_of clash s earlier entry.request
 
--- the request at this position is pending, and clashes with no earlier one that is
+-- the request at this position is pending, and conflicts with no earlier one that is
 abbrev pub is_ready : {S : Type 0} → ClashOf S → Machine S → ℕ → Bool
 is_ready clash machine k = ready_in clash machine.state (take k machine.queue) (slice_get machine.queue k)
 

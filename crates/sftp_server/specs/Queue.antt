@@ -17,7 +17,7 @@ request_in (Some entry) = if is_pending entry.progress then Some entry.request e
 abbrev pub pending_at : List Entry → ℕ → Option Request
 pending_at queue k = request_in (slice_get queue k)
 
--- whether this request, if there is one, clashes with the other, which was asked later
+-- whether this request, if there is one, conflicts with the other, which was asked later
 abbrev pub clashes_with : {S : Type 0} → ClashOf S → S → Option Request → Request → Bool
 clashes_with clash s None request = false
 clashes_with clash s (Some earlier) request = clash s earlier request

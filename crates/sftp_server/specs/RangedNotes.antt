@@ -1,7 +1,7 @@
--- What notes keep of the requests of a queue if READs and WRITEs of one file clash by their ranges. A note has the range
--- of its request as it was when it was last looked at. Only a request that may change the length of its file, since it
--- writes and keeps to no range within it, makes ranges of others change: those of the requests on that file. So a range
--- may be out of date only behind such a request that is pending, and there nothing can be ready anyway.
+-- What notes keep of the requests of a queue if READs and WRITEs of one file conflict by their ranges. A note has the
+-- range of its request as it was when it was last looked at. Only a request that may change the length of its file,
+-- since it writes and keeps to no range within it, makes ranges of others change: those of the requests on that file.
+-- So a range may be out of date only behind such a request that is pending, and there nothing can be ready anyway.
 use Rattle.std.specs.Prelude.{◌≡◌, ◌==◌, ◌<◌, ◌&&◌, ◌||◌, not, ℕ, zero, suc, Bool, true, false, if◌then◌else◌}
 use Rattle.std.specs.Prelude.{Option, Some, None}
 use Rattle.sftp_wire.specs.declared.packets.Ask.{Ask}
@@ -20,7 +20,7 @@ pub record Portion : Type 0 where
 abbrev pub portion_in : State → Ask → Portion
 portion_in s ask = record { touched = touched s ask; range = range s ask }
 
--- whether two requests clash that touch these, ranges compared
+-- whether two requests conflict that touch these, ranges compared
 abbrev pub portions_clash : Portion → Portion → Bool
 portions_clash a b = share a.touched b.touched && not (are_apart a.range b.range)
 
@@ -62,7 +62,7 @@ is_behind_by pending noted k _ = false
 abbrev pub is_behind : (ℕ → Bool) → (ℕ → Portion) → ℕ → Bool
 is_behind pending noted k = is_behind_by pending noted k (noted k).touched
 
--- the request at `j` is pending and clashes with the one at `k`
+-- the request at `j` is pending and conflicts with the one at `k`
 abbrev pub stands_in_way : (ℕ → Bool) → (ℕ → Portion) → ℕ → ℕ → Bool
 stands_in_way pending noted j k = pending j && portions_clash (noted j) (noted k)
 

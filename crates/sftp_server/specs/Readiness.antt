@@ -48,7 +48,7 @@ touched_at queue notes k = touched_as (note_at notes k).touch (ask_at queue k)
 abbrev pub portion_at : List Entry → List Note → ℕ → Portion
 portion_at queue notes k = record { touched = touched_at queue notes k; range = (note_at notes k).range }
 
--- by its note, the request at the position is pending and clashes with one that touches this
+-- by its note, the request at the position is pending and conflicts with one that touches this
 abbrev pub is_in_way : List Entry → List Note → ℕ → Portion → Bool
 is_in_way queue notes k at = (note_at notes k).pending && portions_clash (portion_at queue notes k) at
 
@@ -121,8 +121,8 @@ pending_by notes = λ k. (note_at notes k).pending
 abbrev pub is_late : List Entry → List Note → ℕ → Bool
 is_late queue notes k = is_behind (pending_by notes) (portion_at queue notes) k
 
--- It waits for an earlier one, or is behind one that may change the length of its file. What its note says that it waits
--- for need not be in its way then: it is looked at again once that one is done.
+-- It waits for an earlier one, or is behind one that may change the length of its file. What its note says that it
+-- waits for need not be in its way then: it is looked at again once that one is done.
 abbrev pub IsStopped : List Entry → List Note → ℕ → Type 0
 IsStopped queue notes k = IsBlocked queue notes k ⊎ (is_late queue notes k ≡ true)
 
@@ -175,8 +175,8 @@ abbrev pub HaveTheirRanges : List Entry → List Note → ℕ → Type 0
 HaveTheirRanges queue notes opened =
     (k : ℕ) → k < opened → (note_at notes k).pending ≡ true → IsPortion (portion_at queue notes k)
 
--- While a request is pending and open, its note says what it touches in the state too, and the range of its file that it
--- keeps to, unless it is behind a request that may change the length of that file.
+-- While a request is pending and open, its note says what it touches in the state too, and the range of its file that
+-- it keeps to, unless it is behind a request that may change the length of that file.
 pub record IsMarked (s : State) (queue : List Entry) (notes : List Note) (opened : ℕ) : Type 0 where
   pub asked : IsMarkedAsked queue notes
   pub ranged : HaveTheirRanges queue notes opened
@@ -188,9 +188,9 @@ pub record IsMarkedBut (s : State) (queue : List Entry) (notes : List Note) (ope
   pub ranged : HaveTheirRanges queue notes opened
   pub known : AreKnownBut (pending_by notes) (portion_at queue notes) (portion_now s queue) opened number next
 
--- The request at `done` was done in the step before this state. If it may have changed the length of its file, the ranges
--- of the requests on that file behind it are still to be looked at, and none of these is ready; otherwise all is known.
--- Those that waited for it are still to be looked at again.
+-- The request at `done` was done in the step before this state. If it may have changed the length of its file, the
+-- ranges of the requests on that file behind it are still to be looked at, and none of these is ready; otherwise all is
+-- known. Those that waited for it are still to be looked at again.
 pub record IsDone (s : State) (queue : List Entry) (notes : List Note) (opened done : ℕ) : Type 0 where
   pub kept : ((number : ℕ) → resizes number (portion_at queue notes done) ≡ false)
       → IsMarked s queue notes opened

@@ -10,7 +10,7 @@ use Rattle.sftp_wire.specs.declared.packets.Packet.TheVariants.{Init, Version, R
 use Rattle.sftp_wire.specs.declared.packets.Request.{Request}
 use Rattle.sftp_wire.specs.declared.packets.Side.{Side}
 use Rattle.sftp_wire.specs.declared.packets.Side.TheVariants.{Client, Server}
-use Rattle.sftp_wire.specs.Spelling.{spelling, side_of, HasSpelling, posix_rename_name, hardlink_name, fsync_name}
+use Rattle.sftp_wire.specs.Spelling.{spelling, side_of, HasSpelling, server_extensions}
 use Rattle.sftp_wire.specs.Reading.{front_of}
 use Rattle.sftp_wire.specs.Framing.{place_after}
 use Rattle.sftp_transcript.specs.declared.events.Event.{Event}
@@ -32,7 +32,7 @@ use Rattle.sftp_server.specs.declared.ends.Stream.TheVariants as streams
 -- the server's VERSION: version 3, and the extensions that it has, each of version 1 (OpenSSH's PROTOCOL, section 4)
 abbrev pub our_version : Packet
 our_version =
-    Version 3 ((posix_rename_name, codes "1") ∷ (hardlink_name, codes "1") ∷ (fsync_name, codes "1") ∷ [])
+    Version 3 server_extensions
 
 -- those of a session with this INIT, once it is open
 abbrev pub session_packets : Packet → List Event → List Packet

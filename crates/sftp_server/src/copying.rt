@@ -56,6 +56,7 @@ fn read_ask(ask: &Ask)
         Ask::Fstat { .. } => {}
         Ask::Readdir { .. } => {}
         Ask::Fsync { .. } => {}
+        Ask::Limits => {}
         Ask::Unknown { .. } => {}
     }
 }

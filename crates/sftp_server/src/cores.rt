@@ -34,7 +34,7 @@ pub(crate) enum Choice {
     Send(usize),
 }
 
-/// A session, and the queue of the requests that are not all answered yet. Requests that clash are done in the order
+/// A session, and the queue of the requests that are not all answered yet. Requests that conflict are done in the order
 /// asked, all others and the replies in any order. A request that was answered stays in the queue while an earlier one
 /// is unanswered.
 #[derive(Drop)]
@@ -84,7 +84,7 @@ impl Core {
     ///
     /// # Errors
     ///
-    /// They carry the request; the core is as before. `Full` if there is no room in the queue; otherwise `IdInUse` if a
+    /// They carry the request; the core is unchanged. `Full` if there is no room in the queue; otherwise `IdInUse` if a
     /// request with this id is unanswered; `NoMemory` if memory runs out.
     pub fn deliver(&mut self, request: Request) -> Result<(), (Request, Refuse)>
         ensures could { OnOk result (IsTrue (can_take self.old request)) }
@@ -106,7 +106,7 @@ impl Core {
     ///
     /// # Errors
     ///
-    /// The request comes back if memory runs out; the core is as before.
+    /// The request comes back if memory runs out; the core is unchanged.
     fn take(&mut self, request: Request) -> Result<(), Request>
         requires { IsTrue (can_take self.old request) }
         ensures taken { OnOk result (self.new ≡ taken self.old request) }
@@ -143,23 +143,23 @@ impl Core {
         }
     }
 
-    /// Whether the request at this position is pending, and clashes with no earlier one that is. Does not allocate.
+    /// Whether the request at this position is pending, and conflicts with no earlier one that is. Does not allocate.
     pub fn ready(&self, k: usize) -> bool
         ensures { result ≡ is_ready server_clash self.now k }
     {
         self.readiness.is_ready(k)
     }
 
-    /// Does the request at this position if it is ready. Unless the result is `Done`, the core is as before.
+    /// Does the request at this position if it is ready. Unless the result is `Done`, the core is unchanged.
     ///
     /// # Errors
     ///
-    /// `NoMemory` if the request is ready and memory runs out; the core is as before.
+    /// `NoMemory` if the request is ready and memory runs out; the core is unchanged.
     pub fn work(&mut self, k: usize) -> Result<Did, NoMemory>
         // Only what was ready is done.
         ensures was_ready { IfOk result (λ d. d ≡ did.Done → IsTrue (is_ready server_clash self.old k)) }
         ensures done { IfOk result (λ d. d ≡ did.Done → IsWorked Allowed self.old k self.new) }
-        // It is pending, and an earlier request with which it clashes has to be done first.
+        // It is pending, and an earlier request with which it conflicts has to be done first.
         ensures not_ready { IfOk result (λ d. d ≡ did.NotReady →
             IsTrue (is_pending_at self.old.queue k) × (is_ready server_clash self.old k ≡ false)) }
         ensures no_such { IfOk result (λ d. d ≡ did.NoSuch → is_pending_at self.old.queue k ≡ false) }

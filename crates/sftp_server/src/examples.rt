@@ -23,10 +23,10 @@ pub fn work_keeps_the_order()
         (at_start (started blank) 1024) }
 {}
 
-/// An INIT of version 3 and nothing else: VERSION is written, the tree stays as it came, and the log has 116 bytes.
+/// An INIT of version 3 and nothing else: VERSION is written, the tree stays as it came, and the log has 143 bytes.
 pub fn nothing_asked()
     ensures served { EndsAfterVersion [] (Unit {0}) (Ended.Finished blank) }
-    ensures logged { length handshake_bytes ≡ 116 }
+    ensures logged { length handshake_bytes ≡ 143 }
 {}
 
 /// An INIT, and then a request with a byte after its last field: VERSION is written, and the session ends with the

@@ -497,7 +497,7 @@ impl Readiness {
         earlier.waiter = earlier.waiter.max(back);
     }
 
-    /// How far back a pending request is that clashes with the open one at this position, or 0 if none does.
+    /// How far back a pending request is that conflicts with the open one at this position, or 0 if none does.
     fn look(&self, queue: &Queue, k: usize) -> usize
         requires within { k < self.now.opened }
         requires noted { IsNoted queue.now self.now.notes.items self.now.first_pending self.now.opened self.now.writers
@@ -519,7 +519,7 @@ impl Readiness {
         0
     }
 
-    /// A position before which all requests stand that may clash with the one at `k`.
+    /// A position before which all requests stand that may conflict with the one at `k`.
     fn start(&self, k: usize) -> usize
         requires { k < length self.now.notes.items }
         ensures most { result ≤ k }
@@ -533,7 +533,7 @@ impl Readiness {
         }
     }
 
-    /// Whether the request at position `j` is pending and clashes with the one at `k`, whose note `later` is.
+    /// Whether the request at position `j` is pending and conflicts with the one at `k`, whose note `later` is.
     fn is_in_way(&self, queue: &Queue, j: usize, k: usize, later: &Note) -> bool
         requires within { j < length queue.now }
         requires there { k < length queue.now }

@@ -4,7 +4,7 @@ ghost use Rattle.sftp_server.specs.declared.ends.Stop.TheVariants as stops;
 ghost use Rattle.sftp_server.specs.Served.{our_version};
 
 use crate::ends::Stop;
-use sftp_wire::{ByteString, FSYNC, HARDLINK, POSIX_RENAME, Packet, Pairs};
+use sftp_wire::{ByteString, FSYNC, HARDLINK, LIMITS, POSIX_RENAME, Packet, Pairs};
 use std::alloc::Global;
 
 /// The version of the protocol.
@@ -22,6 +22,7 @@ pub(crate) fn our_version(alloc: Global) -> Result<Packet, Stop>
     push_extension(alloc, &mut extensions, POSIX_RENAME)?;
     push_extension(alloc, &mut extensions, HARDLINK)?;
     push_extension(alloc, &mut extensions, FSYNC)?;
+    push_extension(alloc, &mut extensions, LIMITS)?;
     Ok(Packet::Version {
         version: VERSION,
         extensions: Pairs::new(extensions),

@@ -34,8 +34,11 @@ fn ask_name(ask: &Ask) -> &'static str {
         Ask::Rename { .. } => "RENAME",
         Ask::Readlink { .. } => "READLINK",
         Ask::Symlink { .. } => "SYMLINK",
-        Ask::PosixRename { .. } | Ask::Hardlink { .. } | Ask::Fsync { .. } | Ask::Unknown { .. } =>
-            "EXTENDED",
+        Ask::PosixRename { .. }
+        | Ask::Hardlink { .. }
+        | Ask::Fsync { .. }
+        | Ask::Limits
+        | Ask::Unknown { .. } => "EXTENDED",
     }
 }
 
@@ -109,6 +112,7 @@ fn put_paths<W: fmt::Write>(ask: &Ask, f: &mut fmt::Formatter<W>) -> fmt::Result
         | Ask::Fsetstat { .. }
         | Ask::Readdir { .. }
         | Ask::Fsync { .. }
+        | Ask::Limits
         | Ask::Unknown { .. } => Ok(()),
     }
 }

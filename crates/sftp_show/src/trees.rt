@@ -1,7 +1,7 @@
 //! The lines of a tree file.
 
 use crate::quoted::Quoted;
-use sftp_treefile::{Kind, Owner, Row, TreeFile};
+use sftp_treefile::{Kind, Owner, Row, TreeFile, TreeLimits};
 use std::io::Write;
 use std::{fmt, io};
 
@@ -18,8 +18,28 @@ impl fmt::Display for Owned {
     }
 }
 
-/// Writes the lines of a tree file, each with a line feed: the home, owner and number of entries; the root; and each
-/// entry with its number, kind and path.
+/// The limits that a tree sets: nothing where they are the usual ones, and else ` limits ` and the four.
+#[derive(Clone, Copy)]
+struct Limits(TreeLimits);
+
+impl fmt::Display for Limits {
+    fn fmt<W: fmt::Write>(&self, f: &mut fmt::Formatter<W>) -> fmt::Result {
+        if !self.0.are_own() {
+            return Ok(());
+        }
+        let entries = self.0.entries;
+        let file_bytes = self.0.file_bytes;
+        let read_bytes = self.0.read_bytes;
+        let open_handles = self.0.open_handles;
+        write!(
+            f,
+            " limits {entries} {file_bytes} {read_bytes} {open_handles}"
+        )
+    }
+}
+
+/// Writes the lines of a tree file, each with a line feed: the home, owner, limits of its own and number of entries;
+/// the root; and each entry with its number, kind and path.
 ///
 /// # Errors
 ///
@@ -38,8 +58,12 @@ fn put_head<O: Write>(file: &TreeFile, output: &mut O) -> io::Result<()> {
     let home = Quoted(file.home.as_slice());
     let uid = file.uid;
     let gid = file.gid;
+    let limits = Limits(file.limits);
     let entries = file.rows.as_slice().len();
-    writeln!(output, "home {home} uid {uid} gid {gid} entries {entries}")?;
+    writeln!(
+        output,
+        "home {home} uid {uid} gid {gid}{limits} entries {entries}"
+    )?;
     let root = Owned(file.root);
     writeln!(output, "0 D \"/\" {root}")
 }

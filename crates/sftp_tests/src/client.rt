@@ -247,6 +247,7 @@ const SESSION: &[(&str, &[u8], &[u8])] = &[
     ("close", b"\x04\0\0\0\x0c\0\0\0\0\0\0\0\0\0\0\0\0", b"s"),
     ("remove", b"\x0d\0\0\0\x01l", b"s"),
     ("rmdir", b"\x0f\0\0\0\x02/d", b"s"),
+    ("limits", b"\xc8\0\0\0\x12limits@sftpv3.test", b"sx"),
     ("unknown", UNKNOWN, b"s"),
 ];
 

@@ -20,10 +20,11 @@ const INIT: &[u8] = b"\0\0\0\x05\x01\0\0\0\x03";
 const MKDIR: &[u8] = b"\0\0\0\x0f\x0e\0\0\0\x01\0\0\0\x02/a\0\0\0\0";
 
 /// The server's VERSION.
-pub(crate) const VERSION: &[u8] = b"\0\0\0\x5d\x02\0\0\0\x03\
+pub(crate) const VERSION: &[u8] = b"\0\0\0\x78\x02\0\0\0\x03\
 \0\0\0\x18posix-rename@openssh.com\0\0\0\x011\
 \0\0\0\x14hardlink@openssh.com\0\0\0\x011\
-\0\0\0\x11fsync@openssh.com\0\0\0\x011";
+\0\0\0\x11fsync@openssh.com\0\0\0\x011\
+\0\0\0\x12limits@sftpv3.test\0\0\0\x011";
 
 /// STATUS 0 for the id 1.
 const DONE: &[u8] = b"\0\0\0\x11\x65\0\0\0\x01\0\0\0\0\0\0\0\0\0\0\0\0";

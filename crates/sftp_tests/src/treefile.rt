@@ -9,6 +9,11 @@ const FILE: &[u8; 110] =
 \0\0\0\x02/dD\0\0\0\x03\0\0\0\x04\0\0\x01\xc0\0\0\0\x04/d/fF\0\0\0\x05\0\0\0\x06\0\0\x0f\xff\0\0\0\x03abc\
 \0\0\0\x02/gH\0\0\0\x02\0\0\0\x02/lL\0\0\0\x03d/f";
 
+/// The file of the root alone, with the highest limits.
+const RAISED: &[u8; 53] =
+    b"SFTREE02\0\0\0\x01/\0\0\0\0\0\0\0\0\0\x10\0\0\x04\0\0\0\0\x01\0\0\0\0\x04\0\
+\0\0\0\0\0\0\0\0\0\0\0\0\0\0\x01\xed";
+
 /// Whether the bytes, read and written again, are the same bytes; room is asked for just them.
 fn stays(alloc: Global, bytes: &[u8]) -> Result<bool, NoMemory> {
     let Ok(file) = read_rows(alloc, bytes) else {
@@ -23,5 +28,6 @@ fn stays(alloc: Global, bytes: &[u8]) -> Result<bool, NoMemory> {
 #[test]
 fn whole_file(rt: HostRuntime) -> Result<(), Fail> {
     assert!(rt; stays(rt.alloc(), FILE)?);
+    assert!(rt; stays(rt.alloc(), RAISED)?);
     Ok(())
 }

@@ -240,14 +240,18 @@ ask-shown id (asks.Hardlink oldpath newpath) lt f known small =
     shown_by_name Client packets.Hardlink _ small refl (with_id-shown (row packets.Hardlink) id _ refl lt (one_field Text (Text ∷ []) Nothing (wire.string oldpath) (wire.string newpath) (text oldpath f.0) (only_field Text (wire.string newpath) (text newpath f.1))))
 ask-shown id (asks.Fsync handle) lt f known small =
     shown_by_name Client packets.Fsync _ small refl (with_id-shown (row packets.Fsync) id _ refl lt (only_field Text (wire.string handle) (text handle f)))
+ask-shown id asks.Limits lt f known small =
+    shown_by_name Client packets.Limits _ small refl (with_id-shown (row packets.Limits) id _ refl lt (no_field Nothing [] nothing_all))
 ask-shown id (asks.Unknown name rest) lt f known small =
     let first = or_parts (bytes_eq name wire.posix_rename_name) _ known in
     let second = or_parts (bytes_eq name wire.hardlink_name) _ first.1 in
-    let third = or_parts (bytes_eq name wire.fsync_name) false second.1 in
+    let third = or_parts (bytes_eq name wire.fsync_name) _ second.1 in
+    let fourth = or_parts (bytes_eq name wire.limits_name) false third.1 in
     let no_posix = not_started wire.posix_rename_name name rest (omega arith) f.0.length_fits first.0 in
     let no_hard = not_started wire.hardlink_name name rest (omega arith) f.0.length_fits second.0 in
     let no_sync = not_started wire.fsync_name name rest (omega arith) f.0.length_fits third.0 in
-    shown_by_name Client packets.Extended _ small (rw (no_posix, no_hard, no_sync) refl) (with_id-shown (row packets.Extended) id _ refl lt (one_field Text ([]) Rest (wire.string name) (rest) (text name f.0) (no_field Rest (rest) (rest_all rest))))
+    let no_limits = not_started wire.limits_name name rest (omega arith) f.0.length_fits fourth.0 in
+    shown_by_name Client packets.Extended _ small (rw (no_posix, no_hard, no_sync, no_limits) refl) (with_id-shown (row packets.Extended) id _ refl lt (one_field Text ([]) Rest (wire.string name) (rest) (text name f.0) (no_field Rest (rest) (rest_all rest))))
 
 -- ---- replies
 

@@ -1,7 +1,7 @@
 -- The lines of a tree file are read as the bytes that they show.
-use Rattle.std.proofs.Common.{◌≡◌, ℕ, true, false, ◌&&◌, List, [], ◌∷◌, ◌++◌}
+use Rattle.std.proofs.Common.{◌≡◌, ℕ, Bool, true, false, ◌&&◌, List, [], ◌∷◌, ◌++◌}
 use Rattle.std.proofs.Common.{Option, Some, refl, sym, ap, subst, ◌∙◌, inl, inr}
-use Rattle.std.specs.Prelude.{IsTrue, option_and_then, ◌==◌, codes}
+use Rattle.std.specs.Prelude.{IsTrue, is_some, option_and_then, ◌==◌, codes}
 use Rattle.std.specs.List.{list_all}
 use Rattle.std.proofs.lemmas.Bool.{cond-true, cond-false, cases_Bool, eqb-true}
 use Rattle.std.proofs.lemmas.List.{append-nil}
@@ -10,13 +10,13 @@ use Rattle.sftp_wire.specs.Spelling.{AreBytes}
 use Rattle.sftp_text.specs.Formats.{Format, ◌then◌, word, mark, ReadsBack}
 use Rattle.sftp_text.specs.Digits.{number, octal}
 use Rattle.sftp_text.specs.Quoted.{string_text}
-use Rattle.sftp_text.specs.Trees.{owner_text, head_text, root_text, kind_text, entry_of, first_of, kind_behind, show_kind, read_kind, entry_text}
+use Rattle.sftp_text.specs.Trees.{owner_text, opening, front_text, behind_front, head_of, has_limits, names_limits, head_text, root_text, kind_text, entry_of, first_of, kind_behind, show_kind, read_kind, entry_text}
 use Rattle.sftp_text.specs.Lines.{is_printable, is_blank}
 use Rattle.sftp_text.proofs.Exact.{some-inj, none-some, IsExact, IsExact-weaken, then-exact, mark-exact, Behind}
 use Rattle.sftp_text.proofs.Numerals.{number-exact, octal-exact}
 use Rattle.sftp_text.proofs.Strings.{StartsQuoted, string_text-exact}
 use Rattle.sftp_text.proofs.Repeats.{IsEnd}
-use Rattle.sftp_text.proofs.Parts.{behind_word}
+use Rattle.sftp_text.proofs.Parts.{Anything, behind_word}
 use Rattle.sftp_text.proofs.Tails.{SpaceFront, space-behind, space-ends}
 
 -- what is known of the line that a format shows of what is in front of bytes
@@ -87,20 +87,103 @@ owner_text-exact B space =
     spaced_then [] (word (codes " ") then number then word (codes " ") then octal) B refl
     (spaced_then [] (word (codes " ") then octal) B refl last)
 
+front_text-exact : IsExact front_text IsSaid SpaceFront
+front_text-exact =
+    let gid = spaced_number (codes "gid ") SpaceFront (λ l s. s) refl in
+    let uid = spaced_then (codes "uid ") (word (codes " gid ") then number) SpaceFront refl gid in
+    let home = then-exact string_text _ StartsQuoted SpaceFront SpaceFront (string_text-exact SpaceFront) uid in
+    IsExact-weaken _ _ IsSaid SpaceFront SpaceFront (λ l b. ap is_blank b.parts) (λ l s. s)
+    (behind_word (codes "home ") _ StartsQuoted SpaceFront refl home)
+
+-- what follows the front begins so
+abbrev first_word : Bool → List ℕ
+first_word false = codes " entries "
+first_word true = codes " limits "
+
+abbrev FirstWord : Bool → List ℕ → Type 0
+FirstWord own = Behind (first_word own) Anything
+
+any_behind : (w : List ℕ) (A : List ℕ → Type 0) (l : List ℕ) → Behind w A l → Behind w Anything l
+any_behind w A l b = record { rest = b.rest; parts = b.parts; follows = tt }
+
+behind_front-exact : (own : Bool) → IsExact (behind_front own) (FirstWord own) IsEnd
+behind_front-exact false =
+    IsExact-weaken _ _ (FirstWord false) IsEnd IsEnd (any_behind (codes " entries ") _) (λ l e. e)
+    (behind_word (codes " entries ") number _ IsEnd refl (number-exact IsEnd (λ l e. space-ends l (end-space l e))))
+behind_front-exact true =
+    let entries = spaced_number (codes "entries ") IsEnd end-space refl in
+    let handles = spaced_then [] (word (codes " entries ") then number) IsEnd refl entries in
+    let reads = spaced_then [] _ IsEnd refl handles in
+    let files = spaced_then [] _ IsEnd refl reads in
+    let limits = then-exact number _ _ SpaceFront IsEnd (number-exact SpaceFront space-ends) files in
+    IsExact-weaken _ _ (FirstWord true) IsEnd IsEnd (any_behind (codes " limits ") _) (λ l e. e)
+    (behind_word (codes " limits ") _ _ IsEnd refl limits)
+
+first_space : (own : Bool) (l : List ℕ) → FirstWord own l → SpaceFront l
+first_space false l b = subst SpaceFront (sym b.parts) refl
+first_space true l b = subst SpaceFront (sym b.parts) refl
+
+-- a list that a format reads up to what may follow it
+record ReadsUpTo (f : Format) (B : List ℕ → Type 0) (list : List ℕ) : Type 0 where
+  done : List ℕ
+  rest : List ℕ
+  read : f.read [] list ≡ Some (done, rest)
+  follows : B rest
+
+reads-exact : (f : Format) (A B : List ℕ → Type 0) → IsExact f A B → IsExact f (λ l. A l × ReadsUpTo f B l) B
+reads-exact f A B p = record {
+  exact = λ text bytes more left are e.
+      let s = p.exact text bytes more left are e in
+      record {
+        shown = s.shown;
+        taken = s.taken;
+        text_is = s.text_is;
+        bytes_are = s.bytes_are;
+        printable = s.printable;
+        back = s.back;
+        front = λ rest ok.
+            (s.front rest ok, record { done = [] ++ s.taken; rest = rest; read = s.back [] rest ok; follows = ok });
+      };
+}
+
+-- limits follow the front where they should
+limits_follow : (own : Bool) (done l : List ℕ) → FirstWord own l
+    → is_some ((word (codes " limits ")).read done l) ≡ own
+limits_follow false done l b = ap (λ x. is_some ((word (codes " limits ")).read done x)) b.parts
+limits_follow true done l b = ap (λ x. is_some ((word (codes " limits ")).read done x)) b.parts
+
+limits_named : (own : Bool) (l : List ℕ) → ReadsUpTo front_text (FirstWord own) l → names_limits l ≡ own
+unfolding names_limits
+limits_named own l r =
+    ap (λ o. is_some (option_and_then (λ m. (word (codes " limits ")).read m.0 m.1) o)) r.read
+    ∙ limits_follow own r.done r.rest r.follows
+
+head_of-exact : (own : Bool) → IsExact (head_of own) (λ l. IsSaid l × (names_limits l ≡ own)) IsEnd
+head_of-exact own =
+    let front = IsExact-weaken front_text IsSaid IsSaid SpaceFront (FirstWord own) (λ l s. s) (first_space own) front_text-exact in
+    let read = reads-exact front_text IsSaid (FirstWord own) front in
+    let both = then-exact front_text (behind_front own) _ (FirstWord own) IsEnd read (behind_front-exact own) in
+    let marked =
+    then-exact (mark (opening own)) (front_text then behind_front own) _ _ IsEnd (mark-exact (opening own) _) both
+    in
+    IsExact-weaken (head_of own) _ _ IsEnd IsEnd (λ l f. (f.0, limits_named own l f.1)) (λ l e. e) marked
+
 head_text-exact : IsExact head_text IsSaid IsEnd
 unfolding head_text
-head_text-exact =
-    let entries = spaced_number (codes "entries ") IsEnd end-space refl in
-    let gid = spaced_then (codes "gid ") (word (codes " entries ") then number) IsEnd refl entries in
-    let uid =
-    spaced_then (codes "uid ") (word (codes " gid ") then number then word (codes " entries ") then number) IsEnd refl gid
-    in
-    let home = then-exact string_text _ StartsQuoted SpaceFront IsEnd (string_text-exact SpaceFront) uid in
-    let named =
-    IsExact-weaken _ _ IsSaid IsEnd IsEnd (λ l b. ap is_blank b.parts) (λ l e. e)
-    (behind_word (codes "home ") _ StartsQuoted IsEnd refl home)
-    in
-    then-exact (mark (codes "SFTREE01")) _ IsSaid IsSaid IsEnd (mark-exact (codes "SFTREE01") IsSaid) named
+head_text-exact = record {
+  exact = λ text bytes more left are e.
+      let s = (head_of-exact (has_limits bytes)).exact text bytes more left are e in
+      record {
+        shown = s.shown;
+        taken = s.taken;
+        text_is = s.text_is;
+        bytes_are = s.bytes_are;
+        printable = s.printable;
+        back = λ done rest ok.
+            ap (λ own. (head_of own).read done (s.shown ++ rest)) (s.front rest ok).1 ∙ s.back done rest ok;
+        front = λ rest ok. (s.front rest ok).0;
+      };
+}
 
 root_text-exact : IsExact root_text IsSaid IsEnd
 unfolding root_text

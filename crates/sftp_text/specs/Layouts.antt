@@ -5,7 +5,7 @@ use Rattle.std.specs.Prelude.{List, [], ◌∷◌, drop, codes, bytes_eq, find}
 use Rattle.std.specs.Prelude.{Option}
 use Rattle.sftp_wire.specs.declared.packets.Side.{Side}
 use Rattle.sftp_wire.specs.declared.packets.Side.TheVariants.{Client, Server}
-use Rattle.sftp_wire.specs.Spelling.{string, posix_rename_name, hardlink_name, fsync_name}
+use Rattle.sftp_wire.specs.Spelling.{string, posix_rename_name, hardlink_name, fsync_name, limits_name}
 use Rattle.sftp_text.specs.Formats.{Format, nothing, ◌then◌, word, mark, if_found, strip}
 use Rattle.sftp_text.specs.Digits.{number, is_digit}
 use Rattle.sftp_text.specs.Fields.{fields_text, tail_text}
@@ -68,6 +68,7 @@ row packets.Symlink = request 20 (codes "SYMLINK") (Text ∷ Text ∷ []) Nothin
 row packets.PosixRename = extension (codes "POSIX-RENAME") (string posix_rename_name) (Text ∷ Text ∷ [])
 row packets.Hardlink = extension (codes "HARDLINK") (string hardlink_name) (Text ∷ Text ∷ [])
 row packets.Fsync = extension (codes "FSYNC") (string fsync_name) (Text ∷ [])
+row packets.Limits = extension (codes "LIMITS") (string limits_name) []
 row packets.Extended = request 200 (codes "EXTENDED") (Text ∷ []) Rest
 row packets.Status = reply 101 (codes "STATUS") (Number ∷ []) Message
 row packets.Handle = reply 102 (codes "HANDLE") (Text ∷ []) Nothing
@@ -82,8 +83,8 @@ every_packet =
     packets.Init ∷ packets.Version ∷ packets.Open ∷ packets.Close ∷ packets.Read ∷ packets.Write ∷ packets.Lstat
     ∷ packets.Fstat ∷ packets.Setstat ∷ packets.Fsetstat ∷ packets.Opendir ∷ packets.Readdir ∷ packets.Remove
     ∷ packets.Mkdir ∷ packets.Rmdir ∷ packets.Realpath ∷ packets.Stat ∷ packets.Rename ∷ packets.Readlink
-    ∷ packets.Symlink ∷ packets.PosixRename ∷ packets.Hardlink ∷ packets.Fsync ∷ packets.Extended ∷ packets.Status
-    ∷ packets.Handle ∷ packets.Data ∷ packets.Name ∷ packets.Attrs ∷ packets.ExtendedReply ∷ []
+    ∷ packets.Symlink ∷ packets.PosixRename ∷ packets.Hardlink ∷ packets.Fsync ∷ packets.Limits ∷ packets.Extended
+    ∷ packets.Status ∷ packets.Handle ∷ packets.Data ∷ packets.Name ∷ packets.Attrs ∷ packets.ExtendedReply ∷ []
 
 -- whether two sides are one
 abbrev pub same_side : Side → Side → Bool

@@ -86,3 +86,9 @@ abbrev pub FindsKind : Result ℕ Stop → Option ℕ → Type 0
 FindsKind (Ok kind) found = found ≡ Some kind
 FindsKind (Err NoMemory) found = Unit {0}
 FindsKind (Err (Unfit expected)) found = found ≡ None
+
+-- whether it is so is as told, unless memory runs out
+abbrev pub TellsWhether : Result Bool Stop → Bool → Type 0
+TellsWhether (Ok is) told = told ≡ is
+TellsWhether (Err NoMemory) told = Unit {0}
+TellsWhether (Err (Unfit expected)) told = ⊥

@@ -1,7 +1,7 @@
 -- Tree files as lines of text: one for the head, one for the root, and one an entry.
-use Rattle.std.specs.Prelude.{ℕ, ◌==◌, if◌then◌else◌, List, [], ◌∷◌, ◌++◌, codes, slice_get}
+use Rattle.std.specs.Prelude.{ℕ, ◌==◌, Bool, true, false, is_some, if◌then◌else◌, List, [], ◌∷◌, ◌++◌, codes, slice_get}
 use Rattle.std.specs.Prelude.{Option, Some, None, option_and_then}
-use Rattle.sftp_text.specs.Formats.{Step, Format, after, ◌then◌, word, mark, front_uint32, repeat_to_end}
+use Rattle.sftp_text.specs.Formats.{Step, Format, after, ◌then◌, word, mark, strip, front_uint32, repeat_to_end}
 use Rattle.sftp_text.specs.Digits.{number, octal}
 use Rattle.sftp_text.specs.Quoted.{string_text}
 use Rattle.sftp_text.specs.Lines.{whole, said_lines}
@@ -10,11 +10,41 @@ use Rattle.sftp_text.specs.Lines.{whole, said_lines}
 unfoldable pub owner_text : Format
 owner_text = word (codes " ") then number then word (codes " ") then number then word (codes " ") then octal
 
--- the head: the opening, the home, the user, the group and the number of entries
+-- the opening of a tree file without and of one with limits
+abbrev pub opening : Bool → List ℕ
+opening false = codes "SFTREE01"
+opening true = codes "SFTREE02"
+
+-- the home, the user and the group
+abbrev pub front_text : Format
+front_text =
+    word (codes "home ") then string_text then word (codes " uid ") then number then word (codes " gid ") then number
+
+-- and then the number of entries, with the limits before it in a tree file that has them
+abbrev pub behind_front : Bool → Format
+behind_front false = word (codes " entries ") then number
+behind_front true =
+    word (codes " limits ") then number then word (codes " ") then number then word (codes " ") then number
+    then word (codes " ") then number then word (codes " entries ") then number
+
+-- the head of a tree file without or with limits
+abbrev pub head_of : Bool → Format
+head_of own = mark (opening own) then front_text then behind_front own
+
+-- whether bytes begin with the opening of a tree file with limits
+abbrev pub has_limits : List ℕ → Bool
+has_limits bytes = is_some (strip (opening true) bytes)
+
+-- whether limits follow the home, the user and the group in a line
+unfoldable pub names_limits : List ℕ → Bool
+names_limits line = is_some ((front_text then word (codes " limits ")).read [] line)
+
+-- the head: the opening, the home, the user, the group, the limits if there are some, and the number of entries
 unfoldable pub head_text : Format
-head_text =
-    mark (codes "SFTREE01") then word (codes "home ") then string_text then word (codes " uid ") then number
-    then word (codes " gid ") then number then word (codes " entries ") then number
+head_text = record {
+  show = λ text bytes. (head_of (has_limits bytes)).show text bytes;
+  read = λ bytes text. (head_of (names_limits text)).read bytes text;
+}
 
 -- the root
 unfoldable pub root_text : Format

@@ -32,7 +32,7 @@ pub enum Expected {
     Equals,
     #[error("the end of the line")]
     End,
-    #[error("`home`, a text in quotes, `uid`, `gid` and `entries`, each with a number")]
+    #[error("`home`, a text in quotes, `uid` and `gid`, perhaps `limits`, and `entries`, each with its numbers")]
     Head,
     #[error("`D \"/\"`")]
     Root,

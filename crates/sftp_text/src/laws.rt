@@ -43,7 +43,7 @@ pub fn entries_are_read()
         → ReadsBack entry_text bytes line left }
 {}
 
-/// Each packet that has a spelling is shown by its name, and not in hexadecimal.
+/// Each packet that has an encoding is shown by its name, and not in hexadecimal.
 pub fn packets_have_names()
     ensures { (packet : Packet) → HasSpelling packet → IsSome (named_line (side_of packet) (spelling packet)) }
 {}

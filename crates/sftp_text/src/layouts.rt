@@ -28,6 +28,7 @@ pub enum PacketType {
     PosixRename,
     Hardlink,
     Fsync,
+    Limits,
     Extended,
     Status,
     Handle,

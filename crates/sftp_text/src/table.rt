@@ -9,7 +9,7 @@ use sftp_wire::Side;
 
 /// Every layout's packet type. Those of the known extensions stand before `Extended`, which has any name.
 #[tactic(auto, unfolding(crate::specs::Layouts::every_packet))]
-pub(crate) fn every_packet() -> [PacketType; 30]
+pub(crate) fn every_packet() -> [PacketType; 31]
     ensures { result ≡ table.every_packet }
 {
     [
@@ -36,6 +36,7 @@ pub(crate) fn every_packet() -> [PacketType; 30]
         PacketType::PosixRename,
         PacketType::Hardlink,
         PacketType::Fsync,
+        PacketType::Limits,
         PacketType::Extended,
         PacketType::Status,
         PacketType::Handle,
@@ -156,6 +157,7 @@ pub(crate) fn layout_of(packet: PacketType) -> Layout
             TWO_TEXTS,
         ),
         PacketType::Fsync => extension(b"FSYNC", b"\0\0\0\x11fsync@openssh.com", TEXT),
+        PacketType::Limits => extension(b"LIMITS", b"\0\0\0\x12limits@sftpv3.test", NONE),
         PacketType::Extended => request(200, b"EXTENDED", TEXT, Tail::Rest),
         PacketType::Status => reply(101, b"STATUS", &[Field::Number], Tail::Message),
         PacketType::Handle => reply(102, b"HANDLE", TEXT, Tail::Nothing),

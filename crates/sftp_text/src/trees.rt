@@ -7,7 +7,7 @@ ghost use Rattle.sftp_text.specs.Trees as trees;
 ghost use Rattle.sftp_text.specs.Trees.{owner_text, entry_of, show_kind, read_kind};
 ghost use Rattle.sftp_text.specs.Trees.{entry_line, first_lines};
 ghost use Rattle.sftp_text.specs.Formats.{repeat_to_end};
-ghost use Rattle.sftp_text.specs.Moves.{Moves, FindsKind};
+ghost use Rattle.sftp_text.specs.Moves.{Moves, FindsKind, TellsWhether};
 ghost use Rattle.sftp_text.specs.Reads.{ShowsAs, ShowsWhole, ReadsAs, EndsAt};
 ghost use Rattle.sftp_text.specs.Lines.{whole};
 ghost use Rattle.sftp_text.specs.Texts.{GivesLine, GivesText, onto, form_of, due_after, lines_from};
@@ -17,8 +17,9 @@ use crate::errors::{Expected, Fault, ShowFault, Stop, TextFault};
 use crate::lines::{is_blank, take_line};
 use crate::numbers::{put_number, put_octal, read_number, read_octal};
 use crate::quoted::{put_string, read_string};
-use crate::words::{read_end, read_word};
+use crate::words::{after_word, read_end, read_word};
 use bytes::Buf;
+use std::alloc::Global;
 
 /// Shows a uint32 after a label.
 fn put_labelled(label: &[u8], bytes: &mut &[u8], text: &mut Vec<u8>) -> Result<(), Stop>
@@ -59,45 +60,130 @@ fn read_text(
     read_string(line, bytes)
 }
 
+/// The opening of a tree file without or with limits.
+fn opening(own: bool) -> &'static [u8]
+    ensures { result.now ≡ trees.opening own }
+{
+    if own { b"SFTREE02" } else { b"SFTREE01" }
+}
+
+/// Whether bytes begin with the opening of a tree file with limits.
+fn has_limits(bytes: &[u8]) -> bool
+    ensures { result ≡ trees.has_limits bytes.now }
+{
+    after_word(opening(true), bytes).is_some()
+}
+
+/// Shows the home, the user and the group.
+fn put_front(bytes: &mut &[u8], text: &mut Vec<u8>) -> Result<(), Stop>
+    ensures { Moves result text.new.items bytes.new.now (trees.front_text.show text.old.items bytes.old.now) }
+{
+    put_text(b"home ", bytes, text)?;
+    put_labelled(b" uid ", bytes, text)?;
+    put_labelled(b" gid ", bytes, text)
+}
+
+/// Reads the home, the user and the group.
+fn read_front(line: &mut &[u8], bytes: &mut Vec<u8>) -> Result<(), Stop>
+    ensures { Moves result bytes.new.items line.new.now (trees.front_text.read bytes.old.items line.old.now) }
+{
+    read_text(b"home ", Expected::Head, line, bytes)?;
+    read_labelled(b" uid ", line, bytes)?;
+    read_labelled(b" gid ", line, bytes)
+}
+
+/// Shows the last two limits and the number of entries.
+fn put_last_limits(bytes: &mut &[u8], text: &mut Vec<u8>) -> Result<(), Stop>
+    ensures { Moves result text.new.items bytes.new.now
+        ((word (codes " ") then number then word (codes " ") then number
+        then word (codes " entries ") then number).show text.old.items bytes.old.now) }
+{
+    put_labelled(b" ", bytes, text)?;
+    put_labelled(b" ", bytes, text)?;
+    put_labelled(b" entries ", bytes, text)
+}
+
+/// Reads the last two limits and the number of entries.
+fn read_last_limits(line: &mut &[u8], bytes: &mut Vec<u8>) -> Result<(), Stop>
+    ensures { Moves result bytes.new.items line.new.now
+        ((word (codes " ") then number then word (codes " ") then number
+        then word (codes " entries ") then number).read bytes.old.items line.old.now) }
+{
+    read_labelled(b" ", line, bytes)?;
+    read_labelled(b" ", line, bytes)?;
+    read_labelled(b" entries ", line, bytes)
+}
+
+/// Shows the limits, if there are some, and the number of entries.
+fn put_behind_front(own: bool, bytes: &mut &[u8], text: &mut Vec<u8>) -> Result<(), Stop>
+    ensures { Moves result text.new.items bytes.new.now
+        ((trees.behind_front own).show text.old.items bytes.old.now) }
+{
+    if !own {
+        return put_labelled(b" entries ", bytes, text);
+    }
+    put_labelled(b" limits ", bytes, text)?;
+    put_labelled(b" ", bytes, text)?;
+    put_last_limits(bytes, text)
+}
+
+/// Reads the limits, if there are to be some, and the number of entries.
+fn read_behind_front(own: bool, line: &mut &[u8], bytes: &mut Vec<u8>) -> Result<(), Stop>
+    ensures { Moves result bytes.new.items line.new.now
+        ((trees.behind_front own).read bytes.old.items line.old.now) }
+{
+    if !own {
+        return read_labelled(b" entries ", line, bytes);
+    }
+    read_labelled(b" limits ", line, bytes)?;
+    read_labelled(b" ", line, bytes)?;
+    read_last_limits(line, bytes)
+}
+
 /// Shows the head of a tree file, from its opening up to its count of entries, as `home "/" uid 0 gid 0 entries 2`.
 #[tactic(auto, unfolding(crate::specs::Trees::head_text))]
 fn put_head_parts(bytes: &mut &[u8], text: &mut Vec<u8>) -> Result<(), Stop>
     ensures { Moves result text.new.items bytes.new.now (trees.head_text.show text.old.items bytes.old.now) }
 {
-    read_word(b"SFTREE01", Expected::Head, bytes)?;
-    put_text(b"home ", bytes, text)?;
-    put_three(bytes, text)
+    let own = has_limits(bytes);
+    read_word(opening(own), Expected::Head, bytes)?;
+    put_front(bytes, text)?;
+    put_behind_front(own, bytes, text)
 }
 
-/// Shows the user, the group and the number of entries.
-fn put_three(bytes: &mut &[u8], text: &mut Vec<u8>) -> Result<(), Stop>
-    ensures { Moves result text.new.items bytes.new.now
-        ((word (codes " uid ") then number then word (codes " gid ") then number
-        then word (codes " entries ") then number).show text.old.items bytes.old.now) }
+/// Reads the head of a tree file without or with limits.
+fn read_head_of(own: bool, line: &mut &[u8], bytes: &mut Vec<u8>) -> Result<(), Stop>
+    ensures { Moves result bytes.new.items line.new.now ((trees.head_of own).read bytes.old.items line.old.now) }
 {
-    put_labelled(b" uid ", bytes, text)?;
-    put_labelled(b" gid ", bytes, text)?;
-    put_labelled(b" entries ", bytes, text)
+    bytes.extend_from_slice(opening(own))?;
+    read_front(line, bytes)?;
+    read_behind_front(own, line, bytes)
 }
 
-/// Reads the user, the group and the number of entries.
-fn read_three(line: &mut &[u8], bytes: &mut Vec<u8>) -> Result<(), Stop>
-    ensures { Moves result bytes.new.items line.new.now
-        ((word (codes " uid ") then number then word (codes " gid ") then number
-        then word (codes " entries ") then number).read bytes.old.items line.old.now) }
+/// Whether limits follow the home, the user and the group in a line.
+///
+/// # Errors
+///
+/// `NoMemory` if memory runs out.
+#[tactic(auto, unfolding(crate::specs::Trees::names_limits))]
+fn names_limits(alloc: Global, line: &[u8]) -> Result<bool, Stop>
+    ensures { TellsWhether result (trees.names_limits line.now) }
 {
-    read_labelled(b" uid ", line, bytes)?;
-    read_labelled(b" gid ", line, bytes)?;
-    read_labelled(b" entries ", line, bytes)
+    let mut rest = line;
+    let mut bytes = Vec::new(alloc);
+    match read_front(&mut rest, &mut bytes) {
+        Ok(()) => Ok(after_word(b" limits ", rest).is_some()),
+        Err(Stop::Unfit(_)) => Ok(false),
+        Err(Stop::NoMemory) => Err(Stop::NoMemory),
+    }
 }
 
 #[tactic(auto, unfolding(crate::specs::Trees::head_text))]
 fn read_head_parts(line: &mut &[u8], bytes: &mut Vec<u8>) -> Result<(), Stop>
     ensures { Moves result bytes.new.items line.new.now (trees.head_text.read bytes.old.items line.old.now) }
 {
-    bytes.extend_from_slice(b"SFTREE01")?;
-    read_text(b"home ", Expected::Head, line, bytes)?;
-    read_three(line, bytes)
+    let own = names_limits(*bytes.allocator(), line)?;
+    read_head_of(own, line, bytes)
 }
 
 /// Shows an owner: user and group in decimal, permissions in octal, each after a space.
@@ -308,7 +394,8 @@ fn read_entry_parts(line: &mut &[u8], bytes: &mut Vec<u8>) -> Result<(), Stop>
 }
 
 /// Takes the head of a tree file from the front of its bytes, from the opening up to the count of the entries, and
-/// appends its line without a line feed: `home "/" uid 0 gid 0 entries 2`.
+/// appends its line without a line feed: `home "/" uid 0 gid 0 entries 2`, with the limits before `entries` in a tree
+/// file that has them.
 ///
 /// # Errors
 ///

@@ -70,10 +70,11 @@ const AFTER_SHOW: &str =
 version of an INIT or a VERSION), and the packet's length in bytes; then the code of a STATUS, or the paths of a
 request.
 
-The first line of a tree file has the home, the owner of new entries, and the number of entries. The line of an
-entry has its number, its kind (D directory, F file, H further name of a file, L link) and its path; then the uid, gid
-and permissions of a directory or a file, the length of a file in bytes, the number of the entry that a further name
-belongs to, or the target of a link.
+The first line of a tree file has the home, the owner of new entries, the limits if the tree sets its own (entries,
+bytes of a file, bytes that one READ gives, open handles), and the number of entries. The line of an entry has its
+number, its kind (D directory, F file, H further name of a file, L link) and its path; then the uid, gid and permissions
+of a directory or a file, the length of a file in bytes, the number of the entry that a further name belongs to, or the
+target of a link.
 
 Bytes other than printable ASCII, and \" and \\, are shown as \\x and two hexadecimal digits.
 
@@ -96,8 +97,9 @@ const AFTER_DIFF: &str = "A line has the path, and then one or more of
   content from byte N               the first byte that differs, from 0
   target \"a\" -> \"b\"               of a link
 
-If the home differs or the owner of new entries, the first line begins with head and has home and owner. The bytes of a
-file are compared at its first name. The exit status is 0 if the trees are the same, and 1 if they differ.";
+If the home differs, the owner of new entries, or the limits, the first line begins with head and has home, owner and
+limits. The bytes of a file are compared at its first name. The exit status is 0 if the trees are the same, and 1 if
+they differ.";
 
 const ABOUT_IMPORT: &str =
     "Writes the tree file of the archive on standard input, which is in a format of tar";
@@ -126,9 +128,21 @@ const AFTER_EXPORT: &str = "A folder DIR with the files of a tree:
   sftpv3 export FILE | tar -C DIR -x -p
 
 The archive is ustar, with the extended headers of POSIX's pax where a name, a user or a group needs more room. Times
-are 0. The archive has all of the tree but where relative paths start, and who owns what is made with no owner given.";
+are 0. The archive has all of the tree but where relative paths start, who owns what is made with no owner given, and
+the limits.";
 
 const ABOUT_BLANK: &str = "Writes the tree file of a tree that holds only the root directory";
+
+const ABOUT_RAISE: &str = "Writes a tree file with the highest limits that a tree may set";
+
+const AFTER_RAISE: &str = "All else of the tree is the same. The limits in FILE are
+
+  1,048,576   entries below the root
+  67,108,864  bytes of a file
+  65,536      bytes that one READ gives
+  1,024       open handles
+
+FILE is replaced whole, and may be TREE.";
 
 const AFTER_AUDIT: &str =
     "Prints 'accepted N requests', or 'refused record N: KIND'. Records are numbered from 1.
@@ -155,6 +169,11 @@ pub(crate) enum Request<'a> {
     Audit(AuditOptions<'a>),
     /// Write the blank tree to a file.
     Blank {
+        file: &'a str,
+    },
+    /// Write the tree of a tree file with the highest limits to another.
+    Raise {
+        tree: &'a str,
         file: &'a str,
     },
     /// Show what a transcript or a tree file holds: all of it, or a line for each record or entry that sums it up. If
@@ -270,6 +289,7 @@ fn requested<'a>(matches: &ArgMatches<'a>) -> Option<Request<'a>> {
         "serve" => serve_options(given).map(Request::Serve),
         "audit" => audit_options(given).map(Request::Audit),
         "show" => show_request(given),
+        "raise" => raise_request(given),
         "make" => given.get_str("file").map(|file| Request::Make { file }),
         "diff" => diff_request(given),
         "import" => given.get_str("file").map(|file| Request::Import { file }),
@@ -293,6 +313,12 @@ fn diff_request<'a>(given: &ArgMatches<'a>) -> Option<Request<'a>> {
     let old = given.get_str("old")?;
     let new = given.get_str("new")?;
     Some(Request::Diff { old, new })
+}
+
+fn raise_request<'a>(given: &ArgMatches<'a>) -> Option<Request<'a>> {
+    let tree = given.get_str("tree")?;
+    let file = given.get_str("file")?;
+    Some(Request::Raise { tree, file })
 }
 
 fn serve_options<'a>(given: &ArgMatches<'a>) -> Option<ServeOptions<'a>> {
@@ -329,6 +355,7 @@ fn command<'a>(alloc: Global, version: &'a str) -> Result<Command<'a>, AllocErro
     let command = with_subcommand(command, diff_command(alloc))?;
     let command = with_subcommand(command, import_command(alloc))?;
     let command = with_subcommand(command, export_command(alloc))?;
+    let command = with_subcommand(command, raise_command(alloc))?;
     with_subcommand(command, blank_command(alloc))
 }
 
@@ -471,6 +498,19 @@ fn export_command<'a>(alloc: Global) -> Result<Command<'a>, AllocError> {
 fn blank_command<'a>(alloc: Global) -> Result<Command<'a>, AllocError> {
     let file = file_argument(alloc).help("The file to write");
     Command::new(alloc, "blank").about(ABOUT_BLANK).arg(file)
+}
+
+fn raise_command<'a>(alloc: Global) -> Result<Command<'a>, AllocError> {
+    let tree = Arg::new(alloc, "tree")
+        .value_name("TREE")
+        .action(ArgAction::Set)
+        .required(true)
+        .help("The tree file to read");
+    Command::new(alloc, "raise")
+        .about(ABOUT_RAISE)
+        .after_help(AFTER_RAISE)
+        .arg(tree)?
+        .arg(file_argument(alloc).help("The file to write"))
 }
 
 /// The argument `FILE`.

@@ -158,6 +158,7 @@ fn perform_request<'a, R: Files + AllocGlobal, I: Read, O: Write, E: Write>(
         Request::Serve(options) => serving::serve(rt, options, input, output, errors),
         Request::Audit(files) => subcommands::audit(rt, files, output, errors),
         Request::Blank { file } => subcommands::blank(rt, file),
+        Request::Raise { tree, file } => subcommands::raise(rt, tree, file),
         Request::Make { file } => texts::make(rt, file, input),
         Request::Show {
             file,

@@ -1,6 +1,9 @@
 //! The subcommands.
-ghost use Rattle.std.specs.Prelude.{◌≡◌, IfOk, IfErr};
+ghost use Rattle.std.specs.Prelude.{◌≡◌, IfOk, IfErr, MatchResult};
+ghost use Rattle.sftp_tree.specs.Tree.{Tree as tree, raised};
+ghost use Rattle.sftp_tree.specs.Picture.{IsStart, picture};
 ghost use Rattle.sftp_tool.specs.declared.messages.Ending.TheVariants as endings;
+ghost use Rattle.sftp_tool.specs.declared.messages.Failure.TheVariants as failures;
 ghost use Rattle.sftp_tool.specs.Failures.{IsOutcome, IsUnread, IsUnwritten};
 
 use crate::command_line::AuditOptions;
@@ -11,6 +14,7 @@ use crate::saving::write;
 use sftp_audit::{Accepted, AuditError, Refusal};
 use sftp_profile::Profile;
 use sftp_transcript::{Reader, Tally};
+use sftp_tree::Tree;
 use std::alloc::Global;
 use std::fs;
 use std::fs::Files;
@@ -88,6 +92,36 @@ pub(crate) fn blank<'a, R: Files + AllocGlobal>(
         }
         Err(_no_memory) => Err(Failure::OutOfMemory),
     }
+}
+
+/// Writes the tree of the tree file `tree` with the highest limits to the file `name`.
+pub(crate) fn raise<'a, R: Files + AllocGlobal>(
+    rt: &R,
+    tree: &'a str,
+    name: &'a str,
+) -> Result<Ending, Failure<'a>>
+    ensures ok { IfOk result (λ ending. ending ≡ endings.Done) }
+{
+    let bytes = read(rt, tree)?;
+    let raised = raised_file(rt.alloc(), bytes.as_slice());
+    drop(bytes);
+    let raised = raised?;
+    let written = write(rt, name, raised.as_slice());
+    drop(raised);
+    written?;
+    Ok(Ending::Done)
+}
+
+/// The tree file of the tree of this one, with the highest limits.
+fn raised_file<'a>(alloc: Global, bytes: &[u8]) -> Result<Vec<u8>, Failure<'a>>
+    ensures { (t : tree) → IsStart t bytes.now →
+        MatchResult result (λ made. made.items ≡ picture (raised t)) (λ failure. failure ≡ failures.OutOfMemory) }
+{
+    let tree = Tree::read(alloc, bytes)?;
+    let tree = tree.raise();
+    let made = tree.write();
+    drop(tree);
+    Ok(made?)
 }
 
 /// Prints help or the version.

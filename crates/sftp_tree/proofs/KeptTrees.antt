@@ -6,3 +6,4 @@ pub mod Moves
 pub mod Files
 pub mod NewFiles
 pub mod Counts
+pub mod Raised

@@ -33,4 +33,5 @@ IsAsk (asks.Read handle offset len) = Unit {0}
 IsAsk (asks.Fstat handle) = Unit {0}
 IsAsk (asks.Readdir handle) = Unit {0}
 IsAsk (asks.Fsync handle) = Unit {0}
+IsAsk asks.Limits = Unit {0}
 IsAsk (asks.Unknown name rest) = Unit {0}

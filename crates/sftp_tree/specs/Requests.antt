@@ -8,7 +8,8 @@ use Rattle.sftp_wire.specs.declared.attributes.Attrs.{Attrs}
 use Rattle.sftp_wire.specs.declared.packets.Ask.{Ask}
 use Rattle.sftp_wire.specs.declared.packets.Ask.TheVariants.{Lstat, Setstat, Remove, Mkdir, Rmdir, Realpath, Stat}
 use Rattle.sftp_wire.specs.declared.packets.Ask.TheVariants.{Rename, Readlink, Symlink, PosixRename, Hardlink}
-use Rattle.sftp_wire.specs.declared.packets.Ask.TheVariants.{Open, Opendir}
+use Rattle.sftp_wire.specs.declared.packets.Ask.TheVariants.{Open, Opendir, Close, Read, Write, Fstat, Fsetstat}
+use Rattle.sftp_wire.specs.declared.packets.Ask.TheVariants.{Readdir, Fsync, Limits, Unknown}
 use Rattle.sftp_path.specs.Place.{Name, Place, absolute}
 use Rattle.sftp_path.specs.Table.{Table}
 use Rattle.sftp_tree.specs.declared.nodes.Node.{Node}
@@ -180,7 +181,16 @@ row_of (Opendir path) = record no_step {
   here = λ t place. directory_causes (node_at t.names place);
   told = λ t place. listed (listing t place);
 }
-row_of other = no_step
+-- the others name no path; they are named so that a new request needs a row
+row_of (Close handle) = no_step
+row_of (Read handle offset len) = no_step
+row_of (Write handle offset bytes) = no_step
+row_of (Fstat handle) = no_step
+row_of (Fsetstat handle attrs) = no_step
+row_of (Readdir handle) = no_step
+row_of (Fsync handle) = no_step
+row_of Limits = no_step
+row_of (Unknown extension rest) = no_step
 
 -- ---- its columns
 

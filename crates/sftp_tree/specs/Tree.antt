@@ -1,13 +1,13 @@
 -- The tree: the node at each place, the files that have names there or are pinned, where relative paths start, who owns
 -- what is made with no owner given, and how much the tree may hold. The limits are this profile's own.
-use Rattle.std.specs.Prelude.{◌≡◌, ◌&&◌, ◌||◌, ◌==◌, nat_lt, nat_le, if◌then◌else◌, ℕ, ◌+◌, ◌-◌, ◌<◌, ◌^◌}
+use Rattle.std.specs.Prelude.{◌&&◌, ◌||◌, ◌==◌, nat_lt, nat_le, if◌then◌else◌, ℕ, ◌+◌, ◌-◌, ◌<◌, ◌^◌}
 use Rattle.std.specs.Prelude.{Bool, true, false, [], length, Option, Some, None, is_some, unwrap_or, IsTrue}
 use Rattle.std.specs.Ordering.{nat_cmp}
 use Rattle.std.specs.List.{list_any, list_all, AllByRecursion}
 use Rattle.sftp_path.specs.Place.{Place, place_cmp, parent, is_below, are_names, depth_limit}
 use Rattle.sftp_path.specs.Table.{Table, InOrder, get, put, without, retain, count}
 use Rattle.sftp_treefile.specs.declared.limits.TreeLimits.{TreeLimits}
-use Rattle.sftp_treefile.specs.Limits.{usual_limits}
+use Rattle.sftp_treefile.specs.Limits.{highest_limits, AreLimits}
 use Rattle.sftp_treefile.specs.TreeFile.{IsOwner, is_target, are_bytes}
 use Rattle.sftp_tree.specs.declared.file_contents.Content.{Content}
 use Rattle.sftp_tree.specs.declared.nodes.Node.{Node}
@@ -158,7 +158,7 @@ IsContent content = IsOwner content.owner × IsTrue (are_bytes content.bytes)
 
 -- What makes it a tree: its places are lists of names, in order and each once, the root is a directory, each other
 -- place's parent is one, names of files are names of files that exist, files that are pinned exist, the numbers of
--- files were given, and each number fits its field. Today the limits are the usual ones.
+-- files were given, each number fits its field, and each limit is in its range.
 pub record WellFormed (t : Tree) : Type 0 where
   pub ordered : InOrder place_cmp t.names
   pub named : AllByRecursion (λ e. IsTrue (are_names e.0)) t.names
@@ -171,7 +171,7 @@ pub record WellFormed (t : Tree) : Type 0 where
   pub given : AllByRecursion (λ e. e.0 < t.made) t.files
   pub pins : InOrder nat_cmp t.pins
   pub pinned : AllByRecursion (λ e. IsPin t.files e) t.pins
-  pub limits : t.limits ≡ usual_limits
+  pub limits : AreLimits t.limits
   pub home : IsTrue (are_names t.home)
   pub uid : t.uid < 2 ^ 32
   pub gid : t.gid < 2 ^ 32
@@ -184,6 +184,10 @@ IsTrimmed t = AllByRecursion (λ e. IsTrue (is_held t e.0)) t.files
 
 abbrev pub limits : Tree → TreeLimits
 limits t = t.limits
+
+-- the same tree with the highest limits
+abbrev pub raised : Tree → Tree
+raised t = record t { limits = highest_limits }
 
 -- how many entries are below the root, which is one of the places
 abbrev pub entry_count : Tree → ℕ

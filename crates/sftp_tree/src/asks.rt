@@ -134,6 +134,7 @@ pub(crate) fn path_ask(ask: &Ask) -> Option<PathAsk<'_>>
         Ask::Fsetstat { .. } => None,
         Ask::Readdir { .. } => None,
         Ask::Fsync { .. } => None,
+        Ask::Limits => None,
         Ask::Unknown { .. } => None,
     }
 }

@@ -24,8 +24,8 @@ impl Tree {
     ///
     /// # Errors
     ///
-    /// `Cause` with the first cause that holds, as for the call of the request. `NoMemory` if memory runs out. The tree
-    /// is then as before.
+    /// `Cause` with the first cause that holds, as for the call of the request. `NoMemory` if memory runs out. On error
+    /// the tree is unchanged.
     pub fn carry_out(&mut self, ask: &Ask) -> Result<(), Refused>
         requires { IsTrue (requests.has_step ask.now) }
         ensures free { OnOk result (IsFree self.old ask.now) }
@@ -65,7 +65,7 @@ impl Tree {
     /// # Errors
     ///
     /// `Cause` with the first cause that holds: `BadPath`, the walk's, `Exists` or `NoRoom`. `NoMemory` if memory runs
-    /// out. The tree is then as before.
+    /// out. On error the tree is unchanged.
     pub fn mkdir(&mut self, path: &[u8], attrs: &Attrs) -> Result<(), Refused>
         ensures free { OnOk result (IsFree self.old (Mkdir path.now attrs.now)) }
         ensures done { OnOk result (self.new ≡ requests.after self.old (Mkdir path.now attrs.now)) }
@@ -82,7 +82,7 @@ impl Tree {
     /// # Errors
     ///
     /// `Cause` with the first cause that holds: `BadPath`, the walk's, `NoEntry`, `NotDir`, `NotEmpty` or `Root`.
-    /// `NoMemory` if memory runs out. The tree is then as before.
+    /// `NoMemory` if memory runs out. On error the tree is unchanged.
     pub fn rmdir(&mut self, path: &[u8]) -> Result<(), Refused>
         ensures free { OnOk result (IsFree self.old (Rmdir path.now)) }
         ensures done { OnOk result (self.new ≡ requests.after self.old (Rmdir path.now)) }
@@ -99,7 +99,7 @@ impl Tree {
     /// # Errors
     ///
     /// `Cause` with the first cause that holds: `BadPath`, the walk's, `NoEntry` or `IsDir`. `NoMemory` if memory runs
-    /// out. The tree is then as before.
+    /// out. On error the tree is unchanged.
     pub fn remove(&mut self, path: &[u8]) -> Result<(), Refused>
         ensures free { OnOk result (IsFree self.old (Remove path.now)) }
         ensures done { OnOk result (self.new ≡ requests.after self.old (Remove path.now)) }
@@ -117,7 +117,7 @@ impl Tree {
     /// # Errors
     ///
     /// `Cause` with the first cause that holds: `BadPath`, the walk's, `NoEntry`, `NotFile` if a directory is given a
-    /// size, or `NoRoom`. `NoMemory` if memory runs out. The tree is then as before.
+    /// size, or `NoRoom`. `NoMemory` if memory runs out. On error the tree is unchanged.
     pub fn set_stat(&mut self, path: &[u8], attrs: &Attrs) -> Result<(), Refused>
         ensures free { OnOk result (IsFree self.old (Setstat path.now attrs.now)) }
         ensures done { OnOk result (self.new ≡ requests.after self.old (Setstat path.now attrs.now)) }
@@ -134,7 +134,8 @@ impl Tree {
     /// # Errors
     ///
     /// `Cause` with the first cause that holds: `BadPath`, the walk's of the old path and then of the new one,
-    /// `NoEntry`, `Exists`, `Root`, `Inside` or `NoRoom`. `NoMemory` if memory runs out. The tree is then as before.
+    /// `NoEntry`, `Exists`, `Root`, `Inside` or `NoRoom`. `NoMemory` if memory runs out. On error the tree is
+    /// unchanged.
     pub fn rename(&mut self, old: &[u8], new: &[u8]) -> Result<(), Refused>
         ensures free { OnOk result (IsFree self.old (Rename old.now new.now)) }
         ensures done { OnOk result (self.new ≡ requests.after self.old (Rename old.now new.now)) }
@@ -153,8 +154,8 @@ impl Tree {
     /// # Errors
     ///
     /// `Cause` with the first cause that holds: `BadPath`, the walk's of the old path and then of the new one,
-    /// `NoEntry`, `NotDir`, `IsDir`, `NotEmpty`, `Root`, `Inside` or `NoRoom`. `NoMemory` if memory runs out. The tree
-    /// is then as before.
+    /// `NoEntry`, `NotDir`, `IsDir`, `NotEmpty`, `Root`, `Inside` or `NoRoom`. `NoMemory` if memory runs out. On error
+    /// the tree is unchanged.
     pub fn posix_rename(&mut self, old: &[u8], new: &[u8]) -> Result<(), Refused>
         ensures free { OnOk result (IsFree self.old (PosixRename old.now new.now)) }
         ensures done { OnOk result (self.new ≡ requests.after self.old (PosixRename old.now new.now)) }
@@ -171,7 +172,7 @@ impl Tree {
     /// # Errors
     ///
     /// `Cause` with the first cause that holds: `BadPath`, the walk's of the old path and then of the new one,
-    /// `NoEntry`, `Exists`, `NotFile` or `NoRoom`. `NoMemory` if memory runs out. The tree is then as before.
+    /// `NoEntry`, `Exists`, `NotFile` or `NoRoom`. `NoMemory` if memory runs out. On error the tree is unchanged.
     pub fn hardlink(&mut self, old: &[u8], new: &[u8]) -> Result<(), Refused>
         ensures free { OnOk result (IsFree self.old (Hardlink old.now new.now)) }
         ensures done { OnOk result (self.new ≡ requests.after self.old (Hardlink old.now new.now)) }
@@ -188,7 +189,7 @@ impl Tree {
     /// # Errors
     ///
     /// `Cause` with the first cause that holds: `BadPath`, of the target or of the link's path, the walk's, `Exists` or
-    /// `NoRoom`. `NoMemory` if memory runs out. The tree is then as before.
+    /// `NoRoom`. `NoMemory` if memory runs out. On error the tree is unchanged.
     pub fn symlink(&mut self, target: &[u8], link: &[u8]) -> Result<(), Refused>
         ensures free { OnOk result (IsFree self.old (Symlink target.now link.now)) }
         ensures done { OnOk result (self.new ≡ requests.after self.old (Symlink target.now link.now)) }
@@ -209,7 +210,7 @@ impl Tree {
     ///
     /// `Cause` with the first cause that holds: `BadFlags`, `BadPath`, the walk's, `NoEntry` if there is no file and
     /// none is to be made, `Exists` if EXCL asks for a new file, `IsDir` or `NoRoom`. `NoMemory` if memory runs out.
-    /// The tree is then as before.
+    /// On error the tree is unchanged.
     pub fn open_file(&mut self, path: &[u8], flags: u32, attrs: &Attrs) -> Result<FileNo, Refused>
         ensures free { OnOk result (IsFree self.old (Open path.now flags attrs.now)) }
         ensures done { OnOk result (self.new ≡ requests.after self.old (Open path.now flags attrs.now)) }

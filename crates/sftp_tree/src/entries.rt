@@ -51,7 +51,7 @@ impl Model for Entries {
 }
 
 impl Entries {
-    /// The root alone. It takes no memory.
+    /// The root alone. Does not allocate.
     pub(crate) fn root(alloc: Global, owner: Owner) -> Entries
         ensures { result ≡ only_root owner }
     {
@@ -89,7 +89,7 @@ impl Entries {
     ///
     /// # Errors
     ///
-    /// `NoMemory` if memory runs out; the entries are then as before.
+    /// `NoMemory` if memory runs out; the entries are unchanged.
     pub(crate) fn put(&mut self, place: &Place, node: Node) -> Result<(), NoMemory>
         requires absent { tree.node_at self.old place.now ≡ None }
         requires parent { IsTrue (tree.is_directory (tree.node_at self.old (parent place.now))) }
@@ -142,7 +142,7 @@ impl Entries {
     ///
     /// # Errors
     ///
-    /// `NoMemory` if memory runs out; the entries are then as before.
+    /// `NoMemory` if memory runs out; the entries are unchanged.
     pub(crate) fn move_node(&mut self, old: &Place, new: &Place) -> Result<Option<Node>, NoMemory>
         requires taken { IsTrue (tree.is_taken (tree.node_at self.old old.now)) }
         requires old_below_root { is_root old.now ≡ false }

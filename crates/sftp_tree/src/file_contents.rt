@@ -45,7 +45,7 @@ impl FileBytes {
     ///
     /// # Errors
     ///
-    /// `NoMemory` if memory runs out; the bytes are then as before.
+    /// `NoMemory` if memory runs out; the bytes are unchanged.
     pub fn resize(&mut self, size: usize) -> Result<(), NoMemory>
         ensures ok { OnOk result (self.new ≡ resized size self.old) }
         ensures err { OnErr result (self.new ≡ self.old) }
@@ -59,7 +59,7 @@ impl FileBytes {
     ///
     /// # Errors
     ///
-    /// `NoMemory` if memory runs out; the bytes are then as before.
+    /// `NoMemory` if memory runs out; the bytes are unchanged.
     pub fn write_at(&mut self, offset: u64, new: &[u8]) -> Result<(), NoMemory>
         requires { IsWritable offset new.now }
         ensures ok { OnOk result (self.new ≡ written offset new.now self.old) }
@@ -77,7 +77,7 @@ impl FileBytes {
 ///
 /// # Errors
 ///
-/// `NoMemory` if memory runs out; the bytes are then as before.
+/// `NoMemory` if memory runs out; the bytes are unchanged.
 fn write_over(bytes: &mut Vec<u8>, offset: usize, new: &[u8]) -> Result<(), NoMemory>
     requires { offset + length new.now < 2 ^ 63 }
     ensures ok { OnOk result (bytes.new.items ≡ overwritten offset new.now bytes.old.items) }
@@ -99,7 +99,7 @@ fn write_over(bytes: &mut Vec<u8>, offset: usize, new: &[u8]) -> Result<(), NoMe
 ///
 /// # Errors
 ///
-/// `NoMemory` if memory runs out; the bytes are then as before.
+/// `NoMemory` if memory runs out; the bytes are unchanged.
 fn append_at(bytes: &mut Vec<u8>, offset: usize, new: &[u8]) -> Result<(), NoMemory>
     requires end { length bytes.old.items ≤ offset }
     requires sum { offset + length new.now < 2 ^ 63 }
@@ -146,7 +146,7 @@ impl Stored {
 ///
 /// # Errors
 ///
-/// `NoMemory` if memory runs out; the file is then as before.
+/// `NoMemory` if memory runs out; the file is unchanged.
 pub(crate) fn change(content: &mut Content, attrs: &Attrs) -> Result<(), NoMemory>
     requires { IsOwner content.old.owner }
     ensures ok { OnOk result (content.new ≡ changed_content attrs.now content.old) }

@@ -2,9 +2,9 @@
 //! contracts name. The functions do nothing; each promise is in the contract.
 #![tactic(auto, unfolding(crate::specs::Requests::led, crate::specs::Causes::no_causes, crate::specs::Causes::when, crate::specs::Causes::joined, crate::specs::Requests::plain_causes, crate::specs::Requests::causes, crate::specs::Requests::outcome, crate::specs::Requests::shown_to, crate::specs::Requests::target_to, crate::specs::Requests::text_to, crate::specs::Walk::meets, crate::specs::Walk::walk_parts, crate::specs::Walk::walk, crate::specs::Walk::reached, crate::specs::Tree::has_entries, crate::specs::Tree::fits, sftp_path::specs::Place::components, sftp_path::specs::Place::parts, sftp_path::specs::Place::is_good_path, sftp_path::specs::Table::get, sftp_path::specs::Table::put, sftp_path::specs::Table::without, sftp_path::specs::Table::retain, sftp_path::specs::Table::from_entries, sftp_path::specs::Rekeying::rekeyed))]
 
-ghost use Rattle.std.specs.Prelude.{◌≡◌, true, false, [], ◌∷◌, ◌++◌, Some, None, length, codes};
+ghost use Rattle.std.specs.Prelude.{◌≡◌, ℕ, true, false, List, [], ◌∷◌, ◌++◌, Some, None, length, codes};
 ghost use Rattle.sftp_wire.specs.declared.packets.Ask.TheVariants.{Remove};
-ghost use Rattle.sftp_treefile.specs.Limits.{usual_limits};
+ghost use Rattle.sftp_treefile.specs.Limits.{usual_limits, highest_limits};
 ghost use Rattle.sftp_tree.specs.Tree.{content_at, with_pin, without_pin, is_held};
 ghost use Rattle.sftp_tree.specs.Attributes.{shown_content};
 ghost use Rattle.sftp_tree.specs.FileChanges.{bytes_at, written, write_fits};
@@ -24,6 +24,13 @@ pub fn read_bytes()
     ensures limit { bytes_at (record usual_limits { read_bytes = 2 }) 1 3 (codes "hello") ≡ codes "el" }
 {}
 
+/// The limit of a READ is the tree's: of a file of 70,000 bytes one READ gives 32,768 bytes under the usual limits, and
+/// 65,536 under the highest.
+pub fn read_limits()
+    ensures usual { (bytes : List ℕ) → length bytes ≡ 70000 → length (bytes_at usual_limits 0 70000 bytes) ≡ 32768 }
+    ensures highest { (bytes : List ℕ) → length bytes ≡ 70000 → length (bytes_at highest_limits 0 70000 bytes) ≡ 65536 }
+{}
+
 /// A WRITE replaces what it is over, and appends the rest; past the end zeros come first. No bytes change nothing,
 /// wherever they are written. What APPEND writes goes to the end.
 pub fn written_bytes()
@@ -35,13 +42,15 @@ pub fn written_bytes()
     ensures append { written (length (codes "hello")) (codes "!") (codes "hello") ≡ codes "hello!" }
 {}
 
-/// A file has 16,777,216 bytes at most. The sum of offset and length is a number without a limit. No bytes can be
-/// written anywhere.
+/// Under the usual limits a file has 16,777,216 bytes at most, under the highest 67,108,864. The sum of offset and
+/// length is a number without a limit. No bytes can be written anywhere.
 pub fn fitting_writes()
     ensures last { write_fits usual_limits 16777215 (codes "!") ≡ true }
     ensures one_more { write_fits usual_limits 16777216 (codes "!") ≡ false }
     ensures far { write_fits usual_limits 18446744073709551615 (codes "!") ≡ false }
     ensures none { write_fits usual_limits 18446744073709551615 [] ≡ true }
+    ensures highest { write_fits highest_limits 16777216 (codes "!") ≡ true }
+    ensures beyond { write_fits highest_limits 67108864 (codes "!") ≡ false }
 {}
 
 /// A WRITE and an FSETSTAT change the file of their number.

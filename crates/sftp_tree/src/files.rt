@@ -33,7 +33,7 @@ impl Model for Files {
 }
 
 impl Files {
-    /// No files. It takes no memory.
+    /// No files. Does not allocate.
     pub(crate) fn new(alloc: Global) -> Files
         ensures { result ≡ [] }
     {
@@ -70,7 +70,7 @@ impl Files {
     ///
     /// # Errors
     ///
-    /// `NoMemory` if memory runs out; the files are then as before.
+    /// `NoMemory` if memory runs out; the files are unchanged.
     #[tactic(auto, unfolding(sftp_path::specs::Table::put))]
     pub(crate) fn put(&mut self, number: FileNo, content: Content) -> Result<(), NoMemory>
         ensures ok { OnOk result
@@ -108,7 +108,7 @@ impl Files {
     ///
     /// # Errors
     ///
-    /// `NoMemory` if memory runs out; the files are then as before.
+    /// `NoMemory` if memory runs out; the files are unchanged.
     pub(crate) fn change_at(&mut self, number: FileNo, attrs: &Attrs) -> Result<(), NoMemory>
         requires { IfSome (get nat_cmp self.old number) (λ s. IsOwner s.content.owner) }
         ensures ok { OnOk result (IsChanged (with_attributes_set attrs.now) number self.old self.new) }
@@ -124,7 +124,7 @@ impl Files {
     ///
     /// # Errors
     ///
-    /// `NoMemory` if memory runs out; the files are then as before.
+    /// `NoMemory` if memory runs out; the files are unchanged.
     pub(crate) fn write_at(
         &mut self,
         number: FileNo,
@@ -224,7 +224,7 @@ fn lower(files: &mut BTreeMap<FileNo, Stored>, number: FileNo)
 ///
 /// # Errors
 ///
-/// `NoMemory` if memory runs out; the files are then as before.
+/// `NoMemory` if memory runs out; the files are unchanged.
 fn change_at(
     files: &mut BTreeMap<FileNo, Stored>,
     number: FileNo,
@@ -247,7 +247,7 @@ fn change_at(
 ///
 /// # Errors
 ///
-/// `NoMemory` if memory runs out; the files are then as before.
+/// `NoMemory` if memory runs out; the files are unchanged.
 fn write_at(
     files: &mut BTreeMap<FileNo, Stored>,
     number: FileNo,

@@ -1,11 +1,12 @@
 //! How each change of a tree bears on each of its limits, as theorems on the definitions that the contracts name. The
 //! functions do nothing; each promise is in the contract. A limit that a law does not name holds after the change
 //! exactly if it held before.
-ghost use Rattle.std.specs.Prelude.{◌≡◌, ◌&&◌, nat_le, ℕ, List, Some, None, length, IsTrue};
+ghost use Rattle.std.specs.Prelude.{◌≡◌, ◌&&◌, nat_le, ℕ, true, false, List, [], Some, None, length, IsTrue};
 ghost use Rattle.std.specs.List.{list_all};
 ghost use Rattle.sftp_path.specs.Place.{Place, place_cmp};
 ghost use Rattle.sftp_path.specs.Table.{InOrder};
 ghost use Rattle.sftp_path.specs.Rekeying.{renamed, NothingFrom};
+ghost use Rattle.sftp_treefile.specs.Limits.{usual_limits, highest_limits};
 ghost use Rattle.sftp_tree.specs.declared.file_contents.Content.{Content};
 ghost use Rattle.sftp_tree.specs.declared.nodes.Node.{Node};
 ghost use Rattle.sftp_wire.specs.declared.attributes.Attrs.{Attrs};
@@ -15,7 +16,7 @@ ghost use Rattle.sftp_tree.specs.Tree.{files_fit, numbers_fit, depth_fits, link_
 ghost use Rattle.sftp_tree.specs.Tree.{node_at, with_node, without_node, content_at, with_content};
 ghost use Rattle.sftp_tree.specs.Changes.{moved};
 ghost use Rattle.sftp_tree.specs.FileChanges.{write_fits, after_write, after_set};
-ghost use Rattle.sftp_tree.specs.Room.{size_fits};
+ghost use Rattle.sftp_tree.specs.Room.{has_room, size_fits};
 
 /// A tree is within the limits exactly if it is within each of them.
 pub fn limits_are_six()
@@ -28,6 +29,16 @@ pub fn limits_are_six()
     ensures all { (t : Tree) → IsTrue (entries_fit t) → IsTrue (depths_fit t) → IsTrue (home_fits t) →
         IsTrue (links_fit t) → IsTrue (files_fit t) →
         IsTrue (numbers_fit t) → IsTrue (fits t) }
+{}
+
+/// The bound of entries is that of the tree: with 65,537 places, the root among them, a tree with the usual limits is
+/// full, and one with the highest has room. That is full with 1,048,577.
+pub fn room_by_limits()
+    ensures usual { (t : Tree) (place : Place) → limits t ≡ usual_limits → length t.names ≡ 65537 →
+        has_room t place ≡ false }
+    ensures highest { (t : Tree) → limits t ≡ highest_limits → length t.names ≡ 65537 → has_room t [] ≡ true }
+    ensures full { (t : Tree) (place : Place) → limits t ≡ highest_limits → length t.names ≡ 1048577 →
+        has_room t place ≡ false }
 {}
 
 /// With an entry at a free place.

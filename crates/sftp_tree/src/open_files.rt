@@ -31,7 +31,7 @@ impl Tree {
     }
 
     /// READ: the bytes of a file from an offset on, at most `len` of them and at most as many as the tree's limit of
-    /// one READ. At the end of the file and past it there are none. It takes no memory.
+    /// one READ. At the end of the file and past it there are none. Does not allocate.
     pub fn read_at(&self, number: FileNo, offset: u64, len: u32) -> &[u8]
         requires { tree.HasFile self.now.files number }
         ensures { option_map (λ content. changes.bytes_at (tree.limits self.now) offset len content.bytes)
@@ -51,7 +51,7 @@ impl Tree {
     /// # Errors
     ///
     /// The cause `NoRoom` if there are bytes to write and they end past the limit of a file's bytes. `NoMemory` if
-    /// memory runs out. The tree is then as before.
+    /// memory runs out. On error the tree is unchanged.
     pub fn write_at(&mut self, number: FileNo, offset: u64, new: &[u8]) -> Result<(), Refused>
         requires { tree.HasFile self.old.files number }
         ensures room { OnOk result (IsTrue (changes.write_fits (tree.limits self.old) offset new.now)) }
@@ -68,7 +68,7 @@ impl Tree {
         Ok(())
     }
 
-    /// FSTAT: the size, the owner and the permissions of a file, with the bits of its type. It takes no memory.
+    /// FSTAT: the size, the owner and the permissions of a file, with the bits of its type. Does not allocate.
     pub fn stat_file(&self, number: FileNo) -> Attrs
         requires { tree.HasFile self.now.files number }
         ensures { option_map attributes.shown_content (tree.content_at self.now.files number) ≡ Some result }
@@ -82,7 +82,7 @@ impl Tree {
     /// # Errors
     ///
     /// The cause `NoRoom` if a size is given that is past the limit of a file's bytes. `NoMemory` if memory runs out.
-    /// The tree is then as before.
+    /// On error the tree is unchanged.
     pub fn set_file(&mut self, number: FileNo, attrs: &Attrs) -> Result<(), Refused>
         requires { tree.HasFile self.old.files number }
         ensures room { OnOk result (IsTrue (room.size_fits (tree.limits self.old) attrs.now.size)) }

@@ -1,10 +1,11 @@
 //! Laws of trees and their tree files, as theorems on the definitions that the contracts name. The functions do
 //! nothing; each promise is in the contract.
 ghost use Rattle.std.specs.Prelude.{◌≡◌, ◌++◌, ℕ, List, length, IsTrue};
-ghost use Rattle.sftp_treefile.specs.Examples.{blank_bytes};
+ghost use Rattle.sftp_treefile.specs.Examples.{blank_bytes, raised_bytes};
+ghost use Rattle.sftp_treefile.specs.Limits.{highest_limits};
 ghost use Rattle.sftp_treefile.specs.TreeFile.{IsSpelled};
 ghost use Rattle.sftp_treefile.specs.declared.files.TreeFile.{TreeFile};
-ghost use Rattle.sftp_tree.specs.Tree.{Tree, WellFormed, IsKept, fits};
+ghost use Rattle.sftp_tree.specs.Tree.{Tree, WellFormed, IsKept, fits, limits, raised};
 ghost use Rattle.sftp_tree.specs.Picture.{IsStart, file_of, picture, blank};
 ghost use Rattle.sftp_tree.specs.PictureParts.{tree_of};
 ghost use Rattle.sftp_tree.specs.PictureExamples.{linked, linked_front, linked_root, linked_directory};
@@ -27,6 +28,17 @@ pub fn starts_have_tree_files()
     ensures file { (t : Tree) (bytes : List ℕ) → IsStart t bytes → IsSpelled (file_of t) bytes }
 {}
 
+/// A tree of the program may have the highest limits too, and the tree that is read from its file is raised again. The
+/// tree file of the blank tree has 53 bytes then.
+pub fn raised_trees()
+    ensures kept { (t : Tree) → IsKept t → IsKept (raised t) }
+    ensures limits { (t : Tree) → limits (raised t) ≡ highest_limits }
+    ensures start { (t : Tree) (bytes : List ℕ) → IsStart t bytes → IsStart (raised t) (picture (raised t)) }
+    ensures length { length raised_bytes ≡ 53 }
+    ensures bytes { picture (raised blank) ≡ raised_bytes }
+    ensures blank { IsStart (raised blank) raised_bytes }
+{}
+
 /// The blank tree is one that the program may have, and these 37 bytes are its tree file.
 pub fn blank_is_a_start()
     ensures kept { IsKept blank }
@@ -35,7 +47,7 @@ pub fn blank_is_a_start()
 {}
 
 /// A tree with a directory and a link to it is one that the program may have, and these 69 bytes are its tree file.
-#[tactic(auto, unfolding(crate::specs::Picture::picture, sftp_treefile::specs::TreeFile::spelled, sftp_path::specs::Table::get))]
+#[tactic(auto, unfolding(crate::specs::Picture::picture, sftp_treefile::specs::TreeFile::spelled, sftp_treefile::specs::Limits::are_own, sftp_path::specs::Table::get))]
 pub fn file_of_a_directory_and_a_link()
     ensures kept { IsKept linked }
     ensures bytes { picture linked ≡ linked_front ++ (linked_root ++ (linked_directory ++ linked_link)) }

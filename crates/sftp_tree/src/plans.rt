@@ -215,7 +215,7 @@ impl Tree {
     ///
     /// # Errors
     ///
-    /// `NoMemory` if memory runs out; the tree is then as before.
+    /// `NoMemory` if memory runs out; the tree is unchanged.
     pub(crate) fn apply(&mut self, plan: Plan<'_>) -> Result<(), NoMemory>
         requires { spec.IsReady self.old plan }
         ensures ok { OnOk result (self.new ≡ tree.trim (spec.changed self.old plan.entry)) }
@@ -257,7 +257,7 @@ impl Tree {
     ///
     /// # Errors
     ///
-    /// `NoMemory` if memory runs out; the tree is then as before.
+    /// `NoMemory` if memory runs out; the tree is unchanged.
     fn truncate(&mut self, number: FileNo) -> Result<(), NoMemory>
         requires { IsTrue (tree.fits
             (changes.with_emptied_file self.old number (tree.content_at self.old.files number))) }

@@ -29,7 +29,7 @@ impl<'a> Model for Targets<'a> {
 }
 
 impl<'a> Targets<'a> {
-    /// No target. It takes no memory.
+    /// No target. Does not allocate.
     fn new(alloc: Global) -> Targets<'a>
         ensures { result ≡ [] }
     {
@@ -101,7 +101,7 @@ impl<'a> Model for Route<'a> {
 }
 
 impl<'a> Route<'a> {
-    /// These names, and then the components of a path. It takes no memory.
+    /// These names, and then the components of a path. Does not allocate.
     pub(crate) fn new(alloc: Global, home: &'a [Name], path: Parts<'a>) -> Route<'a>
         ensures { result ≡ home.now ++ path.entry.left }
     {

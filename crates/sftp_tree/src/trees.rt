@@ -1,6 +1,7 @@
 //! The tree.
 ghost use Rattle.std.specs.Prelude.{◌≡◌, [], ◌<◌, ◌^◌, false, None, option_copied, OnOk, OnErr, IsTrue, ◌+◌, nat_lt};
 ghost use Rattle.sftp_path.specs.Place.{are_names, parent};
+ghost use Rattle.sftp_treefile.specs.Limits.{numbers};
 ghost use Rattle.sftp_treefile.specs.TreeFile.{IsOwner, is_root, same_place};
 
 use crate::entries::Entries;
@@ -9,7 +10,7 @@ use crate::file_numbers::FileNo;
 use crate::files::Files;
 use crate::nodes::{Node, file_named};
 use sftp_path::{NoMemory, Place};
-use sftp_treefile::{Owner, TreeLimits};
+use sftp_treefile::{Owner, TreeLimits, highest_limits};
 use sftp_wire::Attrs;
 use std::alloc::Global;
 use std::fmt;
@@ -55,7 +56,7 @@ impl Tree {
     ghost use Rattle.sftp_tree.specs.FileChanges as file_changes;
     ghost use Rattle.sftp_tree.specs.Plans.{CanMake};
 
-    /// A tree of these parts. It takes no memory.
+    /// A tree of these parts. Does not allocate.
     pub(crate) fn from_parts(
         names: Entries,
         files: Files,
@@ -130,7 +131,30 @@ impl Tree {
         self.gid
     }
 
-    /// The limits of the tree.
+    /// The four limits of the tree in the order of a tree file: the most entries below the root, bytes of a file, bytes
+    /// that one READ gives, and open handles. Does not allocate.
+    pub fn limits(&self) -> [u32; 4]
+        ensures { result ≡ numbers (tree.limits self.now) }
+    {
+        let limits = self.limits;
+        [
+            limits.entries,
+            limits.file_bytes,
+            limits.read_bytes,
+            limits.open_handles,
+        ]
+    }
+
+    /// The same tree with the highest limits that a tree may set. Does not allocate.
+    pub fn raise(self) -> Tree
+        ensures raised { result ≡ tree.raised self }
+    {
+        let owner = (self.uid, self.gid);
+        let limits = highest_limits();
+        Tree::from_parts(self.names, self.files, self.made, limits, self.home, owner)
+    }
+
+    /// The limits of the tree, by their names.
     pub fn tree_limits(&self) -> TreeLimits
         ensures limits { result ≡ tree.limits self.now }
         ensures kept { tree.IsKept self.now }
@@ -156,7 +180,7 @@ impl Tree {
     ///
     /// # Errors
     ///
-    /// `NoMemory` if memory runs out; the tree is then as before.
+    /// `NoMemory` if memory runs out; the tree is unchanged.
     pub(crate) fn put(&mut self, place: Place, node: Node) -> Result<(), NoMemory>
         requires absent { tree.node_at self.old.names place ≡ None }
         requires named { IsTrue (are_names place) }
@@ -178,7 +202,7 @@ impl Tree {
     ///
     /// # Errors
     ///
-    /// `NoMemory` if memory runs out; the tree is then as before.
+    /// `NoMemory` if memory runs out; the tree is unchanged.
     pub(crate) fn make_file(&mut self, place: Place, content: Content) -> Result<(), NoMemory>
         requires { CanMake self.old place content }
         ensures ok { OnOk result (self.new ≡ tree.trim (changes.with_new_file self.old place content)) }
@@ -214,7 +238,7 @@ impl Tree {
     ///
     /// # Errors
     ///
-    /// `NoMemory` if memory runs out; the tree is then as before.
+    /// `NoMemory` if memory runs out; the tree is unchanged.
     pub(crate) fn move_to(&mut self, old: &Place, new: Place) -> Result<(), NoMemory>
         requires taken { IsTrue (tree.is_taken (tree.node_at self.old.names old.now)) }
         requires old_below_root { is_root old.now ≡ false }
@@ -250,7 +274,7 @@ impl Tree {
     ///
     /// # Errors
     ///
-    /// `NoMemory` if memory runs out; the tree is then as before.
+    /// `NoMemory` if memory runs out; the tree is unchanged.
     pub(crate) fn change_file(&mut self, number: FileNo, attrs: &Attrs) -> Result<(), NoMemory>
         requires { IsTrue (tree.fits
             (changes.with_changed_file self.old attrs.now number (tree.content_at self.old.files number))) }
@@ -269,7 +293,7 @@ impl Tree {
     ///
     /// # Errors
     ///
-    /// `NoMemory` if memory runs out; the tree is then as before.
+    /// `NoMemory` if memory runs out; the tree is unchanged.
     pub(crate) fn write_file(
         &mut self,
         number: FileNo,
@@ -312,7 +336,7 @@ impl Tree {
         self.files.unpin(number);
     }
 
-    /// Takes all pins away. A file is removed that has no name. It takes no memory.
+    /// Takes all pins away. A file is removed that has no name. Does not allocate.
     pub fn unpin_all(&mut self)
         ensures unpinned { self.new ≡ tree.trim (record self.old { pins = [] }) }
         ensures kept { tree.IsKept self.new }

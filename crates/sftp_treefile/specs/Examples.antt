@@ -1,9 +1,9 @@
 -- The tree files of the worked examples.
-use Rattle.std.specs.Prelude.{ℕ, List, [], ◌∷◌, codes}
+use Rattle.std.specs.Prelude.{ℕ, List, [], ◌∷◌, ◌++◌, codes}
 use Rattle.sftp_wire.specs.Examples.{hex}
 use Rattle.sftp_treefile.specs.declared.files.Kind.TheVariants.{Dir, First, Further, Link}
 use Rattle.sftp_treefile.specs.declared.files.TreeFile.{TreeFile}
-use Rattle.sftp_treefile.specs.Limits.{usual_limits}
+use Rattle.sftp_treefile.specs.Limits.{usual_limits, highest_limits}
 
 -- the root alone, which is the home
 abbrev pub blank : TreeFile
@@ -18,6 +18,21 @@ blank = record {
 
 abbrev pub blank_bytes : List ℕ
 blank_bytes = hex (codes "5346545245453031 00000001 2f 00000000 00000000 00000000 00000000 00000000 000001ed")
+
+-- the blank tree with the highest limits
+abbrev pub raised : TreeFile
+raised = record blank { limits = highest_limits }
+
+abbrev pub raised_bytes : List ℕ
+raised_bytes =
+    hex (codes "5346545245453032 00000001 2f 00000000 00000000 00100000 04000000 00010000 00000400 "
+    ++ codes "00000000 00000000 00000000 000001ed")
+
+-- what would be the blank tree, with the usual limits
+abbrev pub usual_bytes : List ℕ
+usual_bytes =
+    hex (codes "5346545245453032 00000001 2f 00000000 00000000 00010000 01000000 00008000 00000100 "
+    ++ codes "00000000 00000000 00000000 000001ed")
 
 -- `/d`, which is the home, `/d/e` and a link to it, `/l`; no two numbers are the same
 abbrev pub linked : TreeFile

@@ -14,13 +14,20 @@ use Rattle.sftp_treefile.specs.declared.files.Kind.TheVariants.{Dir, First, Furt
 use Rattle.sftp_treefile.specs.declared.files.Row.{Row}
 use Rattle.sftp_treefile.specs.declared.files.TreeFile.{TreeFile}
 use Rattle.sftp_treefile.specs.declared.limits.TreeLimits.{TreeLimits}
-use Rattle.sftp_treefile.specs.Limits.{usual_limits}
+use Rattle.sftp_treefile.specs.Limits.{AreLimits, are_own}
 
 -- ---- as bytes
 
--- `SFTREE01`
-abbrev pub tree_opening : List ℕ
-tree_opening = codes "SFTREE01"
+-- the opening of a file without and of one with limits
+abbrev pub tree_opening : Bool → List ℕ
+tree_opening false = codes "SFTREE01"
+tree_opening true = codes "SFTREE02"
+
+-- the limits, which only a file with the second opening has
+abbrev pub limits_text : Bool → TreeLimits → List ℕ
+limits_text false limits = []
+limits_text true limits =
+    uint32 limits.entries ++ (uint32 limits.file_bytes ++ (uint32 limits.read_bytes ++ uint32 limits.open_handles))
 
 abbrev pub owner_text : Owner → List ℕ
 owner_text owner = uint32 owner.uid ++ (uint32 owner.gid ++ uint32 owner.permissions)
@@ -40,10 +47,11 @@ row_text row = string row.path ++ kind_text row.kind
 abbrev pub rows_text : Owner → List Row → List ℕ
 rows_text root rows = uint32 (length rows) ++ (owner_text root ++ flat_map row_text rows)
 
--- the bytes of a tree file
+-- the bytes of a tree file: it has the second opening, and limits, exactly if they are not all the usual ones
 unfoldable pub spelled : TreeFile → List ℕ
 spelled file =
-    tree_opening ++ (string file.home ++ (uint32 file.uid ++ (uint32 file.gid ++ rows_text file.root file.rows)))
+    tree_opening (are_own file.limits) ++ (string file.home ++ (uint32 file.uid ++ (uint32 file.gid
+    ++ (limits_text (are_own file.limits) file.limits ++ rows_text file.root file.rows))))
 
 -- ---- which rows a tree file may have
 
@@ -126,9 +134,9 @@ abbrev pub AreRows : TreeLimits → List Row → List Row → Type 0
 AreRows limits earlier [] = Unit {0}
 AreRows limits earlier (row ∷ rows) = IsNext limits earlier row × AreRows limits (earlier ++ row ∷ []) rows
 
--- what a tree file may say; under the opening `SFTREE01` its limits are the usual ones
+-- what a tree file may say
 pub record IsTreeFile (file : TreeFile) : Type 0 where
-  pub limits : file.limits ≡ usual_limits
+  pub limits : AreLimits file.limits
   pub home : IsPlaceText file.home
   pub uid : file.uid < 2 ^ 32
   pub gid : file.gid < 2 ^ 32

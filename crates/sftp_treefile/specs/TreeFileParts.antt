@@ -14,9 +14,10 @@ use Rattle.sftp_treefile.specs.declared.files.Row.{Row}
 use Rattle.sftp_treefile.specs.declared.files.TreeFile.{TreeFile}
 use Rattle.sftp_treefile.specs.declared.heads.Head.{Head}
 use Rattle.sftp_treefile.specs.declared.limits.TreeLimits.{TreeLimits}
-use Rattle.sftp_treefile.specs.Limits.{usual_limits}
-use Rattle.sftp_treefile.specs.TreeFile.{tree_opening, owner_text, row_text, place_of, has_dir, is_target, are_bytes}
-use Rattle.sftp_treefile.specs.TreeFile.{is_first_row, entry_at, IsPlaceText, IsOwner, AreRows}
+use Rattle.sftp_treefile.specs.declared.heads.Front.{Front}
+use Rattle.sftp_treefile.specs.Limits.{AreLimits, are_own}
+use Rattle.sftp_treefile.specs.TreeFile.{tree_opening, limits_text, owner_text, row_text, place_of, has_dir, is_target}
+use Rattle.sftp_treefile.specs.TreeFile.{are_bytes, is_first_row, entry_at, IsPlaceText, IsOwner, AreRows}
 
 -- ---- reading a field
 
@@ -74,28 +75,46 @@ file_text file = owner_text file.0 ++ string file.1
 abbrev pub IsFirstAmong : List Row → ℕ → Type 0
 IsFirstAmong rows number = (number < 2 ^ 32) × IsTrue (is_first_row (entry_at rows number))
 
--- ---- the head
+-- ---- the head: its front, the limits, and what it says of the root
+
+-- what a front says: whether limits are to follow, the home, and who owns what is made with no owner given
+pub record IsFront (front : Front) : Type 0 where
+  pub home : IsPlaceText front.home
+  pub uid : IsNumber front.uid
+  pub gid : IsNumber front.gid
+
+-- the opening, the home, and who owns what is made with no owner given
+abbrev pub front_text : Bool → List ℕ → ℕ → ℕ → List ℕ
+front_text own home uid gid = tree_opening own ++ (string home ++ (uint32 uid ++ uint32 gid))
+
+abbrev pub front_bytes : Front → List ℕ
+front_bytes front = front_text front.has_limits front.home front.uid front.gid
+
+-- the limits of a tree that sets some of its own, or sets none
+abbrev pub AreSet : Bool → TreeLimits → Type 0
+AreSet own limits = AreLimits limits × (are_own limits ≡ own)
+
+-- how many entries there are, and who owns the root
+abbrev pub IsRoot : TreeLimits → ℕ × Owner → Type 0
+IsRoot limits root = IsCount limits root.0 × IsOwner root.1
+
+abbrev pub root_text : ℕ × Owner → List ℕ
+root_text root = uint32 root.0 ++ owner_text root.1
 
 abbrev pub head_bytes : Head → List ℕ
 head_bytes head =
-    tree_opening ++ (string head.home ++ (uint32 head.uid ++ (uint32 head.gid
-    ++ (uint32 head.count ++ owner_text head.root))))
-
--- the opening, the home, and who owns what is made with no owner given
-abbrev pub front_text : List ℕ → ℕ → ℕ → List ℕ
-front_text home uid gid = tree_opening ++ (string home ++ (uint32 uid ++ uint32 gid))
-
--- how many entries there are, and who owns the root
-abbrev pub root_text : ℕ → Owner → List ℕ
-root_text count root = uint32 count ++ owner_text root
+    front_text (are_own head.limits) head.home head.uid head.gid
+    ++ (limits_text (are_own head.limits) head.limits ++ root_text (head.count, head.root))
 
 -- the bytes before the entries
 abbrev pub head_text : TreeFile → List ℕ
-head_text file = front_text file.home file.uid file.gid ++ root_text (length file.rows) file.root
+head_text file =
+    front_text (are_own file.limits) file.home file.uid file.gid
+    ++ (limits_text (are_own file.limits) file.limits ++ root_text (length file.rows, file.root))
 
--- what a head may say; under the opening `SFTREE01` its limits are the usual ones
+-- what a head may say
 pub record IsHead (head : Head) : Type 0 where
-  pub limits : head.limits ≡ usual_limits
+  pub limits : AreLimits head.limits
   pub home : IsPlaceText head.home
   pub uid : IsNumber head.uid
   pub gid : IsNumber head.gid

@@ -2,7 +2,9 @@
 //! contract.
 ghost use Rattle.std.specs.Prelude.{◌≡◌, ℕ, List, length};
 ghost use Rattle.sftp_treefile.specs.TreeFile.{IsTreeFile, IsSpelled, spelled};
+ghost use Rattle.sftp_treefile.specs.declared.files.TreeFile.{TreeFile as file};
 ghost use Rattle.sftp_treefile.specs.Examples.{blank, blank_bytes, linked, linked_bytes, two_names, two_names_bytes};
+ghost use Rattle.sftp_treefile.specs.Examples.{raised, raised_bytes, usual_bytes};
 
 /// The blank tree: its home is the root, which has uid and gid 0 and permissions 0o755 and no entries, and uid
 /// and gid 0 own what is made with no owner given. Its file has 37 bytes.
@@ -10,6 +12,15 @@ pub fn blank_file()
     ensures length { length blank_bytes ≡ 37 }
     ensures spelled { spelled blank ≡ blank_bytes }
     ensures may_be { IsTreeFile blank }
+{}
+
+/// The blank tree with the highest limits: its file has the second opening, and 53 bytes. A file with that opening
+/// does not have the usual limits.
+pub fn raised_file()
+    ensures length { length raised_bytes ≡ 53 }
+    ensures spelled { spelled raised ≡ raised_bytes }
+    ensures may_be { IsTreeFile raised }
+    ensures not_usual { (f : file) → IsSpelled f usual_bytes → ⊥ }
 {}
 
 /// A directory, a directory in it, and a symbolic link to that: 92 bytes.

@@ -78,7 +78,7 @@ impl Rows {
 /// What a tree file says. The count of the entries is that of the rows.
 #[derive(Debug, Drop)]
 pub struct TreeFile {
-    /// The limits of the tree: the usual ones, which is what the opening `SFTREE01` says.
+    /// The limits of the tree, each in its range. The opening is `SFTREE01` if they are all the usual ones.
     pub limits: TreeLimits,
     /// The absolute text of the place where relative paths start; it has at most 64 names, and need not exist.
     pub home: ByteString,

@@ -1,14 +1,16 @@
 //! Tree files, written piece by piece, and whole. Each piece is written as it is given: the caller makes sure that a
 //! path is the absolute text of a place, that entries come in the order of their places, that permissions have twelve
 //! bits, and that a further name has the number of a first name.
-ghost use Rattle.std.specs.Prelude.{◌≡◌, ◌++◌, ◌<◌, ◌^◌, length, IfOk, OnOk};
+ghost use Rattle.std.specs.Prelude.{◌≡◌, ◌++◌, ◌<◌, ◌^◌, true, length, IfOk, OnOk};
 ghost use Rattle.sftp_wire.specs.Spelling.{uint32, string};
 ghost use Rattle.sftp_treefile.specs.declared.files.Kind.TheVariants.{Dir, First, Further, Link};
-ghost use Rattle.sftp_treefile.specs.TreeFile.{IsTreeFile, owner_text, row_text, spelled};
+ghost use Rattle.sftp_treefile.specs.Limits as spec;
+ghost use Rattle.sftp_treefile.specs.TreeFile.{IsTreeFile, tree_opening, limits_text, owner_text, row_text, spelled};
 ghost use Rattle.sftp_treefile.specs.TreeFileParts.{front_text, root_text, head_text, head_bytes, HasLengths};
 
 use crate::files::{Kind, Owner, Row, TreeFile};
 use crate::heads::Head;
+use crate::limits::{OPENING, OPENING_WITH_LIMITS, TreeLimits};
 use crate::measuring::file_size;
 use sftp_path::NoMemory;
 use std::alloc::Global;
@@ -38,21 +40,63 @@ fn put_owner(out: &mut Vec<u8>, owner: &Owner) -> Result<(), NoMemory>
     Ok(())
 }
 
-/// Appends the opening, the home, and who owns what is made with no owner given.
-fn put_front(out: &mut Vec<u8>, home: &[u8], uid: u32, gid: u32) -> Result<(), NoMemory>
-    requires { length home.now < 2 ^ 32 }
-    ensures { OnOk result (out.new.items ≡ out.old.items ++ front_text home.now uid gid) }
+/// Appends the opening of a file that has limits, or of one that has none.
+fn put_opening(out: &mut Vec<u8>, has_limits: bool) -> Result<(), NoMemory>
+    ensures { OnOk result (out.new.items ≡ out.old.items ++ tree_opening has_limits) }
 {
-    out.extend_from_slice(b"SFTREE01")?;
+    let opening = if has_limits {
+        OPENING_WITH_LIMITS
+    } else {
+        OPENING
+    };
+    out.extend_from_slice(opening)?;
+    Ok(())
+}
+
+/// Appends the opening, the home, and who owns what is made with no owner given. `has_limits` says whether limits are
+/// to follow.
+fn put_front(
+    out: &mut Vec<u8>,
+    has_limits: bool,
+    home: &[u8],
+    uid: u32,
+    gid: u32,
+) -> Result<(), NoMemory>
+    requires { length home.now < 2 ^ 32 }
+    ensures { OnOk result (out.new.items ≡ out.old.items ++ front_text has_limits home.now uid gid) }
+{
+    put_opening(out, has_limits)?;
     put_string(out, home)?;
     put_number(out, uid)?;
     put_number(out, gid)?;
     Ok(())
 }
 
+/// Appends the four limits.
+fn put_four_limits(out: &mut Vec<u8>, limits: TreeLimits) -> Result<(), NoMemory>
+    ensures { OnOk result (out.new.items ≡ out.old.items ++ limits_text true limits) }
+{
+    put_number(out, limits.entries)?;
+    put_number(out, limits.file_bytes)?;
+    put_number(out, limits.read_bytes)?;
+    put_number(out, limits.open_handles)?;
+    Ok(())
+}
+
+/// Appends the limits, unless they are all the usual ones.
+fn put_limits(out: &mut Vec<u8>, limits: TreeLimits) -> Result<(), NoMemory>
+    ensures { OnOk result (out.new.items ≡ out.old.items ++ limits_text (spec.are_own limits) limits) }
+{
+    if !limits.are_own() {
+        return Ok(());
+    }
+    put_four_limits(out, limits)?;
+    Ok(())
+}
+
 /// Appends how many entries there are, and who owns the root.
 fn put_root(out: &mut Vec<u8>, count: u32, root: &Owner) -> Result<(), NoMemory>
-    ensures { OnOk result (out.new.items ≡ out.old.items ++ root_text count root.now) }
+    ensures { OnOk result (out.new.items ≡ out.old.items ++ root_text (count, root.now)) }
 {
     put_number(out, count)?;
     put_owner(out, root)?;
@@ -68,7 +112,14 @@ pub fn put_head(out: &mut Vec<u8>, head: &Head) -> Result<(), NoMemory>
     requires { length head.now.home < 2 ^ 32 }
     ensures { OnOk result (out.new.items ≡ out.old.items ++ head_bytes head.now) }
 {
-    put_front(out, head.home.as_slice(), head.uid, head.gid)?;
+    put_front(
+        out,
+        head.limits.are_own(),
+        head.home.as_slice(),
+        head.uid,
+        head.gid,
+    )?;
+    put_limits(out, head.limits)?;
     put_root(out, head.count, &head.root)?;
     Ok(())
 }
@@ -159,7 +210,14 @@ fn put_start(out: &mut Vec<u8>, file: &TreeFile) -> Result<(), NoMemory>
     requires { IsTreeFile file.now }
     ensures { OnOk result (out.new.items ≡ out.old.items ++ head_text file.now) }
 {
-    put_front(out, file.home.as_slice(), file.uid, file.gid)?;
+    put_front(
+        out,
+        file.limits.are_own(),
+        file.home.as_slice(),
+        file.uid,
+        file.gid,
+    )?;
+    put_limits(out, file.limits)?;
     put_root(out, file.rows.as_slice().len() as u32, &file.root)?;
     Ok(())
 }

@@ -1,5 +1,5 @@
 -- Words of the worked examples: bytes in hexadecimal, packets with their bytes, attributes without a field, and the
--- extensions that the server offers.
+-- server's VERSION.
 use Rattle.std.specs.Prelude.{◌≡◌, ◌==◌, nat_lt, not, ℕ, ◌+◌, ◌-◌, ◌*◌, if◌then◌else◌}
 use Rattle.std.specs.Prelude.{List, [], ◌∷◌, length, filter, codes, Some, None, Ok}
 use Rattle.sftp_wire.specs.declared.attributes.Attrs.{Attrs}
@@ -43,12 +43,6 @@ IsAnswered text id answer = IsRow Server (hex text) (Reply (record { id = id; an
 abbrev pub no_attributes : Attrs
 no_attributes = record { size = None; owner = None; permissions = None; times = None; extended = None }
 
--- the extensions that the server offers, each in its version `1`
-abbrev pub server_extensions : List (List ℕ × List ℕ)
-server_extensions =
-    (codes "posix-rename@openssh.com", codes "1") ∷ (codes "hardlink@openssh.com", codes "1")
-    ∷ (codes "fsync@openssh.com", codes "1") ∷ []
-
--- the 97 bytes of the server's VERSION
+-- the 124 bytes of the server's VERSION
 abbrev pub version_bytes : List ℕ
-version_bytes = hex (codes "0000005d 02 00000003 00000018 706f7369782d72656e616d65406f70656e7373682e636f6d 00000001 31 00000014 686172646c696e6b406f70656e7373682e636f6d 00000001 31 00000011 6673796e63406f70656e7373682e636f6d 00000001 31")
+version_bytes = hex (codes "00000078 02 00000003 00000018 706f7369782d72656e616d65406f70656e7373682e636f6d 00000001 31 00000014 686172646c696e6b406f70656e7373682e636f6d 00000001 31 00000011 6673796e63406f70656e7373682e636f6d 00000001 31 00000012 6c696d697473407366747076332e74657374 00000001 31")

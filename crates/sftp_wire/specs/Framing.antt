@@ -64,7 +64,7 @@ outcome_of s (Err fault) =
 abbrev pub next_of : Side → Frames → Result (Option Packet) WireError × Frames
 next_of side s = outcome_of s (told_of side s)
 
--- where memory runs out nothing changes; a fault that was reported before takes no memory
+-- where memory runs out nothing changes; a fault that was reported before allocates nothing
 pub record IsRefused (s : Frames) (given : Result (Option Packet) WireError) (t : Frames) : Type 0 where
   pub no_memory : given ≡ Err NoMemory
   pub no_fault : s.fault ≡ None
@@ -93,7 +93,7 @@ abbrev pub bytes_in : Step → List ℕ
 bytes_in (Push bytes taken) = take taken bytes
 bytes_in (Next side given) = []
 
--- the spelling of the packet that a call returns
+-- the encoding of the packet that a call returns
 abbrev pub bytes_out : Step → List ℕ
 bytes_out (Push bytes taken) = []
 bytes_out (Next side (Ok None)) = []

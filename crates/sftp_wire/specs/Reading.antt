@@ -1,5 +1,5 @@
 -- How packets are read, from left to right and up to the first fault (draft-ietf-secsh-filexfer-02, sections 3 to 8).
--- This is a second definition of the format beside the spelling; that the two agree is proved.
+-- This is a second definition of the format beside the encoding; that the two agree is proved.
 use Rattle.std.specs.Prelude.{◌≡◌, ◌==◌, ◌||◌, nat_lt, ℕ, zero, suc, ◌+◌, Bool, if◌then◌else◌}
 use Rattle.std.specs.Prelude.{List, [], ◌∷◌, ◌++◌, length, take, drop, bytes_eq, Option, Some, None, Result, Ok, Err}
 use Rattle.std.specs.Int.{w32, w64, Width, byte_len, from_be_bytes}
@@ -21,7 +21,7 @@ use Rattle.sftp_wire.specs.declared.packets.Packet.TheVariants.{Init, Version, R
 use Rattle.sftp_wire.specs.declared.packets.Side.{Side}
 use Rattle.sftp_wire.specs.declared.packets.Side.TheVariants.{Client, Server}
 use Rattle.sftp_wire.specs.Spelling.{packet_limit, handle_limit, posix_rename_name, hardlink_name, fsync_name}
-use Rattle.sftp_wire.specs.Spelling.{spelling, side_of, HasSpelling}
+use Rattle.sftp_wire.specs.Spelling.{limits_name, spelling, side_of, HasSpelling}
 
 -- A reader takes a value from the front of the bytes and returns it with the rest, or the first fault.
 abbrev pub Reader : Type 0 → Type 0
@@ -37,6 +37,10 @@ abbrev pub ◌>>=◌ : {A B : Type 0} → Result A Fault → (A → Result B Fau
 -- a reader that always fails
 abbrev pub refuse : {A : Type 0} → Fault → Reader A
 refuse fault bytes = Err fault
+
+-- a value that has no fields
+abbrev pub none_at : {A : Type 0} → A → Reader A
+none_at value bytes = Ok (value, bytes)
 
 abbrev pub one : {A C : Type 0} → Reader A → (A → C) → Reader C
 one first make bytes = do
@@ -189,6 +193,7 @@ extension_data_at name =
     if bytes_eq name posix_rename_name then two string_at string_at asks.PosixRename else
     if bytes_eq name hardlink_name then two string_at string_at asks.Hardlink else
     if bytes_eq name fsync_name then one handle_at asks.Fsync else
+    if bytes_eq name limits_name then none_at asks.Limits else
     one rest_at (asks.Unknown name)
 
 -- an extension: its name, and then its data (draft, section 8)
@@ -278,7 +283,7 @@ IsReading (Err wires.NoMemory) read = Unit {0}
 IsReading (Err wires.TooLong) read = ⊥
 IsReading (Err wires.NotCanonical) read = ⊥
 
--- the bytes begin with the spelling of a packet of that side, which takes `taken` of them
+-- the bytes begin with the encoding of a packet of that side, which takes `taken` of them
 pub record StandsInFront (side : Side) (bytes : List ℕ) (packet : Packet) (taken : ℕ) : Type 0 where
   pub has_spelling : HasSpelling packet
   pub is_sent : side_of packet ≡ side

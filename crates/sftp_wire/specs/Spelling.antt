@@ -1,5 +1,5 @@
 -- How packets are spelled in bytes (draft-ietf-secsh-filexfer-02, sections 3 to 8).
-use Rattle.std.specs.Prelude.{◌≡◌, ℕ, ◌+◌, ◌^◌, ◌<◌, ◌≤◌, Bool, false, List, [], ◌∷◌, ◌++◌, length}
+use Rattle.std.specs.Prelude.{◌≡◌, ℕ, ◌+◌, ◌^◌, ◌<◌, ◌≤◌, Bool, false, List, [], ◌∷◌, ◌++◌, length, map}
 use Rattle.std.specs.Prelude.{codes, bytes_eq, Option, Some, None, IfSome}
 use Rattle.std.specs.Int.{w32, w64, to_be_bytes}
 use Rattle.std.specs.List.{flat_map, list_any, AllByRecursion}
@@ -91,9 +91,21 @@ hardlink_name = codes "hardlink@openssh.com"
 abbrev pub fsync_name : List ℕ
 fsync_name = codes "fsync@openssh.com"
 
+-- and of one that is this profile's own
+abbrev pub limits_name : List ℕ
+limits_name = codes "limits@sftpv3.test"
+
+-- in the order in which the server offers them
+abbrev pub known_extensions : List (List ℕ)
+known_extensions = posix_rename_name ∷ hardlink_name ∷ fsync_name ∷ limits_name ∷ []
+
 -- whether a name is one of these
 abbrev pub is_known_extension : List ℕ → Bool
-is_known_extension name = list_any (bytes_eq name) (posix_rename_name ∷ hardlink_name ∷ fsync_name ∷ [])
+is_known_extension name = list_any (bytes_eq name) known_extensions
+
+-- the extensions that the server offers, each in its version `1`
+abbrev pub server_extensions : List (List ℕ × List ℕ)
+server_extensions = map (λ name. (name, codes "1")) known_extensions
 
 -- ---- packets
 
@@ -121,6 +133,7 @@ ask_parts (asks.Symlink targetpath linkpath) = (20, string targetpath ++ string 
 ask_parts (asks.PosixRename oldpath newpath) = (200, string posix_rename_name ++ (string oldpath ++ string newpath))
 ask_parts (asks.Hardlink oldpath newpath) = (200, string hardlink_name ++ (string oldpath ++ string newpath))
 ask_parts (asks.Fsync handle) = (200, string fsync_name ++ string handle)
+ask_parts asks.Limits = (200, string limits_name)
 ask_parts (asks.Unknown name rest) = (200, string name ++ rest)
 
 -- the type of a reply's packet, and the fields after its id (draft, sections 7 and 8)
@@ -155,7 +168,7 @@ side_of (Version version extensions) = Server
 side_of (Request request) = Client
 side_of (Reply reply) = Server
 
--- ---- which packets have a spelling
+-- ---- which packets have an encoding
 
 -- each number is a byte
 abbrev pub AreBytes : List ℕ → Type 0
@@ -215,6 +228,7 @@ FitsAsk (asks.Symlink targetpath linkpath) = FitsString targetpath × FitsString
 FitsAsk (asks.PosixRename oldpath newpath) = FitsString oldpath × FitsString newpath
 FitsAsk (asks.Hardlink oldpath newpath) = FitsString oldpath × FitsString newpath
 FitsAsk (asks.Fsync handle) = FitsString handle
+FitsAsk asks.Limits = Unit {0}
 FitsAsk (asks.Unknown name rest) = FitsString name × AreBytes rest
 
 abbrev pub FitsAnswer : Answer → Type 0
@@ -273,7 +287,7 @@ hides_extension (Version version extensions) = false
 hides_extension (Request request) = asks_known request.ask
 hides_extension (Reply reply) = false
 
--- A packet has a spelling where each field is in range, the whole and a handle are within their limits, and an
+-- A packet has an encoding where each field is in range, the whole and a handle are within their limits, and an
 -- extension that has a request of its own is written as that. (A whole packet never has fewer than five bytes: its
 -- length and its type.)
 pub record HasSpelling (packet : Packet) : Type 0 where

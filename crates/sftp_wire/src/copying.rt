@@ -127,9 +127,10 @@ fn of_two_strings(ask: &Ask, first: ByteString, second: ByteString) -> Ask
 impl Clone for Ask {
     ghost is_clone = { λ ask copy. copy ≡ ask };
 
-    // Slow to prove, with 22 requests, though only three exits.
+    // Slow to prove, with 23 requests, though only three exits.
     fn clone(&self) -> Result<Ask, AllocError> {
         match self {
+            Ask::Limits => Ok(Ask::Limits),
             Ask::Close { handle: text }
             | Ask::Read { handle: text, .. }
             | Ask::Fstat { handle: text }

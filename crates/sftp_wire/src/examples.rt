@@ -1,18 +1,17 @@
-//! Worked examples: some bytes with the packets that they are read as, and some packets with their spellings, as
+//! Worked examples: some bytes with the packets that they are read as, and some packets with their encodings, as
 //! theorems about the definitions that the contracts of `encode` and `front` name.
 #![tactic(auto, unfolding(crate::specs::Spelling::spelling, crate::specs::Examples::hex, crate::specs::Reading::front_of, crate::specs::Reading::packet_of, crate::specs::Reading::client_packet_at, crate::specs::Reading::server_packet_at, crate::specs::Reading::extension_at, crate::specs::Reading::extension_data_at, crate::specs::Reading::names_at, crate::specs::Reading::name_item_at, crate::specs::Reading::attributes_at, crate::specs::Reading::attribute_fields_at, crate::specs::Reading::counted_pairs_at, crate::specs::Reading::pairs_at, crate::specs::Reading::pair_at, crate::specs::Reading::handle_at, crate::specs::Reading::string_at, crate::specs::Reading::two_uint32_at, crate::specs::Reading::uint64_at, crate::specs::Reading::uint32_at))]
 
 ghost use Rattle.std.specs.Prelude.{◌≡◌, true, [], ◌∷◌, codes};
-ghost use Rattle.sftp_wire.specs.Spelling.{hides_extension};
+ghost use Rattle.sftp_wire.specs.Spelling.{hides_extension, server_extensions};
 ghost use Rattle.sftp_wire.specs.Reading.{front_of};
-ghost use Rattle.sftp_wire.specs.Examples.{hex, IsRow, IsAsked, IsAnswered, no_attributes, server_extensions};
-ghost use Rattle.sftp_wire.specs.Examples.{version_bytes};
+ghost use Rattle.sftp_wire.specs.Examples.{hex, IsRow, IsAsked, IsAnswered, no_attributes, version_bytes};
 
 use crate::errors::Fault;
 use crate::open_flags::OpenFlags;
 use crate::packets::{Answer, Ask, Packet, Side};
 
-/// The first packets of a session: the nine bytes of an INIT of version 3 without extensions, and the 97
+/// The first packets of a session: the nine bytes of an INIT of version 3 without extensions, and the 124
 /// bytes of the server's VERSION.
 pub fn handshake()
     ensures init { IsRow Side.Client (hex (codes "00000005 01 00000003")) (Packet.Init 3 []) }
@@ -77,7 +76,8 @@ pub fn requests_on_handles()
         (Ask.Readdir (hex (codes "00000000"))) }
 {}
 
-/// The extensions that have requests of their own (OpenSSH's PROTOCOL, sections 4.3, 4.5 and 4.6), and an unknown one.
+/// The extensions that have requests of their own (OpenSSH's PROTOCOL, sections 4.3, 4.5 and 4.6, and one of this
+/// profile's own), and an unknown one.
 pub fn extensions()
     ensures posix_rename { IsAsked
         (codes
@@ -89,10 +89,15 @@ pub fn extensions()
     ensures fsync { IsAsked
         (codes "0000001f c8 00000001 00000011 6673796e63406f70656e7373682e636f6d 00000001 68") 1
         (Ask.Fsync (codes "h")) }
+    ensures limits { IsAsked (codes "0000001b c8 00000005 00000012 6c696d697473407366747076332e74657374") 5 Ask.Limits }
+    ensures limits_and_more { front_of Side.Client
+        (hex (codes "0000001c c8 00000005 00000012 6c696d697473407366747076332e74657374 00")) ≡ Err Fault.Trailing }
     ensures unknown { IsAsked (codes "0000000c c8 00000002 00000001 78 6162") 2 (Ask.Unknown (codes "x") (codes "ab")) }
-    // As an unknown extension fsync has no spelling.
+    // As unknown extensions fsync and limits have no encoding.
     ensures hidden { hides_extension
         (Packet.Request (record { id = 2; ask = Ask.Unknown (codes "fsync@openssh.com") [] })) ≡ true }
+    ensures limits_hidden { hides_extension
+        (Packet.Request (record { id = 2; ask = Ask.Unknown (codes "limits@sftpv3.test") [] })) ≡ true }
 {}
 
 /// The replies (draft, sections 7 and 8).

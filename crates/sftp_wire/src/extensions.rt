@@ -1,4 +1,5 @@
-//! The extensions that have requests of their own (OpenSSH's PROTOCOL, sections 4.3, 4.5 and 4.6), by their names.
+//! The extensions that have requests of their own (OpenSSH's PROTOCOL, sections 4.3, 4.5 and 4.6, and one that is this
+//! profile's own), by their names.
 ghost use Rattle.std.specs.Prelude.{◌≡◌};
 ghost use Rattle.sftp_wire.specs.Spelling.{is_known_extension, asks_known, hides_extension};
 
@@ -13,11 +14,14 @@ pub const HARDLINK: &[u8] = b"hardlink@openssh.com";
 /// Flush an open file to storage (OpenSSH's PROTOCOL, section 4.6).
 pub const FSYNC: &[u8] = b"fsync@openssh.com";
 
+/// The limits of the tree. This profile's own.
+pub const LIMITS: &[u8] = b"limits@sftpv3.test";
+
 /// Whether a name is that of such an extension.
 fn is_known(name: &[u8]) -> bool
     ensures { result ≡ is_known_extension name.now }
 {
-    name == POSIX_RENAME || name == HARDLINK || name == FSYNC
+    name == POSIX_RENAME || name == HARDLINK || name == FSYNC || name == LIMITS
 }
 
 fn asks_known(ask: &Ask) -> bool
@@ -45,7 +49,8 @@ fn asks_known(ask: &Ask) -> bool
         | Ask::Symlink { .. }
         | Ask::PosixRename { .. }
         | Ask::Hardlink { .. }
-        | Ask::Fsync { .. } => false,
+        | Ask::Fsync { .. }
+        | Ask::Limits => false,
     }
 }
 

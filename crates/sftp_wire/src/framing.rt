@@ -139,7 +139,7 @@ impl FrameBuf {
         self.place
     }
 
-    /// Takes as many of the bytes as there is room for, and returns how many. It takes no memory.
+    /// Takes as many of the bytes as there is room for, and returns how many. Does not allocate.
     pub fn push(&mut self, bytes: &[u8]) -> usize
         ensures exact { IsStep self.old (Step.Push bytes.now result) self.new }
         // No more bytes are held than a packet may have.
@@ -207,7 +207,7 @@ impl FrameBuf {
     }
 }
 
-/// The law of streams: after any calls on an empty buffer, the spellings of the packets that it returned, and then the
+/// The law of streams: after any calls on an empty buffer, the encodings of the packets that it returned, and then the
 /// bytes that it holds, are the bytes that it took, in their order.
 pub fn streams()
     // The packets returned and the bytes held are the bytes taken.
@@ -227,7 +227,7 @@ pub fn streams()
     ensures fault_takes_none { (s t : Frames) (fault : Fault) (bytes : List ℕ) (taken : ℕ) → s.fault ≡ Some fault
         → IsStep s (Step.Push bytes taken) t
         → (taken ≡ 0) × (t ≡ s) }
-    // `lent` returns the spelling of a packet in front.
+    // `lent` returns the encoding of a packet in front.
     ensures lent { (packet : Packet) (rest : List ℕ) → HasSpelling packet
         → whole_of (spelling packet ++ rest) ≡ Some (spelling packet) }
 {}

@@ -31,6 +31,7 @@ fn asked_handle(ask: &Ask) -> Option<&[u8]>
         | Ask::Symlink { .. }
         | Ask::PosixRename { .. }
         | Ask::Hardlink { .. }
+        | Ask::Limits
         | Ask::Unknown { .. } => None,
     }
 }

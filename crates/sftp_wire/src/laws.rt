@@ -1,9 +1,9 @@
-//! Theorems about spellings, as contracts of functions with empty bodies.
+//! Theorems about encodings, as contracts of functions with empty bodies.
 ghost use Rattle.std.specs.Prelude.{◌≡◌, List, ℕ, ◌++◌};
 ghost use Rattle.sftp_wire.specs.declared.packets.Packet.{Packet};
 ghost use Rattle.sftp_wire.specs.Spelling.{HasSpelling, spelling};
 
-/// No packet's spelling begins another's, of either side: where two equal streams begin with the spellings of two
+/// No packet's encoding begins another's, of either side: where two equal streams begin with the encodings of two
 /// packets, the packets are equal, and so is what follows them. So a stream is cut into packets in one way only.
 pub fn spellings_are_apart()
     ensures { (p q : Packet) (x y : List ℕ) → HasSpelling p → HasSpelling q → spelling p ++ x ≡ spelling q ++ y

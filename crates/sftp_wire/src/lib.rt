@@ -22,7 +22,7 @@ mod writing;
 
 pub use attributes::{AttrFlags, Attrs};
 pub use errors::{Fault, WireError};
-pub use extensions::{FSYNC, HARDLINK, POSIX_RENAME};
+pub use extensions::{FSYNC, HARDLINK, LIMITS, POSIX_RENAME};
 pub use framing::{FrameBuf, streams};
 pub use laws::spellings_are_apart;
 pub use names::{NameItem, Names};

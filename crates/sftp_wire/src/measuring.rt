@@ -9,7 +9,7 @@ ghost use Rattle.sftp_wire.specs.Spelling.{AreBytes, FitsString, FitsTwo, FitsPa
 ghost use Rattle.sftp_wire.specs.Spelling.{FitsNameItem, FitsNames, FitsAsk, FitsAnswer, FitsFields};
 
 use crate::attributes::Attrs;
-use crate::extensions::{FSYNC, HARDLINK, POSIX_RENAME};
+use crate::extensions::{FSYNC, HARDLINK, LIMITS, POSIX_RENAME};
 use crate::names::{NameItem, Names};
 use crate::packets::{Answer, Ask, Packet};
 use crate::strings::{ByteString, Pairs};
@@ -213,6 +213,7 @@ fn asked_length(ask: &Ask) -> usize
             two_strings_length(oldpath, newpath).saturating_add(4 + HARDLINK.len())
         }
         Ask::Fsync { handle } => string_length(handle).saturating_add(4 + FSYNC.len()),
+        Ask::Limits => 4 + LIMITS.len(),
         Ask::Unknown { name, rest } => string_length(name).saturating_add(text_length(rest)),
     }
 }

@@ -32,7 +32,7 @@ impl Model for Names {
 }
 
 impl Names {
-    /// These names, in this order. It takes no memory.
+    /// These names, in this order. Does not allocate.
     pub fn new(names: Vec<NameItem>) -> Names
         ensures { result ≡ names.items }
     {

@@ -175,6 +175,8 @@ pub enum Ask {
     Fsync {
         handle: ByteString,
     },
+    /// The limits of the tree, in an `Extended` answer: an extension of this profile's own, without data.
+    Limits,
     /// Any other extension: its name, and the bytes after it (draft, section 8).
     Unknown {
         name: ByteString,

@@ -8,7 +8,7 @@ ghost use Rattle.sftp_wire.specs.Reading.{request_at, reply_at, extension_data_a
 ghost use Rattle.sftp_wire.specs.Reading.{server_packet_at, packet_at, packet_of, front_of};
 
 use crate::errors::{Fault, ReadError, WireError};
-use crate::extensions::{FSYNC, HARDLINK, POSIX_RENAME};
+use crate::extensions::{FSYNC, HARDLINK, LIMITS, POSIX_RENAME};
 use crate::fields::{attributes, handle, long_number, names, number, pairs_to_end, rest, string};
 use crate::packets::{
     ATTRS, Answer, Ask, CLOSE, DATA, EXTENDED, EXTENDED_REPLY, FSETSTAT, FSTAT, HANDLE, INIT,
@@ -278,6 +278,9 @@ fn extension_data(alloc: Global, name: ByteString, body: &mut &[u8]) -> Result<A
     }
     if name.as_slice() == FSYNC {
         return fsync(alloc, body);
+    }
+    if name.as_slice() == LIMITS {
+        return Ok(Ask::Limits);
     }
     unknown(alloc, name, body)
 }

@@ -20,7 +20,7 @@ impl Model for ByteString {
 }
 
 impl ByteString {
-    /// The byte string of these bytes. It takes no memory.
+    /// The byte string of these bytes. Does not allocate.
     pub fn new(bytes: Vec<u8>) -> ByteString
         ensures { result ≡ bytes.items }
     {
@@ -83,7 +83,7 @@ impl Model for Pairs {
 }
 
 impl Pairs {
-    /// These pairs, in this order. It takes no memory.
+    /// These pairs, in this order. Does not allocate.
     pub fn new(pairs: Vec<(ByteString, ByteString)>) -> Pairs
         ensures { result ≡ pairs.items }
     {

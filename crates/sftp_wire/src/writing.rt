@@ -9,7 +9,7 @@ ghost use Rattle.sftp_wire.specs.Writing.{Extends, IsTooLong, IsNotCanonical};
 
 use crate::attributes::{AttrFlags, Attrs};
 use crate::errors::WireError;
-use crate::extensions::{FSYNC, HARDLINK, POSIX_RENAME, hides_extension};
+use crate::extensions::{FSYNC, HARDLINK, LIMITS, POSIX_RENAME, hides_extension};
 use crate::handles::has_long_handle;
 use crate::measuring::contents_length;
 use crate::names::{NameItem, Names};
@@ -392,8 +392,11 @@ fn asked_type(ask: &Ask) -> u8
         Ask::Rename { .. } => RENAME,
         Ask::Readlink { .. } => READLINK,
         Ask::Symlink { .. } => SYMLINK,
-        Ask::PosixRename { .. } | Ask::Hardlink { .. } | Ask::Fsync { .. } | Ask::Unknown { .. } =>
-            EXTENDED,
+        Ask::PosixRename { .. }
+        | Ask::Hardlink { .. }
+        | Ask::Fsync { .. }
+        | Ask::Limits
+        | Ask::Unknown { .. } => EXTENDED,
     }
 }
 
@@ -447,6 +450,7 @@ fn put_ask_fields(out: &mut Vec<u8>, ask: &Ask) -> Result<(), AllocError>
             put_two_paths_extension(out, HARDLINK, oldpath, newpath)
         }
         Ask::Fsync { handle } => put_handle_extension(out, FSYNC, handle),
+        Ask::Limits => put_bytes(out, LIMITS),
         Ask::Unknown { name, rest } => put_unknown(out, name, rest),
     }
 }
@@ -534,14 +538,14 @@ fn put_packet(out: &mut Vec<u8>, size: u32, packet: &Packet) -> Result<(), Alloc
     Ok(())
 }
 
-/// Appends the packet's one spelling (draft, sections 3 to 8). After an error the bytes are as before.
+/// Appends the packet's one encoding (draft, sections 3 to 8). On error `out` is unchanged.
 ///
 /// # Errors
 ///
 /// In this order: `TooLong` exactly where the whole packet would have more than `PACKET_LIMIT` bytes or its handle has
 /// more than `HANDLE_LIMIT`; `NotCanonical` exactly where an `Unknown` has the name of an extension that has a request
-/// of its own; `NoMemory` if memory runs out. The first two are checked before any memory is taken, so `NoMemory`
-/// comes only for a packet that has a spelling.
+/// of its own; `NoMemory` if memory runs out. The first two are checked before memory is allocated, so `NoMemory`
+/// comes only for a packet that has an encoding.
 #[tactic(auto, unfolding(crate::specs::Spelling::spelling))]
 pub fn encode(packet: &Packet, out: &mut Vec<u8>) -> Result<(), WireError>
     ensures ok { OnOk result (out.new.items ≡ out.old.items ++ spelling packet.now) }

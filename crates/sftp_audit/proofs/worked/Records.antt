@@ -5,13 +5,15 @@ use Rattle.std.specs.List.{list_all, flat_map, AllByRecursion}
 use Rattle.std.proofs.lemmas.Bool.{and_parts}
 use Rattle.std.proofs.lemmas.List.{append-nil}
 use Rattle.sftp_wire.specs.declared.packets.Packet.TheVariants.{Init, Version}
-use Rattle.sftp_wire.specs.Spelling.{spelling, packet_limit, AreBytes, FitsString, FitsPair, FitsAttrs, HasSpelling}
-use Rattle.sftp_wire.specs.Examples.{hex, no_attributes, server_extensions}
+use Rattle.sftp_wire.specs.Spelling.{spelling, packet_limit, server_extensions, AreBytes, FitsString, FitsPair}
+use Rattle.sftp_wire.specs.Spelling.{FitsAttrs, HasSpelling}
+use Rattle.sftp_wire.specs.Examples.{hex, no_attributes}
 use Rattle.sftp_transcript.specs.declared.events.Event.{Event}
 use Rattle.sftp_transcript.specs.Transcript.{IsEvent, IsRecord, event_record, transcript_opening, packet_of}
 use Rattle.sftp_transcript.specs.Begun.{BeginsRecord}
 use Rattle.sftp_transcript.specs.Examples.{mkdir, rmdir, status, handshake_bytes}
 use Rattle.sftp_audit.specs.Examples.{backward_replies, backward_replies_bytes, removal_done_bytes}
+use Rattle.sftp_audit.specs.Examples.{limits_session, usual_limits_told, limits_bytes}
 
 bytes_by : (bytes : List ℕ) → IsTrue (list_all (λ b. nat_lt b 256) bytes) → AreBytes bytes
 bytes_by [] is = tt
@@ -51,7 +53,10 @@ extensions_fit = (
   (string_by (codes "posix-rename@openssh.com") refl (lit< tt), one),
   (
     (string_by (codes "hardlink@openssh.com") refl (lit< tt), one),
-    ((string_by (codes "fsync@openssh.com") refl (lit< tt), one), tt),
+    (
+      (string_by (codes "fsync@openssh.com") refl (lit< tt), one),
+      ((string_by (codes "limits@sftpv3.test") refl (lit< tt), one), tt),
+    ),
   ),
 )
 
@@ -137,6 +142,20 @@ removal_done_is = refl
 removal_done_recorded : IsRecord (backward_replies 0) removal_done_bytes
 removal_done_recorded =
     recorded_by (backward_replies 0) removal_done_bytes (backward_spelled 0 success_spelled) removal_done_is
+
+limits_spelled : AllByRecursion IsEvent (limits_session usual_limits_told)
+unfolding spelling hex
+limits_spelled = (
+  record { fields = (lit< tt, tt); whole = lit≤ tt; handle = tt; canonical = refl },
+  (record { fields = (lit< tt, bytes_by usual_limits_told refl); whole = lit≤ tt; handle = tt; canonical = refl }, tt),
+)
+
+limits_are : limits_bytes ≡ transcript_opening ++ opened_with (flat_map event_record (limits_session usual_limits_told))
+unfolding spelling hex
+limits_are = refl
+
+pub limits_recorded : IsRecord (limits_session usual_limits_told) limits_bytes
+limits_recorded = recorded_by (limits_session usual_limits_told) limits_bytes limits_spelled limits_are
 
 -- a file that records events begins with them, and nothing follows
 begins_all : (events : List Event) (bytes : List ℕ) → IsRecord events bytes → BeginsRecord events bytes []

@@ -3,6 +3,7 @@ use Rattle.std.proofs.Common.{◌≡◌, [], refl, sym, ◌∙◌}
 use Rattle.sftp_wire.specs.Examples.{hex}
 use Rattle.sftp_path.specs.Place.{parts, components, is_good_path}
 use Rattle.sftp_path.specs.Table.{retain, get, put, without}
+use Rattle.sftp_treefile.specs.Limits.{are_own}
 use Rattle.sftp_treefile.specs.TreeFile.{spelled}
 use Rattle.sftp_tree.specs.Tree.{has_entries, fits}
 use Rattle.sftp_tree.specs.Walk.{meets, walk, walk_parts, reached}
@@ -37,7 +38,7 @@ backwards =
     explained_by blank (backward_replies 4) with_a_and_b (refl, (refl, (refl, (refl, (refl, (refl, tt)))))) refl refl
 
 pub backwards_picture : picture with_a_and_b ≡ with_a_and_b_bytes
-unfolding picture spelled get hex
+unfolding picture spelled are_own get hex
 backwards_picture = refl
 
 -- the removal would have to succeed after what came before it in the order asked

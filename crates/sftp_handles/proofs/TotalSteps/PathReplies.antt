@@ -1,6 +1,6 @@
 -- What the replies to requests on paths say fits a reply.
-use Rattle.std.proofs.Common.{◌≡◌, nat_le, ℕ, ◌+◌, true, false, List, length, Option, Some, None, Result}
-use Rattle.std.proofs.Common.{Ok, Err, is_some, refl, ap, sym, subst, ◌∙◌, arith, IsTrue, leb-true}
+use Rattle.std.proofs.Common.{◌≡◌, ℕ, ◌+◌, true, false, List, length, Option, Some, None, Result}
+use Rattle.std.proofs.Common.{Ok, Err, is_some, refl, sym, subst, arith, IsTrue, leb-true}
 use Rattle.std.specs.Option.{option_map}
 use Rattle.std.proofs.lemmas.Option.{same_Some}
 use Rattle.sftp_wire.specs.declared.attributes.Attrs.{Attrs}
@@ -9,14 +9,13 @@ use Rattle.sftp_wire.specs.declared.packets.Ask.TheVariants.{Stat, Lstat, Realpa
 use Rattle.sftp_path.specs.Place.{Place, place_cmp}
 use Rattle.sftp_path.specs.Table.{size}
 use Rattle.sftp_path.proofs.Order.{place_cmp-same}
-use Rattle.sftp_treefile.specs.declared.limits.TreeLimits.{TreeLimits}
 use Rattle.sftp_treefile.specs.TreeFile.{are_bytes}
 use Rattle.sftp_tree.specs.declared.causes.Cause.{Cause}
 use Rattle.sftp_tree.specs.declared.causes.Cause.TheVariants.{NoEntry, NotLink}
 use Rattle.sftp_tree.specs.declared.file_contents.Content.{Content}
 use Rattle.sftp_tree.specs.declared.nodes.Node.{Node}
 use Rattle.sftp_tree.specs.declared.nodes.Node.TheVariants.{Dir, File, Link}
-use Rattle.sftp_tree.specs.Tree.{Tree, IsKept, IsNode, node_at, content_at, link_fits}
+use Rattle.sftp_tree.specs.Tree.{Tree, IsKept, IsNode, node_at, content_at, link_fits, limits}
 use Rattle.sftp_tree.specs.Walk.{reached}
 use Rattle.sftp_tree.specs.Attributes.{said, shown, shown_content}
 use Rattle.sftp_tree.specs.Causes.{no_causes, when}
@@ -150,8 +149,8 @@ module _ (s : State) (good : Good s) where
 
   pub handles-fit : has_handle_left s ≡ true → FitsSaid (opens s.handles)
   handles-fit room =
-      let few : nat_le (size s.handles + 1) 256 ≡ true =
-      ap (λ (bounds : TreeLimits). nat_le (size s.handles + 1) bounds.open_handles) (sym good.tree.well_formed.limits)
-      ∙ room in
-      let less = leb-true (size s.handles + 1) 256 few in
-      record { ordered = good.ordered; few = omega (arith, less) }
+      let less = leb-true (size s.handles + 1) (limits s.tree).open_handles room in
+      record {
+        ordered = good.ordered;
+        few = omega (arith, less, good.tree.well_formed.limits.open_handles.1);
+      }

@@ -1,8 +1,10 @@
 -- How long names and the texts of places are, and that they are bytes.
-use Rattle.std.proofs.Common.{◌≡◌, ◌&&◌, not, nat_lt, ◌==◌, ℕ, ◌+◌, ◌-◌, ◌*◌, ◌≤◌, true, List, [], ◌∷◌, ◌++◌, length}
-use Rattle.std.proofs.Common.{Option, Some, None, refl, IsTrue, arith, ltb-true, leb-true, lit<}
+use Rattle.std.proofs.Common.{◌≡◌, ◌&&◌, not, nat_lt, ◌==◌, ℕ, zero, suc, ◌+◌, ◌-◌, ◌*◌, ◌/◌, ◌^◌, ◌<◌, ◌≤◌, true, List}
+use Rattle.std.proofs.Common.{[], ◌∷◌, ◌++◌, length, Option, Some, None, refl, IsTrue, arith, ltb-true, leb-true, lit<}
 use Rattle.std.proofs.lemmas.Bool.{and_parts}
+use Rattle.std.specs.Int.{byte_at, bytes_high_first}
 use Rattle.std.specs.List.{list_all, flat_map}
+use Rattle.std.proofs.Math.Nat.{mod-lt}
 use Rattle.std.proofs.lemmas.List.{length-append, length-take}
 use Rattle.sftp_wire.specs.Spelling.{AreBytes, FitsString}
 use Rattle.sftp_path.specs.Place.{Name, Place, place_cmp, parent, absolute, are_names, is_name, is_name_byte}
@@ -25,6 +27,15 @@ bytes-by (b ∷ bytes) is =
 pub bytes-joined : (xs ys : List ℕ) → AreBytes xs → AreBytes ys → AreBytes (xs ++ ys)
 bytes-joined [] ys all rest = rest
 bytes-joined (x ∷ xs) ys all rest = (all.0, bytes-joined xs ys all.1 rest)
+
+byte-small : (i n : ℕ) → byte_at i n < 256
+byte-small zero n = mod-lt n (omega arith)
+byte-small (suc i) n = mod-lt (n / 256 ^ suc i) (omega arith)
+
+-- the bytes of a number
+pub number-bytes : (count n : ℕ) → AreBytes (bytes_high_first count n)
+number-bytes zero n = tt
+number-bytes (suc count) n = (byte-small count n, number-bytes count n)
 
 name-bytes : (name : List ℕ) → list_all is_name_byte name ≡ true → AreBytes name
 name-bytes [] is = tt

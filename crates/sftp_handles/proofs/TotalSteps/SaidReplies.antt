@@ -13,20 +13,23 @@ use Rattle.sftp_wire.specs.declared.packets.Answer.{Answer}
 use Rattle.sftp_wire.specs.declared.packets.Answer.TheVariants as replies
 use Rattle.sftp_wire.specs.declared.packets.Packet.TheVariants.{Reply as reply_packet}
 use Rattle.sftp_wire.specs.declared.packets.Reply.{Reply}
-use Rattle.sftp_wire.specs.Spelling.{spelling, string, attributes, AreBytes, FitsString, FitsAttrs, HasSpelling}
-use Rattle.sftp_wire.specs.Spelling.{handle_limit}
+use Rattle.sftp_wire.specs.Spelling.{spelling, string, uint32, uint64, attributes, AreBytes, FitsString, FitsAttrs}
+use Rattle.sftp_wire.specs.Spelling.{HasSpelling, packet_limit, handle_limit}
 use Rattle.sftp_wire.specs.Examples.{no_attributes}
+use Rattle.sftp_treefile.specs.declared.limits.TreeLimits.{TreeLimits}
+use Rattle.sftp_treefile.specs.Limits.{highest_limits}
 use Rattle.sftp_path.specs.Place.{Name, bytes_cmp, name_cmp}
 use Rattle.sftp_path.specs.Table.{InOrder, get, size}
 use Rattle.sftp_path.proofs.Table.Laws.{get-cons}
 use Rattle.sftp_tree.specs.Attributes.{said}
 use Rattle.sftp_handles.specs.Handles.{Left, Handles, open_at, is_open}
 use Rattle.sftp_handles.specs.State.{IsItem, is_plain}
-use Rattle.sftp_handles.specs.Replies.{Said, ok, shows, names, gives, ended, lists, opens, says, same_attributes}
-use Rattle.sftp_handles.specs.Replies.{is_left, has_attributes}
-use Rattle.sftp_handles.specs.Fitting.{FitsSaid}
-use Rattle.sftp_handles.proofs.TotalSteps.PlaceTexts.{name-parts}
-use Rattle.sftp_handles.proofs.TotalSteps.NewHandles.{zeros, zeros-bytes, zeros-length, name-left}
+use Rattle.sftp_handles.specs.Replies.{Said, ok, shows, names, gives, ended, lists, opens, extends, says}
+use Rattle.sftp_handles.specs.Replies.{same_attributes, is_left, has_attributes}
+use Rattle.sftp_handles.specs.Requests.{limits_data}
+use Rattle.sftp_handles.specs.Fitting.{FitsSaid, FitsData}
+use Rattle.sftp_handles.proofs.TotalSteps.PlaceTexts.{name-parts, bytes-joined, number-bytes}
+use Rattle.sftp_handles.proofs.TotalSteps.NewHandles.{name-left}
 
 abbrev pub reply_of : ℕ → Answer → Reply
 reply_of id answer = record { id = id; answer = answer }
@@ -224,19 +227,66 @@ pub data-length : (id : ℕ) (bytes : List ℕ)
 unfolding spelling
 data-length id bytes = omega arith
 
-data-sayable : (id : ℕ) (bytes : List ℕ) → id < 2 ^ 32 → AreBytes bytes → length bytes ≤ 32768
-    → IsSayable id (gives bytes)
-data-sayable id bytes small are few = record {
+data-sayable : (id : ℕ) (bytes : List ℕ) → id < 2 ^ 32 → FitsData bytes → IsSayable id (gives bytes)
+data-sayable id bytes small fits = record {
   answer = replies.Data bytes;
   says = nat_list_eq_equiv.refl bytes;
   spelled =
       record {
-        fields = (small, record { bytes_fit = are; length_fits = omega (arith, few) });
-        whole = omega (arith, data-length id bytes, few);
+        fields = (small, fits.string);
+        whole = omega (arith, data-length id bytes, fits.short);
         handle = tt;
         canonical = refl;
       };
 }
+
+-- ---- the data of an extension's reply
+
+extended-length : (id : ℕ) (bytes : List ℕ)
+    → length (spelling (reply_packet (reply_of id (replies.Extended bytes)))) ≡ 9 + length bytes
+unfolding spelling
+extended-length id bytes = omega arith
+
+pub extended-spelled : (id : ℕ) (bytes : List ℕ) → id < 2 ^ 32 → FitsData bytes
+    → HasSpelling (reply_packet (reply_of id (replies.Extended bytes)))
+extended-spelled id bytes small fits = record {
+  fields = (small, fits.string.bytes_fit);
+  whole = omega (arith, extended-length id bytes, fits.short);
+  handle = tt;
+  canonical = refl;
+}
+
+extended-sayable : (id : ℕ) (bytes : List ℕ) → id < 2 ^ 32 → FitsData bytes → IsSayable id (extends bytes)
+extended-sayable id bytes small fits = record {
+  answer = replies.Extended bytes;
+  says = nat_list_eq_equiv.refl bytes;
+  spelled = extended-spelled id bytes small fits;
+}
+
+-- ---- the limits
+
+limits-bytes : (bounds : TreeLimits) → AreBytes (limits_data bounds)
+unfolding limits_data
+limits-bytes bounds =
+    bytes-joined (uint64 packet_limit)
+    (uint64 bounds.read_bytes ++ (uint64 bounds.read_bytes ++ uint64 bounds.open_handles))
+    (number-bytes 8 packet_limit)
+    (bytes-joined (uint64 bounds.read_bytes) (uint64 bounds.read_bytes ++ uint64 bounds.open_handles)
+    (number-bytes 8 bounds.read_bytes)
+    (bytes-joined (uint64 bounds.read_bytes) (uint64 bounds.open_handles) (number-bytes 8 bounds.read_bytes)
+    (number-bytes 8 bounds.open_handles)))
+
+limits-length : (bounds : TreeLimits) → length (limits_data bounds) ≡ 32
+unfolding limits_data
+limits-length bounds = refl
+
+pub limits-fit : (bounds : TreeLimits) → FitsData (limits_data bounds)
+limits-fit bounds =
+    let count = limits-length bounds in
+    record {
+      string = record { bytes_fit = limits-bytes bounds; length_fits = omega (arith, count) };
+      short = omega (arith, count);
+    }
 
 -- ---- a new handle
 
@@ -265,12 +315,11 @@ handle-sayable id handles handle small are short absent = record {
       };
 }
 
-new-sayable : (id : ℕ) (handles : Handles) → id < 2 ^ 32 → InOrder bytes_cmp handles → size handles < 256
-    → IsSayable id (opens handles)
+new-sayable : (id : ℕ) (handles : Handles) → id < 2 ^ 32 → InOrder bytes_cmp handles
+    → size handles < highest_limits.open_handles → IsSayable id (opens handles)
 new-sayable id handles small order few =
-    let free = name-left 256 handles order few in
-    handle-sayable id handles (zeros free.count) small (zeros-bytes free.count)
-    (omega (arith, free.few, zeros-length free.count)) free.absent
+    let free = name-left highest_limits.open_handles handles (omega arith) order few in
+    handle-sayable id handles (uint32 free.count) small (number-bytes 4 free.count) (lit≤ tt) free.absent
 
 -- ---- what fits
 
@@ -280,8 +329,9 @@ fits-sayable id (shows None) small fits = absurd fits
 fits-sayable id (shows (Some attrs)) small fits = attributes-sayable id attrs small fits.0 fits.1
 fits-sayable id (names None) small fits = absurd fits
 fits-sayable id (names (Some text)) small fits = name-sayable id text small fits.string (omega (arith, fits.short))
-fits-sayable id (gives bytes) small fits = data-sayable id bytes small fits.string.bytes_fit fits.short
+fits-sayable id (gives bytes) small fits = data-sayable id bytes small fits
 fits-sayable id ended small fits = ended-sayable id small
 fits-sayable id (lists []) small fits = absurd fits
 fits-sayable id (lists (e ∷ es)) small fits = listing-sayable id e.0 e.1 es small fits
 fits-sayable id (opens handles) small fits = new-sayable id handles small fits.ordered fits.few
+fits-sayable id (extends bytes) small fits = extended-sayable id bytes small fits

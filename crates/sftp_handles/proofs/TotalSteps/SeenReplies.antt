@@ -1,6 +1,6 @@
 -- What the replies to requests through handles say fits a reply.
 use Rattle.std.proofs.Common.{◌≡◌, nat_lt, ℕ, zero, suc, ◌≤◌, Bool, true, false, if◌then◌else◌, min, List, []}
-use Rattle.std.proofs.Common.{◌∷◌, length, take, drop, Option, Some, None, refl, ap, IsTrue, arith}
+use Rattle.std.proofs.Common.{◌∷◌, length, take, drop, Option, Some, None, refl, IsTrue, arith}
 use Rattle.std.specs.Ordering.{nat_cmp}
 use Rattle.std.specs.FinMap.{nat_cmp-IsAntisymmetric}
 use Rattle.std.proofs.lemmas.List.{length-take}
@@ -10,8 +10,7 @@ use Rattle.sftp_wire.specs.declared.packets.Ask.TheVariants.{Read, Fstat}
 use Rattle.sftp_wire.specs.Spelling.{AreBytes}
 use Rattle.sftp_path.specs.Place.{bytes_cmp}
 use Rattle.sftp_path.proofs.Order.{bytes_cmp-same}
-use Rattle.sftp_treefile.specs.declared.limits.TreeLimits.{TreeLimits}
-use Rattle.sftp_treefile.specs.Limits.{usual_limits}
+use Rattle.sftp_treefile.specs.Limits.{highest_limits}
 use Rattle.sftp_treefile.specs.TreeFile.{are_bytes}
 use Rattle.sftp_tree.specs.declared.file_contents.Content.{Content}
 use Rattle.sftp_tree.specs.Tree.{IsContent, content_at, limits}
@@ -42,8 +41,8 @@ pub few-taken : (len limit : ℕ) (bytes : List ℕ) → length (take (min len l
 few-taken len limit bytes = omega (arith, length-take (min len limit) bytes)
 
 module _ (s : State) (good : Good s) where
-  read-limit : (limits s.tree).read_bytes ≡ usual_limits.read_bytes
-  read-limit = ap (λ (bounds : TreeLimits). bounds.read_bytes) good.tree.well_formed.limits
+  read-limit : (limits s.tree).read_bytes ≤ highest_limits.read_bytes
+  read-limit = good.tree.well_formed.limits.read_bytes.1
 
   data-fits : (offset len : ℕ) (bytes : List ℕ) → IsTrue (are_bytes bytes)
       → FitsData (bytes_at (limits s.tree) offset len bytes)

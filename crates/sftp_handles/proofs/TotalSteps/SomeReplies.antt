@@ -9,6 +9,7 @@ use Rattle.sftp_wire.specs.Spelling.{asked_handle}
 use Rattle.sftp_treefile.specs.TreeFile.{are_bytes}
 use Rattle.sftp_tree.specs.declared.causes.Cause.{Cause}
 use Rattle.sftp_tree.specs.declared.causes.Cause.TheVariants.{NoEntry, NotDir, Loop, Unknown}
+use Rattle.sftp_tree.specs.Tree.{limits}
 use Rattle.sftp_tree.specs.Causes.{CauseSet, every_cause, allows, is_none}
 use Rattle.sftp_tree.specs.Requests.{path_of}
 use Rattle.sftp_tree.specs.Requests as paths
@@ -18,7 +19,7 @@ use Rattle.sftp_handles.specs.Requests.{causes, answers, after, said_to}
 use Rattle.sftp_handles.specs.Fitting.{FitsSaid}
 use Rattle.sftp_handles.specs.Laws.{IsAskable, IsAnswerable}
 use Rattle.sftp_handles.proofs.GoodSteps.{room-of}
-use Rattle.sftp_handles.proofs.TotalSteps.SaidReplies.{reply_of, status_of, status-spelled, fits-sayable}
+use Rattle.sftp_handles.proofs.TotalSteps.SaidReplies.{reply_of, status_of, status-spelled, limits-fit, fits-sayable}
 use Rattle.sftp_handles.proofs.TotalSteps.SeenReplies.{seen-fits}
 use Rattle.sftp_handles.proofs.TotalSteps.PathReplies.{path-fits, stat-fits, lstat-fits, target-fits, place-fits}
 use Rattle.sftp_handles.proofs.TotalSteps.PathReplies.{handles-fit}
@@ -125,6 +126,7 @@ said-fits paths-lead s (asks.Readlink path) good bytes free =
     path-fits s good (asks.Readlink path) (λ place. target-fits s good path place free)
 said-fits paths-lead s (asks.Realpath path) good bytes free =
     path-fits s good (asks.Realpath path) (λ place. place-fits s good paths-lead path place bytes)
+said-fits paths-lead s asks.Limits good bytes free = limits-fit (limits s.tree)
 said-fits paths-lead s other good bytes free = path-fits s good other (λ place leads. tt)
 
 pub some-allowed : PathsLeadWell → (s : State) (request : Request) → Good s → IsAskable request

@@ -5,7 +5,7 @@ use Rattle.std.specs.List.{flat_map}
 use Rattle.sftp_wire.specs.declared.packets.Packet.{Packet}
 use Rattle.sftp_wire.specs.declared.packets.Packet.TheVariants.{Init, Version, Request as request_packet}
 use Rattle.sftp_wire.specs.declared.packets.Packet.TheVariants.{Reply as reply_packet}
-use Rattle.sftp_wire.specs.Spelling.{HasSpelling, posix_rename_name, hardlink_name, fsync_name}
+use Rattle.sftp_wire.specs.Spelling.{HasSpelling, server_extensions}
 use Rattle.sftp_transcript.specs.declared.events.Event.{Event}
 use Rattle.sftp_transcript.specs.Transcript.{packet_of, record_text, event_record}
 use Rattle.sftp_transcript.specs.Transcript.{IsRecord}
@@ -42,7 +42,7 @@ log-is-transcript input output log init events rest opened =
       handshake = record {
         version = parts.version;
         asked = parts.extensions;
-        told = (posix_rename_name, codes "1") ∷ (hardlink_name, codes "1") ∷ (fsync_name, codes "1") ∷ [];
+        told = server_extensions;
         high_enough = parts.high_enough;
         init = subst HasSpelling parts.init_is opened.greeting.1;
         answer = version-spelled;

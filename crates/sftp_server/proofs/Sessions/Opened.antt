@@ -11,7 +11,7 @@ use Rattle.sftp_wire.specs.declared.packets.Packet.TheVariants.{Init, Version, R
 use Rattle.sftp_wire.specs.declared.packets.Side.{Side}
 use Rattle.sftp_wire.specs.declared.packets.Side.TheVariants.{Client, Server}
 use Rattle.sftp_wire.specs.Spelling.{spelling, side_of, HasSpelling, FitsString}
-use Rattle.sftp_wire.specs.Spelling.{posix_rename_name, hardlink_name, fsync_name}
+use Rattle.sftp_wire.specs.Spelling.{posix_rename_name, hardlink_name, fsync_name, limits_name}
 use Rattle.sftp_wire.specs.Reading.{front_of, StandsInFront}
 use Rattle.sftp_wire.specs.Framing.{place_after}
 use Rattle.sftp_wire.proofs.StreamLaws.Front.{none-leaves_room}
@@ -337,7 +337,10 @@ version-spelled =
           (record { bytes_fit = bytes-by posix_rename_name refl; length_fits = lit< tt }, one-fits),
           (
             (record { bytes_fit = bytes-by hardlink_name refl; length_fits = lit< tt }, one-fits),
-            ((record { bytes_fit = bytes-by fsync_name refl; length_fits = lit< tt }, one-fits), tt),
+            (
+              (record { bytes_fit = bytes-by fsync_name refl; length_fits = lit< tt }, one-fits),
+              ((record { bytes_fit = bytes-by limits_name refl; length_fits = lit< tt }, one-fits), tt),
+            ),
           ),
         ),
       );

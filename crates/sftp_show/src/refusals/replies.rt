@@ -124,7 +124,7 @@ fn put_found<O: Write>(
     Ok(())
 }
 
-/// Writes which names the listing of a handle still has to give, and the first name of the answer that is wrong.
+/// Writes the remaining entries of a handle's listing, and the first name of the answer that is wrong.
 fn put_listing<T: HandleTable, O: Write>(
     alloc: Global,
     session: &Session<T>,
@@ -158,7 +158,7 @@ fn put_left<T: HandleTable, O: Write>(
     }
 }
 
-/// Writes the first of the `count` names that a listing still has to give.
+/// Writes the first of the `count` remaining entries of a listing.
 fn put_names_left<T: HandleTable, O: Write>(
     session: &Session<T>,
     handle: &[u8],
@@ -185,7 +185,7 @@ fn put_first_names<O: Write>(
     Ok(())
 }
 
-/// Names that a listing still has to give, the first ones, and how many they all are.
+/// The first of the remaining entries of a listing, and how many all are.
 #[derive(Clone, Copy)]
 struct NamesLeft<'a> {
     names: &'a [ByteString],

@@ -1,5 +1,6 @@
 //! Which requests of a queue are ready, compared with the definition: a pending request is ready if no earlier pending
-//! one clashes with it in the present state, where READs and WRITEs of one file whose ranges do not meet do not clash.
+//! one conflicts with it in the present state, where READs and WRITEs of one file whose ranges do not meet do not
+//! conflict.
 //!
 //! A letter names a request: `r` READ, `w` WRITE, `e` empty WRITE, `a` WRITE with APPEND, `m` READ or WRITE up to
 //! 2^64 - 1 or past it, `s` FSETSTAT, `t` FSTAT, `f` fsync, `d` READDIR, `c` CLOSE. It is in upper case if the request
@@ -127,7 +128,7 @@ impl Twins {
         draw.letter(self.session.range(&request.ask).is_some())
     }
 
-    /// Whether the request at this place is pending, and no earlier pending one clashes with it.
+    /// Whether the request at this place is pending, and no earlier pending one conflicts with it.
     fn is_ready(&self, seen: &mut Seen, place: usize) -> bool {
         let Some(later) = self.entries.get(place) else {
             return false;

@@ -13,7 +13,7 @@ const INPUT: &[u8] = b"\0\0\0\x05\x01\0\0\0\x03\0\0\0\x0f\x0e\0\0\0\x01\0\0\0\x0
 const FAULTY: &[u8] =
     b"\0\0\0\x05\x01\0\0\0\x03\0\0\0\x0f\x0e\0\0\0\x01\0\0\0\x02/a\0\0\0\0\0\0\0\0";
 
-/// What is written and logged of that session without a failure: 118 and 158 bytes.
+/// What is written and logged of that session without a failure: 145 and 185 bytes.
 const WRITTEN: &[&[u8]] = &[VERSION, DONE];
 
 const LOGGED: &[&[u8]] = &[b"SFTPTR01C", INIT, b"S", VERSION, b"C", MKDIR, b"S", DONE];
@@ -41,7 +41,7 @@ fn is_front(bytes: &[u8], count: usize, parts: &[&[u8]]) -> bool {
 fn left(end: End, logged: usize) -> &'static [u8] {
     match logged {
         0 if end == READER => &[],
-        0..=135 => BLANK,
+        0..=162 => BLANK,
         _ => WITH_A,
     }
 }
@@ -65,8 +65,8 @@ fn reader_fails(rt: HostRuntime) -> Result<(), Fail> {
     for count in 0..=28 {
         let (written, logged) = match count {
             0..=8 => (0, 0),
-            9..=27 => (97, 116),
-            _ => (118, 158),
+            9..=27 => (124, 143),
+            _ => (145, 185),
         };
         let torn = Input::whole(INPUT.get(..count).unwrap_or(INPUT), true);
         let outcome = over(alloc, torn, Room::ample(alloc), Room::ample(alloc))?;
@@ -84,11 +84,11 @@ fn narrow(alloc: Global, writer: usize, log: usize, size: usize) -> Result<Outco
 
 #[test]
 fn writer_fails(rt: HostRuntime) -> Result<(), Fail> {
-    for count in 0..=118 {
+    for count in 0..=145 {
         let (end, logged) = match count {
-            0..=96 => (WRITER, 18),
-            97..=117 => (WRITER, 136),
-            _ => (End::Finished, 158),
+            0..=123 => (WRITER, 18),
+            124..=144 => (WRITER, 163),
+            _ => (End::Finished, 185),
         };
         for size in [usize::MAX, 1] {
             let outcome = narrow(rt.alloc(), count, usize::MAX, size)?;
@@ -100,12 +100,12 @@ fn writer_fails(rt: HostRuntime) -> Result<(), Fail> {
 
 #[test]
 fn log_fails(rt: HostRuntime) -> Result<(), Fail> {
-    for count in 0..=158 {
+    for count in 0..=185 {
         let (end, written) = match count {
             0..=17 => (LOG, 0),
-            18..=135 => (LOG, 97),
-            136..=157 => (LOG, 118),
-            _ => (End::Finished, 118),
+            18..=162 => (LOG, 124),
+            163..=184 => (LOG, 145),
+            _ => (End::Finished, 145),
         };
         for size in [usize::MAX, 1] {
             let outcome = narrow(rt.alloc(), usize::MAX, count, size)?;
@@ -118,12 +118,12 @@ fn log_fails(rt: HostRuntime) -> Result<(), Fail> {
 #[test]
 fn streams_take_nothing(rt: HostRuntime) -> Result<(), Fail> {
     let alloc = rt.alloc();
-    let full = Room::of(alloc, 100, usize::MAX, false);
+    let full = Room::of(alloc, 127, usize::MAX, false);
     let outcome = over(alloc, Input::whole(INPUT, false), full, Room::ample(alloc))?;
-    assert!(rt; ends(&outcome, WRITER, 100, 136));
+    assert!(rt; ends(&outcome, WRITER, 127, 163));
     let full = Room::of(alloc, 100, usize::MAX, false);
     let outcome = over(alloc, Input::whole(INPUT, false), Room::ample(alloc), full)?;
-    assert!(rt; ends(&outcome, LOG, 97, 100));
+    assert!(rt; ends(&outcome, LOG, 124, 100));
     Ok(())
 }
 
@@ -133,10 +133,10 @@ fn flush_fails(rt: HostRuntime) -> Result<(), Fail> {
     for input in [INPUT, FAULTY] {
         let whole = Input::whole(input, false);
         let writer = over(alloc, whole, Room::stuck(alloc), Room::ample(alloc))?;
-        assert!(rt; ends(&writer, WRITER, 118, 158), "{input:?}");
+        assert!(rt; ends(&writer, WRITER, 145, 185), "{input:?}");
         let whole = Input::whole(input, false);
         let log = over(alloc, whole, Room::ample(alloc), Room::stuck(alloc))?;
-        assert!(rt; ends(&log, LOG, 118, 158), "{input:?}");
+        assert!(rt; ends(&log, LOG, 145, 185), "{input:?}");
     }
     Ok(())
 }

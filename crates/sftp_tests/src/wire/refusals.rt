@@ -63,6 +63,7 @@ const HIDDEN: &[(&[u8], usize, WireError)] = &[
     (b"posix-rename@openssh.com", 5, WireError::NotCanonical),
     (b"hardlink@openssh.com", 5, WireError::NotCanonical),
     (b"fsync@openssh.com", 5, WireError::NotCanonical),
+    (b"limits@sftpv3.test", 0, WireError::NotCanonical),
     (b"fsync@openssh.com", 262_114, WireError::NotCanonical),
     (b"fsync@openssh.com", 262_115, WireError::TooLong),
 ];

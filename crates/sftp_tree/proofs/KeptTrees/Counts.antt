@@ -1,8 +1,8 @@
 -- Trees as the code has them: what a change of the names and of the counts makes of them.
-use Rattle.std.proofs.Common.{rules, ◌≡◌, ℕ, ◌+◌, ◌<◌, ◌≤◌, ◌^◌, true, not, option_map, length, refl, sym, ap, subst, ◌∙◌, arith, Option, Some, None, IfSome, IsTrue, ◌-◌}
+use Rattle.std.proofs.Common.{◌≡◌, ℕ, ◌+◌, ◌<◌, ◌≤◌, ◌^◌, true, not, option_map, length, refl, sym, ap, subst, ◌∙◌, arith, Option, Some, None, IfSome, IsTrue, ◌-◌}
 use Rattle.std.specs.Ordering.{nat_cmp}
 use Rattle.std.specs.List.Sorted.{IsStrictlySortedBy}
-use Rattle.std.proofs.lemmas.Bool.{eq-eqb}
+use Rattle.std.proofs.lemmas.Bool.{eq-eqb, leb-true}
 use Rattle.std.proofs.lemmas.Option.{same_Some}
 use Rattle.std.proofs.lemmas.List.Filters.{length-filter_both}
 use Rattle.std.proofs.lemmas.Map.Made.{keys_of-map_values}
@@ -13,15 +13,16 @@ use Rattle.sftp_path.proofs.Table.Values.{get-with_values}
 use Rattle.sftp_tree.specs.declared.file_contents.Content.{Content}
 use Rattle.sftp_tree.specs.declared.file_contents.Stored.{Stored}
 use Rattle.sftp_tree.specs.declared.nodes.Node.{Node}
-use Rattle.sftp_tree.specs.Tree.{Names, Tree, IsKept, IsContent, is_directory, content_at, fits, node_at, with_node, names_file, times_named, trim, with_content}
+use Rattle.sftp_tree.specs.Tree.{Names, Tree, IsKept, IsContent, is_directory, content_at, node_at, with_node, names_file, times_named, trim, with_content}
 use Rattle.sftp_tree.specs.declared.nodes.Node.TheVariants.{Dir, File}
 use Rattle.sftp_wire.specs.declared.attributes.Attrs.{Attrs}
 use Rattle.sftp_treefile.specs.declared.files.Owner.{Owner}
 use Rattle.sftp_treefile.specs.declared.limits.TreeLimits.{TreeLimits}
-use Rattle.sftp_treefile.specs.Limits.{usual_limits}
+use Rattle.sftp_treefile.specs.Limits.{highest_limits}
 use Rattle.sftp_treefile.specs.TreeFile.{IsOwner}
 use Rattle.sftp_tree.specs.Attributes.{changed_owner, changed_content}
 use Rattle.sftp_tree.specs.Changes.{with_changed_file}
+use Rattle.sftp_tree.proofs.Limits.Tests.{fits-parts}
 use Rattle.sftp_tree.specs.StoredFiles.{contents, pin_count_at, pins_of, seen, AreCounted, file_named, IsChanged, IsChangedWhereNamed, with_a_name, without_a_name, with_content_made, with_attributes_set}
 use Rattle.sftp_tree.proofs.KeptTrees.Values.{times_named-owner}
 use Rattle.sftp_tree.proofs.FileCounts.Pins.{changed-pins, pins-where_held}
@@ -43,9 +44,8 @@ named-at_most names number =
     let both = length-filter_both (λ (e : Place × Node). names_file number e.1) (λ e. not (names_file number e.1)) (λ e. refl) names in
     omega arith
 
-few-entries : (t : Tree) → IsKept t → length t.names ≤ usual_limits.entries + 1
-unfolding fits
-few-entries t kept = search rules
+few-entries : (t : Tree) → IsKept t → length t.names ≤ highest_limits.entries + 1
+few-entries t kept = omega (arith, leb-true (length t.names - 1) t.limits.entries (fits-parts t kept.within_limits).entries, kept.well_formed.limits.entries.1)
 
 -- there is room for a further name in each count
 pub room-to-count : (t : Tree) (files : Table ℕ Stored) → IsKept t → AreCounted t.names files → (named : Option ℕ) → IfSome named (λ number. IfSome (get nat_cmp files number) (λ s. s.names + 1 < 2 ^ 32))

@@ -26,4 +26,5 @@ encoded-ask (asks.Read handle offset len) fit = tt
 encoded-ask (asks.Fstat handle) fit = tt
 encoded-ask (asks.Readdir handle) fit = tt
 encoded-ask (asks.Fsync handle) fit = tt
+encoded-ask asks.Limits fit = tt
 encoded-ask (asks.Unknown name rest) fit = tt

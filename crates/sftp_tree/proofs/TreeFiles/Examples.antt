@@ -1,23 +1,25 @@
 -- Worked trees are such that the program may have.
-use Rattle.std.proofs.Common.{◌≡◌, [], ◌∷◌, refl, sym, arith}
+use Rattle.std.proofs.Common.{◌≡◌, [], ◌∷◌, length, refl, sym, subst, arith}
 use Rattle.std.specs.Prelude.{codes}
 use Rattle.sftp_wire.specs.Examples.{hex}
 use Rattle.sftp_path.specs.Place.{components, parts, is_good_path}
 use Rattle.sftp_path.specs.Table.{get}
 use Rattle.sftp_treefile.specs.declared.files.Kind.TheVariants as kinds
 use Rattle.sftp_treefile.specs.declared.files.TreeFile.{TreeFile}
-use Rattle.sftp_treefile.specs.Limits.{usual_limits}
-use Rattle.sftp_treefile.specs.Examples.{blank_bytes}
+use Rattle.sftp_treefile.specs.Limits.{usual_limits, are_own}
+use Rattle.sftp_treefile.specs.Examples.{blank_bytes, raised_bytes}
 use Rattle.sftp_treefile.specs.TreeFile.{has_dir, spelled, IsPlaceText, IsTreeFile, IsSpelled}
-use Rattle.sftp_tree.specs.Tree.{IsKept}
+use Rattle.sftp_treefile.proofs.Texts.Limits.{usual_are}
+use Rattle.sftp_tree.specs.Tree.{IsKept, raised}
 use Rattle.sftp_tree.specs.Picture.{IsStart, picture, blank}
 use Rattle.sftp_tree.specs.PictureExamples.{user_owner, linked, two_names, two_names_bytes}
+use Rattle.sftp_tree.proofs.KeptTrees.Raised.{raised-start}
 use Rattle.sftp_tree.proofs.TreeFiles.Files.{blank_kept, kept_of_file, start_of_spelled}
 
 -- ---- the root alone
 
 pub blank_picture : picture blank ≡ blank_bytes
-unfolding picture spelled get hex
+unfolding picture spelled are_own get hex
 blank_picture = refl
 
 pub blank_start : IsStart blank blank_bytes
@@ -29,6 +31,17 @@ blank_start = record {
   numbered = refl;
   picture_is = sym blank_picture;
 }
+
+pub raised_length : length raised_bytes ≡ 53
+unfolding hex
+raised_length = refl
+
+pub raised_picture : picture (raised blank) ≡ raised_bytes
+unfolding picture spelled are_own get hex
+raised_picture = refl
+
+pub raised_blank : IsStart (raised blank) raised_bytes
+raised_blank = subst (IsStart (raised blank)) raised_picture (raised-start blank blank_bytes blank_start)
 
 -- ---- a directory and a link
 
@@ -53,7 +66,7 @@ text_l = record { names = refl; depth = omega arith; one = refl }
 may_be : IsTreeFile linked_file
 unfolding linked_file components parts has_dir is_good_path
 may_be = record {
-  limits = refl;
+  limits = usual_are;
   home = text_d;
   uid = omega arith;
   gid = omega arith;
@@ -96,7 +109,7 @@ text_g = record { names = refl; depth = omega arith; one = refl }
 two_names_may_be : IsTreeFile two_names_file
 unfolding two_names_file components parts has_dir
 two_names_may_be = record {
-  limits = refl;
+  limits = usual_are;
   home = text_root;
   uid = omega arith;
   gid = omega arith;
@@ -109,7 +122,7 @@ two_names_may_be = record {
 }
 
 two_names_spelled : IsSpelled two_names_file two_names_bytes
-unfolding two_names_file spelled hex
+unfolding two_names_file spelled are_own hex
 two_names_spelled = record { may_be = two_names_may_be; bytes_are = refl }
 
 pub two_names_start : IsStart two_names two_names_bytes

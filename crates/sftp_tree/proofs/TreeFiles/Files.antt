@@ -16,8 +16,9 @@ use Rattle.sftp_treefile.specs.declared.files.Kind.TheVariants as kinds
 use Rattle.sftp_treefile.specs.declared.files.Row.{Row}
 use Rattle.sftp_treefile.specs.declared.files.TreeFile.{TreeFile}
 use Rattle.sftp_treefile.specs.declared.limits.TreeLimits.{TreeLimits}
-use Rattle.sftp_treefile.specs.Limits.{usual_limits}
+use Rattle.sftp_treefile.specs.Limits.{highest_limits}
 use Rattle.sftp_treefile.specs.TreeFile.{place_of, IsOwner, IsKind, AreRows, IsTreeFile, spelled, IsSpelled}
+use Rattle.sftp_treefile.proofs.Texts.Limits.{usual_are}
 use Rattle.sftp_treefile.proofs.Texts.Files.{one_file}
 use Rattle.sftp_tree.specs.declared.file_contents.Content.{Content}
 use Rattle.sftp_tree.specs.declared.nodes.Node.{Node}
@@ -54,19 +55,19 @@ pub limits_fit : (t : Tree) → Limits t → IsTrue (fits t)
 limits_fit t l =
     fits-from t (record { entries = le-leb (length t.names - 1) t.limits.entries (omega (arith, l.entries)); depths = l.depths; home = l.home; links = l.links; files = l.files; numbers = lt-ltb t.made (2 ^ 32) l.numbers })
 
-pub usual-entries : (t : Tree) → Stands t → t.limits.entries ≡ usual_limits.entries
-usual-entries t kept = ap (λ (bounds : TreeLimits). bounds.entries) kept.well_formed.limits
+pub highest-entries : (t : Tree) → Stands t → t.limits.entries ≤ highest_limits.entries
+highest-entries t kept = kept.well_formed.limits.entries.1
 
 -- ---- what the files of rows keep
 
-fit_contents : (earlier : List Row) (kind : Kind) → IsKind usual_limits earlier kind → AllByRecursion IsFitContent (content_of kind)
-fit_contents earlier (kinds.First owner bytes) fits = (fits, tt)
-fit_contents earlier other fits = tt
+fit_contents : (bounds : TreeLimits) → (earlier : List Row) (kind : Kind) → IsKind bounds earlier kind → AllByRecursion (IsFitContent bounds) (content_of kind)
+fit_contents bounds earlier (kinds.First owner bytes) fits = (fits, tt)
+fit_contents bounds earlier other fits = tt
 
-rows_contents : (earlier rows : List Row) → AreRows usual_limits earlier rows → AllByRecursion IsFitContent (contents_of rows)
-rows_contents earlier [] fit = tt
-rows_contents earlier (row ∷ rows) fit =
-    all_both IsFitContent (content_of row.kind) (contents_of rows) (fit_contents earlier row.kind fit.0.kind) (rows_contents (earlier ++ row ∷ []) rows fit.1)
+rows_contents : (bounds : TreeLimits) → (earlier rows : List Row) → AreRows bounds earlier rows → AllByRecursion (IsFitContent bounds) (contents_of rows)
+rows_contents bounds earlier [] fit = tt
+rows_contents bounds earlier (row ∷ rows) fit =
+    all_both (IsFitContent bounds) (content_of row.kind) (contents_of rows) (fit_contents bounds earlier row.kind fit.0.kind) (rows_contents bounds (earlier ++ row ∷ []) rows fit.1)
 
 node_kept : (files : Files) (made : ℕ) → ((n : ℕ) → n < made → IsTrue (is_some (content_at files n))) → (standing : Node) → IsFitNode standing → IsBelow made standing → IsNode files standing
 node_kept files made there (Dir owner) fits below = fits
@@ -99,11 +100,8 @@ names_each root rows number below =
 
 -- ---- from a tree file to its tree
 
-pub table_of_file : (root : Owner) (rows : List Row) → IsOwner root → AreRows usual_limits [] rows → IsTable root (names_of root rows)
-table_of_file root rows fits fit = table_from_bare root (names_of root rows) (subst (IsTable root) (sym (names_bare root rows)) (table_of_rows root rows fits fit))
-
-rows_fit : (file : TreeFile) → IsTreeFile file → AreRows usual_limits [] file.rows
-rows_fit file is = subst (λ (bounds : TreeLimits). AreRows bounds [] file.rows) is.limits is.rows
+pub table_of_file : (bounds : TreeLimits) → (root : Owner) (rows : List Row) → IsOwner root → AreRows bounds [] rows → IsTable root (names_of root rows)
+table_of_file bounds root rows fits fit = table_from_bare root (names_of root rows) (subst (IsTable root) (sym (names_bare root rows)) (table_of_rows bounds root rows fits fit))
 
 pub kept_of_file : (file : TreeFile) → IsTreeFile file → IsKept (tree_of file)
 kept_of_file file is =
@@ -111,9 +109,9 @@ kept_of_file file is =
     let contents = contents_of file.rows in
     let files = numbered_from 0 contents in
     let made = length contents in
-    let rows = rows_fit file is in
-    let t = table_of_file file.root file.rows is.root rows in
-    let fit = rows_contents [] file.rows rows in
+    let rows = is.rows in
+    let t = table_of_file file.limits file.root file.rows is.root rows in
+    let fit = rows_contents file.limits [] file.rows rows in
     let home = text_place file.home is.home in
     let many : length names ≡ length file.rows + 1 = omega (arith, length-entries [] file.rows) in
     let there = λ (n : ℕ) (below : n < made). numbered_there 0 contents n (omega arith) (omega arith) in
@@ -121,11 +119,11 @@ kept_of_file file is =
       well_formed = record {
         ordered = t.ordered;
         named = each-weaker (λ (e : Place × Node). IsPlace e.0) (λ (e : Place × Node). IsTrue (are_names e.0)) (λ e p. p.0) names t.places;
-        nodes = nodes_kept files made there names t.nodes (all_below file.root file.rows rows);
+        nodes = nodes_kept files made there names t.nodes (all_below file.limits file.root file.rows rows);
         root = rw t.root_is refl;
         parents = t.parents;
         numbered = numbered_order 0 contents;
-        contents = each_content IsContent 0 contents (each-weaker IsFitContent IsContent (λ c f. (f.0, f.2)) contents fit);
+        contents = each_content IsContent 0 contents (each-weaker (IsFitContent file.limits) IsContent (λ c f. (f.0, f.2)) contents fit);
         given = each_number (λ n. n < made) 0 contents (λ n above below. omega arith);
         pins = numbered_order 0 [];
         pinned = tt;
@@ -139,20 +137,20 @@ kept_of_file file is =
         depths = all-each (λ (e : Place × Node). depth_fits e.0) names (each-weaker (λ (e : Place × Node). IsPlace e.0) (λ (e : Place × Node). IsTrue (depth_fits e.0)) (λ e p. p.1) names t.places);
         home = home.1;
         links = all-each (λ (e : Place × Node). link_fits e.1) names (each-weaker (λ (e : Place × Node). IsFitNode e.1) (λ (e : Place × Node). IsTrue (link_fits e.1)) (λ e p. fit_link e.1 p) names t.nodes);
-        files = all-each (λ (e : ℕ × Content). content_fits (limits (tree_of file)) e.1) files (each_content (λ c. IsTrue (content_fits (limits (tree_of file)) c)) 0 contents (each-weaker IsFitContent (λ c. IsTrue (content_fits (limits (tree_of file)) c)) (λ c f. subst (λ (bounds : TreeLimits). IsTrue (content_fits bounds c)) (sym is.limits) (le-leb (length c.bytes) usual_limits.file_bytes f.1)) contents fit));
-        numbers = omega (arith, made_few file.rows, is.count, ap (λ (bounds : TreeLimits). bounds.entries) is.limits);
+        files = all-each (λ (e : ℕ × Content). content_fits (limits (tree_of file)) e.1) files (each_content (λ c. IsTrue (content_fits (limits (tree_of file)) c)) 0 contents (each-weaker (IsFitContent file.limits) (λ c. IsTrue (content_fits (limits (tree_of file)) c)) (λ c f. le-leb (length c.bytes) file.limits.file_bytes f.1) contents fit));
+        numbers = omega (arith, made_few file.rows, is.count, is.limits.entries.1);
       });
       trimmed = each_number (λ n. IsTrue (is_named names n || is_pinned [] n)) 0 contents (λ n above below. or_left (is_named names n) (is_pinned [] n) (names_each file.root file.rows n (omega arith)));
     }
 
 pub numbered_of_file : (file : TreeFile) → IsTreeFile file → IsTrue (is_numbered 0 (tree_of file).names (tree_of file).made)
-numbered_of_file file is = rows_numbered [] file.rows (rows_fit file is)
+numbered_of_file file is = rows_numbered file.limits [] file.rows is.rows
 
 pub file_again : (file : TreeFile) → IsTreeFile file → file_of (tree_of file) ≡ file
 file_again file is =
     let root : root_owner (node_at (names_of file.root file.rows) []) ≡ file.root = ap root_owner (root_at file.root (entries_after [] file.rows)) in
     let rows : rows_after (numbered_from 0 (contents_of file.rows)) (only_root file.root) (entries_after [] file.rows) ≡ file.rows =
-    rows_again file.root (numbered_from 0 (contents_of file.rows)) [] file.rows tt (rows_fit file is) (numbered_contents (contents_of file.rows)) in
+    rows_again file.limits file.root (numbered_from 0 (contents_of file.rows)) [] file.rows tt is.rows (numbered_contents (contents_of file.rows)) in
     λ i. record { limits = file.limits; home = sym is.home.one i; uid = file.uid; gid = file.gid; root = root i; rows = rows i }
 
 -- ---- from a tree to its file
@@ -208,23 +206,23 @@ split_tree t kept =
 pub root_of_split : (t : Tree) (s : Split t) → root_owner (node_at t.names []) ≡ s.root
 root_of_split t s = ap (λ (n : Names). root_owner (node_at n [])) s.names_are ∙ ap root_owner s.table.root_is
 
-content_fit : (files : Files) → AllByRecursion (λ e. IsContent e.1) files → AllByRecursion (λ e. IsTrue (content_fits usual_limits e.1)) files → AllByRecursion (λ e. IsFitContent e.1) files
-content_fit [] are fit = tt
-content_fit (e ∷ files) are fit = ((are.0.0, leb-true (length e.1.bytes) usual_limits.file_bytes fit.0, are.0.1), content_fit files are.1 fit.1)
+content_fit : (bounds : TreeLimits) → (files : Files) → AllByRecursion (λ e. IsContent e.1) files → AllByRecursion (λ e. IsTrue (content_fits bounds e.1)) files → AllByRecursion (λ e. IsFitContent bounds e.1) files
+content_fit bounds [] are fit = tt
+content_fit bounds (e ∷ files) are fit = ((are.0.0, leb-true (length e.1.bytes) bounds.file_bytes fit.0, are.0.1), content_fit bounds files are.1 fit.1)
 
-pub fit_files : (t : Tree) → Stands t → AllByRecursion (λ e. IsFitContent e.1) t.files
+pub fit_files : (t : Tree) → Stands t → AllByRecursion (λ e. IsFitContent t.limits e.1) t.files
 fit_files t kept =
     let fit = each-all (λ (e : ℕ × Content). content_fits (limits t) e.1) t.files (limits_from t kept.within_limits).files in
-    content_fit t.files kept.well_formed.contents (subst (λ (bounds : TreeLimits). AllByRecursion (λ (e : ℕ × Content). IsTrue (content_fits bounds e.1)) t.files) kept.well_formed.limits fit)
+    content_fit t.limits t.files kept.well_formed.contents fit
 
-rows_of_split : (t : Tree) → Stands t → (s : Split t) → AreRows usual_limits [] (rows_after t.files (only_root s.root) s.entries)
+rows_of_split : (t : Tree) → Stands t → (s : Split t) → AreRows t.limits [] (rows_after t.files (only_root s.root) s.entries)
 rows_of_split t kept s =
     let rows = rows_after t.files (only_root s.root) s.entries in
     let table : IsTable s.root (bare_names s.root rows) =
     subst (IsTable s.root) (ap (λ (es : Names). only_root s.root ++ es) (sym (rows_bare t.files (only_root s.root) s.entries s.below))) (table_bare s.root (only_root s.root ++ s.entries) s.table) in
     let fit = all_right (λ (e : Place × Node). IsFitNode e.1) (only_root s.root) s.entries s.table.nodes in
-    rows_of_table s.root [] rows table (entry_texts t.files (only_root s.root) s.entries s.below)
-    (kinds_fit t.files s.root [] s.entries fit s.nodes (fit_files t kept) tt s.below (omega (arith, s.few, usual-entries t kept)))
+    rows_of_table t.limits s.root [] rows table (entry_texts t.files (only_root s.root) s.entries s.below)
+    (kinds_fit t.limits t.files s.root [] s.entries fit s.nodes (fit_files t kept) tt s.below (omega (arith, s.few, highest-entries t kept)))
 
 pub file_of_tree : (t : Tree) → Stands t → IsTreeFile (file_of t)
 file_of_tree t kept =
@@ -238,7 +236,7 @@ file_of_tree t kept =
       gid = kept.well_formed.gid;
       count = omega (arith, ap length rows, length-rows t.files (only_root s.root) s.entries s.below, s.few);
       root = subst IsOwner (sym (root_of_split t s)) s.table.nodes.0;
-      rows = subst (λ (bounds : TreeLimits). AreRows bounds [] (rows_after t.files [] t.names)) (sym kept.well_formed.limits) (subst (AreRows usual_limits []) (sym rows) (rows_of_split t kept s));
+      rows = subst (AreRows t.limits []) (sym rows) (rows_of_split t kept s);
     }
 
 pub tree_again : (t : Tree) → Stands t → t.pins ≡ [] → IsTrue (is_numbered 0 t.names t.made) → tree_of (file_of t) ≡ t
@@ -246,7 +244,7 @@ tree_again t kept unpinned numbered =
     let s = split_tree t kept in
     let fit = rows_of_split t kept s in
     let rows : rows_after t.files [] t.names ≡ rows_after t.files (only_root s.root) s.entries = ap (rows_after t.files []) s.names_are in
-    let a = entries_again s.root t.files [] (only_root s.root) s.entries t.made refl tt fit s.below s.nodes (subst (λ (names : Names). IsTrue (is_numbered 0 names t.made)) s.names_are numbered) in
+    let a = entries_again t.limits s.root t.files [] (only_root s.root) s.entries t.made refl tt fit s.below s.nodes (subst (λ (names : Names). IsTrue (is_numbered 0 names t.made)) s.names_are numbered) in
     let names : names_of (root_owner (node_at t.names [])) (rows_after t.files [] t.names) ≡ t.names =
     (λ i. names_of (root_of_split t s i) (rows i)) ∙ ap (λ (es : Names). only_root s.root ++ es) a.entries_are ∙ sym s.names_are in
     let made : made_by (rows_after t.files [] t.names) ≡ t.made = ap made_by rows ∙ a.made_is in
@@ -276,7 +274,7 @@ blank_kept =
         given = tt;
         pins = numbered_order 0 [];
         pinned = tt;
-        limits = refl;
+        limits = usual_are;
         home = refl;
         uid = omega arith;
         gid = omega arith;

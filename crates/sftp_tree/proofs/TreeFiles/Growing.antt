@@ -13,7 +13,7 @@ use Rattle.sftp_treefile.specs.declared.files.Kind.{Kind}
 use Rattle.sftp_treefile.specs.declared.files.Kind.TheVariants as kinds
 use Rattle.sftp_treefile.specs.declared.files.Owner.{Owner}
 use Rattle.sftp_treefile.specs.declared.files.Row.{Row}
-use Rattle.sftp_treefile.specs.Limits.{usual_limits}
+use Rattle.sftp_treefile.specs.declared.limits.TreeLimits.{TreeLimits}
 use Rattle.sftp_treefile.specs.TreeFile.{place_of, is_dir, IsOwner, IsNext, AreRows}
 use Rattle.sftp_treefile.specs.TreeFileParts.{IsLast, Follows}
 use Rattle.sftp_treefile.proofs.Order.LastEntry.{no_last, last_more, begins_last, begun_whole}
@@ -28,18 +28,18 @@ use Rattle.sftp_tree.proofs.TreeFiles.Stores.{keys_before}
 
 -- ---- the entries are put after all others
 
-pub entries_order : (root : Owner) (rows : List Row) (names : Names) → IsOwner root → AreRows usual_limits [] rows
+pub entries_order : (bounds : TreeLimits) → (root : Owner) (rows : List Row) (names : Names) → IsOwner root → AreRows bounds [] rows
     → names ≡ names_of root rows → InOrder place_cmp names
-entries_order root rows names fits fit names-are =
-    subst (InOrder place_cmp) (sym names-are) (table_of_file root rows fits fit).ordered
+entries_order bounds root rows names fits fit names-are =
+    subst (InOrder place_cmp) (sym names-are) (table_of_file bounds root rows fits fit).ordered
 
-pub entry_later : (root : Owner) (rows : List Row) (row : Row) (names : Names) (place : Place)
-    → IsNext usual_limits rows row → names ≡ names_of root rows → place ≡ place_of row.path
+pub entry_later : (bounds : TreeLimits) → (root : Owner) (rows : List Row) (row : Row) (names : Names) (place : Place)
+    → IsNext bounds rows row → names ≡ names_of root rows → place ≡ place_of row.path
     → AllByRecursion (λ other. place_cmp other place ≡ Less) (keys_of names)
-entry_later root rows row names place next names-are place-is =
+entry_later bounds root rows row names place next names-are place-is =
     subst (λ (p : Place). AllByRecursion (λ other. place_cmp other p ≡ Less) (keys_of names)) (sym place-is)
     (subst (λ (ns : Names). AllByRecursion (λ other. place_cmp other (place_of row.path) ≡ Less) (keys_of ns))
-    (sym names-are) (keys_before root rows row next))
+    (sym names-are) (keys_before bounds root rows row next))
 
 -- which is what putting them is
 pub put_last : (names new : Names) (place : Place) (node : Node)
@@ -60,8 +60,8 @@ pub record IsOpen (rows : List Row) (place : Place) : Type 0 where
 pub open_root : (place : Place) → place ≡ [] → IsOpen [] place
 open_root place is = record { last = []; last_is = true; fits = no_last; place_is = is }
 
-pub follows : (rows : List Row) (row : Row) → IsNext usual_limits rows row → Follows rows row.path
-follows rows row next = record
+pub follows : (bounds : TreeLimits) → (rows : List Row) (row : Row) → IsNext bounds rows row → Follows rows row.path
+follows bounds rows row next = record
     { text = next.path; below_root = next.below_root; later = next.later; parent = next.parent }
 
 behind_known : (numbers : List ℕ) (next : ℕ) (kind : Kind) (place : Place)
@@ -71,13 +71,13 @@ behind_known numbers next (kinds.First owner bytes) place = refl
 behind_known numbers next (kinds.Further number) place = refl
 behind_known numbers next (kinds.Link target) place = refl
 
-pub open_more : (rows : List Row) (row : Row) (numbers : List ℕ) (next : ℕ) (place old new : Place) (node : Node)
-    → IsOpen rows old → IsNext usual_limits rows row → place ≡ place_of row.path
+pub open_more : (bounds : TreeLimits) → (rows : List Row) (row : Row) (numbers : List ℕ) (next : ℕ) (place old new : Place) (node : Node)
+    → IsOpen rows old → IsNext bounds rows row → place ≡ place_of row.path
     → node ≡ known_node numbers next row.kind → new ≡ open_after place node → IsOpen (rows ++ row ∷ []) new
-open_more rows row numbers next place old new node was is-next place-is node-is new-is = record {
+open_more bounds rows row numbers next place old new node was is-next place-is node-is new-is = record {
   last = place_of row.path;
   last_is = is_dir row.kind;
-  fits = last_more rows was.last was.last_is row was.fits (follows rows row is-next);
+  fits = last_more rows was.last was.last_is row was.fits (follows bounds rows row is-next);
   place_is = new-is ∙ (λ i. open_after (place-is i) (node-is i))
       ∙ behind_known numbers next row.kind (place_of row.path);
 }
@@ -92,11 +92,11 @@ begins_parent top last begun shorter =
     let front : parent last ≡ top ++ take more rest = (λ i. take (count i) (whole i)) ∙ take-append-add top rest more in
     ap (begins top) front ∙ begins-append top (take more rest)
 
-begins_by : (rows : List Row) (last : Place) (last_is : Bool) (fits : IsLast rows last last_is) (row : Row)
-    → IsNext usual_limits rows row → begins (parent (place_of row.path)) (if last_is then last else parent last) ≡ true
-begins_by rows last true fits row next =
+begins_by : (bounds : TreeLimits) → (rows : List Row) (last : Place) (last_is : Bool) (fits : IsLast rows last last_is) (row : Row)
+    → IsNext bounds rows row → begins (parent (place_of row.path)) (if last_is then last else parent last) ≡ true
+begins_by bounds rows last true fits row next =
     begins_last rows last true fits (place_of row.path) next.below_root next.later next.parent
-begins_by rows last false fits row next =
+begins_by bounds rows last false fits row next =
     let place = place_of row.path in
     let begun = begins_last rows last false fits place next.below_root next.later next.parent in
     elim (cases_lt (length (parent place)) (length last)) [
@@ -106,10 +106,10 @@ begins_by rows last false fits row next =
           absurd (false≢true (sym none ∙ next.parent))
     ]
 
-pub open_begins : (root : Owner) (rows : List Row) (row : Row) (place above : Place) → IsOpen rows above
-    → IsNext usual_limits rows row → place ≡ place_of row.path → IsTrue (begins (parent place) above)
-open_begins root rows row place above is next place-is =
-    (λ i. begins (parent (place-is i)) (is.place_is i)) ∙ begins_by rows is.last is.last_is is.fits row next
+pub open_begins : (bounds : TreeLimits) → (root : Owner) (rows : List Row) (row : Row) (place above : Place) → IsOpen rows above
+    → IsNext bounds rows row → place ≡ place_of row.path → IsTrue (begins (parent place) above)
+open_begins bounds root rows row place above is next place-is =
+    (λ i. begins (parent (place-is i)) (is.place_is i)) ∙ begins_by bounds rows is.last is.last_is is.fits row next
 
 -- ---- the last name of a text
 
@@ -137,18 +137,18 @@ pub record HasRoom (open-place place : Place) (depth : ℕ) (name : Name) : Type
   pub depth_fits : depth ≤ length open-place
   pub place_is : take depth open-place ++ name ∷ [] ≡ place
 
-pub room_for : (root : Owner) (rows : List Row) (row : Row) (above : Place) (depth : ℕ) (name : Name) (text : List ℕ)
-    → IsOpen rows above → IsNext usual_limits rows row → text ≡ row.path
+pub room_for : (bounds : TreeLimits) → (root : Owner) (rows : List Row) (row : Row) (above : Place) (depth : ℕ) (name : Name) (text : List ℕ)
+    → IsOpen rows above → IsNext bounds rows row → text ≡ row.path
     → take depth (place_of text) ++ name ∷ [] ≡ place_of text → depth + 1 ≡ length (place_of text)
     → HasRoom above (place_of row.path) depth name
-room_for root rows row above depth name text is next text-is whole count =
+room_for bounds root rows row above depth name text is next text-is whole count =
     let place = place_of row.path in
     let front = take depth place in
     let here : front ++ name ∷ [] ≡ place =
     subst (λ (t : List ℕ). take depth (place_of t) ++ name ∷ [] ≡ place_of t) text-is whole in
     let many : length front ≡ depth =
     length-take-le depth place (omega (arith, count, ap length (ap place_of text-is))) in
-    let f = front_open place front above name (sym here) (open_begins root rows row place above is next refl) in
+    let f = front_open place front above name (sym here) (open_begins bounds root rows row place above is next refl) in
     let same : take depth above ≡ front = ap (λ n. take n above) (sym many) ∙ f.1 in
     record {
       depth_fits = omega (arith, many, f.0);

@@ -12,7 +12,7 @@ use Rattle.sftp_path.proofs.PathTexts.AbsoluteTexts.{components-absolute}
 use Rattle.sftp_tree.proofs.PlaceTables.Each.{each-get}
 use Rattle.sftp_treefile.specs.declared.files.Owner.{Owner}
 use Rattle.sftp_treefile.specs.declared.files.Row.{Row}
-use Rattle.sftp_treefile.specs.Limits.{usual_limits}
+use Rattle.sftp_treefile.specs.declared.limits.TreeLimits.{TreeLimits}
 use Rattle.sftp_treefile.specs.TreeFile.{is_first, is_first_row, are_bytes, IsOwner, IsKind, IsPlaceText}
 use Rattle.sftp_tree.specs.declared.file_contents.Content.{Content}
 use Rattle.sftp_tree.specs.declared.nodes.Node.{Node}
@@ -132,8 +132,8 @@ named_within number (e ∷ es) m is = by (names_file number e.1) (entry_naming n
 -- ---- each kind may be where it is
 
 -- what tree files ask of files
-abbrev pub IsFitContent : Content → Type 0
-IsFitContent content = IsOwner content.owner × (length content.bytes ≤ usual_limits.file_bytes) × IsTrue (are_bytes content.bytes)
+abbrev pub IsFitContent : TreeLimits → Content → Type 0
+IsFitContent bounds content = IsOwner content.owner × (length content.bytes ≤ bounds.file_bytes) × IsTrue (are_bytes content.bytes)
 
 pub all_at : (P : Content → Type 0) (files : Files) (number : ℕ) (content : Content) → AllByRecursion (λ e. P e.1) files → content_at files number ≡ Some content → P content
 all_at P files number content all is = each-get nat_cmp nat_cmp-IsAntisymmetric (λ e. P e.1) files number content all is
@@ -142,26 +142,26 @@ all_at P files number content all is = each-get nat_cmp nat_cmp-IsAntisymmetric 
 abbrev pub rows_below : Files → Owner → Names → List Row
 rows_below files root fs = rows_after files (only_root root) fs
 
-naming_fits : (files : Files) (root : Owner) (fs : Names) (number : ℕ) (entry : Option ℕ) (content : Option Content) → entry_naming number fs ≡ entry → content_at files number ≡ content
-    → IsTrue (is_some (content_at files number)) → AllByRecursion (λ e. IsFitContent e.1) files → AllByRecursion IsBelowRoot fs → length fs < 2 ^ 32
-    → IsKind usual_limits (rows_below files root fs) (naming (option_map suc entry) content)
-naming_fits files root fs number (Some m) content entry-is content-is there fit below few =
+naming_fits : (bounds : TreeLimits) → (files : Files) (root : Owner) (fs : Names) (number : ℕ) (entry : Option ℕ) (content : Option Content) → entry_naming number fs ≡ entry → content_at files number ≡ content
+    → IsTrue (is_some (content_at files number)) → AllByRecursion (λ e. IsFitContent bounds e.1) files → AllByRecursion IsBelowRoot fs → length fs < 2 ^ 32
+    → IsKind bounds (rows_below files root fs) (naming (option_map suc entry) content)
+naming_fits bounds files root fs number (Some m) content entry-is content-is there fit below few =
     (omega (arith, named_within number fs m entry-is), named_is_first files (only_root root) fs number m below refl entry-is)
-naming_fits files root fs number None (Some content) entry-is content-is there fit below few = all_at IsFitContent files number content fit content-is
-naming_fits files root fs number None None entry-is content-is there fit below few = absurd (let f : false ≡ true = sym (ap is_some content-is) ∙ there in cc)
+naming_fits bounds files root fs number None (Some content) entry-is content-is there fit below few = all_at (IsFitContent bounds) files number content fit content-is
+naming_fits bounds files root fs number None None entry-is content-is there fit below few = absurd (let f : false ≡ true = sym (ap is_some content-is) ∙ there in cc)
 
-kind_fits : (files : Files) (root : Owner) (fs : Names) (standing : Node) → IsFitNode standing → IsNode files standing → AllByRecursion (λ e. IsFitContent e.1) files → AllByRecursion IsBelowRoot fs → length fs < 2 ^ 32
-    → IsKind usual_limits (rows_below files root fs) (kind_of files (only_root root ++ fs) standing)
-kind_fits files root fs (Dir owner) fits there fit below few = fits
-kind_fits files root fs (File number) fits there fit below few = naming_fits files root fs number (entry_naming number fs) (content_at files number) refl refl there fit below few
-kind_fits files root fs (Link target) fits there fit below few = (fits.1, fits.0)
+kind_fits : (bounds : TreeLimits) → (files : Files) (root : Owner) (fs : Names) (standing : Node) → IsFitNode standing → IsNode files standing → AllByRecursion (λ e. IsFitContent bounds e.1) files → AllByRecursion IsBelowRoot fs → length fs < 2 ^ 32
+    → IsKind bounds (rows_below files root fs) (kind_of files (only_root root ++ fs) standing)
+kind_fits bounds files root fs (Dir owner) fits there fit below few = fits
+kind_fits bounds files root fs (File number) fits there fit below few = naming_fits bounds files root fs number (entry_naming number fs) (content_at files number) refl refl there fit below few
+kind_fits bounds files root fs (Link target) fits there fit below few = (fits.1, fits.0)
 
-pub kinds_fit : (files : Files) (root : Owner) (fs es : Names) → AllByRecursion (λ e. IsFitNode e.1) es → AllByRecursion (λ e. IsNode files e.1) es → AllByRecursion (λ e. IsFitContent e.1) files
-    → AllByRecursion IsBelowRoot fs → AllByRecursion IsBelowRoot es → length fs + length es < 2 ^ 32 → AreKinds (rows_below files root fs) (rows_after files (only_root root ++ fs) es)
-kinds_fit files root fs [] fits there fit front below few = tt
-kinds_fit files root fs (e ∷ es) fits there fit front below few =
+pub kinds_fit : (bounds : TreeLimits) → (files : Files) (root : Owner) (fs es : Names) → AllByRecursion (λ e. IsFitNode e.1) es → AllByRecursion (λ e. IsNode files e.1) es → AllByRecursion (λ e. IsFitContent bounds e.1) files
+    → AllByRecursion IsBelowRoot fs → AllByRecursion IsBelowRoot es → length fs + length es < 2 ^ 32 → AreKinds bounds (rows_below files root fs) (rows_after files (only_root root ++ fs) es)
+kinds_fit bounds files root fs [] fits there fit front below few = tt
+kinds_fit bounds files root fs (e ∷ es) fits there fit front below few =
     let more : rows_below files root (fs ++ e ∷ []) ≡ rows_below files root fs ++ row_of files (only_root root ++ fs) e ∷ [] =
     rows_push files (only_root root) fs e ∙ ap (λ (rs : List Row). rows_below files root fs ++ rs) (one_row files (only_root root ++ fs) e below.0.1) in
-    let rest = kinds_fit files root (fs ++ e ∷ []) es fits.1 there.1 fit (all_both IsBelowRoot fs (e ∷ []) front (below.0, tt)) below.1 (omega (arith, length-append fs (e ∷ []))) in
-    subst (AreKinds (rows_below files root fs)) (sym (rows_cons files (only_root root ++ fs) e es below.0.1))
-    (kind_fits files root fs e.1 fits.0 there.0 fit front (omega arith), subst (λ (rs : List Row). AreKinds rs (rows_after files (only_root root ++ (fs ++ e ∷ [])) es)) more rest)
+    let rest = kinds_fit bounds files root (fs ++ e ∷ []) es fits.1 there.1 fit (all_both IsBelowRoot fs (e ∷ []) front (below.0, tt)) below.1 (omega (arith, length-append fs (e ∷ []))) in
+    subst (AreKinds bounds (rows_below files root fs)) (sym (rows_cons files (only_root root ++ fs) e es below.0.1))
+    (kind_fits bounds files root fs e.1 fits.0 there.0 fit front (omega arith), subst (λ (rs : List Row). AreKinds bounds rs (rows_after files (only_root root ++ (fs ++ e ∷ [])) es)) more rest)

@@ -12,7 +12,7 @@ use Rattle.sftp_treefile.specs.declared.files.Owner.{Owner}
 use Rattle.sftp_treefile.specs.declared.files.Kind.{Kind}
 use Rattle.sftp_treefile.specs.declared.files.Kind.TheVariants as kinds
 use Rattle.sftp_treefile.specs.declared.files.Row.{Row}
-use Rattle.sftp_treefile.specs.Limits.{usual_limits}
+use Rattle.sftp_treefile.specs.declared.limits.TreeLimits.{TreeLimits}
 use Rattle.sftp_treefile.specs.TreeFile.{is_first, is_first_row, entry_at, IsKind, AreRows}
 use Rattle.sftp_tree.specs.declared.nodes.Node.{Node}
 use Rattle.sftp_tree.specs.declared.nodes.Node.TheVariants.{Dir, File, Link}
@@ -108,15 +108,15 @@ first_of_number (row ∷ rows) number below = first_by row rows row.kind number 
 
 -- ---- rows in two parts
 
-pub rows_split : (earlier xs ys : List Row) → AreRows usual_limits earlier (xs ++ ys) → AreRows usual_limits earlier xs × AreRows usual_limits (earlier ++ xs) ys
-rows_split earlier [] ys rows = (tt, rw append-nil rows)
-rows_split earlier (x ∷ xs) ys rows =
-    let r = rows_split (earlier ++ x ∷ []) xs ys rows.1 in
-    ((rows.0, r.0), subst (λ (front : List Row). AreRows usual_limits front ys) (append_assoc earlier (x ∷ []) xs) r.1)
+pub rows_split : (bounds : TreeLimits) → (earlier xs ys : List Row) → AreRows bounds earlier (xs ++ ys) → AreRows bounds earlier xs × AreRows bounds (earlier ++ xs) ys
+rows_split bounds earlier [] ys rows = (tt, rw append-nil rows)
+rows_split bounds earlier (x ∷ xs) ys rows =
+    let r = rows_split bounds (earlier ++ x ∷ []) xs ys rows.1 in
+    ((rows.0, r.0), subst (λ (front : List Row). AreRows bounds front ys) (append_assoc earlier (x ∷ []) xs) r.1)
 
-pub rows_join : (earlier xs ys : List Row) → AreRows usual_limits earlier xs → AreRows usual_limits (earlier ++ xs) ys → AreRows usual_limits earlier (xs ++ ys)
-rows_join earlier [] ys a b = rw append-nil at b
-rows_join earlier (x ∷ xs) ys a b = (a.0, rows_join (earlier ++ x ∷ []) xs ys a.1 (subst (λ (front : List Row). AreRows usual_limits front ys) (sym (append_assoc earlier (x ∷ []) xs)) b))
+pub rows_join : (bounds : TreeLimits) → (earlier xs ys : List Row) → AreRows bounds earlier xs → AreRows bounds (earlier ++ xs) ys → AreRows bounds earlier (xs ++ ys)
+rows_join bounds earlier [] ys a b = rw append-nil at b
+rows_join bounds earlier (x ∷ xs) ys a b = (a.0, rows_join bounds (earlier ++ x ∷ []) xs ys a.1 (subst (λ (front : List Row). AreRows bounds front ys) (sym (append_assoc earlier (x ∷ []) xs)) b))
 
 pub entries_split : (earlier xs ys : List Row) → entries_after earlier (xs ++ ys) ≡ entries_after earlier xs ++ entries_after (earlier ++ xs) ys
 entries_split earlier [] ys = rw append-nil refl
@@ -148,30 +148,30 @@ below_more : (m n : ℕ) → m ≤ n → (standing : Node) → IsBelow m standin
 below_more m n le (File number) below = omega (arith, below, le)
 below_more m n le other below = tt
 
-entry_below : (earlier : List Row) (kind : Kind) → IsKind usual_limits earlier kind → IsBelow (made_by earlier + length (content_of kind)) (node_of earlier kind)
-entry_below earlier (kinds.First owner bytes) fits = omega arith
-entry_below earlier (kinds.Further entry) fits =
+entry_below : (bounds : TreeLimits) → (earlier : List Row) (kind : Kind) → IsKind bounds earlier kind → IsBelow (made_by earlier + length (content_of kind)) (node_of earlier kind)
+entry_below bounds earlier (kinds.First owner bytes) fits = omega arith
+entry_below bounds earlier (kinds.Further entry) fits =
     let f = first_at earlier entry fits.1 in
     omega (arith, made_front earlier entry f, ap made_by (front_taken earlier entry f))
-entry_below earlier other fits = tt
+entry_below bounds earlier other fits = tt
 
-below_push : (root : Owner) (earlier : List Row) (row : Row) → AreBelow (made_by earlier) (names_of root earlier) → IsKind usual_limits earlier row.kind → AreBelow (made_by (earlier ++ row ∷ [])) (names_of root (earlier ++ row ∷ []))
-below_push root earlier row below fits =
+below_push : (bounds : TreeLimits) → (root : Owner) (earlier : List Row) (row : Row) → AreBelow (made_by earlier) (names_of root earlier) → IsKind bounds earlier row.kind → AreBelow (made_by (earlier ++ row ∷ [])) (names_of root (earlier ++ row ∷ []))
+below_push bounds root earlier row below fits =
     let le : made_by earlier ≤ made_by earlier + length (content_of row.kind) = omega arith in
     let made = made_by earlier + length (content_of row.kind) in
     let all : AreBelow made (names_of root earlier ++ entry_of earlier row ∷ []) =
     all_both (λ (e : Place × Node). IsBelow made e.1) (names_of root earlier) (entry_of earlier row ∷ [])
     (each-weaker (λ (e : Place × Node). IsBelow (made_by earlier) e.1) (λ (e : Place × Node). IsBelow made e.1) (λ e b. below_more (made_by earlier) made le e.1 b) (names_of root earlier) below)
-    (entry_below earlier row.kind fits, tt) in
+    (entry_below bounds earlier row.kind fits, tt) in
     subst (λ (n : ℕ). AreBelow n (names_of root (earlier ++ row ∷ []))) (sym (made_push earlier row)) (subst (AreBelow made) (sym (names_push root earlier row)) all)
 
-below_behind : (root : Owner) (earlier rows : List Row) → AreBelow (made_by earlier) (names_of root earlier) → AreRows usual_limits earlier rows → AreBelow (made_by (earlier ++ rows)) (names_of root (earlier ++ rows))
-below_behind root earlier [] below rows = subst (λ (rs : List Row). AreBelow (made_by rs) (names_of root rs)) (sym (append-nil earlier)) below
-below_behind root earlier (row ∷ more) below rows =
-    subst (λ (rs : List Row). AreBelow (made_by rs) (names_of root rs)) (append_assoc earlier (row ∷ []) more) (below_behind root (earlier ++ row ∷ []) more (below_push root earlier row below rows.0.kind) rows.1)
+below_behind : (bounds : TreeLimits) → (root : Owner) (earlier rows : List Row) → AreBelow (made_by earlier) (names_of root earlier) → AreRows bounds earlier rows → AreBelow (made_by (earlier ++ rows)) (names_of root (earlier ++ rows))
+below_behind bounds root earlier [] below rows = subst (λ (rs : List Row). AreBelow (made_by rs) (names_of root rs)) (sym (append-nil earlier)) below
+below_behind bounds root earlier (row ∷ more) below rows =
+    subst (λ (rs : List Row). AreBelow (made_by rs) (names_of root rs)) (append_assoc earlier (row ∷ []) more) (below_behind bounds root (earlier ++ row ∷ []) more (below_push bounds root earlier row below rows.0.kind) rows.1)
 
-pub all_below : (root : Owner) (rows : List Row) → AreRows usual_limits [] rows → AreBelow (made_by rows) (names_of root rows)
-all_below root rows fit = below_behind root [] rows (tt, tt) fit
+pub all_below : (bounds : TreeLimits) → (root : Owner) (rows : List Row) → AreRows bounds [] rows → AreBelow (made_by rows) (names_of root rows)
+all_below bounds root rows fit = below_behind bounds root [] rows (tt, tt) fit
 
 -- ---- the entry that is a file's first name
 
@@ -208,10 +208,10 @@ first_names earlier other first = absurd cc
 names_at : (root : Owner) (rows : List Row) (entry : ℕ) (f : FirstAt rows entry) → names_of root rows ≡ names_of root f.front ++ entry_of f.front f.row ∷ entries_after (f.front ++ f.row ∷ []) f.rest
 names_at root rows entry f = ap (names_of root) f.rows_are ∙ names_split root f.front (f.row ∷ f.rest)
 
-pub first_is_named : (root : Owner) (rows : List Row) (entry : ℕ) (f : FirstAt rows entry) → AreRows usual_limits [] rows → entry_naming (made_by f.front) (names_of root rows) ≡ Some entry
-first_is_named root rows entry f fit =
-    let front = (rows_split [] f.front (f.row ∷ f.rest) (subst (AreRows usual_limits []) f.rows_are fit)).0 in
-    let none = none_named (made_by f.front) (names_of root f.front) (all_below root f.front front) in
+pub first_is_named : (bounds : TreeLimits) → (root : Owner) (rows : List Row) (entry : ℕ) (f : FirstAt rows entry) → AreRows bounds [] rows → entry_naming (made_by f.front) (names_of root rows) ≡ Some entry
+first_is_named bounds root rows entry f fit =
+    let front = (rows_split bounds [] f.front (f.row ∷ f.rest) (subst (AreRows bounds []) f.rows_are fit)).0 in
+    let none = none_named (made_by f.front) (names_of root f.front) (all_below bounds root f.front front) in
     let here = named_at (made_by f.front) (names_of root f.front) (entry_of f.front f.row) (entries_after (f.front ++ f.row ∷ []) f.rest) none (first_names f.front f.row.kind f.first) in
     let count : length (names_of root f.front) ≡ entry = omega (arith, length-entries [] f.front, f.entry_is) in
     ap (entry_naming (made_by f.front)) (names_at root rows entry f) ∙ here ∙ ap (λ n. Some n) count

@@ -24,7 +24,8 @@ use Rattle.sftp_treefile.specs.declared.files.Kind.{Kind}
 use Rattle.sftp_treefile.specs.declared.files.Kind.TheVariants as kinds
 use Rattle.sftp_treefile.specs.declared.files.Row.{Row}
 use Rattle.sftp_treefile.specs.declared.files.TreeFile.{TreeFile}
-use Rattle.sftp_treefile.specs.Limits.{usual_limits}
+use Rattle.sftp_treefile.specs.declared.limits.TreeLimits.{TreeLimits}
+use Rattle.sftp_treefile.specs.Limits.{highest_limits}
 use Rattle.sftp_treefile.specs.TreeFile.{place_of, IsKind, IsNext, AreRows}
 use Rattle.sftp_tree.specs.declared.file_contents.Content.{Content}
 use Rattle.sftp_tree.specs.declared.file_contents.Stored.{Stored}
@@ -78,20 +79,20 @@ numbers_push number (r ∷ rows) row =
 within : (rows : List Row) (entry : ℕ) → FirstAt rows entry → (1 ≤ entry) × (entry ≤ length rows)
 within rows entry f = (omega (arith, f.entry_is), omega (arith, f.entry_is, ap length f.rows_are, length-append f.front (f.row ∷ f.rest)))
 
-pub kind_known : (rows : List Row) (kind : Kind) → IsKind usual_limits rows kind → IsKnown (numbers_from 0 rows) kind
-kind_known rows (kinds.Further entry) fits =
+pub kind_known : (bounds : TreeLimits) → (rows : List Row) (kind : Kind) → IsKind bounds rows kind → IsKnown (numbers_from 0 rows) kind
+kind_known bounds rows (kinds.Further entry) fits =
     let w = within rows entry (first_at rows entry fits.1) in
     (w.0, omega (arith, w.1, length-numbers 0 rows))
-kind_known rows other fits = tt
+kind_known bounds rows other fits = tt
 
 number_known : (rows : List Row) (entry : ℕ) → FirstAt rows entry → known_number (numbers_from 0 rows) entry ≡ made_by (take (entry - 1) rows)
 number_known rows entry f =
     let w = within rows entry f in
     number_at 0 rows (entry - 1) (omega (arith, w.0, w.1)) ∙ omega arith
 
-pub node_known : (rows : List Row) (kind : Kind) → IsKind usual_limits rows kind → known_node (numbers_from 0 rows) (made_by rows) kind ≡ node_of rows kind
-node_known rows (kinds.Further entry) fits = ap (λ n. File n) (number_known rows entry (first_at rows entry fits.1))
-node_known rows other fits = refl
+pub node_known : (bounds : TreeLimits) → (rows : List Row) (kind : Kind) → IsKind bounds rows kind → known_node (numbers_from 0 rows) (made_by rows) kind ≡ node_of rows kind
+node_known bounds rows (kinds.Further entry) fits = ap (λ n. File n) (number_known rows entry (first_at rows entry fits.1))
+node_known bounds rows other fits = refl
 
 -- ---- counts
 
@@ -204,24 +205,24 @@ pushed_none root rows place standing stores after same counted changed =
     let p = counted_push root rows place standing stores after same counted changed in
     (p.0 ∙ same ∙ ap (numbered_from 0) (sym (append-nil (contents_of rows))), p.1)
 
-pushed : (root : Owner) (rows : List Row) (place : Place) (kind : Kind) (stores after : Stores) → AreRows usual_limits [] rows → IsKind usual_limits rows kind → contents stores ≡ numbered_from 0 (contents_of rows) → AreCounted (names_of root rows) stores
+pushed : (bounds : TreeLimits) → (root : Owner) (rows : List Row) (place : Place) (kind : Kind) (stores after : Stores) → AreRows bounds [] rows → IsKind bounds rows kind → contents stores ≡ numbered_from 0 (contents_of rows) → AreCounted (names_of root rows) stores
     → AreWithEntry (numbers_from 0 rows) (made_by rows) kind stores after → Pushed root rows place kind after
-pushed root rows place (kinds.Dir owner) stores after fit fits same counted is =
+pushed bounds root rows place (kinds.Dir owner) stores after fit fits same counted is =
     let p = pushed_none root rows place (Dir owner) stores after same counted is in
     record { contents_are = p.0; counted = p.1 }
-pushed root rows place (kinds.First owner bytes) stores after fit fits same counted is =
+pushed bounds root rows place (kinds.First owner bytes) stores after fit fits same counted is =
     let s : Stored = record { content = record { owner = owner; bytes = bytes }; names = 1; pins = 0 } in
     record {
       contents_are = ap contents is ∙ first_contents stores (contents_of rows) s same;
-      counted = subst (AreCounted (names_of root rows ++ (place, File (made_by rows)) ∷ [])) (sym is) (first_counted (names_of root rows) place stores (contents_of rows) s same refl (all_below root rows fit) counted);
+      counted = subst (AreCounted (names_of root rows ++ (place, File (made_by rows)) ∷ [])) (sym is) (first_counted (names_of root rows) place stores (contents_of rows) s same refl (all_below bounds root rows fit) counted);
     }
-pushed root rows place (kinds.Further entry) stores after fit fits same counted changed =
+pushed bounds root rows place (kinds.Further entry) stores after fit fits same counted changed =
     let p = pushed_none root rows place (File (known_number (numbers_from 0 rows) entry)) stores after same counted changed in
     record {
       contents_are = p.0;
       counted = subst (λ n. AreCounted (names_of root rows ++ (place, File n) ∷ []) after) (number_known rows entry (first_at rows entry fits.1)) p.1;
     }
-pushed root rows place (kinds.Link target) stores after fit fits same counted is =
+pushed bounds root rows place (kinds.Link target) stores after fit fits same counted is =
     let p = pushed_none root rows place (Link target) stores after same counted is in
     record { contents_are = p.0; counted = p.1 }
 
@@ -250,28 +251,28 @@ pushed_unpinned numbers next (kinds.Further entry) stores after order none chang
 pushed_unpinned numbers next other stores after order none is =
     subst (AllByRecursion (λ (e : ℕ × Stored). e.1.pins ≡ 0)) (sym is) none
 
-pub keys_before : (root : Owner) (rows : List Row) (row : Row) → IsNext usual_limits rows row → AllByRecursion (λ q. place_cmp q (place_of row.path) ≡ Less) (keys_of (names_of root rows))
-keys_before root rows row next =
+pub keys_before : (bounds : TreeLimits) → (root : Owner) (rows : List Row) (row : Row) → IsNext bounds rows row → AllByRecursion (λ q. place_cmp q (place_of row.path) ≡ Less) (keys_of (names_of root rows))
+keys_before bounds root rows row next =
     let keys : keys_of (bare_names root rows) ≡ keys_of (names_of root rows) = ap keys_of (sym (names_bare root rows)) ∙ keys_of-map_values bare (names_of root rows) in
-    subst (λ (ks : List Place). AllByRecursion (λ q. place_cmp q (place_of row.path) ≡ Less) ks) keys (later_than_all root rows row next)
+    subst (λ (ks : List Place). AllByRecursion (λ q. place_cmp q (place_of row.path) ≡ Less) ks) keys (later_than_all bounds root rows row next)
 
-entry_put : (root : Owner) (rows : List Row) (row : Row) (names new : Names) (place : Place) (standing : Node) → IsNext usual_limits rows row → names ≡ names_of root rows
+entry_put : (bounds : TreeLimits) → (root : Owner) (rows : List Row) (row : Row) (names new : Names) (place : Place) (standing : Node) → IsNext bounds rows row → names ≡ names_of root rows
     → place ≡ place_of row.path → standing ≡ node_of rows row.kind → new ≡ with_node names place standing → new ≡ names_of root (rows ++ row ∷ [])
 unfolding put
-entry_put root rows row names new place standing next names-are place-is node-is put-is =
+entry_put bounds root rows row names new place standing next names-are place-is node-is put-is =
     put-is ∙ (λ i. with_node (names-are i) (place-is i) (node-is i))
-    ∙ insert_last place_cmp-total (names_of root rows) (place_of row.path) (node_of rows row.kind) (keys_before root rows row next)
+    ∙ insert_last place_cmp-total (names_of root rows) (place_of row.path) (node_of rows row.kind) (keys_before bounds root rows row next)
     ∙ sym (names_push root rows row)
 
-pub grown_push : (root : Owner) (rows : List Row) (row : Row) (names new-names : Names) (stores new-stores : Stores) (numbers : List ℕ) (next : ℕ) (place : Place) (standing : Node)
-    → AreRows usual_limits [] rows → IsNext usual_limits rows row → IsGrown root rows names stores → numbers ≡ numbers_from 0 rows → next ≡ made_by rows
+pub grown_push : (bounds : TreeLimits) → (root : Owner) (rows : List Row) (row : Row) (names new-names : Names) (stores new-stores : Stores) (numbers : List ℕ) (next : ℕ) (place : Place) (standing : Node)
+    → AreRows bounds [] rows → IsNext bounds rows row → IsGrown root rows names stores → numbers ≡ numbers_from 0 rows → next ≡ made_by rows
     → place ≡ place_of row.path → standing ≡ known_node numbers next row.kind → new-names ≡ with_node names place standing → AreWithEntry numbers next row.kind stores new-stores
     → IsGrown root (rows ++ row ∷ []) new-names new-stores
-grown_push root rows row names new-names stores new-stores numbers next place standing fit is-next grown numbers-are next-is place-is node-is names-put stores-put =
-    let node : standing ≡ node_of rows row.kind = node-is ∙ (λ i. known_node (numbers-are i) (next-is i) row.kind) ∙ node_known rows row.kind is-next.kind in
-    let put = entry_put root rows row names new-names place standing is-next grown.names_are place-is node names-put in
+grown_push bounds root rows row names new-names stores new-stores numbers next place standing fit is-next grown numbers-are next-is place-is node-is names-put stores-put =
+    let node : standing ≡ node_of rows row.kind = node-is ∙ (λ i. known_node (numbers-are i) (next-is i) row.kind) ∙ node_known bounds rows row.kind is-next.kind in
+    let put = entry_put bounds root rows row names new-names place standing is-next grown.names_are place-is node names-put in
     let with_entry = subst (λ n. AreWithEntry (numbers_from 0 rows) n row.kind stores new-stores) next-is (subst (λ (ns : List ℕ). AreWithEntry ns next row.kind stores new-stores) numbers-are stores-put) in
-    let p = pushed root rows (place_of row.path) row.kind stores new-stores fit is-next.kind grown.contents_are (subst (λ (ns : Names). AreCounted ns stores) grown.names_are grown.counted) with_entry in
+    let p = pushed bounds root rows (place_of row.path) row.kind stores new-stores fit is-next.kind grown.contents_are (subst (λ (ns : Names). AreCounted ns stores) grown.names_are grown.counted) with_entry in
     record {
       names_are = put;
       contents_are = p.contents_are ∙ ap (numbered_from 0) (sym (contents_more rows row));
@@ -291,7 +292,7 @@ many_files root rows names stores grown =
     length-numbered s [] = refl
     length-numbered s (c ∷ cs) = ap suc (length-numbered (suc s) cs)
 
-pub grown_room : (root : Owner) (rows : List Row) (names : Names) (stores : Stores) → IsGrown root rows names stores → length rows ≤ usual_limits.entries → HaveRoom stores
+pub grown_room : (root : Owner) (rows : List Row) (names : Names) (stores : Stores) → IsGrown root rows names stores → length rows ≤ highest_limits.entries → HaveRoom stores
 grown_room root rows names stores grown few =
     counted_room names stores grown.counted (omega (arith, ap length grown.names_are, length-entries [] rows))
 
@@ -305,7 +306,7 @@ grown_root root names stores alone none = record {
 }
 
 -- the number of the next file fits its field
-pub next_fits : (root : Owner) (rows rest : List Row) (names : Names) (stores : Stores) → IsGrown root rows names stores → length (rows ++ rest) ≤ usual_limits.entries → length stores ≤ usual_limits.entries
+pub next_fits : (root : Owner) (rows rest : List Row) (names : Names) (stores : Stores) → IsGrown root rows names stores → length (rows ++ rest) ≤ highest_limits.entries → length stores ≤ highest_limits.entries
 next_fits root rows rest names stores grown few =
     omega (arith, many_files root rows names stores grown, made_few rows, length-append rows rest)
 

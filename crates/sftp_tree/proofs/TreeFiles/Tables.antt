@@ -25,7 +25,7 @@ use Rattle.sftp_treefile.specs.declared.files.Owner.{Owner}
 use Rattle.sftp_treefile.specs.declared.files.Kind.{Kind}
 use Rattle.sftp_treefile.specs.declared.files.Kind.TheVariants as kinds
 use Rattle.sftp_treefile.specs.declared.files.Row.{Row}
-use Rattle.sftp_treefile.specs.Limits.{usual_limits}
+use Rattle.sftp_treefile.specs.declared.limits.TreeLimits.{TreeLimits}
 use Rattle.sftp_treefile.specs.TreeFile.{place_of, same_place, is_dir, is_dir_at, has_dir, is_target, are_bytes, IsOwner, IsKind, IsPlaceText, IsNext, AreRows}
 use Rattle.sftp_tree.specs.declared.nodes.Node.{Node}
 use Rattle.sftp_tree.specs.declared.nodes.Node.TheVariants.{Dir, File, Link}
@@ -60,9 +60,9 @@ abbrev pub bare_names : Owner → List Row → Names
 bare_names root rows = only_root root ++ map bare_entry rows
 
 -- each kind may come after the rows before it
-abbrev pub AreKinds : List Row → List Row → Type 0
-AreKinds earlier [] = Unit {0}
-AreKinds earlier (row ∷ rows) = IsKind usual_limits earlier row.kind × AreKinds (earlier ++ row ∷ []) rows
+abbrev pub AreKinds : TreeLimits → List Row → List Row → Type 0
+AreKinds bounds earlier [] = Unit {0}
+AreKinds bounds earlier (row ∷ rows) = IsKind bounds earlier row.kind × AreKinds bounds (earlier ++ row ∷ []) rows
 
 -- what holds of the table of a tree within the limits, but for their number
 pub record IsTable (root : Owner) (names : Names) : Type 0 where
@@ -112,10 +112,10 @@ kind_is : (kind : Kind) → is_dir kind ≡ is_directory (Some (bare_kind kind))
 kind_is (kinds.Dir owner) = refl
 kind_is other = refl
 
-kind_fits : (earlier : List Row) (kind : Kind) → IsKind usual_limits earlier kind → IsFitNode (bare_kind kind)
-kind_fits earlier (kinds.Dir owner) fits = fits
-kind_fits earlier (kinds.Link target) fits = (fits.1, fits.0)
-kind_fits earlier other fits = tt
+kind_fits : (bounds : TreeLimits) → (earlier : List Row) (kind : Kind) → IsKind bounds earlier kind → IsFitNode (bare_kind kind)
+kind_fits bounds earlier (kinds.Dir owner) fits = fits
+kind_fits bounds earlier (kinds.Link target) fits = (fits.1, fits.0)
+kind_fits bounds earlier other fits = tt
 
 here_or_behind : (dir same : Bool) (node : Node) (more : Bool) (o : Option Node) → dir ≡ is_directory (Some node) → more ≡ is_directory o → (same ≡ true → o ≡ None) → ((dir && same) || more) ≡ is_directory (cond same (Some node) o)
 here_or_behind true true node more o dir-is more-is none = dir-is
@@ -178,8 +178,8 @@ later_places earlier place later =
     all_to_map (λ (e : Place × Node). e.0) (λ q. place_cmp q place ≡ Less) (map bare_entry earlier) (all_to_map bare_entry (λ (e : Place × Node). place_cmp e.0 place ≡ Less) earlier later)
 
 -- the place of a row comes after all places before it
-pub later_than_all : (root : Owner) (earlier : List Row) (row : Row) → IsNext usual_limits earlier row → AllByRecursion (λ q. place_cmp q (place_of row.path) ≡ Less) (keys_of (bare_names root earlier))
-later_than_all root earlier row next = (root_before (place_of row.path) next.below_root, later_places earlier (place_of row.path) next.later)
+pub later_than_all : (bounds : TreeLimits) → (root : Owner) (earlier : List Row) (row : Row) → IsNext bounds earlier row → AllByRecursion (λ q. place_cmp q (place_of row.path) ≡ Less) (keys_of (bare_names root earlier))
+later_than_all bounds root earlier row next = (root_before (place_of row.path) next.below_root, later_places earlier (place_of row.path) next.later)
 
 pub text_place : (text : List ℕ) → IsPlaceText text → IsPlace (place_of text)
 text_place text is = (is.names, le-leb (length (place_of text)) 64 is.depth)
@@ -191,22 +191,22 @@ names_split root earlier rows = ap (λ (es : Names). ([], Dir root) ∷ es) (map
 pub names_push : (root : Owner) (earlier : List Row) (row : Row) → bare_names root (earlier ++ row ∷ []) ≡ bare_names root earlier ++ bare_entry row ∷ []
 names_push root earlier row = names_split root earlier (row ∷ [])
 
-row_push : (root : Owner) (earlier : List Row) (row : Row) → IsTable root (bare_names root earlier) → IsNext usual_limits earlier row → IsTable root (bare_names root (earlier ++ row ∷ []))
-row_push root earlier row t next = subst (IsTable root) (sym (names_push root earlier row))
-    (table_push root (bare_names root earlier) (bare_entry row) t (text_place row.path next.path) (kind_fits earlier row.kind next.kind) (later_than_all root earlier row next) (sym (has_dir_is root earlier (parent (place_of row.path)) t.ordered) ∙ next.parent))
+row_push : (bounds : TreeLimits) → (root : Owner) (earlier : List Row) (row : Row) → IsTable root (bare_names root earlier) → IsNext bounds earlier row → IsTable root (bare_names root (earlier ++ row ∷ []))
+row_push bounds root earlier row t next = subst (IsTable root) (sym (names_push root earlier row))
+    (table_push root (bare_names root earlier) (bare_entry row) t (text_place row.path next.path) (kind_fits bounds earlier row.kind next.kind) (later_than_all bounds root earlier row next) (sym (has_dir_is root earlier (parent (place_of row.path)) t.ordered) ∙ next.parent))
 
-rows_table : (root : Owner) (earlier rows : List Row) → IsTable root (bare_names root earlier) → AreRows usual_limits earlier rows → IsTable root (bare_names root (earlier ++ rows))
-rows_table root earlier [] t grown = rw append-nil t
-rows_table root earlier (row ∷ rows) t grown =
-    subst (λ (rs : List Row). IsTable root (bare_names root rs)) (append_assoc earlier (row ∷ []) rows) (rows_table root (earlier ++ row ∷ []) rows (row_push root earlier row t grown.0) grown.1)
+rows_table : (bounds : TreeLimits) → (root : Owner) (earlier rows : List Row) → IsTable root (bare_names root earlier) → AreRows bounds earlier rows → IsTable root (bare_names root (earlier ++ rows))
+rows_table bounds root earlier [] t grown = rw append-nil t
+rows_table bounds root earlier (row ∷ rows) t grown =
+    subst (λ (rs : List Row). IsTable root (bare_names root rs)) (append_assoc earlier (row ∷ []) rows) (rows_table bounds root (earlier ++ row ∷ []) rows (row_push bounds root earlier row t grown.0) grown.1)
 
-pub table_of_rows : (root : Owner) (rows : List Row) → IsOwner root → AreRows usual_limits [] rows → IsTable root (bare_names root rows)
-table_of_rows root rows fits grown = rows_table root [] rows (root_table root fits) grown
+pub table_of_rows : (bounds : TreeLimits) → (root : Owner) (rows : List Row) → IsOwner root → AreRows bounds [] rows → IsTable root (bare_names root rows)
+table_of_rows bounds root rows fits grown = rows_table bounds root [] rows (root_table root fits) grown
 
 -- a row's parent is a directory among the rows before it
-pub row_parent : (root : Owner) (rows : List Row) (row : Row) → IsOwner root → AreRows usual_limits [] rows → IsNext usual_limits rows row → IsTrue (is_directory (node_at (bare_names root rows) (parent (place_of row.path))))
-row_parent root rows row fits grown next =
-    sym (has_dir_is root rows (parent (place_of row.path)) (table_of_rows root rows fits grown).ordered) ∙ next.parent
+pub row_parent : (bounds : TreeLimits) → (root : Owner) (rows : List Row) (row : Row) → IsOwner root → AreRows bounds [] rows → IsNext bounds rows row → IsTrue (is_directory (node_at (bare_names root rows) (parent (place_of row.path))))
+row_parent bounds root rows row fits grown next =
+    sym (has_dir_is root rows (parent (place_of row.path)) (table_of_rows bounds root rows fits grown).ordered) ∙ next.parent
 
 -- ---- and back
 
@@ -218,8 +218,8 @@ none_behind : (e : Place × Node) (entries : Names) (p : Place) → IsStrictlySo
 unfolding get
 none_behind e entries p sorted less = lookup-none (is_at (place_cmp p)) (e ∷ entries) (none_below_head place_cmp-total p e entries sorted less)
 
-next_of_table : (root : Owner) (earlier : List Row) (row : Row) (rows : List Row) → IsTable root (bare_names root (earlier ++ row ∷ rows)) → IsPlaceText row.path → IsKind usual_limits earlier row.kind → IsNext usual_limits earlier row
-next_of_table root earlier row rows whole text kind =
+next_of_table : (bounds : TreeLimits) → (root : Owner) (earlier : List Row) (row : Row) (rows : List Row) → IsTable root (bare_names root (earlier ++ row ∷ rows)) → IsPlaceText row.path → IsKind bounds earlier row.kind → IsNext bounds earlier row
+next_of_table bounds root earlier row rows whole text kind =
     let place = place_of row.path in
     let front = bare_names root earlier in
     let back : Names = bare_entry row ∷ map bare_entry rows in
@@ -239,11 +239,11 @@ next_of_table root earlier row rows whole text kind =
       kind = kind;
     }
 
-pub rows_of_table : (root : Owner) (earlier rows : List Row) → IsTable root (bare_names root (earlier ++ rows)) → AllByRecursion (λ (r : Row). IsPlaceText r.path) rows → AreKinds earlier rows → AreRows usual_limits earlier rows
-rows_of_table root earlier [] t texts fit = tt
-rows_of_table root earlier (row ∷ rows) t texts fit =
+pub rows_of_table : (bounds : TreeLimits) → (root : Owner) (earlier rows : List Row) → IsTable root (bare_names root (earlier ++ rows)) → AllByRecursion (λ (r : Row). IsPlaceText r.path) rows → AreKinds bounds earlier rows → AreRows bounds earlier rows
+rows_of_table bounds root earlier [] t texts fit = tt
+rows_of_table bounds root earlier (row ∷ rows) t texts fit =
     let split : IsTable root (bare_names root ((earlier ++ row ∷ []) ++ rows)) = subst (λ (rs : List Row). IsTable root (bare_names root rs)) (sym (append_assoc earlier (row ∷ []) rows)) t in
-    (next_of_table root earlier row rows t texts.0 fit.0, rows_of_table root (earlier ++ row ∷ []) rows split texts.1 fit.1)
+    (next_of_table bounds root earlier row rows t texts.0 fit.0, rows_of_table bounds root (earlier ++ row ∷ []) rows split texts.1 fit.1)
 
 -- the root comes first
 pub root_first : (names : Names) → InOrder place_cmp names → IsTrue (is_directory (node_at names [])) → (root : Owner) × (entries : Names) × (names ≡ only_root root ++ entries)

@@ -9,11 +9,13 @@ use Rattle.std.proofs.lemmas.Bool.{eqb-true, eq-eqb}
 use Rattle.sftp_path.specs.Place.{Place, absolute}
 use Rattle.sftp_path.specs.Table.{get}
 use Rattle.sftp_path.proofs.Table.Laws.{get-put}
-use Rattle.sftp_treefile.specs.Limits.{usual_limits}
+use Rattle.sftp_treefile.specs.declared.limits.TreeLimits.{TreeLimits}
+use Rattle.sftp_treefile.specs.Limits.{highest_limits}
 use Rattle.sftp_treefile.specs.TreeFile.{row_text}
 use Rattle.sftp_treefile.specs.TreeFileParts.{head_bytes}
 use Rattle.sftp_treefile.proofs.Texts.Fields.{path_length, target_length}
 use Rattle.sftp_treefile.proofs.Texts.Files.{spelled_head}
+use Rattle.sftp_treefile.proofs.Texts.Limits.{file_bytes_bound}
 use Rattle.sftp_tree.specs.declared.file_contents.Content.{Content}
 use Rattle.sftp_tree.specs.declared.nodes.Node.{Node}
 use Rattle.sftp_tree.specs.declared.nodes.Node.TheVariants.{Dir, File, Link}
@@ -24,20 +26,20 @@ use Rattle.sftp_tree.proofs.TreeFiles.Tables.{IsPlace, IsFitNode}
 use Rattle.sftp_tree.proofs.TreeFiles.Contents.{number_is}
 use Rattle.sftp_tree.proofs.TreeFiles.Named.{place_text, IsBelowRoot, IsFitContent, all_at, length-rows}
 use Rattle.sftp_tree.proofs.Limits.Tests.{stands-of}
-use Rattle.sftp_tree.proofs.TreeFiles.Files.{limits_from, usual-entries, split_tree, fit_files}
+use Rattle.sftp_tree.proofs.TreeFiles.Files.{limits_from, highest-entries, split_tree, fit_files}
 
 -- ---- lengths
 
 pub path_short : (place : Place) → IsPlace place → length (absolute place) < 2 ^ 32
 path_short place is = path_length (absolute place) (place_text place is)
 
-bytes_short : (files : Files) (number : ℕ) (content : Option Content) → AllByRecursion (λ e. IsFitContent e.1) files → content_at files number ≡ content → IfSome content (λ (c : Content). length c.bytes < 2 ^ 32)
-bytes_short files number None fit is = tt
-bytes_short files number (Some content) fit is = omega (arith, (all_at IsFitContent files number content fit is).1)
+bytes_short : (bounds : TreeLimits) → bounds.file_bytes < 2 ^ 32 → (files : Files) (number : ℕ) (content : Option Content) → AllByRecursion (λ e. IsFitContent bounds e.1) files → content_at files number ≡ content → IfSome content (λ (c : Content). length c.bytes < 2 ^ 32)
+bytes_short bounds bound files number None fit is = tt
+bytes_short bounds bound files number (Some content) fit is = omega (arith, bound, (all_at (IsFitContent bounds) files number content fit is).1)
 
 pub node_short : (t : Tree) → IsKept t → (standing : Node) → IsFitNode standing → IsShort t.files standing
 node_short t kept (Dir owner) fits = tt
-node_short t kept (File number) fits = bytes_short t.files number (content_at t.files number) (fit_files t (stands-of t kept)) refl
+node_short t kept (File number) fits = bytes_short t.limits (file_bytes_bound t.limits kept.well_formed.limits) t.files number (content_at t.files number) (fit_files t (stands-of t kept)) refl
 node_short t kept (Link target) fits = target_length target (fits.1, fits.0)
 
 -- ---- one entry more
@@ -47,7 +49,7 @@ pub record Entry (t : Tree) (i : ℕ) (e : Place × Node) : Type 0 where
   pub below : IsBelowRoot e
   pub node : IsFitNode e.1
   pub within : i < length t.names
-  pub few : length t.names ≤ usual_limits.entries + 1
+  pub few : length t.names ≤ highest_limits.entries + 1
 
 -- ---- the first names that were met
 
@@ -117,10 +119,10 @@ pub record Written (t : Tree) (start out : List ℕ) (firsts : Firsts) (entry : 
 -- ---- the head
 
 -- the root is one of the places
-pub names_count : (t : Tree) → IsKept t → (1 ≤ length t.names) × (length t.names ≤ usual_limits.entries + 1)
+pub names_count : (t : Tree) → IsKept t → (1 ≤ length t.names) × (length t.names ≤ highest_limits.entries + 1)
 names_count t kept =
     let s = split_tree t (stands-of t kept) in
-    (omega (arith, ap length s.names_are), omega (arith, ap length s.names_are, s.few, usual-entries t (stands-of t kept)))
+    (omega (arith, ap length s.names_are), omega (arith, ap length s.names_are, s.few, highest-entries t (stands-of t kept)))
 
 pub home_short : (t : Tree) → IsKept t → length (absolute t.home) < 2 ^ 32
 home_short t kept = path_short t.home (kept.well_formed.home, (limits_from t kept.within_limits).home)

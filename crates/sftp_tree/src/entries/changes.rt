@@ -26,7 +26,7 @@ impl Dir {
     ///
     /// # Errors
     ///
-    /// `NoMemory` if memory runs out; all is then as before.
+    /// `NoMemory` if memory runs out; nothing changes.
     pub(crate) fn put(
         &mut self,
         parent: &[Name],

@@ -8,7 +8,7 @@ use crate::nodes::Node;
 use std::alloc::Global;
 
 impl Child {
-    /// The node as a child, a directory without children. It takes no memory.
+    /// The node as a child, a directory without children. Does not allocate.
     pub(super) fn new(alloc: Global, node: Node) -> Child
         ensures alone { branch result ≡ ([], node) ∷ [] }
         ensures whole { IsBranch result }

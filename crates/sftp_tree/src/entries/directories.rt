@@ -60,7 +60,7 @@ impl Model for Dir {
 }
 
 impl Dir {
-    /// A directory with no children. It takes no memory.
+    /// A directory with no children. Does not allocate.
     pub(crate) fn new(alloc: Global, owner: Owner) -> Dir
         ensures { result ≡ only_root owner }
     {

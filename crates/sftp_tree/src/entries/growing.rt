@@ -33,7 +33,7 @@ pub(crate) struct Growth {
 }
 
 impl Growth {
-    /// The root alone. It takes no memory.
+    /// The root alone. Does not allocate.
     pub(crate) fn new(alloc: Global, root: Owner) -> Growth
         ensures names { names_in result ≡ only_root root }
         ensures place { place_in result ≡ [] }

@@ -23,7 +23,7 @@ impl Dir {
     ///
     /// # Errors
     ///
-    /// `NoMemory` if memory runs out; all is then as before.
+    /// `NoMemory` if memory runs out; nothing changes.
     fn fill(&mut self, alloc: Global, parent: &[Name], name: &Name) -> Result<bool, NoMemory>
         requires { IsTrue (is_directory (node_at self.old parent.now)) }
         ensures ok { IfOk result (IsFilled (parent.now ++ name.now ∷ []) self.old self.new) }
@@ -42,7 +42,7 @@ impl Dir {
     ///
     /// # Errors
     ///
-    /// `NoMemory` if memory runs out; all is then as before.
+    /// `NoMemory` if memory runs out; nothing changes.
     // Slow to prove: children, with all below them, are dropped in two places.
     pub(crate) fn move_child(&mut self, old: &Place, new: &Place) -> Result<Option<Child>, NoMemory>
         requires taken { IsTrue (is_taken (node_at self.old old.now)) }

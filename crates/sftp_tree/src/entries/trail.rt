@@ -31,7 +31,7 @@ impl<'a> Model for Trail<'a> {
 }
 
 impl<'a> Trail<'a> {
-    /// A walk that stands at the root. It takes no memory.
+    /// A walk that stands at the root. Does not allocate.
     pub(crate) fn new(alloc: Global, root: &'a Dir) -> Trail<'a>
         ensures { result ≡ record { names = root.now; at = [] } }
     {

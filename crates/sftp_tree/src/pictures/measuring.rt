@@ -3,9 +3,7 @@
 use crate::entries::directories::{Child, Dir};
 use crate::trees::Tree;
 use sftp_path::Place;
-
-/// The opening, the user, the group, the count, and the owner of the root.
-const HEAD: usize = 32;
+use sftp_treefile::head_size;
 
 /// A kind's letter, and an owner.
 const OWNED: usize = 13;
@@ -54,7 +52,6 @@ fn size_below(dir: &Dir, path: usize) -> usize {
 pub(super) fn file_size(tree: &Tree, root: &Dir) -> usize {
     tree.files()
         .size()
-        .saturating_add(HEAD)
-        .saturating_add(path_size(tree.home()))
+        .saturating_add(head_size(tree.tree_limits(), path_size(tree.home())))
         .saturating_add(size_below(root, 0))
 }

@@ -15,7 +15,6 @@ use Rattle.sftp_treefile.specs.declared.files.Kind.{Kind}
 use Rattle.sftp_treefile.specs.declared.files.Kind.TheVariants.{Dir, First, Further, Link}
 use Rattle.sftp_treefile.specs.declared.files.Row.{Row}
 use Rattle.sftp_treefile.specs.declared.limits.TreeLimits.{TreeLimits}
-use Rattle.sftp_treefile.specs.Limits.{usual_limits}
 use Rattle.sftp_treefile.specs.TreeFile.{owner_text, kind_text, place_of, IsPlaceText, IsOwner, IsKind}
 use Rattle.sftp_treefile.specs.TreeFileParts.{Reads, ReadsNone, IsNumber, IsTarget, IsFileBytes, IsFile, file_text}
 
@@ -101,10 +100,6 @@ pub owner_front : (x y : Owner) (r s : List ℕ) → IsOwner x → IsOwner y →
 owner_front x y r s x-fits y-fits e = grind (arith, number_front, owner_parts, same_owner)
 
 -- ---- files
-
--- the bytes of a file can be written under the usual limits
-pub usual_file_bytes : (limits : TreeLimits) → limits ≡ usual_limits → limits.file_bytes < 2 ^ 32
-usual_file_bytes limits usual = omega (arith, ap (λ (l : TreeLimits). l.file_bytes) usual)
 
 pub file_bytes_length : (limits : TreeLimits) → limits.file_bytes < 2 ^ 32 → (bytes : List ℕ)
     → IsFileBytes limits bytes → length bytes < 2 ^ 32

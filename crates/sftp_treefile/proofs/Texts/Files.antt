@@ -11,7 +11,7 @@ use Rattle.sftp_treefile.specs.declared.limits.TreeLimits.{TreeLimits}
 use Rattle.sftp_treefile.specs.TreeFile.{row_text, spelled, AreRows, IsTreeFile, IsSpelled}
 use Rattle.sftp_treefile.specs.TreeFileParts.{Reads, ReadsNone, OutOfMemoryOr, head_bytes, IsHead, head_text, AreRead}
 use Rattle.sftp_treefile.specs.TreeFileParts.{AreNone}
-use Rattle.sftp_treefile.proofs.Texts.Fields.{usual_file_bytes}
+use Rattle.sftp_treefile.proofs.Texts.Limits.{file_bytes_bound}
 use Rattle.sftp_treefile.proofs.Texts.Heads.{head_front}
 use Rattle.sftp_treefile.proofs.Texts.Entries.{entries_are_one}
 
@@ -60,7 +60,7 @@ one_file f g bytes f-is g-is =
     (head_fits f f-is.may_be) (head_fits g g-is.may_be) (sym (bytes_parts f bytes f-is) ∙ bytes_parts g bytes g-is) in
     let texts = ap (λ (x : List ℕ). x ++ []) heads.1 in
     let g-rows = subst (λ (l : TreeLimits). AreRows l [] g.rows) (sym (same_limits f g heads.0)) g-is.may_be.rows in
-    let rows = entries_are_one f.limits (usual_file_bytes f.limits f-is.may_be.limits) [] f.rows g.rows [] []
+    let rows = entries_are_one f.limits (file_bytes_bound f.limits f-is.may_be.limits) [] f.rows g.rows [] []
     f-is.may_be.rows g-rows (same_count f g heads.0) texts in
     same_file f g heads.0 rows.0
 
@@ -92,7 +92,7 @@ pub no_file_trailing : (bytes rest more : List ℕ) (head : Head) (rows : List R
 no_file_trailing bytes rest more head rows read all left file is =
     let e = entries_after file bytes rest head read is in
     let same =
-    entries_are_one head.limits (usual_file_bytes head.limits read.0.limits) [] rows file.rows more [] all.rows_fit
+    entries_are_one head.limits (file_bytes_bound head.limits read.0.limits) [] rows file.rows more [] all.rows_fit
     e.2 (all.count_is ∙ sym e.0) (sym all.bytes_are ∙ e.1 ∙ sym (append-nil (flat_map row_text file.rows))) in
     omega (arith, left, ap length same.1)
 

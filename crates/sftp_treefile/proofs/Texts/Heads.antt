@@ -1,143 +1,314 @@
--- Heads and their texts.
-use Rattle.std.proofs.Common.{◌≡◌, ℕ, List, ◌++◌, drop, sym, ap, subst, ◌∙◌, append_assoc, arith}
+-- Heads and their texts: the front, the limits, and what is said of the root.
+use Rattle.std.proofs.Common.{◌≡◌, ◌<◌, ◌^◌, ℕ, Bool, true, false, List, ◌++◌, get_or, drop, refl, sym, ap, ◌∙◌}
+use Rattle.std.proofs.Common.{subst, arith}
+use Rattle.std.proofs.lemmas.Bool.{false≢true}
 use Rattle.sftp_wire.specs.Spelling.{uint32, string}
 use Rattle.sftp_treefile.specs.declared.files.Owner.{Owner}
+use Rattle.sftp_treefile.specs.declared.heads.Front.{Front}
 use Rattle.sftp_treefile.specs.declared.heads.Head.{Head}
 use Rattle.sftp_treefile.specs.declared.limits.TreeLimits.{TreeLimits}
-use Rattle.sftp_treefile.specs.Limits.{usual_limits}
-use Rattle.sftp_treefile.specs.TreeFile.{tree_opening, owner_text, IsPlaceText, IsOwner}
-use Rattle.sftp_treefile.specs.TreeFileParts.{Reads, ReadsNone, IsNumber, IsCount, head_bytes, IsHead}
+use Rattle.sftp_treefile.specs.Limits.{usual_limits, highest_limits, IsBetween, AreLimits, are_own}
+use Rattle.sftp_treefile.specs.TreeFile.{tree_opening, limits_text, owner_text, IsPlaceText, IsOwner}
+use Rattle.sftp_treefile.specs.TreeFileParts.{Reads, ReadsNone, IsNumber, IsCount, IsFront, front_bytes, AreSet, IsRoot}
+use Rattle.sftp_treefile.specs.TreeFileParts.{front_text, root_text, head_bytes, IsHead}
 use Rattle.sftp_treefile.proofs.Texts.Fields.{number_front, owner_front, path_front}
-use Rattle.std.proofs.lemmas.Grind.{common_steps}
+use Rattle.sftp_treefile.proofs.Texts.Limits.{usual_are, usual_not_own, not_own}
+use Rattle.sftp_treefile.proofs.Texts.Sequence.{IsOne, Both, both_text, no_first, no_second, both_one, both_read}
+use Rattle.sftp_treefile.proofs.Texts.Sequence.{none_as, one_as}
 
--- what follows the gid, the uid, and the home
-behind_gid : Head → List ℕ → List ℕ
-behind_gid head rest = uint32 head.count ++ (owner_text head.root ++ rest)
+-- ---- the front: the opening, the home, the uid and the gid
 
-behind_uid : Head → List ℕ → List ℕ
-behind_uid head rest = uint32 head.gid ++ behind_gid head rest
+abbrev pub AnyOpening : Bool → Type 0
+AnyOpening own = Unit {0}
 
-behind_home : Head → List ℕ → List ℕ
-behind_home head rest = uint32 head.uid ++ behind_uid head rest
+opening_one : IsOne AnyOpening tree_opening
+opening_one false false r s x-fits y-fits e = (refl, ap (drop 8) e)
+opening_one true true r s x-fits y-fits e = (refl, ap (drop 8) e)
+opening_one false true r s x-fits y-fits e = absurd (omega (arith, ap (λ (l : List ℕ). get_or l 7 0) e))
+opening_one true false r s x-fits y-fits e = absurd (omega (arith, ap (λ (l : List ℕ). get_or l 7 0) e))
 
-head_parts : (head : Head) (rest : List ℕ)
-    → head_bytes head ++ rest ≡ tree_opening ++ (string head.home ++ behind_home head rest)
-unfolding behind_home behind_uid behind_gid
-head_parts head rest = simp (append_assoc)
+abbrev pub AreNumbers : ℕ × ℕ → Type 0
+AreNumbers = Both IsNumber (λ (uid : ℕ). IsNumber)
 
--- what is read of a head, field by field
-pub record HomeRead (bytes home rest : List ℕ) : Type 0 where
-  pub fits : IsPlaceText home
-  pub is : bytes ≡ tree_opening ++ (string home ++ rest)
+abbrev pub numbers_text : ℕ × ℕ → List ℕ
+numbers_text = both_text uint32 (λ (uid : ℕ). uint32)
 
-pub record NumbersRead (limits : TreeLimits) (bytes home : List ℕ) (uid gid count : ℕ) (rest : List ℕ) : Type 0 where
-  pub usual : limits ≡ usual_limits
-  pub home_fits : IsPlaceText home
-  pub uid_fits : IsNumber uid
-  pub gid_fits : IsNumber gid
-  pub count_fits : IsCount limits count
-  pub is : bytes ≡ tree_opening ++ (string home ++ (uint32 uid ++ (uint32 gid ++ (uint32 count ++ rest))))
+abbrev pub IsHomed : List ℕ × (ℕ × ℕ) → Type 0
+IsHomed = Both IsPlaceText (λ (home : List ℕ). AreNumbers)
 
-pub home_read : (bytes after rest home : List ℕ) → bytes ≡ tree_opening ++ after
-    → Reads IsPlaceText string after home rest → HomeRead bytes home rest
-home_read bytes after rest home opened read = grind arith
+abbrev pub homed_text : List ℕ × (ℕ × ℕ) → List ℕ
+homed_text = both_text string (λ (home : List ℕ). numbers_text)
 
-pub numbers_read : (limits : TreeLimits) (bytes r0 r1 r2 r3 home : List ℕ) (uid gid count : ℕ)
-    → limits ≡ usual_limits → HomeRead bytes home r0 → Reads IsNumber uint32 r0 uid r1 → Reads IsNumber uint32 r1 gid r2
-    → Reads (IsCount limits) uint32 r2 count r3 → NumbersRead limits bytes home uid gid count r3
-numbers_read limits bytes r0 r1 r2 r3 home uid gid count usual h u g c = grind arith
+abbrev pub IsOpened : Bool × (List ℕ × (ℕ × ℕ)) → Type 0
+IsOpened = Both AnyOpening (λ (own : Bool). IsHomed)
 
--- ---- where no head is
+abbrev pub opened_text : Bool × (List ℕ × (ℕ × ℕ)) → List ℕ
+opened_text = both_text tree_opening (λ (own : Bool). homed_text)
 
-opened_same : (a b : List ℕ) → tree_opening ++ a ≡ tree_opening ++ b → a ≡ b
-opened_same a b e = ap (drop 8) e
+abbrev pub front_view : Front → Bool × (List ℕ × (ℕ × ℕ))
+front_view front = (front.has_limits, (front.home, (front.uid, front.gid)))
 
-same_home : (bytes r rest home : List ℕ) (head : Head) → HomeRead bytes home r → IsHead head
-    → bytes ≡ head_bytes head ++ rest → (home ≡ head.home) × (r ≡ behind_home head rest)
-same_home bytes r rest home head h fits e = path_front home head.home r (behind_home head rest) h.fits fits.home
-    (opened_same (string home ++ r) (string head.home ++ behind_home head rest) (sym h.is ∙ e ∙ head_parts head rest))
+front_fits : (front : Front) → IsFront front → IsOpened (front_view front)
+front_fits front fits = (tt, (fits.home, (fits.uid, fits.gid)))
 
-pub opening_none : (bytes : List ℕ) → ((rest : List ℕ) → bytes ≡ tree_opening ++ rest → ⊥)
-    → ReadsNone IsHead head_bytes bytes
-opening_none bytes none head rest fits e = none (string head.home ++ behind_home head rest) (e ∙ head_parts head rest)
+none_front : (bytes : List ℕ) → ReadsNone IsOpened opened_text bytes → ReadsNone IsFront front_bytes bytes
+none_front bytes none =
+    none_as IsFront front_bytes IsOpened opened_text front_view front_fits (λ front. refl) bytes none
 
-pub home_none : (bytes r : List ℕ) → bytes ≡ tree_opening ++ r → ReadsNone IsPlaceText string r
-    → ReadsNone IsHead head_bytes bytes
-home_none bytes r opened none head rest fits e = grind (arith, common_steps, behind_home, opened_same, head_parts)
+pub opening_none : (bytes : List ℕ)
+    → ((own : Bool) (rest : List ℕ) → bytes ≡ tree_opening own ++ rest → ⊥) → ReadsNone IsFront front_bytes bytes
+opening_none bytes none = none_front bytes
+    (no_first AnyOpening tree_opening (λ own. IsHomed) (λ own. homed_text) bytes (λ own rest fits e. none own rest e))
 
-pub uid_none : (bytes r home : List ℕ) → HomeRead bytes home r → ReadsNone IsNumber uint32 r
-    → ReadsNone IsHead head_bytes bytes
-unfolding behind_home
-uid_none bytes r home h none head rest fits e =
-    none head.uid (behind_uid head rest) fits.uid (same_home bytes r rest home head h fits e).1
+module _ (bytes opened : List ℕ) (own : Bool) (opening : bytes ≡ tree_opening own ++ opened) where
+  none_opened : ReadsNone IsHomed homed_text opened → ReadsNone IsFront front_bytes bytes
+  none_opened none = none_front bytes
+      (no_second AnyOpening tree_opening (λ own. IsHomed) (λ own. homed_text) opening_one bytes opened own (tt, opening) none)
 
-same_uid : (bytes r0 r1 rest home : List ℕ) (uid : ℕ) (head : Head) → HomeRead bytes home r0
-    → Reads IsNumber uint32 r0 uid r1 → IsHead head → bytes ≡ head_bytes head ++ rest
-    → (uid ≡ head.uid) × (r1 ≡ behind_uid head rest)
-unfolding behind_home
-same_uid bytes r0 r1 rest home uid head h u fits e = number_front uid head.uid r1 (behind_uid head rest) u.0 fits.uid
-    (sym u.1 ∙ (same_home bytes r0 rest home head h fits e).1)
+  pub home_none : ReadsNone IsPlaceText string opened → ReadsNone IsFront front_bytes bytes
+  home_none none =
+      none_opened (no_first IsPlaceText string (λ home. AreNumbers) (λ home. numbers_text) opened none)
 
-pub gid_none : (bytes r0 r1 home : List ℕ) (uid : ℕ) → HomeRead bytes home r0 → Reads IsNumber uint32 r0 uid r1
-    → ReadsNone IsNumber uint32 r1 → ReadsNone IsHead head_bytes bytes
-unfolding behind_uid
-gid_none bytes r0 r1 home uid h u none head rest fits e =
-    none head.gid (behind_gid head rest) fits.gid (same_uid bytes r0 r1 rest home uid head h u fits e).1
+  module _ (homed home : List ℕ) (homing : Reads IsPlaceText string opened home homed) where
+    none_homed : ReadsNone AreNumbers numbers_text homed → ReadsNone IsFront front_bytes bytes
+    none_homed none = none_opened
+        (no_second IsPlaceText string (λ home. AreNumbers) (λ home. numbers_text) path_front opened homed home homing none)
 
-same_gid : (bytes r0 r1 r2 rest home : List ℕ) (uid gid : ℕ) (head : Head) → HomeRead bytes home r0
-    → Reads IsNumber uint32 r0 uid r1 → Reads IsNumber uint32 r1 gid r2 → IsHead head
-    → bytes ≡ head_bytes head ++ rest → (gid ≡ head.gid) × (r2 ≡ behind_gid head rest)
-unfolding behind_uid
-same_gid bytes r0 r1 r2 rest home uid gid head h u g fits e = number_front gid head.gid r2 (behind_gid head rest) g.0
-    fits.gid (sym g.1 ∙ (same_uid bytes r0 r1 rest home uid head h u fits e).1)
+    pub uid_none : ReadsNone IsNumber uint32 homed → ReadsNone IsFront front_bytes bytes
+    uid_none none = none_homed (no_first IsNumber uint32 (λ uid. IsNumber) (λ uid. uint32) homed none)
 
-pub count_none : (limits : TreeLimits) (bytes r0 r1 r2 home : List ℕ) (uid gid : ℕ) → limits ≡ usual_limits
-    → HomeRead bytes home r0 → Reads IsNumber uint32 r0 uid r1 → Reads IsNumber uint32 r1 gid r2
-    → ReadsNone (IsCount limits) uint32 r2 → ReadsNone IsHead head_bytes bytes
-unfolding behind_gid
-count_none limits bytes r0 r1 r2 home uid gid usual h u g none head rest fits e =
-    none head.count (owner_text head.root ++ rest)
-    (subst (λ (l : TreeLimits). IsCount l head.count) (fits.limits ∙ sym usual) fits.count)
-    (same_gid bytes r0 r1 r2 rest home uid gid head h u g fits e).1
+    pub gid_none : (owned : List ℕ) (uid : ℕ) → Reads IsNumber uint32 homed uid owned
+        → ReadsNone IsNumber uint32 owned → ReadsNone IsFront front_bytes bytes
+    gid_none owned uid owning none = none_homed
+        (no_second IsNumber uint32 (λ uid. IsNumber) (λ uid. uint32) number_front homed owned uid owning none)
 
-count_number : (limits : TreeLimits) (count : ℕ) → limits ≡ usual_limits → IsCount limits count → IsNumber count
-count_number limits count usual fits = omega (arith, ap (λ (l : TreeLimits). l.entries) usual, fits)
+    pub front_read : (owned rest : List ℕ) (uid gid : ℕ) → Reads IsNumber uint32 homed uid owned
+        → Reads IsNumber uint32 owned gid rest
+        → Reads IsFront front_bytes bytes (record { has_limits = own; home = home; uid = uid; gid = gid }) rest
+    front_read owned rest uid gid first second =
+        let numbers = both_read IsNumber uint32 (λ uid. IsNumber) (λ uid. uint32) homed owned rest uid gid first second in
+        let behind = both_read IsPlaceText string (λ home. AreNumbers) (λ home. numbers_text) opened homed rest home (uid, gid) homing numbers in
+        let whole = both_read AnyOpening tree_opening (λ own. IsHomed) (λ own. homed_text) bytes opened rest own (home, (uid, gid)) (tt, opening) behind in
+        (record { home = homing.0; uid = first.0; gid = second.0 }, whole.1)
 
-same_numbers : (limits : TreeLimits) (bytes r rest home : List ℕ) (uid gid count : ℕ) (head : Head)
-    → NumbersRead limits bytes home uid gid count r → IsHead head → bytes ≡ head_bytes head ++ rest
-    → (home ≡ head.home) × (uid ≡ head.uid) × (gid ≡ head.gid) × (count ≡ head.count) × (r ≡ owner_text head.root ++ rest)
-unfolding behind_home behind_uid behind_gid
-same_numbers limits bytes r rest home uid gid count head n fits e =
-    let h = same_home bytes (uint32 uid ++ (uint32 gid ++ (uint32 count ++ r))) rest home head
-    (record { fits = n.home_fits; is = n.is }) fits e in
-    let u =
-    number_front uid head.uid (uint32 gid ++ (uint32 count ++ r)) (behind_uid head rest) n.uid_fits fits.uid h.1 in
-    let g = number_front gid head.gid (uint32 count ++ r) (behind_gid head rest) n.gid_fits fits.gid u.1 in
-    let c = number_front count head.count r (owner_text head.root ++ rest)
-    (count_number limits count n.usual n.count_fits) (count_number head.limits head.count fits.limits fits.count) g.1 in
-    (h.0, u.0, g.0, c.0, c.1)
+numbers_one : IsOne AreNumbers numbers_text
+numbers_one = both_one IsNumber uint32 (λ uid. IsNumber) (λ uid. uint32) number_front (λ uid fits. number_front)
 
-pub root_none : (limits : TreeLimits) (bytes r home : List ℕ) (uid gid count : ℕ)
-    → NumbersRead limits bytes home uid gid count r → ReadsNone IsOwner owner_text r → ReadsNone IsHead head_bytes bytes
-root_none limits bytes r home uid gid count n none head rest fits e =
-    none head.root rest fits.root (same_numbers limits bytes r rest home uid gid count head n fits e).4
+homed_one : IsOne IsHomed homed_text
+homed_one =
+    both_one IsPlaceText string (λ home. AreNumbers) (λ home. numbers_text) path_front (λ home fits. numbers_one)
 
--- ---- where one is
+pub front_one : IsOne IsFront front_bytes
+front_one = one_as IsFront front_bytes IsOpened opened_text front_view front_fits (λ front. refl)
+    (λ x y e. (λ i. record { has_limits = (e i).0; home = (e i).1.0; uid = (e i).1.1.0; gid = (e i).1.1.1 }))
+    (both_one AnyOpening tree_opening (λ own. IsHomed) (λ own. homed_text) opening_one (λ own fits. homed_one))
 
-pub head_read : (limits : TreeLimits) (bytes r rest home : List ℕ) (uid gid count : ℕ) (root : Owner)
-    → NumbersRead limits bytes home uid gid count r → Reads IsOwner owner_text r root rest
-    → Reads IsHead head_bytes bytes (record { limits = limits; home = home; uid = uid; gid = gid; count = count; root = root }) rest
-unfolding behind_home behind_uid behind_gid
-head_read limits bytes r rest home uid gid count root n read = grind (arith, common_steps, head_parts)
+-- ---- the limits
 
-pub head_front : (x y : Head) (r s : List ℕ) → IsHead x → IsHead y → head_bytes x ++ r ≡ head_bytes y ++ s
-    → (x ≡ y) × (r ≡ s)
-unfolding behind_home behind_uid behind_gid
-head_front x y r s x-fits y-fits e =
-    let n : NumbersRead x.limits (head_bytes x ++ r) x.home x.uid x.gid x.count (owner_text x.root ++ r) =
-    record { usual = x-fits.limits; home_fits = x-fits.home; uid_fits = x-fits.uid; gid_fits = x-fits.gid; count_fits = x-fits.count; is = head_parts x r } in
-    let same =
-    same_numbers x.limits (head_bytes x ++ r) (owner_text x.root ++ r) s x.home x.uid x.gid x.count y n y-fits e in
-    let root = owner_front x.root y.root r s x-fits.root y-fits.root same.4 in
-    let limits = x-fits.limits ∙ sym y-fits.limits in
-    ((λ i. record { limits = limits i; home = same.0 i; uid = same.1 i; gid = same.2 i; count = same.3 i; root = root.0 i }), root.1)
+between_one : (lowest highest : ℕ) → highest < 2 ^ 32 → IsOne (IsBetween lowest highest) uint32
+between_one lowest highest bound x y r s x-fits y-fits e =
+    number_front x y r s (omega (arith, x-fits.1, bound)) (omega (arith, y-fits.1, bound)) e
+
+abbrev pub IsEntries : ℕ → Type 0
+IsEntries = IsBetween usual_limits.entries highest_limits.entries
+
+abbrev pub IsFileSize : ℕ → Type 0
+IsFileSize = IsBetween usual_limits.file_bytes highest_limits.file_bytes
+
+abbrev pub IsReadSize : ℕ → Type 0
+IsReadSize = IsBetween usual_limits.read_bytes highest_limits.read_bytes
+
+abbrev pub IsHandles : ℕ → Type 0
+IsHandles = IsBetween usual_limits.open_handles highest_limits.open_handles
+
+entries_one : IsOne IsEntries uint32
+entries_one = between_one usual_limits.entries highest_limits.entries (omega arith)
+
+file_size_one : IsOne IsFileSize uint32
+file_size_one = between_one usual_limits.file_bytes highest_limits.file_bytes (omega arith)
+
+read_size_one : IsOne IsReadSize uint32
+read_size_one = between_one usual_limits.read_bytes highest_limits.read_bytes (omega arith)
+
+handles_one : IsOne IsHandles uint32
+handles_one = between_one usual_limits.open_handles highest_limits.open_handles (omega arith)
+
+abbrev pub AreTwo : ℕ × ℕ → Type 0
+AreTwo = Both IsReadSize (λ (read_bytes : ℕ). IsHandles)
+
+abbrev pub AreThree : ℕ × (ℕ × ℕ) → Type 0
+AreThree = Both IsFileSize (λ (file_bytes : ℕ). AreTwo)
+
+abbrev pub three_text : ℕ × (ℕ × ℕ) → List ℕ
+three_text = both_text uint32 (λ (file_bytes : ℕ). numbers_text)
+
+abbrev pub AreFour : ℕ × (ℕ × (ℕ × ℕ)) → Type 0
+AreFour = Both IsEntries (λ (entries : ℕ). AreThree)
+
+abbrev pub four_text : ℕ × (ℕ × (ℕ × ℕ)) → List ℕ
+four_text = both_text uint32 (λ (entries : ℕ). three_text)
+
+abbrev pub limits_view : TreeLimits → ℕ × (ℕ × (ℕ × ℕ))
+limits_view limits = (limits.entries, (limits.file_bytes, (limits.read_bytes, limits.open_handles)))
+
+limits_fit : (limits : TreeLimits) → AreLimits limits → AreFour (limits_view limits)
+limits_fit limits fits = (fits.entries, (fits.file_bytes, (fits.read_bytes, fits.open_handles)))
+
+none_four : (bytes : List ℕ) → ReadsNone AreFour four_text bytes → ReadsNone AreLimits (limits_text true) bytes
+none_four bytes none =
+    none_as AreLimits (limits_text true) AreFour four_text limits_view limits_fit (λ limits. refl) bytes none
+
+pub entries_none : (bytes : List ℕ) → ReadsNone IsEntries uint32 bytes → ReadsNone AreLimits (limits_text true) bytes
+entries_none bytes none =
+    none_four bytes (no_first IsEntries uint32 (λ entries. AreThree) (λ entries. three_text) bytes none)
+
+module _ (bytes r1 : List ℕ) (entries : ℕ) (first : Reads IsEntries uint32 bytes entries r1) where
+  none_three : ReadsNone AreThree three_text r1 → ReadsNone AreLimits (limits_text true) bytes
+  none_three none = none_four bytes
+      (no_second IsEntries uint32 (λ entries. AreThree) (λ entries. three_text) entries_one bytes r1 entries first none)
+
+  pub file_bytes_none : ReadsNone IsFileSize uint32 r1 → ReadsNone AreLimits (limits_text true) bytes
+  file_bytes_none none =
+      none_three (no_first IsFileSize uint32 (λ file_bytes. AreTwo) (λ file_bytes. numbers_text) r1 none)
+
+  module _ (r2 : List ℕ) (file_bytes : ℕ) (second : Reads IsFileSize uint32 r1 file_bytes r2) where
+    none_two : ReadsNone AreTwo numbers_text r2 → ReadsNone AreLimits (limits_text true) bytes
+    none_two none = none_three
+        (no_second IsFileSize uint32 (λ file_bytes. AreTwo) (λ file_bytes. numbers_text) file_size_one r1 r2 file_bytes second none)
+
+    pub read_bytes_none : ReadsNone IsReadSize uint32 r2 → ReadsNone AreLimits (limits_text true) bytes
+    read_bytes_none none =
+        none_two (no_first IsReadSize uint32 (λ read_bytes. IsHandles) (λ read_bytes. uint32) r2 none)
+
+    module _ (r3 : List ℕ) (read_bytes : ℕ) (third : Reads IsReadSize uint32 r2 read_bytes r3) where
+      pub open_handles_none : ReadsNone IsHandles uint32 r3 → ReadsNone AreLimits (limits_text true) bytes
+      open_handles_none none = none_two
+          (no_second IsReadSize uint32 (λ read_bytes. IsHandles) (λ read_bytes. uint32) read_size_one r2 r3 read_bytes third none)
+
+      pub limits_read : (rest : List ℕ) (open_handles : ℕ) → Reads IsHandles uint32 r3 open_handles rest
+          → Reads AreLimits (limits_text true) bytes (record { entries = entries; file_bytes = file_bytes; read_bytes = read_bytes; open_handles = open_handles }) rest
+      limits_read rest open_handles fourth =
+          let two = both_read IsReadSize uint32 (λ read_bytes. IsHandles) (λ read_bytes. uint32) r2 r3 rest read_bytes open_handles third fourth in
+          let three = both_read IsFileSize uint32 (λ file_bytes. AreTwo) (λ file_bytes. numbers_text) r1 r2 rest file_bytes (read_bytes, open_handles) second two in
+          let four = both_read IsEntries uint32 (λ entries. AreThree) (λ entries. three_text) bytes r1 rest entries (file_bytes, (read_bytes, open_handles)) first three in
+          (record { entries = first.0; file_bytes = second.0; read_bytes = third.0; open_handles = fourth.0 }, four.1)
+
+two_one : IsOne AreTwo numbers_text
+two_one = both_one IsReadSize uint32 (λ read_bytes. IsHandles) (λ read_bytes. uint32) read_size_one (λ read_bytes fits. handles_one)
+
+three_one : IsOne AreThree three_text
+three_one = both_one IsFileSize uint32 (λ file_bytes. AreTwo) (λ file_bytes. numbers_text) file_size_one (λ file_bytes fits. two_one)
+
+four_one : IsOne AreLimits (limits_text true)
+four_one = one_as AreLimits (limits_text true) AreFour four_text limits_view limits_fit (λ limits. refl)
+    (λ x y e. (λ i. record { entries = (e i).0; file_bytes = (e i).1.0; read_bytes = (e i).1.1.0; open_handles = (e i).1.1.1 }))
+    (both_one IsEntries uint32 (λ entries. AreThree) (λ entries. three_text) entries_one (λ entries fits. three_one))
+
+pub usual_set : AreSet false usual_limits
+usual_set = (usual_are, usual_not_own)
+
+set_one : (own : Bool) → IsOne (AreSet own) (limits_text own)
+set_one false x y r s x-fits y-fits e = (not_own x x-fits.1 ∙ sym (not_own y y-fits.1), e)
+set_one true x y r s x-fits y-fits e = four_one x y r s x-fits.0 y-fits.0 e
+
+-- where there are no limits, and where they are all the usual ones
+pub no_limits : (bytes : List ℕ) → ReadsNone AreLimits (limits_text true) bytes
+    → ReadsNone (AreSet true) (limits_text true) bytes
+no_limits bytes none limits rest fits e = none limits rest fits.0 e
+
+pub usual_none : (bytes rest : List ℕ) (limits : TreeLimits) → Reads AreLimits (limits_text true) bytes limits rest
+    → are_own limits ≡ false → ReadsNone (AreSet true) (limits_text true) bytes
+usual_none bytes rest limits read none other r fits e =
+    let same = four_one limits other rest r read.0 fits.0 (sym read.1 ∙ e) in
+    false≢true (sym none ∙ ap are_own same.0 ∙ fits.1)
+
+-- ---- the root
+
+count_one : (limits : TreeLimits) → limits.entries < 2 ^ 32 → IsOne (IsCount limits) uint32
+count_one limits bound x y r s x-fits y-fits e =
+    number_front x y r s (omega (arith, x-fits, bound)) (omega (arith, y-fits, bound)) e
+
+pub count_none : (limits : TreeLimits) (bytes : List ℕ) → ReadsNone (IsCount limits) uint32 bytes
+    → ReadsNone (IsRoot limits) root_text bytes
+count_none limits bytes none = no_first (IsCount limits) uint32 (λ count. IsOwner) (λ count. owner_text) bytes none
+
+pub owner_none : (limits : TreeLimits) → limits.entries < 2 ^ 32 → (bytes r : List ℕ) (count : ℕ)
+    → Reads (IsCount limits) uint32 bytes count r → ReadsNone IsOwner owner_text r
+    → ReadsNone (IsRoot limits) root_text bytes
+owner_none limits bound bytes r count read none = no_second (IsCount limits) uint32 (λ count. IsOwner)
+    (λ count. owner_text) (count_one limits bound) bytes r count read none
+
+pub root_read : (limits : TreeLimits) (bytes r rest : List ℕ) (count : ℕ) (root : Owner)
+    → Reads (IsCount limits) uint32 bytes count r → Reads IsOwner owner_text r root rest
+    → Reads (IsRoot limits) root_text bytes (count, root) rest
+root_read limits bytes r rest count root first second = both_read (IsCount limits) uint32 (λ count. IsOwner)
+    (λ count. owner_text) bytes r rest count root first second
+
+root_one : (limits : TreeLimits) → limits.entries < 2 ^ 32 → IsOne (IsRoot limits) root_text
+root_one limits bound = both_one (IsCount limits) uint32 (λ count. IsOwner) (λ count. owner_text)
+    (count_one limits bound) (λ count fits. owner_front)
+
+-- ---- the head
+
+abbrev pub IsBehind : Front → TreeLimits × (ℕ × Owner) → Type 0
+IsBehind front = Both (AreSet front.has_limits) IsRoot
+
+abbrev pub behind_text : Front → TreeLimits × (ℕ × Owner) → List ℕ
+behind_text front = both_text (limits_text front.has_limits) (λ (limits : TreeLimits). root_text)
+
+abbrev pub front_of : Head → Front
+front_of head = record { has_limits = are_own head.limits; home = head.home; uid = head.uid; gid = head.gid }
+
+abbrev pub head_view : Head → Front × (TreeLimits × (ℕ × Owner))
+head_view head = (front_of head, (head.limits, (head.count, head.root)))
+
+abbrev pub IsWhole : Front × (TreeLimits × (ℕ × Owner)) → Type 0
+IsWhole = Both IsFront IsBehind
+
+abbrev pub whole_text : Front × (TreeLimits × (ℕ × Owner)) → List ℕ
+whole_text = both_text front_bytes behind_text
+
+head_fits : (head : Head) → IsHead head → IsWhole (head_view head)
+head_fits head fits =
+    (record { home = fits.home; uid = fits.uid; gid = fits.gid }, ((fits.limits, refl), (fits.count, fits.root)))
+
+none_head : (bytes : List ℕ) → ReadsNone IsWhole whole_text bytes → ReadsNone IsHead head_bytes bytes
+none_head bytes none =
+    none_as IsHead head_bytes IsWhole whole_text head_view head_fits (λ head. refl) bytes none
+
+pub front_none : (bytes : List ℕ) → ReadsNone IsFront front_bytes bytes → ReadsNone IsHead head_bytes bytes
+front_none bytes none = none_head bytes (no_first IsFront front_bytes IsBehind behind_text bytes none)
+
+module _ (bytes r1 : List ℕ) (front : Front) (first : Reads IsFront front_bytes bytes front r1) where
+  none_behind : ReadsNone (IsBehind front) (behind_text front) r1 → ReadsNone IsHead head_bytes bytes
+  none_behind none =
+      none_head bytes (no_second IsFront front_bytes IsBehind behind_text front_one bytes r1 front first none)
+
+  pub limits_none : ReadsNone (AreSet front.has_limits) (limits_text front.has_limits) r1
+      → ReadsNone IsHead head_bytes bytes
+  limits_none none = none_behind
+      (no_first (AreSet front.has_limits) (limits_text front.has_limits) IsRoot (λ limits. root_text) r1 none)
+
+  module _ (r2 : List ℕ) (limits : TreeLimits)
+      (second : Reads (AreSet front.has_limits) (limits_text front.has_limits) r1 limits r2) where
+    pub root_none : ReadsNone (IsRoot limits) root_text r2 → ReadsNone IsHead head_bytes bytes
+    root_none none = none_behind
+        (no_second (AreSet front.has_limits) (limits_text front.has_limits) IsRoot (λ limits. root_text) (set_one front.has_limits) r1 r2 limits second none)
+
+    -- the opening says whether limits follow, and these say it again
+    pub head_read : (rest : List ℕ) (count : ℕ) (root : Owner) → Reads (IsRoot limits) root_text r2 (count, root) rest
+        → Reads IsHead head_bytes bytes (record { limits = limits; home = front.home; uid = front.uid; gid = front.gid; count = count; root = root }) rest
+    head_read rest count root third =
+        let behind = both_read (AreSet front.has_limits) (limits_text front.has_limits) IsRoot (λ limits. root_text) r1 r2 rest limits (count, root) second third in
+        let whole = both_read IsFront front_bytes IsBehind behind_text bytes r1 rest front (limits, (count, root)) first behind in
+        let said = sym second.0.1 in (
+          record { limits = second.0.0; home = first.0.home; uid = first.0.uid; gid = first.0.gid; count = third.0.0; root = third.0.1 },
+          subst (λ (own : Bool). bytes ≡ (front_text own front.home front.uid front.gid ++ (limits_text own limits ++ root_text (count, root))) ++ rest) said whole.1,
+        )
+
+pub head_front : IsOne IsHead head_bytes
+head_front = one_as IsHead head_bytes IsWhole whole_text head_view head_fits (λ head. refl)
+    (λ x y e. (λ i. record { limits = (e i).1.0; home = (e i).0.home; uid = (e i).0.uid; gid = (e i).0.gid; count = (e i).1.1.0; root = (e i).1.1.1 }))
+    (both_one IsFront front_bytes IsBehind behind_text front_one (λ front fits.
+    both_one (AreSet front.has_limits) (limits_text front.has_limits) IsRoot (λ limits. root_text) (set_one front.has_limits)
+    (λ limits set. root_one limits (omega (arith, set.0.entries.1)))))

@@ -3,10 +3,9 @@ use Rattle.std.proofs.Common.{◌≡◌, ℕ, suc, zero, ◌<◌, ◌^◌, List,
 use Rattle.sftp_treefile.specs.declared.files.Kind.{Kind}
 use Rattle.sftp_treefile.specs.declared.files.Kind.TheVariants.{First, Link}
 use Rattle.sftp_treefile.specs.declared.files.Row.{Row}
-use Rattle.sftp_treefile.specs.declared.heads.Head.{Head}
 use Rattle.sftp_treefile.specs.declared.limits.TreeLimits.{TreeLimits}
 use Rattle.sftp_treefile.specs.TreeFile.{IsKind, AreRows}
-use Rattle.sftp_treefile.specs.TreeFileParts.{front_text, root_text, head_bytes, KindHasLengths, HasLengths}
+use Rattle.sftp_treefile.specs.TreeFileParts.{KindHasLengths, HasLengths}
 use Rattle.sftp_treefile.proofs.Texts.Fields.{path_length, target_length, file_bytes_length}
 
 pub two_pieces : (a b o0 o1 o2 : List ℕ) → o1 ≡ o0 ++ a → o2 ≡ o1 ++ b → o2 ≡ o0 ++ (a ++ b)
@@ -19,10 +18,6 @@ three_pieces a b c o0 o1 o2 o3 p q r = rw (r, q, p) (simp append_assoc)
 pub four_pieces : (a b c d o0 o1 o2 o3 o4 : List ℕ) → o1 ≡ o0 ++ a → o2 ≡ o1 ++ b → o3 ≡ o2 ++ c → o4 ≡ o3 ++ d
     → o4 ≡ o0 ++ (a ++ (b ++ (c ++ d)))
 four_pieces a b c d o0 o1 o2 o3 o4 p q r s = rw (s, r, q, p) (simp append_assoc)
-
-pub head_pieces : (head : Head) (o0 o1 o2 : List ℕ) → o1 ≡ o0 ++ front_text head.home head.uid head.gid
-    → o2 ≡ o1 ++ root_text head.count head.root → o2 ≡ o0 ++ head_bytes head
-head_pieces head o0 o1 o2 p q = grind (arith, append_assoc)
 
 -- the lengths of the strings of an entry that fits can be written
 kind_lengths : (limits : TreeLimits) → limits.file_bytes < 2 ^ 32 → (earlier : List Row) (kind : Kind)

@@ -20,7 +20,7 @@ use Rattle.sftp_wire.proofs.FieldLaws.Pairs.{pairs_again}
 use Rattle.sftp_wire.proofs.FieldLaws.Attributes.{attributes_again}
 use Rattle.sftp_wire.proofs.FieldLaws.Names.{names_again}
 use Rattle.sftp_wire.proofs.PacketLaws.Rows.{IsSmall}
-use Rattle.sftp_wire.proofs.PacketLaws.Extensions.{posix_rename_again, hardlink_again, fsync_again, unknown_again}
+use Rattle.sftp_wire.proofs.PacketLaws.Extensions.{posix_rename_again, hardlink_again, fsync_again, limits_again, unknown_again}
 
 ends : (side : Side) (kind : ℕ) (body : List ℕ) (packet : Packet) → packet_at side kind body ≡ Ok (packet, []) → packet_of side (kind ∷ body) ≡ Ok packet
 unfolding packet_of
@@ -77,6 +77,7 @@ asked_again id (asks.Symlink targetpath linkpath) lt fits small known = ends Cli
 asked_again id (asks.PosixRename oldpath newpath) lt fits small known = ends Client 200 _ _ (request_again extension_at id _ lt (posix_rename_again oldpath newpath fits))
 asked_again id (asks.Hardlink oldpath newpath) lt fits small known = ends Client 200 _ _ (request_again extension_at id _ lt (hardlink_again oldpath newpath fits))
 asked_again id (asks.Fsync handle) lt fits small known = ends Client 200 _ _ (request_again extension_at id _ lt (fsync_again handle (fits, small)))
+asked_again id asks.Limits lt fits small known = ends Client 200 _ _ (request_again extension_at id _ lt limits_again)
 asked_again id (asks.Unknown name rest) lt fits small known = ends Client 200 _ _ (request_again extension_at id _ lt (unknown_again name rest fits.0 known))
 
 -- ---- replies

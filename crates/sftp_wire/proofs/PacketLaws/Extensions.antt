@@ -7,10 +7,10 @@ use Rattle.std.proofs.lemmas.Bool.{ltb-true, and_parts, or_from, cond_both}
 use Rattle.std.proofs.lemmas.Slice.Eq.{bytes_eq-Decides}
 use Rattle.sftp_wire.specs.declared.packets.Ask.{Ask}
 use Rattle.sftp_wire.specs.declared.packets.Ask.TheVariants as asks
-use Rattle.sftp_wire.specs.Spelling.{string, posix_rename_name, hardlink_name, fsync_name, is_known_extension, AreBytes, FitsString}
-use Rattle.sftp_wire.specs.Reading.{Reader, one, two, string_at, handle_at, rest_at, extension_data_at, extension_at}
+use Rattle.sftp_wire.specs.Spelling.{string, posix_rename_name, hardlink_name, fsync_name, limits_name, is_known_extension, AreBytes, FitsString}
+use Rattle.sftp_wire.specs.Reading.{Reader, none_at, one, two, string_at, handle_at, rest_at, extension_data_at, extension_at}
 use Rattle.sftp_wire.proofs.Readers.Steps.{bind_ok, Takes, Takes-then}
-use Rattle.sftp_wire.proofs.Readers.Combined.{TakesAs, one_takes, one_again, two_takes, two_again}
+use Rattle.sftp_wire.proofs.Readers.Combined.{TakesAs, none_takes, one_takes, one_again, two_takes, two_again}
 use Rattle.sftp_wire.proofs.FieldLaws.Strings.{FitsHandle, as_bytes, string_takes, string_again, handle_takes, handle_again, rest_takes, rest_again}
 use Rattle.sftp_wire.proofs.PacketLaws.Rows.{ask_fields, FitsAskOf}
 
@@ -40,6 +40,9 @@ hardlink_takes = two_takes string_at string_at asks.Hardlink string string data_
 fsync_takes : TakesExtension fsync_name (one handle_at asks.Fsync)
 fsync_takes = one_takes handle_at asks.Fsync string data_of FitsHandle (IsExtension fsync_name) handle_takes (λ a. refl) (λ a f. ((f.0, f.1, refl, refl), refl))
 
+limits_takes : TakesExtension limits_name (none_at asks.Limits)
+limits_takes = none_takes asks.Limits data_of (IsExtension limits_name) refl ((tt, tt, refl, refl), refl)
+
 unknown_takes : (name : List ℕ) → FitsString name → is_known_extension name ≡ false → TakesExtension name (one rest_at (asks.Unknown name))
 unknown_takes name fits unknown = one_takes rest_at (asks.Unknown name) as_bytes data_of AreBytes (IsExtension name) rest_takes (λ a. refl) (λ a f. (((fits, f), tt, unknown, refl), refl))
 
@@ -54,7 +57,8 @@ extension_data_takes name fits =
     by_name name posix_rename_name _ _ posix_rename_takes (λ not_posix_rename.
     by_name name hardlink_name _ _ hardlink_takes (λ not_hardlink.
     by_name name fsync_name _ _ fsync_takes (λ not_fsync.
-    unknown_takes name fits (or_from _ _ not_posix_rename (or_from _ _ not_hardlink (or_from _ _ not_fsync refl))))))
+    by_name name limits_name _ _ limits_takes (λ not_limits.
+    unknown_takes name fits (or_from _ _ not_posix_rename (or_from _ _ not_hardlink (or_from _ _ not_fsync (or_from _ _ not_limits refl))))))))
 
 pub extension_takes : TakesAs extension_at ask_fields (FitsAskOf 200)
 unfolding extension_at
@@ -102,18 +106,23 @@ fsync_again handle fits =
     named_again fsync_name (string handle) (fits_name fsync_name refl (omega arith))
     ∙ one_again handle_at asks.Fsync (string handle) handle [] (handle_again [] handle fits)
 
-none_held : (a b c : Bool) (x y z others : Reader Ask) → (a || (b || (c || false))) ≡ false → cond a x (cond b y (cond c z others)) ≡ others
-none_held false false false x y z others e = refl
-none_held true b c x y z others e = absurd cc
-none_held false true c x y z others e = absurd cc
-none_held false false true x y z others e = absurd cc
+pub limits_again : extension_at (string limits_name ++ []) ≡ Ok (asks.Limits, [])
+unfolding extension_data_at
+limits_again = named_again limits_name [] (fits_name limits_name refl (omega arith))
+
+none_held : (a b c d : Bool) (x y z w others : Reader Ask) → (a || (b || (c || (d || false)))) ≡ false → cond a x (cond b y (cond c z (cond d w others))) ≡ others
+none_held false false false false x y z w others e = refl
+none_held true b c d x y z w others e = absurd cc
+none_held false true c d x y z w others e = absurd cc
+none_held false false true d x y z w others e = absurd cc
+none_held false false false true x y z w others e = absurd cc
 
 -- after any other name all that is left is read
 unknown_data_again : (name : List ℕ) → is_known_extension name ≡ false → extension_data_at name ≡ one rest_at (asks.Unknown name)
 unfolding extension_data_at
 unknown_data_again name unknown =
-    none_held (bytes_eq name posix_rename_name) (bytes_eq name hardlink_name) (bytes_eq name fsync_name)
-    (two string_at string_at asks.PosixRename) (two string_at string_at asks.Hardlink) (one handle_at asks.Fsync) (one rest_at (asks.Unknown name)) unknown
+    none_held (bytes_eq name posix_rename_name) (bytes_eq name hardlink_name) (bytes_eq name fsync_name) (bytes_eq name limits_name)
+    (two string_at string_at asks.PosixRename) (two string_at string_at asks.Hardlink) (one handle_at asks.Fsync) (none_at asks.Limits) (one rest_at (asks.Unknown name)) unknown
 
 pub unknown_again : (name rest : List ℕ) → FitsString name → is_known_extension name ≡ false → extension_at ((string name ++ rest) ++ []) ≡ Ok (asks.Unknown name rest, [])
 unknown_again name rest fits unknown =

@@ -6,7 +6,7 @@ use Rattle.std.specs.List.{flat_map, AllByRecursion}
 use Rattle.std.proofs.lemmas.List.{length-append}
 use Rattle.std.proofs.lemmas.List.Concat.{flat_map-cons}
 use Rattle.sftp_wire.specs.Spelling.{optional}
-use Rattle.sftp_wire.specs.Reading.{◌>>=◌, Reader, one, two, three, optional_at, many_at, up_to_end}
+use Rattle.sftp_wire.specs.Reading.{◌>>=◌, Reader, none_at, one, two, three, optional_at, many_at, up_to_end}
 use Rattle.sftp_wire.proofs.Bytes.Numbers.{IsBytes}
 use Rattle.sftp_wire.proofs.Readers.Steps.{bind_ok, ok_is, Takes, Takes-none, Takes-then}
 
@@ -17,6 +17,12 @@ TakesAs {A = A} read spell Fits = (bytes : List ℕ) (x : A) (rest : List ℕ) �
 -- what fits is read again, whatever follows
 abbrev pub AgainAs : {A : Type 0} → Reader A → (A → List ℕ) → (A → Type 0) → Type 0
 AgainAs {A = A} read spell Fits = (rest : List ℕ) (x : A) → Fits x → read (spell x ++ rest) ≡ Ok (x, rest)
+
+-- ---- none
+
+pub none_takes : {A : Type 0} (value : A) (spell : A → List ℕ) (Fits : A → Type 0) → spell value ≡ [] → Fits value → TakesAs (none_at value) spell Fits
+none_takes {A = A} value spell Fits empty fits bytes x rest is_bytes e =
+    subst (λ (y : A × List ℕ). Takes bytes (spell y.0) y.1 × Fits y.0) (ok_is (value, bytes) (x, rest) e) (rw empty (Takes-none bytes is_bytes), fits)
 
 -- ---- one
 

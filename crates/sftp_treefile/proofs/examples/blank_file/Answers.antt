@@ -1,6 +1,7 @@
 use Rattle.std.proofs.Common.{refl, arith}
 use Rattle.sftp_wire.specs.Examples.{hex}
 use Rattle.sftp_path.specs.Place.{components, parts}
+use Rattle.sftp_treefile.specs.Limits.{are_own}
 use Rattle.sftp_treefile.specs.TreeFile.{spelled}
 use Rattle.sftp_treefile.proofs.examples.blank_file.Goals as goal
 
@@ -9,7 +10,7 @@ unfolding hex
 returns-clause-length c = refl
 
 pub returns-clause-spelled : goal.returns-clause-spelled
-unfolding spelled hex
+unfolding spelled are_own hex
 returns-clause-spelled c = refl
 
 pub returns-clause-may_be : goal.returns-clause-may_be

@@ -1,7 +1,9 @@
 use Rattle.std.proofs.Common.{refl, arith}
 use Rattle.sftp_wire.specs.Examples.{hex}
 use Rattle.sftp_path.specs.Place.{components, parts}
+use Rattle.sftp_treefile.specs.Limits.{are_own}
 use Rattle.sftp_treefile.specs.TreeFile.{spelled, has_dir}
+use Rattle.sftp_treefile.proofs.Texts.Limits.{usual_are}
 use Rattle.sftp_treefile.proofs.examples.file_of_two_names.Goals as goal
 
 pub returns-clause-length : goal.returns-clause-length
@@ -9,10 +11,10 @@ unfolding hex
 returns-clause-length c = refl
 
 pub returns-clause-spelled : goal.returns-clause-spelled
-unfolding spelled has_dir components parts hex
+unfolding spelled are_own has_dir components parts hex
 returns-clause-spelled c = record {
   may_be = record {
-    limits = refl;
+    limits = usual_are;
     home = record { names = refl; depth = omega arith; one = refl };
     uid = omega arith;
     gid = omega arith;

@@ -1,6 +1,7 @@
 use Rattle.std.proofs.Common.{refl, arith}
 use Rattle.sftp_wire.specs.Examples.{hex}
 use Rattle.sftp_path.specs.Place.{components, parts, is_good_path}
+use Rattle.sftp_treefile.specs.Limits.{are_own}
 use Rattle.sftp_treefile.specs.TreeFile.{spelled, has_dir}
 use Rattle.sftp_treefile.proofs.examples.linked_file.Goals as goal
 
@@ -9,5 +10,5 @@ unfolding hex
 returns-clause-length c = refl
 
 pub returns-clause-spelled : goal.returns-clause-spelled
-unfolding spelled has_dir components parts is_good_path hex
+unfolding spelled are_own has_dir components parts is_good_path hex
 returns-clause-spelled c = grind arith

@@ -1,7 +1,14 @@
--- The fields, one after the other.
-use Rattle.sftp_treefile.proofs.Texts.Pieces.{head_pieces}
+-- The front, the limits and the root, one after the other.
+use Rattle.sftp_treefile.specs.Limits.{are_own}
+use Rattle.sftp_treefile.specs.TreeFile.{limits_text}
+use Rattle.sftp_treefile.specs.TreeFileParts.{front_text, root_text}
+use Rattle.sftp_treefile.proofs.Texts.Pieces.{three_pieces}
 use Rattle.sftp_treefile.proofs.writing.put_head.Goals as goal
 
 pub returns : goal.returns
-returns c = head_pieces c.args.head.now c.args.out.now.items c.put_front.new.out.items c.put_root.new.out.items
-    (rw c.as_slice.ensures at c.in_ok-put_front.ensures) c.in_ok-put_root.ensures
+returns c =
+    let head = c.args.head.now in
+    let own = are_own head.limits in
+    three_pieces (front_text own head.home head.uid head.gid) (limits_text own head.limits) (root_text (head.count, head.root))
+    c.args.out.now.items c.put_front.new.out.items c.put_limits.new.out.items c.put_root.new.out.items
+    (rw (c.are_own.ensures, c.as_slice.ensures) at c.in_ok-put_front.ensures) c.in_ok-put_limits.ensures c.in_ok-put_root.ensures

@@ -2,13 +2,13 @@
 use Rattle.std.proofs.Common.{[], sym, subst, arith}
 use Rattle.std.proofs.lemmas.List.{take_all}
 use Rattle.sftp_treefile.specs.TreeFile.{AreRows}
-use Rattle.sftp_treefile.proofs.Texts.Fields.{usual_file_bytes}
+use Rattle.sftp_treefile.proofs.Texts.Limits.{file_bytes_bound}
 use Rattle.sftp_treefile.proofs.Texts.Files.{head_written}
 use Rattle.sftp_treefile.proofs.Texts.Pieces.{row_at_place}
 use Rattle.sftp_treefile.proofs.writing.write_rows.Goals as goal
 
 pub put_row-requires : goal.put_row-requires
-put_row-requires c = row_at_place c.args.file.now.limits (usual_file_bytes c.args.file.now.limits c.requires.limits) []
+put_row-requires c = row_at_place c.args.file.now.limits (file_bytes_bound c.args.file.now.limits c.requires.limits) []
     c.as_slice-row-items.result.now c.loop-row.row-index c.row-item.result
     (subst (AreRows c.args.file.now.limits []) (sym c.as_slice-row-items.ensures) c.requires.rows)
     c.loop-row-test.true c.row-item.is

@@ -7,7 +7,8 @@ use Rattle.sftp_handles.specs.Replies.{names, gives, ended}
 use Rattle.sftp_handles.specs.Fitting.{FitsSaid}
 use Rattle.sftp_handles.specs.Payloads.{said_in}
 use Rattle.sftp_handles.specs.Answered.{IsReplyOf, only_name}
-use Rattle.sftp_handles.proofs.AnswersSpelled.{reply-attributes, reply-name, reply-data, reply-end}
+use Rattle.sftp_handles.proofs.AnswersSpelled.{reply-attributes, reply-name, reply-data, reply-extended}
+use Rattle.sftp_handles.proofs.AnswersSpelled.{reply-end}
 use Rattle.sftp_handles.proofs.payloads.Payload.answer.Goals as goal
 
 pub returns-in-Attrs : goal.returns-in-Attrs
@@ -31,6 +32,12 @@ returns-in_ok-copy-in-Data c =
     subst (λ (p : Payload). IsReplyOf (said_in p) (replies.Data copy.copy)) (sym c.in-Data.is)
     (subst (λ (x : List ℕ). IsReplyOf (gives bytes) (replies.Data x)) (sym copy.ensures)
     (reply-data bytes (subst (λ (p : Payload). FitsSaid (said_in p)) c.in-Data.is c.requires)))
+
+pub returns-in-Extended : goal.returns-in-Extended
+returns-in-Extended c =
+    let told = c.in-Extended.told in
+    subst (λ (p : Payload). IsReplyOf (said_in p) (replies.Extended told)) (sym c.in-Extended.is)
+    (reply-extended told (subst (λ (p : Payload). FitsSaid (said_in p)) c.in-Extended.is c.requires))
 
 pub returns-in-End : goal.returns-in-End
 returns-in-End c =

@@ -22,5 +22,5 @@ returns-in-Ok-clause-carried g c =
 pub returns-in-Err-clause-refused : goal.returns-in-Err-clause-refused
 returns-in-Err-clause-refused g c =
     let ask = Readlink c.args.path.now in
-    path-refusal c.args.self.now ask refl refl c.in-Err.refused
+    path-refusal c.args.self.now ask refl refl refl c.in-Err.refused
     (subst (λ (s : State). of_tree.IsRefusal s.tree ask c.in-Err.refused) c.self.view_is c.in-Err.ensures.refused)

@@ -4,21 +4,32 @@ use Rattle.sftp_path.specs.Place.{Place, place_cmp}
 use Rattle.sftp_path.specs.Table.{InOrder}
 use Rattle.sftp_treefile.specs.declared.files.Row.{Row}
 use Rattle.sftp_treefile.specs.declared.files.TreeFile.{TreeFile}
-use Rattle.sftp_treefile.specs.TreeFile.{place_of}
+use Rattle.sftp_treefile.specs.Limits.{highest_limits}
+use Rattle.sftp_treefile.specs.TreeFile.{place_of, AreRows}
 use Rattle.sftp_tree.specs.Tree.{Names, IsKept, is_directory, node_at}
 use Rattle.sftp_tree.specs.StoredFiles.{seen, AreCounted}
 use Rattle.sftp_tree.specs.PictureParts.{Stores, IsGrown, names_of, tree_of}
 use Rattle.sftp_tree.proofs.TreeFiles.Files.{kept_of_file}
+use Rattle.sftp_treefile.proofs.Texts.Limits.{rows_wider}
 use Rattle.sftp_tree.proofs.TreeFiles.Numbers.{made_few, length-entries}
 use Rattle.sftp_tree.proofs.TreeFiles.Stores.{many_files, tree_grown}
 use Rattle.sftp_tree.proofs.pictures.reading.tree_of.Goals as goal
 use Rattle.sftp_tree.proofs.pictures.reading.tree_of.Goals.{After-len-made}
 
+pub grow-requires-clause-rows : goal.grow-requires-clause-rows
+grow-requires-clause-rows c =
+    subst (AreRows highest_limits []) (sym c.into_vec-rows.ensures)
+    (rows_wider c.args.file.limits highest_limits c.requires.limits.file_bytes.1 [] c.args.file.rows c.requires.rows)
+
+pub grow-requires-clause-count : goal.grow-requires-clause-count
+grow-requires-clause-count c =
+    omega (arith, ap length c.into_vec-rows.ensures, c.requires.count, c.requires.limits.entries.1)
+
 pub overflow_cast-made : goal.overflow_cast-made
 overflow_cast-made c =
     let rows = c.into_vec-rows.result.items in
     let g = c.in_ok-root.field-0 in
-    omega (arith, c.len-made.ensures, many_files c.args.file.root rows g.root g.files c.in_ok-root.ensures, made_few rows, ap length c.into_vec-rows.ensures, c.requires.count)
+    omega (arith, c.len-made.ensures, many_files c.args.file.root rows g.root g.files c.in_ok-root.ensures, made_few rows, ap length c.into_vec-rows.ensures, c.requires.count, c.requires.limits.entries.1)
 
 names-are : (c : After-len-made) → c.in_ok-root.field-0.root ≡ names_of c.args.file.root c.args.file.rows
 names-are c = c.in_ok-root.ensures.names_are ∙ ap (names_of c.args.file.root) c.into_vec-rows.ensures

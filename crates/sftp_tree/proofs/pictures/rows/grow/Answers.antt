@@ -2,7 +2,7 @@
 use Rattle.std.proofs.Common.{◌≡◌, [], ◌∷◌, ◌<◌, ◌++◌, length, take, ap, sym, subst, ◌∙◌, append_assoc, append-nil, arith, refl}
 use Rattle.std.specs.Vec.Iter.{into_iter_items}
 use Rattle.std.proofs.lemmas.List.{nil_from_length, length-append}
-use Rattle.sftp_treefile.specs.Limits.{usual_limits}
+use Rattle.sftp_treefile.specs.Limits.{highest_limits}
 use Rattle.sftp_treefile.specs.TreeFile.{place_of, IsPlaceText, AreRows}
 use Rattle.sftp_tree.specs.Growth.{names_in, place_in}
 use Rattle.sftp_tree.specs.PictureParts.{IsKnown, IsGrown}
@@ -19,7 +19,7 @@ loop-row-init c =
       count = rw (gives.0, gives.1) c.args.rows.ok.0;
       few = rw gives.0 c.requires.count;
       before = tt;
-      rows = subst (AreRows usual_limits []) (sym gives.0) c.requires.rows;
+      rows = subst (AreRows highest_limits []) (sym gives.0) c.requires.rows;
       grown = grown_root c.args.root (names_in c.new-growth.result) c.new-files.result c.new-growth.ensures.names
           c.new-files.ensures;
       above = open_root (place_in c.new-growth.result) c.new-growth.ensures.place;
@@ -28,12 +28,12 @@ loop-row-init c =
 
 pub last_name-depth-requires-clause-text : goal.last_name-depth-requires-clause-text
 last_name-depth-requires-clause-text c =
-    let left = subst (AreRows usual_limits c.loop-row.yielded) c.in-Some.ensures.steps.0 c.loop-row.invariant.rows in
+    let left = subst (AreRows highest_limits c.loop-row.yielded) c.in-Some.ensures.steps.0 c.loop-row.invariant.rows in
     subst IsPlaceText (sym c.as_slice.ensures) left.0.path
 
 pub last_name-depth-requires-clause-below_root : goal.last_name-depth-requires-clause-below_root
 last_name-depth-requires-clause-below_root c =
-    let left = subst (AreRows usual_limits c.loop-row.yielded) c.in-Some.ensures.steps.0 c.loop-row.invariant.rows in
+    let left = subst (AreRows highest_limits c.loop-row.yielded) c.in-Some.ensures.steps.0 c.loop-row.invariant.rows in
     subst (λ text. 0 < length (place_of text)) (sym c.as_slice.ensures) left.0.below_root
 
 pub overflow_cast-made : goal.overflow_cast-made
@@ -48,9 +48,9 @@ overflow_cast-made c =
 
 pub node_of-requires-clause-known : goal.node_of-requires-clause-known
 node_of-requires-clause-known c =
-    let left = subst (AreRows usual_limits c.loop-row.yielded) c.in-Some.ensures.steps.0 c.loop-row.invariant.rows in
+    let left = subst (AreRows highest_limits c.loop-row.yielded) c.in-Some.ensures.steps.0 c.loop-row.invariant.rows in
     subst (λ ns. IsKnown ns c.in-Some.row.kind) (sym (c.deref.ensures.value ∙ c.loop-row.invariant.numbers))
-    (kind_known c.loop-row.yielded c.in-Some.row.kind left.0.kind)
+    (kind_known highest_limits c.loop-row.yielded c.in-Some.row.kind left.0.kind)
 
 pub node_of-requires-clause-room : goal.node_of-requires-clause-room
 node_of-requires-clause-room c =
@@ -61,14 +61,14 @@ node_of-requires-clause-room c =
 pub put-requires-clause-ordered : goal.put-requires-clause-ordered
 put-requires-clause-ordered c =
     let at = c.loop-row in
-    entries_order c.args.root at.yielded (names_in at.growth) c.requires.root at.invariant.before
+    entries_order highest_limits c.args.root at.yielded (names_in at.growth) c.requires.root at.invariant.before
     at.invariant.grown.names_are
 
 pub put-requires-clause-depth : goal.put-requires-clause-depth
 put-requires-clause-depth c =
     let at = c.loop-row in
-    let left = subst (AreRows usual_limits at.yielded) c.in-Some.ensures.steps.0 at.invariant.rows in
-    (room_for c.args.root at.yielded c.in-Some.row (place_in at.growth) c.last_name-depth.result.0
+    let left = subst (AreRows highest_limits at.yielded) c.in-Some.ensures.steps.0 at.invariant.rows in
+    (room_for highest_limits c.args.root at.yielded c.in-Some.row (place_in at.growth) c.last_name-depth.result.0
     c.last_name-depth.result.1.now
     c.as_slice.result.now at.invariant.above left.0 c.as_slice.ensures c.last_name-depth.ensures.whole
     c.last_name-depth.ensures.depth).depth_fits
@@ -76,13 +76,13 @@ put-requires-clause-depth c =
 pub put-requires-clause-last : goal.put-requires-clause-last
 put-requires-clause-last c =
     let at = c.loop-row in
-    let left = subst (AreRows usual_limits at.yielded) c.in-Some.ensures.steps.0 at.invariant.rows in
-    let room = room_for c.args.root at.yielded c.in-Some.row (place_in at.growth) c.last_name-depth.result.0
+    let left = subst (AreRows highest_limits at.yielded) c.in-Some.ensures.steps.0 at.invariant.rows in
+    let room = room_for highest_limits c.args.root at.yielded c.in-Some.row (place_in at.growth) c.last_name-depth.result.0
     c.last_name-depth.result.1.now c.as_slice.result.now at.invariant.above left.0 c.as_slice.ensures
     c.last_name-depth.ensures.whole c.last_name-depth.ensures.depth in
     let place =
     ap (λ n. take c.last_name-depth.result.0 (place_in at.growth) ++ n ∷ []) c.in_ok-name.ensures ∙ room.place_is in
-    entry_later c.args.root at.yielded c.in-Some.row (names_in at.growth)
+    entry_later highest_limits c.args.root at.yielded c.in-Some.row (names_in at.growth)
     (take c.last_name-depth.result.0 (place_in at.growth) ++ c.in_ok-name.name ∷ []) left.0
     at.invariant.grown.names_are place
 
@@ -90,7 +90,7 @@ pub finish-requires : goal.finish-requires
 finish-requires c =
     let at = c.loop-row in
     record {
-      ordered = entries_order c.args.root at.yielded (names_in at.growth) c.requires.root at.invariant.before
+      ordered = entries_order highest_limits c.args.root at.yielded (names_in at.growth) c.requires.root at.invariant.before
           at.invariant.grown.names_are;
     }
 
@@ -99,19 +99,19 @@ loop-row-preserved c =
     let at = c.loop-row in
     let row = c.in-Some.row in
     let steps : into_iter_items at.row-iterator ≡ row ∷ into_iter_items c.next.new.self = c.in-Some.ensures.steps.0 in
-    let left : AreRows usual_limits at.yielded (row ∷ into_iter_items c.next.new.self) =
-    subst (AreRows usual_limits at.yielded) steps at.invariant.rows in
+    let left : AreRows highest_limits at.yielded (row ∷ into_iter_items c.next.new.self) =
+    subst (AreRows highest_limits at.yielded) steps at.invariant.rows in
     let numbers = c.deref.ensures.value ∙ at.invariant.numbers in
     let next = c.new-next.ensures ∙ c.len-made.ensures
     ∙ many_files c.args.root at.yielded (names_in at.growth) at.files at.invariant.grown in
     let room =
-    room_for c.args.root at.yielded row (place_in at.growth) c.last_name-depth.result.0 c.last_name-depth.result.1.now
+    room_for highest_limits c.args.root at.yielded row (place_in at.growth) c.last_name-depth.result.0 c.last_name-depth.result.1.now
     c.as_slice.result.now at.invariant.above left.0 c.as_slice.ensures c.last_name-depth.ensures.whole
     c.last_name-depth.ensures.depth in
     let entered = take c.last_name-depth.result.0 (place_in at.growth) ++ c.in_ok-name.name ∷ [] in
     let place : entered ≡ place_of row.path =
     ap (λ n. take c.last_name-depth.result.0 (place_in at.growth) ++ n ∷ []) c.in_ok-name.ensures ∙ room.place_is in
-    let later = entry_later c.args.root at.yielded row (names_in at.growth) entered left.0
+    let later = entry_later highest_limits c.args.root at.yielded row (names_in at.growth) entered left.0
     at.invariant.grown.names_are place in
     let put = put_last (names_in at.growth) (names_in c.put.new.self) entered c.in_ok-node.node later
     c.in_ok-put.ensures.names in
@@ -120,13 +120,13 @@ loop-row-preserved c =
       count = let gone = c.in-Some.ensures.steps.1 in let short = ap length steps in let was = at.invariant.count
           in omega arith;
       few = rw append_assoc (rw (← steps) at.invariant.few);
-      before = rows_join [] at.yielded (row ∷ []) at.invariant.before (left.0, tt);
+      before = rows_join highest_limits [] at.yielded (row ∷ []) at.invariant.before (left.0, tt);
       rows = left.1;
-      grown = grown_push c.args.root at.yielded row (names_in at.growth) (names_in c.put.new.self) at.files
+      grown = grown_push highest_limits c.args.root at.yielded row (names_in at.growth) (names_in c.put.new.self) at.files
           c.node_of.new.files c.deref.result.now c.new-next.result entered c.in_ok-node.node
           at.invariant.before left.0 at.invariant.grown numbers next place c.in_ok-node.ensures.node put
           c.in_ok-node.ensures.files;
-      above = open_more at.yielded row _ _ entered (place_in at.growth) (place_in c.put.new.self)
+      above = open_more highest_limits at.yielded row _ _ entered (place_in at.growth) (place_in c.put.new.self)
           c.in_ok-node.node at.invariant.above left.0 place c.in_ok-node.ensures.node c.in_ok-put.ensures.place;
       numbers = numbers_grow at.yielded row at.numbers.items c.push.new.self.items c.new-next.result
           c.in_ok-push.ensures.items at.invariant.numbers next;

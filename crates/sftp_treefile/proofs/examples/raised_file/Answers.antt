@@ -1,0 +1,42 @@
+use Rattle.std.proofs.Common.{[], ◌∷◌, drop, refl, true, arith}
+use Rattle.sftp_wire.specs.Examples.{hex}
+use Rattle.sftp_path.specs.Place.{components, parts}
+use Rattle.sftp_treefile.specs.declared.heads.Front.{Front}
+use Rattle.sftp_treefile.specs.Limits.{usual_limits, AreLimits, are_own}
+use Rattle.sftp_treefile.specs.TreeFile.{spelled, limits_text}
+use Rattle.sftp_treefile.specs.TreeFileParts.{Reads, IsFront, front_bytes}
+use Rattle.sftp_treefile.specs.Examples.{usual_bytes}
+use Rattle.sftp_treefile.proofs.Texts.Heads.{limits_none, usual_none}
+use Rattle.sftp_treefile.proofs.Texts.Limits.{usual_are, usual_not_own}
+use Rattle.sftp_treefile.proofs.Texts.Files.{no_file_head}
+use Rattle.sftp_treefile.proofs.examples.raised_file.Goals as goal
+
+pub returns-clause-length : goal.returns-clause-length
+unfolding hex
+returns-clause-length c = refl
+
+pub returns-clause-spelled : goal.returns-clause-spelled
+unfolding spelled hex are_own
+returns-clause-spelled c = refl
+
+pub returns-clause-may_be : goal.returns-clause-may_be
+unfolding components parts
+returns-clause-may_be c = grind arith
+
+front : Front
+front = record { has_limits = true; home = 47 ∷ []; uid = 0; gid = 0 }
+
+front-read : Reads IsFront front_bytes usual_bytes front (drop 21 usual_bytes)
+unfolding components parts hex front
+front-read =
+    (record { home = record { names = refl; depth = omega arith; one = refl }; uid = omega arith; gid = omega arith }, refl)
+
+limits-read : Reads AreLimits (limits_text true) (drop 21 usual_bytes) usual_limits (drop 37 usual_bytes)
+unfolding hex
+limits-read = (usual_are, refl)
+
+pub returns-clause-not_usual : goal.returns-clause-not_usual
+unfolding front
+returns-clause-not_usual c = no_file_head usual_bytes
+    (limits_none usual_bytes (drop 21 usual_bytes) front front-read
+    (usual_none (drop 21 usual_bytes) (drop 37 usual_bytes) usual_limits limits-read usual_not_own))
