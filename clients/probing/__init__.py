@@ -12,4 +12,5 @@ shrinking   the shortest session that still shows a difference; guessing: which 
 recorded    the plan of a session that was recorded
 reports     what is printed, kept and reported
 planted     servers with bugs, for clients/test-probe
+mutated     mistakes in sessions that are right, for clients/test-profiles
 """

@@ -6,6 +6,9 @@ CODES = {0: "OK", 1: "EOF", 2: "NO_SUCH_FILE", 3: "PERMISSION_DENIED", 4: "FAILU
 
 KINDS = {"04": "a directory", "10": "a file", "12": "a link"}
 
+# The verdicts on a reply that can be read. An audit by a profile says NotModelled of what it cannot follow.
+JUDGED = ("NotAllowed", "NotModelled")
+
 FIELDS = [("size", "size"), ("uid", "user"), ("gid", "group"), ("permissions", "permissions")]
 
 
@@ -53,13 +56,16 @@ def key_of(difference):
     verdict = difference.verdict
     if verdict.kind == "Unanswered":
         return difference.name, (), "a reply", difference.end or "none"
-    if verdict.kind != "NotAllowed":
+    if verdict.kind not in JUDGED:
         return difference.name, (), "a reply that can be read, and one", verdict.kind
     causes = [words.split()[0] for words in verdict.lines.get("causes", "none").split(", ")]
     expected, found = verdict.lines.get("expected", ""), verdict.lines.get("found")
     found = found or of_reply(verdict.lines.get("reply", ""))
     causes = tuple(sorted(cause for cause in causes if cause != "none"))
-    return (difference.name, causes) + alike(expected, found)
+    expected, found = alike(expected, found)
+    if verdict.kind == "NotModelled":
+        found += f" (NotModelled: {verdict.lines.get('not modelled', 'the request')})"
+    return difference.name, causes, expected, found
 
 
 def of_reply(line):

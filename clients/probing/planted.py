@@ -95,6 +95,13 @@ class told_done(Bug):
         return packet[:9] + b"\0\0\0\0" + packet[13:]
 
 
+class done_extension(Bug):
+    """An extension that nobody knows is said to be done."""
+
+    def changed(self, name, packet):
+        return packet if name != "EXTENDED" else sftp3.packet(sftp3.STATUS, packet[5:9] + bytes(12))
+
+
 class malformed(Bug):
     """The reply to READLINK has a byte more than it should."""
 

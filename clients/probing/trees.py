@@ -2,7 +2,8 @@
 import os
 import struct
 
-OPENING = b"SFTREE01"
+# A file of the second kind has limits of its own.
+OPENING, OPENING_WITH_LIMITS = b"SFTREE01", b"SFTREE02"
 DIRECTORY, FILE, FURTHER, LINK = b"D", b"F", b"H", b"L"
 
 
@@ -23,15 +24,16 @@ class Entry:
 
 
 class Tree:
-    """A tree: its home, the user and group of what is made, the root's entry, and the others in rising order."""
+    """A tree: its home, the user and group of what is made, its own limits if it has some (of entries, of bytes of a
+    file, of bytes that one READ gives, of handles), the root's entry, and the others in rising order."""
 
-    def __init__(self, entries, home=b"/", uid=0, gid=0, root=None):
-        self.home, self.uid, self.gid = home, uid, gid
+    def __init__(self, entries, home=b"/", uid=0, gid=0, root=None, limits=()):
+        self.home, self.uid, self.gid, self.limits = home, uid, gid, limits
         self.root = root or Entry(b"/", DIRECTORY)
         self.entries = sorted(entries, key=Entry.names)
 
     def with_entries(self, entries):
-        return Tree(entries, self.home, self.uid, self.gid, self.root)
+        return Tree(entries, self.home, self.uid, self.gid, self.root, self.limits)
 
 
 def string(data):
@@ -41,7 +43,8 @@ def string(data):
 def put(tree):
     """The bytes of the tree file."""
     numbers = {entry.path: number for number, entry in enumerate(tree.entries, 1)}
-    data = OPENING + string(tree.home) + struct.pack(">III", tree.uid, tree.gid, len(tree.entries))
+    data = (OPENING_WITH_LIMITS if tree.limits else OPENING) + string(tree.home)
+    data += b"".join(struct.pack(">I", number) for number in (tree.uid, tree.gid, *tree.limits, len(tree.entries)))
     data += struct.pack(">III", tree.root.uid, tree.root.gid, tree.root.permissions)
     for entry in tree.entries:
         data += string(entry.path) + entry.kind
@@ -76,14 +79,17 @@ class Bytes:
 def get(data):
     """The tree of a tree file."""
     source = Bytes(data)
-    if source.take(len(OPENING)) != OPENING:
+    opening = source.take(len(OPENING))
+    if opening not in (OPENING, OPENING_WITH_LIMITS):
         raise Bad("the file is no tree file")
-    home, uid, gid, count = source.string(), source.number(), source.number(), source.number()
+    home, uid, gid = source.string(), source.number(), source.number()
+    limits = tuple(source.number() for _ in range(4)) if opening == OPENING_WITH_LIMITS else ()
+    count = source.number()
     root = Entry(b"/", DIRECTORY, b"", source.number(), source.number(), source.number())
     entries = []
     for _ in range(count):
         entries.append(get_entry(source, entries))
-    return Tree(entries, home, uid, gid, root)
+    return Tree(entries, home, uid, gid, root, limits)
 
 
 def get_entry(source, before):
