@@ -118,8 +118,8 @@ impl Auditor {
     }
 
     /// Judges the next event of the session, as `feed` does. After `NotAllowed`, `is_modelled` says whether the profile
-    /// follows the request with this reply: if not, it was an extension that the profile does not know and that may have
-    /// changed anything. Otherwise `is_modelled` stays.
+    /// follows the request with this reply: if not, it was an extension that the profile does not know and that may
+    /// have changed anything. Otherwise `is_modelled` stays.
     ///
     /// # Errors
     ///

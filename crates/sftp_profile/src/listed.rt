@@ -325,7 +325,8 @@ fn put_shown(
     shown: Option<&Attrs>,
     filename: &ByteString,
 ) -> Result<(), NoMemory>
-    ensures { OnOk result (given.new.items ≡ given.old.items ++ spec.shown_item filename.now (option_copied shown.entry)) }
+    ensures { OnOk result
+        (given.new.items ≡ given.old.items ++ spec.shown_item filename.now (option_copied shown.entry)) }
 {
     let Some(shown) = shown else {
         return Ok(());

@@ -1,5 +1,6 @@
 //! What a judge notes of the directories that are open, request by request.
-ghost use Rattle.std.specs.Prelude.{◌≡◌, [], Some, None, true, false, not, if◌then◌else◌, map, OnOk, IfOk, option_copied};
+ghost use Rattle.std.specs.Prelude.{◌≡◌, [], Some, None, true, false, not, if◌then◌else◌};
+ghost use Rattle.std.specs.Prelude.{map, OnOk, IfOk, option_copied};
 ghost use Rattle.sftp_tree.specs.OpenFlags.{excludes};
 ghost use Rattle.sftp_path.specs.Place.{name_cmp};
 ghost use Rattle.sftp_path.specs.Table.{put};

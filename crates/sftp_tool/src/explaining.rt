@@ -500,8 +500,8 @@ fn new_auditor(alloc: Global, profile: Profile, tree: &[u8]) -> Result<Auditor, 
     Ok(Auditor::by(profile, tree)?)
 }
 
-/// Feeds the session to an auditor that has seen nothing of it, and returns whether the profile follows the request that
-/// is refused. The auditor's session is then the one in which the wrong reply came.
+/// Feeds the session to an auditor that has seen nothing of it, and returns whether the profile follows the request
+/// that is refused. The auditor's session is then the one in which the wrong reply came.
 ///
 /// # Errors
 ///

@@ -69,8 +69,8 @@ fn audit_from<'a, R: Files + AllocGlobal, O: Write, E: Write>(
     }
 }
 
-/// Audits the session of a transcript that is read as a stream, and sets `is_modelled` to whether the profile follows it
-/// up to where it is refused.
+/// Audits the session of a transcript that is read as a stream, and sets `is_modelled` to whether the profile follows
+/// it up to where it is refused.
 fn judge<F: Read + Drop>(
     alloc: Global,
     profile: Profile,
