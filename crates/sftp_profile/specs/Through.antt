@@ -15,7 +15,7 @@ use Rattle.sftp_profile.specs.declared.profiles.Profile.{Profile}
 use Rattle.sftp_profile.specs.declared.directories.Directory.{Directory}
 use Rattle.sftp_profile.specs.Directories.{directory_at}
 use Rattle.sftp_profile.specs.Flags.{mended_flags}
-use Rattle.sftp_profile.specs.Departures.{is_refusal}
+use Rattle.sftp_profile.specs.Refusals.{is_refusal}
 use Rattle.sftp_profile.specs.Tellings.{is_directory}
 
 -- ---- which directory
