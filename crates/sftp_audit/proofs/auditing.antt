@@ -2,7 +2,6 @@ pub mod Lists
 pub mod Turns
 pub mod Places
 pub mod Settled
-pub mod Told
 pub mod Standing
 pub mod Lost
 pub mod Refusals

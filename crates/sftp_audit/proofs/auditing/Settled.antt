@@ -1,15 +1,16 @@
 -- How settling goes over the exchanges that are kept: each is done as soon as it and all before it have their replies.
-use Rattle.std.proofs.Common.{◌≡◌, true, List, [], ◌∷◌, ◌++◌, Option, Some, None, is_some, drop, slice_get}
+use Rattle.std.proofs.Common.{◌≡◌, Bool, true, List, [], ◌∷◌, ◌++◌, Option, Some, None, is_some, drop, slice_get}
 use Rattle.std.proofs.Common.{refl, sym, ap, ◌∙◌, append_assoc}
 use Rattle.std.proofs.lemmas.List.{append-nil}
 use Rattle.std.proofs.lemmas.Option.{none-some, same_Some}
 use Rattle.sftp_profile.specs.State.{State}
-use Rattle.sftp_profile.specs.Permitted.{Permitted}
+use Rattle.sftp_profile.specs.Permitted.{Permitted, follows_in}
 use Rattle.sftp_transcript.specs.Explained.{Run, leading_pairs}
 use Rattle.sftp_audit.specs.declared.exchanges.RecordedReply.{RecordedReply}
 use Rattle.sftp_audit.specs.declared.exchanges.Exchange.{Exchange}
 use Rattle.sftp_audit.specs.Exchanges.{is_answered, AreAnswered, unsettled, ledger_of}
-use Rattle.sftp_audit.specs.Auditor.{IsFirstWrong}
+use Rattle.sftp_audit.specs.declared.errors.Refusal.TheVariants as refusals
+use Rattle.sftp_audit.specs.Auditor.{IsFirstWrong, IsTold}
 use Rattle.sftp_audit.proofs.auditing.Lists.{unsettled-answered, leading_pairs-settled, leading_pairs-unsettled}
 use Rattle.sftp_audit.proofs.auditing.Turns.{run-append}
 
@@ -81,6 +82,18 @@ unfolding done-wrong
 done-wrong_in start mid end old [] x r done at is wrong same = absurd (none-some x (sym at))
 done-wrong_in start mid end old (y ∷ rest) x r done at is wrong same =
     (done-wrong start mid old (y ∷ rest) x r done at is wrong, sym same)
+
+-- the first reply that is not allowed is told by the state in which it is not
+pub done-told : (start mid end : State) (old now : List Exchange) (x : Exchange) (r : RecordedReply) (before after : Bool)
+    → IsDoneTo start old now mid → Some x ≡ slice_get now 0 → x.reply ≡ Some r
+    → ((end : State) → Permitted mid x.request r.reply end → ⊥) → end ≡ mid
+    → after ≡ follows_in end x.request.ask r.reply.answer → IsTold start old before after (refusals.NotAllowed r.number)
+unfolding done-wrong
+done-told start mid end old [] x r before after done at is wrong same told = absurd (none-some x (sym at))
+done-told start mid end old (y ∷ rest) x r before after done at is wrong same told = (
+  done-wrong start mid old (y ∷ rest) x r done at is wrong,
+  told ∙ ap (λ (s : State). follows_in s x.request.ask r.reply.answer) same,
+)
 
 -- ---- the end: what is left begins with a request without a reply, or is nothing
 

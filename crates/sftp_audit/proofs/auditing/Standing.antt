@@ -22,7 +22,7 @@ use Rattle.sftp_audit.specs.declared.exchanges.RecordedReply.{RecordedReply}
 use Rattle.sftp_audit.specs.Exchanges.{recorded_exchanges, exchanges_from, unsettled, AreAnswered, is_open}
 use Rattle.sftp_audit.specs.Exchanges.{with_reply, ledger_of}
 use Rattle.sftp_audit.specs.Ledger.{RefusesRequest, RefusesReply}
-use Rattle.sftp_audit.specs.Auditor.{Audited, StandsFor, IsNoted, Refuses, RefusesToSettle, LacksReply, IsWrongIn}
+use Rattle.sftp_audit.specs.Auditor.{Audited, StandsFor, IsNoted, Refuses, RefusesToSettle, LacksReply, IsWrongIn, IsTold}
 use Rattle.sftp_audit.proofs.auditing.Lists.{ledger_of-recorded, recorded-asked, recorded-replied, settled_parts}
 use Rattle.sftp_audit.proofs.auditing.Lists.{unsettled-answered, unsettled-asked, with_reply-answered}
 use Rattle.sftp_audit.proofs.auditing.Lists.{with_reply-append}
@@ -360,6 +360,74 @@ state-settled (Err refusal) event reply seen old kept state is view waits replie
     subst (λ (e : Event). IsWrongIn start (recorded_exchanges (events ++ e ∷ [])) state refusal) (sym is)
     (let at = at_view start events seen old view stands in
     wrong-settling start state events reply old kept refusal at waits replied wrong)
+
+-- ---- whether the profile follows the request of a refusal
+
+-- of an event that is not taken nothing is told
+told-asked : (start : State) (exchanges : List Exchange) (request : Request) (kept : List Exchange) (number : ℕ)
+    (before after : Bool) (refusal : Refusal) → after ≡ before → RefusesRequest kept request number refusal
+    → IsTold start exchanges before after refusal
+told-asked start exchanges request kept number before after (refusals.UnknownReply n) same r = same
+told-asked start exchanges request kept number before after (refusals.IdInUse n) same r = same
+told-asked start exchanges request kept number before after (refusals.Window n) same r = same
+told-asked start exchanges request kept number before after (refusals.NotAllowed n) same r = absurd r
+told-asked start exchanges request kept number before after (refusals.Unanswered n) same r = same
+told-asked start exchanges request kept number before after refusals.NoMemory same r = same
+
+told-replied : (start : State) (exchanges kept : List Exchange) (recorded : RecordedReply) (before after : Bool)
+    (refusal : Refusal) → after ≡ before → RefusesReply kept recorded refusal
+    → IsTold start exchanges before after refusal
+told-replied start exchanges kept recorded before after (refusals.UnknownReply n) same r = same
+told-replied start exchanges kept recorded before after (refusals.IdInUse n) same r = same
+told-replied start exchanges kept recorded before after (refusals.Window n) same r = same
+told-replied start exchanges kept recorded before after (refusals.NotAllowed n) same r = absurd r
+told-replied start exchanges kept recorded before after (refusals.Unanswered n) same r = same
+told-replied start exchanges kept recorded before after refusals.NoMemory same r = same
+
+-- what settling tells, is told of the events
+told-settling : (start : State) (events : List Event) (reply : Reply) (old : Audited) (kept : List Exchange)
+    (before after : Bool) (refusal : Refusal) → StandsFor start events old → is_open reply.id old.kept ≡ true
+    → kept ≡ with_reply (record { reply = reply; number = old.number }) old.kept
+    → IsTold old.state kept before after refusal
+    → IsTold start (recorded_exchanges (events ++ Replied reply ∷ [])) before after refusal
+unfolding refused-settling
+told-settling start events reply old kept before after (refusals.UnknownReply number) stands waits replied r = r
+told-settling start events reply old kept before after (refusals.IdInUse number) stands waits replied r = r
+told-settling start events reply old kept before after (refusals.Window number) stands waits replied r = r
+told-settling start events reply old kept before after (refusals.NotAllowed number) stands waits replied r =
+    ((refused-settling start events reply old kept (refusals.NotAllowed number) stands waits replied r.0).1, r.1)
+told-settling start events reply old kept before after (refusals.Unanswered number) stands waits replied r = r
+told-settling start events reply old kept before after refusals.NoMemory stands waits replied r = r
+
+pub call-asked : {T : Type 0} (result : Result T Refusal) (event : Event) (request : Request) (seen : Audited)
+    (kept : List Exchange) (number : ℕ) (before after : Bool) → after ≡ before
+    → IfErr result (RefusesRequest kept request number)
+    → IfErr result (λ refusal. (start : State) (events : List Event) → StandsFor start events seen
+    → IsTold start (recorded_exchanges (events ++ event ∷ [])) before after refusal)
+call-asked (Ok x) event request seen kept number before after same refused = tt
+call-asked (Err refusal) event request seen kept number before after same refused = λ start events stands.
+    told-asked start (recorded_exchanges (events ++ event ∷ [])) request kept number before after refusal same refused
+
+pub call-replied : (event : Event) (reply : Reply) (seen : Audited) (kept : List Exchange) (number : ℕ)
+    (before after : Bool) (refusal : Refusal) → after ≡ before
+    → RefusesReply kept (record { reply = reply; number = number }) refusal → (start : State)
+    (events : List Event) → StandsFor start events seen
+    → IsTold start (recorded_exchanges (events ++ event ∷ [])) before after refusal
+call-replied event reply seen kept number before after refusal same refused start events stands =
+    told-replied start (recorded_exchanges (events ++ event ∷ [])) kept (record { reply = reply; number = number })
+    before after refusal same refused
+
+pub call-settled : {T : Type 0} (result : Result T Refusal) (event : Event) (reply : Reply)
+    (seen old : Audited) (kept : List Exchange) (before after : Bool) → event ≡ Replied reply → old ≡ seen
+    → is_open reply.id old.kept ≡ true → kept ≡ with_reply (record { reply = reply; number = old.number }) old.kept
+    → IfErr result (IsTold old.state kept before after)
+    → IfErr result (λ refusal. (start : State) (events : List Event) → StandsFor start events seen
+    → IsTold start (recorded_exchanges (events ++ event ∷ [])) before after refusal)
+call-settled (Ok x) event reply seen old kept before after is view waits replied told = tt
+call-settled (Err refusal) event reply seen old kept before after is view waits replied told = λ start events stands.
+    subst (λ (e : Event). IsTold start (recorded_exchanges (events ++ e ∷ [])) before after refusal) (sym is)
+    (let at = at_view start events seen old view stands in
+    told-settling start events reply old kept before after refusal at waits replied told)
 
 -- ---- the number of the next record
 
