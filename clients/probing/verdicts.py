@@ -21,7 +21,7 @@ class Verdict:
         said, why = done.stdout.decode().strip(), done.stderr.decode().strip()
         self.accepted = done.returncode == 0
         found = re.match(r"refused record (\d+): (\w+)$", said) if done.returncode == 1 else \
-            re.match(r"sftpv3: transcript: record (\d+): (.+)$", why)
+            re.match(r"sftpv3: transcript: record (\d+): (.+)$", why, re.MULTILINE)
         if not self.accepted and not found:
             raise Trouble(f"the audit ended with status {done.returncode}: {said} {why}")
         self.text = said or why
