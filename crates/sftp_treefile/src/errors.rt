@@ -3,6 +3,7 @@ ghost use Rattle.std.specs.Prelude.{◌≡◌};
 
 use sftp_path::NoMemory;
 use std::alloc::{AllocError, AllocFailed};
+use std::fmt;
 use thiserror::Error;
 
 /// The first fault, from left to right, of bytes that are not a tree file, and the number of its entry. Entries count
@@ -10,27 +11,45 @@ use thiserror::Error;
 #[derive(Clone, Copy, Debug, PartialEq, Eq, Error)]
 pub enum TreeError {
     /// The bytes do not start with the whole opening.
-    #[error("entry {entry}: Magic")]
     Magic { entry: u32 },
     /// The bytes end inside a field.
-    #[error("entry {entry}: Short")]
     Short { entry: u32 },
     /// Bytes follow the last entry, whose number is one less.
-    #[error("entry {entry}: Trailing")]
     Trailing { entry: u32 },
     /// A field is out of its range, a path is not the absolute text of a place, a kind is unknown, or the number of a
     /// further name is not that of an earlier first name.
-    #[error("entry {entry}: Value")]
     Value { entry: u32 },
     /// The path does not come after the one before it.
-    #[error("entry {entry}: Order")]
     Order { entry: u32 },
     /// No earlier entry is the directory that the path is in, and it is not in the root.
-    #[error("entry {entry}: Parent")]
     Parent { entry: u32 },
     /// Memory ran out.
-    #[error("out of memory")]
     NoMemory,
+}
+
+impl TreeError {
+    /// The number of the entry and the name of the fault, if there is one.
+    fn fault(self) -> Option<(u32, &'static str)> {
+        match self {
+            TreeError::Magic { entry } => Some((entry, "Magic")),
+            TreeError::Short { entry } => Some((entry, "Short")),
+            TreeError::Trailing { entry } => Some((entry, "Trailing")),
+            TreeError::Value { entry } => Some((entry, "Value")),
+            TreeError::Order { entry } => Some((entry, "Order")),
+            TreeError::Parent { entry } => Some((entry, "Parent")),
+            TreeError::NoMemory => None,
+        }
+    }
+}
+
+// `thiserror` would format the number of the entry for each fault anew, which is slow to prove.
+impl fmt::Display for TreeError {
+    fn fmt<W: fmt::Write>(&self, f: &mut fmt::Formatter<W>) -> fmt::Result {
+        match self.fault() {
+            Some((entry, fault)) => write!(f, "entry {entry}: {fault}"),
+            None => f.write_str("out of memory"),
+        }
+    }
 }
 
 impl From<AllocError> for TreeError {

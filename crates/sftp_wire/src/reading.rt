@@ -266,6 +266,7 @@ fn unknown(alloc: Global, name: ByteString, body: &mut &[u8]) -> Result<Ask, Rea
 }
 
 /// The data of the extension of that name.
+// Slow to prove: it owns the name, for an unknown extension to keep, and drops it on four of its five ways out.
 #[tactic(auto, unfolding(crate::specs::Reading::extension_data_at))]
 fn extension_data(alloc: Global, name: ByteString, body: &mut &[u8]) -> Result<Ask, ReadError>
     ensures { Reads result body.new.now (extension_data_at name body.old.now) }
