@@ -15,7 +15,7 @@ use crate::entries::seen::Seen;
 use crate::file_numbers::FileNo;
 use crate::found::Found;
 use crate::trees::Tree;
-use sftp_path::absolute;
+use sftp_path::{Place, absolute};
 use sftp_wire::{Ask, Attrs};
 
 impl Tree {
@@ -247,6 +247,16 @@ impl Tree {
         };
         let places = self.free_places(ask)?;
         Ok(self.shown_at(&places.old))
+    }
+
+    /// The attributes that LSTAT shows of the node at a place; `None` if the place is free. Does not allocate.
+    pub fn stat_at(&self, place: &Place) -> Option<Attrs>
+        ensures { result ≡ requests.shown_at self.now (tree.node_at self.now.names place.now) }
+    {
+        match self.names().root_directory().at(place.names()) {
+            Some(node) => Some(self.shown(&node)),
+            None => None,
+        }
     }
 
     /// REALPATH: the absolute text of the place that the path leads to. Its last name need not exist.

@@ -131,6 +131,13 @@ impl Tree {
         self.gid
     }
 
+    /// The user and the group that own what is made with no owner given, in this order. Does not allocate.
+    pub fn owner(&self) -> (u32, u32)
+        ensures { result ≡ (self.now.uid, self.now.gid) }
+    {
+        (self.uid, self.gid)
+    }
+
     /// The four limits of the tree in the order of a tree file: the most entries below the root, bytes of a file, bytes
     /// that one READ gives, and open handles. Does not allocate.
     pub fn limits(&self) -> [u32; 4]

@@ -1,0 +1,12 @@
+use Rattle.std.proofs.Common.{sym, ◌∙◌, ap, option_map}
+use Rattle.sftp_tree.specs.Seen.{node_seen}
+use Rattle.sftp_tree.specs.Tree.{node_at}
+use Rattle.sftp_tree.proofs.WellFormedTrees.Found.{node-kept}
+use Rattle.sftp_tree.proofs.trees.Tree.stat_at.Goals as goal
+
+pub shown-requires : goal.shown-requires
+shown-requires c =
+    node-kept c.args.self.now c.args.place.now (node_seen c.in-Some.node) c.names.ensures.kept
+    (ap (λ names. node_at names c.args.place.now) (sym c.names.ensures.names ∙ sym c.root_directory.ensures)
+    ∙ (ap (node_at c.root_directory.result.now) (sym c.names-2.ensures.names)
+    ∙ (sym c.at.ensures.there ∙ ap (option_map node_seen) c.in-Some.is)))
