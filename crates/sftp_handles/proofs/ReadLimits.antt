@@ -1,5 +1,5 @@
 -- How many bytes one READ gives: of a file of 70,000 bytes as many as the tree's limit, and no other number.
-use Rattle.std.proofs.Common.{◌≡◌, ◌≢◌, nat_lt, ℕ, Bool, true, false, if◌then◌else◌, min, List, [], ◌∷◌, length, take}
+use Rattle.std.proofs.Common.{◌≡◌, ◌≢◌, ℕ, if◌then◌else◌, min, List, length, take}
 use Rattle.std.proofs.Common.{Some, None, refl, ap, ◌∙◌, arith}
 use Rattle.std.specs.Prelude.{nat_eq, codes}
 use Rattle.std.specs.Cmp.Lexicographic.{nat_list_eq_equiv, unequal}
@@ -17,7 +17,7 @@ use Rattle.sftp_handles.specs.Seen.{seen}
 use Rattle.sftp_handles.specs.Handles.{pins_of}
 use Rattle.sftp_handles.specs.Replies.{gives, ended, says}
 use Rattle.sftp_handles.specs.Requests.{causes, answers, after}
-use Rattle.sftp_handles.specs.Allowed.{step, steps}
+use Rattle.sftp_handles.specs.Allowed.{step}
 use Rattle.sftp_handles.specs.Examples.{with_text, reading}
 use Rattle.sftp_handles.proofs.Judgements.{not-answered}
 use Rattle.sftp_handles.proofs.Steps.{done-step}

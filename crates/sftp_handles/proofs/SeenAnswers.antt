@@ -1,10 +1,11 @@
 -- What replies to requests on open files say, by what is found under the handle.
-use Rattle.std.proofs.Common.{◌≡◌, ◌&&◌, ◌||◌, ℕ, true, false, List, Option, Some, None, Ok, option_map}
+use Rattle.std.proofs.Common.{◌≡◌, ◌&&◌, ◌||◌, ℕ, true, false, List, Option, Some, None, Ok, Err, option_map}
 use Rattle.std.proofs.Common.{refl, ap, ◌∙◌, IsTrue}
 use Rattle.std.proofs.lemmas.Bool.{eq-eqb}
 use Rattle.std.proofs.lemmas.Option.{same_Some}
 use Rattle.sftp_wire.specs.declared.open_flags.OpenFlags.{OpenFlags}
 use Rattle.sftp_wire.specs.declared.packets.Ask.{Ask}
+use Rattle.sftp_wire.specs.Spelling.{asked_handle}
 use Rattle.sftp_treefile.specs.declared.limits.TreeLimits.{TreeLimits}
 use Rattle.sftp_tree.specs.declared.causes.Cause.{Cause}
 use Rattle.sftp_tree.specs.declared.causes.Cause.TheVariants.{NotOpenFor}
@@ -16,9 +17,9 @@ use Rattle.sftp_handles.specs.Handles.{open_at}
 use Rattle.sftp_handles.specs.Seen.{a_file, seen, seen_among, seen_file}
 use Rattle.sftp_handles.specs.Replies.{Said}
 use Rattle.sftp_handles.specs.HandleRequests.{Row, row_of, said_of}
-use Rattle.sftp_handles.specs.Requests.{said_to}
+use Rattle.sftp_handles.specs.Requests.{causes, said_to}
 use Rattle.sftp_handles.specs.Found.{found_file}
-use Rattle.sftp_handles.proofs.SeenCauses.{seen-found}
+use Rattle.sftp_handles.proofs.SeenCauses.{seen-found, lost}
 
 -- no cause is in the empty set
 pub none-free : IsTrue (is_none no_causes)
@@ -29,6 +30,13 @@ none-free = refl
 pub cause-holds : (cause : Cause) → IsTrue (when no_causes cause true cause)
 unfolding when no_causes
 cause-holds cause = ap (λ b. b && true || no_causes cause) (eq-eqb (row cause) (row cause) refl)
+
+-- the cause of a handle that opens no file holds
+pub lost-holds : (s : State) (ask : Ask) (handle : List ℕ) → asked_handle ask ≡ Some handle
+    → (row_of ask).needed ≡ a_file → (cause : Cause) → found_file (open_at s.handles handle) ≡ Err cause
+    → IsTrue (causes s ask cause)
+lost-holds s ask handle asked needs cause is =
+    ap (λ set. set cause) (lost s ask handle asked needs cause is) ∙ cause-holds cause
 
 of-content : (bounds : TreeLimits) (row : Row) (number : ℕ) (flags : OpenFlags) (content : Option Content) (said : Said)
     → option_map (row.told bounds) content ≡ Some said → said_of bounds row (seen_file number flags content) ≡ said

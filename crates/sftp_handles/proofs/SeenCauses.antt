@@ -116,20 +116,6 @@ seen-found files (Some (File number flags)) f is =
 seen-found files (Some (Listing left)) f is = absurd cc
 
 module _ (s : State) (handle : List ℕ) where
-  -- the handle opens no file
-  pub write-lost : (offset : ℕ) (new : List ℕ) (cause : Cause) → found_file (open_at s.handles handle) ≡ Err cause
-      → causes s (Write handle offset new) ≡ when no_causes cause true
-  unfolding causes seen
-  write-lost offset new cause is =
-      lost-causes (limits s.tree) (row_of (Write handle offset new)) s.tree.files (open_at s.handles handle) cause is
-
-  pub set-lost : (attrs : Attrs) (cause : Cause) → found_file (open_at s.handles handle) ≡ Err cause
-      → causes s (Fsetstat handle attrs) ≡ when no_causes cause true
-  unfolding causes seen
-  set-lost attrs cause is =
-      lost-causes (limits s.tree) (row_of (Fsetstat handle attrs)) s.tree.files (open_at s.handles handle) cause is
-
-  -- it opens one
   pub write-found : (offset : ℕ) (new : List ℕ) (f : ℕ × OpenFlags) (fits : Bool)
       → found_file (open_at s.handles handle) ≡ Ok f
       → option_map (λ before. content_fits (limits s.tree) (written_content (start_of f.1 offset before) new before))
@@ -152,24 +138,25 @@ module _ (s : State) (handle : List ℕ) where
       ∙ room-causes (limits s.tree) (row_of (Fsetstat handle attrs)) f.0 f.1 (content_at s.tree.files f.0) fits
       (changed_content attrs) (λ before. refl) there
 
--- of requests that change no content
+-- of a request on a file
 module _ (s : State) (ask : Ask) (handle : List ℕ) (asked : asked_handle ask ≡ Some handle)
-    (needs : (row_of ask).needed ≡ a_file)
-    (same : (flags : OpenFlags) (before : Content) → (row_of ask).content flags before ≡ None) where
+    (needs : (row_of ask).needed ≡ a_file) where
   by-seen : causes s ask ≡ causes_of (limits s.tree) (row_of ask) (seen_among s.tree.files a_file (open_at s.handles handle))
   unfolding causes seen
   by-seen =
       ap (causes_by s ask) asked
       ∙ ap (λ n. causes_of (limits s.tree) (row_of ask) (seen_among s.tree.files n (open_at s.handles handle))) needs
 
-  pub plain-lost : (cause : Cause) → found_file (open_at s.handles handle) ≡ Err cause
-      → causes s ask ≡ when no_causes cause true
-  plain-lost cause is =
+  -- the handle opens no file
+  pub lost : (cause : Cause) → found_file (open_at s.handles handle) ≡ Err cause → causes s ask ≡ when no_causes cause true
+  lost cause is =
       by-seen ∙ lost-causes (limits s.tree) (row_of ask) s.tree.files (open_at s.handles handle) cause is
 
-  pub plain-found : (f : ℕ × OpenFlags) → found_file (open_at s.handles handle) ≡ Ok f → HasFile s.tree.files f.0
+  -- it opens one, and the request changes no content
+  pub plain-found : ((flags : OpenFlags) (before : Content) → (row_of ask).content flags before ≡ None)
+      → (f : ℕ × OpenFlags) → found_file (open_at s.handles handle) ≡ Ok f → HasFile s.tree.files f.0
       → causes s ask ≡ (row_of ask).refused f.1
-  plain-found f is there =
+  plain-found same f is there =
       by-seen
       ∙ (ap (causes_of (limits s.tree) (row_of ask)) (seen-found s.tree.files (open_at s.handles handle) f is)
       ∙ of-content (limits s.tree) (row_of ask) s.tree.files same f.0 f.1 (content_at s.tree.files f.0) there)

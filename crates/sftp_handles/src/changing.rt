@@ -6,7 +6,6 @@ ghost use Rattle.sftp_tree.specs.Tree.{is_pinned};
 ghost use Rattle.sftp_tree.specs.FileChanges.{after_unpin};
 ghost use Rattle.sftp_handles.specs.declared.opens.Open.TheVariants.{File, Listing};
 ghost use Rattle.sftp_handles.specs.Handles.{Left};
-ghost use Rattle.sftp_handles.specs.Requests.{causes};
 ghost use Rattle.sftp_handles.specs.Judged.{IsDone, IsRefusal};
 
 use crate::found::may_write;
@@ -23,9 +22,9 @@ impl<T: HandleTable> Session<T> {
     /// # Errors
     ///
     /// `BadHandle` if the handle is not open; the session is unchanged.
-    pub(crate) fn close(&mut self, handle: &[u8]) -> Result<(), Cause>
+    pub(crate) fn close(&mut self, handle: &[u8]) -> Result<(), Refused>
         ensures done { OnOk result (IsDone self.old (Close handle.now) self.new) }
-        ensures refused { IfErr result (λ cause. IsTrue (causes self.old (Close handle.now) cause)) }
+        ensures refused { IfErr result (IsRefusal self.old (Close handle.now)) }
         ensures kept { OnErr result (self.new ≡ self.old) }
     {
         match self.table.take(handle) {
@@ -34,7 +33,7 @@ impl<T: HandleTable> Session<T> {
                 drop(it);
                 Ok(())
             }
-            None => Err(Cause::BadHandle),
+            None => Err(Refused::Cause(Cause::BadHandle)),
         }
     }
 
@@ -94,13 +93,13 @@ impl<T: HandleTable> Session<T> {
     /// # Errors
     ///
     /// `BadHandle` if the handle is not open, `WrongKind` if it is a directory's.
-    pub(crate) fn sync_open(&self, handle: &[u8]) -> Result<(), Cause>
+    pub(crate) fn sync_open(&self, handle: &[u8]) -> Result<(), Refused>
         ensures done { OnOk result (IsDone self.now (Fsync handle.now) self.now) }
-        ensures refused { IfErr result (λ cause. IsTrue (causes self.now (Fsync handle.now) cause)) }
+        ensures refused { IfErr result (IsRefusal self.now (Fsync handle.now)) }
     {
         match self.file_at(handle) {
             Ok(_) => Ok(()),
-            Err(cause) => Err(cause),
+            Err(cause) => Err(Refused::Cause(cause)),
         }
     }
 }

@@ -39,25 +39,16 @@ impl<T: HandleTable> Session<T> {
         ensures refused { IfErr result (IsRefusal self.old ask.now) }
         ensures kept { OnErr result (self.new ≡ self.old) }
     {
-        // Dear to prove: an arm for each request. Requests of one arm would not tell the prover which of them it is.
         match ask {
-            Ask::Close { handle } => Ok(self.close(handle.as_slice())?),
+            Ask::Close { handle } => self.close(handle.as_slice()),
             Ask::Write {
                 handle,
                 offset,
                 bytes,
             } => self.write_open(handle.as_slice(), *offset, bytes.as_slice()),
             Ask::Fsetstat { handle, attrs } => self.set_open(handle.as_slice(), attrs),
-            Ask::Fsync { handle } => Ok(self.sync_open(handle.as_slice())?),
-            Ask::Mkdir { .. } => self.change_tree(ask),
-            Ask::Rmdir { .. } => self.change_tree(ask),
-            Ask::Remove { .. } => self.change_tree(ask),
-            Ask::Setstat { .. } => self.change_tree(ask),
-            Ask::Rename { .. } => self.change_tree(ask),
-            Ask::PosixRename { .. } => self.change_tree(ask),
-            Ask::Hardlink { .. } => self.change_tree(ask),
-            Ask::Symlink { .. } => self.change_tree(ask),
-            _ => unreachable!(),
+            Ask::Fsync { handle } => self.sync_open(handle.as_slice()),
+            _ => self.change_tree(ask),
         }
     }
 

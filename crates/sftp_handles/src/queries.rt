@@ -14,7 +14,6 @@ use crate::payloads::Payload;
 use crate::sessions::Session;
 use crate::tables::HandleTable;
 use sftp_tree::Refused;
-use sftp_tree::laws::walks_give_places;
 use sftp_wire::{Answer, Ask, ByteString};
 
 impl<T: HandleTable> Session<T> {
@@ -135,7 +134,6 @@ impl<T: HandleTable> Session<T> {
         ensures carried { IfOk result (λ payload. Carries self.now (Realpath path.now) (said_in payload)) }
         ensures refused { IfErr result (IsRefusal self.now (Realpath path.now)) }
     {
-        walks_give_places();
         match self.tree.real_path(path) {
             Ok(text) => Ok(Payload::Name(ByteString::new(text))),
             Err(refused) => Err(refused),

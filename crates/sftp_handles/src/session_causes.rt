@@ -21,7 +21,7 @@ impl<T: HandleTable> Session<T> {
     pub fn causes(&self, ask: &Ask) -> Result<Causes, NoMemory>
         ensures { IfOk result (λ set. (c : cause) → in_set set c ≡ requests.causes self.now ask.now c) }
     {
-        // Dear to prove: an arm for each request. Requests of one arm would not tell the prover which of them it is.
+        // Requests of one arm would not tell the prover which of them it is.
         match ask {
             Ask::Close { handle } => Ok(self.close_causes(handle.as_slice())),
             Ask::Read { handle, .. } => Ok(self.read_causes(handle.as_slice())),
@@ -38,18 +38,7 @@ impl<T: HandleTable> Session<T> {
             Ask::Unknown { .. } => Ok(Causes::none().when(Cause::Unknown, true)),
             Ask::Open { .. } => self.opening_causes(ask),
             Ask::Opendir { .. } => self.opening_causes(ask),
-            Ask::Lstat { .. } => self.tree.causes(ask),
-            Ask::Setstat { .. } => self.tree.causes(ask),
-            Ask::Remove { .. } => self.tree.causes(ask),
-            Ask::Mkdir { .. } => self.tree.causes(ask),
-            Ask::Rmdir { .. } => self.tree.causes(ask),
-            Ask::Realpath { .. } => self.tree.causes(ask),
-            Ask::Stat { .. } => self.tree.causes(ask),
-            Ask::Rename { .. } => self.tree.causes(ask),
-            Ask::Readlink { .. } => self.tree.causes(ask),
-            Ask::Symlink { .. } => self.tree.causes(ask),
-            Ask::PosixRename { .. } => self.tree.causes(ask),
-            Ask::Hardlink { .. } => self.tree.causes(ask),
+            _ => self.tree.causes(ask),
         }
     }
 

@@ -4,10 +4,11 @@ use Rattle.sftp_wire.specs.declared.packets.Ask.TheVariants.{Close, Write, Fsets
 use Rattle.sftp_handles.specs.Judged.{IsDone}
 use Rattle.sftp_handles.proofs.sessions.Session.do_ok.Goals as goal
 
-pub returns-in_ok-close-in-Close-clause-done : goal.returns-in_ok-close-in-Close-clause-done
-returns-in_ok-close-in-Close-clause-done g c =
-    subst (λ (ask : Ask). IsDone c.args.self.now ask c.close.new.self) (ap Close c.as_slice.ensures ∙ sym c.in-Close.is)
-    c.in_ok-close-in-Close.ensures.done
+pub returns-in-Close-clause-done : goal.returns-in-Close-clause-done
+returns-in-Close-clause-done g c =
+    subst (λ (ask : Ask). OnOk c.close.result (IsDone c.args.self.now ask c.close.new.self))
+    (ap Close c.as_slice.ensures ∙ sym c.in-Close.is)
+    c.close.ensures.done
 
 pub returns-in-Write-clause-done : goal.returns-in-Write-clause-done
 returns-in-Write-clause-done g c =
@@ -22,8 +23,8 @@ returns-in-Fsetstat-clause-done g c =
     (ap (λ handle. Fsetstat handle c.in-Fsetstat.attrs) c.as_slice-in-Fsetstat.ensures ∙ sym c.in-Fsetstat.is)
     c.set_open.ensures.done
 
-pub returns-in_ok-sync_open-in-Fsync-clause-done : goal.returns-in_ok-sync_open-in-Fsync-clause-done
-returns-in_ok-sync_open-in-Fsync-clause-done g c =
-    subst (λ (ask : Ask). IsDone c.args.self.now ask c.args.self.now)
+pub returns-in-Fsync-clause-done : goal.returns-in-Fsync-clause-done
+returns-in-Fsync-clause-done g c =
+    subst (λ (ask : Ask). OnOk c.sync_open.result (IsDone c.args.self.now ask c.args.self.now))
     (ap Fsync c.as_slice-in-Fsync.ensures ∙ sym c.in-Fsync.is)
-    c.in_ok-sync_open-in-Fsync.ensures.done
+    c.sync_open.ensures.done

@@ -1,7 +1,7 @@
 use Rattle.std.proofs.Common.{refl, sym, ap, ◌∙◌, true}
 use Rattle.sftp_wire.specs.declared.packets.Ask.TheVariants.{Fstat, Fsync}
 use Rattle.sftp_tree.specs.Causes.{when}
-use Rattle.sftp_handles.proofs.SeenCauses.{plain-found, plain-lost}
+use Rattle.sftp_handles.proofs.SeenCauses.{plain-found, lost}
 use Rattle.sftp_handles.proofs.sessions.Session.file_causes.Goals as goal
 
 pub returns-in-Ok-clause-shown : goal.returns-in-Ok-clause-shown
@@ -22,12 +22,12 @@ pub returns-in-Err-clause-shown : goal.returns-in-Err-clause-shown
 returns-in-Err-clause-shown g c =
     c.when.ensures ∙ ap (λ set. when set c.in-Err.cause true) c.none-in-Err.ensures
     ∙ sym
-    (plain-lost c.args.self.now (Fstat c.args.handle.now) c.args.handle.now refl refl (λ flags before. refl)
-    c.in-Err.cause (sym c.in-Err.ensures.found))
+    (lost c.args.self.now (Fstat c.args.handle.now) c.args.handle.now refl refl c.in-Err.cause
+    (sym c.in-Err.ensures.found))
 
 pub returns-in-Err-clause-flushed : goal.returns-in-Err-clause-flushed
 returns-in-Err-clause-flushed g c =
     c.when.ensures ∙ ap (λ set. when set c.in-Err.cause true) c.none-in-Err.ensures
     ∙ sym
-    (plain-lost c.args.self.now (Fsync c.args.handle.now) c.args.handle.now refl refl (λ flags before. refl)
-    c.in-Err.cause (sym c.in-Err.ensures.found))
+    (lost c.args.self.now (Fsync c.args.handle.now) c.args.handle.now refl refl c.in-Err.cause
+    (sym c.in-Err.ensures.found))

@@ -2,6 +2,7 @@ use Rattle.std.proofs.Common.{◌≡◌, ℕ, List, Some, sym, subst}
 use Rattle.sftp_wire.specs.declared.packets.Ask.TheVariants.{Realpath}
 use Rattle.sftp_path.proofs.PathTexts.GoodPaths.{list_all-octets}
 use Rattle.sftp_tree.specs.Requests as paths
+use Rattle.sftp_tree.proofs.Walks.Places.{path-found}
 use Rattle.sftp_tree.specs.Refusals.{IsFree}
 use Rattle.sftp_tree.specs.Refusals as of_tree
 use Rattle.sftp_handles.specs.State.{State, Good}
@@ -18,8 +19,8 @@ returns-in-Ok-clause-carried g c =
     let text = c.in-Ok.text.items in
     subst (λ (x : List ℕ). Carries s ask (names (Some x))) (sym c.new.ensures)
     (carries-place (λ t kept follow path place bytes is. record {
-      named = c.walks_give_places.ensures.names t follow path place kept bytes is;
-      above = c.walks_give_places.ensures.parent t follow path place kept bytes is;
+      named = (path-found t follow path place kept bytes is).names;
+      above = (path-found t follow path place kept bytes is).parent_stands;
     }) s c.args.path.now text (subst Good c.self.view_is c.self.invariant)
     (list_all-octets c.args.path.now c.type_inv.path)
     (subst (λ (s : State). IsFree s.tree ask) c.self.view_is c.in-Ok.ensures.free)

@@ -2,7 +2,7 @@ use Rattle.std.proofs.Common.{refl, sym, ap, ◌∙◌, true, not}
 use Rattle.sftp_wire.specs.declared.packets.Ask.TheVariants.{Read}
 use Rattle.sftp_tree.specs.declared.causes.Cause.TheVariants.{NotOpenFor}
 use Rattle.sftp_tree.specs.Causes.{when}
-use Rattle.sftp_handles.proofs.SeenCauses.{plain-found, plain-lost}
+use Rattle.sftp_handles.proofs.SeenCauses.{plain-found, lost}
 use Rattle.sftp_handles.proofs.sessions.Session.read_causes.Goals as goal
 
 pub returns-in-Ok : goal.returns-in-Ok
@@ -16,5 +16,5 @@ pub returns-in-Err : goal.returns-in-Err
 returns-in-Err g c offset len =
     c.when-in-Err.ensures ∙ ap (λ set. when set c.in-Err.cause true) c.none-in-Err.ensures
     ∙ sym
-    (plain-lost c.args.self.now (Read c.args.handle.now offset len) c.args.handle.now refl refl (λ flags before. refl)
-    c.in-Err.cause (sym c.in-Err.ensures.found))
+    (lost c.args.self.now (Read c.args.handle.now offset len) c.args.handle.now refl refl c.in-Err.cause
+    (sym c.in-Err.ensures.found))

@@ -3,8 +3,8 @@ use Rattle.sftp_wire.specs.declared.packets.Ask.TheVariants.{Read}
 use Rattle.sftp_tree.specs.declared.causes.Cause.TheVariants.{NotOpenFor}
 use Rattle.sftp_tree.specs.Causes.{is_none, when, no_causes}
 use Rattle.sftp_handles.specs.Found.{read_said}
-use Rattle.sftp_handles.proofs.SeenCauses.{plain-found, plain-lost}
-use Rattle.sftp_handles.proofs.SeenAnswers.{cause-holds, open-for, said-found}
+use Rattle.sftp_handles.proofs.SeenCauses.{plain-found}
+use Rattle.sftp_handles.proofs.SeenAnswers.{cause-holds, lost-holds, open-for, said-found}
 use Rattle.sftp_handles.proofs.sessions.Session.read_open.Goals as goal
 
 pub returns-then-not-may_read-clause-refused : goal.returns-then-not-may_read-clause-refused
@@ -30,7 +30,5 @@ returns-else-not-may_read-clause-read g c =
 
 pub returns-in-Err-clause-refused : goal.returns-in-Err-clause-refused
 returns-in-Err-clause-refused g c =
-    ap (λ set. set c.in-Err.cause)
-    (plain-lost c.args.self.now (Read c.args.handle.now c.args.offset c.args.len) c.args.handle.now refl refl
-    (λ flags before. refl) c.in-Err.cause (sym c.in-Err.ensures.found))
-    ∙ cause-holds c.in-Err.cause
+    lost-holds c.args.self.now (Read c.args.handle.now c.args.offset c.args.len) c.args.handle.now refl refl c.in-Err.cause
+    (sym c.in-Err.ensures.found)

@@ -1,11 +1,12 @@
 use Rattle.std.proofs.Common.{refl, subst, sym, ap, ◌∙◌, true}
+use Rattle.sftp_wire.specs.declared.packets.Ask.TheVariants.{Fsetstat}
 use Rattle.sftp_tree.specs.declared.causes.Cause.TheVariants.{NotOpenFor}
 use Rattle.sftp_tree.specs.Causes.{when}
 use Rattle.sftp_tree.specs.Room.{size_fits}
 use Rattle.sftp_tree.specs.Tree.{IsKept, content_at, limits}
 use Rattle.sftp_handles.specs.State.{State}
 use Rattle.sftp_handles.specs.Found.{with_room}
-use Rattle.sftp_handles.proofs.SeenCauses.{set-found, set-lost, set-room}
+use Rattle.sftp_handles.proofs.SeenCauses.{set-found, set-room, lost}
 use Rattle.sftp_handles.proofs.sessions.Session.set_causes.Goals as goal
 
 pub returns-in-Ok : goal.returns-in-Ok
@@ -25,4 +26,6 @@ returns-in-Ok g c =
 pub returns-in-Err : goal.returns-in-Err
 returns-in-Err g c =
     c.when.ensures ∙ ap (λ set. when set c.in-Err.cause true) c.none-in-Err.ensures
-    ∙ sym (set-lost c.args.self.now c.args.handle.now c.args.attrs.now c.in-Err.cause (sym c.in-Err.ensures.found))
+    ∙ sym
+    (lost c.args.self.now (Fsetstat c.args.handle.now c.args.attrs.now) c.args.handle.now refl refl c.in-Err.cause
+    (sym c.in-Err.ensures.found))

@@ -7,8 +7,7 @@ use Rattle.sftp_tree.specs.FileChanges.{after_set, IsRoomRefusal}
 use Rattle.sftp_tree.specs.Room.{size_fits}
 use Rattle.sftp_handles.specs.State.{State, Good}
 use Rattle.sftp_handles.proofs.NewStates.{state_of}
-use Rattle.sftp_handles.proofs.SeenCauses.{set-lost}
-use Rattle.sftp_handles.proofs.SeenAnswers.{cause-holds}
+use Rattle.sftp_handles.proofs.SeenAnswers.{cause-holds, lost-holds}
 use Rattle.sftp_handles.proofs.OpenChanges.{not-open-for, set-ends, set-refused}
 use Rattle.sftp_handles.proofs.sessions.Session.set_open.Goals as goal
 
@@ -46,6 +45,5 @@ returns-else-cannot_resize-clause-refused g c =
 
 pub returns-in-Err-clause-refused : goal.returns-in-Err-clause-refused
 returns-in-Err-clause-refused g c =
-    ap (λ set. set c.in-Err.cause)
-    (set-lost c.args.self.now c.args.handle.now c.args.attrs.now c.in-Err.cause (sym c.in-Err.ensures.found))
-    ∙ cause-holds c.in-Err.cause
+    lost-holds c.args.self.now (Fsetstat c.args.handle.now c.args.attrs.now) c.args.handle.now refl refl c.in-Err.cause
+    (sym c.in-Err.ensures.found)

@@ -5,8 +5,8 @@ use Rattle.sftp_tree.specs.Attributes.{shown_content}
 use Rattle.sftp_tree.specs.Causes.{is_none}
 use Rattle.sftp_handles.specs.State.{State}
 use Rattle.sftp_handles.specs.Replies.{shows}
-use Rattle.sftp_handles.proofs.SeenCauses.{plain-found, plain-lost}
-use Rattle.sftp_handles.proofs.SeenAnswers.{none-free, cause-holds, said-found, shown-found}
+use Rattle.sftp_handles.proofs.SeenCauses.{plain-found}
+use Rattle.sftp_handles.proofs.SeenAnswers.{none-free, lost-holds, said-found, shown-found}
 use Rattle.sftp_handles.proofs.sessions.Session.stat_open.Goals as goal
 
 pub returns-in-Ok-clause-free : goal.returns-in-Ok-clause-free
@@ -28,7 +28,5 @@ returns-in-Ok-clause-shown g c =
 
 pub returns-in-Err-clause-refused : goal.returns-in-Err-clause-refused
 returns-in-Err-clause-refused g c =
-    ap (λ set. set c.in-Err.cause)
-    (plain-lost c.args.self.now (Fstat c.args.handle.now) c.args.handle.now refl refl (λ flags before. refl)
-    c.in-Err.cause (sym c.in-Err.ensures.found))
-    ∙ cause-holds c.in-Err.cause
+    lost-holds c.args.self.now (Fstat c.args.handle.now) c.args.handle.now refl refl c.in-Err.cause
+    (sym c.in-Err.ensures.found)

@@ -1,8 +1,7 @@
-use Rattle.std.proofs.Common.{refl, sym, ap, ◌∙◌}
+use Rattle.std.proofs.Common.{refl, sym}
 use Rattle.sftp_wire.specs.declared.packets.Ask.TheVariants.{Fsync}
 use Rattle.sftp_tree.specs.Tree.{content_at}
-use Rattle.sftp_handles.proofs.SeenCauses.{plain-lost}
-use Rattle.sftp_handles.proofs.SeenAnswers.{cause-holds}
+use Rattle.sftp_handles.proofs.SeenAnswers.{lost-holds}
 use Rattle.sftp_handles.proofs.OpenChanges.{synced}
 use Rattle.sftp_handles.proofs.sessions.Session.sync_open.Goals as goal
 
@@ -13,7 +12,5 @@ returns-in-Ok-clause-done g c =
 
 pub returns-in-Err-clause-refused : goal.returns-in-Err-clause-refused
 returns-in-Err-clause-refused g c =
-    ap (λ set. set c.in-Err.cause)
-    (plain-lost c.args.self.now (Fsync c.args.handle.now) c.args.handle.now refl refl (λ flags before. refl)
-    c.in-Err.cause (sym c.in-Err.ensures.found))
-    ∙ cause-holds c.in-Err.cause
+    lost-holds c.args.self.now (Fsync c.args.handle.now) c.args.handle.now refl refl c.in-Err.cause
+    (sym c.in-Err.ensures.found)

@@ -1,8 +1,9 @@
-use Rattle.std.proofs.Common.{sym, ap, ◌∙◌, true, not}
+use Rattle.std.proofs.Common.{refl, sym, ap, ◌∙◌, true, not}
+use Rattle.sftp_wire.specs.declared.packets.Ask.TheVariants.{Write}
 use Rattle.sftp_tree.specs.declared.causes.Cause.TheVariants.{NotOpenFor}
 use Rattle.sftp_tree.specs.Causes.{when}
 use Rattle.sftp_handles.specs.Found.{with_room}
-use Rattle.sftp_handles.proofs.SeenCauses.{write-found, write-lost}
+use Rattle.sftp_handles.proofs.SeenCauses.{write-found, lost}
 use Rattle.sftp_handles.proofs.sessions.Session.write_causes.Goals as goal
 
 pub returns-in-Ok : goal.returns-in-Ok
@@ -18,5 +19,5 @@ pub returns-in-Err : goal.returns-in-Err
 returns-in-Err g c =
     c.when.ensures ∙ ap (λ set. when set c.in-Err.cause true) c.none-in-Err.ensures
     ∙ sym
-    (write-lost c.args.self.now c.args.handle.now c.args.offset c.args.bytes.now c.in-Err.cause
-    (sym c.in-Err.ensures.found))
+    (lost c.args.self.now (Write c.args.handle.now c.args.offset c.args.bytes.now) c.args.handle.now refl refl
+    c.in-Err.cause (sym c.in-Err.ensures.found))

@@ -6,8 +6,7 @@ use Rattle.sftp_tree.specs.Causes.{no_causes, when}
 use Rattle.sftp_tree.specs.FileChanges.{write_fits, after_write, IsRoomRefusal}
 use Rattle.sftp_handles.specs.State.{State, Good}
 use Rattle.sftp_handles.proofs.NewStates.{state_of}
-use Rattle.sftp_handles.proofs.SeenCauses.{write-lost}
-use Rattle.sftp_handles.proofs.SeenAnswers.{cause-holds}
+use Rattle.sftp_handles.proofs.SeenAnswers.{cause-holds, lost-holds}
 use Rattle.sftp_handles.proofs.OpenChanges.{not-open-for, write-ends, write-refused}
 use Rattle.sftp_handles.proofs.sessions.Session.write_open.Goals as goal
 
@@ -50,7 +49,5 @@ returns-else-not-may_write-clause-refused g c =
 
 pub returns-in-Err-clause-refused : goal.returns-in-Err-clause-refused
 returns-in-Err-clause-refused g c =
-    ap (λ set. set c.in-Err.cause)
-    (write-lost c.args.self.now c.args.handle.now c.args.offset c.args.bytes.now c.in-Err.cause
-    (sym c.in-Err.ensures.found))
-    ∙ cause-holds c.in-Err.cause
+    lost-holds c.args.self.now (Write c.args.handle.now c.args.offset c.args.bytes.now) c.args.handle.now refl refl c.in-Err.cause
+    (sym c.in-Err.ensures.found)
