@@ -31,7 +31,7 @@ pub struct Head {
 }
 
 /// What a tree file says before its limits.
-#[derive(Debug, Drop)]
+#[derive(Drop)]
 pub(crate) struct Front {
     /// Whether limits follow: the opening is `SFTREE02`.
     has_limits: bool,
