@@ -3,44 +3,62 @@ ghost use Rattle.std.specs.Prelude.{◌≡◌};
 
 use bytes::TryGetError;
 use std::alloc::{AllocError, AllocFailed};
+use std::fmt;
 use thiserror::Error;
 
 /// What a line should have had at a column.
-#[derive(Clone, Copy, Debug, Error)]
+#[derive(Clone, Copy, Debug)]
 pub enum Expected {
-    #[error("`C` or `S`")]
     Side,
-    #[error("the name of a packet of that side, or `raw`")]
     Name,
-    #[error("a space")]
     Space,
-    #[error("a number below 2^32")]
     Number,
-    #[error("a number below 2^64")]
     Long,
-    #[error("`0` and octal digits, below 2^32")]
     Octal,
-    #[error("flags of OPEN with `|` between, or their number")]
     Flags,
-    #[error("a text in quotes")]
     Text,
-    #[error("two hexadecimal digits in lower case")]
     Hexadecimal,
-    #[error("`,`")]
     Comma,
-    #[error("`=`")]
     Equals,
-    #[error("the end of the line")]
     End,
-    #[error("`home`, a text in quotes, `uid` and `gid`, perhaps `limits`, and `entries`, each with its numbers")]
     Head,
-    #[error("`D \"/\"`")]
     Root,
-    #[error("`D`, `F`, `H` or `L`")]
     Kind,
-    #[error("fewer than 2^32 bytes or items")]
     Fewer,
 }
+
+impl Expected {
+    fn text(self) -> &'static str {
+        match self {
+            Expected::Side => "`C` or `S`",
+            Expected::Name => "the name of a packet of that side, or `raw`",
+            Expected::Space => "a space",
+            Expected::Number => "a number below 2^32",
+            Expected::Long => "a number below 2^64",
+            Expected::Octal => "`0` and octal digits, below 2^32",
+            Expected::Flags => "flags of OPEN with `|` between, or their number",
+            Expected::Text => "a text in quotes",
+            Expected::Hexadecimal => "two hexadecimal digits in lower case",
+            Expected::Comma => "`,`",
+            Expected::Equals => "`=`",
+            Expected::End => "the end of the line",
+            Expected::Head =>
+                "`home`, a text in quotes, `uid` and `gid`, perhaps `limits`, and `entries`, each with its numbers",
+            Expected::Root => "`D \"/\"`",
+            Expected::Kind => "`D`, `F`, `H` or `L`",
+            Expected::Fewer => "fewer than 2^32 bytes or items",
+        }
+    }
+}
+
+// `thiserror` would write each text by itself, which is slow to prove.
+impl fmt::Display for Expected {
+    fn fmt<W: fmt::Write>(&self, f: &mut fmt::Formatter<W>) -> fmt::Result {
+        f.write_str(self.text())
+    }
+}
+
+impl std::error::Error for Expected {}
 
 /// Why a line has no bytes. After `Unread` the line's text begins to differ from what is expected at `column`, which
 /// counts bytes from 1.

@@ -115,6 +115,7 @@ const TWO_TEXTS: &[Field] = &[Field::Text, Field::Text];
 pub(crate) fn layout_of(packet: PacketType) -> Layout
     ensures { seen result ≡ row packet }
 {
+    // Dear to prove: a row for each packet.
     match packet {
         PacketType::Init => opening(Side::Client, 1, b"INIT"),
         PacketType::Version => opening(Side::Server, 2, b"VERSION"),
