@@ -3,7 +3,7 @@
 use sftp_tree::Refused;
 
 /// Why nothing was opened.
-#[derive(Clone, Copy, Debug, PartialEq, Eq)]
+#[derive(Clone, Copy)]
 pub(crate) enum NotOpened {
     /// The wanted name is open already.
     Taken,
