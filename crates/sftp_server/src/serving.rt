@@ -158,12 +158,9 @@ fn serve_from<R: Source, W: Sink, L: Sink, S: Schedule>(
 
 /// The end of a session whose requests are all answered.
 fn end(core: Core, fault: Option<SessionFault>) -> Ended
-    requires { core.queue ≡ [] }
     ensures { result ≡ closed_end core.state fault }
 {
-    let Ok(tree) = core.finish() else {
-        unreachable!()
-    };
+    let tree = core.into_tree();
     match fault {
         None => Ended::Finished(tree),
         Some(fault) => Ended::Fault(tree, fault),
@@ -253,6 +250,7 @@ fn read_more<R: Source, W: Sink, L: Sink>(
     ensures falls { IfOk result (λ next. next ≡ nexts.Batch → R.reads_left reader.new < R.reads_left reader.old) }
     ensures fits { IfOk result (λ next. next ≡ nexts.Batch → length input.new.held ≤ input_limit) }
 {
+    // Dear to prove: it has six ways out, each with all that is promised of three streams.
     flush(writer)?;
     if input.read(reader)? > 0 {
         return Ok(Next::Batch);
