@@ -102,14 +102,14 @@ impl fmt::Display for AttrsText<'_> {
 fn put_size<W: fmt::Write>(size: Option<u64>, f: &mut fmt::Formatter<W>) -> fmt::Result {
     match size {
         Some(size) => write!(f, "size {size}"),
-        None => write!(f, "no size"),
+        None => f.write_str("no size"),
     }
 }
 
 fn put_owner<W: fmt::Write>(owner: Option<(u32, u32)>, f: &mut fmt::Formatter<W>) -> fmt::Result {
     match owner {
         Some((uid, gid)) => write!(f, ", uid {uid}, gid {gid}"),
-        None => write!(f, ", no owner"),
+        None => f.write_str(", no owner"),
     }
 }
 
@@ -119,6 +119,6 @@ fn put_permissions<W: fmt::Write>(
 ) -> fmt::Result {
     match permissions {
         Some(permissions) => write!(f, ", permissions {permissions:o}"),
-        None => write!(f, ", no permissions"),
+        None => f.write_str(", no permissions"),
     }
 }

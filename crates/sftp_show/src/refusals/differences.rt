@@ -10,7 +10,7 @@ use std::alloc::Global;
 use std::fmt;
 
 /// How bytes of a READ differ from those of the file. Positions count from 0 at the first byte of the reply.
-#[derive(Clone, Copy, Debug)]
+#[derive(Clone, Copy)]
 pub(crate) enum ByteDifference {
     /// The byte at this position is another one.
     At {
@@ -30,7 +30,7 @@ impl fmt::Display for ByteDifference {
                 given,
                 wanted,
             } => write!(f, "byte {position} is 0x{given:02x}, not 0x{wanted:02x}"),
-            ByteDifference::Count => write!(f, "all bytes that both have are the same"),
+            ByteDifference::Count => f.write_str("all bytes that both have are the same"),
         }
     }
 }
