@@ -76,6 +76,14 @@ impl<'a> Fields<'a> {
         }
     }
 
+    /// Passes a uint32 under each of these names.
+    pub(crate) fn numbers(&mut self, names: &[&'static str]) -> Result<(), Spot> {
+        for name in names {
+            self.number(name)?;
+        }
+        Ok(())
+    }
+
     /// Passes a uint64.
     pub(crate) fn long(&mut self, field: &'static str) -> Result<(), Spot> {
         self.pass(8, field)

@@ -163,8 +163,7 @@ fn judge_owner(flags: u32, fields: &mut Fields<'_>) -> Result<(), Spot> {
         fields.long("size")?;
     }
     if flags & OWNER != 0 {
-        fields.number("uid")?;
-        fields.number("gid")?;
+        fields.numbers(&["uid", "gid"])?;
     }
     Ok(())
 }
@@ -175,8 +174,7 @@ fn judge_times(flags: u32, fields: &mut Fields<'_>) -> Result<(), Spot> {
         fields.number("permissions")?;
     }
     if flags & TIMES != 0 {
-        fields.number("atime")?;
-        fields.number("mtime")?;
+        fields.numbers(&["atime", "mtime"])?;
     }
     Ok(())
 }

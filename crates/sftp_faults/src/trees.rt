@@ -12,6 +12,9 @@ const PERMISSIONS: u32 = 0o7777;
 /// The length of an opening.
 const OPENING: usize = 8;
 
+/// The numbers of an owner.
+const OWNER: &[&str] = &["uid", "gid", "permissions"];
+
 /// What a tree file begins with that has limits.
 const OPENING_WITH_LIMITS: &[u8] = b"SFTREE02";
 
@@ -62,11 +65,8 @@ fn pass_before(fields: &mut Fields<'_>, entry: u32) -> Result<TreeLimits, Spot> 
 fn pass_head(fields: &mut Fields<'_>) -> Result<TreeLimits, Spot> {
     let own = pass_opening(fields)?;
     fields.text("home")?;
-    fields.number("uid")?;
-    fields.number("gid")?;
-    let limits = judge_limits(fields, own)?;
-    fields.number("number of entries")?;
-    pass_owner(fields)?;
+    let limits = judge_settings(fields, own)?;
+    fields.numbers(&["number of entries", "uid", "gid", "permissions"])?;
     Ok(limits)
 }
 
@@ -80,12 +80,20 @@ fn pass_opening(fields: &mut Fields<'_>) -> Result<bool, Spot> {
     Ok(own)
 }
 
-/// The limits of the tree: the usual ones, unless it has its own, which are judged.
-fn judge_limits(fields: &mut Fields<'_>, own: bool) -> Result<TreeLimits, Spot> {
-    let (lowest, highest) = (usual_limits(), highest_limits());
-    if !own {
-        return Ok(lowest);
+/// Passes who owns what is made, and returns the limits of the tree: the usual ones, unless it has its own, which are
+/// judged.
+fn judge_settings(fields: &mut Fields<'_>, own: bool) -> Result<TreeLimits, Spot> {
+    fields.numbers(&["uid", "gid"])?;
+    if own {
+        judge_limits(fields)
+    } else {
+        Ok(usual_limits())
     }
+}
+
+fn judge_limits(fields: &mut Fields<'_>) -> Result<TreeLimits, Spot> {
+    // Dear to prove: each of the four may be out of its range.
+    let (lowest, highest) = (usual_limits(), highest_limits());
     let first = fields.spot("limits");
     let limits = TreeLimits {
         entries: judge_limit(fields, lowest.entries, highest.entries)?,
@@ -93,10 +101,11 @@ fn judge_limits(fields: &mut Fields<'_>, own: bool) -> Result<TreeLimits, Spot> 
         read_bytes: judge_limit(fields, lowest.read_bytes, highest.read_bytes)?,
         open_handles: judge_limit(fields, lowest.open_handles, highest.open_handles)?,
     };
-    if !limits.are_own() {
-        return Err(first);
+    if limits.are_own() {
+        Ok(limits)
+    } else {
+        Err(first)
     }
-    Ok(limits)
 }
 
 fn judge_limit(fields: &mut Fields<'_>, lowest: u32, highest: u32) -> Result<u32, Spot> {
@@ -108,17 +117,10 @@ fn judge_limit(fields: &mut Fields<'_>, lowest: u32, highest: u32) -> Result<u32
     Ok(limit)
 }
 
-fn pass_owner(fields: &mut Fields<'_>) -> Result<(), Spot> {
-    fields.number("uid")?;
-    fields.number("gid")?;
-    fields.number("permissions")?;
-    Ok(())
-}
-
 fn pass_entry(fields: &mut Fields<'_>) -> Result<(), Spot> {
     fields.text("path")?;
     match fields.byte("kind")? {
-        b'D' => pass_owner(fields),
+        b'D' => fields.numbers(OWNER),
         b'F' => pass_file(fields),
         b'H' => fields.pass(4, "number of the first name"),
         _ => pass_text(fields, "target"),
@@ -126,7 +128,7 @@ fn pass_entry(fields: &mut Fields<'_>) -> Result<(), Spot> {
 }
 
 fn pass_file(fields: &mut Fields<'_>) -> Result<(), Spot> {
-    pass_owner(fields)?;
+    fields.numbers(OWNER)?;
     pass_text(fields, "bytes")
 }
 
@@ -148,9 +150,7 @@ fn judge(alloc: Global, fields: &mut Fields<'_>, entry: u32) -> Result<(), Spot>
 fn judge_head(alloc: Global, fields: &mut Fields<'_>) -> Result<(), Spot> {
     let own = pass_opening(fields)?;
     judge_place(alloc, fields, "home", 0)?;
-    fields.number("uid")?;
-    fields.number("gid")?;
-    let limits = judge_limits(fields, own)?;
+    let limits = judge_settings(fields, own)?;
     judge_count(limits, fields)?;
     judge_owner(fields)
 }
@@ -165,8 +165,7 @@ fn judge_count(limits: TreeLimits, fields: &mut Fields<'_>) -> Result<(), Spot> 
 }
 
 fn judge_owner(fields: &mut Fields<'_>) -> Result<(), Spot> {
-    fields.number("uid")?;
-    fields.number("gid")?;
+    fields.numbers(&["uid", "gid"])?;
     let spot = fields.spot("permissions");
     let permissions = fields.number("permissions")?;
     if permissions > PERMISSIONS {
