@@ -11,16 +11,17 @@ use Rattle.std.specs.Prelude.{List, if◌then◌else◌, ◌&&◌, not, unwrap_o
 use Rattle.sftp_wire.specs.declared.packets.Request.{Request}
 use Rattle.sftp_wire.specs.declared.packets.Reply.{Reply}
 use Rattle.sftp_tree.specs.Tree.{Tree}
+use Rattle.sftp_tree.specs.OpenFlags.{excludes}
 use Rattle.sftp_handles.specs.Handles.{Left}
 use Rattle.sftp_handles.specs.State as sessions
 use Rattle.sftp_handles.specs.Allowed as strictly
 use Rattle.sftp_handles.proofs.Steps.{step-is_allowed, allowed-step}
 use Rattle.sftp_profile.specs.declared.profiles.Profile.{Profile}
 use Rattle.sftp_profile.specs.Profiles.{strict, keeps_requests, is_stateless}
-use Rattle.sftp_profile.specs.Replaced.{put, replaced, made_attributes}
+use Rattle.sftp_profile.specs.Replaced.{put, replaced, attributes_where}
 use Rattle.sftp_profile.specs.State.{State, bare}
 use Rattle.sftp_profile.specs.declared.notes.Note.{Note}
-use Rattle.sftp_profile.specs.Notes.{note_of}
+use Rattle.sftp_profile.specs.Notes.{note_of, led_to}
 use Rattle.sftp_profile.specs.Through.{directory_of}
 use Rattle.sftp_profile.specs.Departures.{is_forgiven}
 use Rattle.sftp_profile.specs.Readings.{asked, followed}
@@ -72,7 +73,7 @@ pub permitted-profile : (s : State) (request : Request) (reply : Reply) (end : S
     → end.profile ≡ s.profile
 unfolding step
 permitted-profile s request reply end p =
-    judged-profile s (put s.profile request.ask) reply.answer end p.step
+    judged-profile s (put s.profile s.session.tree request.ask) reply.answer end p.step
 
 -- ---- requests that stand as they are
 
@@ -81,20 +82,26 @@ both-not true b is = absurd cc
 both-not false true is = absurd cc
 both-not false false is = (refl, refl)
 
-not-replaced : (profile : Profile) (ask : Ask) → profile.made ≡ false → profile.symlink_draft ≡ false
-    → replaced profile ask ≡ None
-not-replaced profile (asks.Mkdir path attrs) made draft =
-    ap (λ b. if b then Some (asks.Mkdir path (made_attributes profile 0o777 attrs)) else None) made
-not-replaced profile (asks.Open path pflags attrs) made draft =
-    ap (λ b. if b then Some (asks.Open path pflags (made_attributes profile 0o666 attrs)) else None) made
-not-replaced profile (asks.Symlink targetpath linkpath) made draft =
+not-replaced : (profile : Profile) (t : Tree) (ask : Ask) → profile.made ≡ false → profile.symlink_draft ≡ false
+    → replaced profile t ask ≡ None
+not-replaced profile t (asks.Mkdir path attrs) made draft =
+    ap
+    (λ b.
+    if b then Some (asks.Mkdir path (attributes_where profile t (led_to t false path) 0o777 attrs)) else None) made
+not-replaced profile t (asks.Open path pflags attrs) made draft =
+    ap
+    (λ b.
+    if b
+    then Some (asks.Open path pflags (attributes_where profile t (led_to t (not (excludes pflags)) path) 0o666 attrs))
+    else None) made
+not-replaced profile t (asks.Symlink targetpath linkpath) made draft =
     ap (λ b. if b then Some (asks.Symlink linkpath targetpath) else None) draft
-not-replaced profile other made draft = refl
+not-replaced profile t other made draft = refl
 
-put-same : (profile : Profile) (ask : Ask) → IsTrue (keeps_requests profile) → put profile ask ≡ ask
-put-same profile ask keeps =
+put-same : (profile : Profile) (t : Tree) (ask : Ask) → IsTrue (keeps_requests profile) → put profile t ask ≡ ask
+put-same profile t ask keeps =
     let parts = both-not profile.made profile.symlink_draft keeps in
-    ap (λ o. unwrap_or o ask) (not-replaced profile ask parts.0 parts.1)
+    ap (λ o. unwrap_or o ask) (not-replaced profile t ask parts.0 parts.1)
 
 -- ---- what is allowed strictly
 
@@ -116,7 +123,7 @@ unfolding step permitted
 strictly-permitted profile s request reply end keeps stateless a = record {
   same_id = a.same_id;
   step =
-      ap (λ ask. judged (bare profile s) ask reply.answer) (put-same profile request.ask keeps)
+      ap (λ ask. judged (bare profile s) ask reply.answer) (put-same profile s.tree request.ask keeps)
       ∙ (stateless-judged (bare profile s) request.ask reply.answer stateless
       ∙ ap (λ o. under (bare profile s) (first_of o (forgiven profile s request.ask reply.answer)))
       (allowed-step s request reply end a));
@@ -172,7 +179,7 @@ strict-allowed s request reply end p =
     let found =
     under-session (bare strict s) (permitted strict s request.ask reply.answer) end
     (sym (stateless-judged (bare strict s) request.ask reply.answer refl)
-    ∙ (ap (λ ask. judged (bare strict s) ask reply.answer) (sym (put-same strict request.ask refl)) ∙ p.step)) in (
+    ∙ (ap (λ ask. judged (bare strict s) ask reply.answer) (sym (put-same strict s.tree request.ask refl)) ∙ p.step)) in (
       found.1,
       step-is_allowed s request reply end.session p.same_id
           (sym (strict-permitted s request.ask reply.answer) ∙ found.0),
@@ -365,8 +372,8 @@ refused-reply s end request reply false found is other p =
     cc
 
 -- the answer to the request that stands for this one
-pub replaced-outcome : (s end : State) (ask other : Ask) (answer : Answer) (ok : Bool) → put s.profile ask ≡ other
-    → IsJudged s other answer ok end → IsStep s ask answer ok end
+pub replaced-outcome : (s end : State) (ask other : Ask) (answer : Answer) (ok : Bool)
+    → put s.profile s.session.tree ask ≡ other → IsJudged s other answer ok end → IsStep s ask answer ok end
 unfolding step
 replaced-outcome s end ask other answer ok is found = record {
   is = ap (λ ask. judged s ask answer) is ∙ found.is;

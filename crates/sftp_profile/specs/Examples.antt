@@ -4,12 +4,16 @@ use Rattle.sftp_wire.specs.declared.attributes.Attrs.{Attrs}
 use Rattle.sftp_wire.specs.declared.packets.Answer.{Answer}
 use Rattle.sftp_wire.specs.declared.packets.Answer.TheVariants.{Name}
 use Rattle.sftp_wire.specs.Examples.{no_attributes}
+use Rattle.sftp_tree.specs.declared.nodes.Node.TheVariants.{Dir, Link}
 use Rattle.sftp_tree.specs.Attributes.{said}
+use Rattle.sftp_tree.specs.Tree.{Tree}
+use Rattle.sftp_tree.specs.WalkExamples.{tree_of}
 use Rattle.sftp_handles.specs.State.{State}
 use Rattle.sftp_handles.specs.Examples.{item, with_three, with_text}
 use Rattle.sftp_handles.specs.Handles.{kept_flags}
 use Rattle.sftp_handles.specs.declared.opens.Open.TheVariants.{File, Listing}
 use Rattle.sftp_tree.specs.Listings.{listing}
+use Rattle.sftp_profile.specs.declared.profiles.NewOwner.TheVariants.{Given, Group}
 use Rattle.sftp_profile.specs.declared.profiles.Profile.{Profile}
 use Rattle.sftp_profile.specs.Profiles.{strict}
 
@@ -51,6 +55,20 @@ texts_of_paths = record strict { realpath = true }
 abbrev pub owned_by_user : Profile
 owned_by_user = record strict { made = true; umask = 0o022 }
 
+abbrev pub owned_as_given : Profile
+owned_as_given = record owned_by_user { new_owner = Given }
+
+abbrev pub owned_by_group : Profile
+owned_by_group = record owned_by_user { new_owner = Group }
+
+-- ---- a tree
+
+-- of user 1 and group 2, with the directory `/d` of user 5 and group 9, and the link `/l` to `d/f`, where nothing is
+abbrev pub with_other_group : Tree
+with_other_group =
+    record (tree_of ((codes "d" ∷ [], Dir (record { uid = 5; gid = 9; permissions = 0o755 }))
+    ∷ (codes "l" ∷ [], Link (codes "d/f")) ∷ [])) { uid = 1; gid = 2 }
+
 -- ---- attributes and names
 
 -- those of a directory made without any, and of a file made for user 7 and group 8 with 0o777, without 0o022
@@ -62,6 +80,10 @@ given_file = record no_attributes { owner = Some (7, 8); permissions = Some 0o77
 
 abbrev pub permitted_file : Attrs
 permitted_file = record no_attributes { permissions = Some 0o755 }
+
+-- the same of this user and group
+abbrev pub permitted_to : ℕ → ℕ → Attrs
+permitted_to user group = record permitted_file { owner = Some (user, group) }
 
 -- a directory of 4,096 bytes, as servers with a real file system show it
 abbrev pub large_directory : Attrs

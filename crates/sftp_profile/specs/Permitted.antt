@@ -128,7 +128,7 @@ judged s ask answer =
 
 -- the state after an answer to the request that stands for this one, if it is permitted
 unfoldable pub step : State → Ask → Answer → Option State
-step s ask answer = judged s (put s.profile ask) answer
+step s ask answer = judged s (put s.profile s.session.tree ask) answer
 
 -- the reply has the id of the request, and its answer is permitted
 pub record Permitted (s : State) (request : Request) (reply : Reply) (end : State) : Type 0 where

@@ -1,5 +1,6 @@
 -- Profiles: which departures from the strict reading are accepted.
 use Rattle.std.specs.Prelude.{◌&&◌, ◌||◌, not, Bool, true, false}
+use Rattle.sftp_profile.specs.declared.profiles.NewOwner.TheVariants.{User}
 use Rattle.sftp_profile.specs.declared.profiles.Profile.{Profile}
 
 -- no departure
@@ -21,7 +22,7 @@ strict = record {
   link_attrs = false;
   realpath = false;
   made = false;
-  owner_given = false;
+  new_owner = User;
   umask = 0;
   symlink_draft = false;
 }
@@ -45,7 +46,7 @@ posix = record {
   open_dir = true;
   listing = true;
   made = true;
-  owner_given = false;
+  new_owner = User;
   umask = 0;
   symlink_draft = false;
 }

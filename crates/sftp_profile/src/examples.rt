@@ -17,7 +17,8 @@ ghost use Rattle.sftp_profile.specs.Replaced.{put};
 ghost use Rattle.sftp_profile.specs.Permitted.{permitted};
 ghost use Rattle.sftp_profile.specs.Examples.{any_code, loose_paths, empty_setstats, free_sizes};
 ghost use Rattle.sftp_profile.specs.Examples.{beyond, any_flags, owned_by_user, permitted_directory, given_file};
-ghost use Rattle.sftp_profile.specs.Examples.{permitted_file};
+ghost use Rattle.sftp_profile.specs.Examples.{permitted_file, permitted_to, owned_as_given, owned_by_group};
+ghost use Rattle.sftp_profile.specs.Examples.{with_other_group};
 ghost use Rattle.sftp_profile.specs.Examples.{large_directory, large_directories, listed_three};
 ghost use Rattle.sftp_profile.specs.Examples.{linked_links, wide_reads, free_bits, free_links, texts_of_paths};
 ghost use Rattle.sftp_profile.specs.Examples.{open_to_read, owned_link, set_group, one_text};
@@ -148,9 +149,33 @@ pub fn texts_made_absolute()
 
 /// What is made has the tree's owner and the permissions that the mask leaves, and SYMLINK's paths change places.
 pub fn requests_replaced()
-    ensures directory { put owned_by_user (Mkdir (codes "d") no_attributes) ≡ Mkdir (codes "d") permitted_directory }
-    ensures file { put owned_by_user (Open (codes "f") 0xa given_file) ≡ Open (codes "f") 0xa permitted_file }
-    ensures link { put (record strict { symlink_draft = true }) (Symlink (codes "l") (codes "t"))
+    ensures directory { put owned_by_user blank (Mkdir (codes "d") no_attributes) ≡ Mkdir (codes "d") permitted_directory }
+    ensures file { put owned_by_user blank (Open (codes "f") 0xa given_file) ≡ Open (codes "f") 0xa permitted_file }
+    ensures link { put (record strict { symlink_draft = true }) blank (Symlink (codes "l") (codes "t"))
         ≡ Symlink (codes "t") (codes "l") }
-    ensures strict { put strict (Mkdir (codes "d") no_attributes) ≡ Mkdir (codes "d") no_attributes }
+    ensures strict { put strict blank (Mkdir (codes "d") no_attributes) ≡ Mkdir (codes "d") no_attributes }
+{}
+
+/// What is made in `/d`, a directory of group 9, has the tree's user 1 and that group: a directory, and a file that the
+/// link `/l` leads to. With EXCL the link is not followed, and the file would be in the root, which is of group 0. Where
+/// the path leads nowhere, the group is the tree's.
+pub fn groups_of_directories()
+    ensures directory { put owned_by_group with_other_group (Mkdir (codes "/d/x") no_attributes)
+        ≡ Mkdir (codes "/d/x") (permitted_to 1 9) }
+    ensures link { put owned_by_group with_other_group (Open (codes "/l") 0xa given_file)
+        ≡ Open (codes "/l") 0xa (permitted_to 1 9) }
+    ensures exclusive { put owned_by_group with_other_group (Open (codes "/l") 0x2a given_file)
+        ≡ Open (codes "/l") 0x2a (permitted_to 1 0) }
+    ensures lost { put owned_by_group with_other_group (Mkdir (codes "/x/y") no_attributes)
+        ≡ Mkdir (codes "/x/y") (permitted_to 1 2) }
+{}
+
+/// The group of the directory says nothing where what is made has the tree's owner, or the one that is asked for.
+pub fn owners_by_other_rules()
+    ensures user { put owned_by_user with_other_group (Open (codes "/d/x") 0xa given_file)
+        ≡ Open (codes "/d/x") 0xa permitted_file }
+    ensures given { put owned_as_given with_other_group (Open (codes "/d/x") 0xa given_file)
+        ≡ Open (codes "/d/x") 0xa (permitted_to 7 8) }
+    ensures unasked { put owned_as_given with_other_group (Mkdir (codes "/d/x") no_attributes)
+        ≡ Mkdir (codes "/d/x") permitted_directory }
 {}

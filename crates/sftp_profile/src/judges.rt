@@ -2,6 +2,7 @@
 ghost use Rattle.std.specs.Prelude.{◌≡◌, [], false, IsTrue, IfOk, OnOk, OnErr};
 ghost use Rattle.sftp_tree.specs.Tree.{trim};
 ghost use Rattle.sftp_profile.specs.State.{State, begun};
+ghost use Rattle.sftp_profile.specs.Replaced.{replaced};
 ghost use Rattle.sftp_profile.specs.Departures.{is_forgiven, passes_in, passes_codes, passes_dots};
 ghost use Rattle.sftp_profile.specs.Permitted.{Permitted, follows_in};
 ghost use Rattle.sftp_profile.specs.Judged.{IsStrict, IsRetold, IsRead, IsTaken, IsSet, IsFollowed, IsTakenFor};
@@ -108,7 +109,7 @@ impl Judge {
         requires { reply.now.id ≡ request.now.id }
         ensures { IfOk result (λ ok. IsStep self.old request.now.ask reply.now.answer ok self.new) }
     {
-        let Some(ask) = replaced(self.profile, &request.ask)? else {
+        let Some(ask) = self.replaced(&request.ask)? else {
             return self.judge(request, reply);
         };
         let put = Request {
@@ -118,6 +119,17 @@ impl Judge {
         let permitted = self.judge(&put, reply);
         drop(put);
         permitted
+    }
+
+    /// The request that stands for this one; `None` if the profile does not replace it.
+    ///
+    /// # Errors
+    ///
+    /// `NoMemory` if memory runs out.
+    fn replaced(&self, ask: &Ask) -> Result<Option<Ask>, NoMemory>
+        ensures { IfOk result (λ other. other ≡ replaced self.now.profile self.now.session.tree ask.now) }
+    {
+        replaced(self.profile, self.session.tree(), ask)
     }
 
     /// Whether the profile follows a request with this reply. It does not follow an extension that it does not know and

@@ -28,4 +28,4 @@ mod through;
 
 pub use judges::Judge;
 pub use names::NAMES;
-pub use profiles::Profile;
+pub use profiles::{NewOwner, Profile};

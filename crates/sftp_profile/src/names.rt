@@ -2,7 +2,7 @@
 ghost use Rattle.std.specs.Prelude.{◌≡◌};
 ghost use Rattle.sftp_profile.specs.Profiles as spec;
 
-use crate::profiles::Profile;
+use crate::profiles::{NewOwner, Profile};
 
 /// The names of all departures.
 pub const NAMES: &[&str] = &[
@@ -47,7 +47,7 @@ impl Profile {
             open_dir: true,
             listing: true,
             made: true,
-            owner_given: false,
+            new_owner: NewOwner::User,
             umask: 0,
             symlink_draft: false,
         }

@@ -349,7 +349,7 @@ fn made_at(tree: &Tree, follow: bool, path: &ByteString) -> Result<Option<Place>
 /// # Errors
 ///
 /// `NoMemory` if memory runs out.
-fn led_to(tree: &Tree, follow: bool, path: &[u8]) -> Result<Option<Place>, NoMemory>
+pub(crate) fn led_to(tree: &Tree, follow: bool, path: &[u8]) -> Result<Option<Place>, NoMemory>
     ensures { IfOk result (λ place. place ≡ spec.led_to tree.now follow path.now) }
 {
     let mut ticks = Ticks::new();

@@ -2,6 +2,17 @@
 ghost use Rattle.std.specs.Prelude.{◌≡◌};
 ghost use Rattle.sftp_profile.specs.Profiles as spec;
 
+/// Who owns what is made.
+#[derive(Clone, Copy, Debug, PartialEq, Eq)]
+pub enum NewOwner {
+    /// The tree's user and group.
+    User,
+    /// The owner that the request gives, else the tree's.
+    Given,
+    /// The tree's user, with the group of the directory that the new entry is in.
+    Group,
+}
+
 /// Which departures from the strict reading are accepted, each a field. What is accepted strictly, each profile
 /// accepts that has neither `made` nor `symlink_draft`.
 #[derive(Clone, Copy, Debug, PartialEq, Eq)]
@@ -43,11 +54,11 @@ pub struct Profile {
     /// Names that come or go while a directory is listed may be given or not. The listing of a directory that was
     /// removed may be refused with the codes 2 and 4.
     pub listing: bool,
-    /// What is made has the tree's user and group, or the owner that the request gives if `owner_given`, and the
-    /// permissions that the request gives, else 0666 or 0777, without the bits of `umask`.
+    /// What is made has the owner that `new_owner` says, and the permissions that the request gives, else 0666 or 0777,
+    /// without the bits of `umask`.
     pub made: bool,
-    /// What is made has the owner that the request gives, if it gives one. It says nothing without `made`.
-    pub owner_given: bool,
+    /// Who owns what is made. It says nothing without `made`.
+    pub new_owner: NewOwner,
     /// The permissions that nothing new has. It says nothing without `made`.
     pub umask: u32,
     /// The paths of SYMLINK stand as the draft has them, that of the link first.
@@ -76,7 +87,7 @@ impl Profile {
             open_dir: false,
             listing: false,
             made: false,
-            owner_given: false,
+            new_owner: NewOwner::User,
             umask: 0,
             symlink_draft: false,
         }

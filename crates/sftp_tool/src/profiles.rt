@@ -1,14 +1,14 @@
 //! The options of `audit` that say which departures from the strict reading are accepted.
 use crate::messages::Failure;
 use clap::{Arg, ArgAction, ArgMatches, Command};
-use sftp_profile::{NAMES, Profile};
+use sftp_profile::{NAMES, NewOwner, Profile};
 use std::alloc::{AllocError, Global};
 
 /// The names of profiles.
 const PROFILES: &[&str] = &["posix"];
 
 /// Who may own what is made.
-const NEW_OWNERS: &[&str] = &["user", "given"];
+const NEW_OWNERS: &[&str] = &["user", "given", "group"];
 
 /// Who may say in which order the paths of SYMLINK are, if not OpenSSH.
 const ORDERS: &[&str] = &["draft"];
@@ -74,9 +74,20 @@ pub(crate) fn profile_of(given: &ArgMatches<'_>) -> Profile {
     };
     let profile = switched(profile, given.get_strs("allow"), true);
     let mut profile = switched(profile, given.get_strs("except"), false);
-    profile.owner_given = profile.made && given.get_str("new-owner") == Some("given");
+    if profile.made {
+        profile.new_owner = new_owner(given.get_str("new-owner").unwrap_or("user"));
+    }
     profile.symlink_draft = given.get_str("symlink").is_some();
     profile
+}
+
+/// Who owns what is made by this rule.
+fn new_owner(rule: &str) -> NewOwner {
+    match rule {
+        "given" => NewOwner::Given,
+        "group" => NewOwner::Group,
+        _ => NewOwner::User,
+    }
 }
 
 /// The profile with these departures accepted, or not.

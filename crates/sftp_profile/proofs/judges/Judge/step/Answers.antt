@@ -1,8 +1,6 @@
 use Rattle.std.proofs.Common.{sym, ap, ◌∙◌}
 use Rattle.std.specs.Prelude.{unwrap_or}
 use Rattle.std.proofs.lemmas.Result.{IfOk-weaker}
-use Rattle.sftp_profile.specs.State.{State}
-use Rattle.sftp_profile.specs.Replaced.{replaced}
 use Rattle.sftp_profile.specs.Judged.{IsJudged, IsStep}
 use Rattle.sftp_profile.proofs.Permissions.{replaced-outcome}
 use Rattle.sftp_profile.proofs.judges.Judge.step.Goals as goal
@@ -12,12 +10,11 @@ returns-in_default c =
     let s = c.args.self.now in
     let ask = c.args.request.now.ask in
     let answer = c.args.reply.now.answer in
-    let seen = ap (λ (x : State). replaced x.profile ask) c.self.view_is in
     IfOk-weaker c.judge.result (λ ok. IsJudged s ask answer ok c.judge.new.self)
     (λ ok. IsStep s ask answer ok c.judge.new.self)
     (λ ok found.
     replaced-outcome s c.judge.new.self ask ask answer ok
-    (ap (λ o. unwrap_or o ask) (sym seen ∙ (sym c.in_ok-ask.ensures ∙ c.in_default.is))) found) c.judge.ensures
+    (ap (λ o. unwrap_or o ask) (sym c.in_ok-ask.ensures ∙ c.in_default.is)) found) c.judge.ensures
 
 pub returns : goal.returns
 returns c =
@@ -25,10 +22,8 @@ returns c =
     let ask = c.args.request.now.ask in
     let answer = c.args.reply.now.answer in
     let end = c.judge-permitted.new.self in
-    let seen = ap (λ (x : State). replaced x.profile ask) c.self.view_is in
     IfOk-weaker c.judge-permitted.result (λ ok. IsJudged s c.in-Some.ask answer ok end)
     (λ ok. IsStep s ask answer ok end)
     (λ ok found.
     replaced-outcome s end ask c.in-Some.ask answer ok
-    (ap (λ o. unwrap_or o ask) (sym seen ∙ (sym c.in_ok-ask.ensures ∙ c.in-Some.is))) found)
-    c.judge-permitted.ensures
+    (ap (λ o. unwrap_or o ask) (sym c.in_ok-ask.ensures ∙ c.in-Some.is)) found) c.judge-permitted.ensures
